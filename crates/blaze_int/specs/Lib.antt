@@ -1,0 +1,7 @@
+pub mod Ranked
+pub mod Counted
+pub mod Bounds
+pub mod Unsigned
+pub mod Signed
+pub mod Chars
+pub mod UIntPlusOne

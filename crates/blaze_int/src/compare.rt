@@ -1,0 +1,64 @@
+// Comparisons of keys, steps between them and lengths, by rank.
+ghost use Rattle.std.specs.Prelude.{◌≡◌, pos, ◌+ℤ◌, ◌-ℤ◌, ◌≤ℤ◌, ◌<ℤ◌, int_le, int_lt};
+ghost use Rattle.std.specs.Ordering.{int_eq};
+
+use crate::integer::Integer;
+
+/// Whether a key is at most another.
+pub fn is_at_most<T: Integer>(a: T, b: T) -> bool
+    ensures { result ≡ int_le (T.rank a) (T.rank b) }
+{
+    a.in_hand();
+    b.in_hand();
+    a <= b
+}
+
+/// Whether a key is below another.
+pub fn is_below<T: Integer>(a: T, b: T) -> bool
+    ensures { result ≡ int_lt (T.rank a) (T.rank b) }
+{
+    a.in_hand();
+    b.in_hand();
+    a < b
+}
+
+/// Whether `b` is the key after `a`.
+pub fn is_next<T: Integer>(a: T, b: T) -> bool
+    ensures { result ≡ int_eq (T.rank b) (T.rank a +ℤ pos 1) }
+{
+    a.in_hand();
+    b.in_hand();
+    match a.checked_add_one() {
+        Some(next) => {
+            next.in_hand();
+            next == b
+        }
+        None => false,
+    }
+}
+
+/// The key after one that is below another.
+pub fn after<T: Integer>(key: T, above: T) -> T
+    requires { T.rank key <ℤ T.rank above }
+    ensures { T.rank result ≡ T.rank key +ℤ pos 1 }
+{
+    above.in_hand();
+    key.add_one()
+}
+
+/// The key before one that is above another.
+pub fn before<T: Integer>(key: T, below: T) -> T
+    requires { T.rank below <ℤ T.rank key }
+    ensures { T.rank result ≡ T.rank key -ℤ pos 1 }
+{
+    below.in_hand();
+    key.sub_one()
+}
+
+/// The length of the range from one key to another, both included, in keys.
+pub fn length<T: Integer>(start: T, end: T) -> T::SafeLen
+    requires { T.rank start ≤ℤ T.rank end }
+    ensures { T.rank start +ℤ pos (T.SafeLen.number result) ≡ T.rank end +ℤ pos 1 }
+{
+    T::safe_len(&(start..=end))
+}

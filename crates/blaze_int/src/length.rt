@@ -1,0 +1,46 @@
+// Lengths of ranges of keys, as contracts see them: each has a number, and the numbers run from 0 to `most`.
+ghost use Rattle.std.specs.Prelude.{◌≡◌, ◌+◌, ◌≤◌, ℕ, ◌↔◌, IsTrue};
+ghost use Rattle.blaze_int.specs.Counted.{IsCounted};
+
+/// A type of lengths: whole numbers of keys, in their order.
+pub trait SafeLength: Copy + Ord {
+    // The number of keys that a length stands for. The lengths are the values whose number is at most `most`.
+    ghost number: { Self → ℕ };
+
+    // The greatest number that the type has.
+    ghost most: { ℕ };
+
+    /// Does nothing. Its contract says that a value in hand is a length.
+    fn in_hand(self)
+        ensures { number self ≤ most };
+
+    /// The length of no keys.
+    fn zero() -> Self
+        ensures { number result ≡ 0 };
+
+    /// The length of one key.
+    fn one() -> Self
+        ensures { number result ≡ 1 };
+
+    /// The sum of two lengths. The type must have its number.
+    fn plus(self, other: Self) -> Self
+        requires { number self + number other ≤ most }
+        ensures { number result ≡ number self + number other };
+
+    /// What is left of a length after another is taken away, which may not be greater.
+    fn minus(self, other: Self) -> Self
+        requires { number other ≤ number self }
+        ensures { number result + number other ≡ number self };
+
+    // Each number up to `most` is that of one length, and lengths compare as their numbers.
+    ghost counted: { IsCounted number most Self.cmp Self.eq };
+}
+
+/// Whether two lengths have different numbers.
+pub fn differ<L: SafeLength>(a: L, b: L) -> bool
+    ensures { IsTrue result ↔ (¬ (L.number a ≡ L.number b)) }
+{
+    a.in_hand();
+    b.in_hand();
+    a != b
+}

@@ -1,0 +1,23 @@
+//! Keys of integer-like types: each key has a rank, a whole number, and the ranks have no gap.
+//! A range of keys has a length, and the bounds of a range name its least and its greatest key.
+//! No call of this crate takes memory.
+#![tactic(auto)]
+
+pub mod bounds;
+mod chars;
+pub mod compare;
+pub mod integer;
+pub mod length;
+mod lengths;
+mod numbers;
+mod signed;
+pub mod uint_plus_one;
+mod unsigned;
+
+pub use bounds::{bounds_of, names_a_key};
+pub use integer::Integer;
+pub use length::SafeLength;
+pub use uint_plus_one::UIntPlusOne;
+
+#[cfg(test)]
+mod tests;

@@ -1,0 +1,67 @@
+// The lengths of ranges of keys of 128 bits, which go one past the greatest `u128`.
+ghost use Rattle.std.specs.Prelude.{◌^◌};
+ghost use Rattle.std.proofs.Common.{refl};
+
+use crate::length::SafeLength;
+
+/// A whole number from 0 to 2^128. They compare as numbers: each `UInt` is below `MaxPlusOne`.
+#[derive(Clone, Copy, PartialEq, Eq, PartialOrd, Ord, Debug)]
+pub enum UIntPlusOne {
+    /// A number up to 2^128 - 1.
+    UInt(u128),
+    /// 2^128, the number of all keys of 128 bits.
+    MaxPlusOne,
+}
+
+impl SafeLength for UIntPlusOne {
+    ghost use Rattle.blaze_int.specs.declared.uint_plus_one.UIntPlusOne.TheVariants.{UInt, MaxPlusOne};
+    ghost use Rattle.blaze_int.specs.UIntPlusOne.{number_of, one_value, has_value, order-UInt, order-below, order-above, equal-UInt, equal-below, equal-above};
+
+    ghost number = { number_of };
+
+    ghost most = { 2 ^ 128 };
+
+    fn in_hand(self) {}
+
+    fn zero() -> UIntPlusOne {
+        UIntPlusOne::UInt(0)
+    }
+
+    fn one() -> UIntPlusOne {
+        UIntPlusOne::UInt(1)
+    }
+
+    fn plus(self, other: UIntPlusOne) -> UIntPlusOne {
+        match (self, other) {
+            (UIntPlusOne::UInt(a), UIntPlusOne::UInt(b)) => match a.checked_add(b) {
+                Some(sum) => UIntPlusOne::UInt(sum),
+                None => UIntPlusOne::MaxPlusOne,
+            },
+            (UIntPlusOne::MaxPlusOne, _) | (_, UIntPlusOne::MaxPlusOne) => UIntPlusOne::MaxPlusOne,
+        }
+    }
+
+    fn minus(self, other: UIntPlusOne) -> UIntPlusOne {
+        match (self, other) {
+            (UIntPlusOne::UInt(a), UIntPlusOne::UInt(b)) => UIntPlusOne::UInt(a - b),
+            (UIntPlusOne::MaxPlusOne, UIntPlusOne::MaxPlusOne) => UIntPlusOne::zero(),
+            (UIntPlusOne::MaxPlusOne, UIntPlusOne::UInt(b)) => {
+                UIntPlusOne::UInt(u128::MAX - b).plus(UIntPlusOne::one())
+            }
+            (UIntPlusOne::UInt(_), UIntPlusOne::MaxPlusOne) => unreachable!(),
+        }
+    }
+
+    ghost counted = { record {
+      one_value = one_value;
+      has_value = has_value;
+      order = elim [
+        | UInt a ↦ elim [ UInt b ↦ order-UInt a b | MaxPlusOne ↦ λ f _. order-below a f ]
+        | MaxPlusOne ↦ elim [ UInt b ↦ λ _ g. order-above b g | MaxPlusOne ↦ λ _ _. refl ]
+      ];
+      equal = elim [
+        | UInt a ↦ elim [ UInt b ↦ equal-UInt a b | MaxPlusOne ↦ λ _ _. equal-below a ]
+        | MaxPlusOne ↦ elim [ UInt b ↦ λ _ _. equal-above b | MaxPlusOne ↦ λ _ _. ((λ _. refl), (λ _. refl)) ]
+      ];
+    } };
+}

@@ -1,0 +1,68 @@
+-- What a list of entries has at a key.
+use Rattle.std.proofs.Common.{◌≡◌, ℤ, ◌≤ℤ◌, ◌<ℤ◌, Bool, true, false, List, [], ◌∷◌, Option, Some, None, refl, ◌∙◌, arith, cond, option_map}
+use Rattle.std.proofs.lemmas.Int.{ints, by_lt_z}
+use Rattle.blaze_table.specs.Entries.{Entry, holds, at, entry_at}
+use Rattle.blaze_table.specs.Canonical.{IsApart, IsCanonical}
+-- the first range begins above b
+abbrev pub IsAbove : {V : Type 0} → ℤ → List (Entry V) → Type 0
+IsAbove b [] = Unit {0}
+IsAbove b (e ∷ es) = b <ℤ e.lo
+
+pub IsAbove-from_apart : {V : Type 0} (eq : V → V → Bool) (e : Entry V) (es : List (Entry V)) → IsApart eq e es → IsAbove e.hi es
+IsAbove-from_apart eq e [] a = tt
+IsAbove-from_apart eq e (f ∷ fs) a = a.0
+
+-- at a key of the first range
+pub at_in : {V : Type 0} (e : Entry V) (es : List (Entry V)) (k : ℤ) → e.lo ≤ℤ k → k ≤ℤ e.hi → at (e ∷ es) k ≡ Some e.value
+at_in e es k l h = grind (arith, ints)
+
+pub at_under : {V : Type 0} (e : Entry V) (es : List (Entry V)) (k : ℤ) → k <ℤ e.lo → at (e ∷ es) k ≡ at es k
+at_under e es k l = grind (arith, ints)
+
+pub at_over : {V : Type 0} (e : Entry V) (es : List (Entry V)) (k : ℤ) → e.hi <ℤ k → at (e ∷ es) k ≡ at es k
+at_over e es k l = grind (arith, ints)
+
+-- the same of entries
+pub entry_in : {V : Type 0} (e : Entry V) (es : List (Entry V)) (k : ℤ) → e.lo ≤ℤ k → k ≤ℤ e.hi → entry_at (e ∷ es) k ≡ Some e
+entry_in e es k l h = grind (arith, ints)
+
+pub entry_under : {V : Type 0} (e : Entry V) (es : List (Entry V)) (k : ℤ) → k <ℤ e.lo → entry_at (e ∷ es) k ≡ entry_at es k
+entry_under e es k l = grind (arith, ints)
+
+pub entry_over : {V : Type 0} (e : Entry V) (es : List (Entry V)) (k : ℤ) → e.hi <ℤ k → entry_at (e ∷ es) k ≡ entry_at es k
+entry_over e es k l = grind (arith, ints)
+
+-- the value at a key is that of the entry there
+pub value-entry_at : {V : Type 0} (es : List (Entry V)) (k : ℤ) → option_map (λ (e : Entry V). e.value) (entry_at es k) ≡ at es k
+value-entry_at {V} [] k = refl
+value-entry_at {V} (e ∷ es) k = either (holds e k) (value-entry_at es k)
+  where
+    either : (b : Bool) → option_map (λ (f : Entry V). f.value) (entry_at es k) ≡ at es k → option_map (λ (f : Entry V). f.value) (cond b (Some e) (entry_at es k)) ≡ cond b (Some e.value) (at es k)
+    either true p = refl
+    either false p = p
+
+pub none-entry_at : {V : Type 0} (es : List (Entry V)) (k : ℤ) → at es k ≡ None → entry_at es k ≡ None
+none-entry_at {V} es k n = none (entry_at es k) (value-entry_at es k ∙ n)
+  where
+    none : (o : Option (Entry V)) → option_map (λ (f : Entry V). f.value) o ≡ None → o ≡ None
+    none None p = refl
+    none (Some e) p = cc
+
+pub holds_in : {V : Type 0} (e : Entry V) (k : ℤ) → e.lo ≤ℤ k → k ≤ℤ e.hi → holds e k ≡ true
+holds_in e k l h = grind (arith, ints)
+
+pub holds_under : {V : Type 0} (e : Entry V) (k : ℤ) → k <ℤ e.lo → holds e k ≡ false
+holds_under e k l = grind (arith, ints)
+
+pub holds_over : {V : Type 0} (e : Entry V) (k : ℤ) → e.hi <ℤ k → holds e k ≡ false
+holds_over e k l = grind (arith, ints)
+
+-- where a key stands to a range
+pub by_place : {V P : Type 0} (e : Entry V) (k : ℤ) → (e.lo ≤ℤ k → k ≤ℤ e.hi → P) → (k <ℤ e.lo → P) → (e.hi <ℤ k → P) → P
+by_place e k inside under over = by_lt_z k e.lo under (λ l. by_lt_z e.hi k over (λ h. inside l h))
+
+module _ {V : Type 0} (eq : V → V → Bool) where
+  -- nothing before the first range
+  pub at_before : (es : List (Entry V)) (b k : ℤ) → IsCanonical eq es → IsAbove b es → k ≤ℤ b → at es k ≡ None
+  at_before [] b k c a h = refl
+  at_before (e ∷ es) b k c a h = at_under e es k (omega (arith, ints)) ∙ at_before es e.hi k c.2 (IsAbove-from_apart eq e es c.1) (omega (arith, ints))

@@ -1,0 +1,142 @@
+-- The parts of a list below a key and from it on.
+use Rattle.std.proofs.Common.{◌≡◌, ℕ, ◌+◌, ℤ, pos, ◌+ℤ◌, ◌-ℤ◌, ◌≤ℤ◌, ◌<ℤ◌, Bool, true, false, cond, List, [], ◌∷◌, ◌++◌, Option, Some, None, refl, ◌∙◌, sym, ap, subst, arith}
+use Rattle.std.specs.Prelude.{int_lt, int_le, ◌&&◌}
+use Rattle.std.specs.Cmp.{IsEquivalence}
+use Rattle.std.proofs.lemmas.Int.{ints, by_lt_z}
+use Rattle.blaze_table.specs.Entries.{Entry, at, SameEntries, SameOption, entry}
+use Rattle.blaze_table.specs.Canonical.{IsApart, IsCanonical, AreKeys}
+use Rattle.blaze_table.specs.Count.{keys_in}
+use Rattle.blaze_table.specs.Splice.{before, after, IsBelow, IsSplitOf, across, IsListSplit}
+use Rattle.blaze_table.specs.Cut.{below_at, from_at}
+use Rattle.blaze_table.specs.Table.{IsTable}
+use Rattle.blaze_table.proofs.Lookup.{IsAbove, IsAbove-from_apart, at_before}
+use Rattle.blaze_table.proofs.Unique.{same_along, same_itself, same_trans, back}
+use Rattle.blaze_table.proofs.Splices.{by_before, by_after, before_keeps, before_cuts, after_skips, after_cuts, canonical_before, canonical_after, above_after, at-before_under, at-before_over, at-after_over, lt_true, lt_false}
+use Rattle.blaze_table.proofs.Painted.{canonical_as, content_as, before_past, entries_themselves}
+use Rattle.blaze_table.proofs.Counted.{before_none, are_keys_before, are_keys_after, are_keys_as, same_keys_in, above_by, some_keys}
+
+module _ {V : Type 0} (eq : V → V → Bool) where
+  -- the two parts have all the keys
+  pub keys_split : (k : ℤ) (es : List (Entry V)) → IsCanonical eq es → keys_in (before k es) +ℤ keys_in (after (k -ℤ pos 1) es) ≡ keys_in es
+  keys_split k [] c = refl
+  keys_split k (e ∷ es) c =
+      let i = keys_split k es c.2 in
+      let a = IsAbove-from_apart eq e es c.1 in
+      let here = c.0 in
+      by_before k e es
+      (λ u p. by_after (k -ℤ pos 1) e es
+      (λ m q. rw (p, q) (omega (arith, ints, i)))
+      (λ m n q. absurd (omega (arith, ints)))
+      (λ m n q. absurd (omega (arith, ints))))
+      (λ u v p. by_after (k -ℤ pos 1) e es
+      (λ m q. absurd (omega (arith, ints)))
+      (λ m n q. rw (p, q) (omega (arith, ints)))
+      (λ m n q. absurd (omega (arith, ints))))
+      (λ u v p. by_after (k -ℤ pos 1) e es
+      (λ m q. absurd (omega (arith, ints)))
+      (λ m n q. absurd (omega (arith, ints)))
+      (λ m n q. rw (p, q) (omega (arith, ints))))
+
+  module _ (laws : IsEquivalence eq) (k : ℤ) (es below from : List (Entry V)) (c : IsCanonical eq es) (r : IsSplitOf eq k es below from) where
+    le_true : (a b : ℤ) → a ≤ℤ b → int_le a b ≡ true
+    le_true a b h = grind (arith, ints)
+
+    le_false : (a b : ℤ) → b <ℤ a → int_le a b ≡ false
+    le_false a b h = grind (arith, ints)
+
+    rest : List (Entry V)
+    rest = after (k -ℤ pos 1) es
+
+    below_content : (j : ℤ) → at (before k es) j ≡ below_at k (at es) j
+    below_content j = by_lt_z j k
+        (λ u. at-before_under eq k j es c u ∙ sym (ap (λ b. cond b (at es j) None) (lt_true j k u)))
+        (λ u. at-before_over eq k j es u ∙ sym (ap (λ b. cond b (at es j) None) (lt_false j k u)))
+
+    from_content : (j : ℤ) → at (after (k -ℤ pos 1) es) j ≡ from_at k (at es) j
+    from_content j = by_lt_z j k
+        (λ u. at_before eq (after (k -ℤ pos 1) es) (k -ℤ pos 1) j (canonical_after eq (k -ℤ pos 1) es c) (above_after (k -ℤ pos 1) es) (omega (arith, ints)) ∙ sym (ap (λ b. cond b (at es j) None) (le_false k j u)))
+        (λ u. at-after_over eq (k -ℤ pos 1) j es c (omega (arith, ints)) ∙ sym (ap (λ b. cond b (at es j) None) (le_true k j u)))
+
+    pub is_split : IsListSplit eq k es below from
+    is_split = record {
+      below_canonical = subst (IsCanonical eq) (sym r.below_is) (canonical_before eq k es c);
+      from_canonical = canonical_as eq laws (after (k -ℤ pos 1) es) from r.like (canonical_after eq (k -ℤ pos 1) es c);
+      below_content = λ j. same_along eq refl (ap (λ xs. at xs j) r.below_is ∙ below_content j) (same_itself eq laws (at below j));
+      from_content = λ j. same_along eq refl (from_content j) (back eq laws (after (k -ℤ pos 1) es) from (content_as eq laws (after (k -ℤ pos 1) es) from r.like) j);
+    }
+
+    -- the counts of the two, where the numbers add up
+    pub split_tables : (low high : ℤ) (n m o : ℕ) → IsTable eq low high n es → pos m ≡ keys_in below → m + o ≡ n → IsTable eq low high m below × IsTable eq low high o from
+    split_tables low high n m o t p q = (
+      (record {
+        canonical = is_split.below_canonical;
+        are_keys = subst (AreKeys low high) (sym r.below_is) (are_keys_before eq low high k es t.are_keys);
+        counted = p;
+      }),
+      (record {
+        canonical = is_split.from_canonical;
+        are_keys = are_keys_as eq low high (after (k -ℤ pos 1) es) from r.like (are_keys_after eq low high (k -ℤ pos 1) es t.are_keys);
+        counted = omega (arith, ints, p, q, t.counted, keys_split k es c, ap keys_in r.below_is, same_keys_in eq (after (k -ℤ pos 1) es) from r.like);
+      }),
+    )
+
+module _ {V : Type 0} (eq : V → V → Bool) (laws : IsEquivalence eq) (k : ℤ) where
+  after_below : (A X : List (Entry V)) → IsBelow k A → after (k -ℤ pos 1) (A ++ X) ≡ after (k -ℤ pos 1) X
+  after_below [] X b = refl
+  after_below (e ∷ A) X b = after_skips (k -ℤ pos 1) e (A ++ X) (omega (arith, ints, b.0)) ∙ after_below A X b.1
+
+  append_none : {X : Type 0} (xs : List X) → xs ++ [] ≡ xs
+  append_none [] = refl
+  append_none (x ∷ xs) = ap (λ l. x ∷ l) (append_none xs)
+
+  after_all : (es : List (Entry V)) → IsCanonical eq es → IsAbove (k -ℤ pos 1) es → after (k -ℤ pos 1) es ≡ es
+  after_all [] c a = refl
+  after_all (e ∷ es) c a = by_after (k -ℤ pos 1) e es (λ h p. absurd (omega (arith, ints, c.0))) (λ h l p. absurd (omega (arith, ints))) (λ h l p. p)
+
+  module _ (A : List (Entry V)) (b : IsBelow k A) where
+    -- the key cuts an entry
+    pub split_here : (e : Entry V) (C : List (Entry V)) (v : V) → e.lo <ℤ k → k ≤ℤ e.hi → eq e.value v ≡ true → IsSplitOf eq k (A ++ e ∷ C) (A ++ entry e.lo (k -ℤ pos 1) e.value ∷ []) (entry k e.hi v ∷ C)
+    split_here e C v l h q = record {
+      below_is = sym (before_past k A (e ∷ C) b ∙ ap (λ xs. A ++ xs) (before_cuts k e C h l));
+      like = subst (λ xs. SameEntries eq xs (entry k e.hi v ∷ C)) (sym (after_below A (e ∷ C) b ∙ after_cuts (k -ℤ pos 1) e C (omega (arith, ints)) (omega (arith, ints)))) (omega (arith, ints), refl, q, entries_themselves eq laws C);
+    }
+
+    -- the key lies between entries
+    pub split_between : (C : List (Entry V)) → IsCanonical eq C → IsAbove (k -ℤ pos 1) C → IsSplitOf eq k (A ++ C) A C
+    split_between C c a = record {
+      below_is = sym (before_past k A C b ∙ ap (λ xs. A ++ xs) (before_none eq k C c a) ∙ append_none A);
+      like = subst (λ xs. SameEntries eq xs C) (sym (after_below A C b ∙ after_all C c a)) (entries_themselves eq laws C);
+    }
+
+    pub across_here : (e : Entry V) (C : List (Entry V)) (o : Option V) → e.lo <ℤ k → k ≤ℤ e.hi → SameOption eq (across k (A ++ e ∷ C)) o → SameOption eq (Some e.value) o
+    across_here e C o l h s = same_along eq (past A b ∙ both (int_lt e.lo k) (int_le k e.hi) (lt_true e.lo k l) (le_yes k e.hi h)) refl s
+      where
+        le_yes : (x y : ℤ) → x ≤ℤ y → int_le x y ≡ true
+        le_yes x y p = grind (arith, ints)
+
+        le_no : (x y : ℤ) → y <ℤ x → int_le x y ≡ false
+        le_no x y p = grind (arith, ints)
+
+        skips : (f : Entry V) (x y : Bool) (r : Option V) → y ≡ false → cond (x && y) (Some f.value) r ≡ r
+        skips f true y r p = ap (λ z. cond z (Some f.value) r) p
+        skips f false y r p = refl
+
+        past : (xs : List (Entry V)) → IsBelow k xs → across k (xs ++ e ∷ C) ≡ across k (e ∷ C)
+        past [] w = refl
+        past (x ∷ xs) w = skips x (int_lt x.lo k) (int_le k x.hi) (across k (xs ++ e ∷ C)) (le_no k x.hi w.0) ∙ past xs w.1
+
+        both : (x y : Bool) → x ≡ true → y ≡ true → cond (x && y) (Some e.value) (across k C) ≡ Some e.value
+        both true true i j = refl
+        both true false i j = cc
+        both false y i j = cc
+
+  pub split_end : (A : List (Entry V)) → IsBelow k A → IsSplitOf eq k A A []
+  split_end A b = subst (λ es. IsSplitOf eq k es A []) (append_none A) (split_between A b [] tt tt)
+
+  pub tail_of : (L M : List (Entry V)) → IsCanonical eq (L ++ M) → IsCanonical eq M
+  tail_of [] M c = c
+  tail_of (e ∷ L) M c = tail_of L M c.2
+
+-- the parts have no more keys than the whole
+pub split_fits : {V : Type 0} (eq : V → V → Bool) (laws : IsEquivalence eq) (k : ℤ) (es below from : List (Entry V)) → IsCanonical eq es → IsSplitOf eq k es below from → keys_in below ≤ℤ keys_in es
+split_fits eq laws k es below from c r = omega (arith, ints, keys_split eq k es c, ap keys_in r.below_is, some_keys eq (after (k -ℤ pos 1) es) (canonical_after eq (k -ℤ pos 1) es c))

@@ -1,0 +1,5 @@
+use Rattle.blaze_table.proofs.ListLaws.{canonical_is_unique}
+use Rattle.blaze_table.proofs.laws.canonical_is_unique.Goals as goal
+
+pub returns : goal.returns
+returns g c = canonical_is_unique g.V.PartialEq.eq g.met.V.Eq.laws

@@ -1,0 +1,29 @@
+-- What taking keys out gives: one key, or all below or from a key on.
+use Rattle.std.specs.Prelude.{ℤ, int_le, int_lt, Bool, if◌then◌else◌, List, Option, None}
+use Rattle.std.specs.Ordering.{int_eq}
+use Rattle.blaze_table.specs.Entries.{Entry, at, SameOption}
+use Rattle.blaze_table.specs.Canonical.{IsRangeMap}
+
+-- the content without the key k
+abbrev pub cut_at : {V : Type 0} → ℤ → (ℤ → Option V) → ℤ → Option V
+cut_at k content j = if int_eq j k then None else content j
+
+-- the content at the keys below k alone
+abbrev pub below_at : {V : Type 0} → ℤ → (ℤ → Option V) → ℤ → Option V
+below_at k content j = if int_lt j k then content j else None
+
+-- the content at the keys from k on alone
+abbrev pub from_at : {V : Type 0} → ℤ → (ℤ → Option V) → ℤ → Option V
+from_at k content j = if int_le k j then content j else None
+
+-- what a cut at k does to a range map
+pub record IsCut {V : Type 0} (eq : V → V → Bool) (low high : ℤ) (k : ℤ) (old new : List (Entry V)) : Type 0 where
+  pub range_map : IsRangeMap eq low high new
+  pub content : (j : ℤ) → SameOption eq (at new j) (cut_at k (at old) j)
+
+-- what a split at k makes of a range map: the part below k, and the part from k on
+pub record IsSplit {V : Type 0} (eq : V → V → Bool) (low high : ℤ) (k : ℤ) (old below from : List (Entry V)) : Type 0 where
+  pub below_range_map : IsRangeMap eq low high below
+  pub from_range_map : IsRangeMap eq low high from
+  pub below_content : (j : ℤ) → SameOption eq (at below j) (below_at k (at old) j)
+  pub from_content : (j : ℤ) → SameOption eq (at from j) (from_at k (at old) j)

@@ -1,0 +1,17 @@
+-- The laws of canonical lists.
+use Rattle.std.specs.Prelude.{◌≡◌, ◌≤◌, ℤ, pos, length, Bool, List}
+use Rattle.blaze_table.specs.Entries.{Entry, at, SameContent, SameEntries}
+use Rattle.blaze_table.specs.Canonical.{IsDisjoint, IsOnePerRun, IsRangeMap}
+use Rattle.blaze_table.specs.Count.{keys_in, mapped_keys}
+
+-- canonical lists with the same content have the same ranges and equal values, position by position
+abbrev pub CanonicalIsUnique : {V : Type 0} → (V → V → Bool) → Type 0
+CanonicalIsUnique {V} eq = (L M : List (Entry V)) → IsOnePerRun eq L → IsOnePerRun eq M → SameContent eq L M → SameEntries eq L M
+
+-- no disjoint list with the content of a canonical one has fewer entries
+abbrev pub CanonicalIsFewest : {V : Type 0} → (V → V → Bool) → Type 0
+CanonicalIsFewest {V} eq = (L M : List (Entry V)) → IsOnePerRun eq L → IsDisjoint M → SameContent eq L M → length L ≤ length M
+
+-- the lengths of a range map's ranges add up to the number of keys that have a value
+abbrev pub LengthsAreMapped : {V : Type 0} → (V → V → Bool) → Type 0
+LengthsAreMapped {V} eq = (low high : ℤ) (es : List (Entry V)) → IsRangeMap eq low high es → keys_in es ≡ pos (mapped_keys low high (at es))

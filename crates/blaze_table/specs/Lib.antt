@@ -1,0 +1,10 @@
+pub mod Entries
+pub mod Canonical
+pub mod Count
+pub mod Laws
+pub mod Painted
+pub mod Cut
+pub mod Gap
+pub mod Table
+pub mod Slots
+pub mod Splice

@@ -1,0 +1,101 @@
+-- Lists taken apart at a key and put together again: the words of this crate's own functions. No public clause names them.
+use Rattle.std.specs.Prelude.{◌≡◌, ℤ, pos, ◌+◌, ◌≤◌, length, ◌+ℤ◌, ◌-ℤ◌, ◌<ℤ◌, ◌++◌, int_lt, int_le, Bool, ◌&&◌, if◌then◌else◌, List, [], ◌∷◌, Option, Some, None}
+use Rattle.std.specs.Ordering.{int_eq}
+use Rattle.blaze_table.specs.Entries.{Entry, entry, at, SameEntries, SameOption}
+use Rattle.blaze_table.specs.Canonical.{IsCanonical}
+use Rattle.blaze_table.specs.Painted.{painted}
+use Rattle.blaze_table.specs.Cut.{cut_at, below_at, from_at}
+
+-- what lies below the key
+abbrev pub before : {V : Type 0} → ℤ → List (Entry V) → List (Entry V)
+before k [] = []
+before k (e ∷ es) = if int_lt e.hi k then e ∷ before k es else (if int_lt e.lo k then entry e.lo (k -ℤ pos 1) e.value ∷ [] else [])
+
+-- what lies above the key
+abbrev pub after : {V : Type 0} → ℤ → List (Entry V) → List (Entry V)
+after k [] = []
+after k (e ∷ es) = if int_le e.hi k then after k es else (if int_le e.lo k then entry (k +ℤ pos 1) e.hi e.value ∷ es else e ∷ es)
+
+-- the second starts right above the first, with an equal value
+abbrev pub is_joinable : {V : Type 0} → (V → V → Bool) → Entry V → Entry V → Bool
+is_joinable eq e f = int_eq f.lo (e.hi +ℤ pos 1) && eq e.value f.value
+
+-- an entry, and then a list, in one entry where the two touch with equal values
+abbrev pub join : {V : Type 0} → (V → V → Bool) → Entry V → List (Entry V) → List (Entry V)
+join eq e [] = e ∷ []
+join eq e (f ∷ fs) = if is_joinable eq e f then entry e.lo f.hi e.value ∷ fs else e ∷ f ∷ fs
+
+-- two lists, the second above the first, joined where they touch
+abbrev pub glue : {V : Type 0} → (V → V → Bool) → List (Entry V) → List (Entry V) → List (Entry V)
+glue eq [] M = M
+glue eq (e ∷ []) M = join eq e M
+glue eq (e ∷ f ∷ L) M = e ∷ glue eq (f ∷ L) M
+
+-- the list with the value on the keys from l up to h
+abbrev pub paint : {V : Type 0} → (V → V → Bool) → ℤ → ℤ → V → List (Entry V) → List (Entry V)
+paint eq l h v es = glue eq (glue eq (before l es) (entry l h v ∷ [])) (after h es)
+
+-- each range ends below b
+abbrev pub IsBelow : {V : Type 0} → ℤ → List (Entry V) → Type 0
+IsBelow b [] = Unit {0}
+IsBelow b (e ∷ es) = (e.hi <ℤ b) × IsBelow b es
+
+-- the value of the first entry that starts below l and ends above h
+abbrev pub around : {V : Type 0} → ℤ → ℤ → List (Entry V) → Option V
+around l h [] = None
+around l h (e ∷ es) = if int_lt e.lo l && int_lt h e.hi then Some e.value else around l h es
+
+-- the list with the entry painted, where an entry above it may have a value that is only equal to the old
+pub record IsPaintOf {V : Type 0} (eq : V → V → Bool) (p : Entry V) (es new : List (Entry V)) : Type 0 where
+  pub above : List (Entry V)
+  pub like : SameEntries eq (after p.hi es) above
+  pub glued : new ≡ glue eq (glue eq (before p.lo es) (p ∷ [])) above
+
+-- a list painted, by structure
+pub record IsListPainted {V : Type 0} (eq : V → V → Bool) (p : Entry V) (old new : List (Entry V)) : Type 0 where
+  pub canonical : IsCanonical eq new
+  pub content : (k : ℤ) → SameOption eq (at new k) (painted p.lo p.hi p.value (at old) k)
+  pub few : length new ≤ length old + 2
+
+-- the list without the key k, where the part above may have values that are only equal to the old
+pub record IsCutOf {V : Type 0} (eq : V → V → Bool) (k : ℤ) (es new : List (Entry V)) : Type 0 where
+  pub above : List (Entry V)
+  pub like : SameEntries eq (after k es) above
+  pub joined : new ≡ before k es ++ above
+
+-- a list cut at a key, by structure
+pub record IsListCut {V : Type 0} (eq : V → V → Bool) (k : ℤ) (old new : List (Entry V)) : Type 0 where
+  pub canonical : IsCanonical eq new
+  pub content : (j : ℤ) → SameOption eq (at new j) (cut_at k (at old) j)
+
+-- the parts of a list, where the part from k on may have values that are only equal to the old
+pub record IsSplitOf {V : Type 0} (eq : V → V → Bool) (k : ℤ) (es below from : List (Entry V)) : Type 0 where
+  pub below_is : below ≡ before k es
+  pub like : SameEntries eq (after (k -ℤ pos 1) es) from
+
+-- a list split at a key, by structure
+pub record IsListSplit {V : Type 0} (eq : V → V → Bool) (k : ℤ) (old below from : List (Entry V)) : Type 0 where
+  pub below_canonical : IsCanonical eq below
+  pub from_canonical : IsCanonical eq from
+  pub below_content : (j : ℤ) → SameOption eq (at below j) (below_at k (at old) j)
+  pub from_content : (j : ℤ) → SameOption eq (at from j) (from_at k (at old) j)
+
+-- the value of the first entry that starts below k and holds it
+abbrev pub across : {V : Type 0} → ℤ → List (Entry V) → Option V
+across k [] = None
+across k (e ∷ es) = if int_lt e.lo k && int_le k e.hi then Some e.value else across k es
+
+abbrev pub later : ℤ → ℤ → ℤ
+later a b = if int_lt a b then b else a
+
+abbrev pub earlier : ℤ → ℤ → ℤ
+earlier a b = if int_lt a b then a else b
+
+-- how many of the entry's keys lie from l up to h
+abbrev pub overlap : {V : Type 0} → ℤ → ℤ → Entry V → ℤ
+overlap l h e = if int_le (later e.lo l) (earlier e.hi h) then (earlier e.hi h -ℤ later e.lo l) +ℤ pos 1 else pos 0
+
+-- how many of the entries' keys lie from l up to h
+abbrev pub covered : {V : Type 0} → ℤ → ℤ → List (Entry V) → ℤ
+covered l h [] = pos 0
+covered l h (e ∷ es) = overlap l h e +ℤ covered l h es

@@ -1,0 +1,51 @@
+//! A table's entries, one after another.
+ghost use Rattle.std.specs.Prelude.{◌≡◌};
+ghost use Rattle.std.specs.Iterator.{YieldsFirstBy, item_count};
+ghost use Rattle.blaze_table.specs.Entries.{shown_entry};
+ghost use Rattle.blaze_table.specs.Slots.{entries_of};
+
+use crate::Slot;
+use blaze_int::Integer;
+use std::marker::Model;
+
+/// A table's entries, ascending: first key, last key and value.
+#[derive(Drop)]
+pub struct Iter<'a, T: Integer, V> {
+    rest: &'a [Slot<T, V>],
+}
+
+impl<'a, T: Integer, V> Model for Iter<'a, T, V> {
+    ghost use Rattle.std.specs.Prelude.{List};
+    ghost use Rattle.std.specs.Coded.{coded_list};
+    ghost use Rattle.blaze_table.specs.Entries.{Entry, entry_code};
+
+    ghost Value = { List (Entry V) };
+
+    ghost coded = { coded_list (entry_code V.code) };
+
+    ghost use Rattle.blaze_table.specs.Slots.{entries_of};
+
+    ghost view = { λ s. entries_of T.rank s.rest.now };
+}
+
+impl<'a, T: Integer, V> Iter<'a, T, V> {
+    pub(crate) fn new(rest: &'a [Slot<T, V>]) -> Self
+        ensures { result ≡ entries_of T.rank rest.now }
+    {
+        Iter { rest }
+    }
+}
+
+impl<'a, T: Integer, V> Iterator for Iter<'a, T, V> {
+    type Item = (T, T, &'a V);
+
+    ghost next_gives = { YieldsFirstBy (shown_entry T.rank (λ v. v.now)) (λ s. s) };
+
+    ghost remaining = { item_count (λ s. s) };
+
+    fn next(&mut self) -> Option<(T, T, &'a V)> {
+        let (slot, others) = self.rest.split_first()?;
+        self.rest = others;
+        Some((slot.lo, slot.hi, &slot.value))
+    }
+}

@@ -1,0 +1,17 @@
+//! The laws of canonical lists, for every value type with a lawful equality.
+ghost use Rattle.blaze_table.specs.Laws.{CanonicalIsUnique, CanonicalIsFewest, LengthsAreMapped};
+
+/// Canonical lists with the same content have the same ranges and equal values, position by position.
+pub fn canonical_is_unique<V: Eq>()
+    ensures { CanonicalIsUnique V.eq }
+{}
+
+/// No disjoint list with the content of a canonical list has fewer entries.
+pub fn canonical_is_fewest<V: Eq>()
+    ensures { CanonicalIsFewest V.eq }
+{}
+
+/// The lengths of a range map's ranges add up to the number of keys that have a value.
+pub fn lengths_are_mapped<V: Eq>()
+    ensures { LengthsAreMapped V.eq }
+{}

@@ -1,0 +1,162 @@
+//! The table.
+ghost use Rattle.std.specs.Prelude.{◌≡◌, ◌↔◌, ◌≤ℤ◌, pos, [], length, false, None, Ok, IfOk, OnOk, OnErr, IsTrue, option_map};
+ghost use Rattle.blaze_table.specs.Entries.{Entry, entry, at, entry_at, shown_entry, SameOption};
+ghost use Rattle.blaze_table.specs.Canonical.{IsRangeMap};
+ghost use Rattle.blaze_table.specs.Count.{keys_in, mapped_keys};
+ghost use Rattle.blaze_table.specs.Painted.{IsPainted, ClonesAreAlike, IsInside};
+ghost use Rattle.blaze_table.specs.Cut.{IsCut, IsSplit};
+ghost use Rattle.blaze_table.specs.Gap.{IsGap};
+
+use crate::Slot;
+use crate::cut::cut;
+use crate::gaps::gap_round;
+use crate::iter::Iter;
+use crate::paint::paint;
+use crate::search::{is_inside, slot_at};
+use crate::split::split;
+use blaze_int::length::differ;
+use blaze_int::{Integer, SafeLength};
+use std::alloc::{AllocError, Global};
+use std::marker::Model;
+
+/// Ranges with their values: ascending, disjoint, as few as there can be; and the number of their keys.
+#[derive(Drop)]
+pub struct RangeTable<T: Integer, V: Eq> {
+    slots: Vec<Slot<T, V>>,
+    len: T::SafeLen,
+}
+
+impl<T: Integer, V: Eq> Model for RangeTable<T, V> {
+    ghost use Rattle.blaze_table.specs.Slots.{entries_of};
+    ghost use Rattle.blaze_table.specs.Table.{RangeMap, IsTable};
+
+    ghost Value = { RangeMap V };
+
+    ghost view = { λ a. record { entries = entries_of T.rank a.slots.items } };
+
+    ghost invariant = { λ a. IsTable V.eq T.low T.high (T.SafeLen.number a.len) (entries_of T.rank a.slots.items) };
+}
+
+impl<T: Integer, V: Eq> RangeTable<T, V> {
+    /// The empty table.
+    pub fn new(alloc: Global) -> Self
+        ensures { result.entries ≡ [] }
+    {
+        RangeTable {
+            slots: Vec::new(alloc),
+            len: T::SafeLen::zero(),
+        }
+    }
+
+    /// The number of keys that have a value.
+    pub fn len(&self) -> T::SafeLen
+        ensures lengths { pos (T.SafeLen.number result) ≡ keys_in self.now.entries }
+        ensures mapped { T.SafeLen.number result ≡ mapped_keys T.low T.high (at self.now.entries) }
+    {
+        let _ = &self.slots;
+        self.len
+    }
+
+    /// The number of entries.
+    pub fn entries(&self) -> usize
+        ensures { result ≡ length self.now.entries }
+    {
+        self.slots.len()
+    }
+
+    /// Does nothing; its contract says that the list is canonical and its ends are keys.
+    pub fn in_hand(&self)
+        ensures { IsRangeMap V.eq T.low T.high self.now.entries }
+    {
+        let _ = &self.slots;
+    }
+
+    /// The entry that holds a key: its first key, last key and value.
+    pub fn find(&self, key: T) -> Option<(T, T, &V)>
+        ensures entry { option_map (shown_entry T.rank (λ v. v.now)) result ≡ entry_at self.now.entries (T.rank key) }
+        ensures value { option_map (λ e. e.2.now) result ≡ at self.now.entries (T.rank key) }
+    {
+        match slot_at(&self.slots, key) {
+            Some(slot) => Some((slot.lo, slot.hi, &slot.value)),
+            None => None,
+        }
+    }
+
+    /// The entries, ascending: first key, last key and value.
+    pub fn iter(&self) -> Iter<'_, T, V>
+        ensures { result ≡ self.now.entries }
+    {
+        Iter::new(self.slots.as_slice())
+    }
+
+    /// The greatest range of keys without a value that holds a key without one: its first and last key.
+    pub fn gap_round(&self, key: T) -> (T, T)
+        requires { at self.now.entries (T.rank key) ≡ None }
+        ensures { IsGap T.low T.high (at self.now.entries) (T.rank key) (T.rank result.0) (T.rank result.1) }
+    {
+        gap_round(&self.slots, key)
+    }
+}
+
+impl<T: Integer, V: Eq + Drop> RangeTable<T, V> {
+    /// Takes all entries out.
+    pub fn clear(&mut self)
+        ensures { self.new.entries ≡ [] }
+    {
+        self.slots.clear();
+        self.len = T::SafeLen::zero();
+    }
+}
+
+impl<T: Integer, V: Eq + Clone> RangeTable<T, V> {
+    /// Puts a value on the keys from lo up to hi, and answers whether the number of keys changed.
+    /// Refused memory leaves the table unchanged. Inside one entry with an equal value nothing changes, the stored value
+    /// neither, and no memory is taken.
+    pub fn paint(&mut self, lo: T, hi: T, value: V) -> Result<bool, AllocError>
+        requires order { T.rank lo ≤ℤ T.rank hi }
+        requires clones { ClonesAreAlike V.is_clone V.eq }
+        ensures ok { OnOk result (IsPainted V.eq T.low T.high (entry (T.rank lo) (T.rank hi) value) self.old.entries self.new.entries) }
+        ensures changed { IfOk result (λ changed. IsTrue changed ↔ (¬ (keys_in self.new.entries ≡ keys_in self.old.entries))) }
+        ensures inside { IsInside V.eq (T.rank lo) (T.rank hi) value self.old.entries → (result ≡ Ok false) × (self.new ≡ self.old) }
+        ensures err { OnErr result (self.new ≡ self.old) }
+    {
+        let _ = &self.slots;
+        if is_inside(&self.slots, lo, hi, &value) {
+            return Ok(false);
+        }
+        let old_len = self.len;
+        let new_len = paint(&mut self.slots, old_len, lo, hi, value)?;
+        self.len = new_len;
+        Ok(differ(new_len, old_len))
+    }
+
+    /// Takes a key out, and answers the value that was there. Refused memory leaves the table unchanged.
+    pub fn cut_key(&mut self, key: T) -> Result<Option<V>, AllocError>
+        requires { ClonesAreAlike V.is_clone V.eq }
+        ensures ok { OnOk result (IsCut V.eq T.low T.high (T.rank key) self.old.entries self.new.entries) }
+        ensures value { IfOk result (λ value. SameOption V.eq (at self.old.entries (T.rank key)) value) }
+        ensures err { OnErr result (self.new ≡ self.old) }
+    {
+        let _ = &self.slots;
+        let old_len = self.len;
+        let (value, len) = cut(&mut self.slots, old_len, key)?;
+        self.len = len;
+        Ok(value)
+    }
+
+    /// Keeps the keys below one, and answers the table of the keys from it on. Refused memory leaves the table unchanged.
+    pub fn split_at(&mut self, key: T) -> Result<Self, AllocError>
+        requires { ClonesAreAlike V.is_clone V.eq }
+        ensures ok { IfOk result (λ from. IsSplit V.eq T.low T.high (T.rank key) self.old.entries self.new.entries from.entries) }
+        ensures err { OnErr result (self.new ≡ self.old) }
+    {
+        let _ = &self.slots;
+        let old_len = self.len;
+        let (from, below_len, from_len) = split(&mut self.slots, key, old_len)?;
+        self.len = below_len;
+        Ok(RangeTable {
+            slots: from,
+            len: from_len,
+        })
+    }
+}
