@@ -1,5 +1,5 @@
 // The keys that the bounds of a range name.
-ghost use Rattle.std.specs.Prelude.{◌≡◌, ◌↔◌, ◌≤ℤ◌, ◌<ℤ◌, ℤ, IsTrue, MatchOption};
+ghost use Rattle.std.specs.Prelude.{◌≡◌, ◌↔◌, ◌≤ℤ◌, ◌<ℤ◌, ℤ, IsTrue, MatchOption, IfSome};
 ghost use Rattle.std.specs.Range.Bound.{bound_map};
 ghost use Rattle.blaze_int.specs.Bounds.{start_rank, end_rank, IsNamed, AreEndsOf, AreAtRanks};
 
@@ -14,6 +14,7 @@ use std::ops::{Bound, RangeBounds};
 ///
 /// A contract knows the bounds of each range of `std` but one: a `RangeInclusive` that was iterated to its end.
 pub fn bounds_of<T: Integer, R: RangeBounds<T>>(r: &R) -> Option<(T, T)>
+    ensures order { IfSome result (λ p. T.rank p.0 ≤ℤ T.rank p.1) }
     ensures ends { R.has_bounds r.now → AreEndsOf T.rank T.low T.high (R.start_bound r.now) (R.end_bound r.now) result }
     ensures ranks { R.has_bounds r.now → AreAtRanks T.rank T.low T.high (R.start_bound r.now) (R.end_bound r.now) result }
 {

@@ -1,0 +1,2 @@
+pub mod Nowhere
+pub mod Texts

@@ -1,0 +1,42 @@
+//! Values put on ranges.
+ghost use Rattle.std.specs.Prelude.{◌≡◌, ◌↔◌, ◌≤ℤ◌, ◌<ℤ◌, false, Ok, IfOk, OnOk, OnErr, IsTrue};
+ghost use Rattle.blaze_int.specs.Bounds.{start_rank, end_rank};
+ghost use Rattle.blaze_table.specs.Entries.{Entry, entry};
+ghost use Rattle.blaze_table.specs.Count.{keys_in};
+ghost use Rattle.blaze_table.specs.Painted.{IsPainted, IsInside, ClonesAreAlike};
+
+use crate::map::RangeMapBlaze;
+use blaze_int::{Integer, bounds_of};
+use std::alloc::AllocError;
+use std::ops::RangeBounds;
+
+impl<T: Integer, V: Eq + Clone> RangeMapBlaze<T, V> {
+    /// Puts a value on the keys of a range, over what was there, and answers whether the number of keys changed.
+    ///
+    /// Bounds that name no key answer false and change nothing. Inside one entry with an equal value nothing changes, the
+    /// stored value neither. Both take no memory. Refused memory leaves the map unchanged.
+    pub fn ranges_insert<R: RangeBounds<T> + Drop>(
+        &mut self,
+        range: R,
+        value: V,
+    ) -> Result<bool, AllocError>
+        requires { ClonesAreAlike V.is_clone V.eq }
+        ensures ok { R.has_bounds range → OnOk result (IsPainted V.eq T.low T.high
+            (entry (start_rank T.rank T.low (R.start_bound range)) (end_rank T.rank T.high (R.end_bound range)) value)
+            self.old.entries self.new.entries) }
+        ensures changed { IfOk result (λ changed. IsTrue changed ↔ (¬ (keys_in self.new.entries ≡ keys_in self.old.entries))) }
+        ensures none { R.has_bounds range
+            → end_rank T.rank T.high (R.end_bound range) <ℤ start_rank T.rank T.low (R.start_bound range)
+            → (result ≡ Ok false) × (self.new ≡ self.old) }
+        ensures inside { R.has_bounds range
+            → IsInside V.eq (start_rank T.rank T.low (R.start_bound range)) (end_rank T.rank T.high (R.end_bound range)) value self.old.entries
+            → (result ≡ Ok false) × (self.new ≡ self.old) }
+        ensures err { OnErr result (self.new ≡ self.old) }
+    {
+        self.in_hand();
+        match bounds_of(&range) {
+            Some((start, end)) => self.table.paint(start, end, value),
+            None => Ok(false),
+        }
+    }
+}
