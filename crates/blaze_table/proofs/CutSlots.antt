@@ -55,9 +55,9 @@ module _ {T V : Type 0} (rank : T → ℤ) (eq : V → V → Bool) where
           → IsCutOf eq k (entries_of rank xs) (entries_of rank new)
       slots_inside left right new n f t a b d p q v =
           let new_is : entries_of rank new ≡ A ++ entry (rank s.lo) (k -ℤ pos 1) s.value ∷ entry (k +ℤ pos 1) (rank s.hi) right.value ∷ C =
-              ap (entries_of rank) (n ∙ put_two xs i left right l) ∙ entries-append rank (take i xs) (left ∷ right ∷ drop (i + 1) xs)
-              ∙ ap (λ x. A ++ x ∷ entry_of rank right ∷ C) (as_entry left (rank s.lo) (k -ℤ pos 1) s.value a b d)
-              ∙ ap (λ x. A ++ entry (rank s.lo) (k -ℤ pos 1) s.value ∷ x ∷ C) (as_entry right (k +ℤ pos 1) (rank s.hi) right.value p q refl) in
+          ap (entries_of rank) (n ∙ put_two xs i left right l) ∙ entries-append rank (take i xs) (left ∷ right ∷ drop (i + 1) xs)
+          ∙ ap (λ x. A ++ x ∷ entry_of rank right ∷ C) (as_entry left (rank s.lo) (k -ℤ pos 1) s.value a b d)
+          ∙ ap (λ x. A ++ entry (rank s.lo) (k -ℤ pos 1) s.value ∷ x ∷ C) (as_entry right (k +ℤ pos 1) (rank s.hi) right.value p q refl) in
           subst (λ es. IsCutOf eq k (entries_of rank xs) es) (sym new_is)
           (subst (λ es. IsCutOf eq k es (A ++ entry (rank s.lo) (k -ℤ pos 1) s.value ∷ entry (k +ℤ pos 1) (rank s.hi) right.value ∷ C)) (sym whole)
           (cut_inside eq laws k A under e C right.value f t v))
@@ -66,7 +66,7 @@ module _ {T V : Type 0} (rank : T → ℤ) (eq : V → V → Bool) where
           → rank t.lo ≡ rank s.lo → rank t.hi ≡ k -ℤ pos 1 → t.value ≡ s.value → IsCutOf eq k (entries_of rank xs) (entries_of rank new)
       slots_end t new n f h a b d =
           let new_is : entries_of rank new ≡ A ++ entry (rank s.lo) (k -ℤ pos 1) s.value ∷ C =
-              ap (entries_of rank) (n ∙ set_parts xs i t l) ∙ one_more t ∙ ap (λ x. A ++ x ∷ C) (as_entry t (rank s.lo) (k -ℤ pos 1) s.value a b d) in
+          ap (entries_of rank) (n ∙ set_parts xs i t l) ∙ one_more t ∙ ap (λ x. A ++ x ∷ C) (as_entry t (rank s.lo) (k -ℤ pos 1) s.value a b d) in
           subst (λ es. IsCutOf eq k (entries_of rank xs) es) (sym new_is)
           (subst (λ es. IsCutOf eq k es (A ++ entry (rank s.lo) (k -ℤ pos 1) s.value ∷ C)) (sym whole)
           (cut_end eq laws k A under e C here.2 (IsAbove-from_apart eq e C here.1) f h))
@@ -75,7 +75,7 @@ module _ {T V : Type 0} (rank : T → ℤ) (eq : V → V → Bool) where
           → rank t.lo ≡ k +ℤ pos 1 → rank t.hi ≡ rank s.hi → t.value ≡ s.value → IsCutOf eq k (entries_of rank xs) (entries_of rank new)
       slots_start t new n f h a b d =
           let new_is : entries_of rank new ≡ A ++ entry (k +ℤ pos 1) (rank s.hi) s.value ∷ C =
-              ap (entries_of rank) (n ∙ set_parts xs i t l) ∙ one_more t ∙ ap (λ x. A ++ x ∷ C) (as_entry t (k +ℤ pos 1) (rank s.hi) s.value a b d) in
+          ap (entries_of rank) (n ∙ set_parts xs i t l) ∙ one_more t ∙ ap (λ x. A ++ x ∷ C) (as_entry t (k +ℤ pos 1) (rank s.hi) s.value a b d) in
           subst (λ es. IsCutOf eq k (entries_of rank xs) es) (sym new_is)
           (subst (λ es. IsCutOf eq k es (A ++ entry (k +ℤ pos 1) (rank s.hi) s.value ∷ C)) (sym whole)
           (cut_start eq laws k A under e C f h))

@@ -5,6 +5,7 @@ use Rattle.std.proofs.lemmas.Int.{ints}
 use Rattle.blaze_table.specs.Entries.{Entry}
 use Rattle.blaze_table.specs.Canonical.{IsApart, IsCanonical, AreKeys}
 use Rattle.blaze_table.specs.Count.{keys_in}
+
 module _ {V : Type 0} (eq : V → V → Bool) where
   apart_far : (e f : Entry V) (bs : List Bool) (fs : List (Entry V)) → e.hi <ℤ f.lo → IsCanonical eq (f ∷ fs) → IsApart eq e (items_where_true bs fs)
   apart_far e f [] fs l c = tt

@@ -3,6 +3,7 @@ use Rattle.std.proofs.Common.{◌≡◌, ℤ, ◌≤ℤ◌, ◌<ℤ◌, Bool, tr
 use Rattle.std.proofs.lemmas.Int.{ints, by_lt_z}
 use Rattle.blaze_table.specs.Entries.{Entry, holds, at, entry_at}
 use Rattle.blaze_table.specs.Canonical.{IsApart, IsCanonical}
+
 -- the first range begins above b
 abbrev pub IsAbove : {V : Type 0} → ℤ → List (Entry V) → Type 0
 IsAbove b [] = Unit {0}

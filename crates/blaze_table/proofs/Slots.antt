@@ -5,6 +5,7 @@ use Rattle.blaze_table.specs.declared.Slot.{Slot}
 use Rattle.blaze_table.specs.Entries.{Entry, entry}
 use Rattle.blaze_table.specs.Splice.{is_joinable, join, glue, IsBelow}
 use Rattle.blaze_table.specs.Slots.{entry_of, entries_of}
+
 -- a list is glued at its last entry
 pub glue-last : {V : Type 0} (eq : V → V → Bool) (xs : List (Entry V)) (e : Entry V) (M : List (Entry V)) → glue eq (xs ++ e ∷ []) M ≡ xs ++ join eq e M
 glue-last eq [] e M = refl

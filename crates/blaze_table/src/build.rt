@@ -6,9 +6,10 @@ ghost use Rattle.std.specs.Option.{option_to_list};
 ghost use Rattle.std.specs.Ordering.{int_eq};
 ghost use Rattle.blaze_table.specs.Splice.{glue, before, after, IsBelow};
 ghost use Rattle.blaze_table.specs.Slots.{entry_of, entries_of};
-use blaze_int::compare::{is_at_most, is_below, is_next};
+
 use crate::Slot;
 use blaze_int::Integer;
+use blaze_int::compare::{is_at_most, is_below, is_next};
 use std::collections::VecDeque;
 
 // Adds a slot where there is room.

@@ -6,6 +6,7 @@ ghost use Rattle.blaze_table.specs.Count.{keys_in};
 ghost use Rattle.blaze_table.specs.Splice.{before, after, later, earlier, overlap};
 ghost use Rattle.blaze_table.specs.Slots.{entry_of, entries_of};
 ghost use Rattle.blaze_table.specs.Table.{IsTable};
+
 use crate::Slot;
 use blaze_int::compare::{is_at_most, is_below, length};
 use blaze_int::{Integer, SafeLength};
@@ -53,12 +54,7 @@ fn outside<T: Integer, V: Eq>(slots: &[Slot<T, V>], lo: T, hi: T, len: T::SafeLe
 }
 
 // How many keys the slots have once the keys from lo up to hi are painted.
-pub fn recount<T: Integer, V: Eq>(
-    slots: &[Slot<T, V>],
-    lo: T,
-    hi: T,
-    len: T::SafeLen,
-) -> T::SafeLen
+pub fn recount<T: Integer, V: Eq>(slots: &[Slot<T, V>], lo: T, hi: T, len: T::SafeLen) -> T::SafeLen
     requires order { T.rank lo ≤ℤ T.rank hi }
     requires table { IsTable V.eq T.low T.high (T.SafeLen.number len) (entries_of T.rank slots.now) }
     ensures { pos (T.SafeLen.number result) ≡ (keys_in (before (T.rank lo) (entries_of T.rank slots.now)) +ℤ keys_in (after (T.rank hi) (entries_of T.rank slots.now))) +ℤ ((T.rank hi -ℤ T.rank lo) +ℤ pos 1) }

@@ -8,6 +8,7 @@ ghost use Rattle.blaze_table.specs.Painted.{ClonesAreAlike};
 ghost use Rattle.blaze_table.specs.Splice.{IsCutOf, IsListCut};
 ghost use Rattle.blaze_table.specs.Table.{IsTable};
 ghost use Rattle.blaze_table.specs.Slots.{entry_of, entries_of};
+
 use crate::Slot;
 use crate::search::place_at;
 use blaze_int::compare::{after, before, is_below};

@@ -8,11 +8,12 @@ ghost use Rattle.blaze_table.specs.Canonical.{IsCanonical};
 ghost use Rattle.blaze_table.specs.Splice.{glue, before, after, around, IsBelow, IsPaintOf};
 ghost use Rattle.blaze_table.specs.Painted.{ClonesAreAlike};
 ghost use Rattle.blaze_table.specs.Slots.{entry_of, entries_of};
-use crate::build::{drop_within, put, put_all, put_joined, take_below};
+
 use crate::Slot;
+use crate::build::{drop_within, put, put_all, put_joined, take_below};
 use crate::search::slot_at;
-use blaze_int::compare::{after, before, is_at_most, is_below};
 use blaze_int::Integer;
+use blaze_int::compare::{after, before, is_at_most, is_below};
 use std::alloc::AllocError;
 use std::collections::VecDeque;
 

@@ -5,6 +5,7 @@ ghost use Rattle.blaze_table.specs.Entries.{at};
 ghost use Rattle.blaze_table.specs.Canonical.{IsCanonical, AreKeys};
 ghost use Rattle.blaze_table.specs.Gap.{IsGap};
 ghost use Rattle.blaze_table.specs.Slots.{entries_of};
+
 use crate::Slot;
 use crate::search::place_of;
 use blaze_int::Integer;

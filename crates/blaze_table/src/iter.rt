@@ -1,11 +1,13 @@
 //! A table's entries, one after another.
-ghost use Rattle.std.specs.Prelude.{◌≡◌};
-ghost use Rattle.std.specs.Iterator.{YieldsFirstBy, item_count};
+ghost use Rattle.std.specs.Prelude.{◌≡◌, length, Some, IfSome};
+ghost use Rattle.std.specs.Iterator.{YieldsFirstBy, YieldsLastBy, item_count, UpTo};
+ghost use Rattle.std.specs.Iterator.SizeHint.{IsWithinCount};
 ghost use Rattle.blaze_table.specs.Entries.{shown_entry};
 ghost use Rattle.blaze_table.specs.Slots.{entries_of};
 
 use crate::Slot;
 use blaze_int::Integer;
+use std::iter::FusedIterator;
 use std::marker::Model;
 
 /// A table's entries, ascending: first key, last key and value.
@@ -48,4 +50,32 @@ impl<'a, T: Integer, V> Iterator for Iter<'a, T, V> {
         self.rest = others;
         Some((slot.lo, slot.hi, &slot.value))
     }
+
+    /// Exact: how many entries are left.
+    fn size_hint(&self) -> (usize, Option<usize>)
+        ensures lower { IsWithinCount result.0 (item_count (λ s. s) self.now) }
+        ensures upper { IfSome result.1 (UpTo (item_count (λ s. s) self.now)) }
+        ensures exact { result ≡ (length self.now, Some (length self.now)) }
+    {
+        let len = self.rest.len();
+        (len, Some(len))
+    }
 }
+
+impl<'a, T: Integer, V> DoubleEndedIterator for Iter<'a, T, V> {
+    ghost next_back_gives = { YieldsLastBy (shown_entry T.rank (λ v. v.now)) (λ s. s) };
+
+    fn next_back(&mut self) -> Option<(T, T, &'a V)> {
+        let (slot, others) = self.rest.split_last()?;
+        self.rest = others;
+        Some((slot.lo, slot.hi, &slot.value))
+    }
+}
+
+impl<'a, T: Integer, V> ExactSizeIterator for Iter<'a, T, V> {
+    fn len(&self) -> usize {
+        self.rest.len()
+    }
+}
+
+impl<'a, T: Integer, V> FusedIterator for Iter<'a, T, V> {}

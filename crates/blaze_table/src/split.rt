@@ -10,6 +10,7 @@ ghost use Rattle.blaze_table.specs.Splice.{IsListSplit, before, after, IsBelow, 
 ghost use Rattle.blaze_table.specs.Painted.{ClonesAreAlike};
 ghost use Rattle.std.specs.VecDeque.{deque_len};
 ghost use Rattle.blaze_table.specs.Slots.{entry_of, entries_of};
+
 use crate::Slot;
 use crate::build::{put, put_all, take_below};
 use crate::search::slot_at;

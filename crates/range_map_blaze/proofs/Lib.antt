@@ -1,2 +1,3 @@
 pub mod Nowhere
 pub mod Texts
+pub mod Universal

@@ -1,7 +1,7 @@
-//! Values put on ranges.
+//! Values put on keys and ranges.
 ghost use Rattle.std.specs.Prelude.{◌≡◌, ◌↔◌, ◌≤ℤ◌, ◌<ℤ◌, false, Ok, IfOk, OnOk, OnErr, IsTrue};
 ghost use Rattle.blaze_int.specs.Bounds.{start_rank, end_rank};
-ghost use Rattle.blaze_table.specs.Entries.{Entry, entry};
+ghost use Rattle.blaze_table.specs.Entries.{Entry, entry, at, SameOption};
 ghost use Rattle.blaze_table.specs.Count.{keys_in};
 ghost use Rattle.blaze_table.specs.Painted.{IsPainted, IsInside, ClonesAreAlike};
 
@@ -11,6 +11,23 @@ use std::alloc::AllocError;
 use std::ops::RangeBounds;
 
 impl<T: Integer, V: Eq + Clone> RangeMapBlaze<T, V> {
+    /// Puts a value on a key, over what was there, and answers the value that was there. Refused memory leaves the map
+    /// unchanged.
+    pub fn insert(&mut self, key: T, value: V) -> Result<Option<V>, AllocError>
+        requires { ClonesAreAlike V.is_clone V.eq }
+        ensures ok { OnOk result (IsPainted V.eq T.low T.high (entry (T.rank key) (T.rank key) value) self.old.entries self.new.entries) }
+        ensures value { IfOk result (λ old. SameOption V.eq (at self.old.entries (T.rank key)) old) }
+        ensures inside { IsInside V.eq (T.rank key) (T.rank key) value self.old.entries → self.new ≡ self.old }
+        ensures err { OnErr result (self.new ≡ self.old) }
+    {
+        let old = match self.get(key) {
+            Some(old) => Some(old.clone()?),
+            None => None,
+        };
+        let _ = self.table.paint(key, key, value)?;
+        Ok(old)
+    }
+
     /// Puts a value on the keys of a range, over what was there, and answers whether the number of keys changed.
     ///
     /// Bounds that name no key answer false and change nothing. Inside one entry with an equal value nothing changes, the

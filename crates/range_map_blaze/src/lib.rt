@@ -3,7 +3,9 @@
 
 mod display;
 mod insert;
+mod lookup;
 mod map;
+mod remove;
 
 pub use blaze_int::{Integer, SafeLength, bounds_of, names_a_key};
 pub use blaze_streams::RangeValuesIter;

@@ -1,10 +1,11 @@
-//! The map, and its look-ups.
-ghost use Rattle.std.specs.Prelude.{◌≡◌, pos, []};
-ghost use Rattle.std.specs.Option.{option_copied};
+//! The map.
+ghost use Rattle.std.specs.Prelude.{◌≡◌, ◌↔◌, ℤ, ◌≤ℤ◌, pos, [], length, IsTrue, IsSome};
 ghost use Rattle.blaze_table.specs.Entries.{Entry, at};
 ghost use Rattle.blaze_table.specs.Canonical.{IsRangeMap};
 ghost use Rattle.blaze_table.specs.Count.{keys_in, mapped_keys};
 
+use blaze_int::compare::length;
+use blaze_int::length::differ;
 use blaze_int::Integer;
 use blaze_streams::RangeValuesIter;
 use blaze_table::RangeTable;
@@ -36,6 +37,13 @@ impl<T: Integer, V: Eq> RangeMapBlaze<T, V> {
         }
     }
 
+    /// The empty map.
+    pub fn default(alloc: Global) -> Self
+        ensures { result.entries ≡ [] }
+    {
+        Self::new(alloc)
+    }
+
     /// The number of keys that have a value.
     pub fn len(&self) -> T::SafeLen
         ensures lengths { pos (T.SafeLen.number result) ≡ keys_in self.now.entries }
@@ -44,14 +52,34 @@ impl<T: Integer, V: Eq> RangeMapBlaze<T, V> {
         self.table.len()
     }
 
-    /// The value at a key.
-    pub fn get(&self, key: T) -> Option<&V>
-        ensures { option_copied result ≡ at self.now.entries (T.rank key) }
+    /// Whether no key has a value.
+    pub fn is_empty(&self) -> bool
+        ensures { IsTrue result ↔ (self.now.entries ≡ []) }
     {
-        match self.table.find(key) {
-            Some((_, _, value)) => Some(value),
-            None => None,
-        }
+        self.table.entries() == 0
+    }
+
+    /// Whether every key of the type has a value.
+    pub fn is_universal(&self) -> bool
+        ensures { IsTrue result ↔ ((k : ℤ) → T.low ≤ℤ k → k ≤ℤ T.high → IsSome (at self.now.entries k)) }
+    {
+        let (first, last) = (T::min_value(), T::max_value());
+        first.in_hand();
+        !differ(self.len(), length(first, last))
+    }
+
+    /// The number of entries.
+    pub fn ranges_len(&self) -> usize
+        ensures { result ≡ length self.now.entries }
+    {
+        self.table.entries()
+    }
+
+    /// The number of entries.
+    pub fn range_values_len(&self) -> usize
+        ensures { result ≡ length self.now.entries }
+    {
+        self.table.entries()
     }
 
     /// The entries, ascending: each range with its value.
@@ -66,5 +94,14 @@ impl<T: Integer, V: Eq> RangeMapBlaze<T, V> {
         ensures { IsRangeMap V.eq T.low T.high self.now.entries }
     {
         self.table.in_hand();
+    }
+}
+
+impl<T: Integer, V: Eq + Drop> RangeMapBlaze<T, V> {
+    /// Takes all entries out.
+    pub fn clear(&mut self)
+        ensures { self.new.entries ≡ [] }
+    {
+        self.table.clear();
     }
 }

@@ -56,7 +56,7 @@ returns-else-is_below g c =
     let is = pieces rank c.take_below.new.out.items c.take_below.new.old.items c.args.old.items s c.in-Some.ensures.all in
     let l : k ≤ℤ rank s.lo = grind (arith, ints, c.is_below.ensures, c.if-is_below.false) in
     let right : entries_of rank c.put_all.new.out.items ≡ entry_of rank s ∷ C =
-        ap (entries_of rank) (c.put_all.ensures ∙ ap (λ xs. xs ++ c.take_below.new.old.items) (c.put.ensures.items ∙ ap (λ xs. xs ++ s ∷ []) c.requires.from_none)) in
+    ap (entries_of rank) (c.put_all.ensures ∙ ap (λ xs. xs ++ c.take_below.new.old.items) (c.put.ensures.items ∙ ap (λ xs. xs ++ s ∷ []) c.requires.from_none)) in
     subst (λ es. IsSplitOf eq k es A (entries_of rank c.put_all.new.out.items)) (sym is)
     (subst (λ xs. IsSplitOf eq k (A ++ entry_of rank s ∷ C) A xs) (sym right)
     (split_between eq g.met.V.Eq.laws k A c.in-Some.ensures.below (entry_of rank s ∷ C) (tail_of eq g.met.V.Eq.laws k A (entry_of rank s ∷ C) (subst (IsCanonical eq) is c.requires.canonical)) (omega (arith, ints, l))))

@@ -14,7 +14,7 @@ returns-then-is_inside-clause-ok g c =
     let eq = g.V.PartialEq.eq in
     let p = entry (rank c.args.lo) (rank c.args.hi) c.args.value in
     let here = inside_painted eq (rank c.args.lo) (rank c.args.hi) c.args.value g.met.V.Eq.laws (entries_of rank c.self.inside.slots.items) c.self.invariant.canonical
-        (subst (λ items. IsInside eq (rank c.args.lo) (rank c.args.hi) c.args.value (entries_of rank items)) c.deref.ensures.value (c.is_inside.ensures.0 c.if-is_inside.true)) in
+    (subst (λ items. IsInside eq (rank c.args.lo) (rank c.args.hi) c.args.value (entries_of rank items)) c.deref.ensures.value (c.is_inside.ensures.0 c.if-is_inside.true)) in
     subst (λ s. IsPainted eq g.T.Integer.low g.T.Integer.high p s.entries s.entries) c.self.view_is
     (painted_map eq g.met.V.Eq.laws g.T.Integer.low g.T.Integer.high _ p _ _ c.self.invariant here)
 

@@ -1,0 +1,5 @@
+//! Worked examples of range maps, as tests.
+#![tactic(auto)]
+
+#[cfg(test)]
+mod paints;
