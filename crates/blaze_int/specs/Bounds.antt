@@ -40,7 +40,7 @@ module _ {K : Type 0} (rank : K → ℤ) where
     AreEndsOf start end (Some p) = (rank p.0 ≤ℤ rank p.1)
         × ((z : ℤ) → IsNamed start end z ↔ ((rank p.0 ≤ℤ z) × (z ≤ℤ rank p.1)))
 
-    -- the same by the ranks that the ends come to
+    -- the same by rank: the two keys are at the ranks that the ends come to, or the end comes to a lower one than the start
     abbrev pub AreAtRanks : Bound K → Bound K → Option (K × K) → Type 0
     AreAtRanks start end ends = MatchOption ends (end_rank high end <ℤ start_rank low start)
         (λ p. (rank p.0 ≡ start_rank low start) × (rank p.1 ≡ end_rank high end))

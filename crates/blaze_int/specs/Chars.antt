@@ -1,20 +1,21 @@
--- `char`. The codes from 0xD800 to 0xDFFF, the surrogates, are no `char`, and the ranks close that gap.
+-- `char`. The codes from 0xD800 to 0xDFFF, the surrogates, are no `char`, and the ranks close that gap: the rank of a
+-- `char` is its code below the gap and its code less 2048 above.
 use Rattle.std.specs.Prelude.{◌≡◌, ◌↔◌, ◌+◌, ◌-◌, ◌≤◌, ◌==◌, ◌≤ℤ◌, ℕ, ℤ, pos, negsuc, IsTrue, if◌then◌else◌, nat_lt}
-use Rattle.std.specs.Ordering.{nat_cmp, int_cmp}
-use Rattle.std.proofs.Common.{refl, ap, ◌∙◌, arith}
+use Rattle.std.specs.Ordering.{nat_cmp}
+use Rattle.std.proofs.Common.{ap, ◌∙◌, arith}
 use Rattle.std.proofs.lemmas.Bool.Decides.{Decides-eqb, nat_tests}
 use Rattle.std.proofs.lemmas.Int.{ints}
 use Rattle.blaze_int.specs.Ranked.{IsRanked}
 use Rattle.blaze_int.specs.Unsigned.{nat_of, nat_cmp-int_cmp}
 
--- how many `char`s have a smaller code, and more than there are for a surrogate
+-- how many `char`s have a smaller code; what is no `char` has an index past the last, 1112063
 abbrev pub char_index : ℕ → ℕ
 char_index c = if nat_lt c 0xD800 then c else (if nat_lt c 0xE000 then 1112064 else c - 2048)
 
 abbrev pub char_rank : ℕ → ℤ
 char_rank c = pos (char_index c)
 
--- the code of the `char` that has so many below it
+-- the code of the `char` at an index
 abbrev pub char_code : ℕ → ℕ
 char_code n = if nat_lt n 0xD800 then n else n + 2048
 

@@ -1,5 +1,5 @@
 -- The signed number types: a number is its own rank.
-use Rattle.std.specs.Prelude.{◌≤ℤ◌, ℕ, ℤ, pos, negsuc, ◌+◌, ◌≤◌}
+use Rattle.std.specs.Prelude.{◌≤ℤ◌, ℕ, pos, negsuc, ◌+◌, ◌≤◌}
 use Rattle.std.specs.Ordering.{int_cmp, int_eq}
 use Rattle.std.proofs.Common.{refl, arith}
 use Rattle.std.proofs.lemmas.Bool.Decides.{Decides-int_eq}

@@ -12,7 +12,8 @@ use std::ops::{Bound, RangeBounds};
 /// An unbounded start is the least key and an unbounded end the greatest. An excluded start at the greatest key and an
 /// excluded end at the least key name no key. A range is read by its start and its end alone.
 ///
-/// A contract knows the bounds of each range of `std` but one: a `RangeInclusive` that was iterated to its end.
+/// The contract speaks of each range of `std` but one: a `RangeInclusive` that was iterated to its end. `std` reads that
+/// end as excluded, so the range names no key.
 pub fn bounds_of<T: Integer, R: RangeBounds<T>>(r: &R) -> Option<(T, T)>
     ensures order { IfSome result (λ p. T.rank p.0 ≤ℤ T.rank p.1) }
     ensures ends { R.has_bounds r.now → AreEndsOf T.rank T.low T.high (R.start_bound r.now) (R.end_bound r.now) result }

@@ -18,3 +18,5 @@ pub mod CutSlots
 pub mod Splitting
 pub mod Kept
 pub mod RangeMaps
+pub mod NextEntries
+pub mod Retained

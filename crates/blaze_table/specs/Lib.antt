@@ -5,6 +5,7 @@ pub mod Laws
 pub mod Painted
 pub mod Cut
 pub mod Gap
+pub mod Retain
 pub mod Table
 pub mod Slots
 pub mod Splice

@@ -6,13 +6,17 @@ mod count;
 mod cut;
 mod fill;
 mod gaps;
+mod into_iter;
 mod iter;
 pub mod laws;
+mod neighbours;
 mod paint;
+mod retain;
 mod search;
 mod split;
 mod table;
 
+pub use into_iter::IntoIter;
 pub use iter::Iter;
 pub use table::RangeTable;
 

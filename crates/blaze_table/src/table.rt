@@ -1,23 +1,41 @@
 //! The table.
-ghost use Rattle.std.specs.Prelude.{◌≡◌, ◌↔◌, ◌≤ℤ◌, pos, [], length, false, None, Ok, IfOk, OnOk, OnErr, IsTrue, option_map};
+ghost use Rattle.std.specs.Prelude.{◌≡◌, ◌↔◌, ◌-◌, ◌≤ℤ◌, int_lt, pos, [], length, slice_get, find, reverse, false, None, Ok, IfOk, OnOk, OnErr, IsTrue, option_map};
+ghost use Rattle.std.specs.List.Retain.{IsFiltered};
+ghost use Rattle.std.specs.Option.{option_copied};
 ghost use Rattle.blaze_table.specs.Entries.{Entry, entry, at, entry_at, shown_entry, SameOption};
 ghost use Rattle.blaze_table.specs.Canonical.{IsRangeMap};
 ghost use Rattle.blaze_table.specs.Count.{keys_in, mapped_keys};
 ghost use Rattle.blaze_table.specs.Painted.{IsPainted, ClonesAreAlike, IsInside};
 ghost use Rattle.blaze_table.specs.Cut.{IsCut, IsSplit};
 ghost use Rattle.blaze_table.specs.Gap.{IsGap};
+ghost use Rattle.blaze_table.specs.Retain.{AnswersAt};
+ghost use Rattle.blaze_table.specs.Slots.{entry_of};
 
 use crate::Slot;
 use crate::cut::cut;
 use crate::gaps::gap_round;
+use crate::into_iter::IntoIter;
 use crate::iter::Iter;
+use crate::neighbours::{slot_above, slot_below};
 use crate::paint::paint;
+use crate::retain::retain;
 use crate::search::{is_inside, slot_at};
 use crate::split::split;
 use blaze_int::length::differ;
 use blaze_int::{Integer, SafeLength};
 use std::alloc::{AllocError, Global};
 use std::marker::Model;
+use std::ops::RangeInclusive;
+
+// What a slot shows: its first key, last key and value.
+fn shown<T: Integer, V>(slot: Option<&Slot<T, V>>) -> Option<(T, T, &V)>
+    ensures { option_map (shown_entry T.rank (λ v. v.now)) result ≡ option_map (entry_of T.rank) (option_copied slot.entry) }
+{
+    match slot {
+        Some(slot) => Some((slot.lo, slot.hi, &slot.value)),
+        None => None,
+    }
+}
 
 /// Ranges with their values: ascending, disjoint, as few as there can be; and the number of their keys.
 #[derive(Drop)]
@@ -76,10 +94,35 @@ impl<T: Integer, V: Eq> RangeTable<T, V> {
         ensures entry { option_map (shown_entry T.rank (λ v. v.now)) result ≡ entry_at self.now.entries (T.rank key) }
         ensures value { option_map (λ e. e.2.now) result ≡ at self.now.entries (T.rank key) }
     {
-        match slot_at(&self.slots, key) {
-            Some(slot) => Some((slot.lo, slot.hi, &slot.value)),
-            None => None,
-        }
+        shown(slot_at(&self.slots, key))
+    }
+
+    /// The least entry: its first key, last key and value.
+    pub fn first(&self) -> Option<(T, T, &V)>
+        ensures { option_map (shown_entry T.rank (λ v. v.now)) result ≡ slice_get self.now.entries 0 }
+    {
+        shown(self.slots.first())
+    }
+
+    /// The greatest entry: its first key, last key and value.
+    pub fn last(&self) -> Option<(T, T, &V)>
+        ensures { option_map (shown_entry T.rank (λ v. v.now)) result ≡ slice_get self.now.entries (length self.now.entries - 1) }
+    {
+        shown(self.slots.last())
+    }
+
+    /// The least entry that starts above a key: its first key, last key and value.
+    pub fn next_above(&self, key: T) -> Option<(T, T, &V)>
+        ensures { option_map (shown_entry T.rank (λ v. v.now)) result ≡ find (λ e. int_lt (T.rank key) e.lo) self.now.entries }
+    {
+        shown(slot_above(&self.slots, key))
+    }
+
+    /// The greatest entry that ends below a key: its first key, last key and value.
+    pub fn next_below(&self, key: T) -> Option<(T, T, &V)>
+        ensures { option_map (shown_entry T.rank (λ v. v.now)) result ≡ find (λ e. int_lt e.hi (T.rank key)) (reverse self.now.entries) }
+    {
+        shown(slot_below(&self.slots, key))
     }
 
     /// The entries, ascending: first key, last key and value.
@@ -105,6 +148,18 @@ impl<T: Integer, V: Eq + Drop> RangeTable<T, V> {
     {
         self.slots.clear();
         self.len = T::SafeLen::zero();
+    }
+
+    /// Keeps the entries that a closure answers true at: one call for each, ascending. No memory is taken.
+    pub fn retain_entries<F: FnMut(&RangeInclusive<T>, &V) -> bool>(&mut self, f: F)
+        requires { F.IsAlwaysCallable f }
+        ensures range_map { IsRangeMap V.eq T.low T.high self.new.entries }
+        ensures kept { IsFiltered (AnswersAt T.rank F.FnMut) f self.old.entries self.new.entries }
+    {
+        let _ = &self.slots;
+        let old_len = self.len;
+        let len = retain(&mut self.slots, old_len, f);
+        self.len = len;
     }
 }
 
@@ -158,5 +213,18 @@ impl<T: Integer, V: Eq + Clone> RangeTable<T, V> {
             slots: from,
             len: from_len,
         })
+    }
+}
+
+impl<T: Integer, V: Eq + Drop> IntoIterator for RangeTable<T, V> {
+    type Item = (T, T, V);
+
+    type IntoIter = IntoIter<T, V>;
+
+    ghost into_iter_gives = { λ table iter. iter ≡ table.entries };
+
+    /// The entries by value, ascending: first key, last key and value. No memory is taken.
+    fn into_iter(self) -> IntoIter<T, V> {
+        IntoIter::new(self.slots)
     }
 }

@@ -1,3 +1,4 @@
+pub mod EndPairs
 pub mod Nowhere
 pub mod Texts
 pub mod Universal

@@ -7,6 +7,6 @@ mod lookup;
 mod map;
 mod remove;
 
-pub use blaze_int::{Integer, SafeLength, bounds_of, names_a_key};
+pub use blaze_int::{Integer, SafeLength, UIntPlusOne, bounds_of, names_a_key};
 pub use blaze_streams::RangeValuesIter;
 pub use map::RangeMapBlaze;

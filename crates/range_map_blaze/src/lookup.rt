@@ -1,10 +1,11 @@
 //! Look-ups by key.
-ghost use Rattle.std.specs.Prelude.{◌≡◌, ◌↔◌, ◌<ℤ◌, ℤ, Option, Some, None, MatchOption, IsSome, IsTrue, option_map};
+ghost use Rattle.std.specs.Prelude.{◌≡◌, ◌↔◌, ◌<ℤ◌, ℤ, Option, Some, None, MatchOption, IsSome, IsTrue, option_map, []};
 ghost use Rattle.std.specs.Option.{option_copied};
 ghost use Rattle.std.specs.Range.{range_inclusive_start, range_inclusive_end};
 ghost use Rattle.blaze_streams.specs.Ranges.{shown_range};
 ghost use Rattle.blaze_table.specs.Entries.{Entry, entry, at, entry_at};
 ghost use Rattle.blaze_table.specs.Gap.{IsGap};
+ghost use Rattle.range_map_blaze.specs.Pairs.{IsFirstPair, IsLastPair};
 
 use crate::map::RangeMapBlaze;
 use blaze_int::Integer;
@@ -61,6 +62,30 @@ impl<T: Integer, V: Eq> RangeMapBlaze<T, V> {
                 let (start, end) = self.table.gap_round(key);
                 (start..=end, None)
             }
+        }
+    }
+}
+
+impl<T: Integer, V: Eq> RangeMapBlaze<T, V> {
+    /// The least key that has a value, with its value.
+    pub fn first_key_value(&self) -> Option<(T, &V)>
+        ensures { MatchOption result (self.now.entries ≡ []) (λ pair. IsFirstPair (at self.now.entries) (T.rank pair.0) pair.1.now) }
+    {
+        self.in_hand();
+        match self.table.first() {
+            Some(entry) => Some((entry.0, entry.2)),
+            None => None,
+        }
+    }
+
+    /// The greatest key that has a value, with its value.
+    pub fn last_key_value(&self) -> Option<(T, &V)>
+        ensures { MatchOption result (self.now.entries ≡ []) (λ pair. IsLastPair (at self.now.entries) (T.rank pair.0) pair.1.now) }
+    {
+        self.in_hand();
+        match self.table.last() {
+            Some(entry) => Some((entry.1, entry.2)),
+            None => None,
         }
     }
 }

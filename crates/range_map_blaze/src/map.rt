@@ -56,7 +56,7 @@ impl<T: Integer, V: Eq> RangeMapBlaze<T, V> {
     pub fn is_empty(&self) -> bool
         ensures { IsTrue result ↔ (self.now.entries ≡ []) }
     {
-        self.table.entries() == 0
+        self.ranges_len() == 0
     }
 
     /// Whether every key of the type has a value.
@@ -79,7 +79,7 @@ impl<T: Integer, V: Eq> RangeMapBlaze<T, V> {
     pub fn range_values_len(&self) -> usize
         ensures { result ≡ length self.now.entries }
     {
-        self.table.entries()
+        self.ranges_len()
     }
 
     /// The entries, ascending: each range with its value.

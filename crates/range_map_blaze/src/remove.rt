@@ -1,8 +1,9 @@
 //! Keys taken out.
-ghost use Rattle.std.specs.Prelude.{◌≡◌, IfOk, OnOk, OnErr};
+ghost use Rattle.std.specs.Prelude.{◌≡◌, [], None, Ok, MatchOption, IfOk, OnOk, OnErr};
 ghost use Rattle.blaze_table.specs.Entries.{Entry, at, SameOption};
 ghost use Rattle.blaze_table.specs.Cut.{IsCut, IsSplit};
 ghost use Rattle.blaze_table.specs.Painted.{ClonesAreAlike};
+ghost use Rattle.range_map_blaze.specs.Pairs.{IsFirstPair, IsLastPair, PopsFirst, PopsLast};
 
 use crate::map::RangeMapBlaze;
 use blaze_int::Integer;
@@ -17,6 +18,60 @@ impl<T: Integer, V: Eq + Clone> RangeMapBlaze<T, V> {
         ensures err { OnErr result (self.new ≡ self.old) }
     {
         self.table.cut_key(key)
+    }
+
+    /// Takes the least key out, and answers it with the value that was there. On the empty map it answers `None` and takes
+    /// no memory. Refused memory leaves the map unchanged.
+    pub fn pop_first(&mut self) -> Result<Option<(T, V)>, AllocError>
+        requires { ClonesAreAlike V.is_clone V.eq }
+        ensures ok { IfOk result (λ popped. MatchOption popped ((self.old.entries ≡ []) × (self.new ≡ self.old)) (λ pair. PopsFirst V.eq T.low T.high (T.rank pair.0) pair.1 self.old.entries self.new.entries)) }
+        ensures empty { self.old.entries ≡ [] → result ≡ Ok None }
+        ensures err { OnErr result (self.new ≡ self.old) }
+    {
+        let Some(first) = self.first_key() else {
+            return Ok(None);
+        };
+        match self.remove(first)? {
+            Some(value) => Ok(Some((first, value))),
+            None => unreachable!(),
+        }
+    }
+
+    /// Takes the greatest key out, and answers it with the value that was there. On the empty map it answers `None` and
+    /// takes no memory. Refused memory leaves the map unchanged.
+    pub fn pop_last(&mut self) -> Result<Option<(T, V)>, AllocError>
+        requires { ClonesAreAlike V.is_clone V.eq }
+        ensures ok { IfOk result (λ popped. MatchOption popped ((self.old.entries ≡ []) × (self.new ≡ self.old)) (λ pair. PopsLast V.eq T.low T.high (T.rank pair.0) pair.1 self.old.entries self.new.entries)) }
+        ensures empty { self.old.entries ≡ [] → result ≡ Ok None }
+        ensures err { OnErr result (self.new ≡ self.old) }
+    {
+        let Some(last) = self.last_key() else {
+            return Ok(None);
+        };
+        match self.remove(last)? {
+            Some(value) => Ok(Some((last, value))),
+            None => unreachable!(),
+        }
+    }
+
+    /// The least key that has a value.
+    fn first_key(&self) -> Option<T>
+        ensures { MatchOption result (self.now.entries ≡ []) (λ key. (value : V) × IsFirstPair (at self.now.entries) (T.rank key) value) }
+    {
+        match self.first_key_value() {
+            Some((key, _)) => Some(key),
+            None => None,
+        }
+    }
+
+    /// The greatest key that has a value.
+    fn last_key(&self) -> Option<T>
+        ensures { MatchOption result (self.now.entries ≡ []) (λ key. (value : V) × IsLastPair (at self.now.entries) (T.rank key) value) }
+    {
+        match self.last_key_value() {
+            Some((key, _)) => Some(key),
+            None => None,
+        }
     }
 
     /// Keeps the keys below one, and answers the map of the keys from it on. Refused memory leaves the map unchanged.

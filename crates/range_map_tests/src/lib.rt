@@ -2,4 +2,12 @@
 #![tactic(auto)]
 
 #[cfg(test)]
+mod bounds;
+#[cfg(test)]
+mod lookups;
+#[cfg(test)]
 mod paints;
+#[cfg(test)]
+mod prints;
+#[cfg(test)]
+mod removals;
