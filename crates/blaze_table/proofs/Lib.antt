@@ -20,3 +20,4 @@ pub mod Kept
 pub mod RangeMaps
 pub mod NextEntries
 pub mod Retained
+pub mod Clones

@@ -59,7 +59,7 @@ impl<T: Integer, V: Drop> Iterator for IntoIter<T, V> {
         ensures upper { IfSome result.1 (UpTo (item_count (λ s. s) self.now)) }
         ensures exact { result ≡ (length self.now, Some (length self.now)) }
     {
-        let len = self.rest.len();
+        let len = self.len();
         (len, Some(len))
     }
 }

@@ -2,6 +2,7 @@
 #![tactic(auto)]
 
 mod build;
+mod copy;
 mod count;
 mod cut;
 mod fill;
@@ -27,3 +28,6 @@ pub struct Slot<T, V> {
     hi: T,
     value: V,
 }
+
+#[cfg(test)]
+mod tests;

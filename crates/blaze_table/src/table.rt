@@ -2,7 +2,7 @@
 ghost use Rattle.std.specs.Prelude.{◌≡◌, ◌↔◌, ◌-◌, ◌≤ℤ◌, int_lt, pos, [], length, slice_get, find, reverse, false, None, Ok, IfOk, OnOk, OnErr, IsTrue, option_map};
 ghost use Rattle.std.specs.List.Retain.{IsFiltered};
 ghost use Rattle.std.specs.Option.{option_copied};
-ghost use Rattle.blaze_table.specs.Entries.{Entry, entry, at, entry_at, shown_entry, SameOption};
+ghost use Rattle.blaze_table.specs.Entries.{Entry, entry, at, entry_at, shown_entry, SameOption, SameEntries};
 ghost use Rattle.blaze_table.specs.Canonical.{IsRangeMap};
 ghost use Rattle.blaze_table.specs.Count.{keys_in, mapped_keys};
 ghost use Rattle.blaze_table.specs.Painted.{IsPainted, ClonesAreAlike, IsInside};
@@ -12,6 +12,7 @@ ghost use Rattle.blaze_table.specs.Retain.{AnswersAt};
 ghost use Rattle.blaze_table.specs.Slots.{entry_of};
 
 use crate::Slot;
+use crate::copy::clone_slots;
 use crate::cut::cut;
 use crate::gaps::gap_round;
 use crate::into_iter::IntoIter;
@@ -164,6 +165,19 @@ impl<T: Integer, V: Eq + Drop> RangeTable<T, V> {
 }
 
 impl<T: Integer, V: Eq + Clone> RangeTable<T, V> {
+    /// A table of the same ranges, each with a clone of its value.
+    pub fn clone(&self) -> Result<Self, AllocError>
+        requires { ClonesAreAlike V.is_clone V.eq }
+        ensures { IfOk result (λ copy. SameEntries V.eq self.now.entries copy.entries) }
+    {
+        let _ = &self.slots;
+        let slots = clone_slots(*self.slots.allocator(), &self.slots)?;
+        Ok(RangeTable {
+            slots,
+            len: self.len,
+        })
+    }
+
     /// Puts a value on the keys from lo up to hi, and answers whether the number of keys changed.
     /// Refused memory leaves the table unchanged. Inside one entry with an equal value nothing changes, the stored value
     /// neither, and no memory is taken.

@@ -6,6 +6,7 @@ mod insert;
 mod lookup;
 mod map;
 mod remove;
+mod retain;
 
 pub use blaze_int::{Integer, SafeLength, UIntPlusOne, bounds_of, names_a_key};
 pub use blaze_streams::RangeValuesIter;

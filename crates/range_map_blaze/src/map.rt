@@ -1,15 +1,16 @@
 //! The map.
-ghost use Rattle.std.specs.Prelude.{◌≡◌, ◌↔◌, ℤ, ◌≤ℤ◌, pos, [], length, IsTrue, IsSome};
-ghost use Rattle.blaze_table.specs.Entries.{Entry, at};
+ghost use Rattle.std.specs.Prelude.{◌≡◌, ◌↔◌, ℤ, ◌≤ℤ◌, pos, [], length, IsTrue, IsSome, IfOk};
+ghost use Rattle.blaze_table.specs.Entries.{Entry, at, SameEntries};
 ghost use Rattle.blaze_table.specs.Canonical.{IsRangeMap};
 ghost use Rattle.blaze_table.specs.Count.{keys_in, mapped_keys};
+ghost use Rattle.blaze_table.specs.Painted.{ClonesAreAlike};
 
 use blaze_int::compare::length;
 use blaze_int::length::differ;
 use blaze_int::Integer;
 use blaze_streams::RangeValuesIter;
 use blaze_table::RangeTable;
-use std::alloc::Global;
+use std::alloc::{AllocError, Global};
 use std::marker::Model;
 
 /// A map from integers to values, kept as ranges: ascending, disjoint, and as few as there can be. Touching ranges with
@@ -103,5 +104,16 @@ impl<T: Integer, V: Eq + Drop> RangeMapBlaze<T, V> {
         ensures { self.new.entries ≡ [] }
     {
         self.table.clear();
+    }
+}
+
+impl<T: Integer, V: Eq + Clone> RangeMapBlaze<T, V> {
+    /// A map of the same ranges, each with a clone of its value.
+    pub fn clone(&self) -> Result<Self, AllocError>
+        requires { ClonesAreAlike V.is_clone V.eq }
+        ensures { IfOk result (λ copy. SameEntries V.eq self.now.entries copy.entries) }
+    {
+        let table = self.table.clone()?;
+        Ok(RangeMapBlaze { table })
     }
 }

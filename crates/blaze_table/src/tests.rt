@@ -1,0 +1,256 @@
+ghost use Rattle.std.specs.Prelude.{◌≡◌, nat_eq};
+ghost use Rattle.std.proofs.Common.{rules};
+ghost use Rattle.std.specs.Cmp.Rules.{comparing};
+ghost use Rattle.std.specs.Ordering.{on};
+
+use crate::laws::{canonical_is_fewest, canonical_is_unique, lengths_are_mapped};
+use crate::table::RangeTable;
+use std::alloc::{AllocError, Global};
+use std::cell::Cell;
+use std::process::Abort;
+use std::test::Fail;
+
+/// A table of ranges painted in their order.
+fn table(alloc: Global, ranges: &[(i64, i64, char)]) -> Result<RangeTable<i64, char>, AllocError> {
+    let mut table = RangeTable::new(alloc);
+    for (lo, hi, value) in ranges {
+        if *lo <= *hi {
+            let _ = table.paint(*lo, *hi, *value)?;
+        }
+    }
+    Ok(table)
+}
+
+/// Asserts which entries a table has.
+fn check_entries(rt: &impl Abort, table: &RangeTable<i64, char>, expected: &[(i64, i64, char)]) {
+    assert_eq!(rt; table.entries(), expected.len());
+    for ((lo, hi, value), wanted) in table.iter().zip(expected) {
+        assert_eq!(rt; (lo, hi, *value), *wanted);
+    }
+}
+
+#[test]
+fn paints(rt: HostRuntime) -> Result<(), Fail> {
+    let alloc = rt.alloc();
+    let empty = table(alloc, &[])?;
+    assert_eq!(rt; empty.entries(), 0);
+    assert_eq!(rt; empty.len(), 0);
+    let nested = table(alloc, &[(0, 9, 'a'), (2, 7, 'b'), (4, 5, 'c')])?;
+    check_entries(
+        &rt,
+        &nested,
+        &[
+            (0, 1, 'a'),
+            (2, 3, 'b'),
+            (4, 5, 'c'),
+            (6, 7, 'b'),
+            (8, 9, 'a'),
+        ],
+    );
+    assert_eq!(rt; nested.len(), 10);
+    let joined = table(alloc, &[(1, 3, 'a'), (4, 6, 'b'), (3, 4, 'a')])?;
+    check_entries(&rt, &joined, &[(1, 4, 'a'), (5, 6, 'b')]);
+    Ok(())
+}
+
+#[test]
+fn paint_answers_whether_the_number_of_keys_changed(rt: HostRuntime) -> Result<(), Fail> {
+    let mut subject = table(rt.alloc(), &[(0, 9, 'a')])?;
+    assert!(rt; subject.paint(9, 10, 'b')?);
+    assert!(rt; !subject.paint(3, 4, 'b')?);
+    assert!(rt; !subject.paint(3, 3, 'b')?);
+    Ok(())
+}
+
+#[test]
+fn look_ups(rt: HostRuntime) -> Result<(), Fail> {
+    let subject = table(rt.alloc(), &[(1, 3, 'a'), (6, 8, 'b'), (20, 20, 'c')])?;
+    subject.in_hand();
+    assert_eq!(rt; subject.len(), 7);
+    assert_eq!(rt; subject.entries(), 3);
+    assert_eq!(rt; subject.find(6), Some((6, 8, &'b')));
+    assert_eq!(rt; subject.find(5), None);
+    assert_eq!(rt; subject.first(), Some((1, 3, &'a')));
+    assert_eq!(rt; subject.last(), Some((20, 20, &'c')));
+    assert_eq!(rt; subject.next_above(3), Some((6, 8, &'b')));
+    assert_eq!(rt; subject.next_above(7), Some((20, 20, &'c')));
+    assert_eq!(rt; subject.next_above(20), None);
+    assert_eq!(rt; subject.next_below(6), Some((1, 3, &'a')));
+    assert_eq!(rt; subject.next_below(21), Some((20, 20, &'c')));
+    assert_eq!(rt; subject.next_below(3), None);
+    if subject.find(5).is_none() {
+        assert_eq!(rt; subject.gap_round(5), (4, 5));
+    }
+    if subject.find(21).is_none() {
+        assert_eq!(rt; subject.gap_round(21), (21, i64::MAX));
+    }
+    Ok(())
+}
+
+#[test]
+fn entries_from_both_ends(rt: HostRuntime) -> Result<(), Fail> {
+    let subject = table(rt.alloc(), &[(1, 3, 'a'), (6, 8, 'b'), (20, 20, 'c')])?;
+    let mut lent = subject.iter();
+    assert_eq!(rt; lent.size_hint(), (3, Some(3)));
+    assert_eq!(rt; lent.next_back(), Some((20, 20, &'c')));
+    assert_eq!(rt; lent.next(), Some((1, 3, &'a')));
+    assert_eq!(rt; lent.len(), 1);
+    assert_eq!(rt; lent.next_back(), Some((6, 8, &'b')));
+    assert_eq!(rt; lent.next(), None);
+    assert_eq!(rt; lent.next_back(), None);
+    let mut owned = subject.into_iter();
+    assert_eq!(rt; owned.size_hint(), (3, Some(3)));
+    assert_eq!(rt; owned.next(), Some((1, 3, 'a')));
+    assert_eq!(rt; owned.next_back(), Some((20, 20, 'c')));
+    assert_eq!(rt; owned.len(), 1);
+    assert_eq!(rt; owned.next(), Some((6, 8, 'b')));
+    assert_eq!(rt; owned.next_back(), None);
+    assert_eq!(rt; owned.next(), None);
+    Ok(())
+}
+
+#[test]
+fn removals(rt: HostRuntime) -> Result<(), Fail> {
+    let alloc = rt.alloc();
+    let mut subject = table(alloc, &[(0, 9, 'a'), (12, 12, 'b')])?;
+    assert_eq!(rt; subject.cut_key(5)?, Some('a'));
+    assert_eq!(rt; subject.cut_key(12)?, Some('b'));
+    assert_eq!(rt; subject.cut_key(10)?, None);
+    check_entries(&rt, &subject, &[(0, 4, 'a'), (6, 9, 'a')]);
+    assert_eq!(rt; subject.len(), 9);
+    let from = subject.split_at(8)?;
+    check_entries(&rt, &subject, &[(0, 4, 'a'), (6, 7, 'a')]);
+    check_entries(&rt, &from, &[(8, 9, 'a')]);
+    assert_eq!(rt; subject.len(), 7);
+    assert_eq!(rt; from.len(), 2);
+    subject.clear();
+    assert_eq!(rt; subject.entries(), 0);
+    assert_eq!(rt; subject.len(), 0);
+    Ok(())
+}
+
+#[test]
+fn entries_that_a_closure_keeps(rt: HostRuntime) -> Result<(), Fail> {
+    let alloc = rt.alloc();
+    let mut subject = table(alloc, &[(0, 3, 'l'), (4, 7, 'h'), (8, 8, 'l'), (9, 9, 'h')])?;
+    let mut calls = 0u8;
+    subject.retain_entries(|range, value| {
+        calls = calls.wrapping_add(1);
+        *value == 'l' || *range.start() == 9
+    });
+    assert_eq!(rt; calls, 4);
+    check_entries(&rt, &subject, &[(0, 3, 'l'), (8, 8, 'l'), (9, 9, 'h')]);
+    assert_eq!(rt; subject.len(), 6);
+    Ok(())
+}
+
+#[test]
+fn laws_at_a_type() {
+    canonical_is_unique::<char>();
+    canonical_is_fewest::<char>();
+    lengths_are_mapped::<char>();
+}
+
+/// A value whose clones are refused once as many were made as are left.
+#[derive(Drop)]
+struct Counted<'a> {
+    number: u32,
+    left: &'a Cell<u32>,
+}
+
+impl<'a> PartialEq for Counted<'a> {
+    ghost eq = { on (λ a. a.number) nat_eq };
+
+    ghost laws = { Prim.search (comparing, rules) };
+
+    fn eq(&self, other: &Self) -> bool {
+        self.number == other.number
+    }
+}
+
+impl<'a> Eq for Counted<'a> {
+    ghost laws = { Prim.search (comparing, rules) };
+}
+
+impl<'a> Clone for Counted<'a> {
+    ghost is_clone = { λ a b. a.number ≡ b.number };
+
+    fn clone(&self) -> Result<Self, AllocError> {
+        let Some(left) = self.left.get().checked_sub(1) else {
+            return Err(AllocError);
+        };
+        self.left.set(left);
+        Ok(Counted {
+            number: self.number,
+            left: self.left,
+        })
+    }
+}
+
+/// The one range 0..=9, whose value has no clone left.
+fn no_clones<'a>(
+    alloc: Global,
+    left: &'a Cell<u32>,
+) -> Result<RangeTable<i64, Counted<'a>>, AllocError> {
+    let mut table = RangeTable::new(alloc);
+    let _ = table.paint(0, 9, Counted { number: 1, left })?;
+    Ok(table)
+}
+
+/// The first key, last key and number of the entry at a key, with the number of entries and that of keys.
+fn shown(table: &RangeTable<i64, Counted>, key: i64) -> (Option<(i64, i64, u32)>, usize, u128) {
+    let entry = match table.find(key) {
+        Some((lo, hi, value)) => Some((lo, hi, value.number)),
+        None => None,
+    };
+    (entry, table.entries(), table.len())
+}
+
+#[test]
+fn refused_clones_change_nothing(rt: HostRuntime) -> Result<(), Fail> {
+    let left = Cell::new(0u32);
+    let unchanged = (Some((0i64, 9i64, 1u32)), 1usize, 10u128);
+    let mut subject = no_clones(rt.alloc(), &left)?;
+    let other = Counted {
+        number: 2,
+        left: &left,
+    };
+    assert!(rt; subject.paint(4, 5, other).is_err());
+    assert_eq!(rt; shown(&subject, 4), unchanged);
+    assert!(rt; subject.cut_key(5).is_err());
+    assert_eq!(rt; shown(&subject, 5), unchanged);
+    left.set(1);
+    assert!(rt; subject.cut_key(5).is_err());
+    assert_eq!(rt; shown(&subject, 5), unchanged);
+    assert!(rt; subject.split_at(4).is_err());
+    assert_eq!(rt; shown(&subject, 4), unchanged);
+    Ok(())
+}
+
+#[test]
+fn paints_that_cut_one_end_need_no_clone(rt: HostRuntime) -> Result<(), Fail> {
+    let left = Cell::new(0u32);
+    let mut low = no_clones(rt.alloc(), &left)?;
+    let _ = low.paint(
+        0,
+        4,
+        Counted {
+            number: 2,
+            left: &left,
+        },
+    )?;
+    assert_eq!(rt; shown(&low, 0), (Some((0, 4, 2)), 2, 10));
+    assert_eq!(rt; shown(&low, 9), (Some((5, 9, 1)), 2, 10));
+    let mut high = no_clones(rt.alloc(), &left)?;
+    let _ = high.paint(
+        5,
+        9,
+        Counted {
+            number: 2,
+            left: &left,
+        },
+    )?;
+    assert_eq!(rt; shown(&high, 0), (Some((0, 4, 1)), 2, 10));
+    assert_eq!(rt; shown(&high, 9), (Some((5, 9, 2)), 2, 10));
+    Ok(())
+}
