@@ -38,11 +38,11 @@ for entries in 0 1 3 200; do
     done
 done
 for entries in 1 3 200; do
-    for call in "remove inside" "remove last"; do
+    for call in "remove inside" "remove last" pop_first pop_last clone; do
         sweep "$call" "$entries" some
     done
 done
-for call in "remove inside" "remove last"; do
+for call in "remove inside" "remove last" pop_first pop_last; do
     sweep "$call" 0 none
 done
 echo "$passed passed, $failed failed"

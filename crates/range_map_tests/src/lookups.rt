@@ -79,3 +79,13 @@ fn pairs_and_ranges(rt: HostRuntime) -> Result<(), Fail> {
     assert!(rt; map.range_at(4).is_none());
     Ok(())
 }
+
+#[test]
+fn ends(rt: HostRuntime) -> Result<(), Fail> {
+    let map: RangeMapBlaze<i64, &str> = two_ranges(rt.alloc(), (1, 3, "a"), (5, 6, "b"))?;
+    let (key, value) = map.first_key_value().ok_or("no first")?;
+    assert_eq!(rt; (key, *value), (1, "a"));
+    let (key, value) = map.last_key_value().ok_or("no last")?;
+    assert_eq!(rt; (key, *value), (6, "b"));
+    Ok(())
+}

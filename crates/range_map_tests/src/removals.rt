@@ -69,6 +69,39 @@ fn inserts(rt: HostRuntime) -> Result<(), Fail> {
     inserts_at::<i32>(&rt, rt.alloc())
 }
 
+fn pops_at<T: Integer + From<i32>>(rt: &impl Abort, alloc: Global) -> Result<(), Fail> {
+    let mut map = one_range::<T>(alloc, 1, 2)?;
+    assert_eq!(rt; map.pop_first()?, Some((T::from(1), "a")));
+    assert_eq!(rt; map.pop_last()?, Some((T::from(2), "a")));
+    assert_eq!(rt; map.pop_first()?, None);
+    assert!(rt; map.is_empty());
+    Ok(())
+}
+
+#[test]
+fn pops(rt: HostRuntime) -> Result<(), Fail> {
+    pops_at::<i64>(&rt, rt.alloc())?;
+    pops_at::<i32>(&rt, rt.alloc())
+}
+
+#[test]
+fn retains_entries(rt: HostRuntime) -> Result<(), Fail> {
+    let mut map: RangeMapBlaze<i64, &str> = RangeMapBlaze::new(rt.alloc());
+    let _ = map.ranges_insert(0..=3, "low")?;
+    let _ = map.ranges_insert(4..=7, "high")?;
+    map.ranges_retain(|_, value| *value == "low");
+    assert_prints(&rt, rt.alloc(), &map, r#"(0..=3, "low")"#)?;
+    assert_eq!(rt; map.len(), 4u128);
+    Ok(())
+}
+
+#[test]
+fn clones(rt: HostRuntime) -> Result<(), Fail> {
+    let map = one_range::<i64>(rt.alloc(), 1, 9)?;
+    let copy = map.clone()?;
+    assert_prints(&rt, rt.alloc(), &copy, r#"(1..=9, "a")"#)
+}
+
 #[test]
 fn count_after_a_removal(rt: HostRuntime) -> Result<(), Fail> {
     let mut map = one_range::<i64>(rt.alloc(), 1, 9)?;
