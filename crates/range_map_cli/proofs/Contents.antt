@@ -1,0 +1,33 @@
+-- The content of entries whose values are texts.
+use Rattle.std.proofs.Common.{◌≡◌, ℕ, ℤ, List, [], ◌∷◌, true, false, Bool, cond, refl, sym, ap, ◌∙◌, subst, Option, Some, None, IfSome, string_bytes, int_le, ◌&&◌, option_map, bytes_eq, Result, Ok, Err, IfOk, OnOk}
+use Rattle.std.specs.declared.string.String.{String}
+use Rattle.std.specs.declared.alloc.Global.{Global}
+use Rattle.std.specs.String.{string_eq}
+use Rattle.std.specs.Cmp.Lexicographic.{bytes_decides}
+use Rattle.blaze_table.specs.Entries.{Entry, entry, at, SameOption}
+use Rattle.blaze_table.specs.Painted.{painted}
+use Rattle.range_map_cli.specs.Replies.{Content}
+use Rattle.range_map_cli.specs.States.{content_of}
+
+-- equal texts have the same bytes
+same_words : (a b : Option (String Global)) → SameOption string_eq a b → option_map string_bytes a ≡ option_map string_bytes b
+same_words None None h = refl
+same_words None (Some y) h = absurd h
+same_words (Some x) None h = absurd h
+same_words (Some x) (Some y) h = ap Some ((bytes_decides (string_bytes x) (string_bytes y)).0 h)
+
+words_if : (t : Bool) (text : String Global) (old : Option (String Global)) → option_map string_bytes (cond t (Some text) old) ≡ cond t (Some (string_bytes text)) (option_map string_bytes old)
+words_if true text old = refl
+words_if false text old = refl
+
+-- the words are painted
+pub content_of-painted : (lo hi : ℤ) (text : String Global) (word : List ℕ) (old new : List (Entry (String Global))) → ((k : ℤ) → SameOption string_eq (at new k) (painted lo hi text (at old) k))
+    → string_bytes text ≡ word → (k : ℤ) → content_of new k ≡ painted lo hi word (content_of old) k
+content_of-painted lo hi text word old new same is k =
+    let t = int_le lo k && int_le k hi in
+    same_words (at new k) (painted lo hi text (at old) k) (same k) ∙ words_if t text (at old k) ∙ ap (λ w. cond t (Some w) (content_of old k)) is
+
+-- what a call ensures of success, by two clauses
+pub both_ok : {T E : Type 0} (r : Result T E) {P : Type 0} {Q R : T → Type 0} → OnOk r P → IfOk r Q → ((x : T) → P → Q x → R x) → IfOk r R
+both_ok (Ok x) p q f = f x p q
+both_ok (Err e) p q f = tt

@@ -1,0 +1,39 @@
+-- Where lines end in a text.
+use Rattle.std.proofs.Common.{◌≡◌, ℕ, ◌+◌, List, [], ◌∷◌, ◌++◌, take, false, cond, eqb, refl, sym, ap, ◌∙◌, zero-add, length, arith}
+use Rattle.std.proofs.lemmas.List.Elements.{All-head, All-tail}
+use Rattle.std.proofs.lemmas.List.Sums.{sum_by-append, sum_by-cons}
+use Rattle.std.specs.List.{onto_first}
+use Rattle.range_map_cli.specs.Lines.{lines_of, ends_in, Lacks}
+
+-- the first byte is not the one that lacks
+other_head : (b byte : ℕ) (bs : List ℕ) → Lacks byte (b ∷ bs) → eqb b byte ≡ false
+other_head b byte bs h = All-head (λ x. eqb x byte ≡ false) b bs h
+
+other_tail : (b byte : ℕ) (bs : List ℕ) → Lacks byte (b ∷ bs) → Lacks byte bs
+other_tail b byte bs h = All-tail (λ x. eqb x byte ≡ false) b bs h
+
+-- a line ends at the first LF
+pub lines_end : (partial rest : List ℕ) → Lacks 10 partial → lines_of (partial ++ 10 ∷ rest) ≡ partial ∷ lines_of rest
+lines_end [] rest h = refl
+lines_end (b ∷ bs) rest h = rw (other_head b 10 bs h) (ap (onto_first b) (lines_end bs rest (other_tail b 10 bs h)))
+
+-- a last line without an LF counts
+pub lines_last : (b : ℕ) (bs : List ℕ) → Lacks 10 (b ∷ bs) → lines_of (b ∷ bs) ≡ (b ∷ bs) ∷ []
+lines_last b [] h = rw (other_head b 10 [] h) refl
+lines_last b (d ∷ bs) h = rw (other_head b 10 (d ∷ bs) h) (ap (onto_first b) (lines_last d bs (other_tail b 10 (d ∷ bs) h)))
+
+-- no line ends in bytes that have no LF
+pub ends_in-Lacks : (bytes : List ℕ) → Lacks 10 bytes → ends_in bytes ≡ 0
+ends_in-Lacks [] h = refl
+ends_in-Lacks (b ∷ bs) h = sum_by-cons (λ x. cond (eqb x 10) 1 0) b bs ∙ ap (λ t. cond t 1 0 + ends_in bs) (other_head b 10 bs h) ∙ zero-add (ends_in bs) ∙ ends_in-Lacks bs (other_tail b 10 bs h)
+
+pub ends_in-append : (xs ys : List ℕ) → ends_in (xs ++ ys) ≡ ends_in xs + ends_in ys
+ends_in-append xs ys = sum_by-append (λ b. cond (eqb b 10) 1 0) xs ys
+
+pub nothing_kept : (bytes line : List ℕ) → line ≡ take 81 bytes → line ≡ [] → bytes ≡ []
+nothing_kept [] line kept e = refl
+nothing_kept (b ∷ bs) line kept e = cc
+
+pub empty_list : (xs : List ℕ) → length xs ≡ 0 → xs ≡ []
+empty_list [] h = refl
+empty_list (x ∷ xs) h = absurd (omega (arith, h))

@@ -1,0 +1,13 @@
+pub mod Texts
+pub mod Words
+pub mod Kept
+pub mod Lengths
+pub mod Cuts
+pub mod Good
+pub mod Forwarding
+pub mod Progress
+pub mod Endings
+pub mod Serving
+pub mod Contents
+pub mod Counting
+pub mod Listing

@@ -1,0 +1,68 @@
+-- What a line asks.
+use Rattle.std.specs.Prelude.{◌≡◌, ℕ, ◌≤◌, ◌^◌, List, [], ◌∷◌, length, Bool, true, false, ◌&&◌, if◌then◌else◌, ◌==◌, nat_le, nat_lt, ℤ, pos, neg_ℤ, codes, Option, Some, None}
+use Rattle.std.specs.List.{slice_split, list_all}
+use Rattle.std.specs.Option.{option_map}
+use Rattle.std.specs.Char.{is_ascii_digit, is_ascii_alphanumeric}
+use Rattle.std.specs.Str.{bytes_eq}
+use Rattle.std.specs.Str.Parse.{digits_value}
+use Rattle.range_map_cli.specs.declared.request.Request.{Request}
+use Rattle.range_map_cli.specs.declared.request.Request.TheVariants as requests
+
+-- what a good line asks: nothing, a paint of the keys from one to another, the word at a key, the number of keys, or all entries
+pub data Command : Type 0 where
+  Blank : Command
+  Paint : ℤ → ℤ → List ℕ → Command
+  Get : ℤ → Command
+  Len : Command
+  Entries : Command
+
+-- one to nineteen digits
+abbrev pub is_digits : List ℕ → Bool
+is_digits text = nat_le 1 (length text) && nat_le (length text) 19 && list_all is_ascii_digit text
+
+-- the i64 that the text writes: digits, after a minus where it is negative
+abbrev pub number_of : List ℕ → Option ℤ
+number_of [] = None
+number_of (b ∷ bs) = if b == 45
+    then (if is_digits bs && nat_le (digits_value 10 bs) (2 ^ 63) then Some (neg_ℤ (pos (digits_value 10 bs))) else None)
+    else (if is_digits (b ∷ bs) && nat_lt (digits_value 10 (b ∷ bs)) (2 ^ 63) then Some (pos (digits_value 10 (b ∷ bs))) else None)
+
+-- one to thirty-two letters and digits
+abbrev pub is_word : List ℕ → Bool
+is_word text = nat_le 1 (length text) && nat_le (length text) 32 && list_all is_ascii_alphanumeric text
+
+-- the words of a line: what stands between its spaces
+abbrev pub words_of : List ℕ → List (List ℕ)
+words_of line = slice_split (λ b. b == 32) line
+
+-- a command of two numbers and a word
+abbrev pub paint_of : Option ℤ → Option ℤ → List ℕ → Option Command
+paint_of None hi word = None
+paint_of (Some lo) None word = None
+paint_of (Some lo) (Some hi) word = if is_word word then Some (Paint lo hi word) else None
+
+-- what the words of a line that is not empty ask, or none where the line is bad
+abbrev pub command_of_words : List (List ℕ) → Option Command
+command_of_words [] = None
+command_of_words (name ∷ []) =
+    if bytes_eq name (codes "len") then Some Len else
+    (if bytes_eq name (codes "list") then Some Entries else None)
+command_of_words (name ∷ key ∷ []) =
+    if bytes_eq name (codes "get") then option_map Get (number_of key) else None
+command_of_words (_ ∷ _ ∷ _ ∷ []) = None
+command_of_words (name ∷ lo ∷ hi ∷ word ∷ []) =
+    if bytes_eq name (codes "paint") then paint_of (number_of lo) (number_of hi) word else None
+command_of_words (_ ∷ _ ∷ _ ∷ _ ∷ _ ∷ _) = None
+
+-- what a line asks, or none where it is bad
+abbrev pub command_of : List ℕ → Option Command
+command_of [] = Some Blank
+command_of (b ∷ bs) = command_of_words (words_of (b ∷ bs))
+
+-- a request as a command: without where its word lies
+abbrev pub asked : Request → Command
+asked requests.Blank = Blank
+asked (requests.Paint lo hi word) = Paint lo hi word.now
+asked (requests.Get key) = Get key
+asked requests.Len = Len
+asked requests.Entries = Entries

@@ -1,0 +1,73 @@
+-- What is printed for a text.
+use Rattle.std.specs.Prelude.{◌≡◌, ℕ, ◌+◌, ◌-◌, ◌^◌, min, List, [], ◌∷◌, ◌++◌, length, take, Bool, true, false, if◌then◌else◌, codes, Option, Some, None, IfSome, decimal}
+use Rattle.std.specs.Io.KnownBytes.{Appends, Consumes}
+use Rattle.range_map_cli.specs.Lines.{lines_of, ends_in}
+use Rattle.range_map_cli.specs.Commands.{Command, command_of}
+use Rattle.range_map_cli.specs.Replies.{Content, nothing, after, Replies, line}
+use Rattle.range_map_cli.specs.declared.End.{End}
+use Rattle.range_map_cli.specs.declared.End.TheVariants as ends
+
+-- the command of a line, and then those of the lines after it; a bad line ends them
+abbrev pub before : Option Command → List Command → List Command
+before None commands = []
+before (Some command) commands = command ∷ commands
+
+-- the commands of the lines up to the first bad one
+abbrev pub commands_of : List (List ℕ) → List Command
+commands_of [] = []
+commands_of (line ∷ lines) = before (command_of line) (commands_of lines)
+
+abbrev pub bad_or : Option Command → Bool → Bool
+bad_or None later = true
+bad_or (Some command) later = later
+
+-- a line is bad
+abbrev pub has_bad : List (List ℕ) → Bool
+has_bad [] = false
+has_bad (line ∷ lines) = bad_or (command_of line) (has_bad lines)
+
+-- the text is what is printed for the commands, one after another, each on the content that those before it leave
+abbrev pub Answers : Content → List Command → List ℕ → Type 0
+Answers content [] text = text ≡ []
+Answers content (command ∷ commands) text = (first rest : List ℕ) × (text ≡ first ++ rest) × Replies content command first × Answers (after command content) commands rest
+
+-- what is printed for a bad line after so many good ones: lines are numbered from 1, and past 2^64 - 1 the number stays there
+abbrev pub error_line : ℕ → List ℕ
+error_line good = line (codes "error line " ++ decimal (min (good + 1) (2 ^ 64 - 1)))
+
+-- the output of a text: the answers to its lines up to the first bad one, and the error line if there is one
+abbrev pub IsOutput : List ℕ → List ℕ → Type 0
+IsOutput text out =
+    let commands = commands_of (lines_of text) in
+    (answers : List ℕ) × Answers nothing commands answers × (out ≡ answers ++ (if has_bad (lines_of text) then error_line (length commands) else []))
+
+-- the answers to the first n lines of a text, or to those before the first bad one
+abbrev pub AnswersFirst : ℕ → List ℕ → List ℕ → Type 0
+AnswersFirst n text out = Answers nothing (take n (commands_of (lines_of text))) out
+
+abbrev pub no_memory : List ℕ
+no_memory = line (codes "out of memory")
+
+-- this is printed where serving the text ends so, and no write fails
+abbrev pub Prints : List ℕ → End → List ℕ → Type 0
+Prints text ends.Done out = (has_bad (lines_of text) ≡ false) × IsOutput text out
+Prints text ends.BadLine out = (has_bad (lines_of text) ≡ true) × IsOutput text out
+Prints text ends.NoMemory out = (n : ℕ) × (answers : List ℕ) × AnswersFirst n text answers × (out ≡ answers ++ no_memory)
+Prints text ends.ReadFault out = (n : ℕ) × AnswersFirst n text out
+Prints text ends.WriteFault out = ⊥
+
+-- the same, where at a fault of the writer a beginning of such a text is printed
+abbrev pub Ends : List ℕ → End → List ℕ → Type 0
+Ends text ends.Done out = Prints text ends.Done out
+Ends text ends.BadLine out = Prints text ends.BadLine out
+Ends text ends.NoMemory out = Prints text ends.NoMemory out
+Ends text ends.ReadFault out = Prints text ends.ReadFault out
+Ends text ends.WriteFault out = (end : End) × (rest : List ℕ) × Prints text end (out ++ rest)
+
+-- a writer that held and holds these bytes, where they are known, was given what serving the text prints where it ends so
+abbrev pub Closes : Option (List ℕ) → Option (List ℕ) → List ℕ → End → Type 0
+Closes held holds text end = (out : List ℕ) × Appends held holds out × Ends text end out
+
+-- Some bytes of the text were read, and no more. The lines that end in them were answered, and nothing else was written.
+abbrev pub Streams : Option (List ℕ) → Option (List ℕ) → Option (List ℕ) → Option (List ℕ) → Type 0
+Streams held holds had has = (bytes : List ℕ) × Consumes had has bytes × IfSome had (λ text. (out : List ℕ) × Appends held holds out × AnswersFirst (ends_in bytes) text out)

@@ -1,0 +1,59 @@
+-- What is printed for a command, on the content of a range map of words, and the content after it.
+use Rattle.std.specs.Prelude.{◌≡◌, ℕ, ◌^◌, ◌-◌, ℤ, pos, negsuc, List, [], ◌∷◌, ◌++◌, Option, Some, None, if◌then◌else◌, ◌==◌, codes, decimal}
+use Rattle.std.specs.Fmt.{signed_decimal}
+use Rattle.std.specs.Str.{bytes_eq}
+use Rattle.blaze_table.specs.Entries.{Entry, at}
+use Rattle.blaze_table.specs.Canonical.{IsOnePerRun}
+use Rattle.blaze_table.specs.Count.{mapped_keys}
+use Rattle.blaze_table.specs.Painted.{painted}
+use Rattle.range_map_cli.specs.Commands.{Command, Blank, Paint, Get, Len, Entries}
+
+-- the word at each key, or none
+abbrev pub Content : Type 0
+Content = ℤ → Option (List ℕ)
+
+-- the content at the start
+abbrev pub nothing : Content
+nothing key = None
+
+-- how many keys of the i64 have a word
+abbrev pub key_count : Content → ℕ
+key_count content = mapped_keys (negsuc (2 ^ 63 - 1)) (pos (2 ^ 63 - 1)) content
+
+-- the content after a command
+abbrev pub after : Command → Content → Content
+after Blank content = content
+after (Paint lo hi word) content = painted lo hi word content
+after (Get key) content = content
+after Len content = content
+after Entries content = content
+
+-- (1..=2, "a")
+abbrev pub entry_text : Entry (List ℕ) → List ℕ
+entry_text e = codes "(" ++ (signed_decimal e.lo ++ (codes "..=" ++ (signed_decimal e.hi ++ (codes ", \"" ++ (e.value ++ codes "\")")))))
+
+-- the entries, with a comma and a space between each two
+abbrev pub entries_text : List (Entry (List ℕ)) → List ℕ
+entries_text [] = []
+entries_text (e ∷ []) = entry_text e
+entries_text (e ∷ f ∷ es) = entry_text e ++ (codes ", " ++ entries_text (f ∷ es))
+
+-- the text of the one list of entries that is one per run and has this content
+abbrev pub Lists : Content → List ℕ → Type 0
+Lists content text = (entries : List (Entry (List ℕ))) × IsOnePerRun bytes_eq entries × ((key : ℤ) → at entries key ≡ content key) × (text ≡ entries_text entries)
+
+abbrev pub word_or_dash : Option (List ℕ) → List ℕ
+word_or_dash None = codes "-"
+word_or_dash (Some word) = word
+
+-- a text, and the LF that ends its line
+abbrev pub line : List ℕ → List ℕ
+line text = text ++ 10 ∷ []
+
+-- the text is what is printed for the command
+abbrev pub Replies : Content → Command → List ℕ → Type 0
+Replies content Blank text = text ≡ []
+Replies content (Paint lo hi word) text = text ≡ line (if key_count (painted lo hi word content) == key_count content then codes "false" else codes "true")
+Replies content (Get key) text = text ≡ line (word_or_dash (content key))
+Replies content Len text = text ≡ line (decimal (key_count content))
+Replies content Entries text = (listed : List ℕ) × Lists content listed × (text ≡ line listed)

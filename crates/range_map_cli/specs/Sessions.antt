@@ -1,0 +1,41 @@
+-- How far a session is in its text.
+use Rattle.std.specs.Prelude.{◌≡◌, ℕ, ◌+◌, ◌-◌, ◌^◌, min, ℤ, List, [], ◌∷◌, ◌++◌, length, take, Option, Some, None}
+use Rattle.std.specs.Io.KnownBytes.{Appends}
+use Rattle.range_map_cli.specs.Lines.{lines_of, ends_in, Lacks}
+use Rattle.range_map_cli.specs.Commands.{Command}
+use Rattle.range_map_cli.specs.Replies.{Content, nothing, after}
+use Rattle.range_map_cli.specs.Output.{commands_of, has_bad, Answers}
+use Rattle.range_map_cli.specs.States.{content_of, HasWords}
+use Rattle.range_map_cli.specs.declared.session.Session.{Session}
+
+-- the content after all of the commands
+abbrev pub after_all : List Command → Content → Content
+after_all [] content = content
+after_all (command ∷ commands) content = after_all commands (after command content)
+
+-- of all these bytes a writer that held and holds what is given took a beginning, and the rest waits
+abbrev pub Forwards : Option (List ℕ) → Option (List ℕ) → List ℕ → List ℕ → Type 0
+Forwards held holds all waits = (out : List ℕ) × Appends held holds out × (all ≡ out ++ waits)
+
+-- The first lines of the text are answered, of the next some bytes are taken, and the rest is to come. The answers are
+-- written or wait. The ends of lines, those answered and those to come, are as many as given.
+pub record IsAt (held holds : Option (List ℕ)) (text : List ℕ) (session : Session) (rest : List ℕ) (lines : ℕ) : Type 0 where
+  pub commands : List Command
+  pub partial : List ℕ
+  pub answers : List ℕ
+  pub asked : commands_of (lines_of text) ≡ commands ++ commands_of (lines_of (partial ++ rest))
+  pub bad : has_bad (lines_of text) ≡ has_bad (lines_of (partial ++ rest))
+  pub answered : Answers nothing commands answers
+  pub forwards : Forwards held holds answers session.waiting.items
+  pub stored : (key : ℤ) → content_of session.map.entries key ≡ after_all commands nothing key
+  pub words : HasWords (after_all commands nothing)
+  pub counted : length commands + ends_in rest ≡ lines
+  pub number : session.number ≡ min (length commands) (2 ^ 64 - 1)
+  pub no_end : Lacks 10 partial
+  pub kept : session.line.items ≡ take 81 partial
+
+-- the same of what a reader had and has, where that is known
+abbrev pub IsServing : Option (List ℕ) → Option (List ℕ) → Option (List ℕ) → Option (List ℕ) → Session → Type 0
+IsServing held holds None rest session = Unit {0}
+IsServing held holds (Some text) None session = ⊥
+IsServing held holds (Some text) (Some rest) session = IsAt held holds text session rest (ends_in text)

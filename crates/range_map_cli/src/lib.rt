@@ -1,0 +1,29 @@
+//! Answers the lines of a text about a range map, as they come.
+#![tactic(auto)]
+
+mod answer;
+mod output;
+mod request;
+mod server;
+mod session;
+mod split;
+
+pub use server::serve;
+
+#[cfg(test)]
+mod tests;
+
+/// How a session ended.
+#[derive(Clone, Copy, Debug, PartialEq, Eq)]
+pub enum End {
+    /// The text was answered to its end.
+    Done,
+    /// A line was bad. The lines before it were answered, and nothing after it was read.
+    BadLine,
+    /// Memory was refused.
+    NoMemory,
+    /// A read failed, or 2^64 - 1 reads did not reach the end of the text.
+    ReadFault,
+    /// A write failed, or took nothing of a text that is not empty.
+    WriteFault,
+}

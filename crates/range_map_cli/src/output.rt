@@ -1,0 +1,63 @@
+//! Texts on their way to a writer.
+ghost use Rattle.std.specs.Prelude.{◌≡◌, ◌++◌, ◌≤◌, [], List, ℕ, OnOk, OnErr};
+ghost use Rattle.std.specs.Vec.{vec_capacity};
+ghost use Rattle.std.specs.Io.KnownBytes.{Appends};
+ghost use Rattle.range_map_cli.specs.Sessions.{Forwards};
+
+use std::io::Write;
+
+/// A write failed, or took nothing.
+#[derive(Debug, Drop)]
+pub struct WriteFailed;
+
+/// Writes all of the text. At an error a beginning of it was written.
+pub fn write_text<W: Write>(output: &mut W, text: &[u8]) -> Result<(), WriteFailed>
+    ensures ok { OnOk result (Appends (W.contents output.old) (W.contents output.new) text.now) }
+    ensures err { OnErr result ((rest : List ℕ) × Forwards (W.contents output.old) (W.contents output.new) text.now rest) }
+{
+    let mut rest = text;
+    while !rest.is_empty() {
+        let Ok(count) = output.write(rest) else {
+            return Err(WriteFailed);
+        };
+        if count == 0 {
+            return Err(WriteFailed);
+        }
+        let (_, after) = rest.split_at(count);
+        rest = after;
+    }
+    Ok(())
+}
+
+/// Writes all that waits. At an error a beginning of it was written.
+pub fn flush<W: Write>(waiting: &mut Vec<u8>, output: &mut W) -> Result<(), WriteFailed>
+    ensures ok { OnOk result (Appends (W.contents output.old) (W.contents output.new) waiting.old.items) }
+    ensures err { OnErr result ((rest : List ℕ) × Forwards (W.contents output.old) (W.contents output.new) waiting.old.items rest) }
+    ensures empty { OnOk result (waiting.new.items ≡ []) }
+{
+    write_text(output, waiting.as_slice())?;
+    waiting.clear();
+    Ok(())
+}
+
+/// Puts a text behind what waits, where it has room; else what waits is written first. A text with no room at all is
+/// written at once. At an error a beginning of what waited and the text was written.
+pub fn put<W: Write>(
+    waiting: &mut Vec<u8>,
+    output: &mut W,
+    text: &[u8],
+) -> Result<(), WriteFailed>
+    ensures ok { OnOk result (Forwards (W.contents output.old) (W.contents output.new) (waiting.old.items ++ text.now) waiting.new.items) }
+    ensures err { OnErr result ((rest : List ℕ) × Forwards (W.contents output.old) (W.contents output.new) (waiting.old.items ++ text.now) rest) }
+{
+    if waiting.capacity().saturating_sub(waiting.len()) < text.len() {
+        flush(waiting, output)?;
+        if waiting.capacity() < text.len() {
+            return write_text(output, text);
+        }
+    }
+    match waiting.extend_from_slice(text) {
+        Ok(()) => Ok(()),
+        Err(_) => unreachable!(),
+    }
+}

@@ -1,0 +1,129 @@
+//! What a line asks.
+ghost use Rattle.std.specs.Prelude.{◌≡◌, ◌∷◌, [], ◌<◌, ◌^◌, true, false, MatchOption, option_map};
+ghost use Rattle.std.specs.Str.Parse.{digits_value};
+ghost use Rattle.std.specs.List.{list_all};
+ghost use Rattle.std.specs.Char.{is_ascii_alphanumeric};
+ghost use Rattle.range_map_cli.specs.Commands.{asked, command_of, command_of_words, number_of, is_word, is_digits, words_of};
+
+use crate::split::split_once;
+
+/// What a good line asks.
+#[derive(Clone, Copy, Debug)]
+pub enum Request<'a> {
+    Blank,
+    Paint(i64, i64, &'a str),
+    Get(i64),
+    Len,
+    Entries,
+}
+
+/// The number that one to nineteen digits write.
+fn digits(text: &[u8]) -> Option<u64>
+    ensures { MatchOption result (is_digits text.now ≡ false) (λ n. (is_digits text.now ≡ true) × (n ≡ digits_value 10 text.now) × (n < 10 ^ 19)) }
+{
+    if text.is_empty() || 19 < text.len() {
+        return None;
+    }
+    let mut value: u64 = 0;
+    for byte in text {
+        if !byte.is_ascii_digit() {
+            return None;
+        }
+        value = value * 10 + u64::from(*byte - b'0');
+    }
+    Some(value)
+}
+
+/// The number that digits write, after a minus where it is negative.
+fn number(text: &[u8]) -> Option<i64>
+    ensures { result ≡ number_of text.now }
+{
+    match text {
+        [] => None,
+        [b'-', rest @ ..] => i64::try_from(-i128::from(digits(rest)?)).ok(),
+        _ => i64::try_from(digits(text)?).ok(),
+    }
+}
+
+/// Each byte is a letter or a digit.
+#[tactic(auto, using(std::proofs::lemmas::List::Folds::list_all_more, std::proofs::lemmas::List::Folds::list_all_at))]
+fn is_alphanumeric(text: &[u8]) -> bool
+    ensures { result ≡ list_all is_ascii_alphanumeric text.now }
+{
+    for byte in text {
+        if !byte.is_ascii_alphanumeric() {
+            return false;
+        }
+    }
+    true
+}
+
+/// The text, where it is one to thirty-two letters and digits.
+fn word(text: &[u8]) -> Option<&str>
+    ensures { MatchOption result (is_word text.now ≡ false) (λ word. (is_word text.now ≡ true) × (word.now ≡ text.now)) }
+{
+    if text.is_empty() || 32 < text.len() || !is_alphanumeric(text) {
+        return None;
+    }
+    match str::from_utf8(text) {
+        Ok(word) => Some(word),
+        Err(_) => None,
+    }
+}
+
+/// What a line of one word asks.
+fn read_one(name: &[u8]) -> Option<Request<'static>>
+    ensures { option_map asked result ≡ command_of_words (name.now ∷ []) }
+{
+    if name == b"len".as_slice() {
+        Some(Request::Len)
+    } else if name == b"list".as_slice() {
+        Some(Request::Entries)
+    } else {
+        None
+    }
+}
+
+/// What a line of two words asks.
+fn read_two(name: &[u8], key: &[u8]) -> Option<Request<'static>>
+    ensures { option_map asked result ≡ command_of_words (name.now ∷ key.now ∷ []) }
+{
+    if name == b"get".as_slice() {
+        Some(Request::Get(number(key)?))
+    } else {
+        None
+    }
+}
+
+/// What a line of four words asks.
+fn read_four<'a>(name: &[u8], lo: &[u8], hi: &[u8], value: &'a [u8]) -> Option<Request<'a>>
+    ensures { option_map asked result ≡ command_of_words (name.now ∷ lo.now ∷ hi.now ∷ value.now ∷ []) }
+{
+    if name == b"paint".as_slice() {
+        let lo = number(lo)?;
+        let hi = number(hi)?;
+        Some(Request::Paint(lo, hi, word(value)?))
+    } else {
+        None
+    }
+}
+
+/// What the line asks; none where it is bad.
+pub fn read(line: &[u8]) -> Option<Request<'_>>
+    ensures { option_map asked result ≡ command_of line.now }
+{
+    if line.is_empty() {
+        return Some(Request::Blank);
+    }
+    let Some((name, rest)) = split_once(line, b' ') else {
+        return read_one(line);
+    };
+    let Some((first, rest)) = split_once(rest, b' ') else {
+        return read_two(name, rest);
+    };
+    let (second, third) = split_once(rest, b' ')?;
+    match split_once(third, b' ') {
+        Some(_) => None,
+        None => read_four(name, first, second, third),
+    }
+}

@@ -1,0 +1,41 @@
+//! Serves a reader and a writer.
+ghost use Rattle.std.specs.Prelude.{◌≡◌, IfSome};
+ghost use Rattle.range_map_cli.specs.Output.{Closes, Streams};
+
+use crate::End;
+use crate::output::flush;
+use crate::session::{NO_MEMORY, Session, close, feed, finish};
+use std::alloc::Global;
+use std::io::{Read, Write};
+
+/// How many bytes a read asks for.
+const CHUNK: usize = 8192;
+
+/// Answers each line of the input as it comes, until the end of the input or a bad line.
+///
+/// The range map is empty at first. The answers to the lines that end in the bytes of one read are written before the
+/// next read. A read or a write that fails is not tried again.
+pub fn serve<R: Read, W: Write>(alloc: Global, input: &mut R, output: &mut W) -> End
+    ensures closes { IfSome (R.remaining input.old) (λ text. Closes (W.contents output.old) (W.contents output.new) text result) }
+    ensures streams { result ≡ End.ReadFault → Streams (W.contents output.old) (W.contents output.new) (R.remaining input.old) (R.remaining input.new) }
+{
+    let Ok(mut session) = Session::new(alloc) else {
+        return close(&mut Vec::new(alloc), output, NO_MEMORY, End::NoMemory);
+    };
+    let mut chunk = [0u8; CHUNK];
+    for _turn in 0..u64::MAX {
+        let Ok(count) = input.read(&mut chunk) else {
+            return End::ReadFault;
+        };
+        if count == 0 {
+            return finish(&mut session, alloc, output);
+        }
+        if let Err(end) = feed(&mut session, alloc, output, &chunk[..count]) {
+            return end;
+        }
+        let Ok(()) = flush(&mut session.waiting, output) else {
+            return End::WriteFault;
+        };
+    }
+    End::ReadFault
+}
