@@ -13,13 +13,15 @@ abbrev pub key_count : ℤ → ℤ → ℤ
 key_count low high = (high -ℤ low) +ℤ pos 1
 
 -- There is a key, each number from `low` to `high` is the rank of exactly one key, and keys compare as their ranks.
--- A variable `k` ranges over all that contracts can name, so each law has the premise that `k` is a key.
+-- A variable of a number type ranges over every number here, so each law has the premise that its rank is that of a key.
 pub record IsRanked {K : Type 0} (rank : K → ℤ) (of_rank : ℤ → K) (low high : ℤ) (cmp : K → K → Ordering) (eq : K → K → Bool) : Type 0 where
   pub some_key : low ≤ℤ high
   pub one_key : (k : K) → low ≤ℤ rank k → rank k ≤ℤ high → of_rank (rank k) ≡ k
   pub has_key : (z : ℤ) → low ≤ℤ z → z ≤ℤ high → rank (of_rank z) ≡ z
-  pub order : (a b : K) → low ≤ℤ rank a → rank a ≤ℤ high → low ≤ℤ rank b → rank b ≤ℤ high → cmp a b ≡ int_cmp (rank a) (rank b)
-  pub equal : (a b : K) → low ≤ℤ rank a → rank a ≤ℤ high → low ≤ℤ rank b → rank b ≤ℤ high → IsTrue (eq a b) ↔ (rank a ≡ rank b)
+  pub order : (a b : K) → low ≤ℤ rank a → rank a ≤ℤ high → low ≤ℤ rank b → rank b ≤ℤ high
+      → cmp a b ≡ int_cmp (rank a) (rank b)
+  pub equal : (a b : K) → low ≤ℤ rank a → rank a ≤ℤ high → low ≤ℤ rank b → rank b ≤ℤ high
+      → IsTrue (eq a b) ↔ (rank a ≡ rank b)
 
 -- the key one rank up, or `None` exactly at the greatest key
 abbrev pub IsNextKey : {K : Type 0} → (K → ℤ) → ℤ → K → Option K → Type 0

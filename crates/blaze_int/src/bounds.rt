@@ -12,12 +12,16 @@ use std::ops::{Bound, RangeBounds};
 /// An unbounded start is the least key and an unbounded end the greatest. An excluded start at the greatest key and an
 /// excluded end at the least key name no key. A range is read by its start and its end alone.
 ///
-/// The contract speaks of each range of `std` but one: a `RangeInclusive` that was iterated to its end. `std` reads that
-/// end as excluded, so the range names no key.
+/// Which keys these are, the contract says of each range of `std` but one: a `RangeInclusive` that was iterated to its
+/// end. `std` reads that end as excluded, so the range names no key.
 pub fn bounds_of<T: Integer, R: RangeBounds<T>>(r: &R) -> Option<(T, T)>
+    // A range of any type gives no reversed pair.
     ensures order { IfSome result (λ p. T.rank p.0 ≤ℤ T.rank p.1) }
-    ensures ends { R.has_bounds r.now → AreEndsOf T.rank T.low T.high (R.start_bound r.now) (R.end_bound r.now) result }
-    ensures ranks { R.has_bounds r.now → AreAtRanks T.rank T.low T.high (R.start_bound r.now) (R.end_bound r.now) result }
+
+    ensures ends { R.has_bounds r.now
+        → AreEndsOf T.rank T.low T.high (R.start_bound r.now) (R.end_bound r.now) result }
+    ensures ranks { R.has_bounds r.now
+        → AreAtRanks T.rank T.low T.high (R.start_bound r.now) (R.end_bound r.now) result }
 {
     ends_of(copied(r.start_bound()), copied(r.end_bound()))
 }
@@ -25,9 +29,11 @@ pub fn bounds_of<T: Integer, R: RangeBounds<T>>(r: &R) -> Option<(T, T)>
 /// Whether the bounds of a range name a key, which is where `bounds_of` answers `Some`.
 pub fn names_a_key<T: Integer, R: RangeBounds<T>>(r: &R) -> bool
     ensures named { R.has_bounds r.now
-        → IsTrue result ↔ ((z : ℤ) × IsNamed T.rank T.low T.high (R.start_bound r.now) (R.end_bound r.now) z) }
+        → IsTrue result
+        ↔ ((z : ℤ) × IsNamed T.rank T.low T.high (R.start_bound r.now) (R.end_bound r.now) z) }
     ensures ranks { R.has_bounds r.now
-        → IsTrue result ↔ (start_rank T.rank T.low (R.start_bound r.now) ≤ℤ end_rank T.rank T.high (R.end_bound r.now)) }
+        → IsTrue result
+        ↔ (start_rank T.rank T.low (R.start_bound r.now) ≤ℤ end_rank T.rank T.high (R.end_bound r.now)) }
 {
     bounds_of(r).is_some()
 }

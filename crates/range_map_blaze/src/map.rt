@@ -5,9 +5,9 @@ ghost use Rattle.blaze_table.specs.Canonical.{IsRangeMap};
 ghost use Rattle.blaze_table.specs.Count.{keys_in, mapped_keys};
 ghost use Rattle.blaze_table.specs.Painted.{ClonesAreAlike};
 
+use blaze_int::Integer;
 use blaze_int::compare::length;
 use blaze_int::length::differ;
-use blaze_int::Integer;
 use blaze_streams::RangeValuesIter;
 use blaze_table::RangeTable;
 use std::alloc::{AllocError, Global};

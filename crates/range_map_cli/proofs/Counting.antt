@@ -35,8 +35,7 @@ pub changed_counts : (changed : Bool) (lo hi : ℤ) (word : List ℕ) (old new :
     → (IsTrue changed ↔ (¬ (keys_in new ≡ keys_in old))) → (IsTrue changed ↔ (¬ (key_count (painted lo hi word (content_of old)) ≡ key_count (content_of old))))
 changed_counts changed lo hi word old new counted_old counted_new same says =
     let now : key_count (painted lo hi word (content_of old)) ≡ mapped_keys low high (at new) = ap key_count (sym (fun_ext same)) ∙ key_count-content_of new in
-    let before : key_count (content_of old) ≡ mapped_keys low high (at old) = key_count-content_of old in
-    (
+    let before : key_count (content_of old) ≡ mapped_keys low high (at old) = key_count-content_of old in (
       λ is e. says.0 is (counted_new ∙ ap pos (sym now ∙ e ∙ before) ∙ sym counted_old),
       λ ne. says.1 (λ e. ne (now ∙ pos_inj _ _ (sym counted_new ∙ e ∙ counted_old) ∙ sym before)),
     )
@@ -58,7 +57,7 @@ pub Replies-paint : (changed : Bool) (content : Content) (l h lo hi : ℤ) (word
     → bytes ≡ empty ++ (cond changed (codes "true") (codes "false") ++ 10 ∷ []) → Replies content (Paint lo hi word) bytes
 Replies-paint changed content l h lo hi word empty bytes low_is high_is says none written =
     let text = ap (λ x. line (cond (eqb (key_count (painted x h word content)) (key_count content)) (codes "false") (codes "true"))) (sym low_is)
-      ∙ ap (λ t. line t) (differ_text changed _ _ says) in
+    ∙ ap (λ t. line t) (differ_text changed _ _ says) in
     written ∙ ap (λ l. l ++ (cond changed (codes "true") (codes "false") ++ 10 ∷ [])) none ∙ sym (ap (λ y. line (cond (eqb (key_count (painted lo y word content)) (key_count content)) (codes "false") (codes "true"))) (sym high_is) ∙ text)
 
 -- and for the number of keys

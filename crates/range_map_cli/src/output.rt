@@ -42,11 +42,7 @@ pub fn flush<W: Write>(waiting: &mut Vec<u8>, output: &mut W) -> Result<(), Writ
 
 /// Puts a text behind what waits, where it has room; else what waits is written first. A text with no room at all is
 /// written at once. At an error a beginning of what waited and the text was written.
-pub fn put<W: Write>(
-    waiting: &mut Vec<u8>,
-    output: &mut W,
-    text: &[u8],
-) -> Result<(), WriteFailed>
+pub fn put<W: Write>(waiting: &mut Vec<u8>, output: &mut W, text: &[u8]) -> Result<(), WriteFailed>
     ensures ok { OnOk result (Forwards (W.contents output.old) (W.contents output.new) (waiting.old.items ++ text.now) waiting.new.items) }
     ensures err { OnErr result ((rest : List ℕ) × Forwards (W.contents output.old) (W.contents output.new) (waiting.old.items ++ text.now) rest) }
 {

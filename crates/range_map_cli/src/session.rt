@@ -9,10 +9,9 @@ ghost use Rattle.range_map_cli.specs.States.{content_of, HasWords};
 ghost use Rattle.range_map_cli.specs.Sessions.{IsAt};
 
 use crate::answer::answer;
-use crate::End;
 use crate::output::{flush, put};
-use crate::request;
 use crate::split::split_once;
+use crate::{End, request};
 use range_map_blaze::RangeMapBlaze;
 use std::alloc::{AllocError, Global};
 use std::io::Write;
@@ -69,7 +68,8 @@ impl Session {
         ensures rest { self.new ≡ record self.old { line = self.new.line } }
     {
         let room = LINE.saturating_sub(self.line.len());
-        self.line.extend_from_slice(&bytes[..room.min(bytes.len())])?;
+        self.line
+            .extend_from_slice(&bytes[..room.min(bytes.len())])?;
         Ok(())
     }
 

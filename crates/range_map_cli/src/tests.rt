@@ -8,8 +8,7 @@ use std::test::Fail;
 
 const FIRST_INPUT: &[u8] = b"paint 2 5 a\npaint 3 4 b\nget 4\nlen\nlist\n";
 
-const FIRST_OUTPUT: &[u8] =
-    b"true\nfalse\nb\n4\n(2..=2, \"a\"), (3..=4, \"b\"), (5..=5, \"a\")\n";
+const FIRST_OUTPUT: &[u8] = b"true\nfalse\nb\n4\n(2..=2, \"a\"), (3..=4, \"b\"), (5..=5, \"a\")\n";
 
 /// What a text in memory is answered.
 fn answers_to(alloc: Global, text: &[u8]) -> (Vec<u8>, End) {
@@ -45,8 +44,7 @@ fn texts(rt: HostRuntime) {
             End::BadLine,
         ),
         (
-            b"paint -9223372036854775808 -9223372036854775808 abcdefghijklmnopqrstuvwxyzABCDEF"
-                .as_slice(),
+            b"paint -9223372036854775808 -9223372036854775808 abcdefghijklmnopqrstuvwxyzABCDEF".as_slice(),
             b"true\n".as_slice(),
             End::Done,
         ),
@@ -177,7 +175,11 @@ fn reads_that_fail(rt: HostRuntime) {
             let mut output = Vec::new(rt.alloc());
             let end = serve(rt.alloc(), &mut input, &mut output);
             assert_eq!(rt; end, End::ReadFault, "after {left}");
-            assert_eq!(rt; output.as_slice(), first_lines(FIRST_OUTPUT, lines), "after {left}");
+            assert_eq!(rt;
+                output.as_slice(),
+                first_lines(FIRST_OUTPUT, lines),
+                "after {left}"
+            );
         }
     }
 }
@@ -233,7 +235,10 @@ fn memory_that_is_refused(rt: HostRuntime) -> Result<(), Fail> {
     let mut refused = 0usize;
     let mut longest = 0usize;
     for step in 0..600usize {
-        let filler: Result<Vec<u8>, AllocError> = Vec::with_capacity(rt.alloc(), 40_000 - 64 * step);
+        let filler: Result<Vec<u8>, AllocError> = Vec::with_capacity(
+            rt.alloc(),
+            40_000 - 64 * step,
+        );
         output.got.clear();
         let mut input = FIRST_INPUT;
         let end = serve(rt.alloc(), &mut input, &mut output);

@@ -65,6 +65,15 @@ fn main(rt: HostRuntime) -> anyhow::Result<()> {
     println!(rt; "end")?;
     let after = format!(in alloc; "{map}")?;
     let is_kept = after.as_str() == before.as_str() && map.len() == len;
-    println!(rt; "{}", if is_done { "done" } else if is_kept { "refused, kept" } else { "refused, changed" })?;
+    println!(rt;
+        "{}",
+        if is_done {
+            "done"
+        } else if is_kept {
+            "refused, kept"
+        } else {
+            "refused, changed"
+        }
+    )?;
     Ok(())
 }

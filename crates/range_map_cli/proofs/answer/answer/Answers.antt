@@ -10,15 +10,15 @@ use Rattle.range_map_cli.proofs.answer.answer.Goals as goal
 
 pub returns-in_ok-changed-in-Paint-clause-reply : goal.returns-in_ok-changed-in-Paint-clause-reply
 returns-in_ok-changed-in-Paint-clause-reply c = on_ok_weaker c.writeln.result (λ written words.
-  subst (λ r. Replies (content_of c.args.map.now.entries) (asked r) (string_bytes c.writeln.new.self)) (sym c.in-Paint.is)
-  (Replies-paint c.in_ok-changed-in-Paint.changed (content_of c.args.map.now.entries) _ _ c.in-Paint.lo c.in-Paint.hi c.in-Paint.word.now _ _ (search rules) (search rules) c.in_ok-changed-in-Paint.ensures.changed c.clear.ensures.bytes written)) c.writeln.ensures.bytes
+    subst (λ r. Replies (content_of c.args.map.now.entries) (asked r) (string_bytes c.writeln.new.self)) (sym c.in-Paint.is)
+    (Replies-paint c.in_ok-changed-in-Paint.changed (content_of c.args.map.now.entries) _ _ c.in-Paint.lo c.in-Paint.hi c.in-Paint.word.now _ _ (search rules) (search rules) c.in_ok-changed-in-Paint.ensures.changed c.clear.ensures.bytes written)) c.writeln.ensures.bytes
 
 pub returns-in-Len-clause-reply : goal.returns-in-Len-clause-reply
 returns-in-Len-clause-reply c = on_ok_weaker c.writeln-in-Len.result (λ written words.
-  subst (λ r. Replies (content_of c.args.map.now.entries) (asked r) (string_bytes c.writeln-in-Len.new.self)) (sym c.in-Len.is)
-  (Replies-len c.args.map.now.entries c.len-len.result _ _ c.len-len.ensures.mapped c.clear.ensures.bytes written)) c.writeln-in-Len.ensures.bytes
+    subst (λ r. Replies (content_of c.args.map.now.entries) (asked r) (string_bytes c.writeln-in-Len.new.self)) (sym c.in-Len.is)
+    (Replies-len c.args.map.now.entries c.len-len.result _ _ c.len-len.ensures.mapped c.clear.ensures.bytes written)) c.writeln-in-Len.ensures.bytes
 
 pub returns-in-Entries-clause-reply : goal.returns-in-Entries-clause-reply
 returns-in-Entries-clause-reply c = on_ok_weaker c.writeln-in-Entries.result (λ written words.
-  subst (λ r. Replies (content_of c.args.map.now.entries) (asked r) (string_bytes c.writeln-in-Entries.new.self)) (sym c.in-Entries.is)
-  (Replies-entries c.args.map.now.entries _ _ c.in_hand.ensures.runs words c.clear.ensures.bytes written)) c.writeln-in-Entries.ensures.bytes
+    subst (λ r. Replies (content_of c.args.map.now.entries) (asked r) (string_bytes c.writeln-in-Entries.new.self)) (sym c.in-Entries.is)
+    (Replies-entries c.args.map.now.entries _ _ c.in_hand.ensures.runs words c.clear.ensures.bytes written)) c.writeln-in-Entries.ensures.bytes

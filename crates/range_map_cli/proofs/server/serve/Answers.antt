@@ -8,8 +8,8 @@ use Rattle.range_map_cli.proofs.server.serve.Goals as goal
 -- memory is refused at once
 pub returns-in_default-clause-closes : goal.returns-in_default-clause-closes
 returns-in_default-clause-closes g c = IfSome-all (g.R.Read.remaining c.args.input.now) _ (λ text.
-  c.close.ensures.closes (g.W.Write.contents c.args.output.now) text [] (Appends-nil _)
-  (subst (λ l. Prints text ends.NoMemory ([] ++ (l ++ no_memory))) (sym c.new-in_default.ensures.items) (prints_at_start text)))
+    c.close.ensures.closes (g.W.Write.contents c.args.output.now) text [] (Appends-nil _)
+    (subst (λ l. Prints text ends.NoMemory ([] ++ (l ++ no_memory))) (sym c.new-in_default.ensures.items) (prints_at_start text)))
 
 pub loop-turn-init : goal.loop-turn-init
 loop-turn-init g c = record {

@@ -9,8 +9,8 @@ returns-in_err-take_part-clause-err g c =
     let line = c.in-Some.line.now in
     let after = c.in-Some.after.now in
     rw (p.1, p.2) (λ held text rest lines at.
-      let split : c.loop-line.rest.now ++ rest ≡ line ++ 10 ∷ (after ++ rest) = ap (λ l. l ++ rest) c.in-Some.ensures.1 ∙ append_assoc line (10 ∷ after) rest in
-      c.in_err-take_part.ensures.err held text (10 ∷ (after ++ rest)) lines (subst (λ l. IsAt held (g.W.Write.contents c.loop-line.output) text c.loop-line.session l lines) split (c.loop-line.invariant held text rest lines at)))
+    let split : c.loop-line.rest.now ++ rest ≡ line ++ 10 ∷ (after ++ rest) = ap (λ l. l ++ rest) c.in-Some.ensures.1 ∙ append_assoc line (10 ∷ after) rest in
+    c.in_err-take_part.ensures.err held text (10 ∷ (after ++ rest)) lines (subst (λ l. IsAt held (g.W.Write.contents c.loop-line.output) text c.loop-line.session l lines) split (c.loop-line.invariant held text rest lines at)))
 
 pub returns-in_err-end_line-clause-err : goal.returns-in_err-end_line-clause-err
 returns-in_err-end_line-clause-err g c =
@@ -18,9 +18,9 @@ returns-in_err-end_line-clause-err g c =
     let line = c.in-Some.line.now in
     let after = c.in-Some.after.now in
     rw (p.1, p.2) (λ held text rest lines at.
-      let split : c.loop-line.rest.now ++ rest ≡ line ++ 10 ∷ (after ++ rest) = ap (λ l. l ++ rest) c.in-Some.ensures.1 ∙ append_assoc line (10 ∷ after) rest in
-      let here = c.in_ok-take_part.ensures.ok held text (10 ∷ (after ++ rest)) lines (subst (λ l. IsAt held (g.W.Write.contents c.loop-line.output) text c.loop-line.session l lines) split (c.loop-line.invariant held text rest lines at)) in
-      c.in_err-end_line.ensures.err held text (after ++ rest) lines here)
+    let split : c.loop-line.rest.now ++ rest ≡ line ++ 10 ∷ (after ++ rest) = ap (λ l. l ++ rest) c.in-Some.ensures.1 ∙ append_assoc line (10 ∷ after) rest in
+    let here = c.in_ok-take_part.ensures.ok held text (10 ∷ (after ++ rest)) lines (subst (λ l. IsAt held (g.W.Write.contents c.loop-line.output) text c.loop-line.session l lines) split (c.loop-line.invariant held text rest lines at)) in
+    c.in_err-end_line.ensures.err held text (after ++ rest) lines here)
 
 pub loop-line-preserved : goal.loop-line-preserved
 loop-line-preserved g c = λ held text more lines at.

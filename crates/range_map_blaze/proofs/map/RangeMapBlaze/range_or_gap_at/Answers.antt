@@ -14,6 +14,6 @@ returns-in-None g c =
     let range = c.new-in-None.result in (
       subst (λ s. at s.entries k ≡ None) c.self.view_is (sym c.in-None.ensures.value),
       subst (λ a. IsGap low high content k (rank a) (rank (range_inclusive_end range))) (sym c.new-in-None.ensures.start)
-      (subst (λ b. IsGap low high content k (rank c.gap_round-start.result.0) (rank b)) (sym c.new-in-None.ensures.end)
-      (subst (λ s. IsGap low high (at s.entries) k (rank c.gap_round-start.result.0) (rank c.gap_round-start.result.1)) c.self.view_is c.gap_round-start.ensures)),
+          (subst (λ b. IsGap low high content k (rank c.gap_round-start.result.0) (rank b)) (sym c.new-in-None.ensures.end)
+          (subst (λ s. IsGap low high (at s.entries) k (rank c.gap_round-start.result.0) (rank c.gap_round-start.result.1)) c.self.view_is c.gap_round-start.ensures)),
     )
