@@ -33,16 +33,16 @@ for entries in 0 1 3 200; do
     for call in "ranges_insert inside" "ranges_insert over" "ranges_insert above" "insert inside" "insert between" "split_off inside" "split_off between"; do
         sweep "$call" "$entries" some
     done
-    for call in "ranges_insert nowhere" "remove unmapped"; do
+    for call in "ranges_insert nowhere" "remove unmapped" "remove single" "pop_first single" "pop_last single"; do
         sweep "$call" "$entries" none
     done
 done
 for entries in 1 3 200; do
-    for call in "remove inside" "remove last" pop_first pop_last clone; do
+    for call in "remove inside" "remove last" pop_first pop_last clone retain; do
         sweep "$call" "$entries" some
     done
 done
-for call in "remove inside" "remove last" pop_first pop_last; do
+for call in "remove inside" "remove last" pop_first pop_last retain; do
     sweep "$call" 0 none
 done
 echo "$passed passed, $failed failed"

@@ -1,18 +1,17 @@
 -- Slots edited round a key, as the list without the key.
-use Rattle.std.proofs.Common.{◌≡◌, ℕ, ◌+◌, ◌<◌, ◌≤◌, ℤ, pos, ◌+ℤ◌, ◌-ℤ◌, ◌≤ℤ◌, ◌<ℤ◌, Bool, true, List, [], ◌∷◌, ◌++◌, length, get_or, take, drop, set, Some, refl, ◌∙◌, sym, ap, subst, arith}
+use Rattle.std.proofs.Common.{◌≡◌, ℕ, ◌+◌, ◌<◌, ℤ, pos, ◌+ℤ◌, ◌-ℤ◌, ◌≤ℤ◌, ◌<ℤ◌, Bool, true, List, [], ◌∷◌, ◌++◌, length, get_or, take, drop, set, Some, refl, ◌∙◌, sym, ap, subst, arith}
 use Rattle.std.specs.Cmp.{IsEquivalence}
 use Rattle.std.specs.Prelude.{int_lt}
 use Rattle.std.specs.List.{AllWithin, insert}
-use Rattle.std.proofs.lemmas.Int.{ints}
 use Rattle.blaze_table.specs.declared.Slot.{Slot}
 use Rattle.blaze_table.specs.Entries.{Entry, at, SameOption, entry}
 use Rattle.blaze_table.specs.Canonical.{IsCanonical}
 use Rattle.blaze_table.specs.Splice.{IsBelow, IsCutOf}
 use Rattle.blaze_table.specs.Slots.{entry_of, entries_of}
-use Rattle.blaze_table.proofs.Lookup.{IsAbove, IsAbove-from_apart, at_before}
+use Rattle.blaze_table.proofs.Lookup.{IsAbove-from_apart}
 use Rattle.blaze_table.proofs.Unique.{same_along}
 use Rattle.blaze_table.proofs.Slots.{entries-append}
-use Rattle.blaze_table.proofs.Pieces.{parts, set_parts, put_two, below_of, entries_parts, entries_halves}
+use Rattle.blaze_table.proofs.Pieces.{set_parts, put_two, below_of, entries_parts}
 use Rattle.blaze_table.proofs.Cutting.{cut_whole, cut_end, cut_start, cut_inside, at_cut}
 
 module _ {T V : Type 0} (rank : T → ℤ) (eq : V → V → Bool) where

@@ -1,20 +1,20 @@
 -- A list without a key, from its pieces.
-use Rattle.std.proofs.Common.{◌≡◌, ℕ, ◌+◌, ℤ, pos, ◌+ℤ◌, ◌-ℤ◌, ◌≤ℤ◌, ◌<ℤ◌, Bool, true, false, cond, List, [], ◌∷◌, ◌++◌, Option, Some, None, refl, ◌∙◌, sym, ap, subst, arith}
+use Rattle.std.proofs.Common.{◌≡◌, ℕ, ℤ, pos, ◌+ℤ◌, ◌-ℤ◌, ◌≤ℤ◌, ◌<ℤ◌, Bool, true, false, cond, List, [], ◌∷◌, ◌++◌, Option, Some, None, refl, ◌∙◌, sym, ap, subst, arith}
 use Rattle.std.specs.Cmp.{IsEquivalence}
 use Rattle.std.specs.Ordering.{int_eq}
 use Rattle.std.specs.Prelude.{◌&&◌}
 use Rattle.std.proofs.lemmas.Int.{ints, by_lt_z}
 use Rattle.blaze_table.specs.Entries.{Entry, at, SameEntries, SameOption, entry}
-use Rattle.blaze_table.specs.Canonical.{IsApart, IsCanonical, AreKeys}
+use Rattle.blaze_table.specs.Canonical.{IsCanonical, AreKeys}
 use Rattle.blaze_table.specs.Count.{keys_in}
 use Rattle.blaze_table.specs.Splice.{before, after, glue, IsBelow, IsCutOf, covered, IsListCut}
 use Rattle.blaze_table.specs.Cut.{cut_at}
 use Rattle.blaze_table.specs.Table.{IsTable}
 use Rattle.blaze_table.proofs.Lookup.{IsAbove, IsAbove-from_apart, at_in, at_over, at_before, by_place}
-use Rattle.blaze_table.proofs.Unique.{same_along, same_itself, same_trans, back}
-use Rattle.blaze_table.proofs.Splices.{before_keeps, before_cuts, before_ends, after_skips, after_cuts, by_before, by_after, canonical_glue, canonical_before, canonical_after, at_glue, above_after, below_before, at-before_under, at-before_over, at-after_over, or_else}
+use Rattle.blaze_table.proofs.Unique.{same_along, same_trans, back}
+use Rattle.blaze_table.proofs.Splices.{before_keeps, before_cuts, before_ends, after_skips, after_cuts, by_after, canonical_glue, canonical_before, canonical_after, at_glue, above_after, below_before, at-before_under, at-before_over, at-after_over, or_else}
 use Rattle.blaze_table.proofs.Painted.{before_past, after_past, entries_themselves, canonical_as, above_as, content_as}
-use Rattle.blaze_table.proofs.Counted.{before_none, keys_apart, covered_none, overlap_whole, overlap_none, overlap_most, keys_glue, are_keys_glue, are_keys_before, are_keys_after, are_keys_as, same_keys_in}
+use Rattle.blaze_table.proofs.Counted.{keys_apart, covered_none, overlap_whole, overlap_none, overlap_most, keys_glue, are_keys_glue, are_keys_before, are_keys_after, are_keys_as, same_keys_in}
 
 append_none : {X : Type 0} (xs : List X) → xs ++ [] ≡ xs
 append_none [] = refl

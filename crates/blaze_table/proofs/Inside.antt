@@ -1,11 +1,11 @@
 -- A paint inside an entry with an equal value changes nothing; and what the entry at a key says of its neighbourhood.
-use Rattle.std.proofs.Common.{◌≡◌, ◌+◌, ◌≤◌, ℤ, pos, ◌+ℤ◌, ◌≤ℤ◌, ◌<ℤ◌, Bool, true, false, ◌&&◌, cond, List, [], ◌∷◌, length, Option, Some, None, refl, ◌∙◌, sym, ap, subst, arith, inl, inr}
-use Rattle.std.specs.Prelude.{◌↔◌, ◌⊎◌, int_lt, int_le}
+use Rattle.std.proofs.Common.{◌≡◌, ℤ, pos, ◌+ℤ◌, ◌≤ℤ◌, ◌<ℤ◌, Bool, true, false, ◌&&◌, cond, List, [], ◌∷◌, Option, Some, None, refl, ◌∙◌, sym, ap, subst, arith, inl, inr}
+use Rattle.std.specs.Prelude.{◌↔◌, int_lt, int_le}
 use Rattle.std.specs.Cmp.{IsEquivalence}
-use Rattle.std.proofs.lemmas.Int.{ints, by_lt_z}
-use Rattle.blaze_table.specs.Entries.{Entry, at, entry_at, holds, SameOption}
-use Rattle.blaze_table.specs.Canonical.{IsApart, IsCanonical}
-use Rattle.blaze_table.specs.Painted.{painted, IsInside}
+use Rattle.std.proofs.lemmas.Int.{ints}
+use Rattle.blaze_table.specs.Entries.{Entry, at, entry_at, SameOption}
+use Rattle.blaze_table.specs.Canonical.{IsCanonical}
+use Rattle.blaze_table.specs.Painted.{IsInside}
 use Rattle.blaze_table.specs.Splice.{IsListPainted, around, across}
 use Rattle.blaze_table.proofs.Lookup.{IsAbove, IsAbove-from_apart, at_in, at_over, by_place, holds_in, holds_under, holds_over, entry_in, entry_under, entry_over}
 use Rattle.blaze_table.proofs.Unique.{same_along, same_itself}

@@ -21,3 +21,6 @@ pub mod RangeMaps
 pub mod NextEntries
 pub mod Retained
 pub mod Clones
+pub mod PairLists
+pub mod Keeping
+pub mod PairLaws

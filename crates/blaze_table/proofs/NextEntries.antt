@@ -1,5 +1,5 @@
 -- The entries next to a key, in slots that are in order.
-use Rattle.std.proofs.Common.{◌≡◌, ℕ, zero, suc, ◌+◌, ◌<◌, ◌≤◌, ℤ, ◌≤ℤ◌, ◌<ℤ◌, Bool, true, false, cond, List, [], ◌∷◌, ◌++◌, length, get_or, Option, Some, None, refl, ◌∙◌, sym, ap, arith, option_map}
+use Rattle.std.proofs.Common.{◌≡◌, ℕ, zero, suc, ◌<◌, ◌≤◌, ℤ, ◌≤ℤ◌, ◌<ℤ◌, Bool, true, false, cond, List, [], ◌∷◌, length, get_or, Option, Some, None, refl, ◌∙◌, sym, ap, arith, option_map}
 use Rattle.std.specs.Prelude.{int_lt, find, reverse, slice_get}
 use Rattle.std.specs.List.{AllWithin}
 use Rattle.std.proofs.lemmas.Int.{ints}

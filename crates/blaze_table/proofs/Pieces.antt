@@ -1,10 +1,9 @@
 -- Slots edited at a place, as entries before it, at it and behind it.
-use Rattle.std.proofs.Common.{◌≡◌, ℕ, zero, suc, ◌+◌, ◌<◌, ◌≤◌, ℤ, ◌≤ℤ◌, ◌<ℤ◌, Bool, true, List, [], ◌∷◌, ◌++◌, length, get_or, take, drop, set, refl, ◌∙◌, sym, ap, subst, arith}
+use Rattle.std.proofs.Common.{◌≡◌, ℕ, zero, suc, ◌+◌, ◌<◌, ◌≤◌, ℤ, ◌<ℤ◌, true, List, [], ◌∷◌, ◌++◌, length, get_or, take, drop, set, refl, ◌∙◌, sym, ap, subst, arith}
 use Rattle.std.specs.Prelude.{int_lt}
 use Rattle.std.specs.List.{AllWithin, insert}
 use Rattle.std.proofs.lemmas.Int.{ints}
 use Rattle.blaze_table.specs.declared.Slot.{Slot}
-use Rattle.blaze_table.specs.Entries.{Entry}
 use Rattle.blaze_table.specs.Splice.{IsBelow}
 use Rattle.blaze_table.specs.Slots.{entry_of, entries_of}
 use Rattle.blaze_table.proofs.Slots.{entries-append}

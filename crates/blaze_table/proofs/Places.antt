@@ -1,5 +1,5 @@
 -- What a search by key finds in slots that are in order.
-use Rattle.std.proofs.Common.{◌≡◌, ℕ, zero, suc, ◌+◌, ◌<◌, ◌≤◌, ℤ, ◌≤ℤ◌, ◌<ℤ◌, Bool, true, false, List, [], ◌∷◌, length, get_or, Some, None, refl, ◌∙◌, sym, ap, arith, option_map}
+use Rattle.std.proofs.Common.{◌≡◌, ℕ, zero, suc, ◌+◌, ◌<◌, ◌≤◌, ℤ, ◌≤ℤ◌, ◌<ℤ◌, Bool, true, false, List, [], ◌∷◌, length, get_or, Option, Some, None, refl, ◌∙◌, sym, ap, subst, arith, option_map}
 use Rattle.std.specs.Prelude.{int_lt}
 use Rattle.std.specs.List.{AllWithin}
 use Rattle.std.specs.List.Sorted.{IsPartitionedBy}
@@ -8,8 +8,9 @@ use Rattle.std.proofs.lemmas.List.{get_or_default}
 use Rattle.blaze_table.specs.declared.Slot.{Slot}
 use Rattle.blaze_table.specs.Entries.{Entry, at, entry_at}
 use Rattle.blaze_table.specs.Canonical.{IsCanonical}
+use Rattle.blaze_table.specs.Cut.{IsAmongOthers}
 use Rattle.blaze_table.specs.Slots.{entry_of, entries_of}
-use Rattle.blaze_table.proofs.Lookup.{at_in, at_over, at_before, entry_in, entry_over, value-entry_at, none-entry_at}
+use Rattle.blaze_table.proofs.Lookup.{at_over, at_before, entry_in, entry_over, value-entry_at, none-entry_at}
 
 module _ {T V : Type 0} (rank : T → ℤ) (eq : V → V → Bool) where
   tail_apart : (x y : Slot T V) (xs : List (Slot T V)) → IsCanonical eq (entries_of rank (x ∷ y ∷ xs)) → rank x.hi <ℤ rank y.hi
@@ -45,6 +46,26 @@ module _ {T V : Type 0} (rank : T → ℤ) (eq : V → V → Bool) where
 
     pub at_place : (xs : List (Slot T V)) (i : ℕ) (d : Slot T V) → AllWithin (λ s. int_lt (rank s.hi) key ≡ true) xs 0 i → i < length xs → rank (get_or xs i d).lo ≤ℤ key → int_lt (rank (get_or xs i d).hi) key ≡ false → at (entries_of rank xs) key ≡ Some (get_or xs i d).value
     at_place xs i d b l p q = sym (value-entry_at (entries_of rank xs) key) ∙ ap (option_map (λ (e : Entry V). e.value)) (entry_at_place xs i d b l p q)
+
+    -- The place was found in a view of the slots, and s and t are read there.
+    module _ (xs view : List (Slot T V)) (same : view ≡ xs) (i : ℕ) (s : Slot T V) (b : AllWithin (λ s. int_lt (rank s.hi) key ≡ true) view 0 i) (l : i < length view) (p : (d : Slot T V) → rank (get_or view i d).lo ≤ℤ key) (q : (d : Slot T V) → key ≤ℤ rank (get_or view i d).hi) (is : s ≡ get_or xs i s) where
+      not_under : int_lt (rank (get_or view i s).hi) key ≡ false
+      not_under = let r = q s in grind (arith, ints)
+
+      held : entry_at (entries_of rank xs) key ≡ Some (entry_of rank s)
+      held = subst (λ ys. entry_at (entries_of rank ys) key ≡ Some (entry_of rank (get_or ys i s))) same (entry_at_place view i s b l (p s) not_under) ∙ ap (λ x. Some (entry_of rank x)) (sym is)
+
+      pub among_others : (t : Slot T V) → t ≡ get_or xs i t → rank s.lo <ℤ rank t.hi → IsAmongOthers key (entries_of rank xs)
+      among_others t it less =
+          let alike : t ≡ s = it ∙ get_or_default xs i t s (subst (λ ys. i < length ys) same l) ∙ sym is in
+          record { entry = entry_of rank s; here = held; long = subst (λ x. rank s.lo <ℤ rank x.hi) alike less }
+
+      pub not_none : at (entries_of rank xs) key ≡ None → ⊥
+      not_none n = some_none (entry_at (entries_of rank xs) key) (entry_of rank s) held (none-entry_at (entries_of rank xs) key n)
+        where
+          some_none : (o : Option (Entry V)) (e : Entry V) → o ≡ Some e → o ≡ None → ⊥
+          some_none None e u v = cc
+          some_none (Some x) e u v = cc
 
     -- no entry has it
     pub at_no_place : (xs : List (Slot T V)) (i : ℕ) → IsCanonical eq (entries_of rank xs) → AllWithin (λ s. int_lt (rank s.hi) key ≡ true) xs 0 i → i ≤ length xs → ((d : Slot T V) → i < length xs → key <ℤ rank (get_or xs i d).lo) → at (entries_of rank xs) key ≡ None

@@ -1,5 +1,5 @@
 -- From what a table keeps to what its public clauses say.
-use Rattle.std.proofs.Common.{ℕ, ℤ, ◌≡◌, ◌+ℤ◌, ◌-ℤ◌, ◌≤ℤ◌, pos, Bool, List, subst}
+use Rattle.std.proofs.Common.{ℕ, ℤ, Bool, List}
 use Rattle.std.specs.Cmp.{IsEquivalence}
 use Rattle.blaze_table.specs.Entries.{Entry}
 use Rattle.blaze_table.specs.Canonical.{IsRangeMap}

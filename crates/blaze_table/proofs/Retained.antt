@@ -1,6 +1,5 @@
 -- Slots that a closure's answers keep, one looked at after another.
 use Rattle.std.proofs.Common.{◌≡◌, ℕ, zero, suc, ◌+◌, ◌<◌, ◌≤◌, ℤ, pos, ◌+ℤ◌, ◌-ℤ◌, ◌≤ℤ◌, Bool, true, false, List, [], ◌∷◌, ◌++◌, length, get_or, take, drop, set, refl, ◌∙◌, sym, ap, subst, arith}
-use Rattle.std.specs.Cmp.{IsEquivalence}
 use Rattle.std.specs.List.{items_where_true, SwappedAt}
 use Rattle.std.specs.List.Retain.{ReturnsInTurn, IsFiltered}
 use Rattle.std.proofs.lemmas.Int.{ints}
@@ -31,7 +30,7 @@ module _ {T V : Type 0} (rank : T → ℤ) where
   entries_long [] = refl
   entries_long (x ∷ xs) = ap suc (length-map xs (entry_of rank))
 
-  canonical_drop : (eq : V → V → Bool) (xs : List (Slot T V)) (i : ℕ) → IsCanonical eq (entries_of rank xs) → IsCanonical eq (entries_of rank (drop i xs))
+  pub canonical_drop : (eq : V → V → Bool) (xs : List (Slot T V)) (i : ℕ) → IsCanonical eq (entries_of rank xs) → IsCanonical eq (entries_of rank (drop i xs))
   canonical_drop eq xs zero c = c
   canonical_drop eq [] (suc i) c = c
   canonical_drop eq (x ∷ xs) (suc i) c = canonical_drop eq xs i c.2

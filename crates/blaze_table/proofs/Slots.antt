@@ -1,16 +1,34 @@
 -- Lists of slots, seen as entries.
 use Rattle.std.proofs.lemmas.List.{drop_more}
-use Rattle.std.proofs.Common.{◌≡◌, ℕ, ◌+◌, ◌<◌, length, get_or, drop, ℤ, ◌<ℤ◌, Bool, true, false, cond, List, [], ◌∷◌, ◌++◌, refl, ◌∙◌, sym, ap}
+use Rattle.std.proofs.Common.{◌≡◌, ℕ, ◌+◌, ◌<◌, length, get_or, drop, ℤ, ◌<ℤ◌, Bool, true, false, cond, List, [], ◌∷◌, ◌++◌, refl, ◌∙◌, sym, ap, append_assoc}
+use Rattle.std.specs.Prelude.{◌&&◌}
 use Rattle.blaze_table.specs.declared.Slot.{Slot}
 use Rattle.blaze_table.specs.Entries.{Entry, entry}
 use Rattle.blaze_table.specs.Splice.{is_joinable, join, glue, IsBelow}
 use Rattle.blaze_table.specs.Slots.{entry_of, entries_of}
+
+-- two tests, by what each answers
+pub and_both : (a b : Bool) → true ≡ a → true ≡ b → (a && b) ≡ true
+and_both true b p q = sym q
+and_both false b p q = sym p
+
+pub and_first : (a b : Bool) → a ≡ false → (a && b) ≡ false
+and_first true b p = cc
+and_first false b p = refl
+
+pub and_second : (a b : Bool) → b ≡ false → (a && b) ≡ false
+and_second true b p = p
+and_second false b p = refl
 
 -- a list is glued at its last entry
 pub glue-last : {V : Type 0} (eq : V → V → Bool) (xs : List (Entry V)) (e : Entry V) (M : List (Entry V)) → glue eq (xs ++ e ∷ []) M ≡ xs ++ join eq e M
 glue-last eq [] e M = refl
 glue-last eq (x ∷ []) e M = refl
 glue-last eq (x ∷ y ∷ xs) e M = ap (λ L. x ∷ L) (glue-last eq (y ∷ xs) e M)
+
+-- and is put before another entry as it is, where the two don't touch with like values
+pub glue-apart : {V : Type 0} (eq : V → V → Bool) (xs : List (Entry V)) (e f : Entry V) → is_joinable eq e f ≡ false → glue eq (xs ++ e ∷ []) (f ∷ []) ≡ (xs ++ e ∷ []) ++ f ∷ []
+glue-apart eq xs e f j = glue-last eq xs e (f ∷ []) ∙ ap (λ b. xs ++ cond b (entry e.lo f.hi e.value ∷ []) (e ∷ f ∷ [])) j ∙ sym (append_assoc xs (e ∷ []) (f ∷ []))
 
 pub IsBelow-push : {V : Type 0} (b : ℤ) (xs : List (Entry V)) (e : Entry V) → IsBelow b xs → e.hi <ℤ b → IsBelow b (xs ++ e ∷ [])
 IsBelow-push b [] e h l = (l, tt)

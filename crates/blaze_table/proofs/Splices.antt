@@ -105,7 +105,7 @@ module _ {V : Type 0} where
       (λ a b p. rw p (omega (arith, ints)))
       (λ a b p. rw p b)
 
-  below_more : (b c : ℤ) (es : List (Entry V)) → b ≤ℤ c → IsBelow b es → IsBelow c es
+  pub below_more : (b c : ℤ) (es : List (Entry V)) → b ≤ℤ c → IsBelow b es → IsBelow c es
   below_more b c [] l h = tt
   below_more b c (e ∷ es) l h = (omega (arith, ints, h.0), below_more b c es l h.1)
 
@@ -182,7 +182,7 @@ module _ {V : Type 0} (eq : V → V → Bool) where
   length-glue (e ∷ []) (f ∷ fs) = by_join e f fs (λ q v p. rw p (omega arith)) (λ n p. rw p (omega arith))
   length-glue (e ∷ f ∷ L) M = omega (arith, length-glue (f ∷ L) M)
 
-  below_glue : (b : ℤ) (L M : List (Entry V)) → IsBelow b L → IsBelow b M → IsBelow b (glue eq L M)
+  pub below_glue : (b : ℤ) (L M : List (Entry V)) → IsBelow b L → IsBelow b M → IsBelow b (glue eq L M)
   below_glue b [] M l m = m
   below_glue b (e ∷ []) [] l m = l
   below_glue b (e ∷ []) (f ∷ fs) l m = by_join e f fs (λ q v p. rw p m) (λ n p. rw p (l.0, m))

@@ -4,16 +4,16 @@ use Rattle.std.specs.Prelude.{int_lt, int_le, ◌&&◌}
 use Rattle.std.specs.Cmp.{IsEquivalence}
 use Rattle.std.proofs.lemmas.Int.{ints, by_lt_z}
 use Rattle.blaze_table.specs.Entries.{Entry, at, SameEntries, SameOption, entry}
-use Rattle.blaze_table.specs.Canonical.{IsApart, IsCanonical, AreKeys}
+use Rattle.blaze_table.specs.Canonical.{IsCanonical, AreKeys}
 use Rattle.blaze_table.specs.Count.{keys_in}
 use Rattle.blaze_table.specs.Splice.{before, after, IsBelow, IsSplitOf, across, IsListSplit}
 use Rattle.blaze_table.specs.Cut.{below_at, from_at}
 use Rattle.blaze_table.specs.Table.{IsTable}
 use Rattle.blaze_table.proofs.Lookup.{IsAbove, IsAbove-from_apart, at_before}
-use Rattle.blaze_table.proofs.Unique.{same_along, same_itself, same_trans, back}
-use Rattle.blaze_table.proofs.Splices.{by_before, by_after, before_keeps, before_cuts, after_skips, after_cuts, canonical_before, canonical_after, above_after, at-before_under, at-before_over, at-after_over, lt_true, lt_false}
+use Rattle.blaze_table.proofs.Unique.{same_along, same_itself, back}
+use Rattle.blaze_table.proofs.Splices.{by_before, by_after, before_cuts, after_skips, after_cuts, canonical_before, canonical_after, above_after, at-before_under, at-before_over, at-after_over, lt_true, lt_false}
 use Rattle.blaze_table.proofs.Painted.{canonical_as, content_as, before_past, entries_themselves}
-use Rattle.blaze_table.proofs.Counted.{before_none, are_keys_before, are_keys_after, are_keys_as, same_keys_in, above_by, some_keys}
+use Rattle.blaze_table.proofs.Counted.{before_none, are_keys_before, are_keys_after, are_keys_as, same_keys_in, some_keys}
 
 module _ {V : Type 0} (eq : V → V → Bool) where
   -- the two parts have all the keys

@@ -1,7 +1,7 @@
 -- What taking keys out gives: one key, or all below or from a key on.
-use Rattle.std.specs.Prelude.{ℤ, int_le, int_lt, Bool, if◌then◌else◌, List, Option, None}
+use Rattle.std.specs.Prelude.{◌≡◌, ℤ, ◌<ℤ◌, int_le, int_lt, Bool, if◌then◌else◌, List, Option, Some, None}
 use Rattle.std.specs.Ordering.{int_eq}
-use Rattle.blaze_table.specs.Entries.{Entry, at, SameOption}
+use Rattle.blaze_table.specs.Entries.{Entry, at, entry_at, SameOption}
 use Rattle.blaze_table.specs.Canonical.{IsRangeMap}
 
 -- the content without the key k
@@ -20,6 +20,12 @@ from_at k content j = if int_le k j then content j else None
 pub record IsCut {V : Type 0} (eq : V → V → Bool) (low high : ℤ) (k : ℤ) (old new : List (Entry V)) : Type 0 where
   pub range_map : IsRangeMap eq low high new
   pub content : (j : ℤ) → SameOption eq (at new j) (cut_at k (at old) j)
+
+-- the entry that has the key k has other keys too
+pub record IsAmongOthers {V : Type 0} (k : ℤ) (entries : List (Entry V)) : Type 0 where
+  pub entry : Entry V
+  pub here : entry_at entries k ≡ Some entry
+  pub long : entry.lo <ℤ entry.hi
 
 -- what a split at k makes of a range map: the part below k, and the part from k on
 pub record IsSplit {V : Type 0} (eq : V → V → Bool) (low high : ℤ) (k : ℤ) (old below from : List (Entry V)) : Type 0 where

@@ -3,6 +3,7 @@ use Rattle.std.specs.Prelude.{◌≡◌, ◌≤◌, ℤ, pos, length, Bool, List
 use Rattle.blaze_table.specs.Entries.{Entry, at, SameContent, SameEntries}
 use Rattle.blaze_table.specs.Canonical.{IsDisjoint, IsOnePerRun, IsRangeMap}
 use Rattle.blaze_table.specs.Count.{keys_in, mapped_keys}
+use Rattle.blaze_table.specs.Pairs.{pair_list, ArePairsOf}
 
 -- canonical lists with the same content have the same ranges and equal values, position by position
 abbrev pub CanonicalIsUnique : {V : Type 0} → (V → V → Bool) → Type 0
@@ -15,3 +16,7 @@ CanonicalIsFewest {V} eq = (L M : List (Entry V)) → IsOnePerRun eq L → IsDis
 -- the lengths of a range map's ranges add up to the number of keys that have a value
 abbrev pub LengthsAreMapped : {V : Type 0} → (V → V → Bool) → Type 0
 LengthsAreMapped {V} eq = (low high : ℤ) (es : List (Entry V)) → IsRangeMap eq low high es → keys_in es ≡ pos (mapped_keys low high (at es))
+
+-- the pair list of a range map has each key that has a value once, ascending, with that value; it is as long as there are such keys
+abbrev pub PairsAreContent : {K V : Type 0} → (K → ℤ) → (ℤ → K) → (V → V → Bool) → ℤ → ℤ → Type 0
+PairsAreContent {K} {V} rank of_rank eq low high = (es : List (Entry V)) → IsRangeMap eq low high es → ArePairsOf rank (at es) (pair_list of_rank es) × (pos (length (pair_list of_rank es)) ≡ keys_in es)

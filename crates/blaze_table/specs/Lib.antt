@@ -5,7 +5,9 @@ pub mod Laws
 pub mod Painted
 pub mod Cut
 pub mod Gap
+pub mod Pairs
 pub mod Retain
 pub mod Table
 pub mod Slots
 pub mod Splice
+pub mod Keeping

@@ -1,10 +1,13 @@
--- What a closure answers at the entries of a list.
-use Rattle.std.specs.Prelude.{◌≡◌, ℤ, Bool, false}
+-- What a closure answers at the entries or the pairs of a list, and what is kept by it.
+use Rattle.std.specs.Prelude.{◌≡◌, ℤ, Bool, false, List}
 use Rattle.std.specs.Borrow.{Bor}
-use Rattle.std.specs.Fn.{Mut, Called}
+use Rattle.std.specs.Fn.{Mut, Called, Shared, FnReturns}
+use Rattle.std.specs.List.Retain.{IsFiltered}
 use Rattle.std.specs.Range.{range_inclusive_start, range_inclusive_end, range_inclusive_exhausted}
 use Rattle.std.specs.declared.ops.RangeInclusive.{RangeInclusive}
-use Rattle.blaze_table.specs.Entries.{Entry}
+use Rattle.blaze_table.specs.Entries.{Entry, at, SameOption}
+use Rattle.blaze_table.specs.Canonical.{IsRangeMap}
+use Rattle.blaze_table.specs.Pairs.{pair_list, value_at}
 
 -- a call of f at the entry's range and value may answer r, and leave f as f'
 pub record AnswersAt {F T V : Type 0} (rank : T → ℤ) (g : Mut F (Bor (RangeInclusive T) × (Bor V × Unit {0})) Bool) (f : F) (e : Entry V) (r : Bool) (f' : F) : Type 0 where
@@ -15,3 +18,20 @@ pub record AnswersAt {F T V : Type 0} (rank : T → ℤ) (g : Mut F (Bor (RangeI
   pub whole : range_inclusive_exhausted range.now ≡ false
   pub stored : value.now ≡ e.value
   pub called : Called g f (range, (value, tt)) r f'
+
+-- a call of f at the key and the value of a pair may answer r; f stays as it is
+pub record AnswersAtPair {F T V : Type 0} (g : Shared F (Bor T × (Bor V × Unit {0})) Bool) (f : F) (p : T × V) (r : Bool) (f' : F) : Type 0 where
+  pub key : Bor T
+  pub value : Bor V
+  pub asked : key.now ≡ p.0
+  pub stored : value.now ≡ p.1
+  pub says : FnReturns g f (key, (value, tt)) r
+  pub same : f' ≡ f
+
+-- What keeping the keys that a closure answers true at does to a range map. The closure is called once for each pair of the
+-- pair list, in order, and the kept pairs are those at which it answers true; the content is theirs.
+pub record IsKeyRetained {F T V : Type 0} (g : Shared F (Bor T × (Bor V × Unit {0})) Bool) (f : F) (rank : T → ℤ) (of_rank : ℤ → T) (eq : V → V → Bool) (low high : ℤ) (old new : List (Entry V)) : Type 0 where
+  pub kept : List (T × V)
+  pub filtered : IsFiltered (AnswersAtPair g) f (pair_list of_rank old) kept
+  pub range_map : IsRangeMap eq low high new
+  pub content : (k : ℤ) → SameOption eq (at new k) (value_at rank kept k)

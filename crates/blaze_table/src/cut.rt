@@ -1,9 +1,10 @@
 //! A key taken out of slots.
-ghost use Rattle.std.specs.Prelude.{◌≡◌, ◌≤◌, ◌<◌, ◌+◌, ◌-◌, ◌++◌, ◌∷◌, [], Some, None, ◌≤ℤ◌, ◌<ℤ◌, pos, ◌+ℤ◌, ◌-ℤ◌, length, int_lt, true, false, vec_len, slice_index_or, take, drop, OnOk, OnErr, IfOk};
+ghost use Rattle.std.specs.Prelude.{◌≡◌, ◌≤◌, ◌<◌, ◌+◌, ◌-◌, ◌++◌, ◌∷◌, [], Some, None, ◌≤ℤ◌, ◌<ℤ◌, pos, ◌+ℤ◌, ◌-ℤ◌, length, int_lt, true, false, vec_len, slice_index_or, take, drop, Ok, OnOk, OnErr, IfOk};
 ghost use Rattle.std.specs.List.{AllWithin, insert};
 ghost use Rattle.std.specs.Vec.{vec_capacity};
 ghost use Rattle.blaze_table.specs.Entries.{Entry, at, SameOption, SameEntries, entry};
 ghost use Rattle.blaze_table.specs.Canonical.{IsCanonical};
+ghost use Rattle.blaze_table.specs.Cut.{IsAmongOthers};
 ghost use Rattle.blaze_table.specs.Painted.{ClonesAreAlike};
 ghost use Rattle.blaze_table.specs.Splice.{IsCutOf, IsListCut};
 ghost use Rattle.blaze_table.specs.Table.{IsTable};
@@ -163,6 +164,7 @@ fn cut_at<T: Integer, V: Eq + Clone>(
     requires ends { T.rank key ≤ℤ T.rank hi }
     ensures ok { OnOk result (IsCutOf V.eq (T.rank key) (entries_of T.rank slots.old.items) (entries_of T.rank slots.new.items)) }
     ensures value { IfOk result (λ value. SameOption V.eq (at (entries_of T.rank slots.old.items) (T.rank key)) (Some value)) }
+    ensures refused { OnErr result (T.rank lo <ℤ T.rank hi) }
     ensures err { OnErr result (slots.new.items ≡ slots.old.items) }
 {
     if is_below(lo, key) {
@@ -187,6 +189,8 @@ fn cut_slots<T: Integer, V: Eq + Clone>(
     requires canonical { IsCanonical V.eq (entries_of T.rank slots.old.items) }
     ensures ok { OnOk result (IsCutOf V.eq (T.rank key) (entries_of T.rank slots.old.items) (entries_of T.rank slots.new.items)) }
     ensures value { IfOk result (λ value. SameOption V.eq (at (entries_of T.rank slots.old.items) (T.rank key)) value) }
+    ensures none { at (entries_of T.rank slots.old.items) (T.rank key) ≡ None → (result ≡ Ok None) × (slots.new.items ≡ slots.old.items) }
+    ensures refused { OnErr result (IsAmongOthers (T.rank key) (entries_of T.rank slots.old.items)) }
     ensures err { OnErr result (slots.new.items ≡ slots.old.items) }
 {
     match place_at(slots, key) {
@@ -209,6 +213,8 @@ pub fn cut<T: Integer, V: Eq + Clone>(
     ensures table { IfOk result (λ r. IsTable V.eq T.low T.high (T.SafeLen.number r.1) (entries_of T.rank slots.new.items)) }
     ensures cut { OnOk result (IsListCut V.eq (T.rank key) (entries_of T.rank slots.old.items) (entries_of T.rank slots.new.items)) }
     ensures value { IfOk result (λ r. SameOption V.eq (at (entries_of T.rank slots.old.items) (T.rank key)) r.0) }
+    ensures none { at (entries_of T.rank slots.old.items) (T.rank key) ≡ None → (result ≡ Ok (None, len)) × (slots.new.items ≡ slots.old.items) }
+    ensures refused { OnErr result (IsAmongOthers (T.rank key) (entries_of T.rank slots.old.items)) }
     ensures err { OnErr result (slots.new.items ≡ slots.old.items) }
 {
     match cut_slots(slots, key)? {

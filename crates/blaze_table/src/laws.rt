@@ -1,5 +1,7 @@
 //! The laws of canonical lists, for every value type with a lawful equality.
-ghost use Rattle.blaze_table.specs.Laws.{CanonicalIsUnique, CanonicalIsFewest, LengthsAreMapped};
+ghost use Rattle.blaze_table.specs.Laws.{CanonicalIsUnique, CanonicalIsFewest, LengthsAreMapped, PairsAreContent};
+
+use blaze_int::Integer;
 
 /// Canonical lists with the same content have the same ranges and equal values, position by position.
 pub fn canonical_is_unique<V: Eq>()
@@ -14,4 +16,10 @@ pub fn canonical_is_fewest<V: Eq>()
 /// The lengths of a range map's ranges add up to the number of keys that have a value.
 pub fn lengths_are_mapped<V: Eq>()
     ensures { LengthsAreMapped V.eq }
+{}
+
+/// The pair list of a range map has each key that has a value once, ascending, with that value, and is as long as there are
+/// such keys.
+pub fn pairs_are_content<T: Integer, V: Eq>()
+    ensures { PairsAreContent T.rank T.of_rank V.eq T.low T.high }
 {}

@@ -9,6 +9,7 @@ mod fill;
 mod gaps;
 mod into_iter;
 mod iter;
+mod keep;
 pub mod laws;
 mod neighbours;
 mod paint;

@@ -28,7 +28,8 @@ pub fn retain<T: Integer, V: Eq + Drop, F: FnMut(&RangeInclusive<T>, &V) -> bool
     for place in 0..slots.len() {
         let slot = &slots[place];
         let range = slot.lo..=slot.hi;
-        if f(&range, &slot.value) {
+        let stays = f(&range, &slot.value);
+        if stays {
             slots.swap(kept, place);
             kept += 1;
         } else {

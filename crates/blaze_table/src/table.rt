@@ -6,9 +6,9 @@ ghost use Rattle.blaze_table.specs.Entries.{Entry, entry, at, entry_at, shown_en
 ghost use Rattle.blaze_table.specs.Canonical.{IsRangeMap};
 ghost use Rattle.blaze_table.specs.Count.{keys_in, mapped_keys};
 ghost use Rattle.blaze_table.specs.Painted.{IsPainted, ClonesAreAlike, IsInside};
-ghost use Rattle.blaze_table.specs.Cut.{IsCut, IsSplit};
+ghost use Rattle.blaze_table.specs.Cut.{IsCut, IsSplit, IsAmongOthers};
 ghost use Rattle.blaze_table.specs.Gap.{IsGap};
-ghost use Rattle.blaze_table.specs.Retain.{AnswersAt};
+ghost use Rattle.blaze_table.specs.Retain.{AnswersAt, IsKeyRetained};
 ghost use Rattle.blaze_table.specs.Slots.{entry_of};
 
 use crate::Slot;
@@ -17,6 +17,7 @@ use crate::cut::cut;
 use crate::gaps::gap_round;
 use crate::into_iter::IntoIter;
 use crate::iter::Iter;
+use crate::keep::retain_keys;
 use crate::neighbours::{slot_above, slot_below};
 use crate::paint::paint;
 use crate::retain::retain;
@@ -199,11 +200,14 @@ impl<T: Integer, V: Eq + Clone> RangeTable<T, V> {
         Ok(differ(new_len, old_len))
     }
 
-    /// Takes a key out, and answers the value that was there. Refused memory leaves the table unchanged.
+    /// Takes a key out, and answers the value that was there. Refused memory leaves the table unchanged. No memory is taken
+    /// where the key has no value or is an entry of its own.
     pub fn cut_key(&mut self, key: T) -> Result<Option<V>, AllocError>
         requires { ClonesAreAlike V.is_clone V.eq }
         ensures ok { OnOk result (IsCut V.eq T.low T.high (T.rank key) self.old.entries self.new.entries) }
         ensures value { IfOk result (λ value. SameOption V.eq (at self.old.entries (T.rank key)) value) }
+        ensures none { at self.old.entries (T.rank key) ≡ None → (result ≡ Ok None) × (self.new ≡ self.old) }
+        ensures refused { OnErr result (IsAmongOthers (T.rank key) self.old.entries) }
         ensures err { OnErr result (self.new ≡ self.old) }
     {
         let _ = &self.slots;
@@ -211,6 +215,21 @@ impl<T: Integer, V: Eq + Clone> RangeTable<T, V> {
         let (value, len) = cut(&mut self.slots, old_len, key)?;
         self.len = len;
         Ok(value)
+    }
+
+    /// Keeps the keys that a closure answers true at: one call for each key that has a value, ascending, with the stored
+    /// value. Refused memory leaves the table unchanged.
+    pub fn retain_keys<F: Fn(&T, &V) -> bool>(&mut self, f: F) -> Result<(), AllocError>
+        requires callable { F.IsAlwaysCallable f }
+        requires clones { ClonesAreAlike V.is_clone V.eq }
+        ensures ok { OnOk result (IsKeyRetained F.Fn f T.rank T.of_rank V.eq T.low T.high self.old.entries self.new.entries) }
+        ensures err { OnErr result (self.new ≡ self.old) }
+    {
+        let _ = &self.slots;
+        let (slots, len) = retain_keys(*self.slots.allocator(), &self.slots, self.len, &f)?;
+        self.slots = slots;
+        self.len = len;
+        Ok(())
     }
 
     /// Keeps the keys below one, and answers the table of the keys from it on. Refused memory leaves the table unchanged.

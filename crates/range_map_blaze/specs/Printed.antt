@@ -1,5 +1,5 @@
 -- The printed text of a range map.
-use Rattle.std.specs.Prelude.{ℕ, ℤ, List, [], ◌∷◌, ◌++◌, Option, Some, None, codes}
+use Rattle.std.specs.Prelude.{ℕ, ℤ, List, [], ◌∷◌, Option, Some, codes}
 use Rattle.std.specs.Fmt.{◌++?◌}
 use Rattle.blaze_table.specs.Entries.{Entry}
 

@@ -1,11 +1,13 @@
 //! Entries and keys that a closure keeps.
-ghost use Rattle.std.specs.Prelude.{◌≡◌};
+ghost use Rattle.std.specs.Prelude.{◌≡◌, OnOk, OnErr};
 ghost use Rattle.std.specs.List.Retain.{IsFiltered};
 ghost use Rattle.blaze_table.specs.Canonical.{IsRangeMap};
-ghost use Rattle.blaze_table.specs.Retain.{AnswersAt};
+ghost use Rattle.blaze_table.specs.Painted.{ClonesAreAlike};
+ghost use Rattle.blaze_table.specs.Retain.{AnswersAt, IsKeyRetained};
 
 use crate::map::RangeMapBlaze;
 use blaze_int::Integer;
+use std::alloc::AllocError;
 use std::ops::RangeInclusive;
 
 impl<T: Integer, V: Eq + Drop> RangeMapBlaze<T, V> {
@@ -16,5 +18,18 @@ impl<T: Integer, V: Eq + Drop> RangeMapBlaze<T, V> {
         ensures kept { IsFiltered (AnswersAt T.rank F.FnMut) f self.old.entries self.new.entries }
     {
         self.table.retain_entries(f);
+    }
+}
+
+impl<T: Integer, V: Eq + Clone> RangeMapBlaze<T, V> {
+    /// Keeps the keys that a closure answers true at: one call for each key that has a value, ascending, with the stored
+    /// value. Refused memory leaves the map unchanged.
+    pub fn retain<F: Fn(&T, &V) -> bool>(&mut self, f: F) -> Result<(), AllocError>
+        requires callable { F.IsAlwaysCallable f }
+        requires clones { ClonesAreAlike V.is_clone V.eq }
+        ensures ok { OnOk result (IsKeyRetained F.Fn f T.rank T.of_rank V.eq T.low T.high self.old.entries self.new.entries) }
+        ensures err { OnErr result (self.new ≡ self.old) }
+    {
+        self.table.retain_keys(f)
     }
 }

@@ -4,6 +4,8 @@
 #[cfg(test)]
 mod bounds;
 #[cfg(test)]
+mod coarse;
+#[cfg(test)]
 mod lookups;
 #[cfg(test)]
 mod paints;

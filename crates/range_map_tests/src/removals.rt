@@ -96,6 +96,22 @@ fn retains_entries(rt: HostRuntime) -> Result<(), Fail> {
 }
 
 #[test]
+fn retains_keys(rt: HostRuntime) -> Result<(), Fail> {
+    let mut map = one_range::<i64>(rt.alloc(), 0, 4)?;
+    map.retain(|key, _| *key % 2 == 0)?;
+    assert_prints(&rt, rt.alloc(), &map, r#"(0..=0, "a"), (2..=2, "a"), (4..=4, "a")"#)?;
+    assert_eq!(rt; map.len(), 3u128);
+    Ok(())
+}
+
+#[test]
+fn retains_keys_of_32_bits(rt: HostRuntime) -> Result<(), Fail> {
+    let mut map = one_range::<i32>(rt.alloc(), 0, 4)?;
+    map.retain(|key, _| *key % 2 == 0)?;
+    assert_prints(&rt, rt.alloc(), &map, r#"(0..=0, "a"), (2..=2, "a"), (4..=4, "a")"#)
+}
+
+#[test]
 fn clones(rt: HostRuntime) -> Result<(), Fail> {
     let map = one_range::<i64>(rt.alloc(), 1, 9)?;
     let copy = map.clone()?;

@@ -24,6 +24,16 @@ fn entries(alloc: Global, count: i64) -> Result<Map, AllocError> {
     Ok(map)
 }
 
+/// The key of an entry of its own that a call wants.
+fn single_key(call: &str) -> Option<i64> {
+    match call {
+        "remove single" => Some(7),
+        "pop_first single" => Some(-7),
+        "pop_last single" => Some(5000),
+        _ => None,
+    }
+}
+
 /// Makes a call, and answers whether it succeeded.
 fn succeeds(call: &str, map: &mut Map, value: String) -> bool {
     match call {
@@ -41,6 +51,10 @@ fn succeeds(call: &str, map: &mut Map, value: String) -> bool {
         "clone" => map.clone().is_ok(),
         "split_off inside" => map.split_off(3).is_ok(),
         "split_off between" => map.split_off(7).is_ok(),
+        "retain" => map.retain(|key, _| *key % 2 == 0).is_ok(),
+        "remove single" => map.remove(7).is_ok(),
+        "pop_first single" => map.pop_first().is_ok(),
+        "pop_last single" => map.pop_last().is_ok(),
         _ => false,
     }
 }
@@ -57,6 +71,9 @@ fn main(rt: HostRuntime) -> anyhow::Result<()> {
         }
     }
     let mut map = entries(alloc, count)?;
+    if let Some(key) = single_key(call.as_str()) {
+        let _ = map.insert(key, value(alloc, -2)?)?;
+    }
     let before = format!(in alloc; "{map}")?;
     let len = map.len();
     let new = value(alloc, -1)?;

@@ -1,4 +1,4 @@
-use Rattle.std.proofs.Common.{◌≡◌, ◌+◌, pos, ◌+ℤ◌, subst, arith, Some, None}
+use Rattle.std.proofs.Common.{subst, arith}
 use Rattle.std.proofs.lemmas.Int.{ints}
 use Rattle.blaze_table.specs.Entries.{at, SameOption}
 use Rattle.blaze_table.specs.Slots.{entries_of}

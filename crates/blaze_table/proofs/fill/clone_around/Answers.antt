@@ -1,8 +1,5 @@
-use Rattle.std.proofs.Common.{◌≡◌, ◌∙◌, sym, ap, subst, arith, cond, false, true, Bool, ◌&&◌, Option, Some, None, refl}
+use Rattle.std.proofs.Common.{◌≡◌, ◌∙◌, sym, ap, cond, false, true, Bool, ◌&&◌, Some, None, refl}
 use Rattle.std.specs.Prelude.{int_lt}
-use Rattle.std.proofs.lemmas.Int.{ints}
-use Rattle.blaze_table.specs.Entries.{SameOption}
-use Rattle.blaze_table.specs.Slots.{entry_of}
 use Rattle.blaze_table.proofs.Inside.{around_is, around_entry}
 use Rattle.blaze_table.proofs.Unique.{same_along, same_none}
 use Rattle.blaze_table.proofs.fill.clone_around.Goals as goal

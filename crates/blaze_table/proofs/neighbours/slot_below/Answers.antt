@@ -1,6 +1,4 @@
-use Rattle.std.proofs.Common.{◌≡◌, ◌∙◌, sym, ap, subst, arith, Some, ℕ, ◌+◌, ◌-◌, suc, length, true, false}
-use Rattle.std.specs.Prelude.{int_lt}
-use Rattle.std.specs.List.{AllWithin}
+use Rattle.std.proofs.Common.{◌∙◌, sym, ap, arith, Some, ℕ, ◌-◌}
 use Rattle.blaze_table.specs.Slots.{entry_of}
 use Rattle.blaze_table.proofs.NextEntries.{below_here, below_none}
 use Rattle.blaze_table.proofs.neighbours.slot_below.Goals as goal

@@ -1,4 +1,4 @@
-use Rattle.std.proofs.Common.{◌∙◌, sym, arith, Some, None, ◌≤ℤ◌, true, false, ◌≡◌}
+use Rattle.std.proofs.Common.{◌∙◌, sym, arith, Some, None, ◌≤ℤ◌}
 use Rattle.std.proofs.lemmas.Int.{ints}
 use Rattle.blaze_table.specs.Slots.{entry_of}
 use Rattle.blaze_table.proofs.Inside.{inside_entry}

@@ -1,5 +1,4 @@
-use Rattle.std.proofs.Common.{◌≡◌, ◌∙◌, sym, ap, cond, Option, Some, None, refl}
-use Rattle.blaze_table.specs.Slots.{entry_of}
+use Rattle.std.proofs.Common.{◌∙◌, sym, ap, cond, Some, None, refl}
 use Rattle.blaze_table.proofs.Inside.{across_is, across_entry}
 use Rattle.blaze_table.proofs.Unique.{same_along, same_none}
 use Rattle.blaze_table.proofs.split.clone_across.Goals as goal

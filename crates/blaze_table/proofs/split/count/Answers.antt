@@ -1,8 +1,8 @@
-use Rattle.std.proofs.Common.{◌≡◌, pos, ◌+◌, ◌+ℤ◌, drop, arith, subst, ap}
+use Rattle.std.proofs.Common.{◌+◌, drop, arith, subst, ap}
 use Rattle.std.proofs.lemmas.Int.{ints}
 use Rattle.blaze_table.specs.Canonical.{IsCanonical}
 use Rattle.blaze_table.specs.Count.{keys_in}
-use Rattle.blaze_table.specs.Slots.{entry_of, entries_of}
+use Rattle.blaze_table.specs.Slots.{entries_of}
 use Rattle.blaze_table.proofs.Slots.{rest_is}
 use Rattle.blaze_table.proofs.Counted.{some_keys}
 use Rattle.blaze_table.proofs.split.count.Goals as goal

@@ -1,4 +1,4 @@
-use Rattle.std.proofs.Common.{◌≡◌, ◌∙◌, sym, ap, subst, ◌++◌, ◌∷◌, [], pos, ◌-ℤ◌, ◌<ℤ◌, ◌≤ℤ◌, None, Some, arith}
+use Rattle.std.proofs.Common.{◌≡◌, ◌∙◌, sym, ap, subst, ◌++◌, ◌∷◌, [], ◌<ℤ◌, ◌≤ℤ◌, None, Some, arith}
 use Rattle.std.proofs.lemmas.Int.{ints}
 use Rattle.blaze_table.specs.Entries.{SameOption}
 use Rattle.blaze_table.specs.Canonical.{IsCanonical}

@@ -1,4 +1,4 @@
-use Rattle.std.proofs.Common.{subst, sym}
+use Rattle.std.proofs.Common.{subst}
 use Rattle.blaze_table.specs.Entries.{SameEntries}
 use Rattle.blaze_table.specs.Slots.{entries_of}
 use Rattle.blaze_table.proofs.Clones.{table_as}

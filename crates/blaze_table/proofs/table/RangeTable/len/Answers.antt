@@ -1,7 +1,7 @@
-use Rattle.std.proofs.Common.{◌≡◌, ◌∙◌, pos, subst, arith}
+use Rattle.std.proofs.Common.{◌≡◌, ◌∙◌, subst, arith}
 use Rattle.std.proofs.lemmas.Int.{ints}
 use Rattle.blaze_table.specs.Entries.{at}
-use Rattle.blaze_table.specs.Count.{mapped_keys, nat_of}
+use Rattle.blaze_table.specs.Count.{mapped_keys}
 use Rattle.blaze_table.proofs.ListLaws.{lengths_mapped}
 use Rattle.blaze_table.proofs.table.RangeTable.len.Goals as goal
 

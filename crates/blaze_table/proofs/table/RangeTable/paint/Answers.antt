@@ -1,10 +1,8 @@
-use Rattle.std.proofs.Common.{◌∙◌, ap, subst}
+use Rattle.std.proofs.Common.{subst}
 use Rattle.blaze_table.specs.Entries.{entry}
-use Rattle.blaze_table.specs.Count.{keys_in}
 use Rattle.blaze_table.specs.Painted.{IsPainted, IsInside}
 use Rattle.blaze_table.specs.Slots.{entries_of}
 use Rattle.blaze_table.proofs.Inside.{inside_painted}
-use Rattle.blaze_table.proofs.Counted.{painted_changed}
 use Rattle.blaze_table.proofs.RangeMaps.{painted_map}
 use Rattle.blaze_table.proofs.table.RangeTable.paint.Goals as goal
 

@@ -1,9 +1,9 @@
-use Rattle.std.proofs.Common.{◌≡◌, ◌++◌, ◌∷◌, [], List, ℕ, ℤ, Option, Some, rules, refl, append_assoc, ap, ◌∙◌, sym, subst, codes}
+use Rattle.std.proofs.Common.{◌≡◌, ◌++◌, [], Some, rules, refl, append_assoc, ap, ◌∙◌, sym}
 use Rattle.std.proofs.Output.{has_written_append}
 use Rattle.std.specs.Fmt.{HasWritten, ◌++?◌}
 use Rattle.std.specs.Range.{range_inclusive_start, range_inclusive_end}
 use Rattle.blaze_table.specs.Entries.{Entry}
-use Rattle.range_map_blaze.specs.Printed.{entries_text, entry_text, map_text}
+use Rattle.range_map_blaze.specs.Printed.{entries_text}
 use Rattle.range_map_blaze.proofs.Texts.{split_some, entry_shown}
 use Rattle.range_map_blaze.proofs.display.RangeMapBlazeDisplay.fmt.Goals as goal
 

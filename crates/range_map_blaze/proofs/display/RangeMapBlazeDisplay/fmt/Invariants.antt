@@ -1,4 +1,4 @@
-use Rattle.std.proofs.Common.{◌≡◌, ◌++◌, ℕ, [], List, Some}
+use Rattle.std.proofs.Common.{◌≡◌, ◌++◌, ℕ, List, Some}
 use Rattle.std.specs.Fmt.{HasWritten, IsPlainFormatter}
 use denote.Text.{Utf8}
 use denote.Shadow.{shadow}

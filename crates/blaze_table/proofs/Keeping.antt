@@ -1,0 +1,217 @@
+-- Keys put one after another behind a list: what is kept of the pairs asked at.
+use Rattle.std.proofs.Common.{◌≡◌, ℕ, ◌+◌, ◌<◌, ◌≤◌, get_or, take, drop, ℤ, pos, ◌+ℤ◌, ◌-ℤ◌, ◌≤ℤ◌, Bool, true, false, cond, List, [], ◌∷◌, ◌++◌, length, Option, Some, None, refl, ap, sym, ◌∙◌, subst, arith, append_assoc, append-nil}
+use Rattle.std.specs.Ordering.{int_eq}
+use Rattle.std.specs.Cmp.{IsEquivalence}
+use Rattle.std.specs.List.{items_where_true}
+use Rattle.std.specs.List.Retain.{ReturnsInTurn}
+use Rattle.std.proofs.lemmas.Int.{ints, by_lt_z}
+use Rattle.std.proofs.lemmas.List.{length-append, take_more, take_all, drop_all}
+use Rattle.blaze_table.specs.declared.Slot.{Slot}
+use Rattle.blaze_table.specs.Entries.{Entry, entry, at, SameOption}
+use Rattle.blaze_table.specs.Canonical.{IsCanonical, AreKeys}
+use Rattle.blaze_table.specs.Count.{keys_in, nat_of}
+use Rattle.blaze_table.specs.Keeping.{AddsKey, IsKept, KeepsMore}
+use Rattle.blaze_table.specs.Pairs.{pairs_from, pairs_of, pair_list, value_at}
+use Rattle.blaze_table.specs.Slots.{entry_of, entries_of}
+use Rattle.blaze_table.specs.Splice.{glue, IsBelow}
+use Rattle.blaze_table.specs.Table.{IsTable}
+use Rattle.blaze_table.proofs.Counted.{keys_glue, are_keys_glue, some_keys}
+use Rattle.blaze_table.proofs.Lookup.{IsAbove, IsAbove-from_apart, at_in, at_under, at_over}
+use Rattle.blaze_table.proofs.PairLists.{nat_of-pos, pairs_append, pair_list-push}
+use Rattle.blaze_table.proofs.Retained.{canonical_drop}
+use Rattle.blaze_table.proofs.Slots.{entries-push, rest_is}
+use Rattle.blaze_table.proofs.Splices.{or_else, canonical_glue, at_glue, below_glue, below_more}
+use Rattle.blaze_table.proofs.Unique.{same_along, same_trans}
+
+-- the count of a list with one key more
+pub keys_added : {V : Type 0} (eq : V → V → Bool) (k : ℤ) (v : V) (old new : List (Entry V)) → AddsKey eq k v old new → keys_in new ≡ keys_in old +ℤ pos 1
+keys_added eq k v old new a = ap keys_in a.glued ∙ omega (arith, ints, keys_glue eq old (entry k k a.value ∷ []))
+
+module _ {F X : Type 0} (R : F → X → Bool → F → Type 0) where
+  returns-push : (f g h : F) (bs : List Bool) (xs : List X) (b : Bool) (x : X) → length bs ≡ length xs → ReturnsInTurn R f bs xs g → R g x b h → ReturnsInTurn R f (bs ++ b ∷ []) (xs ++ x ∷ []) h
+  returns-push f g h [] [] b x l p r = (h, subst (λ s. R s x b h) (sym p) r, refl)
+  returns-push f g h [] (y ∷ ys) b x l p r = absurd (omega arith)
+  returns-push f g h (c ∷ bs) [] b x l p r = absurd (omega arith)
+  returns-push f g h (c ∷ bs) (y ∷ ys) b x l p r = (p.0, p.1, returns-push p.0 g h bs ys b x (omega arith) p.2 r)
+
+picked-push_true : {X : Type 0} (bs : List Bool) (xs : List X) (x : X) → length bs ≡ length xs → items_where_true (bs ++ true ∷ []) (xs ++ x ∷ []) ≡ items_where_true bs xs ++ x ∷ []
+picked-push_true [] [] x l = refl
+picked-push_true [] (y ∷ ys) x l = absurd (omega arith)
+picked-push_true (b ∷ bs) [] x l = absurd (omega arith)
+picked-push_true (true ∷ bs) (y ∷ ys) x l = ap (λ zs. y ∷ zs) (picked-push_true bs ys x (omega arith))
+picked-push_true (false ∷ bs) (y ∷ ys) x l = picked-push_true bs ys x (omega arith)
+
+picked-push_false : {X : Type 0} (bs : List Bool) (xs : List X) (x : X) → length bs ≡ length xs → items_where_true (bs ++ false ∷ []) (xs ++ x ∷ []) ≡ items_where_true bs xs
+picked-push_false [] [] x l = refl
+picked-push_false [] (y ∷ ys) x l = absurd (omega arith)
+picked-push_false (b ∷ bs) [] x l = absurd (omega arith)
+picked-push_false (true ∷ bs) (y ∷ ys) x l = ap (λ zs. y ∷ zs) (picked-push_false bs ys x (omega arith))
+picked-push_false (false ∷ bs) (y ∷ ys) x l = picked-push_false bs ys x (omega arith)
+
+value_at-push : {T V : Type 0} (rank : T → ℤ) (ps : List (T × V)) (p : T × V) (k : ℤ) → value_at rank (ps ++ p ∷ []) k ≡ or_else (value_at rank ps k) (cond (int_eq k (rank p.0)) (Some p.1) None)
+unfolding or_else
+value_at-push rank [] p k = refl
+value_at-push rank (q ∷ ps) p k = first (int_eq k (rank q.0)) (value_at-push rank ps p k)
+  where
+    first : (b : Bool) → value_at rank (ps ++ p ∷ []) k ≡ or_else (value_at rank ps k) (cond (int_eq k (rank p.0)) (Some p.1) None) → cond b (Some q.1) (value_at rank (ps ++ p ∷ []) k) ≡ or_else (cond b (Some q.1) (value_at rank ps k)) (cond (int_eq k (rank p.0)) (Some p.1) None)
+    first true e = refl
+    first false e = e
+
+module _ {F T V : Type 0} (R : F → T × V → Bool → F → Type 0) (f : F) (rank : T → ℤ) (eq : V → V → Bool) (low high : ℤ) where
+  pub kept_none : (b : ℤ) → IsKept R f rank eq low high [] b []
+  kept_none b = record {
+    answers = [];
+    long = refl;
+    returns = refl;
+    canonical = tt;
+    are_keys = tt;
+    below = tt;
+    content = λ k. tt;
+  }
+
+  pub kept_below : (pairs : List (T × V)) (b c : ℤ) (es : List (Entry V)) → b ≤ℤ c → IsKept R f rank eq low high pairs b es → IsKept R f rank eq low high pairs c es
+  kept_below pairs b c es l h = record {
+    answers = h.answers;
+    long = h.long;
+    returns = h.returns;
+    canonical = h.canonical;
+    are_keys = h.are_keys;
+    below = below_more b c es l h.below;
+    content = h.content;
+  }
+
+  -- nothing more is asked at
+  pub more_none : (a : ℤ) (es : List (Entry V)) → KeepsMore R f rank eq low high [] a a es es
+  more_none a es pairs h = subst (λ ps. IsKept R f rank eq low high ps a es) (sym (append-nil pairs)) h
+
+  -- one part of the pairs, and then another
+  pub more_both : (xs ys : List (T × V)) (a b c d : ℤ) (old mid new : List (Entry V)) → b ≤ℤ c → KeepsMore R f rank eq low high xs a b old mid → KeepsMore R f rank eq low high ys c d mid new → KeepsMore R f rank eq low high (xs ++ ys) a d old new
+  more_both xs ys a b c d old mid new l p q pairs h = subst (λ ps. IsKept R f rank eq low high ps d new) (append_assoc pairs xs ys) (q (pairs ++ xs) (kept_below (pairs ++ xs) b c mid l (p pairs h)))
+
+  -- the closure answers false at one pair more
+  pub more_no : (p : T × V) (b : ℤ) (es : List (Entry V)) → R f p false f → KeepsMore R f rank eq low high (p ∷ []) b (b +ℤ pos 1) es es
+  more_no p b es r pairs h = record {
+    answers = h.answers ++ false ∷ [];
+    long = omega (arith, h.long, length-append h.answers (false ∷ []), length-append pairs (p ∷ []));
+    returns = returns-push R f f f h.answers pairs false p h.long h.returns r;
+    canonical = h.canonical;
+    are_keys = h.are_keys;
+    below = below_more b (b +ℤ pos 1) es (omega (arith, ints)) h.below;
+    content = λ k. subst (λ ps. SameOption eq (at es k) (value_at rank ps k)) (sym (picked-push_false h.answers pairs p h.long)) (h.content k);
+  }
+
+  module _ (laws : IsEquivalence eq) where
+    same_or : (a b c d : Option V) → SameOption eq a b → SameOption eq c d → SameOption eq (or_else a c) (or_else b d)
+    unfolding or_else
+    same_or None None c d s t = t
+    same_or None (Some y) c d s t = absurd s
+    same_or (Some x) None c d s t = absurd s
+    same_or (Some x) (Some y) c d s t = s
+
+    one_key : (k j : ℤ) (v w : V) → eq v w ≡ true → SameOption eq (at (entry k k w ∷ []) j) (cond (int_eq j k) (Some v) None)
+    one_key k j v w e = by_lt_z j k
+        (λ l. same_along eq (sym (at_under (entry k k w) [] j l)) (none_there (omega (arith, ints))) tt)
+        (λ l. by_lt_z k j
+        (λ m. same_along eq (sym (at_over (entry k k w) [] j m)) (none_there (omega (arith, ints))) tt)
+        (λ m. same_along eq (sym (at_in (entry k k w) [] j l m)) (some_there (omega (arith, ints))) (laws.symm w v ∙ e)))
+      where
+        none_there : (j ≡ k → ⊥) → None ≡ cond (int_eq j k) (Some v) None
+        none_there n = grind (arith, ints)
+
+        some_there : j ≡ k → Some v ≡ cond (int_eq j k) (Some v) None
+        some_there p = grind (arith, ints)
+
+    -- the closure answers true at one pair more, whose key k is put behind the list
+    pub more_yes : (p : T × V) (k : ℤ) (es new : List (Entry V)) → rank p.0 ≡ k → low ≤ℤ k → k ≤ℤ high → R f p true f → AddsKey eq k p.1 es new → KeepsMore R f rank eq low high (p ∷ []) k (k +ℤ pos 1) es new
+    more_yes p k es new is from to r a pairs h =
+        let one = entry k k a.value ∷ [] in
+        let canonical = canonical_glue eq laws (k -ℤ pos 1) es one h.canonical (omega (arith, ints), tt, tt) (below_more k (k -ℤ pos 1 +ℤ pos 1) es (omega (arith, ints)) h.below) (omega (arith, ints)) in
+        let like : (j : ℤ) → SameOption eq (at (glue eq es one) j) (or_else (value_at rank (items_where_true h.answers pairs) j) (cond (int_eq j k) (Some p.1) None)) = λ j.
+        same_trans eq laws _ _ _ (at_glue eq laws es one j h.canonical (omega (arith, ints), tt, tt)) (same_or (at es j) _ (at one j) _ (h.content j) (one_key k j p.1 a.value a.like)) in
+        let value : (j : ℤ) → value_at rank (items_where_true (h.answers ++ true ∷ []) (pairs ++ p ∷ [])) j ≡ or_else (value_at rank (items_where_true h.answers pairs) j) (cond (int_eq j k) (Some p.1) None) = λ j.
+        ap (λ ps. value_at rank ps j) (picked-push_true h.answers pairs p h.long) ∙ value_at-push rank (items_where_true h.answers pairs) p j ∙ ap (λ z. or_else (value_at rank (items_where_true h.answers pairs) j) (cond (int_eq j z) (Some p.1) None)) is in
+        record {
+          answers = h.answers ++ true ∷ [];
+          long = omega (arith, h.long, length-append h.answers (true ∷ []), length-append pairs (p ∷ []));
+          returns = returns-push R f f f h.answers pairs true p h.long h.returns r;
+          canonical = subst (IsCanonical eq) (sym a.glued) canonical;
+          are_keys = subst (AreKeys low high) (sym a.glued) (are_keys_glue eq low high es one h.are_keys (from, to, tt));
+          below = subst (IsBelow (k +ℤ pos 1)) (sym a.glued) (below_glue eq (k +ℤ pos 1) es one (below_more k (k +ℤ pos 1) es (omega (arith, ints)) h.below) (omega (arith, ints), tt));
+          content = λ j. same_along eq (ap (λ l. at l j) (sym a.glued)) (sym (value j)) (like j);
+        }
+
+  -- the keys from lo up to before k, and then k
+  pub more_next : (of_rank : ℤ → T) (lo k next : ℤ) (v : V) (old mid new : List (Entry V)) → lo ≤ℤ k → next ≡ k +ℤ pos 1
+      → KeepsMore R f rank eq low high (pairs_from of_rank lo (nat_of (k -ℤ lo)) v) lo k old mid → KeepsMore R f rank eq low high (pairs_from of_rank k 1 v) k (k +ℤ pos 1) mid new
+      → KeepsMore R f rank eq low high (pairs_from of_rank lo (nat_of (next -ℤ lo)) v) lo next old new
+  more_next of_rank lo k next v old mid new l e p q =
+      let m : ℕ = nat_of (k -ℤ lo) in
+      let is : pos m ≡ k -ℤ lo = nat_of-pos (k -ℤ lo) (omega (arith, ints)) in
+      let here : lo +ℤ pos m ≡ k = omega (arith, ints) in
+      let long : next -ℤ lo ≡ pos (1 + m) = omega (arith, ints) in
+      let all : pairs_from of_rank lo (nat_of (next -ℤ lo)) v ≡ pairs_from of_rank lo m v ++ pairs_from of_rank k 1 v =
+      ap (λ n. pairs_from of_rank lo n v) (ap nat_of long) ∙ pairs_append of_rank lo m 1 v ∙ ap (λ b. pairs_from of_rank lo m v ++ pairs_from of_rank b 1 v) here in
+      subst (λ b. KeepsMore R f rank eq low high (pairs_from of_rank lo (nat_of (next -ℤ lo)) v) lo b old new) (sym e)
+      (subst (λ ps. KeepsMore R f rank eq low high ps lo (k +ℤ pos 1) old new) (sym all)
+      (more_both (pairs_from of_rank lo m v) (pairs_from of_rank k 1 v) lo k k (k +ℤ pos 1) old mid new (omega (arith, ints)) p q))
+
+  -- the slots before the place i were gone over, and the list is what is kept of them
+  pub record IsReached (of_rank : ℤ → T) (slots : List (Slot T V)) (i : ℕ) (left : ℤ) (es : List (Entry V)) : Type 0 where
+    pub end : ℤ
+    pub kept : IsKept R f rank eq low high (pair_list of_rank (entries_of rank (take i slots))) end es
+    pub above : IsAbove (end -ℤ pos 1) (entries_of rank (drop i slots))
+    pub counted : left ≡ keys_in es +ℤ keys_in (entries_of rank (drop i slots))
+
+  pub reached_none : (of_rank : ℤ → T) (slots : List (Slot T V)) (left : ℤ) → AreKeys low high (entries_of rank slots) → left ≡ keys_in (entries_of rank slots) → IsReached of_rank slots 0 left []
+  reached_none of_rank slots left a e = record {
+    end = low;
+    kept = kept_none low;
+    above = from_low (entries_of rank slots) a;
+    counted = omega (arith, ints);
+  }
+    where
+      from_low : (es : List (Entry V)) → AreKeys low high es → IsAbove (low -ℤ pos 1) es
+      from_low [] k = tt
+      from_low (d ∷ es) k = omega (arith, ints, k.0)
+
+  module _ (of_rank : ℤ → T) (slots : List (Slot T V)) (i : ℕ) (left : ℤ) (es : List (Entry V)) (h : IsReached of_rank slots i left es) (c : IsCanonical eq (entries_of rank slots)) (x : Slot T V) (l : i < length slots) (is : x ≡ get_or slots i x) where
+    split : entries_of rank (drop i slots) ≡ entry_of rank x ∷ entries_of rank (drop (i + 1) slots)
+    split = rest_is rank slots i x l is
+
+    here : IsCanonical eq (entry_of rank x ∷ entries_of rank (drop (i + 1) slots))
+    here = subst (IsCanonical eq) split (canonical_drop rank eq slots i c)
+
+    pub reached_order : rank x.lo ≤ℤ rank x.hi
+    reached_order = here.0
+
+    pub reached_room : (rank x.hi -ℤ rank x.lo +ℤ pos 1) ≤ℤ left
+    reached_room = omega (arith, ints, h.counted, ap keys_in split, some_keys eq es h.kept.canonical, some_keys eq (entries_of rank (drop (i + 1) slots)) here.2)
+
+    pub reached_more : (next : ℤ) (new : List (Entry V)) → KeepsMore R f rank eq low high (pairs_of of_rank (entry_of rank x)) (rank x.lo) (rank x.hi +ℤ pos 1) es new
+        → next +ℤ keys_in es +ℤ (rank x.hi -ℤ rank x.lo +ℤ pos 1) ≡ left +ℤ keys_in new → IsReached of_rank slots (i + 1) next new
+    reached_more next new m e =
+        let start : IsAbove (h.end -ℤ pos 1) (entry_of rank x ∷ entries_of rank (drop (i + 1) slots)) = subst (IsAbove (h.end -ℤ pos 1)) split h.above in
+        let taken = ap (entries_of rank) (take_more slots i x l ∙ ap (λ y. take i slots ++ y ∷ []) (sym is)) ∙ entries-push rank (take i slots) x in
+        let pairs = ap (pair_list of_rank) taken ∙ pair_list-push of_rank (entries_of rank (take i slots)) (entry_of rank x) in
+        record {
+          end = rank x.hi +ℤ pos 1;
+          kept = subst (λ ps. IsKept R f rank eq low high ps (rank x.hi +ℤ pos 1) new) (sym pairs)
+              (m (pair_list of_rank (entries_of rank (take i slots))) (kept_below _ h.end (rank x.lo) es (omega (arith, ints, start)) h.kept));
+          above = subst (λ b. IsAbove b (entries_of rank (drop (i + 1) slots))) (omega (arith, ints)) (IsAbove-from_apart eq (entry_of rank x) (entries_of rank (drop (i + 1) slots)) here.1);
+          counted = omega (arith, ints, h.counted, ap keys_in split);
+        }
+
+  -- all slots were gone over
+  module _ (of_rank : ℤ → T) (slots : List (Slot T V)) (i : ℕ) (left : ℤ) (es : List (Entry V)) (h : IsReached of_rank slots i left es) (all : length slots ≤ i) where
+    pub reached_table : (n : ℕ) → pos n ≡ left → IsTable eq low high n es
+    reached_table n p = record {
+      canonical = h.kept.canonical;
+      are_keys = h.kept.are_keys;
+      counted = omega (arith, ints, p, h.counted, ap (λ xs. keys_in (entries_of rank xs)) (drop_all i slots all));
+    }
+
+    asked : pair_list of_rank (entries_of rank (take i slots)) ≡ pair_list of_rank (entries_of rank slots)
+    asked = ap (λ xs. pair_list of_rank (entries_of rank xs)) (take_all i slots all)
+
+    pub reached_pairs : IsKept R f rank eq low high (pair_list of_rank (entries_of rank slots)) h.end es
+    reached_pairs = subst (λ ps. IsKept R f rank eq low high ps h.end es) asked h.kept

@@ -1,0 +1,49 @@
+use Rattle.std.proofs.Common.{◌≡◌, sym, ap, subst, ℤ, pos, ◌+ℤ◌, ◌-ℤ◌, ◌≤ℤ◌, ◌<ℤ◌, arith, ◌∙◌, true, false}
+use Rattle.std.specs.Prelude.{int_lt}
+use Rattle.std.proofs.lemmas.Int.{ints}
+use Rattle.blaze_table.specs.Count.{nat_of}
+use Rattle.blaze_table.specs.Keeping.{KeepsMore}
+use Rattle.blaze_table.specs.Pairs.{pairs_from}
+use Rattle.blaze_table.specs.Retain.{AnswersAtPair}
+use Rattle.blaze_table.specs.Slots.{entries_of}
+use Rattle.blaze_table.proofs.Keeping.{more_next}
+use Rattle.blaze_table.proofs.keep.keep_keys.Goals as goal
+
+below : (a b : ℤ) → int_lt a b ≡ true → a <ℤ b
+below a b h = grind (arith, ints)
+
+not_below : (a b : ℤ) → int_lt a b ≡ false → b ≤ℤ a
+not_below a b h = grind (arith, ints)
+
+pub loop-out-preserved : goal.loop-out-preserved
+loop-out-preserved g c =
+    let rank = g.T.Integer.rank in
+    let i = c.loop-out.invariant in
+    let less = below (rank c.loop-out.key) (rank c.args.slot.now.hi) (sym c.is_below.ensures ∙ c.loop-out-test.true) in
+    record {
+      from = omega (arith, ints, i.from, c.after-key.ensures);
+      to = omega (arith, ints, less, c.after-key.ensures);
+      kept = more_next (AnswersAtPair g.F.Fn) c.args.f.now rank g.V.PartialEq.eq g.T.Integer.low g.T.Integer.high g.T.Integer.of_rank (rank c.args.slot.now.lo) (rank c.loop-out.key) (rank c.after-key.result) c.args.slot.now.value _ _ _
+          i.from c.after-key.ensures i.kept c.in_ok-left.ensures.kept;
+      room = omega (arith, ints, i.room, c.after-key.ensures, c.in_ok-left.ensures.room);
+      counted = omega (arith, ints, i.counted, c.in_ok-left.ensures.counted, c.after-key.ensures);
+    }
+
+pub returns-clause-kept : goal.returns-clause-kept
+returns-clause-kept g c =
+    let rank = g.T.Integer.rank in
+    let lo = rank c.args.slot.now.lo in
+    let hi = rank c.args.slot.now.hi in
+    let i = c.loop-out.invariant in
+    let end : rank c.loop-out.key ≡ hi = omega (arith, ints, i.to, not_below (rank c.loop-out.key) hi (sym c.is_below.ensures ∙ c.loop-out-test.false)) in
+    let long : (hi +ℤ pos 1) -ℤ lo ≡ hi -ℤ lo +ℤ pos 1 = omega (arith, ints) in
+    let all = more_next (AnswersAtPair g.F.Fn) c.args.f.now rank g.V.PartialEq.eq g.T.Integer.low g.T.Integer.high g.T.Integer.of_rank lo (rank c.loop-out.key) (hi +ℤ pos 1) c.args.slot.now.value _ _ _
+    i.from (omega (arith, ints, end)) i.kept c.in_ok-left-2.ensures.kept in
+    subst (λ n. KeepsMore (AnswersAtPair g.F.Fn) c.args.f.now rank g.V.PartialEq.eq g.T.Integer.low g.T.Integer.high (pairs_from g.T.Integer.of_rank lo n c.args.slot.now.value) lo (hi +ℤ pos 1) (entries_of rank c.args.out.now.items) (entries_of rank c.keep_key-2.new.out.items)) (ap nat_of long) all
+
+pub returns-clause-counted : goal.returns-clause-counted
+returns-clause-counted g c =
+    let rank = g.T.Integer.rank in
+    let i = c.loop-out.invariant in
+    let end : rank c.loop-out.key ≡ rank c.args.slot.now.hi = omega (arith, ints, i.to, not_below (rank c.loop-out.key) (rank c.args.slot.now.hi) (sym c.is_below.ensures ∙ c.loop-out-test.false)) in
+    omega (arith, ints, end, i.counted, c.in_ok-left-2.ensures.counted)

@@ -1,0 +1,29 @@
+-- Keys put one after another behind a list: the words of this crate's own functions. No public clause names them.
+use Rattle.std.specs.Prelude.{◌≡◌, ℤ, Bool, true, List, [], ◌∷◌, ◌++◌, length}
+use Rattle.std.specs.List.{items_where_true}
+use Rattle.std.specs.List.Retain.{ReturnsInTurn}
+use Rattle.blaze_table.specs.Entries.{Entry, entry, at, SameOption}
+use Rattle.blaze_table.specs.Canonical.{IsCanonical, AreKeys}
+use Rattle.blaze_table.specs.Pairs.{value_at}
+use Rattle.blaze_table.specs.Splice.{glue, IsBelow}
+
+-- the list with the key k behind it, which has a value like v
+pub record AddsKey {V : Type 0} (eq : V → V → Bool) (k : ℤ) (v : V) (old new : List (Entry V)) : Type 0 where
+  pub value : V
+  pub like : eq v value ≡ true
+  pub glued : new ≡ glue eq old (entry k k value ∷ [])
+
+module _ {F T V : Type 0} (R : F → T × V → Bool → F → Type 0) (f : F) (rank : T → ℤ) (eq : V → V → Bool) (low high : ℤ) where
+  -- the closure was asked at the pairs, and the list, which ends below b, has those at which it answered true
+  pub record IsKept (pairs : List (T × V)) (b : ℤ) (es : List (Entry V)) : Type 0 where
+    pub answers : List Bool
+    pub long : length answers ≡ length pairs
+    pub returns : ReturnsInTurn R f answers pairs f
+    pub canonical : IsCanonical eq es
+    pub are_keys : AreKeys low high es
+    pub below : IsBelow b es
+    pub content : (k : ℤ) → SameOption eq (at es k) (value_at rank (items_where_true answers pairs) k)
+
+  -- once more pairs were asked at, of keys from a to below b, the new list has what is kept of them too
+  abbrev pub KeepsMore : List (T × V) → ℤ → ℤ → List (Entry V) → List (Entry V) → Type 0
+  KeepsMore more a b old new = (pairs : List (T × V)) → IsKept pairs a old → IsKept (pairs ++ more) b new
