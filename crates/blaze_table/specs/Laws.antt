@@ -1,9 +1,13 @@
 -- The laws of canonical lists.
-use Rattle.std.specs.Prelude.{◌≡◌, ◌≤◌, ℤ, pos, length, Bool, List}
+use Rattle.std.specs.Prelude.{◌≡◌, ◌↔◌, ◌≤◌, ℤ, pos, length, Bool, List}
 use Rattle.blaze_table.specs.Entries.{Entry, at, SameContent, SameEntries}
-use Rattle.blaze_table.specs.Canonical.{IsDisjoint, IsOnePerRun, IsRangeMap}
+use Rattle.blaze_table.specs.Canonical.{IsDisjoint, IsOnePerRun, IsCanonical, IsRangeMap}
 use Rattle.blaze_table.specs.Count.{keys_in, mapped_keys}
 use Rattle.blaze_table.specs.Pairs.{pair_list, ArePairsOf}
+
+-- a list is canonical by structure exactly where it is so by definition
+abbrev pub StructureIsDefinition : {V : Type 0} → (V → V → Bool) → Type 0
+StructureIsDefinition {V} eq = (L : List (Entry V)) → IsCanonical eq L ↔ IsOnePerRun eq L
 
 -- canonical lists with the same content have the same ranges and equal values, position by position
 abbrev pub CanonicalIsUnique : {V : Type 0} → (V → V → Bool) → Type 0

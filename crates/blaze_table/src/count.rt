@@ -11,6 +11,19 @@ use crate::Slot;
 use blaze_int::compare::{is_at_most, is_below, length};
 use blaze_int::{Integer, SafeLength};
 
+/// How many keys slots have.
+pub fn count<T: Integer, V: Eq>(slots: &[Slot<T, V>]) -> T::SafeLen
+    requires canonical { IsCanonical V.eq (entries_of T.rank slots.now) }
+    requires fits { keys_in (entries_of T.rank slots.now) ≤ℤ pos T.SafeLen.most }
+    ensures { pos (T.SafeLen.number result) ≡ keys_in (entries_of T.rank slots.now) }
+{
+    let mut sum = T::SafeLen::zero();
+    for slot in slots {
+        sum = sum.plus(length(slot.lo, slot.hi));
+    }
+    sum
+}
+
 // The larger of two keys.
 fn later_of<T: Integer>(a: T, b: T) -> T
     ensures { T.rank result ≡ later (T.rank a) (T.rank b) }

@@ -1,7 +1,12 @@
 //! The laws of canonical lists, for every value type with a lawful equality.
-ghost use Rattle.blaze_table.specs.Laws.{CanonicalIsUnique, CanonicalIsFewest, LengthsAreMapped, PairsAreContent};
+ghost use Rattle.blaze_table.specs.Laws.{CanonicalIsUnique, CanonicalIsFewest, LengthsAreMapped, PairsAreContent, StructureIsDefinition};
 
 use blaze_int::Integer;
+
+/// A list is canonical by structure exactly where it is so by definition.
+pub fn structure_is_definition<V: Eq>()
+    ensures { StructureIsDefinition V.eq }
+{}
 
 /// Canonical lists with the same content have the same ranges and equal values, position by position.
 pub fn canonical_is_unique<V: Eq>()

@@ -2,6 +2,7 @@
 #![tactic(auto)]
 
 mod build;
+mod canonical;
 mod copy;
 mod count;
 mod cut;

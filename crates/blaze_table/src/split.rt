@@ -13,25 +13,13 @@ ghost use Rattle.blaze_table.specs.Slots.{entry_of, entries_of};
 
 use crate::Slot;
 use crate::build::{put, put_all, take_below};
+use crate::count::count;
 use crate::search::slot_at;
-use blaze_int::compare::{before, is_at_most, is_below, length};
+use blaze_int::compare::{before, is_at_most, is_below};
 use blaze_int::{Integer, SafeLength};
 use std::alloc::AllocError;
 use std::collections::VecDeque;
 use std::mem;
-
-// How many keys slots have.
-fn count<T: Integer, V: Eq>(slots: &[Slot<T, V>]) -> T::SafeLen
-    requires canonical { IsCanonical V.eq (entries_of T.rank slots.now) }
-    requires fits { keys_in (entries_of T.rank slots.now) ≤ℤ pos T.SafeLen.most }
-    ensures { pos (T.SafeLen.number result) ≡ keys_in (entries_of T.rank slots.now) }
-{
-    let mut sum = T::SafeLen::zero();
-    for slot in slots {
-        sum = sum.plus(length(slot.lo, slot.hi));
-    }
-    sum
-}
 
 // A clone of the value of the slot that starts below a key and holds it, if there is one.
 fn clone_across<T: Integer, V: Eq + Clone>(

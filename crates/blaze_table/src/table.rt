@@ -1,5 +1,5 @@
 //! The table.
-ghost use Rattle.std.specs.Prelude.{◌≡◌, ◌↔◌, ◌-◌, ◌≤ℤ◌, int_lt, pos, [], length, slice_get, find, reverse, false, None, Ok, IfOk, OnOk, OnErr, IsTrue, option_map};
+ghost use Rattle.std.specs.Prelude.{◌≡◌, ◌↔◌, ◌-◌, ◌≤ℤ◌, int_lt, pos, [], length, slice_get, find, reverse, false, None, Ok, IfOk, OnOk, OnErr, IsTrue, option_map, map};
 ghost use Rattle.std.specs.List.Retain.{IsFiltered};
 ghost use Rattle.std.specs.Option.{option_copied};
 ghost use Rattle.blaze_table.specs.Entries.{Entry, entry, at, entry_at, shown_entry, SameOption, SameEntries};
@@ -12,7 +12,9 @@ ghost use Rattle.blaze_table.specs.Retain.{AnswersAt, IsKeyRetained};
 ghost use Rattle.blaze_table.specs.Slots.{entry_of};
 
 use crate::Slot;
+use crate::canonical::slots_of;
 use crate::copy::clone_slots;
+use crate::count::count;
 use crate::cut::cut;
 use crate::gaps::gap_round;
 use crate::into_iter::IntoIter;
@@ -144,6 +146,16 @@ impl<T: Integer, V: Eq> RangeTable<T, V> {
 }
 
 impl<T: Integer, V: Eq + Drop> RangeTable<T, V> {
+    /// The table of a canonical list of entries: first key, last key and value. Refused memory drops the list.
+    pub fn from_canonical(alloc: Global, entries: Vec<(T, T, V)>) -> Result<Self, AllocError>
+        requires { IsRangeMap V.eq T.low T.high (map (shown_entry T.rank (λ v. v)) entries.items) }
+        ensures { IfOk result (λ table. table.entries ≡ map (shown_entry T.rank (λ v. v)) entries.items) }
+    {
+        let slots = slots_of(alloc, entries)?;
+        let len = count(&slots);
+        Ok(RangeTable { slots, len })
+    }
+
     /// Takes all entries out.
     pub fn clear(&mut self)
         ensures { self.new.entries ≡ [] }

@@ -3,7 +3,9 @@ ghost use Rattle.std.proofs.Common.{rules};
 ghost use Rattle.std.specs.Cmp.Rules.{comparing};
 ghost use Rattle.std.specs.Ordering.{on};
 
-use crate::laws::{canonical_is_fewest, canonical_is_unique, lengths_are_mapped};
+use crate::laws::{
+    canonical_is_fewest, canonical_is_unique, lengths_are_mapped, structure_is_definition,
+};
 use crate::table::RangeTable;
 use std::alloc::{AllocError, Global};
 use std::cell::Cell;
@@ -252,5 +254,24 @@ fn paints_that_cut_one_end_need_no_clone(rt: HostRuntime) -> Result<(), Fail> {
     )?;
     assert_eq!(rt; shown(&high, 0), (Some((0, 4, 1)), 2, 10));
     assert_eq!(rt; shown(&high, 9), (Some((5, 9, 2)), 2, 10));
+    Ok(())
+}
+
+#[test]
+fn table_of_a_canonical_list(rt: HostRuntime) -> Result<(), Fail> {
+    structure_is_definition::<char>();
+    let entries = vec![in rt.alloc(); (1i64, 3i64, 'a'), (4, 4, 'b')]?;
+    let made = RangeTable::from_canonical(rt.alloc(), entries)?;
+    check_entries(&rt, &made, &[(1, 3, 'a'), (4, 4, 'b')]);
+    assert_eq!(rt; made.len(), 4);
+    Ok(())
+}
+
+#[test]
+fn retains_keys(rt: HostRuntime) -> Result<(), Fail> {
+    let mut subject = table(rt.alloc(), &[(0, 4, 'a'), (5, 6, 'b')])?;
+    subject.retain_keys(|key, value| *key != 1 && *value == 'a')?;
+    check_entries(&rt, &subject, &[(0, 0, 'a'), (2, 4, 'a')]);
+    assert_eq!(rt; subject.len(), 4);
     Ok(())
 }

@@ -5,7 +5,7 @@ use Rattle.blaze_table.specs.Count.{keys_in}
 use Rattle.blaze_table.specs.Slots.{entries_of}
 use Rattle.blaze_table.proofs.Slots.{rest_is}
 use Rattle.blaze_table.proofs.Counted.{some_keys}
-use Rattle.blaze_table.proofs.split.count.Goals as goal
+use Rattle.blaze_table.proofs.count.count.Goals as goal
 
 pub plus-sum-requires : goal.plus-sum-requires
 plus-sum-requires g c =

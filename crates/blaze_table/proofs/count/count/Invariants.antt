@@ -2,7 +2,7 @@ use Rattle.std.proofs.Common.{◌≡◌, pos, ◌+ℤ◌, drop}
 use Rattle.blaze_table.specs.Canonical.{IsCanonical}
 use Rattle.blaze_table.specs.Count.{keys_in}
 use Rattle.blaze_table.specs.Slots.{entries_of}
-use Rattle.blaze_table.proofs.split.count.Given as goal
+use Rattle.blaze_table.proofs.count.count.Given as goal
 
 abbrev pub invariant-loop-slot : goal.invariant-loop-slot
 invariant-loop-slot g l = record {
