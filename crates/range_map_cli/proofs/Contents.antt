@@ -1,12 +1,14 @@
 -- The content of entries whose values are texts.
-use Rattle.std.proofs.Common.{◌≡◌, ℕ, ℤ, List, [], ◌∷◌, true, false, Bool, cond, refl, sym, ap, ◌∙◌, subst, Option, Some, None, IfSome, string_bytes, int_le, ◌&&◌, option_map, bytes_eq, Result, Ok, Err, IfOk, OnOk}
+use Rattle.std.proofs.Common.{◌≡◌, ℕ, ℤ, List, true, false, Bool, cond, refl, sym, ap, ◌∙◌, Option, Some, None, string_bytes, int_le, ◌&&◌, option_map, Result, Ok, Err, IfOk, OnOk}
 use Rattle.std.specs.declared.string.String.{String}
 use Rattle.std.specs.declared.alloc.Global.{Global}
 use Rattle.std.specs.String.{string_eq}
 use Rattle.std.specs.Cmp.Lexicographic.{bytes_decides}
-use Rattle.blaze_table.specs.Entries.{Entry, entry, at, SameOption}
+use Rattle.std.specs.Ordering.{int_eq}
+use Rattle.std.proofs.lemmas.Option.{same_Some}
+use Rattle.blaze_table.specs.Entries.{Entry, at, SameOption}
 use Rattle.blaze_table.specs.Painted.{painted}
-use Rattle.range_map_cli.specs.Replies.{Content}
+use Rattle.blaze_table.specs.Cut.{cut_at}
 use Rattle.range_map_cli.specs.States.{content_of}
 
 -- equal texts have the same bytes
@@ -15,6 +17,13 @@ same_words None None h = refl
 same_words None (Some y) h = absurd h
 same_words (Some x) None h = absurd h
 same_words (Some x) (Some y) h = ap Some ((bytes_decides (string_bytes x) (string_bytes y)).0 h)
+
+-- and texts of the same bytes are equal
+pub alike_words : (a b : Option (String Global)) → option_map string_bytes a ≡ option_map string_bytes b → SameOption string_eq a b
+alike_words None None e = tt
+alike_words None (Some y) e = cc
+alike_words (Some x) None e = cc
+alike_words (Some x) (Some y) e = (bytes_decides (string_bytes x) (string_bytes y)).1 (same_Some (string_bytes x) (string_bytes y) e)
 
 words_if : (t : Bool) (text : String Global) (old : Option (String Global)) → option_map string_bytes (cond t (Some text) old) ≡ cond t (Some (string_bytes text)) (option_map string_bytes old)
 words_if true text old = refl
@@ -26,6 +35,20 @@ pub content_of-painted : (lo hi : ℤ) (text : String Global) (word : List ℕ) 
 content_of-painted lo hi text word old new same is k =
     let t = int_le lo k && int_le k hi in
     same_words (at new k) (painted lo hi text (at old) k) (same k) ∙ words_if t text (at old k) ∙ ap (λ w. cond t (Some w) (content_of old k)) is
+
+no_word_if : (t : Bool) (old : Option (String Global)) → option_map string_bytes (cond t None old) ≡ cond t None (option_map string_bytes old)
+no_word_if true old = refl
+no_word_if false old = refl
+
+-- the word at a key is taken out
+pub content_of-cut : (k : ℤ) (old new : List (Entry (String Global))) → ((j : ℤ) → SameOption string_eq (at new j) (cut_at k (at old) j)) → (j : ℤ) → content_of new j ≡ cut_at k (content_of old) j
+content_of-cut k old new same j = same_words (at new j) (cut_at k (at old) j) (same j) ∙ no_word_if (int_eq j k) (at old j)
+
+-- the word that a call answers
+pub old_word : {E : Type 0} (es : List (Entry (String Global))) (k key : ℤ) (r : Result (Option (String Global)) E) → k ≡ key → IfOk r (λ old. SameOption string_eq (at es k) old)
+    → IfOk r (λ old. option_map string_bytes old ≡ content_of es key)
+old_word es k key (Ok old) is same = sym (same_words (at es k) old same) ∙ ap (content_of es) is
+old_word es k key (Err e) is same = tt
 
 -- what a call ensures of success, by two clauses
 pub both_ok : {T E : Type 0} (r : Result T E) {P : Type 0} {Q R : T → Type 0} → OnOk r P → IfOk r Q → ((x : T) → P → Q x → R x) → IfOk r R

@@ -12,7 +12,7 @@ use Rattle.range_map_cli.specs.Output.{commands_of, has_bad, before, bad_or, Ans
 use Rattle.range_map_cli.specs.States.{content_of, HasWords}
 use Rattle.range_map_cli.specs.Sessions.{Forwards, IsAt}
 use Rattle.range_map_cli.proofs.Cuts.{nothing_kept}
-use Rattle.range_map_cli.proofs.Forwarding.{Forwards-push, Forwards-trans, Forwards-all}
+use Rattle.range_map_cli.proofs.Forwarding.{Forwards-push, Forwards-trans}
 use Rattle.range_map_cli.proofs.Progress.{asked_here, bad_here, asked_next, answered_next, answers_first, first_answers}
 
 -- all that was to be written was written

@@ -1,5 +1,5 @@
 -- The kept bytes of a line.
-use Rattle.std.proofs.Common.{◌≡◌, ℕ, ◌+◌, ◌-◌, List, [], ◌++◌, length, take, sym, ap, ◌∙◌, arith, length-take, length-append, min, append-nil, ⊎_elim, add_comm}
+use Rattle.std.proofs.Common.{◌≡◌, ℕ, ◌+◌, ◌-◌, List, ◌++◌, length, take, sym, ap, ◌∙◌, arith, length-take, min, append-nil, ⊎_elim}
 use Rattle.std.proofs.lemmas.List.{take_all, take-append-le, take_min}
 use Rattle.std.proofs.Math.Seq.{take-append-add}
 use Rattle.std.proofs.str.Laws.{order}

@@ -6,7 +6,7 @@ use Rattle.std.specs.Cmp.Lexicographic.{bytes_decides}
 use Rattle.std.specs.List.{onto_first, list_all}
 use Rattle.std.specs.Char.{is_ascii_alphanumeric, is_ascii_digit}
 use Rattle.std.proofs.str.Laws.{order}
-use Rattle.range_map_cli.specs.Commands.{Command, Paint, Get, Len, Entries, command_of, command_of_words, paint_of, words_of, number_of, is_word, is_digits}
+use Rattle.range_map_cli.specs.Commands.{Command, Paint, Insert, Remove, Get, At, Len, Entries, command_of, command_of_words, paint_of, insert_of, words_of, number_of, is_word, is_digits}
 use Rattle.range_map_cli.proofs.Texts.{both_true}
 
 -- the bytes of the words, with one more for each
@@ -73,14 +73,26 @@ paint_long lo hi word h =
     both (Some l) None n = refl
     both (Some l) (Some m) n = choose (is_word word) (Some (Paint l m word)) None (λ good. absurd (n good)) refl
 
+-- one of the two is too long
+insert_long : (key word : List ℕ) → 52 < length key + length word → insert_of (number_of key) word ≡ None
+insert_long key word h =
+    ⊎_elim (λ long. ap (λ n. insert_of n word) (number_long key long)) (λ low. with_key (number_of key) (λ good. absurd (omega (arith, low, h, word_short word good)))) (order 20 (length key))
+  where
+    with_key : (a : Option ℤ) → (is_word word ≡ true → ⊥) → insert_of a word ≡ None
+    with_key None n = refl
+    with_key (Some k) n = choose (is_word word) (Some (Insert k word)) None (λ good. absurd (n good)) refl
+
 words_long : (ws : List (List ℕ)) → 81 < total ws → command_of_words ws ≡ None
 unfolding total
 words_long [] h = refl
 words_long (n ∷ []) h =
     choose (bytes_eq n (codes "len")) (Some Len) _ (λ e. absurd (omega (arith, name_length n (codes "len") e)))
     (choose (bytes_eq n (codes "list")) (Some Entries) None (λ e. absurd (omega (arith, name_length n (codes "list") e))) refl)
-words_long (n ∷ k ∷ []) h = choose (bytes_eq n (codes "get")) (option_map Get (number_of k)) None (λ e. ap (option_map Get) (number_long k (omega (arith, name_length n (codes "get") e)))) refl
-words_long (a ∷ b ∷ c ∷ []) h = refl
+words_long (n ∷ k ∷ []) h =
+    choose (bytes_eq n (codes "get")) (option_map Get (number_of k)) _ (λ e. ap (option_map Get) (number_long k (omega (arith, name_length n (codes "get") e))))
+    (choose (bytes_eq n (codes "remove")) (option_map Remove (number_of k)) _ (λ e. ap (option_map Remove) (number_long k (omega (arith, name_length n (codes "remove") e))))
+    (choose (bytes_eq n (codes "at")) (option_map At (number_of k)) None (λ e. ap (option_map At) (number_long k (omega (arith, name_length n (codes "at") e)))) refl))
+words_long (n ∷ k ∷ w ∷ []) h = choose (bytes_eq n (codes "insert")) (insert_of (number_of k) w) None (λ e. insert_long k w (omega (arith, name_length n (codes "insert") e))) refl
 words_long (n ∷ l ∷ k ∷ w ∷ []) h = choose (bytes_eq n (codes "paint")) (paint_of (number_of l) (number_of k) w) None (λ e. paint_long l k w (omega (arith, name_length n (codes "paint") e))) refl
 words_long (a ∷ b ∷ c ∷ d ∷ e ∷ ws) h = refl
 

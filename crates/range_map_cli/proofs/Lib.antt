@@ -10,4 +10,6 @@ pub mod Endings
 pub mod Serving
 pub mod Contents
 pub mod Counting
+pub mod EntryAt
 pub mod Listing
+pub mod Pieces

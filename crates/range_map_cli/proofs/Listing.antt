@@ -13,9 +13,10 @@ use Rattle.blaze_table.specs.Entries.{Entry, entry, at, holds, SameOption}
 use Rattle.blaze_table.specs.Canonical.{IsOnePerRun, IsDisjoint, IsAscending, IsClear, HasStart, HasEnd, IsRunStart, IsRunEnd}
 use Rattle.range_map_blaze.specs.Printed as printed
 use Rattle.range_map_cli.specs.Commands.{is_word, Entries}
-use Rattle.range_map_cli.specs.Replies.{Content, Replies, entry_text, entries_text}
+use Rattle.range_map_cli.specs.Replies.{Replies, entry_text, entries_text}
 use Rattle.range_map_cli.specs.States.{content_of, HasWords}
 use Rattle.range_map_cli.proofs.Texts.{both_true}
+use Rattle.range_map_cli.proofs.EntryAt.{clear_at}
 
 -- the entry with its word, without where it lies
 abbrev word_entry : Entry (String Global) → Entry (List ℕ)
@@ -96,15 +97,6 @@ AreWords (e ∷ es) = (is_word (string_bytes e.value) ≡ true) × AreWords es
 
 holds_lo : (l h : ℤ) → l ≤ℤ h → (int_le l l && int_le l h) ≡ true
 holds_lo l h o = grind (arith, ints)
-
--- a key of the first entry is in no other
-clear_at : (e : Entry (String Global)) (es : List (Entry (String Global))) (k : ℤ) → IsClear e es → holds e k ≡ true → at es k ≡ None
-clear_at e [] k h in' = refl
-clear_at e (f ∷ fs) k h in' = skip (holds f k) (λ t. h.0 k in' t) ∙ clear_at e fs k h.1 in'
-  where
-    skip : (t : Bool) → (t ≡ true → ⊥) → cond t (Some f.value) (at fs k) ≡ at fs k
-    skip true never = absurd (never refl)
-    skip false never = refl
 
 rest_words : (e : Entry (String Global)) (es : List (Entry (String Global))) → IsClear e es → HasWords (content_of (e ∷ es)) → HasWords (content_of es)
 rest_words e es clear words k = by_cases (holds e k) (words k) (clear_at e es k clear)

@@ -1,13 +1,12 @@
 -- Where a session is, where the bytes of its reader are known.
-use Rattle.std.proofs.Common.{◌≡◌, ℕ, ◌+◌, List, [], ◌++◌, length, take, refl, sym, ap, ◌∙◌, subst, arith, append-nil, Option, Some, None, IfSome, min}
+use Rattle.std.proofs.Common.{◌≡◌, ℕ, List, [], ◌++◌, length, refl, sym, ap, ◌∙◌, subst, arith, append-nil, Option, Some, None, IfSome}
 use Rattle.std.proofs.KnownBytes.{Appends-nil, Consumes-kept}
-use Rattle.std.specs.Io.KnownBytes.{Appends, Consumes, IsAtEnd, Keeps}
+use Rattle.std.specs.Io.KnownBytes.{Appends, Consumes, Keeps}
 use Rattle.range_map_cli.specs.declared.session.Session.{Session}
 use Rattle.range_map_cli.specs.declared.End.{End}
 use Rattle.range_map_cli.specs.declared.End.TheVariants as ends
-use Rattle.range_map_cli.specs.Lines.{lines_of, ends_in}
-use Rattle.range_map_cli.specs.Replies.{nothing}
-use Rattle.range_map_cli.specs.Output.{commands_of, Answers, AnswersFirst, no_memory, Prints, Closes, Streams}
+use Rattle.range_map_cli.specs.Lines.{ends_in}
+use Rattle.range_map_cli.specs.Output.{AnswersFirst, no_memory, Prints, Closes, Streams}
 use Rattle.range_map_cli.specs.States.{content_of}
 use Rattle.range_map_cli.specs.Sessions.{Forwards, IsAt, IsServing}
 use Rattle.range_map_cli.proofs.Cuts.{ends_in-append}

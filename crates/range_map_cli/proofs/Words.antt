@@ -1,9 +1,9 @@
 -- What a line asks, by the words that were cut off it.
-use Rattle.std.proofs.Common.{◌≡◌, ℕ, ◌<◌, List, [], ◌∷◌, ◌++◌, length, true, false, cond, eqb, refl, ap, ◌∙◌, arith, Bool, Option, None}
+use Rattle.std.proofs.Common.{◌≡◌, ℕ, ◌<◌, List, [], ◌∷◌, ◌++◌, length, true, false, cond, eqb, refl, ap, ◌∙◌, arith, Bool, None}
 use Rattle.std.specs.List.{onto_first}
 use Rattle.std.proofs.lemmas.List.Splits.{slice_split_at, slice_split_none}
 use Rattle.range_map_cli.specs.Lines.{Lacks}
-use Rattle.range_map_cli.specs.Commands.{Command, words_of, command_of, command_of_words}
+use Rattle.range_map_cli.specs.Commands.{words_of, command_of, command_of_words}
 
 -- a line that is not empty asks what its words ask
 by_words : (line : List ℕ) → 0 < length line → command_of line ≡ command_of_words (words_of line)
@@ -28,7 +28,7 @@ module _ (line a r : List ℕ) (some : 0 < length line) (no_a : Lacks 32 a) (e :
     rest_of_two : words_of line ≡ a ∷ b ∷ words_of s
     rest_of_two = cut_word line a r no_a e ∙ ap (λ ws. a ∷ ws) (cut_word r b s no_b f)
 
-    pub three_words : Lacks 32 s → command_of line ≡ None
+    pub three_words : Lacks 32 s → command_of line ≡ command_of_words (a ∷ b ∷ s ∷ [])
     three_words h = by_words line some ∙ ap command_of_words (rest_of_two ∙ ap (λ ws. a ∷ b ∷ ws) (last_word s h))
 
     module _ (c t : List ℕ) (no_c : Lacks 32 c) (g : s ≡ c ++ 32 ∷ t) where

@@ -1,5 +1,5 @@
 -- What a line asks.
-use Rattle.std.specs.Prelude.{◌≡◌, ℕ, ◌≤◌, ◌^◌, List, [], ◌∷◌, length, Bool, true, false, ◌&&◌, if◌then◌else◌, ◌==◌, nat_le, nat_lt, ℤ, pos, neg_ℤ, codes, Option, Some, None}
+use Rattle.std.specs.Prelude.{ℕ, ◌^◌, List, [], ◌∷◌, length, Bool, ◌&&◌, if◌then◌else◌, ◌==◌, nat_le, nat_lt, ℤ, pos, neg_ℤ, codes, Option, Some, None}
 use Rattle.std.specs.List.{slice_split, list_all}
 use Rattle.std.specs.Option.{option_map}
 use Rattle.std.specs.Char.{is_ascii_digit, is_ascii_alphanumeric}
@@ -8,11 +8,15 @@ use Rattle.std.specs.Str.Parse.{digits_value}
 use Rattle.range_map_cli.specs.declared.request.Request.{Request}
 use Rattle.range_map_cli.specs.declared.request.Request.TheVariants as requests
 
--- what a good line asks: nothing, a paint of the keys from one to another, the word at a key, the number of keys, or all entries
+-- what a good line asks: nothing, a paint of the keys from one to another, a word put on a key, a key taken out, the word
+-- at a key, the entry or the gap round a key, the number of keys, or all entries
 pub data Command : Type 0 where
   Blank : Command
   Paint : ℤ → ℤ → List ℕ → Command
+  Insert : ℤ → List ℕ → Command
+  Remove : ℤ → Command
   Get : ℤ → Command
+  At : ℤ → Command
   Len : Command
   Entries : Command
 
@@ -41,6 +45,11 @@ paint_of None hi word = None
 paint_of (Some lo) None word = None
 paint_of (Some lo) (Some hi) word = if is_word word then Some (Paint lo hi word) else None
 
+-- a command of a number and a word
+abbrev pub insert_of : Option ℤ → List ℕ → Option Command
+insert_of None word = None
+insert_of (Some key) word = if is_word word then Some (Insert key word) else None
+
 -- what the words of a line that is not empty ask, or none where the line is bad
 abbrev pub command_of_words : List (List ℕ) → Option Command
 command_of_words [] = None
@@ -48,8 +57,11 @@ command_of_words (name ∷ []) =
     if bytes_eq name (codes "len") then Some Len else
     (if bytes_eq name (codes "list") then Some Entries else None)
 command_of_words (name ∷ key ∷ []) =
-    if bytes_eq name (codes "get") then option_map Get (number_of key) else None
-command_of_words (_ ∷ _ ∷ _ ∷ []) = None
+    if bytes_eq name (codes "get") then option_map Get (number_of key) else
+    (if bytes_eq name (codes "remove") then option_map Remove (number_of key) else
+    (if bytes_eq name (codes "at") then option_map At (number_of key) else None))
+command_of_words (name ∷ key ∷ word ∷ []) =
+    if bytes_eq name (codes "insert") then insert_of (number_of key) word else None
 command_of_words (name ∷ lo ∷ hi ∷ word ∷ []) =
     if bytes_eq name (codes "paint") then paint_of (number_of lo) (number_of hi) word else None
 command_of_words (_ ∷ _ ∷ _ ∷ _ ∷ _ ∷ _) = None
@@ -63,6 +75,9 @@ command_of (b ∷ bs) = command_of_words (words_of (b ∷ bs))
 abbrev pub asked : Request → Command
 asked requests.Blank = Blank
 asked (requests.Paint lo hi word) = Paint lo hi word.now
+asked (requests.Insert key word) = Insert key word.now
+asked (requests.Remove key) = Remove key
 asked (requests.Get key) = Get key
+asked (requests.At key) = At key
 asked requests.Len = Len
 asked requests.Entries = Entries

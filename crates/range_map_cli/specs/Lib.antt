@@ -1,5 +1,6 @@
 pub mod Lines
 pub mod Commands
+pub mod Pieces
 pub mod Replies
 pub mod Output
 pub mod States

@@ -6,7 +6,9 @@ use Rattle.blaze_table.specs.Entries.{Entry, at}
 use Rattle.blaze_table.specs.Canonical.{IsOnePerRun}
 use Rattle.blaze_table.specs.Count.{mapped_keys}
 use Rattle.blaze_table.specs.Painted.{painted}
-use Rattle.range_map_cli.specs.Commands.{Command, Blank, Paint, Get, Len, Entries}
+use Rattle.blaze_table.specs.Cut.{cut_at}
+use Rattle.range_map_cli.specs.Commands.{Command, Blank, Paint, Insert, Remove, Get, At, Len, Entries}
+use Rattle.range_map_cli.specs.Pieces.{IsPiece}
 
 -- the word at each key, or none
 abbrev pub Content : Type 0
@@ -16,15 +18,26 @@ Content = ℤ → Option (List ℕ)
 abbrev pub nothing : Content
 nothing key = None
 
+-- keys are the i64: the least
+abbrev pub least_key : ℤ
+least_key = negsuc (2 ^ 63 - 1)
+
+-- and the greatest
+abbrev pub greatest_key : ℤ
+greatest_key = pos (2 ^ 63 - 1)
+
 -- how many keys of the i64 have a word
 abbrev pub key_count : Content → ℕ
-key_count content = mapped_keys (negsuc (2 ^ 63 - 1)) (pos (2 ^ 63 - 1)) content
+key_count content = mapped_keys least_key greatest_key content
 
 -- the content after a command
 abbrev pub after : Command → Content → Content
 after Blank content = content
 after (Paint lo hi word) content = painted lo hi word content
+after (Insert key word) content = painted key key word content
+after (Remove key) content = cut_at key content
 after (Get key) content = content
+after (At key) content = content
 after Len content = content
 after Entries content = content
 
@@ -46,6 +59,10 @@ abbrev pub word_or_dash : Option (List ℕ) → List ℕ
 word_or_dash None = codes "-"
 word_or_dash (Some word) = word
 
+-- 1..=2 a
+abbrev pub piece_text : ℤ → ℤ → Option (List ℕ) → List ℕ
+piece_text lo hi word = signed_decimal lo ++ (codes "..=" ++ (signed_decimal hi ++ (codes " " ++ word_or_dash word)))
+
 -- a text, and the LF that ends its line
 abbrev pub line : List ℕ → List ℕ
 line text = text ++ 10 ∷ []
@@ -54,6 +71,9 @@ line text = text ++ 10 ∷ []
 abbrev pub Replies : Content → Command → List ℕ → Type 0
 Replies content Blank text = text ≡ []
 Replies content (Paint lo hi word) text = text ≡ line (if key_count (painted lo hi word content) == key_count content then codes "false" else codes "true")
+Replies content (Insert key word) text = text ≡ line (word_or_dash (content key))
+Replies content (Remove key) text = text ≡ line (word_or_dash (content key))
 Replies content (Get key) text = text ≡ line (word_or_dash (content key))
+Replies content (At key) text = (lo hi : ℤ) × IsPiece least_key greatest_key content key lo hi × (text ≡ line (piece_text lo hi (content key)))
 Replies content Len text = text ≡ line (decimal (key_count content))
 Replies content Entries text = (listed : List ℕ) × Lists content listed × (text ≡ line listed)

@@ -1,5 +1,5 @@
 -- The content of a range map of words.
-use Rattle.std.specs.Prelude.{◌≡◌, ℕ, ℤ, List, Option, IfSome, true, string_bytes}
+use Rattle.std.specs.Prelude.{◌≡◌, ℤ, List, IfSome, true, string_bytes}
 use Rattle.std.specs.Option.{option_map}
 use Rattle.std.specs.declared.string.String.{String}
 use Rattle.std.specs.declared.alloc.Global.{Global}

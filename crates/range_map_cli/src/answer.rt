@@ -1,8 +1,11 @@
 //! What a request answers, by the range map.
-ghost use Rattle.std.specs.Prelude.{◌≡◌, ◌↔◌, ℤ, IsTrue, IfOk, OnOk, string_bytes};
+ghost use Rattle.std.specs.Prelude.{◌≡◌, ◌↔◌, ℤ, IsTrue, IfOk, OnOk, option_map, string_bytes};
+ghost use Rattle.std.specs.Option.{option_copied};
+ghost use Rattle.blaze_table.specs.Cut.{cut_at};
 ghost use Rattle.blaze_table.specs.Painted.{painted};
 ghost use Rattle.range_map_cli.specs.Commands.{asked};
-ghost use Rattle.range_map_cli.specs.Replies.{after, key_count, word_or_dash as shown_word, Replies};
+ghost use Rattle.range_map_cli.specs.Pieces.{IsPiece};
+ghost use Rattle.range_map_cli.specs.Replies.{after, greatest_key, key_count, least_key, word_or_dash as shown_word, Replies};
 ghost use Rattle.range_map_cli.specs.States.{content_of, HasWords};
 
 use crate::request::Request;
@@ -27,14 +30,46 @@ fn paint(
     map.ranges_insert(lo..=hi, String::from_str(alloc, word)?)
 }
 
-/// The word at a key, or a dash.
-fn word_or_dash(map: &RangeMapBlaze<i64, String>, key: i64) -> &str
-    ensures { result.now ≡ shown_word (content_of map.now.entries key) }
+/// Puts a word on a key, and answers the word that was there.
+fn insert(
+    map: &mut RangeMapBlaze<i64, String>,
+    alloc: Global,
+    key: i64,
+    word: &str,
+) -> Result<Option<String>, AllocError>
+    ensures content { OnOk result ((j : ℤ) → content_of map.new.entries j ≡ painted key key word.now (content_of map.old.entries) j) }
+    ensures old { IfOk result (λ old. option_map string_bytes old ≡ content_of map.old.entries key) }
 {
-    match map.get(key) {
+    map.insert(key, String::from_str(alloc, word)?)
+}
+
+/// Takes a key out, and answers the word that was there.
+fn remove(map: &mut RangeMapBlaze<i64, String>, key: i64) -> Result<Option<String>, AllocError>
+    ensures content { OnOk result ((j : ℤ) → content_of map.new.entries j ≡ cut_at key (content_of map.old.entries) j) }
+    ensures old { IfOk result (λ old. option_map string_bytes old ≡ content_of map.old.entries key) }
+{
+    map.remove(key)
+}
+
+/// A word, or a dash where there is none.
+fn word_or_dash(word: Option<&String>) -> &str
+    ensures { result.now ≡ shown_word (option_map string_bytes (option_copied word.entry)) }
+{
+    match word {
         Some(word) => word.as_str(),
         None => "-",
     }
+}
+
+/// The first and the last key of the entry that holds a key, or of the gap round it, with its word, or a dash.
+fn piece_at(map: &RangeMapBlaze<i64, String>, key: i64) -> (i64, i64, &str)
+    ensures piece { IsPiece least_key greatest_key (content_of map.now.entries) key result.0 result.1 }
+    ensures word { result.2.now ≡ shown_word (content_of map.now.entries key) }
+{
+    map.in_hand();
+    let (range, word) = map.range_or_gap_at(key);
+    let (start, end) = range.into_inner();
+    (start, end, word_or_dash(word))
 }
 
 /// Does what is asked, and puts what is printed for it in the place of the reply.
@@ -54,9 +89,23 @@ pub fn answer(
             let changed = paint(map, alloc, lo, hi, word)?;
             writeln!(reply, "{changed}")
         }
+        Request::Insert(key, word) => {
+            let replaced = insert(map, alloc, key, word)?;
+            let old = word_or_dash(replaced.as_ref());
+            writeln!(reply, "{old}")
+        }
+        Request::Remove(key) => {
+            let removed = remove(map, key)?;
+            let taken = word_or_dash(removed.as_ref());
+            writeln!(reply, "{taken}")
+        }
         Request::Get(key) => {
-            let word = word_or_dash(map, key);
+            let word = word_or_dash(map.get(key));
             writeln!(reply, "{word}")
+        }
+        Request::At(key) => {
+            let (start, end, word) = piece_at(map, key);
+            writeln!(reply, "{start}..={end} {word}")
         }
         Request::Len => {
             let len = map.len();

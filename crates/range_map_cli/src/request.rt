@@ -12,7 +12,10 @@ use crate::split::split_once;
 pub enum Request<'a> {
     Blank,
     Paint(i64, i64, &'a str),
+    Insert(i64, &'a str),
+    Remove(i64),
     Get(i64),
+    At(i64),
     Len,
     Entries,
 }
@@ -90,6 +93,22 @@ fn read_two(name: &[u8], key: &[u8]) -> Option<Request<'static>>
 {
     if name == b"get".as_slice() {
         Some(Request::Get(number(key)?))
+    } else if name == b"remove".as_slice() {
+        Some(Request::Remove(number(key)?))
+    } else if name == b"at".as_slice() {
+        Some(Request::At(number(key)?))
+    } else {
+        None
+    }
+}
+
+/// What a line of three words asks.
+fn read_three<'a>(name: &[u8], key: &[u8], value: &'a [u8]) -> Option<Request<'a>>
+    ensures { option_map asked result ≡ command_of_words (name.now ∷ key.now ∷ value.now ∷ []) }
+{
+    if name == b"insert".as_slice() {
+        let key = number(key)?;
+        Some(Request::Insert(key, word(value)?))
     } else {
         None
     }
@@ -121,7 +140,9 @@ pub fn read(line: &[u8]) -> Option<Request<'_>>
     let Some((first, rest)) = split_once(rest, b' ') else {
         return read_two(name, rest);
     };
-    let (second, third) = split_once(rest, b' ')?;
+    let Some((second, third)) = split_once(rest, b' ') else {
+        return read_three(name, first, rest);
+    };
     match split_once(third, b' ') {
         Some(_) => None,
         None => read_four(name, first, second, third),

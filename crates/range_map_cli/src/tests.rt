@@ -4,6 +4,7 @@ use crate::{End, serve};
 use std::alloc::{AllocError, Global};
 use std::io;
 use std::io::{Read, Write};
+use std::process::Abort;
 use std::test::Fail;
 
 const FIRST_INPUT: &[u8] = b"paint 2 5 a\npaint 3 4 b\nget 4\nlen\nlist\n";
@@ -16,6 +17,13 @@ fn answers_to(alloc: Global, text: &[u8]) -> (Vec<u8>, End) {
     let mut input = text;
     let end = serve(alloc, &mut input, &mut output);
     (output, end)
+}
+
+/// The text is answered so, and ends so.
+fn assert_answers(rt: &impl Abort, alloc: Global, text: &[u8], want: &[u8], end: End) {
+    let (output, ended) = answers_to(alloc, text);
+    assert_eq!(rt; output.as_slice(), want);
+    assert_eq!(rt; ended, end);
 }
 
 #[test]
@@ -39,19 +47,37 @@ fn texts(rt: HostRuntime) {
             End::Done,
         ),
         (
-            b"paint 1 3 a\npaint 4 4 a\nlist\nat 2\n".as_slice(),
-            b"true\ntrue\n(1..=4, \"a\")\nerror line 4\n".as_slice(),
-            End::BadLine,
-        ),
-        (
             b"paint -9223372036854775808 -9223372036854775808 abcdefghijklmnopqrstuvwxyzABCDEF".as_slice(),
             b"true\n".as_slice(),
             End::Done,
         ),
     ] {
-        let (output, ended) = answers_to(rt.alloc(), input);
-        assert_eq!(rt; output.as_slice(), want);
-        assert_eq!(rt; ended, end);
+        assert_answers(&rt, rt.alloc(), input, want, end);
+    }
+}
+
+#[test]
+fn single_keys(rt: HostRuntime) {
+    for (input, want) in [
+        (
+            b"paint 1 3 red\npaint 7 10 blue\nat 5\nat 2\nget 4\ninsert 8 red\nlen\nlist\n".as_slice(),
+            b"true\ntrue\n4..=6 -\n1..=3 red\n-\nblue\n7\n(1..=3, \"red\"), (7..=7, \"blue\"), (8..=8, \"red\"), (9..=10, \"blue\")\n".as_slice(),
+        ),
+        (
+            b"paint 1 3 a\npaint 4 4 a\nlist\nat 2\n".as_slice(),
+            b"true\ntrue\n(1..=4, \"a\")\n1..=4 a\n".as_slice(),
+        ),
+        (b"remove 3\n".as_slice(), b"-\n".as_slice()),
+        (
+            b"insert 5 x\nremove 5\nremove 5\nlen\n".as_slice(),
+            b"-\nx\n-\n0\n".as_slice(),
+        ),
+        (
+            b"at 0\n".as_slice(),
+            b"-9223372036854775808..=9223372036854775807 -\n".as_slice(),
+        ),
+    ] {
+        assert_answers(&rt, rt.alloc(), input, want, End::Done);
     }
 }
 
@@ -69,16 +95,28 @@ fn bad_lines(rt: HostRuntime) -> Result<(), Fail> {
         b"get -".as_slice(),
         b"get".as_slice(),
         b"list\r".as_slice(),
-        b"insert 1 a".as_slice(),
-        b"remove 1".as_slice(),
         b"fill 1 2 a".as_slice(),
         long.as_slice(),
     ] {
-        let (output, end) = answers_to(rt.alloc(), line);
-        assert_eq!(rt; output.as_slice(), b"error line 1\n".as_slice());
-        assert_eq!(rt; end, End::BadLine);
+        assert_answers(&rt, rt.alloc(), line, b"error line 1\n", End::BadLine);
     }
     Ok(())
+}
+
+#[test]
+fn bad_lines_of_single_keys(rt: HostRuntime) {
+    for line in [
+        b"insert 1".as_slice(),
+        b"insert 1 a b".as_slice(),
+        b"insert x a".as_slice(),
+        b"insert 1 -".as_slice(),
+        b"remove".as_slice(),
+        b"remove 1 2".as_slice(),
+        b"at".as_slice(),
+        b"at x".as_slice(),
+    ] {
+        assert_answers(&rt, rt.alloc(), line, b"error line 1\n", End::BadLine);
+    }
 }
 
 /// Gives its text in pieces of at most `step` bytes, and fails once `left` bytes were given.

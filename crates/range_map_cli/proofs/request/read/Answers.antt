@@ -1,4 +1,4 @@
-use Rattle.std.proofs.Common.{◌≡◌, ◌<◌, length, sym, ◌∙◌, arith, false-eqb}
+use Rattle.std.proofs.Common.{◌<◌, length, sym, ◌∙◌, arith, false-eqb}
 use Rattle.range_map_cli.proofs.Words.{one_word, two_words, three_words, four_words, many_words}
 use Rattle.range_map_cli.proofs.request.read.Goals as goal
 
@@ -12,17 +12,17 @@ returns-in_default-split_once c =
     let some : 0 < length c.args.line.now = omega (arith, false-eqb _ 0 c.if-is_empty.ensures) in
     c.read_two.ensures ∙ sym (two_words c.args.line.now _ _ some c.in-Some.ensures.0 c.in-Some.ensures.1 c.in_default-split_once.ensures)
 
-pub returns-in_err-second : goal.returns-in_err-second
-returns-in_err-second c =
+pub returns-in_default-split_once-2 : goal.returns-in_default-split_once-2
+returns-in_default-split_once-2 c =
     let some : 0 < length c.args.line.now = omega (arith, false-eqb _ 0 c.if-is_empty.ensures) in
-    rw c.from_residual.ensures (sym (three_words c.args.line.now _ _ some c.in-Some.ensures.0 c.in-Some.ensures.1 _ _ c.in-Some-split_once.ensures.0 c.in-Some-split_once.ensures.1 c.in_err-second.ensures))
+    c.read_three.ensures ∙ sym (three_words c.args.line.now _ _ some c.in-Some.ensures.0 c.in-Some.ensures.1 _ _ c.in-Some-split_once.ensures.0 c.in-Some-split_once.ensures.1 c.in_default-split_once-2.ensures)
 
-pub returns-in-Some-split_once-2 : goal.returns-in-Some-split_once-2
-returns-in-Some-split_once-2 c =
+pub returns-in-Some-split_once-3 : goal.returns-in-Some-split_once-3
+returns-in-Some-split_once-3 c =
     let some : 0 < length c.args.line.now = omega (arith, false-eqb _ 0 c.if-is_empty.ensures) in
-    sym (many_words c.args.line.now _ _ some c.in-Some.ensures.0 c.in-Some.ensures.1 _ _ c.in-Some-split_once.ensures.0 c.in-Some-split_once.ensures.1 _ _ c.in_ok-second.ensures.0 c.in_ok-second.ensures.1 _ _ c.in-Some-split_once-2.ensures.0 c.in-Some-split_once-2.ensures.1)
+    sym (many_words c.args.line.now _ _ some c.in-Some.ensures.0 c.in-Some.ensures.1 _ _ c.in-Some-split_once.ensures.0 c.in-Some-split_once.ensures.1 _ _ c.in-Some-split_once-2.ensures.0 c.in-Some-split_once-2.ensures.1 _ _ c.in-Some-split_once-3.ensures.0 c.in-Some-split_once-3.ensures.1)
 
 pub returns-in-None : goal.returns-in-None
 returns-in-None c =
     let some : 0 < length c.args.line.now = omega (arith, false-eqb _ 0 c.if-is_empty.ensures) in
-    c.read_four.ensures ∙ sym (four_words c.args.line.now _ _ some c.in-Some.ensures.0 c.in-Some.ensures.1 _ _ c.in-Some-split_once.ensures.0 c.in-Some-split_once.ensures.1 _ _ c.in_ok-second.ensures.0 c.in_ok-second.ensures.1 c.in-None.ensures)
+    c.read_four.ensures ∙ sym (four_words c.args.line.now _ _ some c.in-Some.ensures.0 c.in-Some.ensures.1 _ _ c.in-Some-split_once.ensures.0 c.in-Some-split_once.ensures.1 _ _ c.in-Some-split_once-2.ensures.0 c.in-Some-split_once-2.ensures.1 c.in-None.ensures)

@@ -1,4 +1,4 @@
-use Rattle.std.proofs.Common.{◌≡◌, [], length, ap, ◌∙◌, sym, false-eqb}
+use Rattle.std.proofs.Common.{[], length, ap, ◌∙◌, sym, false-eqb}
 use Rattle.std.proofs.lemmas.Bool.{eqb-true}
 use Rattle.range_map_cli.specs.declared.End.TheVariants as ends
 use Rattle.range_map_cli.proofs.Cuts.{empty_list}

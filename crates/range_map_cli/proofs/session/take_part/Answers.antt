@@ -1,7 +1,6 @@
-use Rattle.std.proofs.Common.{◌++◌, ap, subst, sym}
+use Rattle.std.proofs.Common.{◌++◌, subst, sym}
 use Rattle.range_map_cli.proofs.Progress.{next_part}
 use Rattle.range_map_cli.proofs.Endings.{prints_no_memory, behind}
-use Rattle.range_map_cli.proofs.Serving.{serving_start}
 use Rattle.range_map_cli.specs.declared.session.Session.{Session}
 use Rattle.range_map_cli.specs.declared.End.TheVariants as ends
 use Rattle.range_map_cli.specs.Output.{no_memory, Prints}
