@@ -3,11 +3,13 @@
 
 mod display;
 mod insert;
+mod iter;
 mod lookup;
 mod map;
 mod remove;
 mod retain;
 
 pub use blaze_int::{Integer, SafeLength, UIntPlusOne, bounds_of, names_a_key};
-pub use blaze_streams::RangeValuesIter;
+pub use blaze_iters::{IntoIterMap, IntoKeys, IntoValues, IterMap, Keys, Values};
+pub use blaze_streams::{BothEnds, RangeValuesIter, SortedDisjointMap, ValueCarrier};
 pub use map::RangeMapBlaze;

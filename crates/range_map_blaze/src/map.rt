@@ -83,7 +83,7 @@ impl<T: Integer, V: Eq> RangeMapBlaze<T, V> {
         self.ranges_len()
     }
 
-    /// The entries, ascending: each range with its value.
+    /// The entries, ascending: each range with its value, from both ends.
     pub fn range_values(&self) -> RangeValuesIter<'_, T, V>
         ensures { result ≡ self.now.entries }
     {

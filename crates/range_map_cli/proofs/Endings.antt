@@ -30,9 +30,9 @@ closes_all held now later text out bytes end first prints h = closes end (subst 
     closes ends.WriteFault p = absurd p
 
 -- the writer failed in it
-pub closes_lost : (held now later : Option (List ℕ)) (text out bytes lost : List ℕ) (end : End) → Appends held now out → Prints text end (out ++ bytes) → Forwards now later bytes lost → Closes held later text ends.WriteFault
-closes_lost held now later text out bytes lost end first prints h =
-    (out ++ h.0, Appends-trans held now later out h.0 first h.1, (end, lost, subst (Prints text end) (ap (λ l. out ++ l) h.2 ∙ sym (append_assoc out h.0 lost)) prints))
+pub closes_lost : (held now later : Option (List ℕ)) (text out bytes lost : List ℕ) (end : End) → Appends held now out → Prints text end (out ++ bytes) → Forwards now later bytes lost → (lost ≡ [] → ⊥) → Closes held later text ends.WriteFault
+closes_lost held now later text out bytes lost end first prints h some =
+    (out ++ h.0, Appends-trans held now later out h.0 first h.1, (end, lost, subst (Prints text end) (ap (λ l. out ++ l) h.2 ∙ sym (append_assoc out h.0 lost)) prints, some))
 
 -- a last text, behind what waits
 module _ (held now : Option (List ℕ)) (text : List ℕ) (session : Session) (rest : List ℕ) (lines : ℕ) (at : IsAt held now text session rest lines) where
@@ -43,10 +43,10 @@ module _ (held now : Option (List ℕ)) (text : List ℕ) (session : Session) (r
   prints_no_memory = (length at.commands, at.answers, answers_first held now text session rest lines at, refl)
 
   -- what waits could not be written
-  pub closes_waiting : (later : Option (List ℕ)) (lost : List ℕ) → Forwards now later session.waiting.items lost → Closes held later text ends.WriteFault
-  closes_waiting later lost h =
+  pub closes_waiting : (later : Option (List ℕ)) (lost : List ℕ) → Forwards now later session.waiting.items lost → (lost ≡ [] → ⊥) → Closes held later text ends.WriteFault
+  closes_waiting later lost h some =
       let all = Forwards-trans held now later at.answers session.waiting.items lost at.forwards h in
-      (all.0, all.1, (ends.ReadFault, lost, (length at.commands, subst (λ l. Answers nothing (take (length at.commands) (commands_of (lines_of text))) l) all.2 (answers_first held now text session rest lines at))))
+      (all.0, all.1, (ends.ReadFault, lost, (length at.commands, subst (λ l. Answers nothing (take (length at.commands) (commands_of (lines_of text))) l) all.2 (answers_first held now text session rest lines at)), some))
 
   -- reading failed where nothing waits
   pub closes_read : session.waiting.items ≡ [] → Closes held now text ends.ReadFault
@@ -77,10 +77,10 @@ module _ (held now : Option (List ℕ)) (text : List ℕ) (session : Session) (r
 
   -- the reply could not be written
   pub closes_reply : (later : Option (List ℕ)) (command : Command) (reply lost : List ℕ) → command_of session.line.items ≡ Some command
-      → (HasWords (content_of session.map.entries) → Replies (content_of session.map.entries) command reply) → Forwards now later (session.waiting.items ++ reply) lost → Closes held later text ends.WriteFault
-  closes_reply later command reply lost is replies h =
+      → (HasWords (content_of session.map.entries) → Replies (content_of session.map.entries) command reply) → Forwards now later (session.waiting.items ++ reply) lost → (lost ≡ [] → ⊥) → Closes held later text ends.WriteFault
+  closes_reply later command reply lost is replies h some =
       let all = Forwards-trans held now later (at.answers ++ reply) (session.waiting.items ++ reply) lost (Forwards-push held now at.answers session.waiting.items reply at.forwards) h in
       let answered = answered_next held now text session rest lines at command reply is replies in
       let asked = asked_next held now text session rest lines at command reply is replies in
       let commands = at.commands ++ command ∷ [] in
-      (all.0, all.1, (ends.ReadFault, lost, (length commands, subst (λ l. Answers nothing (take (length commands) (commands_of (lines_of text))) l) all.2 (first_answers text commands (commands_of (lines_of rest)) (at.answers ++ reply) asked answered))))
+      (all.0, all.1, (ends.ReadFault, lost, (length commands, subst (λ l. Answers nothing (take (length commands) (commands_of (lines_of text))) l) all.2 (first_answers text commands (commands_of (lines_of rest)) (at.answers ++ reply) asked answered)), some))

@@ -1,8 +1,13 @@
 -- What a writer took and what waits, from one step to the next.
-use Rattle.std.proofs.Common.{◌≡◌, ℕ, List, [], ◌++◌, sym, ap, ◌∙◌, append_assoc, append-nil, Option}
+use Rattle.std.proofs.Common.{◌≡◌, ℕ, List, [], ◌∷◌, ◌++◌, refl, sym, ap, ◌∙◌, append_assoc, append-nil, Option}
 use Rattle.std.proofs.KnownBytes.{Appends-trans}
 use Rattle.std.specs.Io.KnownBytes.{Appends}
 use Rattle.range_map_cli.specs.Sessions.{Forwards}
+
+-- where nothing is behind nothing
+pub front_none : (xs ys : List ℕ) → xs ++ ys ≡ [] → xs ≡ []
+front_none [] ys e = refl
+front_none (x ∷ xs) ys e = cc
 
 pub Forwards-all : (a b : Option (List ℕ)) (all waits : List ℕ) → Appends a b all → waits ≡ [] → Forwards a b all waits
 Forwards-all a b all waits h none = (all, h, sym (ap (λ l. all ++ l) none ∙ append-nil all))

@@ -60,9 +60,9 @@ serving_stop held now later (Some text) (Some rest) (Some more) session bytes en
 -- what was read was taken, but what waits could not be written
 pub serving_lost : (held now later last had mid has : Option (List ℕ)) (session fed : Session) (bytes lost : List ℕ) → IsServing held now had mid session → Consumes mid has bytes
     → ((text rest : List ℕ) (lines : ℕ) → IsAt held now text session (bytes ++ rest) lines → IsAt held later text fed rest lines)
-    → Forwards later last fed.waiting.items lost → IfSome had (λ text. Closes held last text ends.WriteFault)
-serving_lost held now later last had mid has session fed bytes lost at gave step h =
-    serving_stop held now last had mid has session bytes ends.WriteFault at gave (λ text rest lines here. closes_waiting held later text fed rest lines (step text rest lines here) last lost h)
+    → Forwards later last fed.waiting.items lost → (lost ≡ [] → ⊥) → IfSome had (λ text. Closes held last text ends.WriteFault)
+serving_lost held now later last had mid has session fed bytes lost at gave step h some =
+    serving_stop held now last had mid has session bytes ends.WriteFault at gave (λ text rest lines here. closes_waiting held later text fed rest lines (step text rest lines here) last lost h some)
 
 -- reading failed
 pub serving_read : (held now had mid : Option (List ℕ)) (session : Session) → IsServing held now had mid session → session.waiting.items ≡ [] → IfSome had (λ text. Closes held now text ends.ReadFault)

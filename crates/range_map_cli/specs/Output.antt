@@ -56,13 +56,13 @@ Prints text ends.NoMemory out = (n : ℕ) × (answers : List ℕ) × AnswersFirs
 Prints text ends.ReadFault out = (n : ℕ) × AnswersFirst n text out
 Prints text ends.WriteFault out = ⊥
 
--- the same, where at a fault of the writer a beginning of such a text is printed
+-- the same, where at a fault of the writer a beginning of such a text is printed, and not all
 abbrev pub Ends : List ℕ → End → List ℕ → Type 0
 Ends text ends.Done out = Prints text ends.Done out
 Ends text ends.BadLine out = Prints text ends.BadLine out
 Ends text ends.NoMemory out = Prints text ends.NoMemory out
 Ends text ends.ReadFault out = Prints text ends.ReadFault out
-Ends text ends.WriteFault out = (end : End) × (rest : List ℕ) × Prints text end (out ++ rest)
+Ends text ends.WriteFault out = (end : End) × (rest : List ℕ) × Prints text end (out ++ rest) × (rest ≡ [] → ⊥)
 
 -- a writer that held and holds these bytes, where they are known, was given what serving the text prints where it ends so
 abbrev pub Closes : Option (List ℕ) → Option (List ℕ) → List ℕ → End → Type 0

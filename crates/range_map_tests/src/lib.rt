@@ -6,6 +6,8 @@ mod bounds;
 #[cfg(test)]
 mod coarse;
 #[cfg(test)]
+mod iterators;
+#[cfg(test)]
 mod lookups;
 #[cfg(test)]
 mod paints;

@@ -1,13 +1,13 @@
 use Rattle.std.proofs.Common.{◌++◌}
 use Rattle.std.proofs.lemmas.Result.{err_from_is_err_and, on_ok_weaker, on_err_weaker}
-use Rattle.range_map_cli.proofs.Forwarding.{Forwards-push, Forwards-then, Forwards-both}
+use Rattle.range_map_cli.proofs.Forwarding.{front_none, Forwards-push, Forwards-then, Forwards-both}
 use Rattle.range_map_cli.proofs.output.put.Goals as goal
 
 pub returns-in_err-flush-clause-err : goal.returns-in_err-flush-clause-err
 returns-in_err-flush-clause-err g c =
     let p = err_from_is_err_and c.from_residual.result c.from_residual.ensures.1 in
     let failed = c.in_err-flush.ensures.err in
-    rw p.1 (failed.0 ++ c.args.text.now, Forwards-push _ _ c.args.waiting.now.items failed.0 c.args.text.now failed.1)
+    rw p.1 (failed.0 ++ c.args.text.now, Forwards-push _ _ c.args.waiting.now.items failed.0 c.args.text.now failed.1, λ none. failed.2 (front_none failed.0 c.args.text.now none))
 
 pub returns-then-capacity-text-clause-ok : goal.returns-then-capacity-text-clause-ok
 returns-then-capacity-text-clause-ok g c =
@@ -15,4 +15,4 @@ returns-then-capacity-text-clause-ok g c =
 
 pub returns-then-capacity-text-clause-err : goal.returns-then-capacity-text-clause-err
 returns-then-capacity-text-clause-err g c =
-    on_err_weaker c.write_text.result (λ failed. (failed.0, Forwards-then _ (g.W.Write.contents c.flush.new.output) _ c.args.waiting.now.items c.args.text.now failed.0 c.in_ok-flush.ensures.ok failed.1)) c.write_text.ensures.err
+    on_err_weaker c.write_text.result (λ failed. (failed.0, Forwards-then _ (g.W.Write.contents c.flush.new.output) _ c.args.waiting.now.items c.args.text.now failed.0 c.in_ok-flush.ensures.ok failed.1, failed.2)) c.write_text.ensures.err

@@ -29,7 +29,7 @@ returns-in_default-read-clause-streams g c = λ _. streams_at _ _ _ _ _ c.loop-t
 pub returns-in_default-flush-clause-closes : goal.returns-in_default-flush-clause-closes
 returns-in_default-flush-clause-closes g c =
     let failed = c.in_default-flush.ensures.err in
-    serving_lost (g.W.Write.contents c.args.output.now) (g.W.Write.contents c.loop-turn.output) (g.W.Write.contents c.feed.new.output) _ _ _ _ c.loop-turn.session c.feed.new.session _ failed.0 c.loop-turn.invariant.serving c.in-Ok-read.ensures.bytes.0 (λ text rest lines. c.in_default-feed.ensures.ok (g.W.Write.contents c.args.output.now) text rest lines) failed.1
+    serving_lost (g.W.Write.contents c.args.output.now) (g.W.Write.contents c.loop-turn.output) (g.W.Write.contents c.feed.new.output) _ _ _ _ c.loop-turn.session c.feed.new.session _ failed.0 c.loop-turn.invariant.serving c.in-Ok-read.ensures.bytes.0 (λ text rest lines. c.in_default-feed.ensures.ok (g.W.Write.contents c.args.output.now) text rest lines) failed.1 failed.2
 
 pub loop-turn-preserved : goal.loop-turn-preserved
 loop-turn-preserved g c = record {

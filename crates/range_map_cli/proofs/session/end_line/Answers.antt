@@ -23,7 +23,7 @@ returns-in-Err-clause-err g c = λ held text rest lines at.
     let behind_old : c.answer.new.self.waiting.items ++ c.as_bytes.result.now ≡ session.waiting.items ++ reply = ap (λ l. l ++ c.as_bytes.result.now) c.answer.ensures.waiting ∙ ap (λ l. session.waiting.items ++ l) c.as_bytes.ensures.value in
     let failed = c.in-Err.ensures.err in
     let lost = subst (λ l. Forwards (g.W.Write.contents c.args.output.now) (g.W.Write.contents c.put.new.output) l failed.0) behind_old failed.1 in
-    closes_reply held _ text session rest lines at _ answer.0 reply failed.0 answer.1 answer.2 lost
+    closes_reply held _ text session rest lines at _ answer.0 reply failed.0 answer.1 answer.2 lost failed.2
 
 pub returns-in-Err-NoMemory-clause-err : goal.returns-in-Err-NoMemory-clause-err
 returns-in-Err-NoMemory-clause-err g c = λ held text rest lines at.

@@ -1,0 +1,128 @@
+-- A step over the keys of ranges, from either end.
+use Rattle.std.proofs.Common.{◌≡◌, ℕ, suc, zero, ◌+◌, ◌≤◌, ℤ, pos, ◌+ℤ◌, ◌-ℤ◌, ◌≤ℤ◌, ◌<ℤ◌, List, [], ◌∷◌, ◌++◌, length, Option, Some, None, refl, sym, ap, ◌∙◌, arith, append_assoc, append-nil, length-append}
+use Rattle.std.specs.Prelude.{option_map}
+use Rattle.std.specs.Option.{option_to_list}
+use Rattle.std.specs.Iterator.{MakesProgress, item_count}
+use Rattle.std.proofs.lemmas.Int.{ints}
+use Rattle.blaze_table.specs.Entries.{Entry, entry, shown_entry}
+use Rattle.blaze_table.specs.Canonical.{IsDisjoint, IsClear}
+use Rattle.blaze_table.specs.Count.{nat_of}
+use Rattle.blaze_table.specs.Pairs.{pairs_from, pairs_of, pair_list}
+use Rattle.blaze_table.proofs.PairLists.{nat_of-pos, pairs_first, pairs_last, pairs_one, pair_list-append}
+use Rattle.blaze_iters.specs.Left.{RangesLeft, ranges_left, pairs_left, seen, IsRestAfter, IsRestBefore}
+use Rattle.blaze_iters.specs.Owned.{OwnedLeft, owned_ranges, HasSeveralFirst, HasSeveralLast}
+
+module _ {K V : Type 0} (of_rank : ℤ → K) where
+  -- the first of several keys
+  first_of_many : (lo hi next : ℤ) (v : V) → next ≡ lo +ℤ pos 1 → next ≤ℤ hi → pairs_of of_rank (entry lo hi v) ≡ (of_rank lo, v) ∷ pairs_of of_rank (entry next hi v)
+  first_of_many lo hi next v e h = rw e (pairs_first of_rank lo hi v (omega (arith, ints)))
+
+  -- the last of several keys
+  last_of_many : (lo hi previous : ℤ) (v : V) → previous +ℤ pos 1 ≡ hi → lo ≤ℤ previous → pairs_of of_rank (entry lo hi v) ≡ pairs_of of_rank (entry lo previous v) ++ (of_rank hi, v) ∷ []
+  last_of_many lo hi previous v e h = rw e at (pairs_last of_rank lo previous v h)
+
+  -- the only key
+  only_key : (lo hi : ℤ) (v : V) → lo ≡ hi → pairs_of of_rank (entry lo hi v) ≡ (of_rank hi, v) ∷ []
+  only_key lo hi v e = rw e (pairs_one of_rank hi v)
+
+  -- an entry that is not empty has a pair
+  some_pair : (e : Entry V) → e.lo ≤ℤ e.hi → 1 ≤ length (pairs_of of_rank e)
+  some_pair e h = many e.lo (nat_of (e.hi -ℤ e.lo +ℤ pos 1)) (let p = nat_of-pos (e.hi -ℤ e.lo +ℤ pos 1) (omega (arith, ints)) in omega (arith, ints))
+    where
+      many : (a : ℤ) (n : ℕ) → 1 ≤ n → 1 ≤ length (pairs_from of_rank a n e.value)
+      many a zero p = absurd (omega arith)
+      many a (suc n) p = omega arith
+
+  -- ranges that are not empty have pairs
+  some_first : (e : Entry V) (es : List (Entry V)) → e.lo ≤ℤ e.hi → 1 ≤ length (pair_list of_rank (e ∷ es))
+  some_first e es h = omega (arith, some_pair e h, length-append (pairs_of of_rank e) (pair_list of_rank es))
+
+  some_last : (es : List (Entry V)) (e : Entry V) → e.lo ≤ℤ e.hi → 1 ≤ length (pair_list of_rank (es ++ e ∷ []))
+  some_last es e h = rw (pair_list-append of_rank es (e ∷ [])) (omega (arith, some_first e [] h, length-append (pair_list of_rank es) (pair_list of_rank (e ∷ []))))
+
+  -- there are no more entries than pairs
+  entries_within : (es : List (Entry V)) → IsDisjoint es → length es ≤ length (pair_list of_rank es)
+  entries_within [] d = omega arith
+  entries_within (e ∷ es) d = omega (arith, some_pair e d.0, entries_within es d.2, length-append (pairs_of of_rank e) (pair_list of_rank es))
+
+  -- there are no more whole ranges than pairs
+  pub whole_within : {I : Type 0} (left : I → List (Entry V)) (s : RangesLeft V I) → IsDisjoint (left s.inner) → length (left s.inner) ≤ length (pair_list of_rank (ranges_left left s))
+  whole_within left s d =
+      let inner = entries_within (left s.inner) d in
+      let front = option_to_list s.front in
+      let back = option_to_list s.back in
+      rw (pair_list-append of_rank (front ++ left s.inner) back, pair_list-append of_rank front (left s.inner)) (simp length-append (omega arith))
+
+module _ {K R V : Type 0} (rank : K → ℤ) (of_rank : ℤ → K) (shown : R → V) where
+  abbrev parts : Option (K × K × R) → List (Entry V)
+  parts rest = option_to_list (option_map (shown_entry rank shown) rest)
+
+  part_first : (lo hi : K) (value : R) (rest : Option (K × K × R)) → of_rank (rank lo) ≡ lo → IsRestAfter rank (lo, hi, value) rest
+      → pairs_of of_rank (entry (rank lo) (rank hi) (shown value)) ≡ (lo, shown value) ∷ pair_list of_rank (parts rest)
+  part_first lo hi value None k r = rw (only_key of_rank (rank lo) (rank hi) (shown value) r, ← r, k) refl
+  part_first lo hi value (Some q) k r = rw (r.2, r.3, append-nil) (rw k at (first_of_many of_rank (rank lo) (rank hi) (rank q.0) (shown value) r.0 r.1))
+
+  part_last : (lo hi : K) (value : R) (rest : Option (K × K × R)) → of_rank (rank hi) ≡ hi → IsRestBefore rank (lo, hi, value) rest
+      → pairs_of of_rank (entry (rank lo) (rank hi) (shown value)) ≡ pair_list of_rank (parts rest) ++ (hi, shown value) ∷ []
+  part_last lo hi value None k r = rw k at (only_key of_rank (rank lo) (rank hi) (shown value) r)
+  part_last lo hi value (Some q) k r = rw (r.2, r.3, append-nil) (rw k at (last_of_many of_rank (rank lo) (rank hi) (rank q.1) (shown value) r.0 r.1))
+
+  -- the first key is taken
+  pub takes_first : {I : Type 0} (left : I → List (Entry V)) (lo hi : K) (value : R) (rest : Option (K × K × R)) (inner : I) (back : Option (K × K × R)) → of_rank (rank lo) ≡ lo → IsRestAfter rank (lo, hi, value) rest
+      → pairs_left of_rank left (seen rank shown (Some (lo, hi, value)) inner back) ≡ (lo, shown value) ∷ pairs_left of_rank left (seen rank shown rest inner back)
+  takes_first left lo hi value rest inner back k r =
+      let after = left inner ++ parts back in
+      rw (append_assoc (parts rest) (left inner) (parts back), pair_list-append of_rank (parts rest) after) (ap (λ t. t ++ pair_list of_rank after) (part_first lo hi value rest k r))
+
+  -- the last key is taken
+  pub takes_last : {I : Type 0} (left : I → List (Entry V)) (lo hi : K) (value : R) (rest front : Option (K × K × R)) (inner : I) → of_rank (rank hi) ≡ hi → IsRestBefore rank (lo, hi, value) rest
+      → pairs_left of_rank left (seen rank shown front inner (Some (lo, hi, value))) ≡ pairs_left of_rank left (seen rank shown front inner rest) ++ (hi, shown value) ∷ []
+  takes_last left lo hi value rest front inner k r =
+      let before = parts front ++ left inner in
+      rw (pair_list-append of_rank before (parts (Some (lo, hi, value))), pair_list-append of_rank before (parts rest), append-nil, part_last lo hi value rest k r)
+      (sym (append_assoc (pair_list of_rank before) (pair_list of_rank (parts rest)) ((hi, shown value) ∷ [])))
+
+module _ {K V : Type 0} (rank : K → ℤ) (of_rank : ℤ → K) (s : OwnedLeft V) where
+  -- the range that is taken first has several keys
+  pub several_first : (lo hi : K) (value : V) (inner : List (Entry V)) (back : Option (K × K × V)) → owned_ranges s ≡ owned_ranges (seen rank (λ v. v) (Some (lo, hi, value)) inner back) → rank lo <ℤ rank hi → HasSeveralFirst s
+  several_first lo hi value inner back e h = (entry (rank lo) (rank hi) value, inner ++ option_to_list (option_map (shown_entry rank (λ (v : V). v)) back), e, h)
+
+  -- the range that is taken last has several keys
+  pub several_last : (lo hi : K) (value : V) (front : Option (K × K × V)) (inner : List (Entry V)) → owned_ranges s ≡ owned_ranges (seen rank (λ v. v) front inner (Some (lo, hi, value))) → rank lo <ℤ rank hi → HasSeveralLast s
+  several_last lo hi value front inner e h = (entry (rank lo) (rank hi) value, option_to_list (option_map (shown_entry rank (λ (v : V). v)) front) ++ inner, e, h)
+
+  pub some_of_first : HasSeveralFirst s → 1 ≤ length (pairs_left of_rank (λ es. es) s)
+  some_of_first h = let full : h.0.lo ≤ℤ h.0.hi = omega (arith, ints, h.3) in rw h.2 (some_first of_rank h.0 h.1 full)
+
+  pub some_of_last : HasSeveralLast s → 1 ≤ length (pairs_left of_rank (λ es. es) s)
+  some_of_last h = let full : h.0.lo ≤ℤ h.0.hi = omega (arith, ints, h.3) in rw h.2 (some_last of_rank h.1 h.0 full)
+
+-- the last of entries that are not empty is not
+pub last_full : {V : Type 0} (es : List (Entry V)) (e : Entry V) → IsDisjoint (es ++ e ∷ []) → e.lo ≤ℤ e.hi
+last_full [] e d = d.0
+last_full (f ∷ es) e d = last_full es e d.2
+
+-- the last range is moved out of the list in the middle
+pub moved_last : {V : Type 0} (front inner all : List (Entry V)) (e : Entry V) → all ≡ inner ++ e ∷ [] → (front ++ all) ++ [] ≡ (front ++ inner) ++ e ∷ []
+moved_last front inner all e p = rw p (simp (append_assoc, append-nil))
+
+clear_front : {V : Type 0} (f : Entry V) (es : List (Entry V)) (e : Entry V) → IsClear f (es ++ e ∷ []) → IsClear f es
+clear_front f [] e k = tt
+clear_front f (g ∷ es) e k = (k.0, clear_front f es e k.1)
+
+-- what is left in the middle once the last range is taken
+pub rest_disjoint : {V : Type 0} (es : List (Entry V)) (e : Entry V) → IsDisjoint (es ++ e ∷ []) → IsDisjoint es
+rest_disjoint [] e d = tt
+rest_disjoint (f ∷ es) e d = (d.0, clear_front f es e d.1, rest_disjoint es e d.2)
+
+-- a call that takes one of the items makes progress
+module _ {S A B : Type 0} (can : S → Type 0) (rest : S → List B) (s : S) (x : A) (t : S) where
+  pub goes_first : (y : B) → can t → rest s ≡ y ∷ rest t → MakesProgress can (item_count rest) s (Some x) t
+  goes_first y c e = let n : length (rest s) ≡ suc (length (rest t)) = ap length e in record { on = λ _. (c, tt, omega arith); keeps = c; rests = λ _. tt }
+
+  pub goes_last : (y : B) → can t → rest s ≡ rest t ++ y ∷ [] → MakesProgress can (item_count rest) s (Some x) t
+  goes_last y c e = let n : length (rest s) ≡ length (rest t) + 1 = ap length e ∙ length-append (rest t) (y ∷ []) in record { on = λ _. (c, tt, omega arith); keeps = c; rests = λ _. tt }
+
+  -- so does one that leaves nothing of some
+  pub goes_refused : can t → 1 ≤ length (rest s) → rest t ≡ [] → MakesProgress can (item_count rest) s (Some x) t
+  goes_refused c h e = let n : length (rest t) ≡ 0 = ap length e in record { on = λ _. (c, tt, omega arith); keeps = c; rests = λ _. tt }

@@ -1,0 +1,63 @@
+-- What a key-wise iterator has left.
+use Rattle.std.specs.Prelude.{◌≡◌, ℤ, pos, ◌+ℤ◌, ◌≤ℤ◌, List, ◌++◌, map, Option, None, Some, MatchOption, option_map}
+use Rattle.std.specs.Option.{option_to_list}
+use Rattle.blaze_table.specs.Entries.{Entry, shown_entry}
+use Rattle.blaze_table.specs.Pairs.{pair_list}
+
+-- what is left of the range that is opened at each end, as an entry, and the iterator of the ranges between
+pub record RangesLeft (V I : Type 0) : Type 0 where
+  pub front : Option (Entry V)
+  pub inner : I
+  pub back : Option (Entry V)
+
+-- no range is opened
+abbrev pub unopened : {V I : Type 0} → I → RangesLeft V I
+unopened inner = record { front = None; inner = inner; back = None }
+
+-- the ranges that are left, in order, where `left` is what is left of the iterator between
+abbrev pub ranges_left : {V I : Type 0} → (I → List (Entry V)) → RangesLeft V I → List (Entry V)
+ranges_left left s = (option_to_list s.front ++ left s.inner) ++ option_to_list s.back
+
+-- the keys that are left, ascending, each with its value: the front of it comes by `next`, the back by `next_back`
+abbrev pub pairs_left : {K V I : Type 0} → (ℤ → K) → (I → List (Entry V)) → RangesLeft V I → List (K × V)
+pairs_left of_rank left s = pair_list of_rank (ranges_left left s)
+
+abbrev pub keys_left : {K V I : Type 0} → (ℤ → K) → (I → List (Entry V)) → RangesLeft V I → List K
+keys_left of_rank left s = map (λ p. p.0) (pairs_left of_rank left s)
+
+abbrev pub values_left : {K V I : Type 0} → (ℤ → K) → (I → List (Entry V)) → RangesLeft V I → List V
+values_left of_rank left s = map (λ p. p.1) (pairs_left of_rank left s)
+
+-- a key with what shows its value
+abbrev pub shown_pair : {K R V : Type 0} → (R → V) → K × R → K × V
+shown_pair shown p = (p.0, shown p.1)
+
+-- ---- the words of this crate's own functions
+
+-- what is left, where an opened range is stored as its first key, last key and what shows its value
+abbrev pub seen : {T R V I : Type 0} → (T → ℤ) → (R → V) → Option (T × T × R) → I → Option (T × T × R) → RangesLeft V I
+seen rank shown front inner back = record { front = option_map (shown_entry rank shown) front; inner = inner; back = option_map (shown_entry rank shown) back }
+
+-- the rest of an opened range is not empty
+abbrev pub IsFull : {V : Type 0} → Option (Entry V) → Type 0
+IsFull None = Unit {0}
+IsFull (Some e) = e.lo ≤ℤ e.hi
+
+abbrev pub AreFull : {V I : Type 0} → RangesLeft V I → Type 0
+AreFull s = IsFull s.front × IsFull s.back
+
+-- the key after the first of a range, where it has several
+abbrev pub IsSecond : {K : Type 0} → (K → ℤ) → K → K → Option K → Type 0
+IsSecond rank lo hi next = MatchOption next (rank lo ≡ rank hi) (λ k. (rank k ≡ rank lo +ℤ pos 1) × (rank k ≤ℤ rank hi))
+
+-- the key before the last of a range, where it has several
+abbrev pub IsSecondLast : {K : Type 0} → (K → ℤ) → K → K → Option K → Type 0
+IsSecondLast rank lo hi previous = MatchOption previous (rank lo ≡ rank hi) (λ k. (rank k +ℤ pos 1 ≡ rank hi) × (rank lo ≤ℤ rank k))
+
+-- what is left of a range without its first key: none, or the range from the next key on
+abbrev pub IsRestAfter : {K R : Type 0} → (K → ℤ) → K × K × R → Option (K × K × R) → Type 0
+IsRestAfter rank p rest = MatchOption rest (rank p.0 ≡ rank p.1) (λ q. (rank q.0 ≡ rank p.0 +ℤ pos 1) × (rank q.0 ≤ℤ rank p.1) × (q.1 ≡ p.1) × (q.2 ≡ p.2))
+
+-- what is left of a range without its last key: none, or the range up to the key before
+abbrev pub IsRestBefore : {K R : Type 0} → (K → ℤ) → K × K × R → Option (K × K × R) → Type 0
+IsRestBefore rank p rest = MatchOption rest (rank p.0 ≡ rank p.1) (λ q. (rank q.1 +ℤ pos 1 ≡ rank p.1) × (rank p.0 ≤ℤ rank q.1) × (q.0 ≡ p.0) × (q.2 ≡ p.2))

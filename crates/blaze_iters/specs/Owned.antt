@@ -1,0 +1,45 @@
+-- What the iterators by value give, whose clones may be refused.
+use Rattle.std.specs.Prelude.{◌≡◌, ◌<ℤ◌, Bool, true, List, [], ◌∷◌, ◌++◌, Option, MatchOption, Result, MatchResult}
+use Rattle.std.specs.declared.alloc.AllocError.{AllocError}
+use Rattle.blaze_table.specs.Entries.{Entry}
+use Rattle.blaze_table.specs.Canonical.{IsDisjoint}
+use Rattle.blaze_iters.specs.Left.{RangesLeft, unopened, ranges_left, AreFull}
+
+-- what an iterator by value has left
+abbrev pub OwnedLeft : Type 0 → Type 0
+OwnedLeft V = RangesLeft V (List (Entry V))
+
+abbrev pub owned_ranges : {V : Type 0} → OwnedLeft V → List (Entry V)
+owned_ranges s = ranges_left (λ es. es) s
+
+-- no range that is left is empty
+abbrev pub IsOwned : {V : Type 0} → OwnedLeft V → Type 0
+IsOwned s = AreFull s × IsDisjoint s.inner
+
+-- the first range that is left has several keys
+abbrev pub HasSeveralFirst : {V : Type 0} → OwnedLeft V → Type 0
+HasSeveralFirst {V} s = (e : Entry V) × (es : List (Entry V)) × (owned_ranges s ≡ e ∷ es) × (e.lo <ℤ e.hi)
+
+-- the last range that is left has several keys
+abbrev pub HasSeveralLast : {V : Type 0} → OwnedLeft V → Type 0
+HasSeveralLast {V} s = (e : Entry V) × (es : List (Entry V)) × (owned_ranges s ≡ es ++ e ∷ []) × (e.lo <ℤ e.hi)
+
+module _ {V A B : Type 0} (items : OwnedLeft V → List B) (IsGiven : A → B → Type 0) where
+  -- a call from s gave the first of what was left, or was refused a clone, where that is not the last key of its range: then
+  -- nothing is left. It gave `None` where nothing was left
+  abbrev pub GivesFirst : OwnedLeft V → Option (Result A AllocError) → OwnedLeft V → Type 0
+  GivesFirst s r t = MatchOption r ((items s ≡ []) × (items t ≡ []))
+      (λ given. MatchResult given (λ a. (b : B) × (items s ≡ b ∷ items t) × IsGiven a b) (λ _. HasSeveralFirst s × (t ≡ unopened [])))
+
+  -- the same from the back
+  abbrev pub GivesLast : OwnedLeft V → Option (Result A AllocError) → OwnedLeft V → Type 0
+  GivesLast s r t = MatchOption r ((items s ≡ []) × (items t ≡ []))
+      (λ given. MatchResult given (λ a. (b : B) × (items s ≡ items t ++ b ∷ []) × IsGiven a b) (λ _. HasSeveralLast s × (t ≡ unopened [])))
+
+-- a pair with the stored key, and a value that is equal to the stored one
+abbrev pub IsLikePair : {K V : Type 0} → (V → V → Bool) → K × V → K × V → Type 0
+IsLikePair eq given stored = (given.0 ≡ stored.0) × (eq stored.1 given.1 ≡ true)
+
+-- a value that is equal to the stored one
+abbrev pub IsLike : {V : Type 0} → (V → V → Bool) → V → V → Type 0
+IsLike eq given stored = eq stored given ≡ true

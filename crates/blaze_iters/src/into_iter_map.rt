@@ -1,0 +1,220 @@
+//! The keys of a table, each with its range's value, by value.
+ghost use Rattle.std.specs.Prelude.{◌≡◌, ◌≤◌, ◌≤ℤ◌, [], length, None, IfSome, IfNone, unwrap_or};
+ghost use Rattle.std.specs.Iterator.{YieldsFirst, YieldsLast, YieldsFirstBy, YieldsLastBy, item_count, UpTo};
+ghost use Rattle.std.specs.Iterator.SizeHint.{IsWithinCount};
+ghost use Rattle.blaze_table.specs.Entries.{Entry, shown_entry};
+ghost use Rattle.blaze_table.specs.Canonical.{IsDisjoint};
+ghost use Rattle.blaze_table.specs.Painted.{ClonesAreAlike};
+ghost use Rattle.blaze_table.specs.Pairs.{pair_list};
+ghost use Rattle.blaze_iters.specs.Left.{RangesLeft, unopened, seen, pairs_left, keys_left};
+ghost use Rattle.blaze_iters.specs.Owned.{OwnedLeft, owned_ranges, IsOwned, GivesFirst, GivesLast, IsLikePair};
+
+use crate::rest::{rest_after, rest_before, second, second_last};
+use blaze_int::Integer;
+use blaze_table::{IntoIter, RangeTable};
+use std::alloc::AllocError;
+use std::iter::FusedIterator;
+use std::marker::Model;
+
+/// The keys of a table, ascending, each with its range's value. The value is cloned for every key but the last of a range,
+/// which gets the stored one. After a refused clone the iterator has ended.
+#[derive(Drop)]
+pub struct IntoIterMap<T: Integer, V> {
+    front: Option<(T, T, V)>,
+    inner: Option<IntoIter<T, V>>,
+    back: Option<(T, T, V)>,
+}
+
+impl<T: Integer, V> Model for IntoIterMap<T, V> {
+    ghost use Rattle.std.specs.Prelude.{[], unwrap_or};
+    ghost use Rattle.blaze_iters.specs.Left.{seen};
+    ghost use Rattle.blaze_iters.specs.Owned.{OwnedLeft, IsOwned};
+
+    ghost Value = { OwnedLeft V };
+
+    ghost view = { λ s. seen T.rank (λ v. v) s.front (unwrap_or s.inner []) s.back };
+
+    ghost invariant = { λ s. IsOwned (seen T.rank (λ v. v) s.front (unwrap_or s.inner []) s.back) };
+}
+
+impl<T: Integer, V: Eq + Drop> IntoIterMap<T, V> {
+    /// The keys of a table with their values.
+    pub fn new(table: RangeTable<T, V>) -> Self
+        ensures unopened { result ≡ unopened table.entries }
+        ensures pairs { pairs_left T.of_rank (λ es. es) result ≡ pair_list T.of_rank table.entries }
+    {
+        table.in_hand();
+        IntoIterMap {
+            front: None,
+            inner: Some(table.into_iter()),
+            back: None,
+        }
+    }
+
+    /// How many ranges no call has opened.
+    pub(crate) fn whole_len(&self) -> usize
+        ensures value { result ≡ length self.now.inner }
+        ensures bound { result ≤ length (pairs_left T.of_rank (λ es. es) self.now) }
+    {
+        match &self.inner {
+            Some(ranges) => ranges.len(),
+            None => 0,
+        }
+    }
+
+    /// Lets go of all that is left.
+    fn end(&mut self)
+        ensures { self.new ≡ unopened [] }
+    {
+        self.front = None;
+        self.inner = None;
+        self.back = None;
+    }
+
+    /// Takes the first key that is left, and clones nothing.
+    pub(crate) fn next_key(&mut self) -> Option<T>
+        ensures { YieldsFirst (keys_left T.of_rank (λ es. es)) self.old result self.new }
+    {
+        let (lo, hi, value) = take_first(&mut self.front, &mut self.inner, &mut self.back)?;
+        lo.in_hand();
+        self.front = rest_after(lo, hi, value);
+        Some(lo)
+    }
+
+    /// Takes the last key that is left, and clones nothing.
+    pub(crate) fn next_back_key(&mut self) -> Option<T>
+        ensures { YieldsLast (keys_left T.of_rank (λ es. es)) self.old result self.new }
+    {
+        let (lo, hi, value) = take_last(&mut self.front, &mut self.inner, &mut self.back)?;
+        hi.in_hand();
+        self.back = rest_before(lo, hi, value);
+        Some(hi)
+    }
+}
+
+impl<T: Integer, V: Eq + Clone> Iterator for IntoIterMap<T, V> {
+    type Item = Result<(T, V), AllocError>;
+
+    ghost can_next = { λ _. ClonesAreAlike V.is_clone V.eq };
+
+    ghost next_gives = { GivesFirst (pairs_left T.of_rank (λ es. es)) (IsLikePair V.eq) };
+
+    ghost remaining = { item_count (pairs_left T.of_rank (λ es. es)) };
+
+    fn next(&mut self) -> Option<Result<(T, V), AllocError>> {
+        let (lo, hi, value) = take_first(&mut self.front, &mut self.inner, &mut self.back)?;
+        lo.in_hand();
+        let next = match second(lo, hi) {
+            Some(next) => next,
+            None => return Some(Ok((lo, value))),
+        };
+        match value.clone() {
+            Ok(copy) => {
+                self.front = Some((next, hi, value));
+                Some(Ok((lo, copy)))
+            }
+            Err(refused) => {
+                self.end();
+                Some(Err(refused))
+            }
+        }
+    }
+
+    /// At least as many keys are left as the ranges that no call has opened. After a refused clone that is 0.
+    fn size_hint(&self) -> (usize, Option<usize>)
+        ensures lower { IsWithinCount result.0 (item_count (pairs_left T.of_rank (λ es. es)) self.now) }
+        ensures upper { IfSome result.1 (UpTo (item_count (pairs_left T.of_rank (λ es. es)) self.now)) }
+        ensures hint { result ≡ (length self.now.inner, None) }
+    {
+        (self.whole_len(), None)
+    }
+}
+
+impl<T: Integer, V: Eq + Clone> DoubleEndedIterator for IntoIterMap<T, V> {
+    ghost can_next_back = { λ _. ClonesAreAlike V.is_clone V.eq };
+
+    ghost next_back_gives = { GivesLast (pairs_left T.of_rank (λ es. es)) (IsLikePair V.eq) };
+
+    fn next_back(&mut self) -> Option<Result<(T, V), AllocError>> {
+        let (lo, hi, value) = take_last(&mut self.front, &mut self.inner, &mut self.back)?;
+        hi.in_hand();
+        let previous = match second_last(lo, hi) {
+            Some(previous) => previous,
+            None => return Some(Ok((hi, value))),
+        };
+        match value.clone() {
+            Ok(copy) => {
+                self.back = Some((lo, previous, value));
+                Some(Ok((hi, copy)))
+            }
+            Err(refused) => {
+                self.end();
+                Some(Err(refused))
+            }
+        }
+    }
+}
+
+impl<T: Integer, V: Eq + Clone> FusedIterator for IntoIterMap<T, V> {}
+
+/// Takes the first range that no call has opened.
+fn first_whole<T: Integer, V: Drop>(inner: &mut Option<IntoIter<T, V>>) -> Option<(T, T, V)>
+    ensures { YieldsFirstBy (shown_entry T.rank (λ v. v)) (λ s. unwrap_or s []) inner.old result inner.new }
+{
+    match inner {
+        Some(ranges) => ranges.next(),
+        None => None,
+    }
+}
+
+/// Takes the last range that no call has opened.
+fn last_whole<T: Integer, V: Drop>(inner: &mut Option<IntoIter<T, V>>) -> Option<(T, T, V)>
+    ensures { YieldsLastBy (shown_entry T.rank (λ v. v)) (λ s. unwrap_or s []) inner.old result inner.new }
+{
+    match inner {
+        Some(ranges) => ranges.next_back(),
+        None => None,
+    }
+}
+
+/// The first range that is left, or what is left of it.
+fn take_first<T: Integer, V: Drop>(
+    front: &mut Option<(T, T, V)>,
+    inner: &mut Option<IntoIter<T, V>>,
+    back: &mut Option<(T, T, V)>,
+) -> Option<(T, T, V)>
+    requires { IsOwned (seen T.rank (λ v. v) front.old (unwrap_or inner.old []) back.old) }
+    ensures left { owned_ranges (seen T.rank (λ v. v) front.old (unwrap_or inner.old []) back.old) ≡ owned_ranges (seen T.rank (λ v. v) result (unwrap_or inner.new []) back.new) }
+    ensures owned { IsOwned (seen T.rank (λ v. v) result (unwrap_or inner.new []) back.new) }
+    ensures front { front.new ≡ None }
+    ensures none { IfNone result (owned_ranges (seen T.rank (λ v. v) None (unwrap_or inner.new []) back.new) ≡ []) }
+{
+    if let Some(rest) = front.take() {
+        return Some(rest);
+    }
+    match first_whole(inner) {
+        Some((lo, hi, value)) => Some((lo, hi, value)),
+        None => back.take(),
+    }
+}
+
+/// The last range that is left, or what is left of it.
+fn take_last<T: Integer, V: Drop>(
+    front: &mut Option<(T, T, V)>,
+    inner: &mut Option<IntoIter<T, V>>,
+    back: &mut Option<(T, T, V)>,
+) -> Option<(T, T, V)>
+    requires { IsOwned (seen T.rank (λ v. v) front.old (unwrap_or inner.old []) back.old) }
+    ensures left { owned_ranges (seen T.rank (λ v. v) front.old (unwrap_or inner.old []) back.old) ≡ owned_ranges (seen T.rank (λ v. v) front.new (unwrap_or inner.new []) result) }
+    ensures owned { IsOwned (seen T.rank (λ v. v) front.new (unwrap_or inner.new []) result) }
+    ensures back { back.new ≡ None }
+    ensures none { IfNone result (owned_ranges (seen T.rank (λ v. v) front.new (unwrap_or inner.new []) None) ≡ []) }
+{
+    if let Some(rest) = back.take() {
+        return Some(rest);
+    }
+    match last_whole(inner) {
+        Some((lo, hi, value)) => Some((lo, hi, value)),
+        None => front.take(),
+    }
+}

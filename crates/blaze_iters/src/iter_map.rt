@@ -1,0 +1,151 @@
+//! The keys of a stream of ranges, each with its range's value.
+ghost use Rattle.std.specs.Prelude.{◌≡◌, ◌++◌, [], ◌≤ℤ◌, None, IfSome, IfNone};
+ghost use Rattle.std.specs.Iterator.{YieldsFirstBy, YieldsLastBy, item_count, UpTo};
+ghost use Rattle.std.specs.Iterator.SizeHint.{IsWithinCount};
+ghost use Rattle.blaze_table.specs.Entries.{Entry, shown_entry};
+ghost use Rattle.blaze_table.specs.Pairs.{pair_list};
+ghost use Rattle.blaze_iters.specs.Left.{RangesLeft, unopened, seen, AreFull, ranges_left, pairs_left, shown_pair};
+
+use crate::rest::{rest_after, rest_before};
+use blaze_int::Integer;
+use blaze_streams::{BothEnds, RangeValuesIter, SortedDisjointMap, ValueCarrier};
+use blaze_table::RangeTable;
+use std::iter::FusedIterator;
+use std::marker::Model;
+
+/// The keys of a stream's ranges, ascending, each with a carrier of its range's value.
+#[derive(Drop)]
+pub struct IterMap<T: Integer, VC: ValueCarrier + Copy, I: SortedDisjointMap<T, VC>> {
+    front: Option<(T, T, VC)>,
+    inner: I,
+    back: Option<(T, T, VC)>,
+}
+
+impl<T: Integer, VC: ValueCarrier + Copy, I: SortedDisjointMap<T, VC>> Model for IterMap<T, VC, I> {
+    ghost use Rattle.blaze_iters.specs.Left.{RangesLeft, seen, AreFull};
+
+    ghost Value = { RangesLeft VC.Value I };
+
+    ghost view = { λ s. seen T.rank VC.shown s.front s.inner s.back };
+
+    ghost invariant = { λ s. AreFull (seen T.rank VC.shown s.front s.inner s.back) };
+}
+
+impl<T: Integer, VC: ValueCarrier + Copy, I: SortedDisjointMap<T, VC>> IterMap<T, VC, I> {
+    /// The keys of the ranges that are left of a stream.
+    pub fn new(inner: I) -> Self
+        ensures unopened { result ≡ unopened inner }
+        ensures pairs { pairs_left T.of_rank I.left result ≡ pair_list T.of_rank (I.left inner) }
+    {
+        IterMap {
+            front: None,
+            inner,
+            back: None,
+        }
+    }
+}
+
+impl<'a, T: Integer, V: Eq + Clone> IterMap<T, &'a V, RangeValuesIter<'a, T, V>> {
+    /// The keys of a table with their values.
+    pub fn of_table(table: &'a RangeTable<T, V>) -> Self
+        ensures unopened { result ≡ unopened table.now.entries }
+        ensures pairs { pairs_left T.of_rank (λ es. es) result ≡ pair_list T.of_rank table.now.entries }
+    {
+        IterMap {
+            front: None,
+            inner: RangeValuesIter::new(table),
+            back: None,
+        }
+    }
+}
+
+/// The first range that is left, or what is left of it.
+fn take_first<T: Integer, VC: ValueCarrier, I: SortedDisjointMap<T, VC>>(
+    front: &mut Option<(T, T, VC)>,
+    inner: &mut I,
+    back: &mut Option<(T, T, VC)>,
+) -> Option<(T, T, VC)>
+    requires { AreFull (seen T.rank VC.shown front.old inner.old back.old) }
+    ensures left { ranges_left I.left (seen T.rank VC.shown front.old inner.old back.old) ≡ ranges_left I.left (seen T.rank VC.shown result inner.new back.new) }
+    ensures full { AreFull (seen T.rank VC.shown result inner.new back.new) }
+    ensures front { front.new ≡ None }
+    ensures none { IfNone result (ranges_left I.left (seen T.rank VC.shown None inner.new back.new) ≡ []) }
+{
+    if let Some(rest) = front.take() {
+        return Some(rest);
+    }
+    inner.in_hand();
+    match inner.next() {
+        Some((range, value)) => {
+            let (lo, hi) = range.into_inner();
+            Some((lo, hi, value))
+        }
+        None => back.take(),
+    }
+}
+
+impl<T: Integer, VC: ValueCarrier + Copy, I: SortedDisjointMap<T, VC>> Iterator
+    for IterMap<T, VC, I> {
+    type Item = (T, VC);
+
+    ghost next_gives = { YieldsFirstBy (shown_pair VC.shown) (pairs_left T.of_rank I.left) };
+
+    ghost remaining = { item_count (pairs_left T.of_rank I.left) };
+
+    fn next(&mut self) -> Option<(T, VC)> {
+        let (lo, hi, value) = take_first(&mut self.front, &mut self.inner, &mut self.back)?;
+        lo.in_hand();
+        self.front = rest_after(lo, hi, value);
+        Some((lo, value))
+    }
+
+    /// At least as many keys are left as the ranges that no call has opened: the lower bound of the stream's.
+    fn size_hint(&self) -> (usize, Option<usize>)
+        ensures lower { IsWithinCount result.0 (item_count (pairs_left T.of_rank I.left) self.now) }
+        ensures upper { IfSome result.1 (UpTo (item_count (pairs_left T.of_rank I.left) self.now)) }
+        ensures hint { result ≡ (I.least self.now.inner, None) }
+    {
+        self.inner.in_hand();
+        (self.inner.least_len(), None)
+    }
+}
+
+/// The last range that is left, or what is left of it.
+fn take_last<T: Integer, VC: ValueCarrier, I: BothEnds<T, VC>>(
+    front: &mut Option<(T, T, VC)>,
+    inner: &mut I,
+    back: &mut Option<(T, T, VC)>,
+) -> Option<(T, T, VC)>
+    requires { AreFull (seen T.rank VC.shown front.old inner.old back.old) }
+    ensures left { ranges_left I.left (seen T.rank VC.shown front.old inner.old back.old) ≡ ranges_left I.left (seen T.rank VC.shown front.new inner.new result) }
+    ensures full { AreFull (seen T.rank VC.shown front.new inner.new result) }
+    ensures back { back.new ≡ None }
+    ensures none { IfNone result (ranges_left I.left (seen T.rank VC.shown front.new inner.new None) ≡ []) }
+{
+    if let Some(rest) = back.take() {
+        return Some(rest);
+    }
+    inner.in_hand();
+    match inner.next_back() {
+        Some((range, value)) => {
+            let (lo, hi) = range.into_inner();
+            Some((lo, hi, value))
+        }
+        None => front.take(),
+    }
+}
+
+impl<T: Integer, VC: ValueCarrier + Copy, I: BothEnds<T, VC>> DoubleEndedIterator
+    for IterMap<T, VC, I> {
+    ghost next_back_gives = { YieldsLastBy (shown_pair VC.shown) (pairs_left T.of_rank I.left) };
+
+    fn next_back(&mut self) -> Option<(T, VC)> {
+        let (lo, hi, value) = take_last(&mut self.front, &mut self.inner, &mut self.back)?;
+        hi.in_hand();
+        self.back = rest_before(lo, hi, value);
+        Some((hi, value))
+    }
+}
+
+impl<T: Integer, VC: ValueCarrier + Copy, I: SortedDisjointMap<T, VC>> FusedIterator
+    for IterMap<T, VC, I> {}
