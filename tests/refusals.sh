@@ -38,7 +38,7 @@ for entries in 0 1 3 200; do
     done
 done
 for entries in 1 3 200; do
-    for call in "remove inside" "remove last" pop_first pop_last clone retain; do
+    for call in "remove inside" "remove last" pop_first pop_last clone retain from_sorted_disjoint_map; do
         sweep "$call" "$entries" some
     done
 done

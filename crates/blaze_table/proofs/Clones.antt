@@ -10,7 +10,7 @@ use Rattle.blaze_table.proofs.Slots.{entries-push}
 use Rattle.blaze_table.proofs.Painted.{canonical_as}
 use Rattle.blaze_table.proofs.Counted.{are_keys_as, same_keys_in}
 
-same-push : {V : Type 0} (eq : V → V → Bool) (es fs : List (Entry V)) (e f : Entry V) → SameEntries eq es fs → e.lo ≡ f.lo → e.hi ≡ f.hi → eq e.value f.value ≡ true → SameEntries eq (es ++ e ∷ []) (fs ++ f ∷ [])
+pub same-push : {V : Type 0} (eq : V → V → Bool) (es fs : List (Entry V)) (e f : Entry V) → SameEntries eq es fs → e.lo ≡ f.lo → e.hi ≡ f.hi → eq e.value f.value ≡ true → SameEntries eq (es ++ e ∷ []) (fs ++ f ∷ [])
 same-push eq [] [] e f s l h v = (l, h, v, tt)
 same-push eq [] (g ∷ fs) e f s l h v = absurd s
 same-push eq (g ∷ es) [] e f s l h v = absurd s

@@ -124,7 +124,7 @@ module _ {V : Type 0} (eq : V → V → Bool) (laws : IsEquivalence eq) where
   abbrev AllEndAbove : ℤ → List (Entry V) → Type 0
   AllEndAbove b es = (k : ℤ) → HasEnd es k → b <ℤ k
 
-  in_order : (e f : Entry V) (fs : List (Entry V)) → IsDisjoint (e ∷ f ∷ fs) → IsAscending (e ∷ f ∷ fs) → e.hi <ℤ f.lo
+  pub in_order : (e f : Entry V) (fs : List (Entry V)) → IsDisjoint (e ∷ f ∷ fs) → IsAscending (e ∷ f ∷ fs) → e.hi <ℤ f.lo
   in_order e f fs d a = by_lt_z e.hi f.lo (λ l. l) (λ l. absurd (d.1.0 f.lo (holds_in e f.lo (omega (arith, ints, a.0)) l) (holds_in f f.lo (omega (arith, ints)) d.2.0)))
 
   ends_above : (e : Entry V) (es : List (Entry V)) → IsDisjoint (e ∷ es) → IsAscending (e ∷ es) → AllEndAbove e.hi es

@@ -22,10 +22,10 @@ lt_true a b h = grind (arith, ints)
 pub lt_false : (a b : ℤ) → b ≤ℤ a → int_lt a b ≡ false
 lt_false a b h = grind (arith, ints)
 
-le_true : (a b : ℤ) → a ≤ℤ b → int_le a b ≡ true
+pub le_true : (a b : ℤ) → a ≤ℤ b → int_le a b ≡ true
 le_true a b h = grind (arith, ints)
 
-le_false : (a b : ℤ) → b <ℤ a → int_le a b ≡ false
+pub le_false : (a b : ℤ) → b <ℤ a → int_le a b ≡ false
 le_false a b h = grind (arith, ints)
 
 eq_true : (a b : ℤ) → int_eq a b ≡ true → a ≡ b
@@ -68,7 +68,7 @@ module _ {V : Type 0} where
       ap (λ b. cond b (after k es) (cond (int_le e.lo k) (entry (k +ℤ pos 1) e.hi e.value ∷ es) (e ∷ es))) (le_false e.hi k h)
       ∙ ap (λ b. cond b (entry (k +ℤ pos 1) e.hi e.value ∷ es) (e ∷ es)) (le_true e.lo k l)
 
-  after_keeps : (k : ℤ) (e : Entry V) (es : List (Entry V)) → k <ℤ e.hi → k <ℤ e.lo → after k (e ∷ es) ≡ e ∷ es
+  pub after_keeps : (k : ℤ) (e : Entry V) (es : List (Entry V)) → k <ℤ e.hi → k <ℤ e.lo → after k (e ∷ es) ≡ e ∷ es
   after_keeps k e es h l =
       ap (λ b. cond b (after k es) (cond (int_le e.lo k) (entry (k +ℤ pos 1) e.hi e.value ∷ es) (e ∷ es))) (le_false e.hi k h)
       ∙ ap (λ b. cond b (entry (k +ℤ pos 1) e.hi e.value ∷ es) (e ∷ es)) (le_false e.lo k l)

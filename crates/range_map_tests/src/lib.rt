@@ -15,3 +15,5 @@ mod paints;
 mod prints;
 #[cfg(test)]
 mod removals;
+#[cfg(test)]
+mod streams;

@@ -27,6 +27,7 @@ fn entries(alloc: Global, count: i64) -> Result<Map, AllocError> {
 /// The key of an entry of its own that a call wants.
 fn single_key(call: &str) -> Option<i64> {
     match call {
+        "from_sorted_disjoint_map" => Map::from_sorted_disjoint_map(alloc, map.range_values()).is_ok(),
         "remove single" => Some(7),
         "pop_first single" => Some(-7),
         "pop_last single" => Some(5000),
@@ -35,7 +36,7 @@ fn single_key(call: &str) -> Option<i64> {
 }
 
 /// Makes a call, and answers whether it succeeded.
-fn succeeds(call: &str, map: &mut Map, value: String) -> bool {
+fn succeeds(alloc: Global, call: &str, map: &mut Map, value: String) -> bool {
     match call {
         "ranges_insert inside" => map.ranges_insert(2..=3, value).is_ok(),
         "ranges_insert over" => map.ranges_insert(3..=2003, value).is_ok(),
@@ -78,7 +79,7 @@ fn main(rt: HostRuntime) -> anyhow::Result<()> {
     let len = map.len();
     let new = value(alloc, -1)?;
     println!(rt; "begin")?;
-    let is_done = succeeds(call.as_str(), &mut map, new);
+    let is_done = succeeds(alloc, call.as_str(), &mut map, new);
     println!(rt; "end")?;
     let after = format!(in alloc; "{map}")?;
     let is_kept = after.as_str() == before.as_str() && map.len() == len;

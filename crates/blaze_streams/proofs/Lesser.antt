@@ -1,0 +1,29 @@
+-- The lesser of two keys.
+use Rattle.std.proofs.Common.{◌≡◌, ℤ, ◌≤ℤ◌, cond, Option, Some, None, ◌∙◌, sym, subst, ap, arith, inl, inr}
+use Rattle.std.specs.Prelude.{◌⊎◌}
+use Rattle.std.proofs.lemmas.Int.{ints, by_lt_z}
+use Rattle.blaze_table.proofs.Splices.{le_true, le_false}
+use Rattle.blaze_streams.specs.Cursors.{lesser}
+use Rattle.blaze_streams.proofs.Steady.{AtMost}
+
+pub at_most_both : (p q : Option ℤ) (t : ℤ) → AtMost t (lesser p q) → AtMost t p × AtMost t q
+at_most_both None q t m = (tt, m)
+at_most_both (Some a) None t m = (m, tt)
+at_most_both (Some a) (Some b) t m = by_lt_z b a
+    (λ l. let u : t ≤ℤ b = subst (AtMost t) (ap (λ z. Some (cond z a b)) (le_false a b l)) m in (omega (arith, ints), u))
+    (λ l. let u : t ≤ℤ a = subst (AtMost t) (ap (λ z. Some (cond z a b)) (le_true a b l)) m in (u, omega (arith, ints)))
+
+pub at_most_itself : (o : Option ℤ) (t : ℤ) → o ≡ Some t → AtMost t o
+at_most_itself o t p = let u : t ≤ℤ t = omega (arith, ints) in subst (AtMost t) (sym p) u
+
+-- it is one of the two
+pub lesser_one : (p q : Option ℤ) (s : ℤ) → lesser p q ≡ Some s → (p ≡ Some s) ⊎ (q ≡ Some s)
+lesser_one None q s e = inr e
+lesser_one (Some a) None s e = inl e
+lesser_one (Some a) (Some b) s e = by_lt_z b a
+    (λ l. inr (sym (ap (λ t. Some (cond t a b)) (le_false a b l)) ∙ e))
+    (λ l. inl (sym (ap (λ t. Some (cond t a b)) (le_true a b l)) ∙ e))
+
+pub some_lesser : (a : ℤ) (o : Option ℤ) → lesser (Some a) o ≡ None → ⊥
+some_lesser a None p = cc
+some_lesser a (Some b) p = cc

@@ -1,0 +1,49 @@
+-- The segments of lists of ranges: the greatest ranges on which no list changes and at least one is present.
+use Rattle.std.specs.Prelude.{◌≡◌, ℕ, ◌+◌, ℤ, nat_eq, Bool, if◌then◌else◌, List, [], ◌∷◌, map, Option, Some, None}
+use Rattle.std.specs.Option.{option_eq, is_some}
+use Rattle.std.specs.List.{list_any}
+use Rattle.std.specs.Cmp.Lexicographic.{pointwise}
+use Rattle.std.specs.Global.{Vec}
+use Rattle.blaze_table.specs.Entries.{Entry, entry, at}
+use Rattle.blaze_table.specs.Canonical.{IsDisjoint, IsAscending, IsOnePerRun}
+use Rattle.blaze_streams.specs.declared.list_segments.Segment.{Segment}
+
+-- the ranges of a list as entries, each with its place as its value; the first has the place i
+abbrev pub numbered : {T : Type 0} → (T → ℤ) → ℕ → List (T × T) → List (Entry ℕ)
+numbered rank i [] = []
+numbered rank i (r ∷ rs) = entry (rank r.0) (rank r.1) i ∷ numbered rank (i + 1) rs
+
+-- the same of each list
+abbrev pub all_numbered : {T : Type 0} → (T → ℤ) → List (Vec (T × T)) → List (List (Entry ℕ))
+all_numbered rank [] = []
+all_numbered rank (v ∷ vs) = numbered rank 0 v.items ∷ all_numbered rank vs
+
+-- each list is disjoint and ascending
+abbrev pub AreInOrder : {A : Type 0} → List (List (Entry A)) → Type 0
+AreInOrder [] = Unit {0}
+AreInOrder (L ∷ Ls) = IsDisjoint L × IsAscending L × AreInOrder Ls
+
+-- what each list has at a key
+abbrev pub row : {A : Type 0} → List (List (Entry A)) → ℤ → List (Option A)
+row [] k = []
+row (L ∷ Ls) k = at L k ∷ row Ls k
+
+-- a row, where at least one list has something
+abbrev pub present : {A : Type 0} → List (Option A) → Option (List (Option A))
+present r = if list_any is_some r then Some r else None
+
+-- two rows have the same of each list
+abbrev pub row_eq : {A : Type 0} → (A → A → Bool) → List (Option A) → List (Option A) → Bool
+row_eq eq = pointwise (option_eq eq)
+
+-- a segment as an entry, with its row as its value
+abbrev pub entry_of : {T : Type 0} → (T → ℤ) → Segment T → Entry (List (Option ℕ))
+entry_of rank s = record { lo = rank s.lo; hi = rank s.hi; value = s.at.items }
+
+abbrev pub entries_of : {T : Type 0} → (T → ℤ) → List (Segment T) → List (Entry (List (Option ℕ)))
+entries_of rank segments = map (entry_of rank) segments
+
+-- the segments of lists: at each key they have the row of the lists where it is present, and they are one per run of rows
+pub record IsSegmentsOf (lists : List (List (Entry ℕ))) (segments : List (Entry (List (Option ℕ)))) : Type 0 where
+  pub runs : IsOnePerRun (row_eq nat_eq) segments
+  pub content : (k : ℤ) → at segments k ≡ present (row lists k)
