@@ -1,8 +1,11 @@
 //! What stands for a value in a stream.
-ghost use Rattle.std.specs.Prelude.{◌≡◌, true, IfOk};
+ghost use Rattle.std.specs.Prelude.{◌≡◌, true, IfOk, ⊤};
+ghost use Rattle.std.specs.Rc.{rc_value};
 ghost use Rattle.blaze_table.specs.Painted.{ClonesAreAlike};
+ghost use Rattle.blaze_streams.specs.Carried.{shown_option};
 
 use std::alloc::AllocError;
+use std::rc::Rc;
 
 /// Stands for one value in a stream.
 pub trait ValueCarrier: Drop {
@@ -48,5 +51,100 @@ impl<V: Eq + Clone> ValueCarrier for &V {
 
     fn carry(&self) -> Result<Self, AllocError> {
         Ok(*self)
+    }
+}
+
+/// A `bool` stands for itself. Nothing takes memory.
+impl ValueCarrier for bool {
+    type Value = bool;
+
+    ghost shown = { λ b. b };
+
+    ghost can_carry = { ⊤ };
+
+    fn value_eq(&self, other: &Self) -> bool {
+        *self == *other
+    }
+
+    fn into_value(self) -> Result<bool, AllocError> {
+        Ok(self)
+    }
+
+    fn carry(&self) -> Result<Self, AllocError> {
+        Ok(*self)
+    }
+}
+
+/// An `Rc` stands for what it shares. `into_value` clones where there are other owners, `carry` makes another owner.
+impl<V: Eq + Clone> ValueCarrier for Rc<V> {
+    type Value = V;
+
+    ghost shown = { rc_value };
+
+    ghost can_carry = { ClonesAreAlike V.is_clone V.eq };
+
+    fn value_eq(&self, other: &Self) -> bool {
+        *self.as_ref() == *other.as_ref()
+    }
+
+    fn into_value(self) -> Result<V, AllocError> {
+        Rc::unwrap_or_clone(self)
+    }
+
+    fn carry(&self) -> Result<Self, AllocError> {
+        self.clone()
+    }
+}
+
+/// An option of a carrier stands for the option of its value.
+impl<VC: ValueCarrier> ValueCarrier for Option<VC> {
+    type Value = Option<VC::Value>;
+
+    ghost shown = { shown_option VC.shown };
+
+    ghost can_carry = { VC.can_carry };
+
+    fn value_eq(&self, other: &Self) -> bool {
+        match (self, other) {
+            (None, None) => true,
+            (Some(carrier), Some(other)) => carrier.value_eq(other),
+            _ => false,
+        }
+    }
+
+    fn into_value(self) -> Result<Option<VC::Value>, AllocError> {
+        match self {
+            None => Ok(None),
+            Some(carrier) => Ok(Some(carrier.into_value()?)),
+        }
+    }
+
+    fn carry(&self) -> Result<Self, AllocError> {
+        match self {
+            None => Ok(None),
+            Some(carrier) => Ok(Some(carrier.carry()?)),
+        }
+    }
+}
+
+/// A pair of carriers stands for the pair of their values.
+impl<VCL: ValueCarrier, VCR: ValueCarrier> ValueCarrier for (VCL, VCR) {
+    type Value = (VCL::Value, VCR::Value);
+
+    ghost shown = { λ p. (VCL.shown p.0, VCR.shown p.1) };
+
+    ghost can_carry = { VCL.can_carry × VCR.can_carry };
+
+    fn value_eq(&self, other: &Self) -> bool {
+        self.0.value_eq(&other.0) && self.1.value_eq(&other.1)
+    }
+
+    fn into_value(self) -> Result<(VCL::Value, VCR::Value), AllocError> {
+        let (left, right) = self;
+        Ok((left.into_value()?, right.into_value()?))
+    }
+
+    fn carry(&self) -> Result<Self, AllocError> {
+        Ok((self.0.carry()?, self.1.carry()?))
     }
 }

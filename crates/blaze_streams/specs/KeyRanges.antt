@@ -1,0 +1,22 @@
+-- A map's keys as ranges.
+use Rattle.std.specs.Prelude.{◌≡◌, ℤ, pos, ◌+ℤ◌, if◌then◌else◌, List, [], ◌∷◌, Option, Some, None, is_some}
+use Rattle.std.specs.Ordering.{int_eq}
+use Rattle.blaze_table.specs.Entries.{Entry, entry, at}
+use Rattle.blaze_streams.specs.RangeLists.{IsRangeSet}
+
+-- the ranges are a set's, and have the keys at which the entries have a value
+pub record AreKeyRanges {V : Type 0} (low high : ℤ) (entries : List (Entry V)) (ranges : List (Entry (Unit {0}))) : Type 0 where
+  pub range_set : IsRangeSet low high ranges
+  pub same_keys : (k : ℤ) → is_some (at ranges k) ≡ is_some (at entries k)
+
+-- ---- by structure
+
+-- the range from lo up to hi and the entries after it, joined where they touch
+abbrev pub joined : {V : Type 0} → ℤ → ℤ → List (Entry V) → List (Entry (Unit {0}))
+joined lo hi [] = entry lo hi tt ∷ []
+joined lo hi (e ∷ es) = if int_eq e.lo (hi +ℤ pos 1) then joined lo e.hi es else entry lo hi tt ∷ joined e.lo e.hi es
+
+-- what is left of an iterator with an open range and the entries after it
+abbrev pub joined_left : {T V : Type 0} → (T → ℤ) → Option (T × T) → List (Entry V) → List (Entry (Unit {0}))
+joined_left rank None entries = []
+joined_left rank (Some p) entries = joined (rank p.0) (rank p.1) entries

@@ -1,0 +1,38 @@
+//! A value that stands for itself.
+ghost use Rattle.blaze_table.specs.Painted.{ClonesAreAlike};
+
+use crate::carrier::ValueCarrier;
+use std::alloc::AllocError;
+use std::fmt::{self, Debug, Formatter};
+
+/// A value that stands for itself. `into_value` takes no memory, `carry` clones.
+#[derive(PartialEq, Eq, Hash, Drop)]
+pub struct Owned<V>(pub V);
+
+impl<V: Debug> Debug for Owned<V> {
+    /// As the value.
+    fn fmt<W: fmt::Write>(&self, f: &mut Formatter<W>) -> fmt::Result {
+        self.0.fmt(f)
+    }
+}
+
+impl<V: Eq + Clone> ValueCarrier for Owned<V> {
+    type Value = V;
+
+    ghost shown = { λ o. o.0 };
+
+    ghost can_carry = { ClonesAreAlike V.is_clone V.eq };
+
+    fn value_eq(&self, other: &Self) -> bool {
+        self.0 == other.0
+    }
+
+    fn into_value(self) -> Result<V, AllocError> {
+        let Owned(value) = self;
+        Ok(value)
+    }
+
+    fn carry(&self) -> Result<Self, AllocError> {
+        Ok(Owned(self.0.clone()?))
+    }
+}

@@ -1,0 +1,38 @@
+//! Streams of ranges, by their laws. Contracts see a stream as the list of what is left, as entries with the unit value.
+ghost use Rattle.std.specs.Prelude.{◌≡◌, ◌≤◌, ℕ, List, Option, length};
+ghost use Rattle.std.specs.Iterator.{YieldsFirstBy, item_count};
+ghost use Rattle.std.specs.declared.ops.RangeInclusive.{RangeInclusive};
+ghost use Rattle.blaze_table.specs.Entries.{Entry};
+ghost use Rattle.blaze_streams.specs.RangeLists.{bare_range, IsRangeSet};
+
+use blaze_int::Integer;
+use std::ops::RangeInclusive;
+
+/// A stream of ranges: no range is empty, the ranges ascend and are disjoint, and no two touch. It is finite, and once it
+/// has ended it stays ended.
+pub trait SortedDisjoint<T: Integer>: Iterator<Item = RangeInclusive<T>> {
+    // What is left, as entries with the unit value.
+    ghost left: { Self → List (Entry (Unit {0})) };
+
+    // The lower bound of `size_hint`.
+    ghost least: { Self → ℕ };
+
+    /// Does nothing. Its contract says that what is left is canonical, and that its ends are keys.
+    fn in_hand(&self)
+        ensures { IsRangeSet T.low T.high (left self.now) };
+
+    /// The lower bound of `size_hint`, in ranges.
+    fn least_len(&self) -> usize
+        ensures value { result ≡ least self.now }
+        ensures bound { result ≤ length (left self.now) };
+
+    // `next` may always be called.
+    ghost ready: { (s : Self) → Self.can_next s };
+
+    // No more ranges come than are left.
+    ghost counted: { (s : Self) → Self.remaining s ≡ item_count left s };
+
+    // `next` takes the first of what is left, and answers `None` where nothing is left.
+    ghost gives: { (s : Self) (r : Option (RangeInclusive T)) (t : Self) → Self.next_gives s r t
+        → YieldsFirstBy (bare_range T.rank) left s r t };
+}
