@@ -4,8 +4,9 @@ ghost use Rattle.std.proofs.Common.{rules};
 ghost use Rattle.std.specs.Cmp.Rules.{comparing};
 ghost use Rattle.std.specs.Ordering.{on, int_eq};
 
-use range_map_blaze::RangeMapBlaze;
-use std::alloc::AllocError;
+use range_map_blaze::{Integer, RangeMapBlaze};
+use std::alloc::{AllocError, Global};
+use std::process::Abort;
 use std::test::Fail;
 
 /// A value that is equal by its number alone.
@@ -44,13 +45,22 @@ fn one(label: char) -> Labelled {
     Labelled { number: 1, label }
 }
 
-#[test]
-fn equal_values_are_one_range(rt: HostRuntime) -> Result<(), Fail> {
-    let mut map: RangeMapBlaze<i64, Labelled> = RangeMapBlaze::new(rt.alloc());
-    assert!(rt; map.ranges_insert(1..=9, one('x'))?);
-    assert!(rt; !map.ranges_insert(3..=4, one('y'))?);
+/// Paints with equal values of two labels.
+fn paints_equal_values_at<T: Integer + From<i32>>(
+    rt: &impl Abort,
+    alloc: Global,
+) -> Result<(), Fail> {
+    let mut map: RangeMapBlaze<T, Labelled> = RangeMapBlaze::new(alloc);
+    assert!(rt; map.ranges_insert(T::from(1)..=T::from(9), one('x'))?);
+    assert!(rt; !map.ranges_insert(T::from(3)..=T::from(4), one('y'))?);
     assert_eq!(rt; map.ranges_len(), 1);
-    let value = map.get(3).ok_or("no value")?;
+    let value = map.get(T::from(3)).ok_or("no value")?;
     assert!(rt; *value == one('y'));
     Ok(())
+}
+
+#[test]
+fn equal_values_are_one_range(rt: HostRuntime) -> Result<(), Fail> {
+    paints_equal_values_at::<i64>(&rt, rt.alloc())?;
+    paints_equal_values_at::<i32>(&rt, rt.alloc())
 }

@@ -96,10 +96,24 @@ fn retains_entries(rt: HostRuntime) -> Result<(), Fail> {
 }
 
 #[test]
+fn retains_entries_of_32_bits(rt: HostRuntime) -> Result<(), Fail> {
+    let mut map: RangeMapBlaze<i32, &str> = RangeMapBlaze::new(rt.alloc());
+    let _ = map.ranges_insert(0..=3, "low")?;
+    let _ = map.ranges_insert(4..=7, "high")?;
+    map.ranges_retain(|_, value| *value == "low");
+    assert_prints(&rt, rt.alloc(), &map, r#"(0..=3, "low")"#)
+}
+
+#[test]
 fn retains_keys(rt: HostRuntime) -> Result<(), Fail> {
     let mut map = one_range::<i64>(rt.alloc(), 0, 4)?;
     map.retain(|key, _| *key % 2 == 0)?;
-    assert_prints(&rt, rt.alloc(), &map, r#"(0..=0, "a"), (2..=2, "a"), (4..=4, "a")"#)?;
+    assert_prints(
+        &rt,
+        rt.alloc(),
+        &map,
+        r#"(0..=0, "a"), (2..=2, "a"), (4..=4, "a")"#,
+    )?;
     assert_eq!(rt; map.len(), 3u128);
     Ok(())
 }
@@ -108,7 +122,12 @@ fn retains_keys(rt: HostRuntime) -> Result<(), Fail> {
 fn retains_keys_of_32_bits(rt: HostRuntime) -> Result<(), Fail> {
     let mut map = one_range::<i32>(rt.alloc(), 0, 4)?;
     map.retain(|key, _| *key % 2 == 0)?;
-    assert_prints(&rt, rt.alloc(), &map, r#"(0..=0, "a"), (2..=2, "a"), (4..=4, "a")"#)
+    assert_prints(
+        &rt,
+        rt.alloc(),
+        &map,
+        r#"(0..=0, "a"), (2..=2, "a"), (4..=4, "a")"#,
+    )
 }
 
 #[test]

@@ -27,7 +27,10 @@ fn entries(alloc: Global, count: i64) -> Result<Map, AllocError> {
 /// The key of an entry of its own that a call wants.
 fn single_key(call: &str) -> Option<i64> {
     match call {
-        "from_sorted_disjoint_map" => Map::from_sorted_disjoint_map(alloc, map.range_values()).is_ok(),
+        "from_sorted_disjoint_map" => Map::from_sorted_disjoint_map(
+            alloc,
+            map.range_values(),
+        ).is_ok(),
         "remove single" => Some(7),
         "pop_first single" => Some(-7),
         "pop_last single" => Some(5000),

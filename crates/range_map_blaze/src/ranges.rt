@@ -1,0 +1,26 @@
+//! A map's keys as ranges.
+ghost use Rattle.blaze_streams.specs.KeyRanges.{AreKeyRanges};
+
+use crate::map::RangeMapBlaze;
+use blaze_int::Integer;
+use blaze_streams::{MapIntoRangesIter, MapRangesIter};
+
+impl<T: Integer, V: Eq> RangeMapBlaze<T, V> {
+    /// The ranges of the keys that have a value, ascending. Touching ranges are one, whatever their values. No memory is
+    /// taken.
+    pub fn ranges(&self) -> MapRangesIter<'_, T, V>
+        ensures { AreKeyRanges T.low T.high self.now.entries result }
+    {
+        MapRangesIter::new(&self.table)
+    }
+}
+
+impl<T: Integer, V: Eq + Drop> RangeMapBlaze<T, V> {
+    /// The ranges of the keys that have a value, ascending, by value. Touching ranges are one, whatever their values. No
+    /// memory is taken.
+    pub fn into_ranges(self) -> MapIntoRangesIter<T, V>
+        ensures { AreKeyRanges T.low T.high self.entries result }
+    {
+        MapIntoRangesIter::new(self.table)
+    }
+}
