@@ -27,10 +27,6 @@ fn entries(alloc: Global, count: i64) -> Result<Map, AllocError> {
 /// The key of an entry of its own that a call wants.
 fn single_key(call: &str) -> Option<i64> {
     match call {
-        "from_sorted_disjoint_map" => Map::from_sorted_disjoint_map(
-            alloc,
-            map.range_values(),
-        ).is_ok(),
         "remove single" => Some(7),
         "pop_first single" => Some(-7),
         "pop_last single" => Some(5000),
@@ -56,6 +52,9 @@ fn succeeds(alloc: Global, call: &str, map: &mut Map, value: String) -> bool {
         "split_off inside" => map.split_off(3).is_ok(),
         "split_off between" => map.split_off(7).is_ok(),
         "retain" => map.retain(|key, _| *key % 2 == 0).is_ok(),
+        "from_sorted_disjoint_map" => {
+            Map::from_sorted_disjoint_map(alloc, map.range_values()).is_ok()
+        }
         "remove single" => map.remove(7).is_ok(),
         "pop_first single" => map.pop_first().is_ok(),
         "pop_last single" => map.pop_last().is_ok(),
