@@ -9,10 +9,10 @@ use Rattle.blaze_table.specs.Entries.{Entry, entry, at}
 use Rattle.blaze_table.specs.Canonical.{IsApart, IsCanonical, AreKeys, IsRangeMap}
 use Rattle.blaze_table.proofs.Lookup.{IsAbove, IsAbove-from_apart}
 use Rattle.blaze_table.proofs.Runs.{canonical, one_per_run}
-use Rattle.blaze_streams.specs.RangeLists.{unit_eq, IsRangeSet}
+use Rattle.blaze_table.specs.RangeSets.{unit_eq, IsRangeSet}
 use Rattle.blaze_streams.specs.KeyRanges.{AreKeyRanges, joined, joined_left}
-use Rattle.blaze_streams.proofs.Parts.{IsRangeMap-rest}
-use Rattle.blaze_streams.proofs.UnitLaws.{unit_laws}
+use Rattle.blaze_table.proofs.Parts.{IsRangeMap-rest}
+use Rattle.blaze_table.proofs.UnitLaws.{unit_laws}
 
 pick : {A : Type 0} (P : A → Type 0) (b : Bool) (x y : A) → (b ≡ true → P x) → (b ≡ false → P y) → P (if b then x else y)
 pick P true x y p q = p refl

@@ -2,7 +2,7 @@
 use Rattle.std.specs.Prelude.{◌≡◌, ℤ, pos, ◌+ℤ◌, if◌then◌else◌, List, [], ◌∷◌, Option, Some, None, is_some}
 use Rattle.std.specs.Ordering.{int_eq}
 use Rattle.blaze_table.specs.Entries.{Entry, entry, at}
-use Rattle.blaze_streams.specs.RangeLists.{IsRangeSet}
+use Rattle.blaze_table.specs.RangeSets.{IsRangeSet}
 
 -- the ranges are a set's, and have the keys at which the entries have a value
 pub record AreKeyRanges {V : Type 0} (low high : ℤ) (entries : List (Entry V)) (ranges : List (Entry (Unit {0}))) : Type 0 where

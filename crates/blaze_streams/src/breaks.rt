@@ -4,7 +4,8 @@ ghost use Rattle.std.specs.Option.{option_copied};
 ghost use Rattle.blaze_table.specs.Entries.{Entry};
 ghost use Rattle.blaze_table.specs.Canonical.{IsRangeMap};
 ghost use Rattle.blaze_streams.specs.Breaks.{breaks, IsFirstBreak};
-ghost use Rattle.blaze_streams.specs.RangeLists.{bare_range, IsWithin};
+ghost use Rattle.blaze_table.specs.RangeSets.{bare_range};
+ghost use Rattle.blaze_streams.specs.RangeLists.{IsWithin};
 ghost use Rattle.blaze_streams.specs.Ranges.{shown_range};
 
 use crate::carrier::ValueCarrier;

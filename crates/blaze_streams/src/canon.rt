@@ -2,7 +2,7 @@
 ghost use Rattle.std.specs.Prelude.{◌≡◌, length, refl, Some, IfSome};
 ghost use Rattle.std.specs.Iterator.{YieldsFirstBy, item_count, UpTo};
 ghost use Rattle.std.specs.Iterator.SizeHint.{IsWithinCount};
-ghost use Rattle.blaze_streams.specs.RangeLists.{bare_range, bare_ranges, IsRangeSet};
+ghost use Rattle.blaze_table.specs.RangeSets.{bare_range, bare_ranges, IsRangeSet};
 
 use crate::ranges_stream::SortedDisjoint;
 use blaze_int::Integer;
@@ -22,7 +22,7 @@ impl<T: Integer> Model for CanonIter<T> {
     ghost use Rattle.std.specs.Coded.{coded_list};
     ghost use Rattle.std.specs.Vec.Iter.{into_iter_items};
     ghost use Rattle.blaze_table.specs.Entries.{Entry};
-    ghost use Rattle.blaze_streams.specs.RangeLists.{bare_code, bare_ranges, IsRangeSet};
+    ghost use Rattle.blaze_table.specs.RangeSets.{bare_code, bare_ranges, IsRangeSet};
 
     ghost Value = { List (Entry (Unit {0})) };
 

@@ -4,7 +4,7 @@ ghost use Rattle.std.specs.Iterator.{YieldsFirstBy, item_count, UpTo};
 ghost use Rattle.std.specs.Iterator.SizeHint.{IsWithinCount};
 ghost use Rattle.blaze_table.specs.Canonical.{IsOnePerRun};
 ghost use Rattle.blaze_streams.specs.Breaks.{IsFirstBreak};
-ghost use Rattle.blaze_streams.specs.RangeLists.{bare_range, bare_ranges, unit_eq};
+ghost use Rattle.blaze_table.specs.RangeSets.{bare_range, bare_ranges, unit_eq};
 
 use crate::breaks::first_break;
 use crate::canon::CanonIter;
@@ -25,7 +25,7 @@ impl<T: Integer> Model for CheckSortedDisjoint<T> {
     ghost use Rattle.std.specs.Prelude.{List};
     ghost use Rattle.std.specs.Coded.{coded_list};
     ghost use Rattle.blaze_table.specs.Entries.{Entry};
-    ghost use Rattle.blaze_streams.specs.RangeLists.{bare_code};
+    ghost use Rattle.blaze_table.specs.RangeSets.{bare_code};
 
     ghost Value = { List (Entry (Unit {0})) };
 

@@ -1,28 +1,40 @@
 //! Sorted streams of disjoint ranges with their values.
 #![tactic(auto)]
 
+mod ahead;
 mod breaks;
 mod canon;
 mod canon_map;
 mod carrier;
 mod check;
 mod check_map;
+mod choice;
+mod choosing;
+mod complements;
 mod cursor;
 mod cursors;
+mod into_range_values;
 mod list_segments;
 mod map_into_ranges;
 mod map_ranges;
 mod not_sorted;
 mod owned;
+mod push;
 mod range_values;
 mod ranges_stream;
+mod set_ranges;
 mod stream;
+mod union;
+mod with_ranges;
+mod with_true;
 
 pub use canon::CanonIter;
 pub use canon_map::CanonMapIter;
 pub use carrier::ValueCarrier;
 pub use check::CheckSortedDisjoint;
 pub use check_map::CheckSortedDisjointMap;
+pub use complements::complement;
+pub use into_range_values::IntoRangeValuesIter;
 pub use list_segments::{Segment, segments};
 pub use map_into_ranges::MapIntoRangesIter;
 pub use map_ranges::MapRangesIter;
@@ -31,7 +43,15 @@ pub use owned::Owned;
 pub use range_values::RangeValuesIter;
 pub use ranges_stream::SortedDisjoint;
 pub use stream::{BothEnds, SortedDisjointMap};
+pub use union::{symmetric_difference_of, union_of};
+pub use with_ranges::{intersect_with_ranges, subtract_ranges};
 
+#[cfg(test)]
+mod choice_tests;
+#[cfg(test)]
+mod complement_tests;
+#[cfg(test)]
+mod into_range_values_tests;
 #[cfg(test)]
 mod segments_tests;
 #[cfg(test)]

@@ -2,7 +2,7 @@
 ghost use Rattle.std.specs.Prelude.{◌≡◌, refl};
 ghost use Rattle.std.specs.Iterator.{YieldsFirstBy, item_count};
 ghost use Rattle.blaze_streams.specs.KeyRanges.{AreKeyRanges};
-ghost use Rattle.blaze_streams.specs.RangeLists.{bare_range};
+ghost use Rattle.blaze_table.specs.RangeSets.{bare_range};
 
 use crate::ranges_stream::SortedDisjoint;
 use blaze_int::Integer;
@@ -25,7 +25,7 @@ impl<T: Integer, V: Eq> Model for MapIntoRangesIter<T, V> {
     ghost use Rattle.std.specs.Coded.{coded_list};
     ghost use Rattle.blaze_table.specs.Entries.{Entry};
     ghost use Rattle.blaze_streams.specs.KeyRanges.{joined_left};
-    ghost use Rattle.blaze_streams.specs.RangeLists.{bare_code, IsRangeSet};
+    ghost use Rattle.blaze_table.specs.RangeSets.{bare_code, IsRangeSet};
 
     ghost Value = { List (Entry (Unit {0})) };
 

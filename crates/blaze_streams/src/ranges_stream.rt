@@ -3,7 +3,7 @@ ghost use Rattle.std.specs.Prelude.{◌≡◌, ◌≤◌, ℕ, List, Option, len
 ghost use Rattle.std.specs.Iterator.{YieldsFirstBy, item_count};
 ghost use Rattle.std.specs.declared.ops.RangeInclusive.{RangeInclusive};
 ghost use Rattle.blaze_table.specs.Entries.{Entry};
-ghost use Rattle.blaze_streams.specs.RangeLists.{bare_range, IsRangeSet};
+ghost use Rattle.blaze_table.specs.RangeSets.{bare_range, IsRangeSet};
 
 use blaze_int::Integer;
 use std::ops::RangeInclusive;

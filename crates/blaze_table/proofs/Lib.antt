@@ -24,3 +24,7 @@ pub mod Clones
 pub mod PairLists
 pub mod Keeping
 pub mod PairLaws
+pub mod UnitLaws
+pub mod Texts
+pub mod KeySets
+pub mod Parts

@@ -3,11 +3,15 @@ pub mod Canonical
 pub mod Count
 pub mod Laws
 pub mod Painted
+pub mod Chosen
+pub mod Complement
 pub mod Cut
 pub mod Gap
 pub mod Pairs
+pub mod Printed
 pub mod Retain
 pub mod Table
+pub mod RangeSets
 pub mod Slots
 pub mod Splice
 pub mod Keeping

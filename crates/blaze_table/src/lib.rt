@@ -9,18 +9,26 @@ mod cut;
 mod fill;
 mod gaps;
 mod into_iter;
+mod into_ranges_iter;
 mod iter;
 mod keep;
 pub mod laws;
 mod neighbours;
 mod paint;
+mod range_set;
+mod ranges_iter;
 mod retain;
 mod search;
+mod set_compare;
+mod set_display;
 mod split;
 mod table;
 
 pub use into_iter::IntoIter;
+pub use into_ranges_iter::IntoRangesIter;
 pub use iter::Iter;
+pub use range_set::RangeSetBlaze;
+pub use ranges_iter::RangesIter;
 pub use table::RangeTable;
 
 /// A range of keys with its value.
@@ -31,5 +39,7 @@ pub struct Slot<T, V> {
     value: V,
 }
 
+#[cfg(test)]
+mod set_tests;
 #[cfg(test)]
 mod tests;

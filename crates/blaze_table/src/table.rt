@@ -86,6 +86,11 @@ impl<T: Integer, V: Eq> RangeTable<T, V> {
         self.slots.len()
     }
 
+    /// The allocator of the table's memory.
+    pub fn allocator(&self) -> Global {
+        *self.slots.allocator()
+    }
+
     /// Does nothing; its contract says that the list is canonical and its ends are keys.
     pub fn in_hand(&self)
         ensures { IsRangeMap V.eq T.low T.high self.now.entries }

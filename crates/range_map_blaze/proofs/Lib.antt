@@ -3,3 +3,10 @@ pub mod Nowhere
 pub mod Texts
 pub mod Universal
 pub mod Streams
+pub mod Choices
+pub mod PaintedOver
+pub mod Valued
+pub mod Lives
+pub mod OneRange
+pub mod Paintings
+pub mod Joinings

@@ -1,14 +1,8 @@
--- Texts of which some parts may be unknown.
-use Rattle.std.proofs.Common.{◌≡◌, ℕ, List, ◌++◌, ℤ, refl, Option, Some, None, codes}
-use Rattle.std.specs.Fmt.{option_append, ◌++?◌}
+-- The text of an entry.
+use Rattle.std.proofs.Common.{◌≡◌, ℕ, List, ℤ, refl, Option, Some, codes}
+use Rattle.std.specs.Fmt.{◌++?◌}
 use Rattle.blaze_table.specs.Entries.{Entry}
 use Rattle.range_map_blaze.specs.Printed.{entry_text}
-
--- where two texts together are known, each is
-pub split_some : (o p : Option (List ℕ)) (c : List ℕ) → option_append o p ≡ Some c → (a b : List ℕ) × (o ≡ Some a) × (p ≡ Some b) × (a ++ b ≡ c)
-split_some None p c h = absurd (cc)
-split_some (Some a) None c h = absurd (cc)
-split_some (Some a) (Some b) c h = (a, b, refl, refl, cc)
 
 -- an entry's text by its two keys
 pub entry_shown : {K V : Type 0} (key_text : K → Option (List ℕ)) (of_rank : ℤ → K) (value_text : V → Option (List ℕ)) (e : Entry V) (start last : K) → of_rank e.lo ≡ start → of_rank e.hi ≡ last

@@ -1,2 +1,5 @@
 pub mod Pairs
 pub mod Printed
+pub mod OneRange
+pub mod Extended
+pub mod Underway

@@ -1,21 +1,31 @@
 //! A map from integers to values, kept as the shortest ascending list of disjoint ranges.
 #![tactic(auto)]
 
+mod append;
+mod complement;
 mod display;
+mod extend;
 mod insert;
 mod iter;
+mod joining;
 mod lookup;
 mod map;
+mod operators;
+mod paint;
+mod pointwise;
+mod range;
 mod ranges;
 mod remove;
 mod retain;
 mod stream;
+mod union;
 
 pub use blaze_int::{Integer, SafeLength, UIntPlusOne, bounds_of, names_a_key};
 pub use blaze_iters::{IntoIterMap, IntoKeys, IntoValues, IterMap, Keys, Values};
 pub use blaze_streams::{
-    BothEnds, MapIntoRangesIter, MapRangesIter, RangeValuesIter, SortedDisjoint, SortedDisjointMap,
-    ValueCarrier,
+    BothEnds, IntoRangeValuesIter, MapIntoRangesIter, MapRangesIter, RangeValuesIter,
+    SortedDisjoint, SortedDisjointMap, ValueCarrier,
 };
+pub use blaze_table::RangeSetBlaze;
 pub use map::RangeMapBlaze;
 pub use stream::IntoRangeMapBlaze;

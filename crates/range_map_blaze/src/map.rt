@@ -90,6 +90,11 @@ impl<T: Integer, V: Eq> RangeMapBlaze<T, V> {
         RangeValuesIter::new(&self.table)
     }
 
+    // The allocator of the map's memory.
+    pub(crate) fn allocator(&self) -> Global {
+        self.table.allocator()
+    }
+
     /// Does nothing; its contract says that the list of entries is canonical and its ends are keys.
     pub fn in_hand(&self)
         ensures { IsRangeMap V.eq T.low T.high self.now.entries }

@@ -1,9 +1,11 @@
-//! A map's keys as ranges.
+//! A map's keys as ranges, and its entries by value.
+ghost use Rattle.std.specs.Prelude.{◌≡◌, IfOk};
 ghost use Rattle.blaze_streams.specs.KeyRanges.{AreKeyRanges};
 
 use crate::map::RangeMapBlaze;
 use blaze_int::Integer;
-use blaze_streams::{MapIntoRangesIter, MapRangesIter};
+use blaze_streams::{IntoRangeValuesIter, MapIntoRangesIter, MapRangesIter};
+use std::alloc::AllocError;
 
 impl<T: Integer, V: Eq> RangeMapBlaze<T, V> {
     /// The ranges of the keys that have a value, ascending. Touching ranges are one, whatever their values. No memory is
@@ -22,5 +24,12 @@ impl<T: Integer, V: Eq + Drop> RangeMapBlaze<T, V> {
         ensures { AreKeyRanges T.low T.high self.entries result }
     {
         MapIntoRangesIter::new(self.table)
+    }
+    /// The entries by value, ascending, from both ends: each range with its value, which an `Rc` shares. All memory is taken
+    /// here, and none by the iterator. Refused memory drops the map.
+    pub fn into_range_values(self) -> Result<IntoRangeValuesIter<T, V>, AllocError>
+        ensures { IfOk result (λ iter. iter ≡ self.entries) }
+    {
+        IntoRangeValuesIter::new(self.allocator(), self.table)
     }
 }

@@ -133,7 +133,7 @@ fn chains_over_a_map(rt: HostRuntime) -> Result<(), Fail> {
 
 /// A number whose clone is refused where it is deaf. Equality is that of the numbers.
 #[derive(Drop, Debug)]
-struct Number {
+pub struct Number {
     n: u32,
     deaf: bool,
 }
@@ -166,11 +166,13 @@ impl Clone for Number {
     }
 }
 
-fn deaf(n: u32) -> Number {
+/// A number that refuses its clone.
+pub fn deaf(n: u32) -> Number {
     Number { n, deaf: true }
 }
 
-fn heard(n: u32) -> Number {
+/// A number that is cloned.
+pub fn heard(n: u32) -> Number {
     Number { n, deaf: false }
 }
 

@@ -1,6 +1,6 @@
-use Rattle.blaze_streams.specs.RangeLists.{unit_eq}
-use Rattle.blaze_streams.proofs.Parts.{IsRangeMap-rest}
-use Rattle.blaze_streams.proofs.UnitLaws.{unit_laws}
+use Rattle.blaze_table.specs.RangeSets.{unit_eq}
+use Rattle.blaze_table.proofs.Parts.{IsRangeMap-rest}
+use Rattle.blaze_table.proofs.UnitLaws.{unit_laws}
 use Rattle.blaze_streams.proofs.canon.CanonIterIterator.next.Goals as goal
 
 pub invariant_of-self-2 : goal.invariant_of-self-2

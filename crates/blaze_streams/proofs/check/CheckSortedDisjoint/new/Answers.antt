@@ -1,6 +1,6 @@
-use Rattle.blaze_streams.specs.RangeLists.{unit_eq}
+use Rattle.blaze_table.specs.RangeSets.{unit_eq}
 use Rattle.blaze_streams.proofs.FirstBreak.{broken}
-use Rattle.blaze_streams.proofs.UnitLaws.{unit_laws}
+use Rattle.blaze_table.proofs.UnitLaws.{unit_laws}
 use Rattle.blaze_streams.proofs.check.CheckSortedDisjoint.new.Goals as goal
 
 pub returns-in-Some-clause-accepted : goal.returns-in-Some-clause-accepted

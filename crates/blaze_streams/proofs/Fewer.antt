@@ -1,0 +1,32 @@
+-- Fewer keys are left of two streams after a step.
+use Rattle.std.proofs.Common.{◌≡◌, ◌+◌, ◌<◌, ◌≤◌, ℤ, ◌≤ℤ◌, Bool, List, [], ◌∷◌, Option, Some, refl, arith, ⊎_elim}
+use Rattle.std.proofs.lemmas.Int.{ints, by_lt_z}
+use Rattle.blaze_table.specs.Entries.{Entry}
+use Rattle.blaze_table.specs.Canonical.{IsCanonical}
+use Rattle.blaze_table.specs.Splice.{after}
+use Rattle.blaze_table.proofs.Splices.{after_keeps}
+use Rattle.blaze_streams.specs.Choosing.{IsChoiceMade}
+use Rattle.blaze_streams.specs.Cursors.{first_key, lesser}
+use Rattle.blaze_streams.proofs.ChosenSoFar.{step_order}
+use Rattle.blaze_streams.proofs.KeysLeft.{keys_left, all_less}
+use Rattle.blaze_streams.proofs.Lesser.{lesser_one}
+
+module _ {A : Type 0} (eq : A → A → Bool) (t : ℤ) where
+  less : (s : ℤ) (es : List (Entry A)) → IsCanonical eq es → s ≤ℤ t → first_key es ≡ Some s → keys_left (after t es) < keys_left es
+  less s [] c w f = cc
+  less s (e ∷ es) c w f = omega (arith, all_less eq s t ((e ∷ es) ∷ []) (c, tt) w f)
+
+  fewer : (es : List (Entry A)) → IsCanonical eq es → keys_left (after t es) ≤ keys_left es
+  fewer [] c = omega arith
+  fewer (e ∷ es) c = by_lt_z t e.lo
+      (λ l. rw (after_keeps t e es (omega (arith, ints, c.0)) l) (omega arith))
+      (λ l. omega (arith, less e.lo (e ∷ es) c l refl))
+
+pub step_less : {A B V : Type 0} (eqa : A → A → Bool) (eqb : B → B → Bool) (eq : V → V → Bool) (low high : ℤ) (choose : Option A → Option B → Option V) (s : ℤ) (L L' : List (Entry A)) (R R' : List (Entry B)) (out new : List (Entry V))
+    → IsCanonical eqa L → IsCanonical eqb R → lesser (first_key L) (first_key R) ≡ Some s → IsChoiceMade eq low high choose s L L' R R' out new → keys_left L' + keys_left R' < keys_left L + keys_left R
+step_less eqa eqb eq low high choose s L L' R R' out new ca cb starts m =
+    let w = step_order eqa eqb s m.end L R ca cb starts m.ends in
+    rw (m.left_is, m.right_is) (⊎_elim
+    (λ e. omega (arith, less eqa m.end s L ca w e, fewer eqb m.end R cb))
+    (λ e. omega (arith, less eqb m.end s R cb w e, fewer eqa m.end L ca))
+    (lesser_one (first_key L) (first_key R) s starts))

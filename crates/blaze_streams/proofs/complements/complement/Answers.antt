@@ -1,0 +1,23 @@
+use Rattle.std.proofs.Common.{sym, ap, subst}
+use Rattle.blaze_table.specs.RangeSets.{bare_range, unit_eq}
+use Rattle.blaze_table.specs.Complement.{IsComplement}
+use Rattle.blaze_table.proofs.UnitLaws.{unit_laws}
+use Rattle.blaze_streams.proofs.GapLists.{rank_of_next, gap_more, complement_made}
+use Rattle.blaze_streams.proofs.complements.complement.Goals as goal
+
+pub loop-range-preserved : goal.loop-range-preserved
+loop-range-preserved g c =
+    let rank = g.T.Integer.rank in
+    let high = g.T.Integer.high in
+    gap_more high _ _ _ _ _ c.loop-range.invariant _ _ _ (bare_range rank c.in-Some.range) _
+    (g.met.S.SortedDisjoint.gives _ _ _ c.in-Some.ensures.steps) (ap rank c.into_inner-start.ensures.start) (ap rank c.into_inner-start.ensures.end)
+    c.in_ok-push_gap.ensures (rank_of_next rank high _ _ c.checked_add_one-next.ensures)
+
+pub new-requires : goal.new-requires
+new-requires g c =
+    (complement_made unit_eq unit_laws g.T.Integer.low g.T.Integer.high _ c.in_hand.ensures _ _ _ _ c.loop-range.invariant (g.met.S.SortedDisjoint.gives _ _ _ c.in-None.ensures.steps).0 c.in_ok-push_rest.ensures).range_map
+
+pub returns : goal.returns
+returns g c =
+    subst (IsComplement unit_eq g.T.Integer.low g.T.Integer.high tt (g.S.SortedDisjoint.left c.args.set)) (sym c.new.ensures)
+    (complement_made unit_eq unit_laws g.T.Integer.low g.T.Integer.high _ c.in_hand.ensures _ _ _ _ c.loop-range.invariant (g.met.S.SortedDisjoint.gives _ _ _ c.in-None.ensures.steps).0 c.in_ok-push_rest.ensures)

@@ -1,0 +1,62 @@
+//! The keys that a set lacks.
+ghost use Rattle.std.specs.Prelude.{◌≡◌, pos, ◌+ℤ◌, ◌++◌, IfOk, OnOk};
+ghost use Rattle.blaze_table.specs.Complement.{IsComplement};
+ghost use Rattle.blaze_table.specs.RangeSets.{bare_ranges, unit_eq};
+ghost use Rattle.blaze_streams.specs.Gaps.{gap_before, rank_or_end};
+
+use crate::canon::CanonIter;
+use crate::ranges_stream::SortedDisjoint;
+use blaze_int::Integer;
+use blaze_int::compare::{before, is_below};
+use std::alloc::{AllocError, Global};
+use std::ops::RangeInclusive;
+
+// Adds the keys from `next` on that lie below a range's start, as one range. Where `next` is none there are no more keys.
+fn push_gap<T: Integer>(
+    gaps: &mut Vec<RangeInclusive<T>>,
+    next: Option<T>,
+    start: T,
+) -> Result<(), AllocError>
+    ensures { OnOk result (bare_ranges T.rank gaps.new.items ≡ bare_ranges T.rank gaps.old.items ++ gap_before (rank_or_end T.rank T.high next) (T.rank start)) }
+{
+    start.in_hand();
+    if let Some(first) = next {
+        if is_below(first, start) {
+            gaps.push(first..=before(start, first))?;
+        }
+    }
+    Ok(())
+}
+
+// Adds the keys from `next` on, as one range. Where `next` is none there are no more keys.
+fn push_rest<T: Integer>(
+    gaps: &mut Vec<RangeInclusive<T>>,
+    next: Option<T>,
+) -> Result<(), AllocError>
+    ensures { OnOk result (bare_ranges T.rank gaps.new.items ≡ bare_ranges T.rank gaps.old.items ++ gap_before (rank_or_end T.rank T.high next) (T.high +ℤ pos 1)) }
+{
+    if let Some(first) = next {
+        first.in_hand();
+        gaps.push(first..=T::max_value())?;
+    }
+    Ok(())
+}
+
+/// The ranges of the keys that a set lacks. Refused memory drops the set.
+pub fn complement<T: Integer, S: SortedDisjoint<T>>(
+    alloc: Global,
+    set: S,
+) -> Result<CanonIter<T>, AllocError>
+    ensures { IfOk result (λ stream. IsComplement unit_eq T.low T.high tt (S.left set) stream) }
+{
+    set.in_hand();
+    let mut gaps = Vec::new(alloc);
+    let mut next = Some(T::min_value());
+    for range in set {
+        let (start, end) = range.into_inner();
+        push_gap(&mut gaps, next, start)?;
+        next = end.checked_add_one();
+    }
+    push_rest(&mut gaps, next)?;
+    Ok(CanonIter::new(gaps))
+}

@@ -1,0 +1,38 @@
+//! One stream over another.
+ghost use Rattle.std.specs.Prelude.{IfOk};
+ghost use Rattle.blaze_table.specs.Chosen.{right_first, exactly_one, IsChosen};
+
+use crate::canon_map::CanonMapIter;
+use crate::carrier::ValueCarrier;
+use crate::choice::{ExactlyOne, RightFirst};
+use crate::choosing::chosen_of;
+use crate::stream::SortedDisjointMap;
+use blaze_int::Integer;
+use std::alloc::{AllocError, Global};
+
+/// The ranges of two streams, with the right one's value where it has one, and else the left one's. Refused memory drops
+/// both.
+pub fn union_of<
+    T: Integer,
+    VC: ValueCarrier,
+    L: SortedDisjointMap<T, VC>,
+    R: SortedDisjointMap<T, VC>,
+>(alloc: Global, left: L, right: R) -> Result<CanonMapIter<T, VC>, AllocError>
+    requires { VC.can_carry }
+    ensures { IfOk result (λ stream. IsChosen VC.Value.eq T.low T.high right_first (L.left left) (R.left right) stream) }
+{
+    chosen_of(alloc, left, right, &RightFirst)
+}
+
+/// The keys that exactly one of two streams has, with their values. Refused memory drops both.
+pub fn symmetric_difference_of<
+    T: Integer,
+    VC: ValueCarrier,
+    L: SortedDisjointMap<T, VC>,
+    R: SortedDisjointMap<T, VC>,
+>(alloc: Global, left: L, right: R) -> Result<CanonMapIter<T, VC>, AllocError>
+    requires { VC.can_carry }
+    ensures { IfOk result (λ stream. IsChosen VC.Value.eq T.low T.high exactly_one (L.left left) (R.left right) stream) }
+{
+    chosen_of(alloc, left, right, &ExactlyOne)
+}

@@ -1,0 +1,41 @@
+//! A stream on the keys of a set, and off them.
+ghost use Rattle.std.specs.Prelude.{IfOk};
+ghost use Rattle.blaze_table.specs.Chosen.{left_with_right, left_alone, IsChosen};
+
+use crate::canon_map::CanonMapIter;
+use crate::carrier::ValueCarrier;
+use crate::choice::{LeftAlone, LeftWithRight};
+use crate::choosing::chosen_of;
+use crate::ranges_stream::SortedDisjoint;
+use crate::stream::SortedDisjointMap;
+use crate::with_true::WithTrue;
+use blaze_int::Integer;
+use std::alloc::{AllocError, Global};
+
+/// The map on the keys of the set. Refused memory drops both.
+pub fn intersect_with_ranges<
+    T: Integer,
+    VC: ValueCarrier,
+    M: SortedDisjointMap<T, VC>,
+    S: SortedDisjoint<T>,
+>(alloc: Global, map: M, set: S) -> Result<CanonMapIter<T, VC>, AllocError>
+    requires { VC.can_carry }
+    ensures { IfOk result (λ stream. IsChosen VC.Value.eq T.low T.high left_with_right (M.left map) (S.left set) stream) }
+{
+    let stream = chosen_of(alloc, map, WithTrue::new(set), &LeftWithRight)?;
+    Ok(stream)
+}
+
+/// The map off the keys of the set. Refused memory drops both.
+pub fn subtract_ranges<
+    T: Integer,
+    VC: ValueCarrier,
+    M: SortedDisjointMap<T, VC>,
+    S: SortedDisjoint<T>,
+>(alloc: Global, map: M, set: S) -> Result<CanonMapIter<T, VC>, AllocError>
+    requires { VC.can_carry }
+    ensures { IfOk result (λ stream. IsChosen VC.Value.eq T.low T.high left_alone (M.left map) (S.left set) stream) }
+{
+    let stream = chosen_of(alloc, map, WithTrue::new(set), &LeftAlone)?;
+    Ok(stream)
+}

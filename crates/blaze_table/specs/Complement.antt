@@ -1,0 +1,14 @@
+-- The keys at which a list of entries has no value, with one value on them.
+use Rattle.std.specs.Prelude.{ℤ, ◌≤ℤ◌, Bool, List, Option, Some, None}
+use Rattle.blaze_table.specs.Entries.{Entry, at, SameOption}
+use Rattle.blaze_table.specs.Canonical.{IsRangeMap}
+
+-- a value where there is none, and none where there is one
+abbrev pub absent : {V W : Type 0} → W → Option V → Option W
+absent w None = Some w
+absent w (Some x) = None
+
+-- a range map that has the value at exactly the keys at which the entries have none
+pub record IsComplement {V W : Type 0} (eq : W → W → Bool) (low high : ℤ) (w : W) (entries : List (Entry V)) (new : List (Entry W)) : Type 0 where
+  pub range_map : IsRangeMap eq low high new
+  pub content : (k : ℤ) → low ≤ℤ k → k ≤ℤ high → SameOption eq (at new k) (absent w (at entries k))

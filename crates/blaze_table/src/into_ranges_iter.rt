@@ -1,0 +1,91 @@
+//! A set's ranges by value, one after another.
+ghost use Rattle.std.specs.Prelude.{◌≡◌, length, Some, IfSome};
+ghost use Rattle.std.specs.Iterator.{YieldsFirstBy, YieldsLastBy, item_count, UpTo};
+ghost use Rattle.std.specs.Iterator.SizeHint.{IsWithinCount};
+ghost use Rattle.blaze_table.specs.RangeSets.{bare_range, IsRangeSet};
+
+use crate::into_iter::IntoIter;
+use crate::table::RangeTable;
+use blaze_int::Integer;
+use std::iter::FusedIterator;
+use std::marker::Model;
+use std::ops::RangeInclusive;
+
+/// A set's ranges by value, ascending, from both ends.
+#[derive(Drop)]
+pub struct IntoRangesIter<T: Integer> {
+    entries: IntoIter<T, ()>,
+}
+
+impl<T: Integer> Model for IntoRangesIter<T> {
+    ghost use Rattle.std.specs.Prelude.{List};
+    ghost use Rattle.std.specs.Coded.{coded_list};
+    ghost use Rattle.blaze_table.specs.Entries.{Entry};
+    ghost use Rattle.blaze_table.specs.RangeSets.{bare_code, IsRangeSet};
+
+    ghost Value = { List (Entry (Unit {0})) };
+
+    ghost coded = { coded_list bare_code };
+
+    ghost view = { λ s. s.entries };
+
+    ghost invariant = { λ s. IsRangeSet T.low T.high s.entries };
+}
+
+impl<T: Integer> IntoRangesIter<T> {
+    pub(crate) fn new(table: RangeTable<T, ()>) -> Self
+        ensures { result ≡ table.entries }
+    {
+        table.in_hand();
+        IntoRangesIter {
+            entries: table.into_iter(),
+        }
+    }
+
+    /// Does nothing; its contract says that what is left is canonical and its ends are keys.
+    pub fn in_hand(&self)
+        ensures { IsRangeSet T.low T.high self.now }
+    {
+        let _ = &self.entries;
+    }
+}
+
+impl<T: Integer> Iterator for IntoRangesIter<T> {
+    type Item = RangeInclusive<T>;
+
+    ghost next_gives = { YieldsFirstBy (bare_range T.rank) (λ s. s) };
+
+    ghost remaining = { item_count (λ s. s) };
+
+    fn next(&mut self) -> Option<RangeInclusive<T>> {
+        let (start, end, _) = self.entries.next()?;
+        Some(start..=end)
+    }
+
+    /// Exact: how many ranges are left.
+    fn size_hint(&self) -> (usize, Option<usize>)
+        ensures lower { IsWithinCount result.0 (item_count (λ s. s) self.now) }
+        ensures upper { IfSome result.1 (UpTo (item_count (λ s. s) self.now)) }
+        ensures exact { result ≡ (length self.now, Some (length self.now)) }
+    {
+        let len = self.len();
+        (len, Some(len))
+    }
+}
+
+impl<T: Integer> DoubleEndedIterator for IntoRangesIter<T> {
+    ghost next_back_gives = { YieldsLastBy (bare_range T.rank) (λ s. s) };
+
+    fn next_back(&mut self) -> Option<RangeInclusive<T>> {
+        let (start, end, _) = self.entries.next_back()?;
+        Some(start..=end)
+    }
+}
+
+impl<T: Integer> ExactSizeIterator for IntoRangesIter<T> {
+    fn len(&self) -> usize {
+        self.entries.len()
+    }
+}
+
+impl<T: Integer> FusedIterator for IntoRangesIter<T> {}

@@ -1,0 +1,91 @@
+//! A set's ranges, one after another.
+ghost use Rattle.std.specs.Prelude.{◌≡◌, length, Some, IfSome};
+ghost use Rattle.std.specs.Iterator.{YieldsFirstBy, YieldsLastBy, item_count, UpTo};
+ghost use Rattle.std.specs.Iterator.SizeHint.{IsWithinCount};
+ghost use Rattle.blaze_table.specs.RangeSets.{bare_range, IsRangeSet};
+
+use crate::iter::Iter;
+use crate::table::RangeTable;
+use blaze_int::Integer;
+use std::iter::FusedIterator;
+use std::marker::Model;
+use std::ops::RangeInclusive;
+
+/// A set's ranges, ascending, from both ends.
+#[derive(Drop)]
+pub struct RangesIter<'a, T: Integer> {
+    entries: Iter<'a, T, ()>,
+}
+
+impl<'a, T: Integer> Model for RangesIter<'a, T> {
+    ghost use Rattle.std.specs.Prelude.{List};
+    ghost use Rattle.std.specs.Coded.{coded_list};
+    ghost use Rattle.blaze_table.specs.Entries.{Entry};
+    ghost use Rattle.blaze_table.specs.RangeSets.{bare_code, IsRangeSet};
+
+    ghost Value = { List (Entry (Unit {0})) };
+
+    ghost coded = { coded_list bare_code };
+
+    ghost view = { λ s. s.entries };
+
+    ghost invariant = { λ s. IsRangeSet T.low T.high s.entries };
+}
+
+impl<'a, T: Integer> RangesIter<'a, T> {
+    pub(crate) fn new(table: &'a RangeTable<T, ()>) -> Self
+        ensures { result ≡ table.now.entries }
+    {
+        table.in_hand();
+        RangesIter {
+            entries: table.iter(),
+        }
+    }
+
+    /// Does nothing; its contract says that what is left is canonical and its ends are keys.
+    pub fn in_hand(&self)
+        ensures { IsRangeSet T.low T.high self.now }
+    {
+        let _ = &self.entries;
+    }
+}
+
+impl<'a, T: Integer> Iterator for RangesIter<'a, T> {
+    type Item = RangeInclusive<T>;
+
+    ghost next_gives = { YieldsFirstBy (bare_range T.rank) (λ s. s) };
+
+    ghost remaining = { item_count (λ s. s) };
+
+    fn next(&mut self) -> Option<RangeInclusive<T>> {
+        let (start, end, _) = self.entries.next()?;
+        Some(start..=end)
+    }
+
+    /// Exact: how many ranges are left.
+    fn size_hint(&self) -> (usize, Option<usize>)
+        ensures lower { IsWithinCount result.0 (item_count (λ s. s) self.now) }
+        ensures upper { IfSome result.1 (UpTo (item_count (λ s. s) self.now)) }
+        ensures exact { result ≡ (length self.now, Some (length self.now)) }
+    {
+        let len = self.len();
+        (len, Some(len))
+    }
+}
+
+impl<'a, T: Integer> DoubleEndedIterator for RangesIter<'a, T> {
+    ghost next_back_gives = { YieldsLastBy (bare_range T.rank) (λ s. s) };
+
+    fn next_back(&mut self) -> Option<RangeInclusive<T>> {
+        let (start, end, _) = self.entries.next_back()?;
+        Some(start..=end)
+    }
+}
+
+impl<'a, T: Integer> ExactSizeIterator for RangesIter<'a, T> {
+    fn len(&self) -> usize {
+        self.entries.len()
+    }
+}
+
+impl<'a, T: Integer> FusedIterator for RangesIter<'a, T> {}

@@ -1,0 +1,92 @@
+-- Pairs painted in parts, one part after another.
+use Rattle.std.proofs.Common.{◌≡◌, ◌≤◌, ℤ, ◌<ℤ◌, Bool, true, false, ◌&&◌, cond, List, [], ◌∷◌, ◌++◌, length, map, Option, Some, None, refl, ◌∙◌, sym, ap, subst, arith}
+use Rattle.std.specs.Prelude.{int_le}
+use Rattle.std.specs.Cmp.{IsEquivalence}
+use Rattle.std.proofs.lemmas.Int.{ints}
+use Rattle.std.proofs.lemmas.List.{length-append, map-append}
+use Rattle.blaze_table.specs.Entries.{Entry, at, holds, SameOption}
+use Rattle.blaze_table.specs.Canonical.{IsRangeMap}
+use Rattle.blaze_table.specs.Painted.{IsPainted, or_else, last_at, painted_in_order}
+use Rattle.blaze_table.proofs.Unique.{same_itself, same_trans}
+use Rattle.range_map_blaze.specs.Extended.{IsExtended}
+
+module _ {V : Type 0} where
+  or_none : (a : Option V) → or_else a None ≡ a
+  or_none None = refl
+  or_none (Some x) = refl
+
+  or_or : (a b c : Option V) → or_else (or_else a b) c ≡ or_else a (or_else b c)
+  or_or None b c = refl
+  or_or (Some x) b c = refl
+
+  -- the last of two lists is that of the second, where it has one
+  pub last_append : (ps qs : List (Entry V)) (k : ℤ) → last_at (ps ++ qs) k ≡ or_else (last_at qs k) (last_at ps k)
+  last_append [] qs k = sym (or_none (last_at qs k))
+  last_append (p ∷ ps) qs k = ap (λ o. or_else o (cond (holds p k) (Some p.value) None)) (last_append ps qs k) ∙ or_or (last_at qs k) (last_at ps k) (cond (holds p k) (Some p.value) None)
+
+  no_key : (p : Entry V) (k : ℤ) → p.hi <ℤ p.lo → holds p k ≡ false
+  no_key p k w = grind (arith, ints)
+
+  pub last_nowhere : (p : Entry V) (k : ℤ) → p.hi <ℤ p.lo → last_at (p ∷ []) k ≡ None
+  last_nowhere p k w = ap (λ b. cond b (Some p.value) None) (no_key p k w)
+
+  painted_one : (b : Bool) (v : V) (o : Option V) → cond b (Some v) o ≡ or_else (cond b (Some v) None) o
+  painted_one true v o = refl
+  painted_one false v o = refl
+
+module _ {V : Type 0} (eq : V → V → Bool) (laws : IsEquivalence eq) where
+  pub or_alike : (a b c d : Option V) → SameOption eq a b → SameOption eq c d → SameOption eq (or_else a c) (or_else b d)
+  or_alike None None c d s t = t
+  or_alike None (Some y) c d s t = absurd s
+  or_alike (Some x) None c d s t = absurd s
+  or_alike (Some x) (Some y) c d s t = s
+
+  module _ (low high : ℤ) where
+    -- no pair
+    pub extended_none : (es : List (Entry V)) → IsRangeMap eq low high es → IsExtended eq low high [] es es
+    extended_none es r = record { range_map = r; content = λ k. same_itself eq laws (at es k); few = omega arith }
+
+    -- one pair
+    pub extended_one : (p : Entry V) (old new : List (Entry V)) → IsPainted eq low high p old new → IsExtended eq low high (p ∷ []) old new
+    extended_one p old new i = record {
+      range_map = i.range_map;
+      content = λ k. subst (SameOption eq (at new k)) (painted_one (holds p k) p.value (at old k)) (i.content k);
+      few = omega (arith, i.few);
+    }
+
+    -- a part, and then a part that stands for others
+    pub extended_more : (done others part old cur new : List (Entry V)) → IsExtended eq low high done old cur → IsExtended eq low high part cur new
+        → ((k : ℤ) → SameOption eq (last_at part k) (last_at others k)) → length part ≤ length others → IsExtended eq low high (done ++ others) old new
+    extended_more done others part old cur new d p s l = record {
+      range_map = p.range_map;
+      content = λ k. subst (SameOption eq (at new k)) (sym (or_or (last_at others k) (last_at done k) (at old k)) ∙ ap (λ o. or_else o (at old k)) (sym (last_append done others k)))
+          (same_trans eq laws (at new k) (painted_in_order part (at cur) k) (or_else (last_at others k) (painted_in_order done (at old) k)) (p.content k)
+          (or_alike (last_at part k) (last_at others k) (at cur k) (painted_in_order done (at old) k) (s k) (d.content k)));
+      few = omega (arith, d.few, p.few, length-append done others);
+    }
+
+    -- a part, and then one pair, of which an equal one is painted
+    pub extended_by : (p q : Entry V) (done old cur new : List (Entry V)) → IsExtended eq low high done old cur → IsExtended eq low high (q ∷ []) cur new
+        → q.lo ≡ p.lo → q.hi ≡ p.hi → eq q.value p.value ≡ true → IsExtended eq low high (done ++ p ∷ []) old new
+    extended_by p q done old cur new d e lo hi v = extended_more done (p ∷ []) (q ∷ []) old cur new d e alike (omega arith)
+      where
+        either : (b : Bool) → SameOption eq (cond b (Some q.value) None) (cond b (Some p.value) None)
+        either true = v
+        either false = tt
+
+        alike : (k : ℤ) → SameOption eq (last_at (q ∷ []) k) (last_at (p ∷ []) k)
+        alike k =
+            let same : holds q k ≡ holds p k = λ i. int_le (lo i) k && int_le k (hi i) in
+            subst (λ b. SameOption eq (cond b (Some q.value) None) (cond (holds p k) (Some p.value) None)) (sym same) (either (holds p k))
+
+    -- the same of items that show the pairs
+    pub extended_item : {A : Type 0} (shown : A → Entry V) (items : List A) (x : A) (q : Entry V) (old cur new : List (Entry V)) → IsExtended eq low high (map shown items) old cur
+        → IsExtended eq low high (q ∷ []) cur new → q.lo ≡ (shown x).lo → q.hi ≡ (shown x).hi → q.value ≡ (shown x).value → IsExtended eq low high (map shown (items ++ x ∷ [])) old new
+    extended_item shown items x q old cur new d e lo hi v =
+        subst (λ ps. IsExtended eq low high ps old new) (sym (map-append shown items (x ∷ [])))
+        (extended_by (shown x) q (map shown items) old cur new d e lo hi (subst (λ w. eq q.value w ≡ true) v (laws.refl q.value)))
+
+    -- a pair without a key
+    pub extended_nowhere : (p : Entry V) (done old new : List (Entry V)) → IsExtended eq low high done old new → p.hi <ℤ p.lo → IsExtended eq low high (done ++ p ∷ []) old new
+    extended_nowhere p done old new d w = extended_more done (p ∷ []) [] old new new d (extended_none new d.range_map)
+        (λ k. subst (SameOption eq None) (sym (last_nowhere p k w)) tt) (omega arith)

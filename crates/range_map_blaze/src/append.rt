@@ -1,0 +1,84 @@
+//! The entries of another map, painted in order.
+ghost use Rattle.std.specs.Prelude.{◌≡◌, [], Ok, OnOk, OnErr};
+ghost use Rattle.blaze_table.specs.Painted.{ClonesAreAlike};
+ghost use Rattle.range_map_blaze.specs.Extended.{IsExtended, IsPartlyExtended};
+
+use crate::joining::Pair;
+use crate::map::RangeMapBlaze;
+use blaze_int::Integer;
+use std::alloc::AllocError;
+
+impl<T: Integer, V: Eq + Clone> RangeMapBlaze<T, V> {
+    /// Paints the entries of another map, ascending: where both have a value, the other's wins. Refused memory leaves a
+    /// first part of them painted, perhaps none, and drops the others. An empty other map takes no memory.
+    pub fn extend_from(&mut self, other: Self) -> Result<(), AllocError>
+        requires { ClonesAreAlike V.is_clone V.eq }
+        ensures ok { OnOk result (IsExtended V.eq T.low T.high other.entries self.old.entries self.new.entries) }
+        ensures empty { other.entries ≡ [] → (result ≡ Ok tt) × (self.new ≡ self.old) }
+        ensures err { OnErr result (IsPartlyExtended V.eq T.low T.high other.entries self.old.entries self.new.entries) }
+    {
+        self.in_hand();
+        if other.is_empty() {
+            return Ok(());
+        }
+        for (start, end, value) in other.table {
+            self.paint_pair(Pair { start, end, value })?;
+        }
+        Ok(())
+    }
+
+    /// Paints the entries of another map, ascending, each with a clone of its value: where both have a value, the other's
+    /// wins. Refused memory leaves a first part of them painted, perhaps none. An empty other map takes no memory.
+    pub fn extend_with(&mut self, other: &Self) -> Result<(), AllocError>
+        requires { ClonesAreAlike V.is_clone V.eq }
+        ensures ok { OnOk result (IsExtended V.eq T.low T.high other.now.entries self.old.entries self.new.entries) }
+        ensures empty { other.now.entries ≡ [] → (result ≡ Ok tt) × (self.new ≡ self.old) }
+        ensures err { OnErr result (IsPartlyExtended V.eq T.low T.high other.now.entries self.old.entries self.new.entries) }
+    {
+        self.in_hand();
+        if other.is_empty() {
+            return Ok(());
+        }
+        for (start, end, value) in other.table.iter() {
+            let value = value.clone()?;
+            self.paint_pair(Pair { start, end, value })?;
+        }
+        Ok(())
+    }
+
+    /// The union of two maps, in the place of the first: as `extend_from`.
+    pub fn bitor_assign(&mut self, other: Self) -> Result<(), AllocError>
+        requires { ClonesAreAlike V.is_clone V.eq }
+        ensures ok { OnOk result (IsExtended V.eq T.low T.high other.entries self.old.entries self.new.entries) }
+        ensures empty { other.entries ≡ [] → (result ≡ Ok tt) × (self.new ≡ self.old) }
+        ensures err { OnErr result (IsPartlyExtended V.eq T.low T.high other.entries self.old.entries self.new.entries) }
+    {
+        self.extend_from(other)
+    }
+
+    /// The union of two maps, in the place of the first: as `extend_with`.
+    pub fn bitor_assign_ref(&mut self, other: &Self) -> Result<(), AllocError>
+        requires { ClonesAreAlike V.is_clone V.eq }
+        ensures ok { OnOk result (IsExtended V.eq T.low T.high other.now.entries self.old.entries self.new.entries) }
+        ensures empty { other.now.entries ≡ [] → (result ≡ Ok tt) × (self.new ≡ self.old) }
+        ensures err { OnErr result (IsPartlyExtended V.eq T.low T.high other.now.entries self.old.entries self.new.entries) }
+    {
+        self.extend_with(other)
+    }
+
+    /// Takes the entries of another map over: paints them, ascending, with clones of their values, and then empties the
+    /// other map. Refused memory leaves the other map unchanged, and a first part of its entries painted, perhaps none. An
+    /// empty other map takes no memory.
+    pub fn append(&mut self, other: &mut Self) -> Result<(), AllocError>
+        requires { ClonesAreAlike V.is_clone V.eq }
+        ensures ok { OnOk result (IsExtended V.eq T.low T.high other.old.entries self.old.entries self.new.entries) }
+        ensures emptied { OnOk result (other.new.entries ≡ []) }
+        ensures empty { other.old.entries ≡ [] → (result ≡ Ok tt) × (self.new ≡ self.old) }
+        ensures err { OnErr result (IsPartlyExtended V.eq T.low T.high other.old.entries self.old.entries self.new.entries) }
+        ensures kept { OnErr result (other.new ≡ other.old) }
+    {
+        self.extend_with(other)?;
+        other.clear();
+        Ok(())
+    }
+}

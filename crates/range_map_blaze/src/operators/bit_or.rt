@@ -1,0 +1,62 @@
+//! `left | right`: the values of the right map where it has some, and else those of the left. Refused memory leaves what is
+//! borrowed unchanged and drops what is owned.
+ghost use Rattle.std.specs.Prelude.{IfOk};
+ghost use Rattle.blaze_table.specs.Chosen.{right_first, IsChosen};
+ghost use Rattle.blaze_table.specs.Painted.{ClonesAreAlike};
+
+use crate::map::RangeMapBlaze;
+use crate::union::union;
+use blaze_int::Integer;
+use std::alloc::AllocError;
+use std::ops::BitOr;
+
+impl<T: Integer + 'static, V: Eq + Clone> BitOr for RangeMapBlaze<T, V> {
+    type Output = Result<RangeMapBlaze<T, V>, AllocError>;
+
+    ghost can_bitor = { λ _ _. ClonesAreAlike V.is_clone V.eq };
+
+    ghost bitor_gives = { λ left right result. IfOk result (λ map. IsChosen V.eq T.low T.high right_first left.entries right.entries map.entries) };
+
+    fn bitor(self, right: RangeMapBlaze<T, V>) -> Result<RangeMapBlaze<T, V>, AllocError> {
+        union(&self, &right)
+    }
+}
+
+impl<'b, T: Integer + 'static, V: Eq + Clone> BitOr<&'b RangeMapBlaze<T, V>>
+    for RangeMapBlaze<T, V> {
+    type Output = Result<RangeMapBlaze<T, V>, AllocError>;
+
+    ghost can_bitor = { λ _ _. ClonesAreAlike V.is_clone V.eq };
+
+    ghost bitor_gives = { λ left right result. IfOk result (λ map. IsChosen V.eq T.low T.high right_first left.entries right.now.entries map.entries) };
+
+    fn bitor(self, right: &'b RangeMapBlaze<T, V>) -> Result<RangeMapBlaze<T, V>, AllocError> {
+        union(&self, right)
+    }
+}
+
+impl<'a, T: Integer + 'static, V: Eq + Clone> BitOr<RangeMapBlaze<T, V>>
+    for &'a RangeMapBlaze<T, V> {
+    type Output = Result<RangeMapBlaze<T, V>, AllocError>;
+
+    ghost can_bitor = { λ _ _. ClonesAreAlike V.is_clone V.eq };
+
+    ghost bitor_gives = { λ left right result. IfOk result (λ map. IsChosen V.eq T.low T.high right_first left.now.entries right.entries map.entries) };
+
+    fn bitor(self, right: RangeMapBlaze<T, V>) -> Result<RangeMapBlaze<T, V>, AllocError> {
+        union(self, &right)
+    }
+}
+
+impl<'a, 'b, T: Integer + 'static, V: Eq + Clone> BitOr<&'b RangeMapBlaze<T, V>>
+    for &'a RangeMapBlaze<T, V> {
+    type Output = Result<RangeMapBlaze<T, V>, AllocError>;
+
+    ghost can_bitor = { λ _ _. ClonesAreAlike V.is_clone V.eq };
+
+    ghost bitor_gives = { λ left right result. IfOk result (λ map. IsChosen V.eq T.low T.high right_first left.now.entries right.now.entries map.entries) };
+
+    fn bitor(self, right: &'b RangeMapBlaze<T, V>) -> Result<RangeMapBlaze<T, V>, AllocError> {
+        union(self, right)
+    }
+}
