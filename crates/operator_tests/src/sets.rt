@@ -7,12 +7,11 @@ use std::test::Fail;
 
 /// The set of 5..=6, 1..=2, 3..=4 and a reversed range.
 fn one_to_six<T: Integer + From<u8>>(alloc: Global) -> Result<RangeSetBlaze<T>, AllocError> {
-    let ranges = vec![in alloc;
-        T::from(5u8)..=T::from(6u8),
-        T::from(1u8)..=T::from(2u8),
-        T::from(3u8)..=T::from(4u8),
-        T::from(9u8)..=T::from(7u8),
-    ]?;
+    let mut ranges = Vec::new(alloc);
+    ranges.push(T::from(5u8)..=T::from(6u8))?;
+    ranges.push(T::from(1u8)..=T::from(2u8))?;
+    ranges.push(T::from(3u8)..=T::from(4u8))?;
+    ranges.push(T::from(9u8)..=T::from(7u8))?;
     RangeSetBlaze::from_ranges(alloc, ranges)
 }
 
@@ -22,7 +21,9 @@ fn joined_at<T: Integer + From<u8>>(rt: &impl Abort, alloc: Global) -> Result<()
     assert_eq!(rt; set.ranges_len(), 1);
     assert!(rt; set.contains(T::from(6u8)));
     assert!(rt; !set.contains(T::from(7u8)));
-    let other = RangeSetBlaze::from_ranges(alloc, vec![in alloc; T::from(1u8)..=T::from(6u8)]?)?;
+    let mut ranges = Vec::new(alloc);
+    ranges.push(T::from(1u8)..=T::from(6u8))?;
+    let other = RangeSetBlaze::from_ranges(alloc, ranges)?;
     assert!(rt; set == other);
     let mut ranges = set.ranges();
     let range: Option<RangeInclusive<T>> = ranges.next();

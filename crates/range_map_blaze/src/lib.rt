@@ -26,6 +26,6 @@ pub use blaze_streams::{
     BothEnds, IntoRangeValuesIter, MapIntoRangesIter, MapRangesIter, RangeValuesIter,
     SortedDisjoint, SortedDisjointMap, ValueCarrier,
 };
-pub use blaze_table::RangeSetBlaze;
+pub use blaze_table::{IntoRangesIter, RangeSetBlaze, RangesIter};
 pub use map::RangeMapBlaze;
 pub use stream::IntoRangeMapBlaze;

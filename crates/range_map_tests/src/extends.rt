@@ -21,10 +21,9 @@ fn one_range<T: Integer + From<i32>>(
 /// One by one: the later pair wins.
 fn simple_at<T: Integer + From<i32>>(rt: &impl Abort, alloc: Global) -> Result<(), Fail> {
     let mut map = one_range::<T>(alloc, 1, 4, "a")?;
-    let pairs = vec![in alloc;
-        (T::from(3)..=T::from(5), "b"),
-        (T::from(5)..=T::from(5), "c"),
-    ]?;
+    let mut pairs = Vec::new(alloc);
+    pairs.push((T::from(3)..=T::from(5), "b"))?;
+    pairs.push((T::from(5)..=T::from(5), "c"))?;
     map.extend_simple(pairs)?;
     assert_prints(
         rt,
@@ -37,24 +36,22 @@ fn simple_at<T: Integer + From<i32>>(rt: &impl Abort, alloc: Global) -> Result<(
 /// A reversed range paints nothing.
 fn ranges_at<T: Integer + From<i32>>(rt: &impl Abort, alloc: Global) -> Result<(), Fail> {
     let mut map = one_range::<T>(alloc, 1, 2, "a")?;
-    let pairs = vec![in alloc;
-        (T::from(5)..=T::from(6), "b"),
-        (T::from(7)..=T::from(8), "b"),
-        (T::from(9)..=T::from(3), "c"),
-        (T::from(4)..=T::from(5), "b"),
-    ]?;
+    let mut pairs = Vec::new(alloc);
+    pairs.push((T::from(5)..=T::from(6), "b"))?;
+    pairs.push((T::from(7)..=T::from(8), "b"))?;
+    pairs.push((T::from(9)..=T::from(3), "c"))?;
+    pairs.push((T::from(4)..=T::from(5), "b"))?;
     map.extend_ranges(pairs)?;
     assert_prints(rt, alloc, &map, r#"(1..=2, "a"), (4..=8, "b")"#)
 }
 
 fn points_at<T: Integer + From<i32>>(rt: &impl Abort, alloc: Global) -> Result<(), Fail> {
-    let mut map = RangeMapBlaze::new(alloc);
-    let pairs = vec![in alloc;
-        (T::from(3), "a"),
-        (T::from(4), "a"),
-        (T::from(4), "b"),
-        (T::from(9), "c"),
-    ]?;
+    let mut map: RangeMapBlaze<T, &'static str> = RangeMapBlaze::new(alloc);
+    let mut pairs: Vec<(T, &'static str)> = Vec::new(alloc);
+    pairs.push((T::from(3), "a"))?;
+    pairs.push((T::from(4), "a"))?;
+    pairs.push((T::from(4), "b"))?;
+    pairs.push((T::from(9), "c"))?;
     map.extend_points(pairs)?;
     assert_prints(
         rt,
