@@ -1,7 +1,7 @@
 -- A range map's list painted over another.
-use Rattle.std.proofs.Common.{◌≡◌, ℤ, ◌≤ℤ◌, Bool, true, false, cond, List, [], ◌∷◌, ◌++◌, Option, Some, None, refl, ◌∙◌, sym, ap, subst, append-nil, append_assoc}
+use Rattle.std.proofs.Common.{◌≡◌, ℤ, Bool, true, false, cond, List, [], ◌∷◌, Option, Some, None, refl, ◌∙◌, ap}
 use Rattle.std.specs.Cmp.{IsEquivalence}
-use Rattle.blaze_table.specs.Entries.{Entry, entry, at, holds, SameOption}
+use Rattle.blaze_table.specs.Entries.{Entry, at, holds}
 use Rattle.blaze_table.specs.Canonical.{IsCanonical, IsRangeMap}
 use Rattle.blaze_table.specs.Chosen.{right_first, IsChosen}
 use Rattle.blaze_table.specs.Painted.{or_else, last_at}

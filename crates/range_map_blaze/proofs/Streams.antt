@@ -1,5 +1,5 @@
 -- The entries taken from a stream.
-use Rattle.std.proofs.Common.{◌≡◌, ◌++◌, ◌∷◌, [], List, ◌∙◌, sym, ap, subst, refl, Bool, true, ℤ, map, append_assoc, append-nil}
+use Rattle.std.proofs.Common.{◌≡◌, ◌++◌, ◌∷◌, [], List, ◌∙◌, sym, ap, subst, Bool, true, ℤ, map, append_assoc}
 use Rattle.std.specs.Cmp.{IsEquivalence}
 use Rattle.std.proofs.lemmas.List.{map-append}
 use Rattle.blaze_table.specs.Entries.{Entry, SameEntries, shown_entry}

@@ -1,5 +1,5 @@
 //! One map over another.
-ghost use Rattle.std.specs.Prelude.{◌↔◌, ◌<◌, ◌*◌, ◌+◌, IfOk, IsTrue};
+ghost use Rattle.std.specs.Prelude.{IfOk};
 ghost use Rattle.blaze_table.specs.Chosen.{right_first, IsChosen};
 ghost use Rattle.blaze_table.specs.Painted.{ClonesAreAlike};
 

@@ -1,4 +1,4 @@
-use Rattle.std.proofs.Common.{[], ◌++◌, ◌∷◌, ◌∙◌, sym, ap, subst, refl, Some, map, append-nil}
+use Rattle.std.proofs.Common.{[], ◌++◌, ◌∷◌, ◌∙◌, sym, ap, subst, map, append-nil}
 use Rattle.blaze_table.specs.Entries.{SameEntries, shown_entry}
 use Rattle.blaze_streams.specs.Ranges.{shown_range}
 use Rattle.range_map_blaze.proofs.Streams.{range_map_as, taken_more}

@@ -1,9 +1,8 @@
-use Rattle.std.proofs.Common.{[], ◌++◌, ◌∷◌, ◌∙◌, sym, ap, subst, refl, append-nil, append_assoc}
+use Rattle.std.proofs.Common.{[], ◌++◌, ◌∷◌, ◌∙◌, sym, ap, subst, append-nil, append_assoc}
 use Rattle.std.specs.Iterator.{IsFinite}
 use Rattle.blaze_streams.specs.Ranges.{shown_range}
 use Rattle.range_map_blaze.proofs.PaintedOver.{painted_over}
 use Rattle.range_map_blaze.proofs.Paintings.{extended_none, extended_by}
-use Rattle.range_map_blaze.specs.Underway.{shown_pair}
 use Rattle.range_map_blaze.proofs.map.RangeMapBlaze.paint_stream.Goals as goal
 
 pub loop-range-init : goal.loop-range-init
