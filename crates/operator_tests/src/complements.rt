@@ -1,7 +1,7 @@
 //! The keys without a value.
 use crate::maps::{Map, right, touching};
+use crate::prints::assert_prints;
 use range_map_blaze::{RangeMapBlaze, RangeSetBlaze};
-use range_map_tests::assert_prints;
 use std::alloc::Global;
 use std::process::Abort;
 use std::test::Fail;

@@ -8,6 +8,8 @@ mod maps;
 #[cfg(test)]
 mod pointwise;
 #[cfg(test)]
+mod prints;
+#[cfg(test)]
 mod ranges;
 #[cfg(test)]
 mod sets;

@@ -1,7 +1,7 @@
 //! `&`, `-` and `^`, and `|` of two small maps.
 use crate::maps::{Map, left, right};
+use crate::prints::assert_prints;
 use range_map_blaze::RangeSetBlaze;
-use range_map_tests::assert_prints;
 use std::alloc::{AllocError, Global};
 use std::test::Fail;
 

@@ -1,10 +1,6 @@
 //! Worked examples of range maps, as tests.
 #![tactic(auto)]
 
-mod prints;
-
-pub use prints::assert_prints;
-
 #[cfg(test)]
 mod bounds;
 #[cfg(test)]
@@ -17,6 +13,8 @@ mod iterators;
 mod lookups;
 #[cfg(test)]
 mod paints;
+#[cfg(test)]
+mod prints;
 #[cfg(test)]
 mod removals;
 #[cfg(test)]
