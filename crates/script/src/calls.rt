@@ -1,0 +1,123 @@
+//! The call of a line.
+use crate::changes::Change;
+use crate::extends::Extend;
+use crate::fault::Fault;
+use crate::iterate::Iterate;
+use crate::keys::ScriptKey;
+use crate::look_ups::LookUp;
+use crate::makes::Make;
+use crate::operators::{Complement, Operation};
+use crate::other_maps::OtherMap;
+use crate::sets::{SetLookUp, ranges};
+use crate::state::{MapName, SetName, State};
+use range_map_blaze::RangeSetBlaze;
+use std::alloc::Global;
+use std::ops::RangeInclusive;
+
+/// What was read, or `None` where it was bad.
+fn unless_bad<X>(read: Result<X, Fault>) -> Result<Option<X>, Fault> {
+    match read {
+        Ok(read) => Ok(Some(read)),
+        Err(Fault::Bad) => Ok(None),
+        Err(fault) => Err(fault),
+    }
+}
+
+/// The call that a line asks for, with all that it is given.
+#[derive(Drop)]
+pub enum Call<T: ScriptKey> {
+    LookUp(MapName, LookUp<T>),
+    Change(MapName, Change<T>),
+    Extend(MapName, Extend<T>),
+    OtherMap(OtherMap),
+    Iterate(MapName, Iterate<T>),
+    Make(MapName, Make<T>),
+    Operate(MapName, Operation),
+    Complement(SetName, Complement),
+    Set(SetName, Vec<RangeInclusive<T>>),
+    SetLookUp(SetName, SetLookUp<T>),
+}
+
+impl<T: ScriptKey> Call<T> {
+    /// The call that a line asks for.
+    pub fn read(alloc: Global, line: &str) -> Result<Self, Fault> {
+        let words: Vec<&str> = line.split(' ').collect(alloc)?;
+        match words.as_slice() {
+            [target, "=", rest @ ..] => match SetName::read(target) {
+                Ok(set) => Self::read_set(alloc, set, rest),
+                Err(_) => Self::read_map(alloc, MapName::read(target)?, rest),
+            },
+            [name, rest @ ..] => match SetName::read(name) {
+                Ok(set) => Ok(Call::SetLookUp(set, SetLookUp::read(rest)?)),
+                Err(_) => Self::read_of_map(alloc, MapName::read(name)?, rest),
+            },
+            [] => Err(Fault::Bad),
+        }
+    }
+
+    /// The call of a line that begins with a map's name.
+    fn read_of_map(alloc: Global, map: MapName, words: &[&str]) -> Result<Self, Fault> {
+        if let Ok(look_up) = LookUp::read(words) {
+            return Ok(Call::LookUp(map, look_up));
+        }
+        if let Ok(other) = OtherMap::read(map, words) {
+            return Ok(Call::OtherMap(other));
+        }
+        if let Some(change) = unless_bad(Change::read(alloc, words))? {
+            return Ok(Call::Change(map, change));
+        }
+        if let Some(extend) = unless_bad(Extend::read(alloc, words))? {
+            return Ok(Call::Extend(map, extend));
+        }
+        Ok(Call::Iterate(map, Iterate::read(alloc, words)?))
+    }
+
+    /// The call of a line that puts a map in the place of one.
+    fn read_map(alloc: Global, target: MapName, words: &[&str]) -> Result<Self, Fault> {
+        if let Ok(operation) = Operation::read(words) {
+            return Ok(Call::Operate(target, operation));
+        }
+        Ok(Call::Make(target, Make::read(alloc, target, words)?))
+    }
+
+    /// The call of a line that puts a set in the place of one.
+    fn read_set(alloc: Global, target: SetName, words: &[&str]) -> Result<Self, Fault> {
+        if let Ok(complement) = Complement::read(words) {
+            return Ok(Call::Complement(target, complement));
+        }
+        let ["set", words @ ..] = words else {
+            return Err(Fault::Bad);
+        };
+        Ok(Call::Set(target, ranges(alloc, words)?))
+    }
+
+    /// Makes the call, and prints its answer.
+    pub fn make(self, state: &mut State<T>, reply: &mut String) -> Result<(), Fault> {
+        match self {
+            Call::LookUp(map, look_up) => return look_up.make(state.map(map), reply),
+            Call::Change(map, change) => return change.make(state.map_mut(map), reply),
+            Call::Extend(map, extend) => return extend.make(state.map_mut(map), reply),
+            Call::OtherMap(other) => return other.make(state, reply),
+            Call::Iterate(map, iterate) => return iterate.make(map, state, reply),
+            Call::SetLookUp(set, look_up) => return look_up.make(set, state, reply),
+            Call::Make(target, make) => {
+                let map = make.make(state)?;
+                state.set_map(target, map);
+            }
+            Call::Operate(target, operation) => {
+                let map = operation.make(state)?;
+                state.set_map(target, map);
+            }
+            Call::Complement(target, complement) => {
+                let set = complement.make(state)?;
+                state.set_set(target, set);
+            }
+            Call::Set(target, ranges) => {
+                let set = RangeSetBlaze::from_ranges(state.alloc, ranges)?;
+                state.set_set(target, set);
+            }
+        }
+        reply.push_str("()")?;
+        Ok(())
+    }
+}

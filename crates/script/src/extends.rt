@@ -1,0 +1,65 @@
+//! `a extend_points K V ..` and kin: pairs painted in order.
+use crate::fault::Fault;
+use crate::keys::ScriptKey;
+use crate::state::Map;
+use crate::words::{inclusive, key, value};
+use std::alloc::Global;
+use std::ops::RangeInclusive;
+
+/// Pairs that are painted in order.
+#[derive(Drop)]
+pub enum Extend<T: ScriptKey> {
+    Points(Vec<(T, String)>),
+    Ranges(Vec<(RangeInclusive<T>, String)>),
+    Simple(Vec<(RangeInclusive<T>, String)>),
+}
+
+impl<T: ScriptKey> Extend<T> {
+    /// The extension that the words behind a map's name ask for.
+    pub fn read(alloc: Global, words: &[&str]) -> Result<Self, Fault> {
+        match words {
+            ["extend_points", pairs @ ..] => Ok(Extend::Points(points(alloc, pairs)?)),
+            ["extend_ranges", pairs @ ..] => Ok(Extend::Ranges(ranges(alloc, pairs)?)),
+            ["extend_simple", pairs @ ..] => Ok(Extend::Simple(ranges(alloc, pairs)?)),
+            _ => Err(Fault::Bad),
+        }
+    }
+
+    /// Makes the call.
+    pub fn make(self, map: &mut Map<T>, reply: &mut String) -> Result<(), Fault> {
+        match self {
+            Extend::Points(pairs) => map.extend_points(pairs)?,
+            Extend::Ranges(pairs) => map.extend_ranges(pairs)?,
+            Extend::Simple(pairs) => map.extend_simple(pairs)?,
+        }
+        reply.push_str("()")?;
+        Ok(())
+    }
+}
+
+/// The pairs that words write: a key, its value, and so on.
+fn points<T: ScriptKey>(alloc: Global, words: &[&str]) -> Result<Vec<(T, String)>, Fault> {
+    let mut pairs = Vec::new(alloc);
+    for pair in words.chunks(2) {
+        let [word, text] = pair else {
+            return Err(Fault::Bad);
+        };
+        pairs.push((key(word)?, value(alloc, text)?))?;
+    }
+    Ok(pairs)
+}
+
+/// The pairs that words write: a range, its value, and so on.
+fn ranges<T: ScriptKey>(
+    alloc: Global,
+    words: &[&str],
+) -> Result<Vec<(RangeInclusive<T>, String)>, Fault> {
+    let mut pairs = Vec::new(alloc);
+    for pair in words.chunks(2) {
+        let [word, text] = pair else {
+            return Err(Fault::Bad);
+        };
+        pairs.push((inclusive(word)?, value(alloc, text)?))?;
+    }
+    Ok(pairs)
+}

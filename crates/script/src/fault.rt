@@ -1,0 +1,23 @@
+//! Why a line has no answer.
+use std::alloc::{AllocError, AllocFailed};
+
+/// Why a line has no answer.
+#[derive(Clone, Copy, Debug)]
+pub enum Fault {
+    /// It asks nothing known, names the wrong thing, or makes a call whose condition does not hold.
+    Bad,
+    /// Memory was refused.
+    Refused,
+}
+
+impl From<AllocError> for Fault {
+    fn from(_refused: AllocError) -> Fault {
+        Fault::Refused
+    }
+}
+
+impl<X: Drop> From<AllocFailed<X>> for Fault {
+    fn from(_refused: AllocFailed<X>) -> Fault {
+        Fault::Refused
+    }
+}

@@ -1,0 +1,230 @@
+//! `a iter W` and kin: calls of one iterator.
+use crate::fault::Fault;
+use crate::keys::ScriptKey;
+use crate::state::{Map, MapName, State};
+use crate::words::bounds;
+use range_map_blaze::names_a_key;
+use std::alloc::{AllocError, Global};
+use std::fmt::{Debug, Write};
+use std::ops::Bound;
+
+/// A call of an iterator.
+#[derive(Clone, Copy, Debug, PartialEq, Eq)]
+enum Step {
+    Next,
+    NextBack,
+    SizeHint,
+}
+
+/// The calls that a word writes: one or more of `f`, `b` and `h`.
+fn steps(alloc: Global, word: &str) -> Result<Vec<Step>, Fault> {
+    let mut steps = Vec::new(alloc);
+    for letter in word.bytes() {
+        let step = match letter {
+            b'f' => Step::Next,
+            b'b' => Step::NextBack,
+            b'h' => Step::SizeHint,
+            _ => return Err(Fault::Bad),
+        };
+        steps.push(step)?;
+    }
+    if steps.is_empty() {
+        return Err(Fault::Bad);
+    }
+    Ok(steps)
+}
+
+/// An iterator of a map.
+#[derive(Clone, Copy)]
+enum Kind<T: ScriptKey> {
+    Iter,
+    Keys,
+    Values,
+    RangeValues,
+    Ranges,
+    IntoIter,
+    IntoKeys,
+    IntoValues,
+    IntoRangeValues,
+    IntoRanges,
+    Range((Bound<T>, Bound<T>)),
+}
+
+impl<T: ScriptKey> Kind<T> {
+    fn read(words: &[&str]) -> Result<Self, Fault> {
+        match words {
+            ["iter"] => Ok(Kind::Iter),
+            ["keys"] => Ok(Kind::Keys),
+            ["values"] => Ok(Kind::Values),
+            ["range_values"] => Ok(Kind::RangeValues),
+            ["ranges"] => Ok(Kind::Ranges),
+            ["into_iter"] => Ok(Kind::IntoIter),
+            ["into_keys"] => Ok(Kind::IntoKeys),
+            ["into_values"] => Ok(Kind::IntoValues),
+            ["into_range_values"] => Ok(Kind::IntoRangeValues),
+            ["into_ranges"] => Ok(Kind::IntoRanges),
+            ["range", range] => Ok(Kind::Range(bounds(range)?)),
+            _ => Err(Fault::Bad),
+        }
+    }
+
+    /// Whether the iterator goes forward alone.
+    fn is_forward(self) -> bool {
+        matches!(self, Kind::Ranges | Kind::IntoRanges)
+    }
+}
+
+/// Calls of an iterator of a map.
+#[derive(Drop)]
+pub struct Iterate<T: ScriptKey> {
+    kind: Kind<T>,
+    steps: Vec<Step>,
+}
+
+impl<T: ScriptKey> Iterate<T> {
+    /// What the words behind a map's name ask for.
+    pub fn read(alloc: Global, words: &[&str]) -> Result<Self, Fault> {
+        let [call @ .., calls] = words else {
+            return Err(Fault::Bad);
+        };
+        let kind = Kind::read(call)?;
+        let steps = steps(alloc, calls)?;
+        if kind.is_forward() && steps.iter().any(|step| *step != Step::Next) {
+            return Err(Fault::Bad);
+        }
+        Ok(Iterate { kind, steps })
+    }
+
+    /// Makes the iterator and its calls, and prints their answers, joined by `; `.
+    pub fn make(
+        self,
+        name: MapName,
+        state: &mut State<T>,
+        reply: &mut String,
+    ) -> Result<(), Fault> {
+        let Iterate { kind, steps } = self;
+        let steps = steps.as_slice();
+        let map = state.map(name);
+        match kind {
+            Kind::Iter => walk(map.iter(), steps, reply)?,
+            Kind::Keys => walk(map.keys(), steps, reply)?,
+            Kind::Values => walk_lent(map, map.values(), steps, reply)?,
+            Kind::RangeValues => walk(map.range_values(), steps, reply)?,
+            Kind::Ranges => walk_forward(map.ranges(), steps.len(), reply)?,
+            Kind::Range(range) => {
+                if !names_a_key(&range) {
+                    return Err(Fault::Bad);
+                }
+                walk_owned(map.range(range)?, steps, reply)?
+            }
+            _ => Self::make_taking(kind, state.take_map(name), steps, reply)?,
+        }
+        Ok(())
+    }
+
+    /// The same for an iterator that takes the map.
+    fn make_taking(
+        kind: Kind<T>,
+        map: Map<T>,
+        steps: &[Step],
+        reply: &mut String,
+    ) -> Result<(), Fault> {
+        match kind {
+            Kind::IntoIter => walk_owned(map.into_iter(), steps, reply)?,
+            Kind::IntoKeys => walk(map.into_keys(), steps, reply)?,
+            Kind::IntoValues => walk_owned(map.into_values(), steps, reply)?,
+            Kind::IntoRangeValues => walk(map.into_range_values()?, steps, reply)?,
+            _ => walk_forward(map.into_ranges(), steps.len(), reply)?,
+        }
+        Ok(())
+    }
+}
+
+/// Makes calls of an iterator.
+fn walk<X: Debug + Drop, I: DoubleEndedIterator<Item = X> + Drop>(
+    iter: I,
+    steps: &[Step],
+    reply: &mut String,
+) -> Result<(), AllocError>
+    requires next { (s : I) → I.can_next s }
+    requires next_back { (s : I) → I.can_next_back s }
+{
+    let mut iter = iter;
+    let mut lead = "";
+    for step in steps {
+        reply.push_str(lead)?;
+        match step {
+            Step::Next => write!(reply, "{:?}", iter.next())?,
+            Step::NextBack => write!(reply, "{:?}", iter.next_back())?,
+            Step::SizeHint => write!(reply, "{:?}", iter.size_hint())?,
+        }
+        lead = "; ";
+    }
+    Ok(())
+}
+
+/// Makes calls of an iterator whose items are lent as long as a map.
+fn walk_lent<'a, T: ScriptKey, I: DoubleEndedIterator<Item = &'a String> + Drop>(
+    _lent: &'a Map<T>,
+    iter: I,
+    steps: &[Step],
+    reply: &mut String,
+) -> Result<(), AllocError>
+    requires next { (s : I) → I.can_next s }
+    requires next_back { (s : I) → I.can_next_back s }
+{
+    walk(iter, steps, reply)
+}
+
+/// Makes calls of an iterator whose items can be refused: an item's `Ok` is left out, its `Err` is `refused`.
+fn walk_owned<X: Debug + Drop, I: DoubleEndedIterator<Item = Result<X, AllocError>> + Drop>(
+    iter: I,
+    steps: &[Step],
+    reply: &mut String,
+) -> Result<(), AllocError>
+    requires next { (s : I) → I.can_next s }
+    requires next_back { (s : I) → I.can_next_back s }
+{
+    let mut iter = iter;
+    let mut lead = "";
+    for step in steps {
+        reply.push_str(lead)?;
+        match step {
+            Step::Next => print_item(iter.next(), reply)?,
+            Step::NextBack => print_item(iter.next_back(), reply)?,
+            Step::SizeHint => write!(reply, "{:?}", iter.size_hint())?,
+        }
+        lead = "; ";
+    }
+    Ok(())
+}
+
+/// Prints an item that can be refused.
+fn print_item<X: Debug + Drop>(
+    item: Option<Result<X, AllocError>>,
+    reply: &mut String,
+) -> Result<(), AllocError> {
+    match item {
+        Some(Ok(item)) => write!(reply, "{:?}", Some(item)),
+        Some(Err(_)) => reply.push_str("Some(refused)"),
+        None => reply.push_str("None"),
+    }
+}
+
+/// Makes so many calls of an iterator that goes forward alone.
+fn walk_forward<X: Debug + Drop, I: Iterator<Item = X> + Drop>(
+    iter: I,
+    count: usize,
+    reply: &mut String,
+) -> Result<(), AllocError>
+    requires { (s : I) → I.can_next s }
+{
+    let mut iter = iter;
+    let mut lead = "";
+    for _ in 0..count {
+        reply.push_str(lead)?;
+        write!(reply, "{:?}", iter.next())?;
+        lead = "; ";
+    }
+    Ok(())
+}

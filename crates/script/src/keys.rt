@@ -1,0 +1,152 @@
+//! Key types, as scripts write and print them.
+use range_map_blaze::{Integer, UIntPlusOne};
+use std::alloc::AllocError;
+use std::fmt::Write;
+use std::str::FromStr;
+
+/// A key type that a script can name.
+pub trait ScriptKey: Integer + 'static {
+    /// The key that a word writes.
+    fn read(word: &str) -> Option<Self>;
+
+    /// Prints a number of keys, in decimal.
+    fn print_len(len: Self::SafeLen, reply: &mut String) -> Result<(), AllocError>;
+}
+
+/// The number that a word writes: digits, after a minus at a signed type.
+fn number<N: FromStr>(word: &str) -> Option<N>
+where
+    N::Err: Drop,
+{
+    if word.starts_with('+') {
+        return None;
+    }
+    word.parse::<N>().ok()
+}
+
+/// The character that `U+` and one to six hexadecimal digits write.
+fn character(word: &str) -> Option<char> {
+    let digits = word.strip_prefix("U+")?;
+    if digits.starts_with('+') || 6 < digits.len() {
+        return None;
+    }
+    char::from_u32(u32::from_str_radix(digits, 16).ok()?)
+}
+
+/// Prints a number of keys of 128 bits: one past the greatest `u128` at most.
+fn print_wide_len(len: UIntPlusOne, reply: &mut String) -> Result<(), AllocError> {
+    match len {
+        UIntPlusOne::UInt(count) => write!(reply, "{count}"),
+        UIntPlusOne::MaxPlusOne => reply.push_str("340282366920938463463374607431768211456"),
+    }
+}
+
+impl ScriptKey for u8 {
+    fn read(word: &str) -> Option<u8> {
+        number(word)
+    }
+
+    fn print_len(len: Self::SafeLen, reply: &mut String) -> Result<(), AllocError> {
+        write!(reply, "{len}")
+    }
+}
+
+impl ScriptKey for u16 {
+    fn read(word: &str) -> Option<u16> {
+        number(word)
+    }
+
+    fn print_len(len: Self::SafeLen, reply: &mut String) -> Result<(), AllocError> {
+        write!(reply, "{len}")
+    }
+}
+
+impl ScriptKey for u32 {
+    fn read(word: &str) -> Option<u32> {
+        number(word)
+    }
+
+    fn print_len(len: Self::SafeLen, reply: &mut String) -> Result<(), AllocError> {
+        write!(reply, "{len}")
+    }
+}
+
+impl ScriptKey for u64 {
+    fn read(word: &str) -> Option<u64> {
+        number(word)
+    }
+
+    fn print_len(len: Self::SafeLen, reply: &mut String) -> Result<(), AllocError> {
+        write!(reply, "{len}")
+    }
+}
+
+impl ScriptKey for i8 {
+    fn read(word: &str) -> Option<i8> {
+        number(word)
+    }
+
+    fn print_len(len: Self::SafeLen, reply: &mut String) -> Result<(), AllocError> {
+        write!(reply, "{len}")
+    }
+}
+
+impl ScriptKey for i16 {
+    fn read(word: &str) -> Option<i16> {
+        number(word)
+    }
+
+    fn print_len(len: Self::SafeLen, reply: &mut String) -> Result<(), AllocError> {
+        write!(reply, "{len}")
+    }
+}
+
+impl ScriptKey for i32 {
+    fn read(word: &str) -> Option<i32> {
+        number(word)
+    }
+
+    fn print_len(len: Self::SafeLen, reply: &mut String) -> Result<(), AllocError> {
+        write!(reply, "{len}")
+    }
+}
+
+impl ScriptKey for i64 {
+    fn read(word: &str) -> Option<i64> {
+        number(word)
+    }
+
+    fn print_len(len: Self::SafeLen, reply: &mut String) -> Result<(), AllocError> {
+        write!(reply, "{len}")
+    }
+}
+
+impl ScriptKey for u128 {
+    fn read(word: &str) -> Option<u128> {
+        number(word)
+    }
+
+    fn print_len(len: Self::SafeLen, reply: &mut String) -> Result<(), AllocError> {
+        print_wide_len(len, reply)
+    }
+}
+
+impl ScriptKey for i128 {
+    fn read(word: &str) -> Option<i128> {
+        number(word)
+    }
+
+    fn print_len(len: Self::SafeLen, reply: &mut String) -> Result<(), AllocError> {
+        print_wide_len(len, reply)
+    }
+}
+
+impl ScriptKey for char {
+    fn read(word: &str) -> Option<char> {
+        character(word)
+    }
+
+    fn print_len(len: Self::SafeLen, reply: &mut String) -> Result<(), AllocError> {
+        write!(reply, "{len}")
+    }
+}
