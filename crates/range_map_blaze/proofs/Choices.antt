@@ -84,3 +84,17 @@ module _ {V : Type 0} (eq : V → V → Bool) (laws : IsEquivalence eq) (low hig
     range_map = c.range_map;
     content = λ k. same_trans eq laws (at new k) (right_first (at old k) (at alone k)) _ (c.content k) (under_like (at left k) (at right k) (at old k) (at alone k) (content_as eq laws right old s k) (d.content k));
   }
+
+  -- painted into a map that is like the right one
+  right_like : (x y z : Option V) → SameOption eq y z → SameOption eq (right_first x z) (right_first x y)
+  right_like None None None s = tt
+  right_like (Some x) None None s = laws.refl x
+  right_like x None (Some z) s = absurd s
+  right_like x (Some y) None s = absurd s
+  right_like x (Some y) (Some z) s = laws.symm z y ∙ s
+
+  pub chosen_into : (left right old new : List (Entry V)) → SameEntries eq right old → IsChosen eq low high right_first left old new → IsChosen eq low high right_first left right new
+  chosen_into left right old new s c = record {
+    range_map = c.range_map;
+    content = λ k. same_trans eq laws (at new k) (right_first (at left k) (at old k)) _ (c.content k) (right_like (at left k) (at right k) (at old k) (content_as eq laws right old s k));
+  }

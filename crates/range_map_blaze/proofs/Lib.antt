@@ -6,7 +6,6 @@ pub mod Streams
 pub mod Choices
 pub mod PaintedOver
 pub mod Valued
-pub mod Lives
 pub mod OneRange
 pub mod Paintings
 pub mod Joinings

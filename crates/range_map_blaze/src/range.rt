@@ -8,14 +8,15 @@ ghost use Rattle.blaze_table.specs.Painted.{ClonesAreAlike};
 ghost use Rattle.blaze_table.specs.Pairs.{pair_list};
 ghost use Rattle.range_map_blaze.specs.OneRange.{one_range};
 
+use crate::lent::lent_intersection;
 use crate::map::RangeMapBlaze;
 use blaze_int::{Integer, bounds_of};
 use blaze_iters::IntoIterMap;
-use blaze_streams::{CanonIter, intersect_with_ranges};
+use blaze_streams::CanonIter;
 use std::alloc::AllocError;
 use std::ops::RangeBounds;
 
-impl<T: Integer + 'static, V: Eq + Clone> RangeMapBlaze<T, V> {
+impl<T: Integer, V: Eq + Clone> RangeMapBlaze<T, V> {
     /// The keys within a range that have a value, ascending, each with a value of its own. The bounds name a key, as
     /// `names_a_key` tells. Refused memory leaves the map unchanged.
     pub fn range<R: RangeBounds<T> + Drop>(&self, range: R) -> Result<IntoIterMap<T, V>, AllocError>
@@ -42,13 +43,10 @@ impl<T: Integer + 'static, V: Eq + Clone> RangeMapBlaze<T, V> {
         requires clones { ClonesAreAlike V.is_clone V.eq }
         ensures { IfOk result (λ map. IsChosen V.eq T.low T.high left_with_right self.now.entries (one_range (T.rank start) (T.rank end)) map.entries) }
     {
-        let alloc = self.allocator();
         start.in_hand();
         end.in_hand();
-        let mut ranges = Vec::new(alloc);
+        let mut ranges = Vec::new(self.allocator());
         ranges.push(start..=end)?;
-        let stream = intersect_with_ranges(alloc, self.range_values(), CanonIter::new(ranges))?;
-        let map = Self::from_sorted_disjoint_map(alloc, stream)?;
-        Ok(map)
+        lent_intersection(self, self.range_values(), CanonIter::new(ranges))
     }
 }

@@ -3,27 +3,31 @@ ghost use Rattle.std.specs.Prelude.{IfOk};
 ghost use Rattle.blaze_table.specs.Chosen.{right_first, IsChosen};
 ghost use Rattle.blaze_table.specs.Painted.{ClonesAreAlike};
 
+use crate::lent::lent_union;
 use crate::map::RangeMapBlaze;
+use crate::pointwise::difference;
 use blaze_int::Integer;
-use blaze_streams::{subtract_ranges, union_of};
 use std::alloc::AllocError;
 
-/// The values of the right map where it has some, and else those of the left. A map with few entries is painted over or under
-/// the other; two of about the same size are merged in one pass.
-pub fn union<T: Integer + 'static, V: Eq + Clone>(
-    left: &RangeMapBlaze<T, V>,
-    right: &RangeMapBlaze<T, V>,
-) -> Result<RangeMapBlaze<T, V>, AllocError>
-    requires { ClonesAreAlike V.is_clone V.eq }
-    ensures { IfOk result (λ map. IsChosen V.eq T.low T.high right_first left.now.entries right.now.entries map.entries) }
-{
-    let (left_len, right_len) = (left.ranges_len(), right.ranges_len());
+/// How a union is made, which changes nothing of what it is.
+#[derive(Clone, Copy, Debug)]
+enum Path {
+    /// The right map's few entries are painted over the left map.
+    Over,
+    /// What the left map has off the right map's keys is painted into the right map: few entries.
+    Under,
+    /// Both maps are gone through in one pass.
+    Merge,
+}
+
+/// The path for maps of so many entries.
+fn path_for(left_len: usize, right_len: usize) -> Path {
     if right_len == 0 || are_few(right_len, left_len) {
-        painted_over(left, right)
+        Path::Over
     } else if left_len == 0 || are_few(left_len, right_len) {
-        painted_under(left, right)
+        Path::Under
     } else {
-        merged(left, right)
+        Path::Merge
     }
 }
 
@@ -36,43 +40,109 @@ fn are_few(few: usize, len: usize) -> bool {
     few * (len.ilog2() as u128 + 1) < 10 * len + few
 }
 
-/// The right map's entries painted over the left map.
-fn painted_over<T: Integer + 'static, V: Eq + Clone>(
+/// The values of the right map where it has some, and else those of the left.
+pub fn union<T: Integer, V: Eq + Clone>(
     left: &RangeMapBlaze<T, V>,
     right: &RangeMapBlaze<T, V>,
 ) -> Result<RangeMapBlaze<T, V>, AllocError>
     requires { ClonesAreAlike V.is_clone V.eq }
     ensures { IfOk result (λ map. IsChosen V.eq T.low T.high right_first left.now.entries right.now.entries map.entries) }
 {
-    let mut map = left.clone()?;
-    map.paint_stream(right.range_values())?;
+    match path_for(left.ranges_len(), right.ranges_len()) {
+        Path::Over => {
+            let map = painted_over(left.clone()?, right)?;
+            Ok(map)
+        }
+        Path::Under => {
+            let map = painted_under(left, right.clone()?)?;
+            Ok(map)
+        }
+        Path::Merge => lent_union(left, left.range_values(), right.range_values()),
+    }
+}
+
+/// The same, where either map may be painted into.
+pub fn union_by_value<T: Integer, V: Eq + Clone>(
+    left: RangeMapBlaze<T, V>,
+    right: RangeMapBlaze<T, V>,
+) -> Result<RangeMapBlaze<T, V>, AllocError>
+    requires { ClonesAreAlike V.is_clone V.eq }
+    ensures { IfOk result (λ map. IsChosen V.eq T.low T.high right_first left.entries right.entries map.entries) }
+{
+    match path_for(left.ranges_len(), right.ranges_len()) {
+        Path::Over => painted_over_by(left, right),
+        Path::Under => painted_under(&left, right),
+        Path::Merge => union(&left, &right),
+    }
+}
+
+/// The same, where the left map may be painted over.
+pub fn union_with<T: Integer, V: Eq + Clone>(
+    left: RangeMapBlaze<T, V>,
+    right: &RangeMapBlaze<T, V>,
+) -> Result<RangeMapBlaze<T, V>, AllocError>
+    requires { ClonesAreAlike V.is_clone V.eq }
+    ensures { IfOk result (λ map. IsChosen V.eq T.low T.high right_first left.entries right.now.entries map.entries) }
+{
+    match path_for(left.ranges_len(), right.ranges_len()) {
+        Path::Over => painted_over(left, right),
+        Path::Under | Path::Merge => union(&left, right),
+    }
+}
+
+/// The same, where the right map may be painted under.
+pub fn union_under<T: Integer, V: Eq + Clone>(
+    left: &RangeMapBlaze<T, V>,
+    right: RangeMapBlaze<T, V>,
+) -> Result<RangeMapBlaze<T, V>, AllocError>
+    requires { ClonesAreAlike V.is_clone V.eq }
+    ensures { IfOk result (λ map. IsChosen V.eq T.low T.high right_first left.now.entries right.entries map.entries) }
+{
+    match path_for(left.ranges_len(), right.ranges_len()) {
+        Path::Under => painted_under(left, right),
+        Path::Over | Path::Merge => union(left, &right),
+    }
+}
+
+/// The right map's entries painted over the left map, with clones of their values.
+fn painted_over<T: Integer, V: Eq + Clone>(
+    left: RangeMapBlaze<T, V>,
+    right: &RangeMapBlaze<T, V>,
+) -> Result<RangeMapBlaze<T, V>, AllocError>
+    requires { ClonesAreAlike V.is_clone V.eq }
+    ensures { IfOk result (λ map. IsChosen V.eq T.low T.high right_first left.entries right.now.entries map.entries) }
+{
+    let mut map = left;
+    right.in_hand();
+    map.extend_with(right)?;
+    Ok(map)
+}
+
+/// The right map's entries painted over the left map, with their own values.
+fn painted_over_by<T: Integer, V: Eq + Clone>(
+    left: RangeMapBlaze<T, V>,
+    right: RangeMapBlaze<T, V>,
+) -> Result<RangeMapBlaze<T, V>, AllocError>
+    requires { ClonesAreAlike V.is_clone V.eq }
+    ensures { IfOk result (λ map. IsChosen V.eq T.low T.high right_first left.entries right.entries map.entries) }
+{
+    let mut map = left;
+    right.in_hand();
+    map.extend_from(right)?;
     Ok(map)
 }
 
 /// What the left map has off the right map's keys, painted into the right map.
-fn painted_under<T: Integer + 'static, V: Eq + Clone>(
+fn painted_under<T: Integer, V: Eq + Clone>(
     left: &RangeMapBlaze<T, V>,
-    right: &RangeMapBlaze<T, V>,
+    right: RangeMapBlaze<T, V>,
 ) -> Result<RangeMapBlaze<T, V>, AllocError>
     requires { ClonesAreAlike V.is_clone V.eq }
-    ensures { IfOk result (λ map. IsChosen V.eq T.low T.high right_first left.now.entries right.now.entries map.entries) }
+    ensures { IfOk result (λ map. IsChosen V.eq T.low T.high right_first left.now.entries right.entries map.entries) }
 {
-    let mut map = right.clone()?;
-    let stream = subtract_ranges(left.allocator(), left.range_values(), right.ranges())?;
-    map.paint_stream(stream)?;
+    let alone = difference(left, &right)?;
+    let mut map = right;
+    alone.in_hand();
+    map.extend_from(alone)?;
     Ok(map)
-}
-
-/// The entries of both in one pass.
-fn merged<T: Integer + 'static, V: Eq + Clone>(
-    left: &RangeMapBlaze<T, V>,
-    right: &RangeMapBlaze<T, V>,
-) -> Result<RangeMapBlaze<T, V>, AllocError>
-    requires { ClonesAreAlike V.is_clone V.eq }
-    ensures { IfOk result (λ map. IsChosen V.eq T.low T.high right_first left.now.entries right.now.entries map.entries) }
-{
-    let alloc = left.allocator();
-    let stream = union_of(alloc, left.range_values(), right.range_values())?;
-    let new = RangeMapBlaze::from_sorted_disjoint_map(alloc, stream)?;
-    Ok(new)
 }

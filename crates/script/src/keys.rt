@@ -5,7 +5,7 @@ use std::fmt::Write;
 use std::str::FromStr;
 
 /// A key type that a script can name.
-pub trait ScriptKey: Integer + 'static {
+pub trait ScriptKey: Integer {
     /// The key that a word writes.
     fn read(word: &str) -> Option<Self>;
 

@@ -11,7 +11,7 @@ use blaze_table::RangeSetBlaze;
 use std::alloc::AllocError;
 use std::ops::BitAnd;
 
-impl<T: Integer + 'static, V: Eq + Clone> BitAnd for RangeMapBlaze<T, V> {
+impl<T: Integer, V: Eq + Clone> BitAnd for RangeMapBlaze<T, V> {
     type Output = Result<RangeMapBlaze<T, V>, AllocError>;
 
     ghost can_bitand = { λ _ _. ClonesAreAlike V.is_clone V.eq };
@@ -23,8 +23,7 @@ impl<T: Integer + 'static, V: Eq + Clone> BitAnd for RangeMapBlaze<T, V> {
     }
 }
 
-impl<'b, T: Integer + 'static, V: Eq + Clone> BitAnd<&'b RangeMapBlaze<T, V>>
-    for RangeMapBlaze<T, V> {
+impl<'b, T: Integer, V: Eq + Clone> BitAnd<&'b RangeMapBlaze<T, V>> for RangeMapBlaze<T, V> {
     type Output = Result<RangeMapBlaze<T, V>, AllocError>;
 
     ghost can_bitand = { λ _ _. ClonesAreAlike V.is_clone V.eq };
@@ -36,8 +35,7 @@ impl<'b, T: Integer + 'static, V: Eq + Clone> BitAnd<&'b RangeMapBlaze<T, V>>
     }
 }
 
-impl<'a, T: Integer + 'static, V: Eq + Clone> BitAnd<RangeMapBlaze<T, V>>
-    for &'a RangeMapBlaze<T, V> {
+impl<'a, T: Integer, V: Eq + Clone> BitAnd<RangeMapBlaze<T, V>> for &'a RangeMapBlaze<T, V> {
     type Output = Result<RangeMapBlaze<T, V>, AllocError>;
 
     ghost can_bitand = { λ _ _. ClonesAreAlike V.is_clone V.eq };
@@ -49,7 +47,7 @@ impl<'a, T: Integer + 'static, V: Eq + Clone> BitAnd<RangeMapBlaze<T, V>>
     }
 }
 
-impl<'a, 'b, T: Integer + 'static, V: Eq + Clone> BitAnd<&'b RangeMapBlaze<T, V>>
+impl<'a, 'b, T: Integer, V: Eq + Clone> BitAnd<&'b RangeMapBlaze<T, V>>
     for &'a RangeMapBlaze<T, V> {
     type Output = Result<RangeMapBlaze<T, V>, AllocError>;
 
@@ -62,7 +60,7 @@ impl<'a, 'b, T: Integer + 'static, V: Eq + Clone> BitAnd<&'b RangeMapBlaze<T, V>
     }
 }
 
-impl<T: Integer + 'static, V: Eq + Clone> BitAnd<RangeSetBlaze<T>> for RangeMapBlaze<T, V> {
+impl<T: Integer, V: Eq + Clone> BitAnd<RangeSetBlaze<T>> for RangeMapBlaze<T, V> {
     type Output = Result<RangeMapBlaze<T, V>, AllocError>;
 
     ghost can_bitand = { λ _ _. ClonesAreAlike V.is_clone V.eq };
@@ -74,7 +72,7 @@ impl<T: Integer + 'static, V: Eq + Clone> BitAnd<RangeSetBlaze<T>> for RangeMapB
     }
 }
 
-impl<'b, T: Integer + 'static, V: Eq + Clone> BitAnd<&'b RangeSetBlaze<T>> for RangeMapBlaze<T, V> {
+impl<'b, T: Integer, V: Eq + Clone> BitAnd<&'b RangeSetBlaze<T>> for RangeMapBlaze<T, V> {
     type Output = Result<RangeMapBlaze<T, V>, AllocError>;
 
     ghost can_bitand = { λ _ _. ClonesAreAlike V.is_clone V.eq };
@@ -86,7 +84,7 @@ impl<'b, T: Integer + 'static, V: Eq + Clone> BitAnd<&'b RangeSetBlaze<T>> for R
     }
 }
 
-impl<'a, T: Integer + 'static, V: Eq + Clone> BitAnd<RangeSetBlaze<T>> for &'a RangeMapBlaze<T, V> {
+impl<'a, T: Integer, V: Eq + Clone> BitAnd<RangeSetBlaze<T>> for &'a RangeMapBlaze<T, V> {
     type Output = Result<RangeMapBlaze<T, V>, AllocError>;
 
     ghost can_bitand = { λ _ _. ClonesAreAlike V.is_clone V.eq };
@@ -98,8 +96,7 @@ impl<'a, T: Integer + 'static, V: Eq + Clone> BitAnd<RangeSetBlaze<T>> for &'a R
     }
 }
 
-impl<'a, 'b, T: Integer + 'static, V: Eq + Clone> BitAnd<&'b RangeSetBlaze<T>>
-    for &'a RangeMapBlaze<T, V> {
+impl<'a, 'b, T: Integer, V: Eq + Clone> BitAnd<&'b RangeSetBlaze<T>> for &'a RangeMapBlaze<T, V> {
     type Output = Result<RangeMapBlaze<T, V>, AllocError>;
 
     ghost can_bitand = { λ _ _. ClonesAreAlike V.is_clone V.eq };

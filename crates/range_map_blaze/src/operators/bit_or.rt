@@ -5,12 +5,12 @@ ghost use Rattle.blaze_table.specs.Chosen.{right_first, IsChosen};
 ghost use Rattle.blaze_table.specs.Painted.{ClonesAreAlike};
 
 use crate::map::RangeMapBlaze;
-use crate::union::union;
+use crate::union::{union, union_by_value, union_under, union_with};
 use blaze_int::Integer;
 use std::alloc::AllocError;
 use std::ops::BitOr;
 
-impl<T: Integer + 'static, V: Eq + Clone> BitOr for RangeMapBlaze<T, V> {
+impl<T: Integer, V: Eq + Clone> BitOr for RangeMapBlaze<T, V> {
     type Output = Result<RangeMapBlaze<T, V>, AllocError>;
 
     ghost can_bitor = { λ _ _. ClonesAreAlike V.is_clone V.eq };
@@ -18,12 +18,11 @@ impl<T: Integer + 'static, V: Eq + Clone> BitOr for RangeMapBlaze<T, V> {
     ghost bitor_gives = { λ left right result. IfOk result (λ map. IsChosen V.eq T.low T.high right_first left.entries right.entries map.entries) };
 
     fn bitor(self, right: RangeMapBlaze<T, V>) -> Result<RangeMapBlaze<T, V>, AllocError> {
-        union(&self, &right)
+        union_by_value(self, right)
     }
 }
 
-impl<'b, T: Integer + 'static, V: Eq + Clone> BitOr<&'b RangeMapBlaze<T, V>>
-    for RangeMapBlaze<T, V> {
+impl<'b, T: Integer, V: Eq + Clone> BitOr<&'b RangeMapBlaze<T, V>> for RangeMapBlaze<T, V> {
     type Output = Result<RangeMapBlaze<T, V>, AllocError>;
 
     ghost can_bitor = { λ _ _. ClonesAreAlike V.is_clone V.eq };
@@ -31,12 +30,11 @@ impl<'b, T: Integer + 'static, V: Eq + Clone> BitOr<&'b RangeMapBlaze<T, V>>
     ghost bitor_gives = { λ left right result. IfOk result (λ map. IsChosen V.eq T.low T.high right_first left.entries right.now.entries map.entries) };
 
     fn bitor(self, right: &'b RangeMapBlaze<T, V>) -> Result<RangeMapBlaze<T, V>, AllocError> {
-        union(&self, right)
+        union_with(self, right)
     }
 }
 
-impl<'a, T: Integer + 'static, V: Eq + Clone> BitOr<RangeMapBlaze<T, V>>
-    for &'a RangeMapBlaze<T, V> {
+impl<'a, T: Integer, V: Eq + Clone> BitOr<RangeMapBlaze<T, V>> for &'a RangeMapBlaze<T, V> {
     type Output = Result<RangeMapBlaze<T, V>, AllocError>;
 
     ghost can_bitor = { λ _ _. ClonesAreAlike V.is_clone V.eq };
@@ -44,12 +42,11 @@ impl<'a, T: Integer + 'static, V: Eq + Clone> BitOr<RangeMapBlaze<T, V>>
     ghost bitor_gives = { λ left right result. IfOk result (λ map. IsChosen V.eq T.low T.high right_first left.now.entries right.entries map.entries) };
 
     fn bitor(self, right: RangeMapBlaze<T, V>) -> Result<RangeMapBlaze<T, V>, AllocError> {
-        union(self, &right)
+        union_under(self, right)
     }
 }
 
-impl<'a, 'b, T: Integer + 'static, V: Eq + Clone> BitOr<&'b RangeMapBlaze<T, V>>
-    for &'a RangeMapBlaze<T, V> {
+impl<'a, 'b, T: Integer, V: Eq + Clone> BitOr<&'b RangeMapBlaze<T, V>> for &'a RangeMapBlaze<T, V> {
     type Output = Result<RangeMapBlaze<T, V>, AllocError>;
 
     ghost can_bitor = { λ _ _. ClonesAreAlike V.is_clone V.eq };

@@ -10,7 +10,7 @@ use blaze_int::Integer;
 use std::alloc::AllocError;
 use std::ops::BitXor;
 
-impl<T: Integer + 'static, V: Eq + Clone> BitXor for RangeMapBlaze<T, V> {
+impl<T: Integer, V: Eq + Clone> BitXor for RangeMapBlaze<T, V> {
     type Output = Result<RangeMapBlaze<T, V>, AllocError>;
 
     ghost can_bitxor = { λ _ _. ClonesAreAlike V.is_clone V.eq };
@@ -22,8 +22,7 @@ impl<T: Integer + 'static, V: Eq + Clone> BitXor for RangeMapBlaze<T, V> {
     }
 }
 
-impl<'b, T: Integer + 'static, V: Eq + Clone> BitXor<&'b RangeMapBlaze<T, V>>
-    for RangeMapBlaze<T, V> {
+impl<'b, T: Integer, V: Eq + Clone> BitXor<&'b RangeMapBlaze<T, V>> for RangeMapBlaze<T, V> {
     type Output = Result<RangeMapBlaze<T, V>, AllocError>;
 
     ghost can_bitxor = { λ _ _. ClonesAreAlike V.is_clone V.eq };
@@ -35,8 +34,7 @@ impl<'b, T: Integer + 'static, V: Eq + Clone> BitXor<&'b RangeMapBlaze<T, V>>
     }
 }
 
-impl<'a, T: Integer + 'static, V: Eq + Clone> BitXor<RangeMapBlaze<T, V>>
-    for &'a RangeMapBlaze<T, V> {
+impl<'a, T: Integer, V: Eq + Clone> BitXor<RangeMapBlaze<T, V>> for &'a RangeMapBlaze<T, V> {
     type Output = Result<RangeMapBlaze<T, V>, AllocError>;
 
     ghost can_bitxor = { λ _ _. ClonesAreAlike V.is_clone V.eq };
@@ -48,7 +46,7 @@ impl<'a, T: Integer + 'static, V: Eq + Clone> BitXor<RangeMapBlaze<T, V>>
     }
 }
 
-impl<'a, 'b, T: Integer + 'static, V: Eq + Clone> BitXor<&'b RangeMapBlaze<T, V>>
+impl<'a, 'b, T: Integer, V: Eq + Clone> BitXor<&'b RangeMapBlaze<T, V>>
     for &'a RangeMapBlaze<T, V> {
     type Output = Result<RangeMapBlaze<T, V>, AllocError>;
 

@@ -11,7 +11,7 @@ use blaze_table::RangeSetBlaze;
 use std::alloc::AllocError;
 use std::ops::Sub;
 
-impl<T: Integer + 'static, V: Eq + Clone> Sub for RangeMapBlaze<T, V> {
+impl<T: Integer, V: Eq + Clone> Sub for RangeMapBlaze<T, V> {
     type Output = Result<RangeMapBlaze<T, V>, AllocError>;
 
     ghost can_sub = { λ _ _. ClonesAreAlike V.is_clone V.eq };
@@ -23,7 +23,7 @@ impl<T: Integer + 'static, V: Eq + Clone> Sub for RangeMapBlaze<T, V> {
     }
 }
 
-impl<'b, T: Integer + 'static, V: Eq + Clone> Sub<&'b RangeMapBlaze<T, V>> for RangeMapBlaze<T, V> {
+impl<'b, T: Integer, V: Eq + Clone> Sub<&'b RangeMapBlaze<T, V>> for RangeMapBlaze<T, V> {
     type Output = Result<RangeMapBlaze<T, V>, AllocError>;
 
     ghost can_sub = { λ _ _. ClonesAreAlike V.is_clone V.eq };
@@ -35,7 +35,7 @@ impl<'b, T: Integer + 'static, V: Eq + Clone> Sub<&'b RangeMapBlaze<T, V>> for R
     }
 }
 
-impl<'a, T: Integer + 'static, V: Eq + Clone> Sub<RangeMapBlaze<T, V>> for &'a RangeMapBlaze<T, V> {
+impl<'a, T: Integer, V: Eq + Clone> Sub<RangeMapBlaze<T, V>> for &'a RangeMapBlaze<T, V> {
     type Output = Result<RangeMapBlaze<T, V>, AllocError>;
 
     ghost can_sub = { λ _ _. ClonesAreAlike V.is_clone V.eq };
@@ -47,8 +47,7 @@ impl<'a, T: Integer + 'static, V: Eq + Clone> Sub<RangeMapBlaze<T, V>> for &'a R
     }
 }
 
-impl<'a, 'b, T: Integer + 'static, V: Eq + Clone> Sub<&'b RangeMapBlaze<T, V>>
-    for &'a RangeMapBlaze<T, V> {
+impl<'a, 'b, T: Integer, V: Eq + Clone> Sub<&'b RangeMapBlaze<T, V>> for &'a RangeMapBlaze<T, V> {
     type Output = Result<RangeMapBlaze<T, V>, AllocError>;
 
     ghost can_sub = { λ _ _. ClonesAreAlike V.is_clone V.eq };
@@ -60,7 +59,7 @@ impl<'a, 'b, T: Integer + 'static, V: Eq + Clone> Sub<&'b RangeMapBlaze<T, V>>
     }
 }
 
-impl<T: Integer + 'static, V: Eq + Clone> Sub<RangeSetBlaze<T>> for RangeMapBlaze<T, V> {
+impl<T: Integer, V: Eq + Clone> Sub<RangeSetBlaze<T>> for RangeMapBlaze<T, V> {
     type Output = Result<RangeMapBlaze<T, V>, AllocError>;
 
     ghost can_sub = { λ _ _. ClonesAreAlike V.is_clone V.eq };
@@ -72,7 +71,7 @@ impl<T: Integer + 'static, V: Eq + Clone> Sub<RangeSetBlaze<T>> for RangeMapBlaz
     }
 }
 
-impl<'b, T: Integer + 'static, V: Eq + Clone> Sub<&'b RangeSetBlaze<T>> for RangeMapBlaze<T, V> {
+impl<'b, T: Integer, V: Eq + Clone> Sub<&'b RangeSetBlaze<T>> for RangeMapBlaze<T, V> {
     type Output = Result<RangeMapBlaze<T, V>, AllocError>;
 
     ghost can_sub = { λ _ _. ClonesAreAlike V.is_clone V.eq };
@@ -84,7 +83,7 @@ impl<'b, T: Integer + 'static, V: Eq + Clone> Sub<&'b RangeSetBlaze<T>> for Rang
     }
 }
 
-impl<'a, T: Integer + 'static, V: Eq + Clone> Sub<RangeSetBlaze<T>> for &'a RangeMapBlaze<T, V> {
+impl<'a, T: Integer, V: Eq + Clone> Sub<RangeSetBlaze<T>> for &'a RangeMapBlaze<T, V> {
     type Output = Result<RangeMapBlaze<T, V>, AllocError>;
 
     ghost can_sub = { λ _ _. ClonesAreAlike V.is_clone V.eq };
@@ -96,8 +95,7 @@ impl<'a, T: Integer + 'static, V: Eq + Clone> Sub<RangeSetBlaze<T>> for &'a Rang
     }
 }
 
-impl<'a, 'b, T: Integer + 'static, V: Eq + Clone> Sub<&'b RangeSetBlaze<T>>
-    for &'a RangeMapBlaze<T, V> {
+impl<'a, 'b, T: Integer, V: Eq + Clone> Sub<&'b RangeSetBlaze<T>> for &'a RangeMapBlaze<T, V> {
     type Output = Result<RangeMapBlaze<T, V>, AllocError>;
 
     ghost can_sub = { λ _ _. ClonesAreAlike V.is_clone V.eq };
