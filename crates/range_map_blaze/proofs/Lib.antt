@@ -9,3 +9,4 @@ pub mod Valued
 pub mod OneRange
 pub mod Paintings
 pub mod Joinings
+pub mod Unions

@@ -15,7 +15,7 @@ abbrev over : {V : Type 0} → Bool → V → Option V → Option V
 over b v o = cond b (Some v) o
 
 -- in a canonical list the last entry that has a key is the first
-last_is_first : {V : Type 0} (eq : V → V → Bool) (es : List (Entry V)) (k : ℤ) → IsCanonical eq es → last_at es k ≡ at es k
+pub last_is_first : {V : Type 0} (eq : V → V → Bool) (es : List (Entry V)) (k : ℤ) → IsCanonical eq es → last_at es k ≡ at es k
 last_is_first eq [] k c = refl
 last_is_first {V} eq (e ∷ es) k c = either (holds e k) e.value (last_at es k) (at es k) (last_is_first eq es k c.2) alone
   where
@@ -31,13 +31,14 @@ last_is_first {V} eq (e ∷ es) k c = either (holds e k) e.value (last_at es k) 
     alone : holds e k ≡ true → at es k ≡ None
     alone h = by_place e k (λ l g. at_before eq es e.hi k c.2 (IsAbove-from_apart eq e es c.1) g) (λ l. differ (holds e k) h (holds_under e k l)) (λ l. differ (holds e k) h (holds_over e k l))
 
+-- the choice by the words of a painting
+pub turned : {V : Type 0} (y x : Option V) → or_else y x ≡ right_first x y
+turned None x = refl
+turned (Some y) x = refl
+
 -- all of a range map's list painted
 pub painted_over : {V : Type 0} (eq : V → V → Bool) (laws : IsEquivalence eq) (low high : ℤ) (old over new : List (Entry V)) → IsRangeMap eq low high over → IsExtended eq low high over old new → IsChosen eq low high right_first old over new
 painted_over {V} eq laws low high old over new r s = record {
   range_map = s.range_map;
   content = λ k. same_along eq refl (ap (λ o. or_else o (at old k)) (last_is_first eq over k (canonical eq laws over r.runs)) ∙ turned (at over k) (at old k)) (s.content k);
 }
-  where
-    turned : (y x : Option V) → or_else y x ≡ right_first x y
-    turned None x = refl
-    turned (Some y) x = refl

@@ -15,7 +15,7 @@ module _ {V : Type 0} where
   or_none None = refl
   or_none (Some x) = refl
 
-  or_or : (a b c : Option V) → or_else (or_else a b) c ≡ or_else a (or_else b c)
+  pub or_or : (a b c : Option V) → or_else (or_else a b) c ≡ or_else a (or_else b c)
   or_or None b c = refl
   or_or (Some x) b c = refl
 
@@ -30,7 +30,7 @@ module _ {V : Type 0} where
   pub last_nowhere : (p : Entry V) (k : ℤ) → p.hi <ℤ p.lo → last_at (p ∷ []) k ≡ None
   last_nowhere p k w = ap (λ b. cond b (Some p.value) None) (no_key p k w)
 
-  painted_one : (b : Bool) (v : V) (o : Option V) → cond b (Some v) o ≡ or_else (cond b (Some v) None) o
+  pub painted_one : (b : Bool) (v : V) (o : Option V) → cond b (Some v) o ≡ or_else (cond b (Some v) None) o
   painted_one true v o = refl
   painted_one false v o = refl
 

@@ -3,3 +3,4 @@ pub mod Printed
 pub mod OneRange
 pub mod Extended
 pub mod Underway
+pub mod Union

@@ -1,7 +1,7 @@
 //! One map over another.
 ghost use Rattle.std.specs.Prelude.{IfOk};
-ghost use Rattle.blaze_table.specs.Chosen.{right_first, IsChosen};
 ghost use Rattle.blaze_table.specs.Painted.{ClonesAreAlike};
+ghost use Rattle.range_map_blaze.specs.Union.{IsUnion};
 
 use crate::lent::lent_union;
 use crate::map::RangeMapBlaze;
@@ -46,8 +46,10 @@ pub fn union<T: Integer, V: Eq + Clone>(
     right: &RangeMapBlaze<T, V>,
 ) -> Result<RangeMapBlaze<T, V>, AllocError>
     requires { ClonesAreAlike V.is_clone V.eq }
-    ensures { IfOk result (λ map. IsChosen V.eq T.low T.high right_first left.now.entries right.now.entries map.entries) }
+    ensures { IfOk result (λ map. IsUnion V.eq T.low T.high left.now.entries right.now.entries map.entries) }
 {
+    left.in_hand();
+    right.in_hand();
     match path_for(left.ranges_len(), right.ranges_len()) {
         Path::Over => {
             let map = painted_over(left.clone()?, right)?;
@@ -57,7 +59,10 @@ pub fn union<T: Integer, V: Eq + Clone>(
             let map = painted_under(left, right.clone()?)?;
             Ok(map)
         }
-        Path::Merge => lent_union(left, left.range_values(), right.range_values()),
+        Path::Merge => {
+            let map = lent_union(left, left.range_values(), right.range_values())?;
+            Ok(map)
+        }
     }
 }
 
@@ -67,7 +72,7 @@ pub fn union_by_value<T: Integer, V: Eq + Clone>(
     right: RangeMapBlaze<T, V>,
 ) -> Result<RangeMapBlaze<T, V>, AllocError>
     requires { ClonesAreAlike V.is_clone V.eq }
-    ensures { IfOk result (λ map. IsChosen V.eq T.low T.high right_first left.entries right.entries map.entries) }
+    ensures { IfOk result (λ map. IsUnion V.eq T.low T.high left.entries right.entries map.entries) }
 {
     match path_for(left.ranges_len(), right.ranges_len()) {
         Path::Over => painted_over_by(left, right),
@@ -82,7 +87,7 @@ pub fn union_with<T: Integer, V: Eq + Clone>(
     right: &RangeMapBlaze<T, V>,
 ) -> Result<RangeMapBlaze<T, V>, AllocError>
     requires { ClonesAreAlike V.is_clone V.eq }
-    ensures { IfOk result (λ map. IsChosen V.eq T.low T.high right_first left.entries right.now.entries map.entries) }
+    ensures { IfOk result (λ map. IsUnion V.eq T.low T.high left.entries right.now.entries map.entries) }
 {
     match path_for(left.ranges_len(), right.ranges_len()) {
         Path::Over => painted_over(left, right),
@@ -96,7 +101,7 @@ pub fn union_under<T: Integer, V: Eq + Clone>(
     right: RangeMapBlaze<T, V>,
 ) -> Result<RangeMapBlaze<T, V>, AllocError>
     requires { ClonesAreAlike V.is_clone V.eq }
-    ensures { IfOk result (λ map. IsChosen V.eq T.low T.high right_first left.now.entries right.entries map.entries) }
+    ensures { IfOk result (λ map. IsUnion V.eq T.low T.high left.now.entries right.entries map.entries) }
 {
     match path_for(left.ranges_len(), right.ranges_len()) {
         Path::Under => painted_under(left, right),
@@ -110,7 +115,7 @@ fn painted_over<T: Integer, V: Eq + Clone>(
     right: &RangeMapBlaze<T, V>,
 ) -> Result<RangeMapBlaze<T, V>, AllocError>
     requires { ClonesAreAlike V.is_clone V.eq }
-    ensures { IfOk result (λ map. IsChosen V.eq T.low T.high right_first left.entries right.now.entries map.entries) }
+    ensures { IfOk result (λ map. IsUnion V.eq T.low T.high left.entries right.now.entries map.entries) }
 {
     let mut map = left;
     right.in_hand();
@@ -124,7 +129,7 @@ fn painted_over_by<T: Integer, V: Eq + Clone>(
     right: RangeMapBlaze<T, V>,
 ) -> Result<RangeMapBlaze<T, V>, AllocError>
     requires { ClonesAreAlike V.is_clone V.eq }
-    ensures { IfOk result (λ map. IsChosen V.eq T.low T.high right_first left.entries right.entries map.entries) }
+    ensures { IfOk result (λ map. IsUnion V.eq T.low T.high left.entries right.entries map.entries) }
 {
     let mut map = left;
     right.in_hand();
@@ -138,8 +143,10 @@ fn painted_under<T: Integer, V: Eq + Clone>(
     right: RangeMapBlaze<T, V>,
 ) -> Result<RangeMapBlaze<T, V>, AllocError>
     requires { ClonesAreAlike V.is_clone V.eq }
-    ensures { IfOk result (λ map. IsChosen V.eq T.low T.high right_first left.now.entries right.entries map.entries) }
+    ensures { IfOk result (λ map. IsUnion V.eq T.low T.high left.now.entries right.entries map.entries) }
 {
+    left.in_hand();
+    right.in_hand();
     let alone = difference(left, &right)?;
     let mut map = right;
     alone.in_hand();
