@@ -1,111 +1,198 @@
 #!/usr/bin/env bash
-# Each request for memory of each call refused in turn, and at last none, on maps of 0, 1, 3 and 200 entries (the calls with a
-# second map, and those that paint pairs, on fewer). A refused call must leave the map and the other map as they were; one
-# that paints pairs may leave a first part of them painted. Without a refusal the call must succeed. A call that is to take
-# memory must make a request, one that is to take none must make none. The last line is 'N passed, M failed'.
+# Each request for memory of each call in tests/refusals.txt refused in turn, and at last none. A refused call must leave the
+# maps and sets as they were, but for what it was given by value, which is gone; a call that paints pairs may leave a first
+# part of them painted; an iterator by value must end. Without a refusal the call must succeed. A call that is to take memory
+# must make a request, one that is to take none must make none. The last line is 'N passed, M failed'.
+#
+# Calls without a line in a script are not swept by themselves: `union_of`, `symmetric_difference_of`,
+# `intersect_with_ranges`, `subtract_ranges`, `complement`, `from_sorted_disjoint_map` and `from_canonical` run inside the
+# operators `|`, `^`, `&`, `-` and `!` and are refused there; `segments`, `into_range_map_blaze`, carriers and the lists that
+# checked streams read are not refused anywhere.
+#
+#     tests/refusals.sh          all cases
+#     tests/refusals.sh WORD     those whose call has the word
 set -euo pipefail
 here="$(cd "$(dirname "${BASH_SOURCE[0]}")" && pwd)"
-crate="$here/../crates/refusals"
+only="${1:-}"
+program="${SCRIPT_PROGRAM:-$here/../crates/script/out/script}"
 work="$(mktemp -d)"
 trap 'rm -rf "$work"' EXIT
-(cd "$crate" && rt run -- "ranges_insert inside" 3 >"$work/log" 2>&1) || { cat "$work/log"; exit 1; }
-program="$crate/out/refusals"
+[ -n "${SCRIPT_PROGRAM:-}" ] || "$here/../script" </dev/null
 cc -shared -fPIC -O1 -o "$work/refuse.so" "$here/refuse.c"
+
+# What is printed after each call.
+after=("a list" "a len" "b list" "b len" "c list" "c len" "d list" "s list" "t list")
+printed=${#after[@]}
 
 passed=0
 failed=0
 judge() { # what is wanted, what was got, what was run
-    if [ "$1" = "$2" ]; then passed=$((passed + 1)); else failed=$((failed + 1)); echo "$3: wanted '$1', got '$2'"; fi
+    if [ "$1" = "$2" ]; then passed=$((passed + 1)); else failed=$((failed + 1)) && echo "$3: wanted '$1', got '$2'"; fi
 }
-# The call; the number of entries; 'some' if it takes memory, 'part' if it also may leave a first part of its pairs painted,
-# 'none' if it takes none; the other map's number of entries; the step from one refused request to the next.
+
+# Runs the program on the lines before the call, those given, and the lines after it. `answer` is then the answer of the last
+# line given, `left` what the lines after it print, `status` the exit status.
+run() { # the arguments of the program, '--', lines
+    local arguments=() got
+    while [ "$1" != -- ]; do arguments+=("$1") && shift; done
+    shift
+    printf '%s\n' "${before[@]}" "$@" "${after[@]}" >"$work/script"
+    mapfile -t got < <("$program" "${arguments[@]}" <"$work/script" 2>"$work/told"; echo "$?")
+    status="${got[-1]}"
+    answer='' left=''
+    if ((${#got[@]} > printed)); then printf -v left '%s\n' "${got[@]: -printed-1:printed}"; fi
+    if ((${#got[@]} > printed + 1)); then answer="${got[-printed - 2]}"; fi
+}
+
+# The lines that stand for a refused call: what it was given by value is gone, and of its pairs the first so many are painted.
+first_pairs() { # how many
+    local words count="$1"
+    read -ra words <<<"$call"
+    if [ "${#words[@]}" = 3 ]; then
+        read -ra words <<<"${words[0]} extend_simple $others"
+    fi
+    instead=("${words[*]:0:2 + 2 * count}" "${gone[@]}")
+}
+pair_count() {
+    local words
+    read -ra words <<<"$call"
+    if [ "${#words[@]}" = 3 ]; then read -ra words <<<"- - $others"; fi
+    pairs=$(((${#words[@]} - 2) / 2))
+}
+
+# The answers of an iterator of which an item was refused: those before it, and none after it.
+refused_items() { # the answer without a refusal
+    local items place later rest first='' letters="${call##* }"
+    mapfile -t items <<<"${1//; /$'\n'}"
+    refused=()
+    if [[ "$call" = *" range "* ]]; then refused=(refused); fi
+    for ((place = 0; place < ${#letters}; place++)); do
+        if [[ "${items[place]}" = Some* ]]; then
+            rest=''
+            for ((later = place + 1; later < ${#letters}; later++)); do
+                if [ "${letters:later:1}" = h ]; then rest+='; (0, None)'; else rest+='; None'; fi
+            done
+            refused+=("${first}Some(refused)$rest")
+        fi
+        first+="${items[place]}; "
+    done
+}
+
+is_among() { # what, of what
+    local what="$1" each
+    shift
+    for each in "$@"; do
+        if [ "$what" = "$each" ]; then return 0; fi
+    done
+    return 1
+}
+
+# One call, on maps of one size.
 sweep() {
-    local call="$1" entries="$2" takes="$3" other="${4:-3}" step="${5:-1}" requests nth got what
-    what="$call on $entries with $other"
-    requests="$(REFUSE_TELL=1 LD_PRELOAD="$work/refuse.so" "$program" "$call" "$entries" "$other" 2>&1 >"$work/out" | sed -n 's/^requests=//p')"
-    judge done "$(tail -n 1 "$work/out")" "$what, none refused"
+    local what="$call on $entries_count${with:+ with $with}" requests nth got kept
+    REFUSE_TELL=1 LD_PRELOAD="$work/refuse.so" run mark "$((${#before[@]} + 1))" -- "$call"
+    requests="$(sed -n 's/^requests=//p' "$work/told")"
+    got=done
+    if [ "$status" != 0 ] || [[ "$answer" = *refused* ]]; then got="$answer, status $status"; fi
+    judge done "$got" "$what, none refused"
     case "$takes" in
-        some | part) judge yes "$([ "$requests" -gt 0 ] && echo yes || echo no)" "$what makes a request" ;;
         none) judge 0 "$requests" "$what: requests" ;;
+        *) judge yes "$([ "${requests:-0}" -gt 0 ] && echo yes || echo no)" "$what makes a request" ;;
+    esac
+    refused=(refused)
+    kept=()
+    case "$takes" in
+        items)
+            refused_items "$answer"
+            kept=("$left")
+            ;;
+        part)
+            pair_count
+            for ((count = 0; count <= pairs; count++)); do
+                first_pairs "$count"
+                run -- "${instead[@]}"
+                kept+=("$left")
+            done
+            ;;
+        *)
+            run -- "${gone[@]}"
+            kept=("$left")
+            ;;
     esac
     for ((nth = 1; nth <= requests; nth += step)); do
-        got="$(REFUSE_NTH=$nth LD_PRELOAD="$work/refuse.so" "$program" "$call" "$entries" "$other" | tail -n 1)"
-        if [ "$takes" = part ] && [ "$got" = "refused, first part" ]; then got="refused, kept"; fi
+        REFUSE_NTH=$nth LD_PRELOAD="$work/refuse.so" run mark "$((${#before[@]} + 1))" -- "$call"
+        got="refused, kept"
+        if [ "$status" != 0 ]; then got="status $status"; fi
+        if ! is_among "$left" "${kept[@]}"; then got="refused, changed"; fi
+        if ! is_among "$answer" "${refused[@]}"; then got="$answer"; fi
         judge "refused, kept" "$got" "$what, request $nth of $requests refused"
     done
 }
 
-for entries in 0 1 3 200; do
-    for call in "ranges_insert inside" "ranges_insert over" "ranges_insert above" "insert inside" "insert between" "split_off inside" "split_off between"; do
-        sweep "$call" "$entries" some
+# So many pairs of a range and a value, and their ranges alone: of a map, and of the other map.
+pairs_of() { # how many, the first start, the length of every other range, that of those between, perhaps two values
+    local place start length value
+    all='' ranges=''
+    for ((place = 0; place < $1; place++)); do
+        start=$((10 * place + $2))
+        if ((place % 2)); then length="$4" value="${6:-v$start}"; else length="$3" value="${5:-v$start}"; fi
+        ranges+=" $start..=$((start + length))"
+        all+=" $start..=$((start + length)) $value"
     done
-    for call in "ranges_insert nowhere" "remove unmapped" "remove single" "pop_first single" "pop_last single"; do
-        sweep "$call" "$entries" none
-    done
-done
-for entries in 1 3 200; do
-    for call in "remove inside" "remove last" pop_first pop_last clone retain from_sorted_disjoint_map; do
-        sweep "$call" "$entries" some
-    done
-done
-for call in "remove inside" "remove last" pop_first pop_last retain; do
-    sweep "$call" 0 none
-done
+}
 
-# What is read of one map: the keys within bounds, the keys without a value, streams of it, and its entries by value.
-for entries in 0 1 3; do
-    for call in "!map" complement complement_with universe_with range; do
-        sweep "$call" "$entries" some
+# All calls of a group, on all its sizes.
+sweep_group() {
+    local entries_count line
+    [ "${#calls[@]}" -gt 0 ] || return 0
+    for entries_count in "${sizes[@]}"; do
+        pairs_of "$entries_count" 0 5 5
+        local entries="$all" entry_ranges="$ranges"
+        pairs_of "$entries_count" 0 5 5 x y
+        local turns="$all"
+        pairs_of "${with:-0}" 3 1 5
+        others="$all"
+        before=("keys i64")
+        for line in "${setup[@]}"; do
+            line="${line//' {entries}'/"$entries"}"
+            line="${line//' {turns}'/"$turns"}"
+            line="${line//' {others}'/"$others"}"
+            line="${line//' {other ranges}'/"$ranges"}"
+            before+=("$line")
+        done
+        for call in "${calls[@]}"; do
+            if [[ "$call" != *"$only"* ]]; then continue; fi
+            call="${call//' {ranges}'/"$entry_ranges"}"
+            sweep
+        done
     done
-done
-for entries in 1 3; do
-    sweep from_ranges "$entries" some
-    sweep into_range_values "$entries" some
-done
-sweep from_ranges 0 none
-sweep into_range_values 0 none
-sweep segments 0 some
-sweep "!map" 200 some
-sweep complement 200 some
-sweep range 200 some
+}
 
-# Two maps, or a map and a set. A union paints the map with few entries over or under the other, and merges two of 1024
-# entries, where not each request is refused.
-for entries in 1 3; do
-    for call in "&map | &other" "&map & &other" "&map - &other" "&map ^ &other" "&map & &set" "&map - &set" \
-        "map | other" "map & other" "map - other" "map ^ other" \
-        union_of symmetric_difference_of intersect_with_ranges subtract_ranges; do
-        sweep "$call" "$entries" some 3
-    done
-done
-for call in "&map | &other" "map | other" union_of "&map ^ &other"; do
-    sweep "$call" 0 some 3
-    sweep "$call" 3 some 0
-done
-sweep "&map | &other" 3 some 40
-sweep "&map | &other" 40 some 3
-sweep "&map | &other" 1024 some 1024 200
-sweep union_of 40 some 40
-for call in "&map & &other" "&map - &other" "&map & &set" "&map - &set"; do
-    sweep "$call" 0 none 3
-done
-
-# Pairs painted in order.
-for entries in 0 1 3 40; do
-    for call in extend_points extend_ranges extend_simple extend_with bitor_assign_ref append; do
-        sweep "$call" "$entries" part 3
-    done
-    for call in extend_from extend_with bitor_assign bitor_assign_ref append; do
-        sweep "$call" "$entries" none 0
-    done
-done
-for entries in 0 1 3 40; do
-    for call in extend_from bitor_assign; do
-        sweep "$call" "$entries" part 3
-    done
-done
-for call in append extend_ranges; do
-    sweep "$call" 200 part 3
-done
+# Groups are read up to an empty line: first what the calls take and on which sizes, then lines of script.
+takes='' calls=()
+while IFS= read -r line; do
+    case "$line" in
+        '#'*) ;;
+        '') sweep_group && takes='' calls=() ;;
+        '! '*) calls+=("${line#! }") ;;
+        '~ '*) gone+=("${line#\~ }") ;;
+        *)
+            if [ -n "$takes" ]; then
+                setup+=("$line")
+            else
+                sizes=() setup=() gone=() with='' step=1
+                read -ra words <<<"$line"
+                takes="${words[0]}"
+                for ((place = 1; place < ${#words[@]}; place++)); do
+                    case "${words[place]}" in
+                        with) with="${words[place += 1]}" ;;
+                        step) step="${words[place += 1]}" ;;
+                        *) sizes+=("${words[place]}") ;;
+                    esac
+                done
+            fi
+            ;;
+    esac
+done < <(cat "$here/refusals.txt" && echo)
 echo "$passed passed, $failed failed"
 [ "$failed" = 0 ]

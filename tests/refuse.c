@@ -1,6 +1,6 @@
 /* Loaded before a program, this refuses one request for memory of those that the program makes between the lines
-   "begin" and "end" of its output: the REFUSE_NTH-th, from 1; with 0 none. With REFUSE_TELL it says at the end how many
-   requests there were. */
+   "begin" and "end" of its standard error: the REFUSE_NTH-th, from 1; with 0 none. With REFUSE_TELL it says at the end
+   how many requests there were. */
 #define _GNU_SOURCE
 #include <errno.h>
 #include <stdio.h>
@@ -27,11 +27,11 @@ void *malloc(size_t size) { return refuses() ? NULL : __libc_malloc(size); }
 void *realloc(void *old, size_t size) { return refuses() ? NULL : __libc_realloc(old, size); }
 
 static ssize_t written(int file, const void *text, size_t size) {
-    if (file == 1 && size >= 6 && !memcmp(text, "begin\n", 6)) {
+    if (file == 2 && size >= 6 && !memcmp(text, "begin\n", 6)) {
         const char *asked = getenv("REFUSE_NTH");
         nth = asked ? atol(asked) : 0;
         is_between = 1;
-    } else if (file == 1 && size >= 4 && !memcmp(text, "end\n", 4)) {
+    } else if (file == 2 && size >= 4 && !memcmp(text, "end\n", 4)) {
         is_between = 0;
     }
     return syscall(SYS_write, file, text, size);
