@@ -4,13 +4,15 @@
 # part of them painted; an iterator by value must end. Without a refusal the call must succeed. A call that is to take memory
 # must make a request, one that is to take none must make none. The last line is 'N passed, M failed'.
 #
-# Calls without a line in a script are not swept by themselves: `union_of`, `symmetric_difference_of`,
-# `intersect_with_ranges`, `subtract_ranges`, `complement`, `from_sorted_disjoint_map` and `from_canonical` run inside the
-# operators `|`, `^`, `&`, `-` and `!` and are refused there; `segments`, `into_range_map_blaze`, carriers and the lists that
-# checked streams read are not refused anywhere.
+# Calls without a line in a script are not swept by themselves. `symmetric_difference_of`, `intersect_with_ranges`,
+# `subtract_ranges`, `complement` and `from_sorted_disjoint_map` run inside the operators `^`, `&`, `-` and `!`, and are
+# refused there; `union_of` runs inside `|` of two maps of 1024 entries, where each of the first 40 requests is refused and
+# then each 200th. `segments`, `into_range_map_blaze` and carriers are not refused here.
 #
 #     tests/refusals.sh          all cases
 #     tests/refusals.sh WORD     those whose call has the word
+#
+# SCRIPT_PROGRAM names a program to sweep; without it `./script` builds one where that is needed.
 set -euo pipefail
 here="$(cd "$(dirname "${BASH_SOURCE[0]}")" && pwd)"
 only="${1:-}"
@@ -119,7 +121,7 @@ sweep() {
             kept=("$left")
             ;;
     esac
-    for ((nth = 1; nth <= requests; nth += step)); do
+    for ((nth = 1; nth <= requests; nth += nth < 40 ? 1 : step)); do
         REFUSE_NTH=$nth LD_PRELOAD="$work/refuse.so" run mark "$((${#before[@]} + 1))" -- "$call"
         got="refused, kept"
         if [ "$status" != 0 ]; then got="status $status"; fi
