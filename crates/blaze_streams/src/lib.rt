@@ -47,12 +47,4 @@ pub use union::{symmetric_difference_of, union_of};
 pub use with_ranges::{intersect_with_ranges, subtract_ranges};
 
 #[cfg(test)]
-mod choice_tests;
-#[cfg(test)]
-mod complement_tests;
-#[cfg(test)]
-mod into_range_values_tests;
-#[cfg(test)]
-mod segments_tests;
-#[cfg(test)]
 mod tests;

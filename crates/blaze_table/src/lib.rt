@@ -40,6 +40,4 @@ pub struct Slot<T, V> {
 }
 
 #[cfg(test)]
-mod set_tests;
-#[cfg(test)]
 mod tests;

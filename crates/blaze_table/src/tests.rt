@@ -6,7 +6,7 @@ ghost use Rattle.std.specs.Ordering.{on};
 use crate::laws::{
     canonical_is_fewest, canonical_is_unique, lengths_are_mapped, structure_is_definition,
 };
-use crate::table::RangeTable;
+use crate::{RangeSetBlaze, RangeTable};
 use std::alloc::{AllocError, Global};
 use std::cell::Cell;
 use std::process::Abort;
@@ -32,107 +32,19 @@ fn check_entries(rt: &impl Abort, table: &RangeTable<i64, char>, expected: &[(i6
 }
 
 #[test]
-fn paints(rt: HostRuntime) -> Result<(), Fail> {
-    let alloc = rt.alloc();
-    let empty = table(alloc, &[])?;
-    assert_eq!(rt; empty.entries(), 0);
-    assert_eq!(rt; empty.len(), 0);
-    let nested = table(alloc, &[(0, 9, 'a'), (2, 7, 'b'), (4, 5, 'c')])?;
-    check_entries(
-        &rt,
-        &nested,
-        &[
-            (0, 1, 'a'),
-            (2, 3, 'b'),
-            (4, 5, 'c'),
-            (6, 7, 'b'),
-            (8, 9, 'a'),
-        ],
-    );
-    assert_eq!(rt; nested.len(), 10);
-    let joined = table(alloc, &[(1, 3, 'a'), (4, 6, 'b'), (3, 4, 'a')])?;
-    check_entries(&rt, &joined, &[(1, 4, 'a'), (5, 6, 'b')]);
-    Ok(())
-}
-
-#[test]
-fn paint_answers_whether_the_number_of_keys_changed(rt: HostRuntime) -> Result<(), Fail> {
-    let mut subject = table(rt.alloc(), &[(0, 9, 'a')])?;
-    assert!(rt; subject.paint(9, 10, 'b')?);
-    assert!(rt; !subject.paint(3, 4, 'b')?);
-    assert!(rt; !subject.paint(3, 3, 'b')?);
-    Ok(())
-}
-
-#[test]
-fn look_ups(rt: HostRuntime) -> Result<(), Fail> {
+fn neighbours(rt: HostRuntime) -> Result<(), Fail> {
     let subject = table(rt.alloc(), &[(1, 3, 'a'), (6, 8, 'b'), (20, 20, 'c')])?;
-    subject.in_hand();
-    assert_eq!(rt; subject.len(), 7);
-    assert_eq!(rt; subject.entries(), 3);
-    assert_eq!(rt; subject.find(6), Some((6, 8, &'b')));
-    assert_eq!(rt; subject.find(5), None);
-    assert_eq!(rt; subject.first(), Some((1, 3, &'a')));
-    assert_eq!(rt; subject.last(), Some((20, 20, &'c')));
     assert_eq!(rt; subject.next_above(3), Some((6, 8, &'b')));
     assert_eq!(rt; subject.next_above(7), Some((20, 20, &'c')));
     assert_eq!(rt; subject.next_above(20), None);
     assert_eq!(rt; subject.next_below(6), Some((1, 3, &'a')));
     assert_eq!(rt; subject.next_below(21), Some((20, 20, &'c')));
     assert_eq!(rt; subject.next_below(3), None);
-    if subject.find(5).is_none() {
-        assert_eq!(rt; subject.gap_round(5), (4, 5));
-    }
-    if subject.find(21).is_none() {
-        assert_eq!(rt; subject.gap_round(21), (21, i64::MAX));
-    }
     Ok(())
 }
 
 #[test]
-fn entries_from_both_ends(rt: HostRuntime) -> Result<(), Fail> {
-    let subject = table(rt.alloc(), &[(1, 3, 'a'), (6, 8, 'b'), (20, 20, 'c')])?;
-    let mut lent = subject.iter();
-    assert_eq!(rt; lent.size_hint(), (3, Some(3)));
-    assert_eq!(rt; lent.next_back(), Some((20, 20, &'c')));
-    assert_eq!(rt; lent.next(), Some((1, 3, &'a')));
-    assert_eq!(rt; lent.len(), 1);
-    assert_eq!(rt; lent.next_back(), Some((6, 8, &'b')));
-    assert_eq!(rt; lent.next(), None);
-    assert_eq!(rt; lent.next_back(), None);
-    let mut owned = subject.into_iter();
-    assert_eq!(rt; owned.size_hint(), (3, Some(3)));
-    assert_eq!(rt; owned.next(), Some((1, 3, 'a')));
-    assert_eq!(rt; owned.next_back(), Some((20, 20, 'c')));
-    assert_eq!(rt; owned.len(), 1);
-    assert_eq!(rt; owned.next(), Some((6, 8, 'b')));
-    assert_eq!(rt; owned.next_back(), None);
-    assert_eq!(rt; owned.next(), None);
-    Ok(())
-}
-
-#[test]
-fn removals(rt: HostRuntime) -> Result<(), Fail> {
-    let alloc = rt.alloc();
-    let mut subject = table(alloc, &[(0, 9, 'a'), (12, 12, 'b')])?;
-    assert_eq!(rt; subject.cut_key(5)?, Some('a'));
-    assert_eq!(rt; subject.cut_key(12)?, Some('b'));
-    assert_eq!(rt; subject.cut_key(10)?, None);
-    check_entries(&rt, &subject, &[(0, 4, 'a'), (6, 9, 'a')]);
-    assert_eq!(rt; subject.len(), 9);
-    let from = subject.split_at(8)?;
-    check_entries(&rt, &subject, &[(0, 4, 'a'), (6, 7, 'a')]);
-    check_entries(&rt, &from, &[(8, 9, 'a')]);
-    assert_eq!(rt; subject.len(), 7);
-    assert_eq!(rt; from.len(), 2);
-    subject.clear();
-    assert_eq!(rt; subject.entries(), 0);
-    assert_eq!(rt; subject.len(), 0);
-    Ok(())
-}
-
-#[test]
-fn entries_that_a_closure_keeps(rt: HostRuntime) -> Result<(), Fail> {
+fn entries_and_keys_that_a_closure_keeps(rt: HostRuntime) -> Result<(), Fail> {
     let alloc = rt.alloc();
     let mut subject = table(alloc, &[(0, 3, 'l'), (4, 7, 'h'), (8, 8, 'l'), (9, 9, 'h')])?;
     let mut calls = 0u8;
@@ -143,14 +55,15 @@ fn entries_that_a_closure_keeps(rt: HostRuntime) -> Result<(), Fail> {
     assert_eq!(rt; calls, 4);
     check_entries(&rt, &subject, &[(0, 3, 'l'), (8, 8, 'l'), (9, 9, 'h')]);
     assert_eq!(rt; subject.len(), 6);
+    let calls = Cell::new(0u8);
+    subject.retain_keys(|key, value| {
+        calls.set(calls.get().wrapping_add(1));
+        *key != 1 && *value == 'l'
+    })?;
+    assert_eq!(rt; calls.get(), 6);
+    check_entries(&rt, &subject, &[(0, 0, 'l'), (2, 3, 'l'), (8, 8, 'l')]);
+    assert_eq!(rt; subject.len(), 4);
     Ok(())
-}
-
-#[test]
-fn laws_at_a_type() {
-    canonical_is_unique::<char>();
-    canonical_is_fewest::<char>();
-    lengths_are_mapped::<char>();
 }
 
 /// A value whose clones are refused once as many were made as are left.
@@ -208,16 +121,17 @@ fn shown(table: &RangeTable<i64, Counted>, key: i64) -> (Option<(i64, i64, u32)>
     (entry, table.entries(), table.len())
 }
 
+/// The number 2.
+fn two(left: &Cell<u32>) -> Counted<'_> {
+    Counted { number: 2, left }
+}
+
 #[test]
 fn refused_clones_change_nothing(rt: HostRuntime) -> Result<(), Fail> {
     let left = Cell::new(0u32);
     let unchanged = (Some((0i64, 9i64, 1u32)), 1usize, 10u128);
     let mut subject = no_clones(rt.alloc(), &left)?;
-    let other = Counted {
-        number: 2,
-        left: &left,
-    };
-    assert!(rt; subject.paint(4, 5, other).is_err());
+    assert!(rt; subject.paint(4, 5, two(&left)).is_err());
     assert_eq!(rt; shown(&subject, 4), unchanged);
     assert!(rt; subject.cut_key(5).is_err());
     assert_eq!(rt; shown(&subject, 5), unchanged);
@@ -230,48 +144,55 @@ fn refused_clones_change_nothing(rt: HostRuntime) -> Result<(), Fail> {
 }
 
 #[test]
-fn paints_that_cut_one_end_need_no_clone(rt: HostRuntime) -> Result<(), Fail> {
+fn paints_at_one_end_need_no_clone(rt: HostRuntime) -> Result<(), Fail> {
     let left = Cell::new(0u32);
     let mut low = no_clones(rt.alloc(), &left)?;
-    let _ = low.paint(
-        0,
-        4,
-        Counted {
-            number: 2,
-            left: &left,
-        },
-    )?;
+    let _ = low.paint(0, 4, two(&left))?;
     assert_eq!(rt; shown(&low, 0), (Some((0, 4, 2)), 2, 10));
     assert_eq!(rt; shown(&low, 9), (Some((5, 9, 1)), 2, 10));
     let mut high = no_clones(rt.alloc(), &left)?;
-    let _ = high.paint(
-        5,
-        9,
-        Counted {
-            number: 2,
-            left: &left,
-        },
-    )?;
+    let _ = high.paint(5, 9, two(&left))?;
     assert_eq!(rt; shown(&high, 0), (Some((0, 4, 1)), 2, 10));
     assert_eq!(rt; shown(&high, 9), (Some((5, 9, 2)), 2, 10));
     Ok(())
 }
 
 #[test]
-fn table_of_a_canonical_list(rt: HostRuntime) -> Result<(), Fail> {
+fn canonical_lists(rt: HostRuntime) -> Result<(), Fail> {
+    let alloc = rt.alloc();
+    canonical_is_unique::<char>();
+    canonical_is_fewest::<char>();
+    lengths_are_mapped::<char>();
     structure_is_definition::<char>();
-    let entries = vec![in rt.alloc(); (1i64, 3i64, 'a'), (4, 4, 'b')]?;
-    let made = RangeTable::from_canonical(rt.alloc(), entries)?;
+    let entries = vec![in alloc; (1i64, 3i64, 'a'), (4, 4, 'b')]?;
+    let made = RangeTable::from_canonical(alloc, entries)?;
     check_entries(&rt, &made, &[(1, 3, 'a'), (4, 4, 'b')]);
     assert_eq!(rt; made.len(), 4);
+    structure_is_definition::<()>();
+    let ranges = vec![in alloc; 1i64..=2i64, 4..=5]?;
+    let set = RangeSetBlaze::from_canonical(alloc, ranges)?;
+    assert_eq!(rt; set.ranges_len(), 2);
+    assert!(rt; set.contains(5));
+    assert!(rt; !set.contains(3));
     Ok(())
 }
 
 #[test]
-fn retains_keys(rt: HostRuntime) -> Result<(), Fail> {
-    let mut subject = table(rt.alloc(), &[(0, 4, 'a'), (5, 6, 'b')])?;
-    subject.retain_keys(|key, value| *key != 1 && *value == 'a')?;
-    check_entries(&rt, &subject, &[(0, 0, 'a'), (2, 4, 'a')]);
-    assert_eq!(rt; subject.len(), 4);
+fn ranges_of_a_set_from_both_ends(rt: HostRuntime) -> Result<(), Fail> {
+    let alloc = rt.alloc();
+    let set = RangeSetBlaze::from_ranges(alloc, vec![in alloc; 8..=9, 1i64..=2i64, 4..=6]?)?;
+    let mut ranges = set.ranges();
+    assert_eq!(rt; ranges.size_hint(), (3, Some(3)));
+    assert_eq!(rt; ranges.next_back(), Some(8..=9));
+    assert_eq!(rt; ranges.next(), Some(1..=2));
+    assert_eq!(rt; ranges.len(), 1);
+    assert_eq!(rt; ranges.next_back(), Some(4..=6));
+    assert_eq!(rt; ranges.next(), None);
+    let mut taken = set.into_ranges();
+    assert_eq!(rt; taken.size_hint(), (3, Some(3)));
+    assert_eq!(rt; taken.next(), Some(1..=2));
+    assert_eq!(rt; taken.next_back(), Some(8..=9));
+    assert_eq!(rt; taken.next(), Some(4..=6));
+    assert_eq!(rt; taken.next_back(), None);
     Ok(())
 }

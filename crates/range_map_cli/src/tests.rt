@@ -51,33 +51,13 @@ fn texts(rt: HostRuntime) {
             b"true\n".as_slice(),
             End::Done,
         ),
+        (
+            b"insert 5 x\nremove 5\nremove 5\nlen\nat 0\n".as_slice(),
+            b"-\nx\n-\n0\n-9223372036854775808..=9223372036854775807 -\n".as_slice(),
+            End::Done,
+        ),
     ] {
         assert_answers(&rt, rt.alloc(), input, want, end);
-    }
-}
-
-#[test]
-fn single_keys(rt: HostRuntime) {
-    for (input, want) in [
-        (
-            b"paint 1 3 red\npaint 7 10 blue\nat 5\nat 2\nget 4\ninsert 8 red\nlen\nlist\n".as_slice(),
-            b"true\ntrue\n4..=6 -\n1..=3 red\n-\nblue\n7\n(1..=3, \"red\"), (7..=7, \"blue\"), (8..=8, \"red\"), (9..=10, \"blue\")\n".as_slice(),
-        ),
-        (
-            b"paint 1 3 a\npaint 4 4 a\nlist\nat 2\n".as_slice(),
-            b"true\ntrue\n(1..=4, \"a\")\n1..=4 a\n".as_slice(),
-        ),
-        (b"remove 3\n".as_slice(), b"-\n".as_slice()),
-        (
-            b"insert 5 x\nremove 5\nremove 5\nlen\n".as_slice(),
-            b"-\nx\n-\n0\n".as_slice(),
-        ),
-        (
-            b"at 0\n".as_slice(),
-            b"-9223372036854775808..=9223372036854775807 -\n".as_slice(),
-        ),
-    ] {
-        assert_answers(&rt, rt.alloc(), input, want, End::Done);
     }
 }
 
@@ -96,27 +76,15 @@ fn bad_lines(rt: HostRuntime) -> Result<(), Fail> {
         b"get".as_slice(),
         b"list\r".as_slice(),
         b"fill 1 2 a".as_slice(),
+        b"insert 1 a b".as_slice(),
+        b"insert 1 -".as_slice(),
+        b"remove 1 2".as_slice(),
+        b"at x".as_slice(),
         long.as_slice(),
     ] {
         assert_answers(&rt, rt.alloc(), line, b"error line 1\n", End::BadLine);
     }
     Ok(())
-}
-
-#[test]
-fn bad_lines_of_single_keys(rt: HostRuntime) {
-    for line in [
-        b"insert 1".as_slice(),
-        b"insert 1 a b".as_slice(),
-        b"insert x a".as_slice(),
-        b"insert 1 -".as_slice(),
-        b"remove".as_slice(),
-        b"remove 1 2".as_slice(),
-        b"at".as_slice(),
-        b"at x".as_slice(),
-    ] {
-        assert_answers(&rt, rt.alloc(), line, b"error line 1\n", End::BadLine);
-    }
 }
 
 /// Gives its text in pieces of at most `step` bytes, and fails once `left` bytes were given.

@@ -1,21 +1,6 @@
-//! Worked examples of range maps, as tests.
+//! Tests of range maps that a script cannot say: values of coarse equality, refused clones, closures with a state, loops and
+//! chains, maps of streams.
 #![tactic(auto)]
 
 #[cfg(test)]
-mod bounds;
-#[cfg(test)]
-mod coarse;
-#[cfg(test)]
-mod extends;
-#[cfg(test)]
-mod iterators;
-#[cfg(test)]
-mod lookups;
-#[cfg(test)]
-mod paints;
-#[cfg(test)]
-mod prints;
-#[cfg(test)]
-mod removals;
-#[cfg(test)]
-mod streams;
+mod tests;
