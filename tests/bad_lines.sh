@@ -7,6 +7,9 @@ here="$(cd "$(dirname "${BASH_SOURCE[0]}")" && pwd)"
 program="${SCRIPT_PROGRAM:-$here/../crates/script/out/script}"
 [ -n "${SCRIPT_PROGRAM:-}" ] || "$here/../script" </dev/null
 
+work="$(mktemp -d)"
+trap 'rm -rf "$work"' EXIT
+
 passed=0
 failed=0
 before=()
@@ -21,7 +24,9 @@ while IFS= read -r line; do
     wanted=''
     for _ in "${before[@]:1}"; do wanted+=$'()\n'; done
     wanted+="bad line $((${#before[@]} + 1)), status 2"
-    got="$(printf '%s\n' "${before[@]}" "$line" "a len" | { "$program" && echo ", status 0" || echo ", status $?"; })"
+    # (from a file: the program reads nothing after a bad line, and a pipe would break)
+    printf '%s\n' "${before[@]}" "$line" "a len" >"$work/script"
+    got="$("$program" <"$work/script" && echo ", status 0" || echo ", status $?")"
     if [ "${got//$'\n', status/, status}" = "$wanted" ]; then
         passed=$((passed + 1))
     else
