@@ -1,0 +1,6 @@
+pub mod Entries
+pub mod Starts
+pub mod Places
+pub mod Counted
+pub mod Found
+pub mod Changed
