@@ -1,5 +1,5 @@
 -- Lists in the order of their starts, in two parts: below a key and from it on.
-use Rattle.std.proofs.Common.{◌≡◌, ℤ, pos, ◌+ℤ◌, ◌≤ℤ◌, ◌<ℤ◌, true, false, cond, List, [], ◌∷◌, ◌++◌, refl, ◌∙◌, sym, ap, arith}
+use Rattle.std.proofs.Common.{◌≡◌, ℤ, pos, ◌+ℤ◌, ◌≤ℤ◌, ◌<ℤ◌, true, false, cond, ◌⊎◌, inl, inr, List, [], ◌∷◌, ◌++◌, refl, ◌∙◌, sym, ap, arith}
 use Rattle.std.specs.Prelude.{int_lt, int_le}
 use Rattle.std.proofs.lemmas.Int.{ints, by_lt_z}
 use Rattle.blaze_entries.specs.Entries.{Entry}
@@ -65,3 +65,17 @@ module _ {V : Type 0} where
   starts_of_below k b high (e ∷ es) h = by_lt_z e.lo k
       (λ l. rw (below_takes k e es l) (h.0, h.1, starts_of_below k (e.lo +ℤ pos 1) high es h.2))
       (λ l. rw (below_none k e.lo high (e ∷ es) l (omega (arith, ints), h.1, h.2)) tt)
+
+  -- all start below what is above the greatest key
+  below_every : (b high k : ℤ) (es : List (Entry V)) → high <ℤ k → StartsAscend b high es → below k es ≡ es
+  below_every b high k [] l h = refl
+  below_every b high k (e ∷ es) l h =
+      below_takes k e es (omega (arith, ints, h.1)) ∙ ap (λ t. e ∷ t) (below_every (e.lo +ℤ pos 1) high k es l h.2)
+
+  -- up to the key after k, if there is one
+  pub below_next : (low high k t : ℤ) (es : List (Entry V)) → StartsAscend low high es → (t ≡ k +ℤ pos 1) ⊎ ((k ≡ high) × (t ≡ high)) → below (t +ℤ pos 1) es ≡ below (k +ℤ pos 2) es
+  below_next low high k t es h (inl q) = let r : t +ℤ pos 1 ≡ k +ℤ pos 2 = omega (arith, ints, q) in ap (λ x. below x es) r
+  below_next low high k t es h (inr q) =
+      let at_top = q.0 in
+      let last = q.1 in
+      below_every low high (t +ℤ pos 1) es (omega (arith, ints)) h ∙ sym (below_every low high (k +ℤ pos 2) es (omega (arith, ints)) h)

@@ -164,3 +164,7 @@ module _ {V : Type 0} where
       let r = front_replaced-held k z v s (full ps) ns (subst (λ (x : List (Entry (Option V))). IsFrontReplaced k z (Some v) s x ns) h.full.held m) in
       let q : full ns ≡ r.0 = full_of ns r.0 r.1 in
       (subst (IsFrontReplaced k z v s (full ps)) (sym q) r.2, r.1 ∙ ap (map held) (sym q))
+
+  -- places that are those of entries are full
+  pub full_held : (ps : List (Entry (Option V))) (es : List (Entry V)) → ps ≡ map held es → AreFull ps
+  full_held ps es q = record { held = q ∙ ap (map held) (sym (full_of ps es q)) }

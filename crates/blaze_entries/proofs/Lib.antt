@@ -8,3 +8,4 @@ pub mod NodeLists
 pub mod Views
 pub mod Steps
 pub mod Built
+pub mod Scans

@@ -155,6 +155,10 @@ module _ {T V : Type 0} (rank : T → ℤ) (cmp : T → T → Ordering) (low hig
     pub places_at_or_above : option_map (place_of rank) (first_entry (entries_between cmp (Included k) Unbounded m)) ≡ first_from (rank k) (places rank m)
     places_at_or_above = first_shown (place_of rank) (entries_between cmp (Included k) Unbounded m) ∙ ap first_entry (places_filter (λ q. is_le (cmp k q) && true) (λ z. int_le (rank k) z) (at_or_above_is rank cmp low high order k kl kh) low low_low m h)
 
+    -- the nodes that start up to a key
+    pub places_between : places rank (entries_between cmp Unbounded (Included k) m) ≡ below (rank k +ℤ pos 1) (places rank m)
+    places_between = places_filter (λ q. not (is_lt (cmp k q))) (λ z. int_lt z (rank k +ℤ pos 1)) (up_to_is rank cmp low high order k kl kh) low low_low m h
+
     -- the parts below a key and from it on
     pub places_below : places rank (entries_below (cmp k) m) ≡ below (rank k) (places rank m)
     places_below = places_filter (λ q. is_gt (cmp k q)) (λ z. int_lt z (rank k)) (split_below_is rank cmp low high order k kl kh) low low_low m h

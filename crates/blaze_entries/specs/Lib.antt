@@ -4,3 +4,4 @@ pub mod Places
 pub mod Counted
 pub mod Found
 pub mod Changed
+pub mod Scanned

@@ -1,9 +1,10 @@
 //! The entries with their counters. Each look here is counted: there is no other way to read an entry.
-ghost use Rattle.std.specs.Prelude.{◌≡◌, ◌+◌, [], pos, ◌+ℤ◌, length, map, Some, None, IsSome, IfSome, OnOk, OnErr, IfOk};
+ghost use Rattle.std.specs.Prelude.{◌≡◌, ◌+◌, [], pos, ◌+ℤ◌, length, map, reverse, Some, None, IsSome, IfSome, OnOk, OnErr, IfOk};
 ghost use Rattle.std.specs.Option.{option_map};
 ghost use Rattle.blaze_entries.specs.Entries.{entry, shown_entry};
 ghost use Rattle.blaze_entries.specs.Counted.{uncounted};
 ghost use Rattle.blaze_entries.specs.Found.{found_in, found_of};
+ghost use Rattle.blaze_entries.specs.Scanned.{seen_of, unseen, walked, answers};
 ghost use Rattle.blaze_entries.specs.Starts.{StartsAscend, below, from, last_below, first_from, start_at, with_entry, without, with_end, with_end_value, IsStartMoved, IsFrontReplaced, IsCloneInserted};
 
 use crate::build::tree_of;
@@ -15,6 +16,7 @@ use crate::nodes::{
     replace, replace_front, set_end, split_off,
 };
 use crate::places::{cloned, found, value_of};
+use crate::scan::{Plan, next_or_last, walk};
 use blaze_int::Integer;
 use std::alloc::{AllocError, Global};
 use std::collections::BTreeMap;
@@ -234,6 +236,18 @@ impl<T: Integer, V: Eq> Counted<T, V> {
     {
         self.looks = self.looks.after();
         found(node_at_or_above(&self.tree, key), value)
+    }
+}
+
+impl<T: Integer, V: Eq> Counted<T, V> {
+    /// Walks down the entries, in one search, from the one that may start right above a range to the first that starts
+    /// below it.
+    pub fn scan(&mut self, lo: T, hi: T, value: &V) -> Plan<T>
+        ensures plan { seen_of T.rank result ≡ walked V.eq value.now (T.rank lo) (T.rank hi) (unseen (T.rank hi)) (reverse (below (T.rank hi +ℤ pos 2) self.old.entries)) }
+        ensures looked { self.new ≡ record self.old { looks = self.old.looks + answers (T.rank lo) (reverse (below (T.rank hi +ℤ pos 2) self.old.entries)) } }
+    {
+        let top = next_or_last(hi);
+        walk(&self.tree, top, lo, hi, value, &mut self.looks)
     }
 }
 

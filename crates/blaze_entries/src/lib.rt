@@ -10,9 +10,11 @@ mod into_iter;
 mod iter;
 mod nodes;
 mod places;
+mod scan;
 
 pub use counted::Counted;
 pub use entries::Entries;
 pub use found::Found;
 pub use into_iter::IntoIter;
 pub use iter::Iter;
+pub use scan::Plan;
