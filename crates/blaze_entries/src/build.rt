@@ -15,7 +15,8 @@ pub fn tree_of<T: Integer, V: Drop>(
     entries: Vec<(T, T, V)>,
 ) -> Result<BTreeMap<T, EndValue<T, Option<V>>>, AllocError>
     requires { StartsAscend T.low T.high (map (shown_entry T.rank (λ v. v)) entries.items) }
-    ensures { IfOk result (λ tree. places T.rank tree.entries ≡ map held (map (shown_entry T.rank (λ v. v)) entries.items)) }
+    ensures { IfOk result (λ tree. places T.rank tree.entries
+        ≡ map held (map (shown_entry T.rank (λ v. v)) entries.items)) }
 {
     let mut tree = BTreeMap::new(alloc);
     for (start, end, value) in entries {

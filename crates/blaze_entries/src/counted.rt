@@ -41,7 +41,12 @@ impl<T: Integer, V> Model for Counted<T, V> {
 
     ghost use Rattle.blaze_entries.specs.Places.{places, entries_of, AreHeld};
 
-    ghost view = { λ c. record { entries = entries_of T.rank c.tree.entries; looks = c.looks.number; put_in = c.put_in.number; taken_out = c.taken_out.number } };
+    ghost view = { λ c. record {
+      entries = entries_of T.rank c.tree.entries;
+      looks = c.looks.number;
+      put_in = c.put_in.number;
+      taken_out = c.taken_out.number;
+    } };
 
     ghost invariant = { λ c. AreHeld T.low T.high (places T.rank c.tree.entries) };
 }
@@ -74,8 +79,10 @@ impl<T: Integer, V> Counted<T, V> {
 
     /// Keeps the entries that start below a key, and answers the others.
     pub(crate) fn split_off(&mut self, key: T) -> Result<Self, AllocError>
-        ensures below { OnOk result (self.new ≡ record self.old { entries = below (T.rank key) self.old.entries }) }
-        ensures from { IfOk result (λ others. others ≡ uncounted (from (T.rank key) self.old.entries)) }
+        ensures below { OnOk result (self.new
+            ≡ record self.old { entries = below (T.rank key) self.old.entries }) }
+        ensures from { IfOk result (λ others. others
+            ≡ uncounted (from (T.rank key) self.old.entries)) }
         ensures err { OnErr result (self.new ≡ self.old) }
     {
         key.in_hand();
@@ -98,7 +105,8 @@ impl<T: Integer, V> Counted<T, V> {
 
     /// Moves the end of the entry at a start.
     pub fn set_end(&mut self, start: T, end: T)
-        ensures { self.new ≡ record self.old { entries = with_end (T.rank start) (T.rank end) self.old.entries } }
+        ensures { self.new
+            ≡ record self.old { entries = with_end (T.rank start) (T.rank end) self.old.entries } }
     {
         set_end(&mut self.tree, start, end);
     }
@@ -108,7 +116,8 @@ impl<T: Integer, V: Drop> Counted<T, V> {
     /// The entries of a list whose starts ascend: first key, last key and value. Refused memory drops the list.
     pub(crate) fn from_sorted(alloc: Global, entries: Vec<(T, T, V)>) -> Result<Self, AllocError>
         requires { StartsAscend T.low T.high (map (shown_entry T.rank (λ v. v)) entries.items) }
-        ensures { IfOk result (λ counted. counted ≡ uncounted (map (shown_entry T.rank (λ v. v)) entries.items)) }
+        ensures { IfOk result (λ counted. counted
+            ≡ uncounted (map (shown_entry T.rank (λ v. v)) entries.items)) }
     {
         let tree = tree_of(alloc, entries)?;
         Ok(Counted {
@@ -137,7 +146,11 @@ impl<T: Integer, V: Drop> Counted<T, V> {
 
     /// Gives the entry at a start another end and value.
     pub fn replace(&mut self, start: T, end: T, value: V)
-        ensures { self.new ≡ record self.old { entries = with_end_value (T.rank start) (T.rank end) value self.old.entries } }
+        ensures { self.new
+            ≡ record self.old {
+              entries = with_end_value (T.rank start)
+                  (T.rank end) value self.old.entries;
+            } }
     {
         let value = Some(value);
         replace(&mut self.tree, start, EndValue { end, value });
@@ -146,7 +159,12 @@ impl<T: Integer, V: Drop> Counted<T, V> {
     /// Puts an entry in, at a start where none is.
     pub fn insert(&mut self, start: T, end: T, value: V) -> Result<(), AllocError>
         requires { start_at (T.rank start) self.old.entries ≡ None }
-        ensures ok { OnOk result (self.new ≡ record self.old { entries = with_entry (entry (T.rank start) (T.rank end) value) self.old.entries; put_in = self.old.put_in + 1 }) }
+        ensures ok { OnOk result (self.new
+            ≡ record self.old {
+              entries = with_entry
+                  (entry (T.rank start) (T.rank end) value) self.old.entries;
+              put_in = self.old.put_in + 1;
+            }) }
         ensures longer { OnOk result (length self.new.entries ≡ length self.old.entries + 1) }
         ensures err { OnErr result (self.new ≡ self.old) }
     {
@@ -160,8 +178,13 @@ impl<T: Integer, V: Drop> Counted<T, V> {
     /// Takes the entry at a start out, and answers its value.
     pub fn remove(&mut self, start: T) -> V
         requires { IsSome (start_at (T.rank start) self.old.entries) }
-        ensures entries { self.new ≡ record self.old { entries = without (T.rank start) self.old.entries; taken_out = self.old.taken_out + 1 } }
-        ensures value { option_map (λ e. e.value) (start_at (T.rank start) self.old.entries) ≡ Some result }
+        ensures entries { self.new
+            ≡ record self.old {
+              entries = without (T.rank start) self.old.entries;
+              taken_out = self.old.taken_out + 1;
+            } }
+        ensures value { option_map (λ e. e.value) (start_at (T.rank start) self.old.entries)
+            ≡ Some result }
         ensures shorter { length self.new.entries + 1 ≡ length self.old.entries }
     {
         self.taken_out = self.taken_out.after();
@@ -172,8 +195,14 @@ impl<T: Integer, V: Drop> Counted<T, V> {
     pub fn move_start(&mut self, from: T, to: T) -> Result<(), AllocError>
         requires present { IsSome (start_at (T.rank from) self.old.entries) }
         requires absent { start_at (T.rank to) self.old.entries ≡ None }
-        ensures ok { OnOk result (IsStartMoved (T.rank from) (T.rank to) self.old.entries self.new.entries) }
-        ensures counted { OnOk result (self.new ≡ record self.old { entries = self.new.entries; put_in = self.old.put_in + 1; taken_out = self.old.taken_out + 1 }) }
+        ensures ok { OnOk result
+            (IsStartMoved (T.rank from) (T.rank to) self.old.entries self.new.entries) }
+        ensures counted { OnOk result (self.new
+            ≡ record self.old {
+              entries = self.new.entries;
+              put_in = self.old.put_in + 1;
+              taken_out = self.old.taken_out + 1;
+            }) }
         ensures length { OnOk result (length self.new.entries ≡ length self.old.entries) }
         ensures err { OnErr result (self.new ≡ self.old) }
     {
@@ -193,8 +222,11 @@ impl<T: Integer, V: Drop> Counted<T, V> {
     pub fn replace_front(&mut self, start: T, end: T, value: V, to: T) -> Result<(), AllocError>
         requires present { IsSome (start_at (T.rank start) self.old.entries) }
         requires absent { start_at (T.rank to) self.old.entries ≡ None }
-        ensures ok { OnOk result (IsFrontReplaced (T.rank start) (T.rank end) value (T.rank to) self.old.entries self.new.entries) }
-        ensures counted { OnOk result (self.new ≡ record self.old { entries = self.new.entries; put_in = self.old.put_in + 1 }) }
+        ensures ok { OnOk result
+            (IsFrontReplaced (T.rank start) (T.rank end) value
+            (T.rank to) self.old.entries self.new.entries) }
+        ensures counted { OnOk result (self.new
+            ≡ record self.old { entries = self.new.entries; put_in = self.old.put_in + 1 }) }
         ensures longer { OnOk result (length self.new.entries ≡ length self.old.entries + 1) }
         ensures err { OnErr result (self.new ≡ self.old) }
     {
@@ -213,7 +245,8 @@ impl<T: Integer, V: Drop> Counted<T, V> {
 impl<T: Integer, V: Eq> Counted<T, V> {
     /// The entry with the greatest start below a key.
     pub fn below(&mut self, key: T, value: &V) -> Option<Found<T>>
-        ensures found { option_map (found_of T.rank) result ≡ option_map (found_in V.eq value.now) (last_below (T.rank key) self.old.entries) }
+        ensures found { option_map (found_of T.rank) result
+            ≡ option_map (found_in V.eq value.now) (last_below (T.rank key) self.old.entries) }
         ensures looked { self.new ≡ record self.old { looks = self.old.looks + 1 } }
     {
         self.looks = self.looks.after();
@@ -222,7 +255,9 @@ impl<T: Integer, V: Eq> Counted<T, V> {
 
     /// The entry with the greatest start up to a key.
     pub fn at_or_below(&mut self, key: T, value: &V) -> Option<Found<T>>
-        ensures found { option_map (found_of T.rank) result ≡ option_map (found_in V.eq value.now) (last_below (T.rank key +ℤ pos 1) self.old.entries) }
+        ensures found { option_map (found_of T.rank) result
+            ≡ option_map (found_in V.eq value.now)
+            (last_below (T.rank key +ℤ pos 1) self.old.entries) }
         ensures looked { self.new ≡ record self.old { looks = self.old.looks + 1 } }
     {
         self.looks = self.looks.after();
@@ -231,7 +266,8 @@ impl<T: Integer, V: Eq> Counted<T, V> {
 
     /// The entry with the least start from a key on.
     pub fn at_or_above(&mut self, key: T, value: &V) -> Option<Found<T>>
-        ensures found { option_map (found_of T.rank) result ≡ option_map (found_in V.eq value.now) (first_from (T.rank key) self.old.entries) }
+        ensures found { option_map (found_of T.rank) result
+            ≡ option_map (found_in V.eq value.now) (first_from (T.rank key) self.old.entries) }
         ensures looked { self.new ≡ record self.old { looks = self.old.looks + 1 } }
     {
         self.looks = self.looks.after();
@@ -243,8 +279,14 @@ impl<T: Integer, V: Eq> Counted<T, V> {
     /// Walks down the entries, in one search, from the one that may start right above a range to the first that starts
     /// below it.
     pub fn scan(&mut self, lo: T, hi: T, value: &V) -> Plan<T>
-        ensures plan { seen_of T.rank result ≡ walked V.eq value.now (T.rank lo) (T.rank hi) (unseen (T.rank hi)) (reverse (below (T.rank hi +ℤ pos 2) self.old.entries)) }
-        ensures looked { self.new ≡ record self.old { looks = self.old.looks + answers (T.rank lo) (reverse (below (T.rank hi +ℤ pos 2) self.old.entries)) } }
+        ensures plan { seen_of T.rank result
+            ≡ walked V.eq value.now (T.rank lo) (T.rank hi) (unseen (T.rank hi))
+            (reverse (below (T.rank hi +ℤ pos 2) self.old.entries)) }
+        ensures looked { self.new
+            ≡ record self.old {
+              looks = self.old.looks + answers (T.rank lo)
+                  (reverse (below (T.rank hi +ℤ pos 2) self.old.entries));
+            } }
     {
         let top = next_or_last(hi);
         walk(&self.tree, top, lo, hi, value, &mut self.looks)
@@ -255,7 +297,9 @@ impl<T: Integer, V: Clone> Counted<T, V> {
     /// A clone of the value of the entry at a start.
     pub fn clone_value(&mut self, start: T) -> Result<V, AllocError>
         requires { IsSome (start_at (T.rank start) self.old.entries) }
-        ensures value { IfOk result (λ value. IfSome (start_at (T.rank start) self.old.entries) (λ e. V.is_clone e.value value)) }
+        ensures value { IfOk result
+            (λ value. IfSome (start_at (T.rank start) self.old.entries)
+            (λ e. V.is_clone e.value value)) }
         ensures looked { self.new ≡ record self.old { looks = self.old.looks + 1 } }
     {
         self.looks = self.looks.after();
@@ -270,8 +314,11 @@ impl<T: Integer, V: Clone + Drop> Counted<T, V> {
     pub fn insert_clone(&mut self, of: T, start: T) -> Result<(), AllocError>
         requires present { IsSome (start_at (T.rank of) self.old.entries) }
         requires absent { start_at (T.rank start) self.old.entries ≡ None }
-        ensures ok { OnOk result (IsCloneInserted V.is_clone (T.rank of) (T.rank start) self.old.entries self.new.entries) }
-        ensures counted { OnOk result (self.new ≡ record self.old { entries = self.new.entries; put_in = self.old.put_in + 1 }) }
+        ensures ok { OnOk result
+            (IsCloneInserted V.is_clone (T.rank of)
+            (T.rank start) self.old.entries self.new.entries) }
+        ensures counted { OnOk result (self.new
+            ≡ record self.old { entries = self.new.entries; put_in = self.old.put_in + 1 }) }
         ensures longer { OnOk result (length self.new.entries ≡ length self.old.entries + 1) }
         ensures err { OnErr result (self.new ≡ self.old) }
     {

@@ -74,7 +74,8 @@ impl<T: Integer, V> Entries<T, V> {
 
     /// The entry with the least start: its first key, last key and value.
     pub fn first(&self) -> Option<(T, T, &V)>
-        ensures { option_map (shown_entry T.rank (λ v. v.now)) result ≡ slice_get self.now.entries 0 }
+        ensures { option_map (shown_entry T.rank (λ v. v.now)) result
+            ≡ slice_get self.now.entries 0 }
     {
         let counted = &self.counted;
         shown(counted.tree.first_key_value())
@@ -82,7 +83,8 @@ impl<T: Integer, V> Entries<T, V> {
 
     /// The entry with the greatest start: its first key, last key and value.
     pub fn last(&self) -> Option<(T, T, &V)>
-        ensures { option_map (shown_entry T.rank (λ v. v.now)) result ≡ slice_get self.now.entries (length self.now.entries - 1) }
+        ensures { option_map (shown_entry T.rank (λ v. v.now)) result
+            ≡ slice_get self.now.entries (length self.now.entries - 1) }
     {
         let counted = &self.counted;
         shown(counted.tree.last_key_value())
@@ -90,7 +92,8 @@ impl<T: Integer, V> Entries<T, V> {
 
     /// The entry with the greatest start below a key: its first key, last key and value.
     pub fn below(&self, key: T) -> Option<(T, T, &V)>
-        ensures { option_map (shown_entry T.rank (λ v. v.now)) result ≡ last_below (T.rank key) self.now.entries }
+        ensures { option_map (shown_entry T.rank (λ v. v.now)) result
+            ≡ last_below (T.rank key) self.now.entries }
     {
         let counted = &self.counted;
         shown(node_below(&counted.tree, key))
@@ -98,7 +101,8 @@ impl<T: Integer, V> Entries<T, V> {
 
     /// The entry with the greatest start up to a key: its first key, last key and value.
     pub fn at_or_below(&self, key: T) -> Option<(T, T, &V)>
-        ensures { option_map (shown_entry T.rank (λ v. v.now)) result ≡ last_below (T.rank key +ℤ pos 1) self.now.entries }
+        ensures { option_map (shown_entry T.rank (λ v. v.now)) result
+            ≡ last_below (T.rank key +ℤ pos 1) self.now.entries }
     {
         let counted = &self.counted;
         shown(node_at_or_below(&counted.tree, key))
@@ -106,7 +110,8 @@ impl<T: Integer, V> Entries<T, V> {
 
     /// The entry with the least start from a key on: its first key, last key and value.
     pub fn at_or_above(&self, key: T) -> Option<(T, T, &V)>
-        ensures { option_map (shown_entry T.rank (λ v. v.now)) result ≡ first_from (T.rank key) self.now.entries }
+        ensures { option_map (shown_entry T.rank (λ v. v.now)) result
+            ≡ first_from (T.rank key) self.now.entries }
     {
         let counted = &self.counted;
         shown(node_at_or_above(&counted.tree, key))
@@ -122,8 +127,10 @@ impl<T: Integer, V> Entries<T, V> {
 
     /// Keeps the entries that start below a key, and answers the others.
     pub fn split_off(&mut self, key: T) -> Result<Self, AllocError>
-        ensures below { OnOk result (self.new ≡ record self.old { entries = below (T.rank key) self.old.entries }) }
-        ensures from { IfOk result (λ others. others ≡ uncounted (from (T.rank key) self.old.entries)) }
+        ensures below { OnOk result (self.new
+            ≡ record self.old { entries = below (T.rank key) self.old.entries }) }
+        ensures from { IfOk result (λ others. others
+            ≡ uncounted (from (T.rank key) self.old.entries)) }
         ensures err { OnErr result (self.new ≡ self.old) }
     {
         let counted = self.counted.split_off(key)?;
@@ -135,7 +142,8 @@ impl<T: Integer, V: Drop> Entries<T, V> {
     /// The entries of a list whose starts ascend: first key, last key and value. Refused memory drops the list.
     pub fn from_sorted(alloc: Global, entries: Vec<(T, T, V)>) -> Result<Self, AllocError>
         requires { StartsAscend T.low T.high (map (shown_entry T.rank (λ v. v)) entries.items) }
-        ensures { IfOk result (λ built. built ≡ uncounted (map (shown_entry T.rank (λ v. v)) entries.items)) }
+        ensures { IfOk result (λ built. built
+            ≡ uncounted (map (shown_entry T.rank (λ v. v)) entries.items)) }
     {
         let counted = Counted::from_sorted(alloc, entries)?;
         Ok(Entries { counted })

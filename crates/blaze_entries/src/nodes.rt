@@ -20,7 +20,8 @@ pub struct EndValue<T, V> {
 
 // Moves the end of the node at a start.
 fn change_end<T: Integer, V>(tree: &mut BTreeMap<T, EndValue<T, V>>, start: T, end: T)
-    ensures { tree.new.entries ≡ changed (is_at (T.cmp start)) (λ node. record node { end = end }) tree.old.entries }
+    ensures { tree.new.entries
+        ≡ changed (is_at (T.cmp start)) (λ node. record node { end = end }) tree.old.entries }
 {
     if let Some(node) = tree.get_mut(&start) {
         node.end = end;
@@ -34,7 +35,8 @@ fn exchange<T: Integer, V: Drop>(
     node: EndValue<T, V>,
 ) -> Option<EndValue<T, V>>
     ensures nodes { tree.new.entries ≡ changed (is_at (T.cmp start)) (λ _. node) tree.old.entries }
-    ensures old { option_map (place_at T.rank start) result ≡ option_map (place_at T.rank start) (get T.cmp tree.old start) }
+    ensures old { option_map (place_at T.rank start) result
+        ≡ option_map (place_at T.rank start) (get T.cmp tree.old start) }
 {
     match tree.get_mut(&start) {
         Some(old) => Some(mem::replace(old, node)),
@@ -48,7 +50,8 @@ pub fn node_below<T: Integer, V>(
     key: T,
 ) -> Option<(&T, &EndValue<T, V>)>
     requires { StartsAscend T.low T.high (places T.rank tree.now.entries) }
-    ensures { option_map (place_lent T.rank) result ≡ last_below (T.rank key) (places T.rank tree.now.entries) }
+    ensures { option_map (place_lent T.rank) result
+        ≡ last_below (T.rank key) (places T.rank tree.now.entries) }
 {
     key.in_hand();
     tree.range(..key).next_back()
@@ -60,7 +63,8 @@ pub fn node_at_or_below<T: Integer, V>(
     key: T,
 ) -> Option<(&T, &EndValue<T, V>)>
     requires { StartsAscend T.low T.high (places T.rank tree.now.entries) }
-    ensures { option_map (place_lent T.rank) result ≡ last_below (T.rank key +ℤ pos 1) (places T.rank tree.now.entries) }
+    ensures { option_map (place_lent T.rank) result
+        ≡ last_below (T.rank key +ℤ pos 1) (places T.rank tree.now.entries) }
 {
     key.in_hand();
     tree.range(..=key).next_back()
@@ -72,7 +76,8 @@ pub fn node_at_or_above<T: Integer, V>(
     key: T,
 ) -> Option<(&T, &EndValue<T, V>)>
     requires { StartsAscend T.low T.high (places T.rank tree.now.entries) }
-    ensures { option_map (place_lent T.rank) result ≡ first_from (T.rank key) (places T.rank tree.now.entries) }
+    ensures { option_map (place_lent T.rank) result
+        ≡ first_from (T.rank key) (places T.rank tree.now.entries) }
 {
     key.in_hand();
     tree.range(key..).next()
@@ -84,7 +89,8 @@ pub fn node_at<T: Integer, V>(
     start: T,
 ) -> Option<&EndValue<T, V>>
     requires { StartsAscend T.low T.high (places T.rank tree.now.entries) }
-    ensures { option_map (place_at T.rank start) (option_copied result) ≡ start_at (T.rank start) (places T.rank tree.now.entries) }
+    ensures { option_map (place_at T.rank start) (option_copied result)
+        ≡ start_at (T.rank start) (places T.rank tree.now.entries) }
 {
     start.in_hand();
     tree.get(&start)
@@ -97,7 +103,8 @@ pub fn insert<T: Integer, V: Drop>(
     node: EndValue<T, V>,
 ) -> Result<(), AllocError>
     requires { StartsAscend T.low T.high (places T.rank tree.old.entries) }
-    ensures ok { OnOk result (places T.rank tree.new.entries ≡ with_entry (place_at T.rank start node) (places T.rank tree.old.entries)) }
+    ensures ok { OnOk result (places T.rank tree.new.entries
+        ≡ with_entry (place_at T.rank start node) (places T.rank tree.old.entries)) }
     ensures err { OnErr result (tree.new.entries ≡ tree.old.entries) }
 {
     start.in_hand();
@@ -111,8 +118,10 @@ pub fn remove<T: Integer, V>(
     start: T,
 ) -> Option<EndValue<T, V>>
     requires { StartsAscend T.low T.high (places T.rank tree.old.entries) }
-    ensures nodes { places T.rank tree.new.entries ≡ without (T.rank start) (places T.rank tree.old.entries) }
-    ensures old { option_map (place_at T.rank start) result ≡ start_at (T.rank start) (places T.rank tree.old.entries) }
+    ensures nodes { places T.rank tree.new.entries
+        ≡ without (T.rank start) (places T.rank tree.old.entries) }
+    ensures old { option_map (place_at T.rank start) result
+        ≡ start_at (T.rank start) (places T.rank tree.old.entries) }
 {
     start.in_hand();
     tree.remove(&start)
@@ -121,7 +130,8 @@ pub fn remove<T: Integer, V>(
 /// Moves the end of the node at a start.
 pub fn set_end<T: Integer, V>(tree: &mut BTreeMap<T, EndValue<T, V>>, start: T, end: T)
     requires { StartsAscend T.low T.high (places T.rank tree.old.entries) }
-    ensures { places T.rank tree.new.entries ≡ with_end (T.rank start) (T.rank end) (places T.rank tree.old.entries) }
+    ensures { places T.rank tree.new.entries
+        ≡ with_end (T.rank start) (T.rank end) (places T.rank tree.old.entries) }
 {
     start.in_hand();
     change_end(tree, start, end);
@@ -134,8 +144,11 @@ pub fn replace<T: Integer, V: Drop>(
     node: EndValue<T, V>,
 ) -> Option<EndValue<T, V>>
     requires { StartsAscend T.low T.high (places T.rank tree.old.entries) }
-    ensures nodes { places T.rank tree.new.entries ≡ with_end_value (T.rank start) (T.rank node.end) node.value (places T.rank tree.old.entries) }
-    ensures old { option_map (place_at T.rank start) result ≡ start_at (T.rank start) (places T.rank tree.old.entries) }
+    ensures nodes { places T.rank tree.new.entries
+        ≡ with_end_value (T.rank start) (T.rank node.end) node.value
+        (places T.rank tree.old.entries) }
+    ensures old { option_map (place_at T.rank start) result
+        ≡ start_at (T.rank start) (places T.rank tree.old.entries) }
 {
     start.in_hand();
     exchange(tree, start, node)
@@ -147,8 +160,10 @@ pub fn split_off<T: Integer, V>(
     key: T,
 ) -> Result<BTreeMap<T, EndValue<T, V>>, AllocError>
     requires { StartsAscend T.low T.high (places T.rank tree.old.entries) }
-    ensures below { OnOk result (places T.rank tree.new.entries ≡ below (T.rank key) (places T.rank tree.old.entries)) }
-    ensures from { IfOk result (λ others. places T.rank others.entries ≡ from (T.rank key) (places T.rank tree.old.entries)) }
+    ensures below { OnOk result (places T.rank tree.new.entries
+        ≡ below (T.rank key) (places T.rank tree.old.entries)) }
+    ensures from { IfOk result (λ others. places T.rank others.entries
+        ≡ from (T.rank key) (places T.rank tree.old.entries)) }
     ensures err { OnErr result (tree.new.entries ≡ tree.old.entries) }
 {
     key.in_hand();
@@ -166,7 +181,9 @@ pub fn move_node<T: Integer, V: Drop>(
     requires starts { StartsAscend T.low T.high (places T.rank tree.old.entries) }
     requires present { IsSome (start_at (T.rank from) (places T.rank tree.old.entries)) }
     requires absent { start_at (T.rank to) (places T.rank tree.old.entries) ≡ None }
-    ensures ok { OnOk result (IsStartMoved (T.rank from) (T.rank to) (places T.rank tree.old.entries) (places T.rank tree.new.entries)) }
+    ensures ok { OnOk result
+        (IsStartMoved (T.rank from) (T.rank to) (places T.rank tree.old.entries)
+        (places T.rank tree.new.entries)) }
     ensures err { OnErr result (tree.new.entries ≡ tree.old.entries) }
 {
     from.in_hand();
@@ -190,7 +207,9 @@ pub fn replace_front<T: Integer, V: Drop>(
     requires starts { StartsAscend T.low T.high (places T.rank tree.old.entries) }
     requires present { IsSome (start_at (T.rank start) (places T.rank tree.old.entries)) }
     requires absent { start_at (T.rank to) (places T.rank tree.old.entries) ≡ None }
-    ensures ok { OnOk result (IsFrontReplaced (T.rank start) (T.rank front.end) front.value (T.rank to) (places T.rank tree.old.entries) (places T.rank tree.new.entries)) }
+    ensures ok { OnOk result
+        (IsFrontReplaced (T.rank start) (T.rank front.end) front.value (T.rank to)
+        (places T.rank tree.old.entries) (places T.rank tree.new.entries)) }
     ensures err { OnErr result (tree.new.entries ≡ tree.old.entries) }
 {
     start.in_hand();

@@ -15,7 +15,8 @@ pub fn shown<'a, T: Integer, V>(
     node: Option<(&'a T, &'a EndValue<T, Option<V>>)>,
 ) -> Option<(T, T, &'a V)>
     requires { IfSome node (λ p. IsSome p.1.now.value) }
-    ensures { (e : Option (Entry V)) → option_map (place_lent T.rank) node.entry ≡ option_map held e → option_map (shown_entry T.rank (λ v. v.now)) result ≡ e }
+    ensures { (e : Option (Entry V)) → option_map (place_lent T.rank) node.entry
+        ≡ option_map held e → option_map (shown_entry T.rank (λ v. v.now)) result ≡ e }
 {
     let (start, node) = node?;
     match &node.value {
@@ -27,7 +28,8 @@ pub fn shown<'a, T: Integer, V>(
 /// A node's first key, last key and value, by value.
 pub fn given<T: Integer, V>(node: Option<(T, EndValue<T, Option<V>>)>) -> Option<(T, T, V)>
     requires { IfSome node (λ p. IsSome p.1.value) }
-    ensures { (e : Option (Entry V)) → option_map (place_of T.rank) node ≡ option_map held e → option_map (shown_entry T.rank (λ v. v)) result ≡ e }
+    ensures { (e : Option (Entry V)) → option_map (place_of T.rank) node ≡ option_map held e
+        → option_map (shown_entry T.rank (λ v. v)) result ≡ e }
 {
     let (start, node) = node?;
     let EndValue { end, value } = node;
@@ -43,7 +45,9 @@ pub fn found<T: Integer, V: Eq>(
     value: &V,
 ) -> Option<Found<T>>
     requires { IfSome node (λ p. IsSome p.1.now.value) }
-    ensures { (e : Option (Entry V)) → option_map (place_lent T.rank) node.entry ≡ option_map held e → option_map (found_of T.rank) result ≡ option_map (found_in V.eq value.now) e }
+    ensures { (e : Option (Entry V)) → option_map (place_lent T.rank) node.entry
+        ≡ option_map held e → option_map (found_of T.rank) result
+        ≡ option_map (found_in V.eq value.now) e }
 {
     let (start, node) = node?;
     match &node.value {
@@ -80,7 +84,9 @@ pub fn cloned<T: Integer, V: Clone>(
 ) -> Result<EndValue<T, V>, AllocError>
     requires present { IsSome node }
     requires full { IfSome node (λ n. IsSome n.now.value) }
-    ensures { IfOk result (λ r. (k : ℤ) (e : Entry V) → option_map (λ n. entry k (T.rank n.end) n.value) (option_copied node.entry) ≡ Some (held e) → (T.rank r.end ≡ e.hi) × V.is_clone e.value r.value) }
+    ensures { IfOk result (λ r. (k : ℤ) (e : Entry V)
+        → option_map (λ n. entry k (T.rank n.end) n.value) (option_copied node.entry)
+        ≡ Some (held e) → (T.rank r.end ≡ e.hi) × V.is_clone e.value r.value) }
 {
     match node {
         Some(node) => match &node.value {

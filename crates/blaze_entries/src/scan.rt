@@ -29,7 +29,8 @@ pub struct Plan<T> {
 
 // The plan after an entry, by its end.
 fn past_end<T: Integer>(plan: Plan<T>, hi: T, found: Found<T>) -> Plan<T>
-    ensures { seen_of T.rank result ≡ seen_end (T.rank hi) (seen_of T.rank plan) (found_of T.rank found) }
+    ensures { seen_of T.rank result
+        ≡ seen_end (T.rank hi) (seen_of T.rank plan) (found_of T.rank found) }
 {
     if is_below(hi, found.end) {
         if found.is_equal {
@@ -50,7 +51,8 @@ fn past_end<T: Integer>(plan: Plan<T>, hi: T, found: Found<T>) -> Plan<T>
 
 // The plan after an entry, by its start.
 fn past_start<T: Integer>(plan: Plan<T>, lo: T, found: Found<T>) -> Plan<T>
-    ensures { seen_of T.rank result ≡ seen_start (T.rank lo) (seen_of T.rank plan) (found_of T.rank found) }
+    ensures { seen_of T.rank result
+        ≡ seen_start (T.rank lo) (seen_of T.rank plan) (found_of T.rank found) }
 {
     if is_below(found.start, lo) {
         return Plan {
@@ -69,7 +71,8 @@ fn past_start<T: Integer>(plan: Plan<T>, lo: T, found: Found<T>) -> Plan<T>
 
 // The plan after an entry.
 fn past<T: Integer>(plan: Plan<T>, lo: T, hi: T, found: Found<T>) -> Plan<T>
-    ensures { seen_of T.rank result ≡ seen (T.rank lo) (T.rank hi) (seen_of T.rank plan) (found_of T.rank found) }
+    ensures { seen_of T.rank result
+        ≡ seen (T.rank lo) (T.rank hi) (seen_of T.rank plan) (found_of T.rank found) }
 {
     past_start(past_end(plan, hi, found), lo, found)
 }
@@ -82,7 +85,9 @@ fn next_found<'a, T: Integer, V: Eq>(
 ) -> Option<Found<T>>
     requires { AreFull (places T.rank nodes.old) }
     ensures full { AreFull (places T.rank nodes.new) }
-    ensures found { MatchOption result (entries_of T.rank nodes.old ≡ []) (λ f. (e : Entry V) × (found_of T.rank f ≡ found_in V.eq value.now e) × (entries_of T.rank nodes.old ≡ entries_of T.rank nodes.new ++ e ∷ [])) }
+    ensures found { MatchOption result (entries_of T.rank nodes.old ≡ []) (λ f. (e : Entry V)
+        × (found_of T.rank f ≡ found_in V.eq value.now e)
+        × (entries_of T.rank nodes.old ≡ entries_of T.rank nodes.new ++ e ∷ [])) }
     ensures looked { looks.new.number ≡ looks.old.number + 1 }
     ensures shorter { OnSome result (length nodes.new < length nodes.old) }
 {
@@ -100,8 +105,12 @@ pub fn walk<T: Integer, V: Eq>(
     looks: &mut Count,
 ) -> Plan<T>
     requires { AreHeld T.low T.high (places T.rank tree.now.entries) }
-    ensures plan { seen_of T.rank result ≡ walked V.eq value.now (T.rank lo) (T.rank hi) (unseen (T.rank hi)) (reverse (below (T.rank top +ℤ pos 1) (entries_of T.rank tree.now.entries))) }
-    ensures looked { looks.new.number ≡ looks.old.number + answers (T.rank lo) (reverse (below (T.rank top +ℤ pos 1) (entries_of T.rank tree.now.entries))) }
+    ensures plan { seen_of T.rank result
+        ≡ walked V.eq value.now (T.rank lo) (T.rank hi) (unseen (T.rank hi))
+        (reverse (below (T.rank top +ℤ pos 1) (entries_of T.rank tree.now.entries))) }
+    ensures looked { looks.new.number
+        ≡ looks.old.number + answers (T.rank lo)
+        (reverse (below (T.rank top +ℤ pos 1) (entries_of T.rank tree.now.entries))) }
 {
     top.in_hand();
     let mut plan = Plan {
@@ -122,7 +131,8 @@ pub fn walk<T: Integer, V: Eq>(
 
 /// The key after one, or that key itself where it is the greatest.
 pub fn next_or_last<T: Integer>(key: T) -> T
-    ensures { (T.rank result ≡ T.rank key +ℤ pos 1) ⊎ ((T.rank key ≡ T.high) × (T.rank result ≡ T.high)) }
+    ensures { (T.rank result ≡ T.rank key +ℤ pos 1)
+        ⊎ ((T.rank key ≡ T.high) × (T.rank result ≡ T.high)) }
 {
     match key.checked_add_one() {
         Some(next) => next,
