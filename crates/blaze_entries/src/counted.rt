@@ -3,7 +3,7 @@ ghost use Rattle.std.specs.Prelude.{◌≡◌, ◌+◌, [], pos, ◌+ℤ◌, len
 ghost use Rattle.std.specs.Option.{option_map};
 ghost use Rattle.blaze_entries.specs.Entries.{entry, shown_entry};
 ghost use Rattle.blaze_entries.specs.Counted.{uncounted};
-ghost use Rattle.blaze_entries.specs.Found.{found_in, found_of};
+ghost use Rattle.blaze_entries.specs.Found.{found_in, found_of, range_in, ranks_of};
 ghost use Rattle.blaze_entries.specs.Scanned.{seen_of, unseen, walked, answers};
 ghost use Rattle.blaze_entries.specs.Starts.{StartsAscend, below, from, last_below, first_from, start_at, with_entry, without, with_end, with_end_value, IsStartMoved, IsFrontReplaced, IsCloneInserted};
 
@@ -15,7 +15,7 @@ use crate::nodes::{
     EndValue, insert, move_node, node_at, node_at_or_above, node_at_or_below, node_below, remove,
     replace, replace_front, set_end, split_off,
 };
-use crate::places::{cloned, found, value_of};
+use crate::places::{cloned, found, range_of, value_of};
 use crate::scan::{Plan, next_or_last, walk};
 use blaze_int::Integer;
 use std::alloc::{AllocError, Global};
@@ -101,6 +101,16 @@ impl<T: Integer, V> Counted<T, V> {
         ensures { StartsAscend T.low T.high self.now.entries }
     {
         let _ = &self.tree;
+    }
+
+    /// The first and last key of the entry with the least start from a key on.
+    pub fn range_at_or_above(&mut self, key: T) -> Option<(T, T)>
+        ensures found { option_map (ranks_of T.rank) result
+            ≡ option_map range_in (first_from (T.rank key) self.old.entries) }
+        ensures looked { self.new ≡ record self.old { looks = self.old.looks + 1 } }
+    {
+        self.looks = self.looks.after();
+        range_of(node_at_or_above(&self.tree, key))
     }
 
     /// Moves the end of the entry at a start.

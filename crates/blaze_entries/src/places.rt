@@ -2,7 +2,7 @@
 ghost use Rattle.std.specs.Prelude.{◌≡◌, ℤ, Option, Some, IfSome, IsSome, IfOk};
 ghost use Rattle.std.specs.Option.{option_map, option_copied};
 ghost use Rattle.blaze_entries.specs.Entries.{Entry, entry, shown_entry};
-ghost use Rattle.blaze_entries.specs.Found.{found_in, found_of};
+ghost use Rattle.blaze_entries.specs.Found.{found_in, found_of, range_in, ranks_of};
 ghost use Rattle.blaze_entries.specs.Places.{held, place_lent, place_of};
 
 use crate::found::Found;
@@ -58,6 +58,15 @@ pub fn found<T: Integer, V: Eq>(
         }),
         None => unreachable!(),
     }
+}
+
+/// A node's first and last key.
+pub fn range_of<T: Integer, V>(node: Option<(&T, &EndValue<T, Option<V>>)>) -> Option<(T, T)>
+    ensures { (e : Option (Entry V)) → option_map (place_lent T.rank) node.entry
+        ≡ option_map held e → option_map (ranks_of T.rank) result ≡ option_map range_in e }
+{
+    let (start, node) = node?;
+    Some((*start, node.end))
 }
 
 /// A node's value.
