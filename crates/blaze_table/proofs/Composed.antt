@@ -10,7 +10,7 @@ use Rattle.blaze_table.specs.Canonical.{IsCanonical}
 use Rattle.blaze_table.specs.Planned.{IsRestKept, IsStartPut, IsPutAt, IsExtended}
 use Rattle.blaze_table.specs.Splice.{before}
 use Rattle.blaze_table.proofs.Splices.{by_before, before_ends, before_keeps, before_cuts}
-use Rattle.blaze_table.proofs.Splits.{starts_below, halves, from_at, filter_append, append_assoc, append_none, more_below}
+use Rattle.blaze_table.proofs.Splits.{starts_below, halves, from_at, filter_append, append_assoc, more_below}
 use Rattle.blaze_table.proofs.EditLists.{end_put}
 use Rattle.blaze_table.proofs.Clearing.{below_from, from_from}
 

@@ -1,12 +1,11 @@
 -- Lists in the order of their starts, taken apart at a key.
 use Rattle.std.proofs.Common.{◌≡◌, ℤ, pos, ◌+ℤ◌, ◌≤ℤ◌, ◌<ℤ◌, Bool, true, false, cond, List, [], ◌∷◌, ◌++◌, Option, Some, None, refl, ◌∙◌, sym, subst, ap, arith}
-use Rattle.std.specs.Prelude.{IsSome, int_lt, int_le}
-use Rattle.std.specs.Ordering.{int_eq}
+use Rattle.std.specs.Prelude.{IsSome, int_le}
 use Rattle.std.specs.List.{filter, last_or}
 use Rattle.std.proofs.lemmas.Int.{ints, by_lt_z}
 use Rattle.blaze_entries.specs.Starts.{StartsAscend, below, from, first_entry, last_below, first_from, start_at}
 use Rattle.blaze_entries.proofs.Ascending.{by_order}
-use Rattle.blaze_entries.proofs.Halves.{StartsBelow, below_takes, below_skips, from_takes, from_skips, below_all, below_none, from_all, from_none, starts_from, starts_of_below}
+use Rattle.blaze_entries.proofs.Halves.{StartsBelow, below_takes, below_skips, from_takes, from_skips, below_none, from_all, from_none}
 use Rattle.blaze_table.specs.Entries.{Entry, entry}
 use Rattle.blaze_table.specs.Canonical.{IsApart, IsCanonical}
 use Rattle.blaze_table.specs.Splice.{after, IsBelow}

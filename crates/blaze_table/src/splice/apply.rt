@@ -77,9 +77,7 @@ fn joined<T: Integer>(left: Option<Found<T>>, lo: T) -> Option<T>
         ≡ joined_start (T.rank lo) (option_map (found_of T.rank) left) }
 {
     match left {
-        Some(found)
-            if found.is_equal && (is_at_most(lo, found.end) || is_next(found.end, lo)) =>
-        {
+        Some(found) if found.is_equal && (is_at_most(lo, found.end) || is_next(found.end, lo)) => {
             Some(found.start)
         }
         _ => None,

@@ -54,9 +54,7 @@ fn painted_end<T: Integer, V: Eq>(
 {
     entries.in_hand();
     match last {
-        Some(found) if is_below(hi, found.end) => {
-            if found.is_equal { found.end } else { hi }
-        }
+        Some(found) if is_below(hi, found.end) => { if found.is_equal { found.end } else { hi } }
         _ => next_end(entries, hi, value),
     }
 }
@@ -68,7 +66,11 @@ fn rest<T: Integer>(last: Option<Found<T>>, hi: T) -> Option<(T, T)>
 {
     match last {
         Some(found) if is_below(hi, found.end) => {
-            if found.is_equal { None } else { Some((found.start, found.end)) }
+            if found.is_equal {
+                None
+            } else {
+                Some((found.start, found.end))
+            }
         }
         _ => None,
     }

@@ -1,4 +1,4 @@
-use Rattle.std.proofs.Common.{◌≡◌, ◌<ℤ◌, ◌≤ℤ◌, pos, ◌+ℤ◌, length, ap, sym, ◌∙◌, arith}
+use Rattle.std.proofs.Common.{◌<ℤ◌, ◌≤ℤ◌, length, ap, sym, ◌∙◌, arith}
 use Rattle.std.proofs.lemmas.Int.{ints}
 use Rattle.blaze_entries.specs.Counted.{CountedEntries}
 use Rattle.blaze_table.proofs.Clearing.{stopped, ended, there, whole, kept_below, kept_above}

@@ -1,8 +1,8 @@
-use Rattle.std.proofs.Common.{List, sym, subst, ap, ◌∙◌}
+use Rattle.std.proofs.Common.{subst}
 use Rattle.std.specs.Option.{option_map}
 use Rattle.blaze_entries.specs.Found.{ranks_of}
 use Rattle.blaze_table.specs.Planned.{IsRest}
-use Rattle.std.specs.Prelude.{Option, IfSome}
+use Rattle.std.specs.Prelude.{IfSome}
 use Rattle.std.specs.Prelude.{◌<ℤ◌}
 use Rattle.blaze_table.proofs.Placing.{kept_none, kept_moved}
 use Rattle.blaze_table.proofs.splice.place.move_rest.Goals as goal

@@ -1,9 +1,9 @@
-use Rattle.std.proofs.Common.{List, sym, subst, ap, ◌∙◌}
+use Rattle.std.proofs.Common.{subst, ap, ◌∙◌}
 use Rattle.std.specs.Option.{option_map}
 use Rattle.blaze_entries.specs.Counted.{CountedEntries}
 use Rattle.blaze_entries.specs.Found.{ranks_of}
 use Rattle.blaze_table.specs.Entries.{entry}
-use Rattle.blaze_table.specs.Planned.{IsRest, IsRestOf}
+use Rattle.blaze_table.specs.Planned.{IsRest}
 use Rattle.blaze_table.proofs.Placing.{put_there, put_back, new_alone, new_other, new_present, new_absent, new_with_rest}
 use Rattle.blaze_table.proofs.splice.place.put_new.Goals as goal
 

@@ -1,5 +1,5 @@
 use Rattle.std.proofs.Common.{sym, ◌∙◌}
-use Rattle.blaze_table.proofs.LooksSay.{end_joined, end_apart, end_alone, end_top}
+use Rattle.blaze_table.proofs.LooksSay.{end_joined, end_top}
 use Rattle.blaze_table.proofs.splice.plan.next_end.Goals as goal
 
 pub returns-in-None-clause-end : goal.returns-in-None-clause-end

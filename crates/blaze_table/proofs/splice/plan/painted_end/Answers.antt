@@ -1,4 +1,4 @@
-use Rattle.std.proofs.Common.{◌<ℤ◌, sym, ap, ◌∙◌}
+use Rattle.std.proofs.Common.{sym, ap, ◌∙◌}
 use Rattle.std.specs.Option.{option_map}
 use Rattle.blaze_entries.specs.Found.{found_of}
 use Rattle.blaze_table.proofs.LooksSay.{long_end, long_unequal, short_end, no_end, lt_holds, lt_fails}
