@@ -37,3 +37,4 @@ pub mod LooksSay
 pub mod Widened
 pub mod Composed
 pub mod Plans
+pub mod Walked
