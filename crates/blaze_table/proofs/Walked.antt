@@ -1,5 +1,5 @@
 -- What a walk down the entries has seen, below the range's end.
-use Rattle.std.proofs.Common.{◌≡◌, ℕ, zero, suc, ◌+◌, ◌≤◌, length, length-append, ℤ, pos, ◌+ℤ◌, ◌≤ℤ◌, ◌<ℤ◌, Bool, true, false, cond, List, [], ◌∷◌, ◌++◌, Option, Some, None, refl, ◌∙◌, sym, subst, ap, arith}
+use Rattle.std.proofs.Common.{◌≡◌, ℕ, zero, suc, ◌+◌, ◌≤◌, length, length-append, ℤ, pos, ◌+ℤ◌, ◌≤ℤ◌, ◌<ℤ◌, Bool, cond, List, [], ◌∷◌, ◌++◌, Option, Some, None, refl, ◌∙◌, sym, ap, arith}
 use Rattle.std.specs.Prelude.{int_lt, int_le, reverse}
 use Rattle.std.specs.List.{last_or}
 use Rattle.std.specs.Option.{option_map}
@@ -7,11 +7,11 @@ use Rattle.std.proofs.lemmas.Int.{ints, by_lt_z}
 use Rattle.std.proofs.lemmas.List.{reverse-append}
 use Rattle.blaze_entries.specs.Found.{found_in}
 use Rattle.blaze_entries.specs.Scanned.{Seen, seen, seen_end, seen_start, walked}
-use Rattle.blaze_entries.specs.Starts.{StartsAscend, below, from, last_below, start_at}
+use Rattle.blaze_entries.specs.Starts.{StartsAscend, below, last_below, start_at}
 use Rattle.blaze_entries.proofs.Halves.{below_all, below_none, below_skips, below_takes}
-use Rattle.blaze_table.specs.Entries.{Entry, entry}
+use Rattle.blaze_table.specs.Entries.{Entry}
 use Rattle.blaze_table.specs.Canonical.{IsCanonical}
-use Rattle.blaze_table.proofs.Splices.{lt_true, lt_false, le_true, le_false}
+use Rattle.blaze_table.proofs.Splices.{by_bool, lt_true, lt_false, le_true, le_false}
 use Rattle.blaze_table.proofs.Splits.{LastAt, last_at, no_last, no_last_from, none_at, filter_append, append_none, starts_below, more_below}
 use Rattle.blaze_table.proofs.Clearing.{below_below}
 use Rattle.blaze_table.proofs.Growing.{last_there, below_last}
@@ -121,3 +121,54 @@ module _ {V : Type 0} (eq : V → V → Bool) (v : V) (l h low high : ℤ) (es :
       → walked eq v l h p (reverse (below k es)) ≡ record p { first = option_map (λ (e : Entry V). e.hi) (start_at l es); left = option_map (found_in eq v) (last_below l es) }
   to_start zero k p b u w short f m = step k p u w short f m (λ j x y z t. absurd (omega arith))
   to_start (suc n) k p b u w short f m = step k p u w short f m (λ j x y z t. to_start n j p (omega arith) y z t f m)
+
+  -- the last entry that starts up to the range's end may go on above it
+  abbrev pub passed : Seen → Option (Entry V) → Seen
+  passed p None = p
+  passed p (Some e) = seen_end h p (found_in eq v e)
+
+  end_keeps : (p : Seen) (t : ℤ × ℤ × Bool) → ((seen_end h p t).first ≡ p.first) × ((seen_end h p t).left ≡ p.left)
+  end_keeps p t = by_bool (int_lt h t.1)
+      (λ a. rw a (by_bool t.2
+      (λ b. rw b (refl, refl))
+      (λ b. rw b (by_bool (int_le t.0 h) (λ d. rw d (refl, refl)) (λ d. rw d (refl, refl))))))
+      (λ a. rw a (refl, refl))
+
+  pub to_last : (p : Seen) → l ≤ℤ h → p.first ≡ None → p.left ≡ None
+      → walked eq v l h p (reverse (below (h +ℤ pos 1) es)) ≡ record (passed p (last_below (h +ℤ pos 1) es)) { first = option_map (λ (e : Entry V). e.hi) (start_at l es); left = option_map (found_in eq v) (last_below l es) }
+  to_last p w f m = by_last (last_below (h +ℤ pos 1) es) refl
+    where
+      by_last : (o : Option (Entry V)) → last_below (h +ℤ pos 1) es ≡ o → walked eq v l h p (reverse (below (h +ℤ pos 1) es)) ≡ record (passed p o) { first = option_map (λ (e : Entry V). e.hi) (start_at l es); left = option_map (found_in eq v) (last_below l es) }
+      by_last None q = to_start (length (below (h +ℤ pos 1) es)) (h +ℤ pos 1) p (omega arith) (omega (arith, ints)) (omega (arith, ints)) (λ e r. absurd (none_some e (last_below (h +ℤ pos 1) es) q r)) f m
+        where
+          none_some : (e : Entry V) (o : Option (Entry V)) → o ≡ None → o ≡ Some e → ⊥
+          none_some e o a b = cc
+      by_last (Some e) q =
+          let i = last_at (h +ℤ pos 1) low high e es s q in
+          let up = i.starts in
+          let p1 = seen_end h p (found_in eq v e) in
+          let keeps = end_keeps p (found_in eq v e) in
+          let down : walked eq v l h p (reverse (below (h +ℤ pos 1) es)) ≡ cond (int_lt e.lo l) (seen_start l p1 (found_in eq v e)) (walked eq v l h (seen_start l p1 (found_in eq v e)) (reverse (below e.lo es))) = ap (walked eq v l h p) (down_step (h +ℤ pos 1) high e es i) in
+          by_lt_z e.lo l
+          (λ a.
+          let at_l = same_below (h +ℤ pos 1) e i l a (omega (arith, ints)) in
+          let at_next = same_below (h +ℤ pos 1) e i (l +ℤ pos 1) (omega (arith, ints)) (omega (arith, ints)) in
+          let no_first : option_map (λ (e : Entry V). e.hi) (start_at l es) ≡ None = sym (first_is eq v l low high es s) ∙ ap (λ x. end_of l (option_map (found_in eq v) (last_or None x))) at_next ∙ ap (λ x. end_of l (option_map (found_in eq v) x)) q ∙ ap (λ b. cond b (Some e.hi) None) (le_false l e.lo a) in
+          down ∙ ap (λ b. cond b (seen_start l p1 (found_in eq v e)) (walked eq v l h (seen_start l p1 (found_in eq v e)) (reverse (below e.lo es)))) (lt_true e.lo l a)
+          ∙ ap (λ b. cond b (record p1 { left = Some (found_in eq v e) }) (cond (int_le e.lo l) (record p1 { first = Some e.hi }) p1)) (lt_true e.lo l a)
+          ∙ ap (λ x. record p1 { first = x; left = Some (found_in eq v e) }) (keeps.0 ∙ f ∙ sym no_first)
+          ∙ ap (λ x. record p1 { first = option_map (λ (e : Entry V). e.hi) (start_at l es); left = option_map (found_in eq v) x }) (sym (ap (last_or None) at_l ∙ q)))
+          (λ a.
+          let on : walked eq v l h p (reverse (below (h +ℤ pos 1) es)) ≡ walked eq v l h (cond (int_le e.lo l) (record p1 { first = Some e.hi }) p1) (reverse (below e.lo es)) =
+          down ∙ ap (λ b. cond b (seen_start l p1 (found_in eq v e)) (walked eq v l h (seen_start l p1 (found_in eq v e)) (reverse (below e.lo es)))) (lt_false e.lo l a)
+          ∙ ap (λ b. walked eq v l h (cond b (record p1 { left = Some (found_in eq v e) }) (cond (int_le e.lo l) (record p1 { first = Some e.hi }) p1)) (reverse (below e.lo es))) (lt_false e.lo l a) in
+          by_lt_z l e.lo
+          (λ d. on ∙ ap (λ b. walked eq v l h (cond b (record p1 { first = Some e.hi }) p1) (reverse (below e.lo es))) (le_false e.lo l d)
+          ∙ to_start (length (below e.lo es)) e.lo p1 (omega arith) d (omega (arith, ints)) (shorter (h +ℤ pos 1) e i (omega (arith, ints))) (keeps.0 ∙ f) (keeps.1 ∙ m))
+          (λ d.
+          let same : e.lo ≡ l = omega (arith, ints) in
+          let here : option_map (λ (e : Entry V). e.hi) (start_at l es) ≡ Some e.hi = ap (option_map (λ (e : Entry V). e.hi)) (ap (λ x. start_at x es) (sym same) ∙ last_there (h +ℤ pos 1) high e es i) in
+          on ∙ ap (λ b. walked eq v l h (cond b (record p1 { first = Some e.hi }) p1) (reverse (below e.lo es))) (le_true e.lo l d)
+          ∙ ap (λ x. walked eq v l h (record p1 { first = Some e.hi }) (reverse (below x es))) same
+          ∙ to_left (record p1 { first = Some e.hi }) (λ x r. shorter (h +ℤ pos 1) e i (omega (arith, ints)) x (ap (λ y. last_below y es) same ∙ r)) (keeps.1 ∙ m)
+          ∙ ap (λ x. record p1 { first = x; left = option_map (found_in eq v) (last_below l es) }) (sym here)))
