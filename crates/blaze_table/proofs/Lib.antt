@@ -38,3 +38,4 @@ pub mod Widened
 pub mod Composed
 pub mod Plans
 pub mod Walked
+pub mod WalkedPlans

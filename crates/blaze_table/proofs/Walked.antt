@@ -127,7 +127,7 @@ module _ {V : Type 0} (eq : V → V → Bool) (v : V) (l h low high : ℤ) (es :
   passed p None = p
   passed p (Some e) = seen_end h p (found_in eq v e)
 
-  end_keeps : (p : Seen) (t : ℤ × ℤ × Bool) → ((seen_end h p t).first ≡ p.first) × ((seen_end h p t).left ≡ p.left)
+  pub end_keeps : (p : Seen) (t : ℤ × ℤ × Bool) → ((seen_end h p t).first ≡ p.first) × ((seen_end h p t).left ≡ p.left)
   end_keeps p t = by_bool (int_lt h t.1)
       (λ a. rw a (by_bool t.2
       (λ b. rw b (refl, refl))
