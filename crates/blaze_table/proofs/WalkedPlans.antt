@@ -1,16 +1,16 @@
 -- A walk down the entries from right above a range has seen the plan of its paint.
-use Rattle.std.proofs.Common.{◌≡◌, ℤ, pos, ◌+ℤ◌, ◌≤ℤ◌, ◌<ℤ◌, Bool, true, false, cond, List, [], ◌∷◌, ◌++◌, Option, Some, None, refl, ◌∙◌, sym, subst, ap, arith, inl, inr}
+use Rattle.std.proofs.Common.{◌≡◌, ℤ, pos, ◌+ℤ◌, ◌≤ℤ◌, ◌<ℤ◌, Bool, false, cond, List, [], ◌∷◌, ◌++◌, Option, Some, None, refl, ◌∙◌, sym, subst, ap, arith, inl, inr}
 use Rattle.std.specs.Prelude.{int_lt, int_le, reverse}
 use Rattle.std.specs.Ordering.{int_eq}
 use Rattle.std.specs.Option.{option_map}
 use Rattle.std.proofs.lemmas.Int.{ints, by_lt_z}
 use Rattle.std.proofs.lemmas.List.{reverse-append}
 use Rattle.blaze_entries.specs.Found.{found_in}
-use Rattle.blaze_entries.specs.Scanned.{Seen, unseen, seen, seen_end, seen_start, walked}
+use Rattle.blaze_entries.specs.Scanned.{Seen, unseen, seen, seen_start, walked}
 use Rattle.blaze_entries.specs.Starts.{StartsAscend, below, from, last_below, start_at}
 use Rattle.blaze_entries.proofs.Ascending.{by_order}
 use Rattle.blaze_entries.proofs.Halves.{below_all, below_takes, below_skips, starts_from}
-use Rattle.blaze_table.specs.Entries.{Entry, entry}
+use Rattle.blaze_table.specs.Entries.{Entry}
 use Rattle.blaze_table.specs.Canonical.{IsCanonical}
 use Rattle.blaze_table.specs.Planned.{IsUnjoined, IsEndAfter, IsEnd, rest_of, IsPlanOf}
 use Rattle.blaze_table.proofs.Splices.{by_bool, lt_true, lt_false, le_true, le_false}
@@ -19,7 +19,7 @@ use Rattle.blaze_table.proofs.Clearing.{below_from}
 use Rattle.blaze_table.proofs.Growing.{last_there}
 use Rattle.blaze_table.proofs.LooksSay.{long_end, long_unequal, short_end, no_end}
 use Rattle.blaze_table.proofs.Placing.{ends_before}
-use Rattle.blaze_table.proofs.Walked.{passed, end_keeps, to_last}
+use Rattle.blaze_table.proofs.Walked.{passed, to_last}
 
 module _ {V : Type 0} where
   below_not_at : (k : ℤ) (es : List (Entry V)) → start_at k es ≡ None → below (k +ℤ pos 1) es ≡ below k es

@@ -38,3 +38,25 @@ pub fn paint_by_splice<T: Integer, V: Eq + Clone>(
     apply(entries, lo, hi, value, plan)?;
     Ok(())
 }
+
+/// Puts a value on the keys from lo up to hi: the entries that the range touches are seen in one walk, what is to be put in
+/// is put in, and only then is anything else edited. Refused memory leaves the entries as they are.
+pub fn paint<T: Integer, V: Eq + Clone>(
+    entries: &mut Counted<T, V>,
+    lo: T,
+    hi: T,
+    value: V,
+) -> Result<(), AllocError>
+    requires order { T.rank lo ≤ℤ T.rank hi }
+    requires clones { ClonesAreAlike V.is_clone V.eq }
+    requires canonical { IsCanonical V.eq entries.old.entries }
+    ensures painted { OnOk result
+        (IsPaintOf V.eq
+        (entry (T.rank lo) (T.rank hi) value) entries.old.entries entries.new.entries) }
+    ensures err { OnErr result (entries.new.entries ≡ entries.old.entries) }
+{
+    entries.in_hand();
+    let plan = entries.scan(lo, hi, &value);
+    apply(entries, lo, hi, value, plan)?;
+    Ok(())
+}
