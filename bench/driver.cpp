@@ -114,6 +114,9 @@ struct Measured {
     double least_none = 1e300, least_all = 1e300;
 
     double time() const { return std::max(least_all - least_none, 0.0); }
+
+    // Whether a side is so slow that one round must do.
+    bool is_slow() const { return least_all < 1e300 && least_all > 3e9; }
 };
 
 double now() {
@@ -248,7 +251,7 @@ void measure_works(const Settings& settings, Times& times) {
         for (int round = 0; round < settings.rounds; ++round) {
             for (std::size_t side = 0; side < sides; ++side) {
                 Measured& one = measured[side];
-                if (one.count != 0) {
+                if (one.count != 0 && !one.is_slow()) {
                     one.least_none = std::min(one.least_none, timed(side, work, 0));
                     one.least_all = std::min(one.least_all, timed(side, work, one.count));
                 }
@@ -347,6 +350,9 @@ void measure_programs(const Settings& settings) {
         for (int round = 0; round < settings.rounds; ++round) {
             for (std::size_t side : {plain, library}) {
                 Measured& one = measured[side];
+                if (one.is_slow()) {
+                    continue;
+                }
                 one.count = text.lines / settings.shorter;
                 one.least_none = 0;
                 one.least_all = std::min(one.least_all, program_time(programs[side], input, "/dev/null"));
