@@ -33,8 +33,8 @@ module _ {V : Type 0} (eq : V → V → Bool) where
         here reach low =
             let same : eq e.value v ≡ true = same_along eq (at_in e es l low reach) refl (s l (omega (arith, ints)) w) in
             by_lt_z e.hi h
-                (λ more. absurd (breaks eq laws e es v c same (same_along eq (at_over e es (e.hi +ℤ pos 1) (omega (arith, ints))) refl (s (e.hi +ℤ pos 1) (omega (arith, ints)) (omega (arith, ints))))))
-                (λ within. inl (low, within, same))
+            (λ more. absurd (breaks eq laws e es v c same (same_along eq (at_over e es (e.hi +ℤ pos 1) (omega (arith, ints))) refl (s (e.hi +ℤ pos 1) (omega (arith, ints)) (omega (arith, ints))))))
+            (λ within. inl (low, within, same))
 
     -- what lies inside on a range and on another that goes on where it ends lies inside on both
     pub inside_both : (l h m n : ℤ) (v w : V) (es : List (Entry V)) → IsCanonical eq es → l ≤ℤ h → m ≤ℤ n → m ≤ℤ (h +ℤ pos 1) → l ≤ℤ (n +ℤ pos 1) → eq v w ≡ true

@@ -44,8 +44,8 @@ in_parts : (l h m n k : ℤ) → l ≤ℤ h → m ≤ℤ n → int_le m (h +ℤ 
 in_parts l h m n k o q s t x y = by_lt_z k l
     (λ a. inr (by_lt_z m l (λ b. by_lt_z h n (λ d. grind (arith, ints)) (λ d. grind (arith, ints))) (λ b. absurd (by_lt_z h n (λ d. grind (arith, ints)) (λ d. grind (arith, ints))))))
     (λ a. by_lt_z h k
-        (λ b. inr (by_lt_z m l (λ d. by_lt_z h n (λ e. grind (arith, ints)) (λ e. grind (arith, ints))) (λ d. by_lt_z h n (λ e. grind (arith, ints)) (λ e. grind (arith, ints)))))
-        (λ b. inl (a, b)))
+    (λ b. inr (by_lt_z m l (λ d. by_lt_z h n (λ e. grind (arith, ints)) (λ e. grind (arith, ints))) (λ d. by_lt_z h n (λ e. grind (arith, ints)) (λ e. grind (arith, ints)))))
+    (λ b. inl (a, b)))
 
 joined_order : (l h m n : ℤ) → l ≤ℤ h → m ≤ℤ n → cond (int_lt m l) m l ≤ℤ cond (int_lt h n) n h
 joined_order l h m n o q = by_lt_z m l
@@ -85,9 +85,11 @@ module _ {V : Type 0} (eq : V → V → Bool) where
     inside_joined : (p n : Entry V) (es : List (Entry V)) → IsCanonical eq es → p.lo ≤ℤ p.hi → n.lo ≤ℤ n.hi → is_joinable eq p n ≡ true → AreInside eq (p ∷ []) es → AreInside eq (n ∷ []) es → AreInside eq (joined p n ∷ []) es
     inside_joined p n es c o q j a b =
         let split = both (int_le n.lo (p.hi +ℤ pos 1) && int_le p.lo (n.hi +ℤ pos 1)) (eq p.value n.value) j in
-        let near = both (int_le n.lo (p.hi +ℤ pos 1)) (int_le p.lo (n.hi +ℤ pos 1)) split.0 in
-        (inr (inside_both eq laws p.lo p.hi n.lo n.hi p.value n.value es c o q (at_most n.lo (p.hi +ℤ pos 1) near.0) (at_most p.lo (n.hi +ℤ pos 1) near.1) split.1 (with_key p o a.0) (with_key n q b.0)
-        (joined p n).lo (joined p n).hi (joined_order p.lo p.hi n.lo n.hi o q) (λ k x y. in_parts p.lo p.hi n.lo n.hi k o q near.0 near.1 x y)), tt)
+        let near = both (int_le n.lo (p.hi +ℤ pos 1)) (int_le p.lo (n.hi +ℤ pos 1)) split.0 in (
+          inr (inside_both eq laws p.lo p.hi n.lo n.hi p.value n.value es c o q (at_most n.lo (p.hi +ℤ pos 1) near.0) (at_most p.lo (n.hi +ℤ pos 1) near.1) split.1 (with_key p o a.0) (with_key n q b.0)
+              (joined p n).lo (joined p n).hi (joined_order p.lo p.hi n.lo n.hi o q) (λ k x y. in_parts p.lo p.hi n.lo n.hi k o q near.0 near.1 x y)),
+          tt,
+        )
       where
         with_key : (r : Entry V) → r.lo ≤ℤ r.hi → (r.hi <ℤ r.lo) ⊎ IsInside eq r.lo r.hi r.value es → IsInside eq r.lo r.hi r.value es
         with_key r w (inl h) = absurd (omega (arith, ints))

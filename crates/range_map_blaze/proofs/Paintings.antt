@@ -88,10 +88,13 @@ module _ {V : Type 0} (eq : V → V → Bool) (laws : IsEquivalence eq) where
             subst (λ b. SameOption eq (cond b (Some q.value) None) (cond (holds p k) (Some p.value) None)) (sym same) (either (holds p k))
 
         inside : (es : List (Entry V)) → IsCanonical eq es → AreInside eq (p ∷ []) es → AreInside eq (q ∷ []) es
-        inside es c a = (elim a.0 [
-          | inl h ↦ inl (omega (arith, ints, lo, hi))
-          | inr h ↦ inr (subst (λ z. IsInside eq z q.hi q.value es) (sym lo) (subst (λ z. IsInside eq p.lo z q.value es) (sym hi) (inside_equal eq laws p.lo p.hi p.value q.value es (laws.symm p.value q.value ∙ v) h)))
-        ], tt)
+        inside es c a = (
+          elim a.0 [
+            | inl h ↦ inl (omega (arith, ints, lo, hi))
+            | inr h ↦ inr (subst (λ z. IsInside eq z q.hi q.value es) (sym lo) (subst (λ z. IsInside eq p.lo z q.value es) (sym hi) (inside_equal eq laws p.lo p.hi p.value q.value es (laws.symm p.value q.value ∙ v) h)))
+          ],
+          tt,
+        )
 
     -- the same of items that show the pairs
     pub extended_item : {A : Type 0} (shown : A → Entry V) (items : List A) (x : A) (q : Entry V) (old cur new : List (Entry V)) → IsExtended eq low high (map shown items) old cur
