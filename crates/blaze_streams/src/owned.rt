@@ -9,8 +9,10 @@ use std::fmt::{self, Debug, Formatter};
 #[derive(PartialEq, Eq, Hash, Drop)]
 pub struct Owned<V>(pub V);
 
+/// As the value.
 impl<V: Debug> Debug for Owned<V> {
-    /// As the value.
+    ghost debug_output = { λ o. V.debug_output o.0 };
+
     fn fmt<W: fmt::Write>(&self, f: &mut Formatter<W>) -> fmt::Result {
         self.0.fmt(f)
     }

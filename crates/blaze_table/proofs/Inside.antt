@@ -16,7 +16,7 @@ module _ {V : Type 0} (eq : V → V → Bool) (l h : ℤ) (v : V) where
   inside_above b (e ∷ es) c a (inl w) = omega (arith, ints, w.0)
   inside_above b (e ∷ es) c a (inr i) = omega (arith, ints, c.0, inside_above e.hi es c.2 (IsAbove-from_apart eq e es c.1) i)
 
-  inside_at : (es : List (Entry V)) (k : ℤ) → IsCanonical eq es → IsInside eq l h v es → l ≤ℤ k → k ≤ℤ h → SameOption eq (at es k) (Some v)
+  pub inside_at : (es : List (Entry V)) (k : ℤ) → IsCanonical eq es → IsInside eq l h v es → l ≤ℤ k → k ≤ℤ h → SameOption eq (at es k) (Some v)
   inside_at [] k c i a b = absurd i
   inside_at (e ∷ es) k c (inl w) a b = same_along eq (sym (at_in e es k (omega (arith, ints, w.0)) (omega (arith, ints, w.1)))) refl w.2
   inside_at (e ∷ es) k c (inr i) a b =

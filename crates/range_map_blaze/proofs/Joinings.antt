@@ -1,5 +1,5 @@
 -- Painting a joined pair is painting its parts.
-use Rattle.std.proofs.Common.{◌≡◌, ℤ, pos, ◌+ℤ◌, ◌≤ℤ◌, ◌<ℤ◌, Bool, true, false, ◌&&◌, ◌||◌, cond, List, [], ◌∷◌, ◌++◌, map, Option, Some, None, refl, ◌∙◌, sym, ap, subst, arith, append_assoc, append-nil}
+use Rattle.std.proofs.Common.{◌≡◌, ℤ, pos, ◌+ℤ◌, ◌≤ℤ◌, ◌<ℤ◌, Bool, true, false, ◌&&◌, ◌||◌, cond, List, [], ◌∷◌, ◌++◌, map, Option, Some, None, ◌⊎◌, inl, inr, refl, ◌∙◌, sym, ap, subst, arith, append_assoc, append-nil}
 use Rattle.std.specs.Prelude.{int_le, int_lt}
 use Rattle.std.specs.Cmp.{IsEquivalence}
 use Rattle.std.specs.Iterator.{Yields, Drains, ExtendsWithItems}
@@ -10,11 +10,12 @@ use Rattle.std.proofs.lemmas.Int.{ints, by_lt_z}
 use Rattle.std.proofs.lemmas.List.{length-append, map-append}
 use Rattle.std.proofs.lemmas.Result.{MatchResult-from_err}
 use Rattle.blaze_table.specs.Entries.{Entry, holds, SameOption}
-use Rattle.blaze_table.specs.Canonical.{IsRangeMap}
-use Rattle.blaze_table.specs.Painted.{or_else, last_at}
+use Rattle.blaze_table.specs.Canonical.{IsCanonical, IsRangeMap}
+use Rattle.blaze_table.specs.Painted.{IsInside, or_else, last_at}
 use Rattle.blaze_table.proofs.Unique.{same_itself}
-use Rattle.range_map_blaze.specs.Extended.{IsExtended}
+use Rattle.range_map_blaze.specs.Extended.{AreInside, IsExtended}
 use Rattle.range_map_blaze.specs.Underway.{is_joinable, joined, IsUnderway}
+use Rattle.range_map_blaze.proofs.Insides.{inside_both, inside_parts}
 use Rattle.range_map_blaze.proofs.Paintings.{last_append, extended_none, extended_more}
 
 pub reversed : (a b : ℤ) (t : Bool) → t ≡ int_lt a b → t ≡ true → a <ℤ b
@@ -33,6 +34,18 @@ in_joined : (l h m n k : ℤ) → l ≤ℤ h → m ≤ℤ n → int_le m (h +ℤ
 in_joined l h m n k o q s t = by_lt_z m l
     (λ a. by_lt_z h n (λ b. grind (arith, ints)) (λ b. grind (arith, ints)))
     (λ a. by_lt_z h n (λ b. grind (arith, ints)) (λ b. grind (arith, ints)))
+
+at_most : (a b : ℤ) → int_le a b ≡ true → a ≤ℤ b
+at_most a b p = grind (arith, ints)
+
+-- a key of the joined range is in one of the two
+in_parts : (l h m n k : ℤ) → l ≤ℤ h → m ≤ℤ n → int_le m (h +ℤ pos 1) ≡ true → int_le l (n +ℤ pos 1) ≡ true
+    → cond (int_lt m l) m l ≤ℤ k → k ≤ℤ cond (int_lt h n) n h → ((l ≤ℤ k) × (k ≤ℤ h)) ⊎ ((m ≤ℤ k) × (k ≤ℤ n))
+in_parts l h m n k o q s t x y = by_lt_z k l
+    (λ a. inr (by_lt_z m l (λ b. by_lt_z h n (λ d. grind (arith, ints)) (λ d. grind (arith, ints))) (λ b. absurd (by_lt_z h n (λ d. grind (arith, ints)) (λ d. grind (arith, ints))))))
+    (λ a. by_lt_z h k
+    (λ b. inr (by_lt_z m l (λ d. by_lt_z h n (λ e. grind (arith, ints)) (λ e. grind (arith, ints))) (λ d. by_lt_z h n (λ e. grind (arith, ints)) (λ e. grind (arith, ints)))))
+    (λ b. inl (a, b)))
 
 joined_order : (l h m n : ℤ) → l ≤ℤ h → m ≤ℤ n → cond (int_lt m l) m l ≤ℤ cond (int_lt h n) n h
 joined_order l h m n o q = by_lt_z m l
@@ -58,7 +71,7 @@ module _ {V : Type 0} (eq : V → V → Bool) where
   module _ (laws : IsEquivalence eq) (low high : ℤ) where
     -- nothing is pending where all is painted
     pub underway_none : (pairs old cur : List (Entry V)) → IsExtended eq low high pairs old cur → IsUnderway eq low high pairs old cur None
-    underway_none pairs old cur d = record { done = pairs; others = []; parts = sym (append-nil pairs); extended = d; same = λ k. tt; fewer = omega arith; order = tt }
+    underway_none pairs old cur d = record { done = pairs; others = []; parts = sym (append-nil pairs); extended = d; same = λ k. tt; fewer = omega arith; inside = λ es c a. tt; order = tt }
 
     -- before the first pair
     pub underway_begun : (es : List (Entry V)) → IsRangeMap eq low high es → IsUnderway eq low high [] es es None
@@ -66,7 +79,21 @@ module _ {V : Type 0} (eq : V → V → Bool) where
 
     -- the next pair is pending
     pub underway_one : (n : Entry V) (pairs old cur : List (Entry V)) → IsExtended eq low high pairs old cur → n.lo ≤ℤ n.hi → IsUnderway eq low high (pairs ++ n ∷ []) old cur (Some n)
-    underway_one n pairs old cur d q = record { done = pairs; others = n ∷ []; parts = refl; extended = d; same = λ k. same_itself eq laws (last_at (n ∷ []) k); fewer = omega arith; order = q }
+    underway_one n pairs old cur d q = record { done = pairs; others = n ∷ []; parts = refl; extended = d; same = λ k. same_itself eq laws (last_at (n ∷ []) k); fewer = omega arith; inside = λ es c a. a; order = q }
+
+    -- where both pairs lie inside, the joined one does
+    inside_joined : (p n : Entry V) (es : List (Entry V)) → IsCanonical eq es → p.lo ≤ℤ p.hi → n.lo ≤ℤ n.hi → is_joinable eq p n ≡ true → AreInside eq (p ∷ []) es → AreInside eq (n ∷ []) es → AreInside eq (joined p n ∷ []) es
+    inside_joined p n es c o q j a b =
+        let split = both (int_le n.lo (p.hi +ℤ pos 1) && int_le p.lo (n.hi +ℤ pos 1)) (eq p.value n.value) j in
+        let near = both (int_le n.lo (p.hi +ℤ pos 1)) (int_le p.lo (n.hi +ℤ pos 1)) split.0 in (
+          inr (inside_both eq laws p.lo p.hi n.lo n.hi p.value n.value es c o q (at_most n.lo (p.hi +ℤ pos 1) near.0) (at_most p.lo (n.hi +ℤ pos 1) near.1) split.1 (with_key p o a.0) (with_key n q b.0)
+              (joined p n).lo (joined p n).hi (joined_order p.lo p.hi n.lo n.hi o q) (λ k x y. in_parts p.lo p.hi n.lo n.hi k o q near.0 near.1 x y)),
+          tt,
+        )
+      where
+        with_key : (r : Entry V) → r.lo ≤ℤ r.hi → (r.hi <ℤ r.lo) ⊎ IsInside eq r.lo r.hi r.value es → IsInside eq r.lo r.hi r.value es
+        with_key r w (inl h) = absurd (omega (arith, ints))
+        with_key r w (inr h) = h
 
     -- the next pair is joined with the pending one
     pub underway_joined : (p n : Entry V) (pairs old cur : List (Entry V)) → IsUnderway eq low high pairs old cur (Some p) → n.lo ≤ℤ n.hi → is_joinable eq p n ≡ true
@@ -78,6 +105,9 @@ module _ {V : Type 0} (eq : V → V → Bool) where
       extended = u.extended;
       same = λ k. last_joined p n u.others k u.order q j (u.same k);
       fewer = omega (arith, length-append u.others (n ∷ []));
+      inside = λ es c a.
+          let b = inside_parts eq u.others (n ∷ []) es a in
+          inside_joined p n es c u.order q j (u.inside es c b.0) b.1;
       order = joined_order p.lo p.hi n.lo n.hi u.order q;
     }
 
@@ -85,7 +115,7 @@ module _ {V : Type 0} (eq : V → V → Bool) where
     pub underway_painted : (pending : Option (Entry V)) (pairs old cur new : List (Entry V)) → IsUnderway eq low high pairs old cur pending → IsExtended eq low high (option_to_list pending) cur new
         → IsExtended eq low high pairs old new
     underway_painted pending pairs old cur new u e =
-        subst (λ ps. IsExtended eq low high ps old new) (sym u.parts) (extended_more eq laws low high u.done u.others (option_to_list pending) old cur new u.extended e u.same u.fewer)
+        subst (λ ps. IsExtended eq low high ps old new) (sym u.parts) (extended_more eq laws low high u.done u.others (option_to_list pending) old cur new u.extended e u.same u.fewer u.inside)
 
     -- no pair was pending
     pub underway_ended : (pairs old cur : List (Entry V)) → IsUnderway eq low high pairs old cur None → IsExtended eq low high pairs old cur

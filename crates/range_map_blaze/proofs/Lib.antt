@@ -7,6 +7,7 @@ pub mod Choices
 pub mod PaintedOver
 pub mod Valued
 pub mod OneRange
+pub mod Insides
 pub mod Paintings
 pub mod Joinings
 pub mod Unions

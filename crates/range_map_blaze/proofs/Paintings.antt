@@ -1,14 +1,16 @@
 -- Pairs painted in parts, one part after another.
-use Rattle.std.proofs.Common.{◌≡◌, ◌≤◌, ℤ, ◌<ℤ◌, Bool, true, false, ◌&&◌, cond, List, [], ◌∷◌, ◌++◌, length, map, Option, Some, None, refl, ◌∙◌, sym, ap, subst, arith}
+use Rattle.std.proofs.Common.{◌≡◌, ◌≤◌, ℤ, ◌≤ℤ◌, ◌<ℤ◌, Bool, true, false, ◌&&◌, cond, List, [], ◌∷◌, ◌++◌, length, map, Option, Some, None, refl, ◌∙◌, sym, ap, subst, arith, inl, inr}
 use Rattle.std.specs.Prelude.{int_le}
 use Rattle.std.specs.Cmp.{IsEquivalence}
 use Rattle.std.proofs.lemmas.Int.{ints}
 use Rattle.std.proofs.lemmas.List.{length-append, map-append}
 use Rattle.blaze_table.specs.Entries.{Entry, at, holds, SameOption}
-use Rattle.blaze_table.specs.Canonical.{IsRangeMap}
-use Rattle.blaze_table.specs.Painted.{IsPainted, or_else, last_at, painted_in_order}
+use Rattle.blaze_table.specs.Painted.{IsInside, IsPainted, or_else, last_at, painted_in_order}
 use Rattle.blaze_table.proofs.Unique.{same_itself, same_trans}
-use Rattle.range_map_blaze.specs.Extended.{IsExtended}
+use Rattle.blaze_table.specs.Canonical.{IsCanonical, IsRangeMap}
+use Rattle.blaze_table.proofs.Runs.{canonical}
+use Rattle.range_map_blaze.specs.Extended.{AreInside, IsExtended}
+use Rattle.range_map_blaze.proofs.Insides.{inside_equal, inside_parts}
 
 module _ {V : Type 0} where
   or_none : (a : Option V) → or_else a None ≡ a
@@ -44,31 +46,37 @@ module _ {V : Type 0} (eq : V → V → Bool) (laws : IsEquivalence eq) where
   module _ (low high : ℤ) where
     -- no pair
     pub extended_none : (es : List (Entry V)) → IsRangeMap eq low high es → IsExtended eq low high [] es es
-    extended_none es r = record { range_map = r; content = λ k. same_itself eq laws (at es k); few = omega arith }
+    extended_none es r = record { range_map = r; content = λ k. same_itself eq laws (at es k); few = omega arith; inside = λ _. refl }
 
     -- one pair
-    pub extended_one : (p : Entry V) (old new : List (Entry V)) → IsPainted eq low high p old new → IsExtended eq low high (p ∷ []) old new
-    extended_one p old new i = record {
+    pub extended_one : (p : Entry V) (old new : List (Entry V)) → IsPainted eq low high p old new → p.lo ≤ℤ p.hi → (IsInside eq p.lo p.hi p.value old → new ≡ old) → IsExtended eq low high (p ∷ []) old new
+    extended_one p old new i w u = record {
       range_map = i.range_map;
       content = λ k. subst (SameOption eq (at new k)) (painted_one (holds p k) p.value (at old k)) (i.content k);
       few = omega (arith, i.few);
+      inside = λ a. elim a.0 [ inl h ↦ absurd (omega (arith, ints)) | inr h ↦ u h ];
     }
 
     -- a part, and then a part that stands for others
     pub extended_more : (done others part old cur new : List (Entry V)) → IsExtended eq low high done old cur → IsExtended eq low high part cur new
-        → ((k : ℤ) → SameOption eq (last_at part k) (last_at others k)) → length part ≤ length others → IsExtended eq low high (done ++ others) old new
-    extended_more done others part old cur new d p s l = record {
+        → ((k : ℤ) → SameOption eq (last_at part k) (last_at others k)) → length part ≤ length others → ((es : List (Entry V)) → IsCanonical eq es → AreInside eq others es → AreInside eq part es)
+        → IsExtended eq low high (done ++ others) old new
+    extended_more done others part old cur new d p s l f = record {
       range_map = p.range_map;
       content = λ k. subst (SameOption eq (at new k)) (sym (or_or (last_at others k) (last_at done k) (at old k)) ∙ ap (λ o. or_else o (at old k)) (sym (last_append done others k)))
           (same_trans eq laws (at new k) (painted_in_order part (at cur) k) (or_else (last_at others k) (painted_in_order done (at old) k)) (p.content k)
           (or_alike (last_at part k) (last_at others k) (at cur k) (painted_in_order done (at old) k) (s k) (d.content k)));
       few = omega (arith, d.few, p.few, length-append done others);
+      inside = λ a.
+          let b = inside_parts eq done others old a in
+          let same = d.inside b.0 in
+          p.inside (f cur (canonical eq laws cur d.range_map.runs) (subst (AreInside eq others) (sym same) b.1)) ∙ same;
     }
 
     -- a part, and then one pair, of which an equal one is painted
     pub extended_by : (p q : Entry V) (done old cur new : List (Entry V)) → IsExtended eq low high done old cur → IsExtended eq low high (q ∷ []) cur new
         → q.lo ≡ p.lo → q.hi ≡ p.hi → eq q.value p.value ≡ true → IsExtended eq low high (done ++ p ∷ []) old new
-    extended_by p q done old cur new d e lo hi v = extended_more done (p ∷ []) (q ∷ []) old cur new d e alike (omega arith)
+    extended_by p q done old cur new d e lo hi v = extended_more done (p ∷ []) (q ∷ []) old cur new d e alike (omega arith) inside
       where
         either : (b : Bool) → SameOption eq (cond b (Some q.value) None) (cond b (Some p.value) None)
         either true = v
@@ -78,6 +86,15 @@ module _ {V : Type 0} (eq : V → V → Bool) (laws : IsEquivalence eq) where
         alike k =
             let same : holds q k ≡ holds p k = λ i. int_le (lo i) k && int_le k (hi i) in
             subst (λ b. SameOption eq (cond b (Some q.value) None) (cond (holds p k) (Some p.value) None)) (sym same) (either (holds p k))
+
+        inside : (es : List (Entry V)) → IsCanonical eq es → AreInside eq (p ∷ []) es → AreInside eq (q ∷ []) es
+        inside es c a = (
+          elim a.0 [
+            | inl h ↦ inl (omega (arith, ints, lo, hi))
+            | inr h ↦ inr (subst (λ z. IsInside eq z q.hi q.value es) (sym lo) (subst (λ z. IsInside eq p.lo z q.value es) (sym hi) (inside_equal eq laws p.lo p.hi p.value q.value es (laws.symm p.value q.value ∙ v) h)))
+          ],
+          tt,
+        )
 
     -- the same of items that show the pairs
     pub extended_item : {A : Type 0} (shown : A → Entry V) (items : List A) (x : A) (q : Entry V) (old cur new : List (Entry V)) → IsExtended eq low high (map shown items) old cur
@@ -89,4 +106,4 @@ module _ {V : Type 0} (eq : V → V → Bool) (laws : IsEquivalence eq) where
     -- a pair without a key
     pub extended_nowhere : (p : Entry V) (done old new : List (Entry V)) → IsExtended eq low high done old new → p.hi <ℤ p.lo → IsExtended eq low high (done ++ p ∷ []) old new
     extended_nowhere p done old new d w = extended_more done (p ∷ []) [] old new new d (extended_none new d.range_map)
-        (λ k. subst (SameOption eq None) (sym (last_nowhere p k w)) tt) (omega arith)
+        (λ k. subst (SameOption eq None) (sym (last_nowhere p k w)) tt) (omega arith) (λ es c a. tt)

@@ -2,8 +2,9 @@
 use Rattle.std.specs.Prelude.{◌≡◌, ℤ, pos, ◌+ℤ◌, ◌≤ℤ◌, ◌≤◌, int_le, int_lt, length, Bool, ◌&&◌, if◌then◌else◌, List, ◌++◌, Option, IfSome}
 use Rattle.std.specs.Option.{option_to_list}
 use Rattle.blaze_table.specs.Entries.{Entry, entry, SameOption}
+use Rattle.blaze_table.specs.Canonical.{IsCanonical}
 use Rattle.blaze_table.specs.Painted.{last_at}
-use Rattle.range_map_blaze.specs.Extended.{IsExtended}
+use Rattle.range_map_blaze.specs.Extended.{AreInside, IsExtended}
 use Rattle.range_map_blaze.specs.declared.joining.Pair.{Pair}
 
 -- a pair, as an entry
@@ -26,4 +27,5 @@ pub record IsUnderway {V : Type 0} (eq : V → V → Bool) (low high : ℤ) (pai
   pub extended : IsExtended eq low high done old new
   pub same : (k : ℤ) → SameOption eq (last_at (option_to_list pending) k) (last_at others k)
   pub fewer : length (option_to_list pending) ≤ length others
+  pub inside : (es : List (Entry V)) → IsCanonical eq es → AreInside eq others es → AreInside eq (option_to_list pending) es
   pub order : IfSome pending (λ p. p.lo ≤ℤ p.hi)

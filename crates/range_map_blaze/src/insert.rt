@@ -4,6 +4,7 @@ ghost use Rattle.blaze_int.specs.Bounds.{start_rank, end_rank};
 ghost use Rattle.blaze_table.specs.Entries.{Entry, entry, at, SameOption};
 ghost use Rattle.blaze_table.specs.Count.{keys_in};
 ghost use Rattle.blaze_table.specs.Painted.{IsPainted, IsInside, ClonesAreAlike};
+ghost use Rattle.range_map_blaze.specs.Somewhere.{IsPaintedSomewhere};
 
 use crate::map::RangeMapBlaze;
 use blaze_int::{Integer, bounds_of};
@@ -30,7 +31,8 @@ impl<T: Integer, V: Eq + Clone> RangeMapBlaze<T, V> {
 
     /// Puts a value on the keys of a range, over what was there, and answers whether the number of keys changed.
     ///
-    /// Bounds that name no key answer false and change nothing. Inside one entry with an equal value nothing changes, the
+    /// The bounds are those that the range tells: through `RangeBounds` a `RangeInclusive` that was iterated to its end
+    /// has an excluded end and names no key. Bounds that name no key answer false and change nothing. Inside one entry with an equal value nothing changes, the
     /// stored value neither. Both take no memory. Refused memory leaves the map unchanged.
     pub fn ranges_insert<R: RangeBounds<T> + Drop>(
         &mut self,
@@ -41,6 +43,7 @@ impl<T: Integer, V: Eq + Clone> RangeMapBlaze<T, V> {
         ensures ok { R.has_bounds range → OnOk result (IsPainted V.eq T.low T.high
             (entry (start_rank T.rank T.low (R.start_bound range)) (end_rank T.rank T.high (R.end_bound range)) value)
             self.old.entries self.new.entries) }
+        ensures somewhere { OnOk result (IsPaintedSomewhere V.eq T.low T.high value self.old.entries self.new.entries) }
         ensures changed { IfOk result (λ changed. IsTrue changed ↔ (¬ (keys_in self.new.entries ≡ keys_in self.old.entries))) }
         ensures none { R.has_bounds range
             → end_rank T.rank T.high (R.end_bound range) <ℤ start_rank T.rank T.low (R.start_bound range)

@@ -7,6 +7,7 @@ ghost use Rattle.blaze_table.specs.Entries.{Entry};
 ghost use Rattle.blaze_table.specs.Painted.{ClonesAreAlike};
 ghost use Rattle.blaze_table.specs.Pairs.{pair_list};
 ghost use Rattle.range_map_blaze.specs.OneRange.{one_range};
+ghost use Rattle.range_map_blaze.specs.Somewhere.{IsTakenSomewhere};
 
 use crate::lent::lent_intersection;
 use crate::map::RangeMapBlaze;
@@ -26,6 +27,10 @@ impl<T: Integer, V: Eq + Clone> RangeMapBlaze<T, V> {
         ensures within { R.has_bounds range → IfOk result (λ iter. (es : List (Entry V))
             × IsChosen V.eq T.low T.high left_with_right self.now.entries
             (one_range (start_rank T.rank T.low (R.start_bound range)) (end_rank T.rank T.high (R.end_bound range))) es
+            × (iter ≡ unopened es)
+            × (pairs_left T.of_rank (λ es. es) iter ≡ pair_list T.of_rank es)) }
+        ensures somewhere { IfOk result (λ iter. (es : List (Entry V))
+            × IsTakenSomewhere V.eq T.low T.high self.now.entries es
             × (iter ≡ unopened es)
             × (pairs_left T.of_rank (λ es. es) iter ≡ pair_list T.of_rank es)) }
     {
