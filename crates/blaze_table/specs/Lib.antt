@@ -15,3 +15,4 @@ pub mod RangeSets
 pub mod Slots
 pub mod Splice
 pub mod Keeping
+pub mod Whole
