@@ -28,3 +28,14 @@ pub mod UnitLaws
 pub mod Texts
 pub mod KeySets
 pub mod Parts
+pub mod Splits
+pub mod EditLists
+pub mod Clearing
+pub mod Growing
+pub mod Placing
+pub mod LooksSay
+pub mod Widened
+pub mod Composed
+pub mod Plans
+pub mod Walked
+pub mod WalkedPlans

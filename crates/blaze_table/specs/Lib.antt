@@ -1,4 +1,4 @@
-pub mod Entries
+pub use Rattle.blaze_entries.specs.Entries
 pub mod Canonical
 pub mod Count
 pub mod Laws
@@ -15,3 +15,4 @@ pub mod RangeSets
 pub mod Slots
 pub mod Splice
 pub mod Keeping
+pub mod Planned
