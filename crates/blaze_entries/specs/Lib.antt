@@ -4,4 +4,5 @@ pub mod Places
 pub mod Counted
 pub mod Found
 pub mod Changed
+pub mod Overlap
 pub mod Scanned

@@ -1,16 +1,17 @@
 -- A walk down the entries from above a range, and what it has seen.
-use Rattle.std.specs.Prelude.{ℕ, ◌+◌, ℤ, int_lt, int_le, Bool, if◌then◌else◌, List, [], ◌∷◌, Option, Some, None}
+use Rattle.std.specs.Prelude.{ℕ, ◌+◌, ℤ, pos, ◌+ℤ◌, int_lt, int_le, Bool, if◌then◌else◌, List, [], ◌∷◌, Option, Some, None}
 use Rattle.std.specs.Option.{option_map}
 use Rattle.blaze_entries.specs.Entries.{Entry}
 use Rattle.blaze_entries.specs.Found.{found_in, found_of}
+use Rattle.blaze_entries.specs.Overlap.{overlap}
 use Rattle.blaze_entries.specs.declared.scan.Plan.{Plan}
 
 -- by the ranks: where the range ends once it is joined with what is above it, the ends of the entry that keeps a rest above
--- the range, where the entry ends that starts where the range does, and the entry that starts below the range
+-- the range, the entry that starts where the range does, and the entry that starts below the range
 pub record Seen : Type 0 where
   pub end : ℤ
   pub rest : Option (ℤ × ℤ)
-  pub first : Option ℤ
+  pub first : Option (ℤ × ℤ × Bool)
   pub left : Option (ℤ × ℤ × Bool)
 
 -- of a range that ends at h, before the first entry
@@ -18,7 +19,7 @@ abbrev pub unseen : ℤ → Seen
 unseen h = record { end = h; rest = None; first = None; left = None }
 
 abbrev pub seen_of : {T : Type 0} → (T → ℤ) → Plan T → Seen
-seen_of rank p = record { end = rank p.end; rest = option_map (λ r. (rank r.0, rank r.1)) p.rest; first = option_map rank p.first; left = option_map (found_of rank) p.left }
+seen_of rank p = record { end = rank p.end; rest = option_map (λ r. (rank r.0, rank r.1)) p.rest; first = option_map (found_of rank) p.first; left = option_map (found_of rank) p.left }
 
 -- after an entry that goes on above h: its end where the values are equal, else its rest
 abbrev pub seen_end : ℤ → Seen → ℤ × ℤ × Bool → Seen
@@ -26,7 +27,7 @@ seen_end h s t = if int_lt h t.1 then (if t.2 then record s { end = t.1 } else (
 
 -- after an entry that starts at l, or below it
 abbrev pub seen_start : ℤ → Seen → ℤ × ℤ × Bool → Seen
-seen_start l s t = if int_lt t.0 l then record s { left = Some t } else (if int_le t.0 l then record s { first = Some t.1 } else s)
+seen_start l s t = if int_lt t.0 l then record s { left = Some t } else (if int_le t.0 l then record s { first = Some t } else s)
 
 abbrev pub seen : ℤ → ℤ → Seen → ℤ × ℤ × Bool → Seen
 seen l h s t = seen_start l (seen_end h s t) t
@@ -41,3 +42,8 @@ module _ {V : Type 0} (eq : V → V → Bool) (v : V) (l h : ℤ) where
 abbrev pub answers : {V : Type 0} → ℤ → List (Entry V) → ℕ
 answers l [] = 1
 answers l (e ∷ es) = if int_lt e.lo l then 1 else answers l es + 1
+
+-- how many of the keys of the walk's entries lie from l up to h
+abbrev pub walked_keys : {V : Type 0} → ℤ → ℤ → List (Entry V) → ℤ
+walked_keys l h [] = pos 0
+walked_keys l h (e ∷ es) = overlap l h e +ℤ (if int_lt e.lo l then pos 0 else walked_keys l h es)

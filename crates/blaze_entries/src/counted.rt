@@ -1,10 +1,10 @@
 //! The entries with their counters. Each look here is counted: there is no other way to read an entry.
-ghost use Rattle.std.specs.Prelude.{◌≡◌, ◌+◌, [], pos, ◌+ℤ◌, length, map, reverse, Some, None, IsSome, IfSome, OnOk, OnErr, IfOk};
+ghost use Rattle.std.specs.Prelude.{◌≡◌, ◌+◌, [], pos, ◌+ℤ◌, ◌≤ℤ◌, length, map, reverse, Some, None, IsSome, IfSome, OnOk, OnErr, IfOk};
 ghost use Rattle.std.specs.Option.{option_map};
 ghost use Rattle.blaze_entries.specs.Entries.{entry, shown_entry};
 ghost use Rattle.blaze_entries.specs.Counted.{uncounted};
 ghost use Rattle.blaze_entries.specs.Found.{found_in, found_of, range_in, ranks_of};
-ghost use Rattle.blaze_entries.specs.Scanned.{seen_of, unseen, walked, answers};
+ghost use Rattle.blaze_entries.specs.Scanned.{seen_of, unseen, walked, answers, walked_keys};
 ghost use Rattle.blaze_entries.specs.Starts.{StartsAscend, below, from, last_below, first_from, start_at, with_entry, without, with_end, with_end_value, IsStartMoved, IsFrontReplaced, IsCloneInserted};
 
 use crate::build::tree_of;
@@ -287,11 +287,24 @@ impl<T: Integer, V: Eq> Counted<T, V> {
 
 impl<T: Integer, V: Eq> Counted<T, V> {
     /// Walks down the entries, in one search, from the one that may start right above a range to the first that starts
-    /// below it.
-    pub fn scan(&mut self, lo: T, hi: T, value: &V) -> Plan<T>
-        ensures plan { seen_of T.rank result
+    /// below it. A length loses how many of their keys lie in the range.
+    pub fn scan(
+        &mut self,
+        len: T::SafeLen,
+        lo: T,
+        hi: T,
+        value: &V,
+    ) -> (Plan<T>, T::SafeLen)
+        requires { walked_keys (T.rank lo) (T.rank hi)
+            (reverse (below (T.rank hi +ℤ pos 2) self.old.entries))
+            ≤ℤ pos (T.SafeLen.number len) }
+        ensures plan { seen_of T.rank result.0
             ≡ walked V.eq value.now (T.rank lo) (T.rank hi) (unseen (T.rank hi))
             (reverse (below (T.rank hi +ℤ pos 2) self.old.entries)) }
+        ensures len { pos (T.SafeLen.number result.1)
+            +ℤ walked_keys (T.rank lo) (T.rank hi)
+            (reverse (below (T.rank hi +ℤ pos 2) self.old.entries))
+            ≡ pos (T.SafeLen.number len) }
         ensures looked { self.new
             ≡ record self.old {
               looks = self.old.looks + answers (T.rank lo)
@@ -299,7 +312,7 @@ impl<T: Integer, V: Eq> Counted<T, V> {
             } }
     {
         let top = next_or_last(hi);
-        walk(&self.tree, top, lo, hi, value, &mut self.looks)
+        walk(&self.tree, top, len, lo, hi, value, &mut self.looks)
     }
 }
 

@@ -9,6 +9,7 @@ mod found;
 mod into_iter;
 mod iter;
 mod nodes;
+mod overlap;
 mod places;
 mod scan;
 
@@ -17,4 +18,5 @@ pub use entries::Entries;
 pub use found::Found;
 pub use into_iter::IntoIter;
 pub use iter::Iter;
-pub use scan::Plan;
+pub use overlap::less;
+pub use scan::{Plan, next_or_last};

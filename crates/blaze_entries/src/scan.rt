@@ -1,14 +1,15 @@
 //! A walk down the tree from above a range, in one search.
-ghost use Rattle.std.specs.Prelude.{◌≡◌, ◌⊎◌, ◌+◌, ◌++◌, ◌∷◌, [], pos, ◌+ℤ◌, ◌<◌, length, reverse, MatchOption, OnSome};
+ghost use Rattle.std.specs.Prelude.{◌≡◌, ◌⊎◌, ◌+◌, ◌++◌, ◌∷◌, [], pos, ◌+ℤ◌, ◌≤ℤ◌, ◌<◌, length, reverse, MatchOption, OnSome};
 ghost use Rattle.blaze_entries.specs.Entries.{Entry};
 ghost use Rattle.blaze_entries.specs.Found.{found_in, found_of};
 ghost use Rattle.blaze_entries.specs.Places.{places, entries_of, AreFull, AreHeld};
-ghost use Rattle.blaze_entries.specs.Scanned.{seen_of, unseen, seen_end, seen_start, seen, walked, answers};
+ghost use Rattle.blaze_entries.specs.Scanned.{seen_of, unseen, seen_end, seen_start, seen, walked, answers, walked_keys};
 ghost use Rattle.blaze_entries.specs.Starts.{below};
 
 use crate::count::Count;
 use crate::found::Found;
 use crate::nodes::EndValue;
+use crate::overlap::less;
 use crate::places::found;
 use blaze_int::Integer;
 use blaze_int::compare::{is_at_most, is_below};
@@ -21,60 +22,74 @@ pub struct Plan<T> {
     pub end: T,
     /// The first and last key of the entry that keeps a rest above the range.
     pub rest: Option<(T, T)>,
-    /// The last key of the entry that starts where the range does.
-    pub first: Option<T>,
+    /// The entry that starts where the range does.
+    pub first: Option<Found<T>>,
     /// The entry with the greatest start below the range.
     pub left: Option<Found<T>>,
 }
 
-// The plan after an entry, by its end.
-fn past_end<T: Integer>(plan: Plan<T>, hi: T, found: Found<T>) -> Plan<T>
-    ensures { seen_of T.rank result
-        ≡ seen_end (T.rank hi) (seen_of T.rank plan) (found_of T.rank found) }
-{
-    if is_below(hi, found.end) {
-        if found.is_equal {
-            return Plan {
-                end: found.end,
-                ..plan
-            };
-        }
-        if is_at_most(found.start, hi) {
-            return Plan {
-                rest: Some((found.start, found.end)),
-                ..plan
-            };
+impl<T: Integer> Plan<T> {
+    /// The plan before the first entry.
+    pub fn new(hi: T) -> Plan<T>
+        ensures { seen_of T.rank result ≡ unseen (T.rank hi) }
+    {
+        Plan {
+            end: hi,
+            rest: None,
+            first: None,
+            left: None,
         }
     }
-    plan
-}
 
-// The plan after an entry, by its start.
-fn past_start<T: Integer>(plan: Plan<T>, lo: T, found: Found<T>) -> Plan<T>
-    ensures { seen_of T.rank result
-        ≡ seen_start (T.rank lo) (seen_of T.rank plan) (found_of T.rank found) }
-{
-    if is_below(found.start, lo) {
-        return Plan {
-            left: Some(found),
-            ..plan
-        };
+    // The plan after an entry, by its end.
+    fn past_end(self, hi: T, found: Found<T>) -> Plan<T>
+        ensures { seen_of T.rank result
+            ≡ seen_end (T.rank hi) (seen_of T.rank self) (found_of T.rank found) }
+    {
+        if is_below(hi, found.end) {
+            if found.is_equal {
+                return Plan {
+                    end: found.end,
+                    ..self
+                };
+            }
+            if is_at_most(found.start, hi) {
+                return Plan {
+                    rest: Some((found.start, found.end)),
+                    ..self
+                };
+            }
+        }
+        self
     }
-    if is_at_most(found.start, lo) {
-        return Plan {
-            first: Some(found.end),
-            ..plan
-        };
-    }
-    plan
-}
 
-// The plan after an entry.
-fn past<T: Integer>(plan: Plan<T>, lo: T, hi: T, found: Found<T>) -> Plan<T>
-    ensures { seen_of T.rank result
-        ≡ seen (T.rank lo) (T.rank hi) (seen_of T.rank plan) (found_of T.rank found) }
-{
-    past_start(past_end(plan, hi, found), lo, found)
+    // The plan after an entry, by its start.
+    fn past_start(self, lo: T, found: Found<T>) -> Plan<T>
+        ensures { seen_of T.rank result
+            ≡ seen_start (T.rank lo) (seen_of T.rank self) (found_of T.rank found) }
+    {
+        if is_below(found.start, lo) {
+            return Plan {
+                left: Some(found),
+                ..self
+            };
+        }
+        if is_at_most(found.start, lo) {
+            return Plan {
+                first: Some(found),
+                ..self
+            };
+        }
+        self
+    }
+
+    /// The plan after an entry.
+    pub fn past(self, lo: T, hi: T, found: Found<T>) -> Plan<T>
+        ensures { seen_of T.rank result
+            ≡ seen (T.rank lo) (T.rank hi) (seen_of T.rank self) (found_of T.rank found) }
+    {
+        self.past_end(hi, found).past_start(lo, found)
+    }
 }
 
 // The last of the nodes that are left, counted.
@@ -95,38 +110,44 @@ fn next_found<'a, T: Integer, V: Eq>(
     found(nodes.next_back(), value)
 }
 
-/// Walks down the entries from a key on, to the first that starts below a range.
+/// Walks down the entries from a key on, to the first that starts below a range. A length loses how many of their keys lie
+/// in the range.
 pub fn walk<T: Integer, V: Eq>(
     tree: &BTreeMap<T, EndValue<T, Option<V>>>,
     top: T,
+    len: T::SafeLen,
     lo: T,
     hi: T,
     value: &V,
     looks: &mut Count,
-) -> Plan<T>
-    requires { AreHeld T.low T.high (places T.rank tree.now.entries) }
-    ensures plan { seen_of T.rank result
+) -> (Plan<T>, T::SafeLen)
+    requires held { AreHeld T.low T.high (places T.rank tree.now.entries) }
+    requires len { walked_keys (T.rank lo) (T.rank hi)
+        (reverse (below (T.rank top +ℤ pos 1) (entries_of T.rank tree.now.entries)))
+        ≤ℤ pos (T.SafeLen.number len) }
+    ensures plan { seen_of T.rank result.0
         ≡ walked V.eq value.now (T.rank lo) (T.rank hi) (unseen (T.rank hi))
         (reverse (below (T.rank top +ℤ pos 1) (entries_of T.rank tree.now.entries))) }
+    ensures len { pos (T.SafeLen.number result.1)
+        +ℤ walked_keys (T.rank lo) (T.rank hi)
+        (reverse (below (T.rank top +ℤ pos 1) (entries_of T.rank tree.now.entries)))
+        ≡ pos (T.SafeLen.number len) }
     ensures looked { looks.new.number
         ≡ looks.old.number + answers (T.rank lo)
         (reverse (below (T.rank top +ℤ pos 1) (entries_of T.rank tree.now.entries))) }
 {
     top.in_hand();
-    let mut plan = Plan {
-        end: hi,
-        rest: None,
-        first: None,
-        left: None,
-    };
+    let mut plan = Plan::new(hi);
+    let mut left = len;
     let mut nodes = tree.range(..=top);
     while let Some(found) = next_found(&mut nodes, value, looks) {
-        plan = past(plan, lo, hi, found);
+        left = less(left, found, lo, hi);
+        plan = plan.past(lo, hi, found);
         if is_below(found.start, lo) {
-            return plan;
+            return (plan, left);
         }
     }
-    plan
+    (plan, left)
 }
 
 /// The key after one, or that key itself where it is the greatest.

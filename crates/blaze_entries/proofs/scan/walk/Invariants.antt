@@ -1,7 +1,7 @@
-use Rattle.std.proofs.Common.{◌≡◌, ◌+◌, pos, ◌+ℤ◌, length}
+use Rattle.std.proofs.Common.{◌≡◌, ◌+◌, pos, ◌+ℤ◌, ◌≤ℤ◌, length}
 use Rattle.std.specs.Prelude.{reverse}
 use Rattle.blaze_entries.specs.Places.{places, entries_of, AreFull}
-use Rattle.blaze_entries.specs.Scanned.{seen_of, unseen, walked, answers}
+use Rattle.blaze_entries.specs.Scanned.{seen_of, unseen, walked, answers, walked_keys}
 use Rattle.blaze_entries.specs.Starts.{below}
 use Rattle.blaze_entries.proofs.scan.walk.Given as goal
 
@@ -13,6 +13,9 @@ invariant-loop-found g l = record {
       ≡ walked g.V.PartialEq.eq l.value (g.T.Integer.rank l.lo) (g.T.Integer.rank l.hi) (unseen (g.T.Integer.rank l.hi)) (reverse (below (g.T.Integer.rank l.fn.top +ℤ pos 1) (entries_of g.T.Integer.rank l.fn.tree.entries)));
   looks : l.looks.number + answers (g.T.Integer.rank l.lo) (reverse (entries_of g.T.Integer.rank l.nodes))
       ≡ l.fn.looks.number + answers (g.T.Integer.rank l.lo) (reverse (below (g.T.Integer.rank l.fn.top +ℤ pos 1) (entries_of g.T.Integer.rank l.fn.tree.entries)));
+  room : walked_keys (g.T.Integer.rank l.lo) (g.T.Integer.rank l.hi) (reverse (entries_of g.T.Integer.rank l.nodes)) ≤ℤ pos (g.T.SafeLen.SafeLength.number l.left);
+  left : pos (g.T.SafeLen.SafeLength.number l.left) +ℤ walked_keys (g.T.Integer.rank l.lo) (g.T.Integer.rank l.hi) (reverse (below (g.T.Integer.rank l.fn.top +ℤ pos 1) (entries_of g.T.Integer.rank l.fn.tree.entries)))
+      ≡ pos (g.T.SafeLen.SafeLength.number l.fn.len) +ℤ walked_keys (g.T.Integer.rank l.lo) (g.T.Integer.rank l.hi) (reverse (entries_of g.T.Integer.rank l.nodes));
 }
 
 abbrev pub decreases-loop-found : goal.decreases-loop-found
