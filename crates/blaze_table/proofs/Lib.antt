@@ -39,3 +39,6 @@ pub mod Composed
 pub mod Plans
 pub mod Walked
 pub mod WalkedPlans
+pub mod Outside
+pub mod FewLooks
+pub mod Holders

@@ -1,6 +1,6 @@
 -- What the plan of a paint says of the list.
 use Rattle.std.proofs.Common.{◌≡◌, ℤ, pos, ◌+ℤ◌, ◌≤ℤ◌, ◌<ℤ◌, Bool, true, false, cond, List, [], ◌∷◌, ◌++◌, Option, Some, None, refl, ◌∙◌, sym, subst, ap, arith, inl, inr}
-use Rattle.std.specs.Prelude.{IfSome, int_lt}
+use Rattle.std.specs.Prelude.{IfSome, int_lt, int_le}
 use Rattle.std.specs.Cmp.{IsEquivalence}
 use Rattle.std.specs.Option.{option_map}
 use Rattle.std.proofs.lemmas.Int.{ints, by_lt_z}
@@ -11,7 +11,7 @@ use Rattle.blaze_entries.specs.declared.found.Found.{Found}
 use Rattle.blaze_entries.proofs.Halves.{StartsBelow, from_takes, from_skips}
 use Rattle.blaze_table.specs.Entries.{Entry, entry}
 use Rattle.blaze_table.specs.Canonical.{IsCanonical}
-use Rattle.blaze_table.specs.Planned.{IsUnjoined, IsJoinedTo, IsEnd, rest_of, end_of, joined_start, IsPlanOf, ends_of, IsRestOf, IsRest}
+use Rattle.blaze_table.specs.Planned.{IsUnjoined, IsJoinedTo, IsEnd, rest_of, joined_start, IsPlanOf, ends_of, IsRestOf, IsRest}
 use Rattle.blaze_table.specs.Splice.{after}
 use Rattle.blaze_table.proofs.Lookup.{IsAbove, IsAbove-from_apart}
 use Rattle.blaze_table.proofs.Splices.{by_after, by_bool, after_skips, lt_true, lt_false, le_true, le_false}
@@ -22,12 +22,12 @@ use Rattle.blaze_table.proofs.Placing.{ends_before}
 use Rattle.blaze_table.proofs.Widened.{after_over, started_at}
 
 module _ {V : Type 0} (eq : V → V → Bool) where
-  above_more : (a b : ℤ) (es : List (Entry V)) → a ≤ℤ b → IsAbove b es → IsAbove a es
+  pub above_more : (a b : ℤ) (es : List (Entry V)) → a ≤ℤ b → IsAbove b es → IsAbove a es
   above_more a b [] l h = tt
   above_more a b (e ∷ es) l h = omega (arith, ints, h)
 
   -- all that lies above z starts above it
-  from_above : (z : ℤ) (es : List (Entry V)) → IsAbove z es → IsCanonical eq es → from (z +ℤ pos 1) es ≡ es
+  pub from_above : (z : ℤ) (es : List (Entry V)) → IsAbove z es → IsCanonical eq es → from (z +ℤ pos 1) es ≡ es
   from_above z [] a c = refl
   from_above z (e ∷ es) a c =
       from_takes (z +ℤ pos 1) e es (omega (arith, ints, a))
@@ -150,24 +150,29 @@ pub above_of : {T : Type 0} (rank : T → ℤ) (f : ℤ) (r : Option (T × T)) �
 above_of rank f None h = tt
 above_of rank f (Some r) h = h (ranks_of rank r) refl
 
--- where the entry ends that starts at a key, by the last that starts up to it
+-- the entry that was looked at, if it does not start below l
+abbrev pub not_below : ℤ → Option (ℤ × ℤ × Bool) → Option (ℤ × ℤ × Bool)
+not_below l None = None
+not_below l (Some t) = cond (int_le l t.0) (Some t) None
+
+-- the entry that starts at a key, by the last that starts up to it
 module _ {V : Type 0} (eq : V → V → Bool) (v : V) (l low high : ℤ) (es : List (Entry V)) (s : StartsAscend low high es) where
   none_over : (xs : List (Entry V)) (e : Entry V) → StartsBelow l xs → e.lo <ℤ l → start_at l (xs ++ e ∷ []) ≡ None
   none_over [] e h u = start_skips l e [] (λ t. omega (arith, ints))
   none_over (x ∷ xs) e h u = start_skips l x (xs ++ e ∷ []) (λ t. omega (arith, ints, h.0)) ∙ none_over xs e h.1 u
 
-  pub first_is : end_of l (option_map (found_in eq v) (last_below (l +ℤ pos 1) es)) ≡ option_map (λ (e : Entry V). e.hi) (start_at l es)
+  pub first_is : not_below l (option_map (found_in eq v) (last_below (l +ℤ pos 1) es)) ≡ option_map (found_in eq v) (start_at l es)
   first_is = by_last (last_below (l +ℤ pos 1) es) refl
     where
-      by_last : (o : Option (Entry V)) → last_below (l +ℤ pos 1) es ≡ o → end_of l (option_map (found_in eq v) o) ≡ option_map (λ (e : Entry V). e.hi) (start_at l es)
-      by_last None q = sym (ap (option_map (λ (e : Entry V). e.hi)) (none_at l (l +ℤ pos 1) high es (omega (arith, ints)) (no_last_from (l +ℤ pos 1) low high es s q)))
+      by_last : (o : Option (Entry V)) → last_below (l +ℤ pos 1) es ≡ o → not_below l (option_map (found_in eq v) o) ≡ option_map (found_in eq v) (start_at l es)
+      by_last None q = sym (ap (option_map (found_in eq v)) (none_at l (l +ℤ pos 1) high es (omega (arith, ints)) (no_last_from (l +ℤ pos 1) low high es s q)))
       by_last (Some e) q =
           let i = last_at (l +ℤ pos 1) low high e es s q in
           let up = i.starts in
           by_lt_z e.lo l
-          (λ u. rw (le_false l e.lo u) (sym (ap (option_map (λ (e : Entry V). e.hi))
+          (λ u. rw (le_false l e.lo u) (sym (ap (option_map (found_in eq v))
           (sym (start_below l es) ∙ ap (start_at l) (below_last (l +ℤ pos 1) high e es i) ∙ none_over i.front e (more_below e.lo l i.front (omega (arith, ints)) i.front_below) u))))
-          (λ u. rw (le_true l e.lo u) (sym (ap (option_map (λ (e : Entry V). e.hi))
+          (λ u. rw (le_true l e.lo u) (sym (ap (option_map (found_in eq v))
           (ap (λ x. start_at x es) (same e (omega (arith, ints))) ∙ last_there (l +ℤ pos 1) high e es i))))
         where
           same : (e : Entry V) → l ≡ e.lo → l ≡ e.lo

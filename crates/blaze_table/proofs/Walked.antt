@@ -16,8 +16,7 @@ use Rattle.blaze_table.proofs.Splits.{LastAt, last_at, no_last, no_last_from, no
 use Rattle.blaze_table.proofs.Clearing.{below_below}
 use Rattle.blaze_table.proofs.Growing.{last_there, below_last}
 use Rattle.blaze_table.proofs.Placing.{ends_before}
-use Rattle.blaze_table.proofs.Plans.{first_is}
-use Rattle.blaze_table.specs.Planned.{end_of}
+use Rattle.blaze_table.proofs.Plans.{first_is, not_below}
 
 module _ {V : Type 0} where
   -- the entries that start below a key, by the last of them
@@ -51,23 +50,23 @@ module _ {V : Type 0} (eq : V → V → Bool) (v : V) (l h low high : ℤ) (es :
           ap (walked eq v l h p) (down_step l high e es i)
           ∙ ap (λ b. cond b (seen l h p (found_in eq v e)) (walked eq v l h (seen l h p (found_in eq v e)) (reverse (below e.lo es)))) (lt_true e.lo l i.starts)
           ∙ ap (λ x. seen_start l x (found_in eq v e)) (short_seen p e (short e q))
-          ∙ ap (λ b. cond b (record p { left = Some (found_in eq v e) }) (cond (int_le e.lo l) (record p { first = Some e.hi }) p)) (lt_true e.lo l i.starts)
+          ∙ ap (λ b. cond b (record p { left = Some (found_in eq v e) }) (cond (int_le e.lo l) (record p { first = Some (found_in eq v e) }) p)) (lt_true e.lo l i.starts)
 
   module _ (k : ℤ) (e : Entry V) (i : LastAt k high e es) where
     -- nothing starts between the last entry below k and k
-    same_below : (j : ℤ) → e.lo <ℤ j → j ≤ℤ k → below j es ≡ below k es
+    pub same_below : (j : ℤ) → e.lo <ℤ j → j ≤ℤ k → below j es ≡ below k es
     same_below j u w = sym (below_below j k es w) ∙ ap (below j) (below_step k high e es i) ∙ filter_append (λ x. int_lt x.lo j) (below e.lo es) (e ∷ [])
         ∙ ap (λ t. t ++ below j (e ∷ [])) (below_all j (below e.lo es) (more_below e.lo j (below e.lo es) (omega (arith, ints)) (starts_below e.lo es)))
         ∙ ap (λ t. below e.lo es ++ t) (below_takes j e [] u) ∙ sym (below_step k high e es i)
 
-    fewer : length (below e.lo es) + 1 ≡ length (below k es)
+    pub fewer : length (below e.lo es) + 1 ≡ length (below k es)
     fewer = sym (ap length (below_step k high e es i) ∙ length-append (below e.lo es) (e ∷ []))
 
-    goes_on : (p : Seen) → l ≤ℤ e.lo → e.hi ≤ℤ h → walked eq v l h p (reverse (below k es)) ≡ walked eq v l h (cond (int_le e.lo l) (record p { first = Some e.hi }) p) (reverse (below e.lo es))
+    goes_on : (p : Seen) → l ≤ℤ e.lo → e.hi ≤ℤ h → walked eq v l h p (reverse (below k es)) ≡ walked eq v l h (cond (int_le e.lo l) (record p { first = Some (found_in eq v e) }) p) (reverse (below e.lo es))
     goes_on p u w = ap (walked eq v l h p) (down_step k high e es i)
         ∙ ap (λ b. cond b (seen l h p (found_in eq v e)) (walked eq v l h (seen l h p (found_in eq v e)) (reverse (below e.lo es)))) (lt_false e.lo l u)
         ∙ ap (λ x. walked eq v l h (seen_start l x (found_in eq v e)) (reverse (below e.lo es))) (short_seen p e w)
-        ∙ ap (λ b. walked eq v l h (cond b (record p { left = Some (found_in eq v e) }) (cond (int_le e.lo l) (record p { first = Some e.hi }) p)) (reverse (below e.lo es))) (lt_false e.lo l u)
+        ∙ ap (λ b. walked eq v l h (cond b (record p { left = Some (found_in eq v e) }) (cond (int_le e.lo l) (record p { first = Some (found_in eq v e) }) p)) (reverse (below e.lo es))) (lt_false e.lo l u)
 
     shorter : e.lo ≤ℤ h → (f : Entry V) → last_below e.lo es ≡ Some f → f.hi ≤ℤ h
     shorter u f q =
@@ -76,22 +75,21 @@ module _ {V : Type 0} (eq : V → V → Bool) (v : V) (l h low high : ℤ) (es :
         omega (arith, ints)
 
   -- from above the range's start on, where the walk below a lower key is known
-  -- from above the range's start on, where the walk below a lower key is known
   step : (k : ℤ) (p : Seen) → l <ℤ k → k ≤ℤ (h +ℤ pos 1) → ((e : Entry V) → last_below k es ≡ Some e → e.hi ≤ℤ h) → p.first ≡ None → p.left ≡ None
       → ((j : ℤ) → length (below j es) + 1 ≤ length (below k es) → l <ℤ j → j ≤ℤ (h +ℤ pos 1) → ((e : Entry V) → last_below j es ≡ Some e → e.hi ≤ℤ h)
-      → walked eq v l h p (reverse (below j es)) ≡ record p { first = option_map (λ (e : Entry V). e.hi) (start_at l es); left = option_map (found_in eq v) (last_below l es) })
-      → walked eq v l h p (reverse (below k es)) ≡ record p { first = option_map (λ (e : Entry V). e.hi) (start_at l es); left = option_map (found_in eq v) (last_below l es) }
+      → walked eq v l h p (reverse (below j es)) ≡ record p { first = option_map (found_in eq v) (start_at l es); left = option_map (found_in eq v) (last_below l es) })
+      → walked eq v l h p (reverse (below k es)) ≡ record p { first = option_map (found_in eq v) (start_at l es); left = option_map (found_in eq v) (last_below l es) }
   step k p u w short f m later = by_last (last_below k es) refl
     where
       none : p ≡ record p { first = None; left = None }
       none = ap (λ x. record p { first = x; left = p.left }) f ∙ ap (λ x. record p { first = None; left = x }) m
 
-      by_last : (o : Option (Entry V)) → last_below k es ≡ o → walked eq v l h p (reverse (below k es)) ≡ record p { first = option_map (λ (e : Entry V). e.hi) (start_at l es); left = option_map (found_in eq v) (last_below l es) }
+      by_last : (o : Option (Entry V)) → last_below k es ≡ o → walked eq v l h p (reverse (below k es)) ≡ record p { first = option_map (found_in eq v) (start_at l es); left = option_map (found_in eq v) (last_below l es) }
       by_last None q =
           let empty = no_last k low high es s q in
           let below_l : below l es ≡ [] = sym (below_below l k es (omega (arith, ints))) ∙ ap (below l) empty in
           ap (λ x. walked eq v l h p (reverse x)) empty ∙ none
-          ∙ sym (ap (λ x. record p { first = option_map (λ (e : Entry V). e.hi) x; left = option_map (found_in eq v) (last_below l es) }) (none_at l k high es u (no_last_from k low high es s q))
+          ∙ sym (ap (λ x. record p { first = option_map (found_in eq v) x; left = option_map (found_in eq v) (last_below l es) }) (none_at l k high es u (no_last_from k low high es s q))
           ∙ ap (λ x. record p { first = None; left = option_map (found_in eq v) (last_or None x) }) below_l)
       by_last (Some e) q =
           let i = last_at k low high e es s q in
@@ -100,25 +98,25 @@ module _ {V : Type 0} (eq : V → V → Bool) (v : V) (l h low high : ℤ) (es :
           (λ a.
           let at_l = same_below k e i l a (omega (arith, ints)) in
           let at_next = same_below k e i (l +ℤ pos 1) (omega (arith, ints)) (omega (arith, ints)) in
-          let no_first : option_map (λ (e : Entry V). e.hi) (start_at l es) ≡ None = sym (first_is eq v l low high es s) ∙ ap (λ x. end_of l (option_map (found_in eq v) (last_or None x))) at_next ∙ ap (λ x. end_of l (option_map (found_in eq v) x)) q ∙ ap (λ b. cond b (Some e.hi) None) (le_false l e.lo a) in
+          let no_first : option_map (found_in eq v) (start_at l es) ≡ None = sym (first_is eq v l low high es s) ∙ ap (λ x. not_below l (option_map (found_in eq v) (last_or None x))) at_next ∙ ap (λ x. not_below l (option_map (found_in eq v) x)) q ∙ ap (λ b. cond b (Some (found_in eq v e)) None) (le_false l e.lo a) in
           ap (λ x. walked eq v l h p (reverse x)) (sym at_l) ∙ to_left p (λ x r. short x (sym (ap (last_or None) at_l) ∙ r)) m
           ∙ ap (λ x. record p { first = x; left = option_map (found_in eq v) (last_below l es) }) (f ∙ sym no_first))
           (λ a. by_lt_z l e.lo
           (λ d. goes_on k e i p a (short e q)
-          ∙ ap (λ b. walked eq v l h (cond b (record p { first = Some e.hi }) p) (reverse (below e.lo es))) (le_false e.lo l d)
+          ∙ ap (λ b. walked eq v l h (cond b (record p { first = Some (found_in eq v e) }) p) (reverse (below e.lo es))) (le_false e.lo l d)
           ∙ later e.lo (omega (arith, fewer k e i)) d (omega (arith, ints)) (shorter k e i (omega (arith, ints))))
           (λ d.
           let same : e.lo ≡ l = omega (arith, ints) in
-          let here : option_map (λ (e : Entry V). e.hi) (start_at l es) ≡ Some e.hi = ap (option_map (λ (e : Entry V). e.hi)) (ap (λ x. start_at x es) (sym same) ∙ last_there k high e es i) in
+          let here : option_map (found_in eq v) (start_at l es) ≡ Some (found_in eq v e) = ap (option_map (found_in eq v)) (ap (λ x. start_at x es) (sym same) ∙ last_there k high e es i) in
           goes_on k e i p a (short e q)
-          ∙ ap (λ b. walked eq v l h (cond b (record p { first = Some e.hi }) p) (reverse (below e.lo es))) (le_true e.lo l d)
-          ∙ ap (λ x. walked eq v l h (record p { first = Some e.hi }) (reverse (below x es))) same
-          ∙ to_left (record p { first = Some e.hi }) (λ x r. shorter k e i (omega (arith, ints)) x (ap (λ y. last_below y es) same ∙ r)) m
+          ∙ ap (λ b. walked eq v l h (cond b (record p { first = Some (found_in eq v e) }) p) (reverse (below e.lo es))) (le_true e.lo l d)
+          ∙ ap (λ x. walked eq v l h (record p { first = Some (found_in eq v e) }) (reverse (below x es))) same
+          ∙ to_left (record p { first = Some (found_in eq v e) }) (λ x r. shorter k e i (omega (arith, ints)) x (ap (λ y. last_below y es) same ∙ r)) m
           ∙ ap (λ x. record p { first = x; left = option_map (found_in eq v) (last_below l es) }) (sym here)))
 
   -- from above the range's start on
   pub to_start : (n : ℕ) (k : ℤ) (p : Seen) → length (below k es) ≤ n → l <ℤ k → k ≤ℤ (h +ℤ pos 1) → ((e : Entry V) → last_below k es ≡ Some e → e.hi ≤ℤ h) → p.first ≡ None → p.left ≡ None
-      → walked eq v l h p (reverse (below k es)) ≡ record p { first = option_map (λ (e : Entry V). e.hi) (start_at l es); left = option_map (found_in eq v) (last_below l es) }
+      → walked eq v l h p (reverse (below k es)) ≡ record p { first = option_map (found_in eq v) (start_at l es); left = option_map (found_in eq v) (last_below l es) }
   to_start zero k p b u w short f m = step k p u w short f m (λ j x y z t. absurd (omega arith))
   to_start (suc n) k p b u w short f m = step k p u w short f m (λ j x y z t. to_start n j p (omega arith) y z t f m)
 
@@ -135,10 +133,10 @@ module _ {V : Type 0} (eq : V → V → Bool) (v : V) (l h low high : ℤ) (es :
       (λ a. rw a (refl, refl))
 
   pub to_last : (p : Seen) → l ≤ℤ h → p.first ≡ None → p.left ≡ None
-      → walked eq v l h p (reverse (below (h +ℤ pos 1) es)) ≡ record (passed p (last_below (h +ℤ pos 1) es)) { first = option_map (λ (e : Entry V). e.hi) (start_at l es); left = option_map (found_in eq v) (last_below l es) }
+      → walked eq v l h p (reverse (below (h +ℤ pos 1) es)) ≡ record (passed p (last_below (h +ℤ pos 1) es)) { first = option_map (found_in eq v) (start_at l es); left = option_map (found_in eq v) (last_below l es) }
   to_last p w f m = by_last (last_below (h +ℤ pos 1) es) refl
     where
-      by_last : (o : Option (Entry V)) → last_below (h +ℤ pos 1) es ≡ o → walked eq v l h p (reverse (below (h +ℤ pos 1) es)) ≡ record (passed p o) { first = option_map (λ (e : Entry V). e.hi) (start_at l es); left = option_map (found_in eq v) (last_below l es) }
+      by_last : (o : Option (Entry V)) → last_below (h +ℤ pos 1) es ≡ o → walked eq v l h p (reverse (below (h +ℤ pos 1) es)) ≡ record (passed p o) { first = option_map (found_in eq v) (start_at l es); left = option_map (found_in eq v) (last_below l es) }
       by_last None q = to_start (length (below (h +ℤ pos 1) es)) (h +ℤ pos 1) p (omega arith) (omega (arith, ints)) (omega (arith, ints)) (λ e r. absurd (none_some e (last_below (h +ℤ pos 1) es) q r)) f m
         where
           none_some : (e : Entry V) (o : Option (Entry V)) → o ≡ None → o ≡ Some e → ⊥
@@ -153,22 +151,22 @@ module _ {V : Type 0} (eq : V → V → Bool) (v : V) (l h low high : ℤ) (es :
           (λ a.
           let at_l = same_below (h +ℤ pos 1) e i l a (omega (arith, ints)) in
           let at_next = same_below (h +ℤ pos 1) e i (l +ℤ pos 1) (omega (arith, ints)) (omega (arith, ints)) in
-          let no_first : option_map (λ (e : Entry V). e.hi) (start_at l es) ≡ None = sym (first_is eq v l low high es s) ∙ ap (λ x. end_of l (option_map (found_in eq v) (last_or None x))) at_next ∙ ap (λ x. end_of l (option_map (found_in eq v) x)) q ∙ ap (λ b. cond b (Some e.hi) None) (le_false l e.lo a) in
+          let no_first : option_map (found_in eq v) (start_at l es) ≡ None = sym (first_is eq v l low high es s) ∙ ap (λ x. not_below l (option_map (found_in eq v) (last_or None x))) at_next ∙ ap (λ x. not_below l (option_map (found_in eq v) x)) q ∙ ap (λ b. cond b (Some (found_in eq v e)) None) (le_false l e.lo a) in
           down ∙ ap (λ b. cond b (seen_start l p1 (found_in eq v e)) (walked eq v l h (seen_start l p1 (found_in eq v e)) (reverse (below e.lo es)))) (lt_true e.lo l a)
-          ∙ ap (λ b. cond b (record p1 { left = Some (found_in eq v e) }) (cond (int_le e.lo l) (record p1 { first = Some e.hi }) p1)) (lt_true e.lo l a)
+          ∙ ap (λ b. cond b (record p1 { left = Some (found_in eq v e) }) (cond (int_le e.lo l) (record p1 { first = Some (found_in eq v e) }) p1)) (lt_true e.lo l a)
           ∙ ap (λ x. record p1 { first = x; left = Some (found_in eq v e) }) (keeps.0 ∙ f ∙ sym no_first)
-          ∙ ap (λ x. record p1 { first = option_map (λ (e : Entry V). e.hi) (start_at l es); left = option_map (found_in eq v) x }) (sym (ap (last_or None) at_l ∙ q)))
+          ∙ ap (λ x. record p1 { first = option_map (found_in eq v) (start_at l es); left = option_map (found_in eq v) x }) (sym (ap (last_or None) at_l ∙ q)))
           (λ a.
-          let on : walked eq v l h p (reverse (below (h +ℤ pos 1) es)) ≡ walked eq v l h (cond (int_le e.lo l) (record p1 { first = Some e.hi }) p1) (reverse (below e.lo es)) =
+          let on : walked eq v l h p (reverse (below (h +ℤ pos 1) es)) ≡ walked eq v l h (cond (int_le e.lo l) (record p1 { first = Some (found_in eq v e) }) p1) (reverse (below e.lo es)) =
           down ∙ ap (λ b. cond b (seen_start l p1 (found_in eq v e)) (walked eq v l h (seen_start l p1 (found_in eq v e)) (reverse (below e.lo es)))) (lt_false e.lo l a)
-          ∙ ap (λ b. walked eq v l h (cond b (record p1 { left = Some (found_in eq v e) }) (cond (int_le e.lo l) (record p1 { first = Some e.hi }) p1)) (reverse (below e.lo es))) (lt_false e.lo l a) in
+          ∙ ap (λ b. walked eq v l h (cond b (record p1 { left = Some (found_in eq v e) }) (cond (int_le e.lo l) (record p1 { first = Some (found_in eq v e) }) p1)) (reverse (below e.lo es))) (lt_false e.lo l a) in
           by_lt_z l e.lo
-          (λ d. on ∙ ap (λ b. walked eq v l h (cond b (record p1 { first = Some e.hi }) p1) (reverse (below e.lo es))) (le_false e.lo l d)
+          (λ d. on ∙ ap (λ b. walked eq v l h (cond b (record p1 { first = Some (found_in eq v e) }) p1) (reverse (below e.lo es))) (le_false e.lo l d)
           ∙ to_start (length (below e.lo es)) e.lo p1 (omega arith) d (omega (arith, ints)) (shorter (h +ℤ pos 1) e i (omega (arith, ints))) (keeps.0 ∙ f) (keeps.1 ∙ m))
           (λ d.
           let same : e.lo ≡ l = omega (arith, ints) in
-          let here : option_map (λ (e : Entry V). e.hi) (start_at l es) ≡ Some e.hi = ap (option_map (λ (e : Entry V). e.hi)) (ap (λ x. start_at x es) (sym same) ∙ last_there (h +ℤ pos 1) high e es i) in
-          on ∙ ap (λ b. walked eq v l h (cond b (record p1 { first = Some e.hi }) p1) (reverse (below e.lo es))) (le_true e.lo l d)
-          ∙ ap (λ x. walked eq v l h (record p1 { first = Some e.hi }) (reverse (below x es))) same
-          ∙ to_left (record p1 { first = Some e.hi }) (λ x r. shorter (h +ℤ pos 1) e i (omega (arith, ints)) x (ap (λ y. last_below y es) same ∙ r)) (keeps.1 ∙ m)
+          let here : option_map (found_in eq v) (start_at l es) ≡ Some (found_in eq v e) = ap (option_map (found_in eq v)) (ap (λ x. start_at x es) (sym same) ∙ last_there (h +ℤ pos 1) high e es i) in
+          on ∙ ap (λ b. walked eq v l h (cond b (record p1 { first = Some (found_in eq v e) }) p1) (reverse (below e.lo es))) (le_true e.lo l d)
+          ∙ ap (λ x. walked eq v l h (record p1 { first = Some (found_in eq v e) }) (reverse (below x es))) same
+          ∙ to_left (record p1 { first = Some (found_in eq v e) }) (λ x r. shorter (h +ℤ pos 1) e i (omega (arith, ints)) x (ap (λ y. last_below y es) same ∙ r)) (keeps.1 ∙ m)
           ∙ ap (λ x. record p1 { first = x; left = option_map (found_in eq v) (last_below l es) }) (sym here)))

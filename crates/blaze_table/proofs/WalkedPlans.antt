@@ -103,8 +103,8 @@ module _ {V : Type 0} (eq : V → V → Bool) (v : V) (l h low high : ℤ) (w : 
         let at_it = here.0 in
         ap (λ b. seen_start l (cond b (cond (eq e.value v) (record (unseen h) { end = e.hi }) (cond (int_le e.lo h) (record (unseen h) { rest = Some (e.lo, e.hi) }) (unseen h))) (unseen h)) (found_in eq v e)) (lt_true h e.hi a)
         ∙ ap (λ b. seen_start l (cond (eq e.value v) (record (unseen h) { end = e.hi }) (cond b (record (unseen h) { rest = Some (e.lo, e.hi) }) (unseen h))) (found_in eq v e)) (le_false e.lo h (omega (arith, ints)))
-        ∙ ap (λ b. cond b (record above { left = Some (found_in eq v e) }) (cond (int_le e.lo l) (record above { first = Some e.hi }) above)) (lt_false e.lo l (omega (arith, ints)))
-        ∙ ap (λ b. cond b (record above { first = Some e.hi }) above) (le_false e.lo l (omega (arith, ints)))
+        ∙ ap (λ b. cond b (record above { left = Some (found_in eq v e) }) (cond (int_le e.lo l) (record above { first = Some (found_in eq v e) }) above)) (lt_false e.lo l (omega (arith, ints)))
+        ∙ ap (λ b. cond b (record above { first = Some (found_in eq v e) }) above) (le_false e.lo l (omega (arith, ints)))
 
     above_blank : (above.first ≡ None) × (above.left ≡ None) × (above.rest ≡ None)
     above_blank = by_bool (eq e.value v) (λ b. rw b (refl, refl, refl)) (λ b. rw b (refl, refl, refl))
@@ -140,7 +140,7 @@ module _ {V : Type 0} (eq : V → V → Bool) (v : V) (l h low high : ℤ) (w : 
         ∙ ap (λ b. cond b (seen l h (unseen h) (found_in eq v e)) (walked eq v l h (seen l h (unseen h) (found_in eq v e)) (reverse (below (h +ℤ pos 1) es)))) (lt_false e.lo l (omega (arith, ints)))
         ∙ ap (λ x. walked eq v l h x (reverse (below (h +ℤ pos 1) es))) (over a)
         ∙ to_last eq v l h low high es s c above w above_blank.0 above_blank.1
-        ∙ ap (λ (x : Seen). record x { first = option_map (λ (e : Entry V). e.hi) (start_at l es); left = option_map (found_in eq v) (last_below l es) }) (passed_is (last_below (h +ℤ pos 1) es) refl) in
+        ∙ ap (λ (x : Seen). record x { first = option_map (found_in eq v) (start_at l es); left = option_map (found_in eq v) (last_below l es) }) (passed_is (last_below (h +ℤ pos 1) es) refl) in
         subst (IsPlanOf eq l h v es) (sym all) (record {
           end = end_above (last_below (h +ℤ pos 1) es) refl;
           rest = above_blank.2 ∙ rest_above (last_below (h +ℤ pos 1) es) refl;

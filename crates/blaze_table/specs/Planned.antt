@@ -39,10 +39,10 @@ abbrev pub rest_of : ℤ → Option (ℤ × ℤ × Bool) → Option (ℤ × ℤ)
 rest_of h None = None
 rest_of h (Some t) = if int_lt h t.1 then (if t.2 then None else Some (t.0, t.1)) else None
 
--- where it ends, if it does not start below l
-abbrev pub end_of : ℤ → Option (ℤ × ℤ × Bool) → Option ℤ
-end_of l None = None
-end_of l (Some t) = if int_le l t.0 then Some t.1 else None
+-- whether an entry that was looked at has an equal value and ends at h or above
+abbrev pub reaches : ℤ → Option (ℤ × ℤ × Bool) → Bool
+reaches h None = false
+reaches h (Some t) = t.2 && int_le h t.1
 
 -- where the entry starts, if a range from l on is joined with it: it has an equal value, and reaches the key before l
 abbrev pub joined_start : ℤ → Option (ℤ × ℤ × Bool) → Option ℤ
@@ -53,7 +53,7 @@ joined_start l (Some n) = if n.2 && (int_le l n.1 || int_eq l (n.1 +ℤ pos 1)) 
 pub record IsPlanOf {V : Type 0} (eq : V → V → Bool) (l h : ℤ) (v : V) (es : List (Entry V)) (s : Seen) : Type 0 where
   pub end : IsEnd eq h v es s.end
   pub rest : s.rest ≡ rest_of h (option_map (found_in eq v) (last_below (h +ℤ pos 1) es))
-  pub first : s.first ≡ option_map (λ e. e.hi) (start_at l es)
+  pub first : s.first ≡ option_map (found_in eq v) (start_at l es)
   pub left : s.left ≡ option_map (found_in eq v) (last_below l es)
 
 -- ---- the steps
@@ -117,6 +117,7 @@ pub record IsExtended {V : Type 0} (eq : V → V → Bool) (f z : ℤ) (old new 
 -- What a step counts: it puts in at most p entries; the entries are those before, plus those put in, less those taken out;
 -- and it looks at most q times, and once for each entry taken out.
 pub record IsWorked {V : Type 0} (p q : ℕ) (old new : CountedEntries V) : Type 0 where
+  pub put : old.put_in ≤ new.put_in
   pub puts : new.put_in ≤ old.put_in + p
   pub balance : length new.entries + new.taken_out + old.put_in ≡ length old.entries + old.taken_out + new.put_in
   pub taken : old.taken_out ≤ new.taken_out

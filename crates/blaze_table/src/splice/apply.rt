@@ -27,8 +27,8 @@ fn paint_from<T: Integer, V: Eq + Clone>(
     requires order { T.rank lo ≤ℤ T.rank plan.end }
     requires clones { ClonesAreAlike V.is_clone V.eq }
     requires canonical { IsCanonical V.eq entries.old.entries }
-    requires first { option_map T.rank plan.first
-        ≡ option_map (λ e. e.hi) (start_at (T.rank lo) entries.old.entries) }
+    requires first { option_map (ends_of T.rank) plan.first
+        ≡ option_map range_in (start_at (T.rank lo) entries.old.entries) }
     requires rest { IsRest
         (T.rank plan.end) entries.old.entries (option_map (ranks_of T.rank) plan.rest) }
     requires left { option_map (ends_of T.rank) plan.left

@@ -2,14 +2,14 @@
 //! edit that can't be taken back.
 ghost use Rattle.std.specs.Prelude.{◌≡◌, pos, ◌+ℤ◌, ◌≤ℤ◌, ◌<ℤ◌, None, OnOk, OnErr, IfSome, IsSome};
 ghost use Rattle.std.specs.Option.{option_map};
-ghost use Rattle.blaze_entries.specs.Found.{ranks_of};
+ghost use Rattle.blaze_entries.specs.Found.{range_in, ranks_of};
 ghost use Rattle.blaze_entries.specs.Starts.{start_at};
 ghost use Rattle.blaze_table.specs.Canonical.{IsCanonical};
 ghost use Rattle.blaze_table.specs.Entries.{entry};
 ghost use Rattle.blaze_table.specs.Painted.{ClonesAreAlike};
-ghost use Rattle.blaze_table.specs.Planned.{IsRest, IsRestPut, IsRestKept, IsStartPut, IsWorked};
+ghost use Rattle.blaze_table.specs.Planned.{ends_of, IsRest, IsRestPut, IsRestKept, IsStartPut, IsWorked};
 
-use blaze_entries::Counted;
+use blaze_entries::{Counted, Found};
 use blaze_int::Integer;
 use blaze_int::compare::{after, is_below};
 use std::alloc::AllocError;
@@ -144,14 +144,14 @@ pub fn put<T: Integer, V: Eq + Clone>(
     lo: T,
     end: T,
     value: V,
-    first: Option<T>,
+    first: Option<Found<T>>,
     rest: Option<(T, T)>,
 ) -> Result<(), AllocError>
     requires order { T.rank lo ≤ℤ T.rank end }
     requires clones { ClonesAreAlike V.is_clone V.eq }
     requires canonical { IsCanonical V.eq entries.old.entries }
-    requires first { option_map T.rank first
-        ≡ option_map (λ e. e.hi) (start_at (T.rank lo) entries.old.entries) }
+    requires first { option_map (ends_of T.rank) first
+        ≡ option_map range_in (start_at (T.rank lo) entries.old.entries) }
     requires rest { IsRest (T.rank end) entries.old.entries (option_map (ranks_of T.rank) rest) }
     ensures ok { OnOk result
         (IsStartPut V.eq

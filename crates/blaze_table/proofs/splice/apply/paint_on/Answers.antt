@@ -23,6 +23,7 @@ returns-clause-worked g c =
     let taken = ap (λ (s : CountedEntries g.row.V.Denot). s.taken_out) e in
     let looks = ap (λ (s : CountedEntries g.row.V.Denot). s.looks) e in
     record {
+      put = omega (arith, puts, a.put, b.put);
       puts = omega (arith, puts, a.puts, b.puts);
       balance = omega (arith, long, puts, taken, a.balance, b.balance);
       taken = omega (arith, taken, a.taken, b.taken);

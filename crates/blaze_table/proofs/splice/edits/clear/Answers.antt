@@ -25,6 +25,7 @@ returns-then-is_below-clause-worked g c =
     let long = ap (λ (s : CountedEntries g.row.V.Denot). length s.entries) seen in
     let i = c.loop-ends.invariant in
     record {
+      put = omega (arith, puts, i.puts);
       puts = omega (arith, puts, i.puts);
       balance = omega (arith, long, puts, taken, i.puts, i.balance);
       taken = omega (arith, taken, i.taken);
@@ -70,6 +71,7 @@ returns-clause-worked g c =
     let long = ap (λ (s : CountedEntries g.row.V.Denot). length s.entries) seen in
     let i = c.loop-ends.invariant in
     record {
+      put = omega (arith, puts, i.puts);
       puts = omega (arith, puts, i.puts);
       balance = omega (arith, long, puts, taken, i.puts, i.balance);
       taken = omega (arith, taken, i.taken);

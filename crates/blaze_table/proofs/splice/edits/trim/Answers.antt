@@ -27,7 +27,7 @@ returns-then-is_at_most-clause-worked g c =
     let puts = ap (λ (s : CountedEntries g.row.V.Denot). s.put_in) e in
     let taken = ap (λ (s : CountedEntries g.row.V.Denot). s.taken_out) e in
     let looks = ap (λ (s : CountedEntries g.row.V.Denot). s.looks) e in
-    record { puts = omega (arith, puts); balance = omega (arith, long, puts, taken); taken = omega (arith, taken); looks = omega (arith, looks, taken) }
+    record { put = omega (arith, puts); puts = omega (arith, puts); balance = omega (arith, long, puts, taken); taken = omega (arith, taken); looks = omega (arith, looks, taken) }
 
 pub returns-else-is_at_most-clause-entries : goal.returns-else-is_at_most-clause-entries
 returns-else-is_at_most-clause-entries g c =

@@ -25,7 +25,7 @@ returns-in-None-clause-worked g c =
     let puts = ap (λ (s : CountedEntries g.row.V.Denot). s.put_in) e in
     let taken = ap (λ (s : CountedEntries g.row.V.Denot). s.taken_out) e in
     let looks = ap (λ (s : CountedEntries g.row.V.Denot). s.looks) e in
-    record { puts = omega (arith, puts); balance = omega (arith, long, puts, taken); taken = omega (arith, taken); looks = omega (arith, looks, taken) }
+    record { put = omega (arith, puts); puts = omega (arith, puts); balance = omega (arith, long, puts, taken); taken = omega (arith, taken); looks = omega (arith, looks, taken) }
 
 pub returns-in_ok-move_start-in-Some-clause-ok : goal.returns-in_ok-move_start-in-Some-clause-ok
 returns-in_ok-move_start-in-Some-clause-ok g c =
@@ -46,7 +46,7 @@ returns-in_ok-move_start-in-Some-clause-worked g c =
     let puts = ap (λ (s : CountedEntries g.row.V.Denot). s.put_in) e ∙ ap (λ (s : CountedEntries g.row.V.Denot). s.put_in) m in
     let taken = ap (λ (s : CountedEntries g.row.V.Denot). s.taken_out) e ∙ ap (λ (s : CountedEntries g.row.V.Denot). s.taken_out) m in
     let looks = ap (λ (s : CountedEntries g.row.V.Denot). s.looks) e ∙ ap (λ (s : CountedEntries g.row.V.Denot). s.looks) m in
-    record { puts = omega (arith, puts); balance = omega (arith, long, puts, taken); taken = omega (arith, taken); looks = omega (arith, looks, taken) }
+    record { put = omega (arith, puts); puts = omega (arith, puts); balance = omega (arith, long, puts, taken); taken = omega (arith, taken); looks = omega (arith, looks, taken) }
 
 pub returns-in_ok-replace_front-in-Some-clause-ok : goal.returns-in_ok-replace_front-in-Some-clause-ok
 returns-in_ok-replace_front-in-Some-clause-ok g c =
