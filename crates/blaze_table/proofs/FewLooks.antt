@@ -1,6 +1,6 @@
 -- A walk down to a range looks at no more entries than a paint of the range takes out, but for a few.
 use Rattle.std.proofs.Common.{◌≡◌, ℕ, ◌+◌, ◌≤◌, ℤ, pos, ◌+ℤ◌, ◌≤ℤ◌, ◌<ℤ◌, Bool, cond, List, [], ◌∷◌, ◌++◌, length, refl, ◌∙◌, sym, ap, arith, length-append}
-use Rattle.std.specs.Prelude.{int_lt, reverse}
+use Rattle.std.specs.Prelude.{int_lt, reverse, Result, Ok, Err, OnOk}
 use Rattle.std.specs.List.{filter}
 use Rattle.std.proofs.lemmas.Int.{ints, by_lt_z}
 use Rattle.std.proofs.lemmas.List.{reverse-append}
@@ -71,7 +71,7 @@ module _ {V : Type 0} (eq : V → V → Bool) where
       (λ u m p. rw (p, from_takes (h +ℤ pos 1) e es (omega (arith, ints)), over (omega (arith, ints))) (omega arith))
 
   -- the looks of a walk and the work behind it are those of a paint
-  pub counted : (l h low high : ℤ) (old mid new : CountedEntries V) → l ≤ℤ h → StartsAscend low high old.entries → IsCanonical eq old.entries
+  counted : (l h low high : ℤ) (old mid new : CountedEntries V) → l ≤ℤ h → StartsAscend low high old.entries → IsCanonical eq old.entries
       → mid ≡ record old { looks = old.looks + answers l (reverse (below (h +ℤ pos 2) old.entries)) }
       → IsWorked 2 1 mid new → length new.entries ≤ length (before l mid.entries) + length (after h mid.entries) + 1 → IsCountedPaint old new
   counted l h low high old mid new w s c seen work short =
@@ -91,3 +91,9 @@ module _ {V : Type 0} (eq : V → V → Bool) where
         taken = omega (arith, taken, work.taken);
         looks = omega (arith, few, turned, looks, puts, taken, long, low_part, high_part, short, work.put, work.taken, work.balance, work.looks, few_starts l h low high es w s, before_starts l es c, after_starts h es c);
       }
+
+  pub counted_paint : {A E : Type 0} (l h low high : ℤ) (old mid new : CountedEntries V) → l ≤ℤ h → StartsAscend low high old.entries → IsCanonical eq old.entries
+      → mid ≡ record old { looks = old.looks + answers l (reverse (below (h +ℤ pos 2) old.entries)) }
+      → (r : Result A E) → OnOk r (IsWorked 2 1 mid new) → OnOk r (length new.entries ≤ length (before l mid.entries) + length (after h mid.entries) + 1) → OnOk r (IsCountedPaint old new)
+  counted_paint l h low high old mid new w s c seen (Ok a) work short = counted l h low high old mid new w s c seen work short
+  counted_paint l h low high old mid new w s c seen (Err e) work short = tt

@@ -102,3 +102,9 @@ module _ {V : Type 0} (eq : V → V → Bool) (v : V) (l h : ℤ) (w : l ≤ℤ 
         let holder : option_map (found_in eq v) (last_below (l +ℤ pos 1) es) ≡ or_else p.first p.left = holder_is ∙ sym (ap (λ x. or_else x p.left) r.first ∙ ap (or_else (option_map (found_in eq v) (start_at l es))) r.left) in
         let last = inside_last (last_below (l +ℤ pos 1) es) refl in
         ((λ t. last.0 (ap (reaches h) holder ∙ t)), (λ i. sym (ap (reaches h) holder) ∙ last.1 i))
+
+    pub not_reached : (p : Seen) → IsPlanOf eq l h v es p → reaches h (or_else p.first p.left) ≡ false → IsInside eq l h v es → ⊥
+    not_reached p r n i = true_false (reaches h (or_else p.first p.left)) ((inside_seen p r).1 i) n
+      where
+        true_false : (b : Bool) → b ≡ true → b ≡ false → ⊥
+        true_false b p q = cc
