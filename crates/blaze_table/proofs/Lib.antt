@@ -42,3 +42,4 @@ pub mod WalkedPlans
 pub mod Outside
 pub mod FewLooks
 pub mod Holders
+pub mod Descents
