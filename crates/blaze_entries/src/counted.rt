@@ -288,13 +288,7 @@ impl<T: Integer, V: Eq> Counted<T, V> {
 impl<T: Integer, V: Eq> Counted<T, V> {
     /// Walks down the entries, in one search, from the one that may start right above a range to the first that starts
     /// below it. A length loses how many of their keys lie in the range.
-    pub fn scan(
-        &mut self,
-        len: T::SafeLen,
-        lo: T,
-        hi: T,
-        value: &V,
-    ) -> (Plan<T>, T::SafeLen)
+    pub fn scan(&mut self, len: T::SafeLen, lo: T, hi: T, value: &V) -> (Plan<T>, T::SafeLen)
         requires { walked_keys (T.rank lo) (T.rank hi)
             (reverse (below (T.rank hi +ℤ pos 2) self.old.entries))
             ≤ℤ pos (T.SafeLen.number len) }

@@ -1,7 +1,6 @@
 -- A walk down to a range looks at no more entries than a paint of the range takes out, but for a few.
-use Rattle.std.proofs.Common.{◌≡◌, ℕ, ◌+◌, ◌≤◌, ℤ, pos, ◌+ℤ◌, ◌≤ℤ◌, ◌<ℤ◌, Bool, cond, List, [], ◌∷◌, ◌++◌, length, refl, ◌∙◌, sym, ap, arith, length-append}
-use Rattle.std.specs.Prelude.{int_lt, reverse, Result, Ok, Err, OnOk}
-use Rattle.std.specs.List.{filter}
+use Rattle.std.proofs.Common.{◌≡◌, ◌+◌, ◌≤◌, ℤ, pos, ◌+ℤ◌, ◌≤ℤ◌, Bool, List, [], ◌∷◌, length, refl, ◌∙◌, ap, arith, length-append}
+use Rattle.std.specs.Prelude.{reverse, Result, Ok, Err, OnOk}
 use Rattle.std.proofs.lemmas.Int.{ints, by_lt_z}
 use Rattle.std.proofs.lemmas.List.{reverse-append}
 use Rattle.blaze_entries.specs.Counted.{CountedEntries}

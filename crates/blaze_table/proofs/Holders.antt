@@ -19,7 +19,7 @@ use Rattle.blaze_table.proofs.LooksSay.{le_holds}
 use Rattle.blaze_table.proofs.Lookup.{IsAbove-from_apart}
 use Rattle.blaze_table.proofs.Plans.{first_is, not_below, above_more}
 use Rattle.blaze_table.proofs.Splices.{by_after, before_keeps, after_skips, le_true, le_false}
-use Rattle.blaze_table.proofs.Splits.{LastAt, last_at, no_last, no_last_from, none_at, ends_below}
+use Rattle.blaze_table.proofs.Splits.{last_at, no_last, no_last_from, none_at, ends_below}
 use Rattle.blaze_table.proofs.Walked.{same_below}
 use Rattle.blaze_table.proofs.Widened.{after_over}
 
@@ -65,14 +65,13 @@ module _ {V : Type 0} (eq : V → V → Bool) (v : V) (l h : ℤ) (w : l ≤ℤ 
     inside_last None q = ((λ r. cc), (λ i. absurd (not_inside (l +ℤ pos 1) high es (omega (arith, ints)) (no_last_from (l +ℤ pos 1) low high es s q) i)))
     inside_last (Some e) q =
         let i = last_at (l +ℤ pos 1) low high e es s q in
-        let up = i.starts in
-        (
+        let up = i.starts in (
           (λ r.
-          let t = both (eq e.value v) (int_le h e.hi) r in
-          subst (IsInside eq l h v) (sym i.parts) (inside_part i.front e i.back (omega (arith, ints)) (le_holds h e.hi t.1) t.0)),
+              let t = both (eq e.value v) (int_le h e.hi) r in
+              subst (IsInside eq l h v) (sym i.parts) (inside_part i.front e i.back (omega (arith, ints)) (le_holds h e.hi t.1) t.0)),
           (λ j.
-          let t = part_inside high i.front e i.back (omega (arith, ints)) (ends_below eq i.front e i.back (subst (IsCanonical eq) i.parts c)) i.back_from (subst (IsInside eq l h v) i.parts j) in
-          together (eq e.value v) (int_le h e.hi) t.1 (le_true h e.hi t.0)),
+              let t = part_inside high i.front e i.back (omega (arith, ints)) (ends_below eq i.front e i.back (subst (IsCanonical eq) i.parts c)) i.back_from (subst (IsInside eq l h v) i.parts j) in
+              together (eq e.value v) (int_le h e.hi) t.1 (le_true h e.hi t.0)),
         )
 
     -- it starts there, or is the last below

@@ -1,5 +1,5 @@
 -- How many keys a walk down to a range takes off a count: those of the range.
-use Rattle.std.proofs.Common.{◌≡◌, ℕ, ℤ, pos, ◌+ℤ◌, ◌-ℤ◌, ◌≤ℤ◌, ◌<ℤ◌, Bool, true, false, cond, List, [], ◌∷◌, ◌++◌, refl, ◌∙◌, sym, subst, ap, arith}
+use Rattle.std.proofs.Common.{◌≡◌, ℕ, ℤ, pos, ◌+ℤ◌, ◌≤ℤ◌, ◌<ℤ◌, Bool, true, false, cond, List, [], ◌∷◌, ◌++◌, refl, ◌∙◌, sym, subst, ap, arith}
 use Rattle.std.specs.Prelude.{int_lt, reverse}
 use Rattle.std.proofs.lemmas.Int.{ints, by_lt_z}
 use Rattle.std.proofs.lemmas.List.{reverse-append}
@@ -23,22 +23,19 @@ module _ {V : Type 0} (l h : ℤ) where
   covered_append (x ∷ xs) ys = omega (arith, ints, covered_append xs ys)
 
   -- each starts at the range's first key or above
-  StartsFrom : List (Entry V) → Type 0
+  abbrev StartsFrom : List (Entry V) → Type 0
   StartsFrom [] = Unit {0}
   StartsFrom (e ∷ es) = (l ≤ℤ e.lo) × StartsFrom es
 
   ascend_from : (b high : ℤ) (es : List (Entry V)) → l ≤ℤ b → StartsAscend b high es → StartsFrom es
-  unfolding StartsFrom
   ascend_from b high [] w s = tt
   ascend_from b high (e ∷ es) w s = (omega (arith, ints, s.0), ascend_from (e.lo +ℤ pos 1) high es (omega (arith, ints, s.0)) s.2)
 
   append_from : (xs ys : List (Entry V)) → StartsFrom xs → StartsFrom ys → StartsFrom (xs ++ ys)
-  unfolding StartsFrom
   append_from [] ys x y = y
   append_from (e ∷ xs) ys x y = (x.0, append_from xs ys x.1 y)
 
   reverse_from : (es : List (Entry V)) → StartsFrom es → StartsFrom (reverse es)
-  unfolding StartsFrom
   reverse_from [] s = tt
   reverse_from (e ∷ es) s = subst StartsFrom (sym (reverse-append (e ∷ []) es)) (append_from (reverse es) (e ∷ []) (reverse_from es s.1) (s.0, tt))
 
@@ -56,7 +53,6 @@ module _ {V : Type 0} (l h : ℤ) where
 
   -- and one behind entries that all start at its first key or above
   walked_next : (ys : List (Entry V)) (e : Entry V) → StartsFrom ys → walked_keys l h (ys ++ e ∷ []) ≡ walked_keys l h ys +ℤ overlap l h e
-  unfolding StartsFrom
   walked_next [] e s = walked_one e ∙ omega (arith, ints)
   walked_next (y ∷ ys) e s = rw (lt_false y.lo l s.0) (omega (arith, ints, walked_next ys e s.1))
 

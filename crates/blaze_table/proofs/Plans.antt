@@ -4,14 +4,13 @@ use Rattle.std.specs.Prelude.{IfSome, int_lt, int_le}
 use Rattle.std.specs.Cmp.{IsEquivalence}
 use Rattle.std.specs.Option.{option_map}
 use Rattle.std.proofs.lemmas.Int.{ints, by_lt_z}
-use Rattle.blaze_entries.specs.Found.{found_in, found_of, range_in, ranks_of}
+use Rattle.blaze_entries.specs.Found.{found_in, ranks_of}
 use Rattle.blaze_entries.specs.Scanned.{Seen}
 use Rattle.blaze_entries.specs.Starts.{StartsAscend, from, last_below, start_at}
-use Rattle.blaze_entries.specs.declared.found.Found.{Found}
 use Rattle.blaze_entries.proofs.Halves.{StartsBelow, from_takes, from_skips}
 use Rattle.blaze_table.specs.Entries.{Entry, entry}
 use Rattle.blaze_table.specs.Canonical.{IsCanonical}
-use Rattle.blaze_table.specs.Planned.{IsUnjoined, IsJoinedTo, IsEnd, rest_of, joined_start, IsPlanOf, ends_of, IsRestOf, IsRest}
+use Rattle.blaze_table.specs.Planned.{IsUnjoined, IsJoinedTo, IsEnd, rest_of, joined_start, IsPlanOf, IsRestOf, IsRest}
 use Rattle.blaze_table.specs.Splice.{after}
 use Rattle.blaze_table.proofs.Lookup.{IsAbove, IsAbove-from_apart}
 use Rattle.blaze_table.proofs.Splices.{by_after, by_bool, after_skips, lt_true, lt_false, le_true, le_false}
@@ -136,15 +135,6 @@ module _ {V : Type 0} (eq : V → V → Bool) (laws : IsEquivalence eq) (l h : �
             where
               same : (o : Option (Entry V)) → o ≡ Some e → o ≡ Some d → e ≡ d
               same o p q = cc
-
--- what was found, by its ends alone
-pub left_ends : {T V : Type 0} (rank : T → ℤ) (eq : V → V → Bool) (v : V) (r : Option (Found T)) (o : Option (Entry V)) → option_map (found_of rank) r ≡ option_map (found_in eq v) o → option_map (ends_of rank) r ≡ option_map range_in o
-left_ends rank eq v None None q = refl
-left_ends rank eq v None (Some e) q = cc
-left_ends rank eq v (Some f) None q = cc
-left_ends rank eq v (Some f) (Some e) q =
-    let same : found_of rank f ≡ found_in eq v e = cc in
-    ap (λ (x : ℤ × ℤ × Bool). Some (x.0, x.1)) same
 
 pub above_of : {T : Type 0} (rank : T → ℤ) (f : ℤ) (r : Option (T × T)) → ((x : ℤ × ℤ) → option_map (ranks_of rank) r ≡ Some x → f <ℤ x.0) → IfSome r (λ r. f <ℤ rank r.0)
 above_of rank f None h = tt

@@ -32,9 +32,6 @@ module _ {V : Type 0} where
   down_step k high e es i = ap reverse (below_step k high e es i) ∙ reverse-append (below e.lo es) (e ∷ [])
 
 module _ {V : Type 0} (eq : V → V → Bool) (v : V) (l h low high : ℤ) (es : List (Entry V)) (s : StartsAscend low high es) (c : IsCanonical eq es) where
-  left_found : Option (ℤ × ℤ × Bool)
-  left_found = option_map (found_in eq v) (last_below l es)
-
   -- an entry that does not go on above the range is seen by its start alone
   short_seen : (p : Seen) (e : Entry V) → e.hi ≤ℤ h → seen_end h p (found_in eq v e) ≡ p
   short_seen p e u = ap (λ b. cond b (cond (eq e.value v) (record p { end = e.hi }) (cond (int_le e.lo h) (record p { rest = Some (e.lo, e.hi) }) p)) p) (lt_false h e.hi u)

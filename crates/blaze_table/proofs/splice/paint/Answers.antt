@@ -1,5 +1,4 @@
-use Rattle.std.proofs.Common.{List, ◌≡◌, pos, ◌+ℤ◌, ap, sym, subst, ◌∙◌}
-use Rattle.std.specs.Prelude.{OnOk}
+use Rattle.std.proofs.Common.{List, ◌+ℤ◌, ap, sym, subst, ◌∙◌}
 use Rattle.blaze_entries.specs.Counted.{CountedEntries}
 use Rattle.blaze_entries.specs.Scanned.{Seen, seen_of}
 use Rattle.blaze_table.specs.Count.{keys_in}

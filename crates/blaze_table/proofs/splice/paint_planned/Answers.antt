@@ -2,7 +2,6 @@ use Rattle.std.proofs.Common.{arith, sym, ◌∙◌}
 use Rattle.std.proofs.lemmas.Int.{ints}
 use Rattle.blaze_entries.specs.Scanned.{seen_of}
 use Rattle.blaze_table.specs.Entries.{entry}
-use Rattle.blaze_table.specs.Canonical.{IsCanonical}
 use Rattle.blaze_table.proofs.Counted.{keys_painted, painted_table}
 use Rattle.blaze_table.proofs.Holders.{inside_seen, inside_short, not_reached}
 use Rattle.blaze_table.proofs.Inside.{inside_painted}
