@@ -5,7 +5,7 @@ use Rattle.std.proofs.lemmas.Int.{ints}
 use Rattle.blaze_table.specs.Entries.{Entry, SameEntries, entry}
 use Rattle.blaze_table.specs.Canonical.{IsApart, IsCanonical, AreKeys}
 use Rattle.blaze_table.specs.Count.{keys_in}
-use Rattle.blaze_table.specs.Splice.{before, after, glue, IsPaintOf, overlap, covered, IsListPainted}
+use Rattle.blaze_table.specs.Splice.{before, after, glue, IsPaintOf, IsListPainted, overlap, covered}
 use Rattle.blaze_table.specs.Table.{IsTable}
 use Rattle.blaze_table.proofs.Lookup.{IsAbove, IsAbove-from_apart}
 use Rattle.blaze_table.proofs.Splices.{by_before, by_after, by_join, canonical_paint}

@@ -1,4 +1,4 @@
-pub mod Entries
+pub use Rattle.blaze_entries.specs.Entries
 pub mod Canonical
 pub mod Count
 pub mod Laws
@@ -16,3 +16,4 @@ pub mod Slots
 pub mod Splice
 pub mod Keeping
 pub mod Whole
+pub mod Planned

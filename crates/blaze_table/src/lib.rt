@@ -21,6 +21,7 @@ mod retain;
 mod search;
 mod set_compare;
 mod set_display;
+mod splice;
 mod split;
 mod table;
 
