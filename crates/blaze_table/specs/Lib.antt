@@ -16,3 +16,4 @@ pub mod Slots
 pub mod Splice
 pub mod Keeping
 pub mod Planned
+pub mod CountedCut
