@@ -15,7 +15,10 @@ pub mod Between
 pub mod Pieces
 pub mod Cutting
 pub mod CutSlots
+pub mod Holders
+pub mod CutEdits
 pub mod Splitting
+pub mod SplitEdits
 pub mod Kept
 pub mod RangeMaps
 pub mod NextEntries

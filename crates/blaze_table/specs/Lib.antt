@@ -17,3 +17,4 @@ pub mod Splice
 pub mod Keeping
 pub mod Planned
 pub mod CountedCut
+pub mod LastBelow

@@ -1,12 +1,10 @@
 //! A key taken out of entries, in place. Each clone and each growth comes before the first edit that can't be taken back.
 ghost use Rattle.std.specs.Prelude.{◌≡◌, Some, None, pos, ◌+ℤ◌, ◌≤ℤ◌, ◌<ℤ◌, Ok, OnOk, OnErr, IfOk};
-ghost use Rattle.blaze_entries.specs.Found.{range_in};
-ghost use Rattle.blaze_entries.specs.Starts.{last_below};
-ghost use Rattle.std.specs.Option.{option_map};
 ghost use Rattle.blaze_table.specs.Canonical.{IsCanonical};
 ghost use Rattle.blaze_table.specs.CountedCut.{IsCountedCut};
 ghost use Rattle.blaze_table.specs.Cut.{IsAmongOthers};
 ghost use Rattle.blaze_table.specs.Entries.{at, SameOption};
+ghost use Rattle.blaze_table.specs.LastBelow.{IsLastBelow};
 ghost use Rattle.blaze_table.specs.Painted.{ClonesAreAlike};
 ghost use Rattle.blaze_table.specs.Planned.{IsWorked};
 ghost use Rattle.blaze_table.specs.Splice.{IsCutOf, IsListCut};
@@ -26,7 +24,7 @@ fn cut_inside<T: Integer, V: Eq + Clone>(
 ) -> Result<V, AllocError>
     requires clones { ClonesAreAlike V.is_clone V.eq }
     requires canonical { IsCanonical V.eq entries.old.entries }
-    requires found { Some (T.rank start, T.rank end) ≡ option_map range_in (last_below (T.rank key +ℤ pos 1) entries.old.entries) }
+    requires found { IsLastBelow (T.rank key +ℤ pos 1) (T.rank start) (T.rank end) entries.old.entries }
     requires starts_below { T.rank start <ℤ T.rank key }
     requires ends_above { T.rank key <ℤ T.rank end }
     ensures cut { OnOk result (IsCutOf V.eq (T.rank key) entries.old.entries entries.new.entries) }
@@ -50,7 +48,7 @@ fn cut_end<T: Integer, V: Eq + Clone>(
 ) -> Result<V, AllocError>
     requires clones { ClonesAreAlike V.is_clone V.eq }
     requires canonical { IsCanonical V.eq entries.old.entries }
-    requires found { Some (T.rank start, T.rank end) ≡ option_map range_in (last_below (T.rank key +ℤ pos 1) entries.old.entries) }
+    requires found { IsLastBelow (T.rank key +ℤ pos 1) (T.rank start) (T.rank end) entries.old.entries }
     requires starts_below { T.rank start <ℤ T.rank key }
     requires ends { T.rank end ≡ T.rank key }
     ensures cut { OnOk result (IsCutOf V.eq (T.rank key) entries.old.entries entries.new.entries) }
@@ -73,7 +71,7 @@ fn cut_start<T: Integer, V: Eq + Clone>(
 ) -> Result<V, AllocError>
     requires clones { ClonesAreAlike V.is_clone V.eq }
     requires canonical { IsCanonical V.eq entries.old.entries }
-    requires found { Some (T.rank start, T.rank end) ≡ option_map range_in (last_below (T.rank key +ℤ pos 1) entries.old.entries) }
+    requires found { IsLastBelow (T.rank key +ℤ pos 1) (T.rank start) (T.rank end) entries.old.entries }
     requires starts { T.rank start ≡ T.rank key }
     requires ends_above { T.rank key <ℤ T.rank end }
     ensures cut { OnOk result (IsCutOf V.eq (T.rank key) entries.old.entries entries.new.entries) }
@@ -90,7 +88,7 @@ fn cut_start<T: Integer, V: Eq + Clone>(
 // Takes the entry out that has the key alone.
 fn cut_whole<T: Integer, V: Eq + Drop>(entries: &mut Counted<T, V>, key: T, start: T, end: T) -> V
     requires canonical { IsCanonical V.eq entries.old.entries }
-    requires found { Some (T.rank start, T.rank end) ≡ option_map range_in (last_below (T.rank key +ℤ pos 1) entries.old.entries) }
+    requires found { IsLastBelow (T.rank key +ℤ pos 1) (T.rank start) (T.rank end) entries.old.entries }
     requires starts { T.rank start ≡ T.rank key }
     requires ends { T.rank end ≡ T.rank key }
     ensures cut { IsCutOf V.eq (T.rank key) entries.old.entries entries.new.entries }
@@ -110,7 +108,7 @@ fn cut_holder<T: Integer, V: Eq + Clone>(
 ) -> Result<V, AllocError>
     requires clones { ClonesAreAlike V.is_clone V.eq }
     requires canonical { IsCanonical V.eq entries.old.entries }
-    requires found { Some (T.rank start, T.rank end) ≡ option_map range_in (last_below (T.rank key +ℤ pos 1) entries.old.entries) }
+    requires found { IsLastBelow (T.rank key +ℤ pos 1) (T.rank start) (T.rank end) entries.old.entries }
     requires starts { T.rank start ≤ℤ T.rank key }
     requires ends { T.rank key ≤ℤ T.rank end }
     ensures cut { OnOk result (IsCutOf V.eq (T.rank key) entries.old.entries entries.new.entries) }
