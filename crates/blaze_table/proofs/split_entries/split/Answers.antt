@@ -15,13 +15,13 @@ count_parts-lens-requires-clause-counted g c =
 
 pub returns-clause-below : goal.returns-clause-below
 returns-clause-below g c =
-    (split_tables g.V.PartialEq.eq g.met.V.Eq.laws _ _ _ _ c.requires.table.canonical c.in_ok-from.ensures.split g.T.Integer.low g.T.Integer.high _ _ (g.T.SafeLen.SafeLength.number c.count_parts-lens.result.1) c.requires.table
-    c.count_parts-lens.ensures.below c.count_parts-lens.ensures.from).0
+    (split_tables g.V.PartialEq.eq g.met.V.Eq.laws _ _ _ _ c.requires.table.canonical c.in_ok-from.ensures.split g.T.Integer.low g.T.Integer.high _ c.requires.table
+    _ _ c.count_parts-lens.ensures.below c.count_parts-lens.ensures.from).0
 
 pub returns-clause-from : goal.returns-clause-from
 returns-clause-from g c =
-    (split_tables g.V.PartialEq.eq g.met.V.Eq.laws _ _ _ _ c.requires.table.canonical c.in_ok-from.ensures.split g.T.Integer.low g.T.Integer.high _ (g.T.SafeLen.SafeLength.number c.count_parts-lens.result.0) _ c.requires.table
-    c.count_parts-lens.ensures.below c.count_parts-lens.ensures.from).1
+    (split_tables g.V.PartialEq.eq g.met.V.Eq.laws _ _ _ _ c.requires.table.canonical c.in_ok-from.ensures.split g.T.Integer.low g.T.Integer.high _ c.requires.table
+    _ _ c.count_parts-lens.ensures.below c.count_parts-lens.ensures.from).1
 
 pub returns-clause-split : goal.returns-clause-split
 returns-clause-split g c = is_split g.V.PartialEq.eq g.met.V.Eq.laws _ _ _ _ c.requires.table.canonical c.in_ok-from.ensures.split
