@@ -1,6 +1,6 @@
 -- Nodes that a search found, among full places.
-use Rattle.std.proofs.Common.{◌≡◌, ℕ, ◌<◌, length, ℤ, pos, ◌+ℤ◌, List, [], ◌∷◌, Option, Some, None, refl, ◌∙◌, sym, subst, ap, arith}
-use Rattle.std.specs.Prelude.{map, IsSome, IfSome, ◌↔◌}
+use Rattle.std.proofs.Common.{◌≡◌, ℕ, ◌<◌, length, ℤ, List, [], ◌∷◌, Option, Some, None, refl, ◌∙◌, sym, subst, ap, arith}
+use Rattle.std.specs.Prelude.{IsSome, IfSome, ◌↔◌}
 use Rattle.std.specs.Option.{option_map, option_copied}
 use Rattle.std.specs.List.{slice_get}
 use Rattle.std.proofs.lemmas.List.{length-map}

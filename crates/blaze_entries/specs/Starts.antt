@@ -1,5 +1,5 @@
 -- Entries in the order of their starts: found and edited by a start.
-use Rattle.std.specs.Prelude.{◌≡◌, ℤ, pos, ◌+ℤ◌, ◌≤ℤ◌, int_lt, int_le, Bool, true, cond, List, [], ◌∷◌, Option, Some, None}
+use Rattle.std.specs.Prelude.{◌≡◌, ℤ, pos, ◌+ℤ◌, ◌≤ℤ◌, int_lt, int_le, cond, List, [], ◌∷◌, Option, Some, None}
 use Rattle.std.specs.Ordering.{int_cmp, int_eq, match_ordering}
 use Rattle.std.specs.List.{filter, last_or}
 use Rattle.blaze_entries.specs.Entries.{Entry, entry}

@@ -103,6 +103,16 @@ impl<T: Integer, V> Counted<T, V> {
         let _ = &self.tree;
     }
 
+    /// The first and last key of the entry with the greatest start up to a key.
+    pub fn range_at_or_below(&mut self, key: T) -> Option<(T, T)>
+        ensures found { option_map (ranks_of T.rank) result
+            ≡ option_map range_in (last_below (T.rank key +ℤ pos 1) self.old.entries) }
+        ensures looked { self.new ≡ record self.old { looks = self.old.looks + 1 } }
+    {
+        self.looks = self.looks.after();
+        range_of(node_at_or_below(&self.tree, key))
+    }
+
     /// The first and last key of the entry with the least start from a key on.
     pub fn range_at_or_above(&mut self, key: T) -> Option<(T, T)>
         ensures found { option_map (ranks_of T.rank) result
@@ -178,10 +188,25 @@ impl<T: Integer, V: Drop> Counted<T, V> {
         ensures longer { OnOk result (length self.new.entries ≡ length self.old.entries + 1) }
         ensures err { OnErr result (self.new ≡ self.old) }
     {
+        self.insert_uncounted(start, end, value)?;
+        self.put_in = self.put_in.after();
+        Ok(())
+    }
+
+    /// The same as `insert`, and nothing is counted.
+    fn insert_uncounted(&mut self, start: T, end: T, value: V) -> Result<(), AllocError>
+        requires { start_at (T.rank start) self.old.entries ≡ None }
+        ensures ok { OnOk result (self.new
+            ≡ record self.old {
+              entries = with_entry
+                  (entry (T.rank start) (T.rank end) value) self.old.entries;
+            }) }
+        ensures longer { OnOk result (length self.new.entries ≡ length self.old.entries + 1) }
+        ensures err { OnErr result (self.new ≡ self.old) }
+    {
         start.in_hand();
         let value = Some(value);
         insert(&mut self.tree, start, EndValue { end, value })?;
-        self.put_in = self.put_in.after();
         Ok(())
     }
 
@@ -198,6 +223,18 @@ impl<T: Integer, V: Drop> Counted<T, V> {
         ensures shorter { length self.new.entries + 1 ≡ length self.old.entries }
     {
         self.taken_out = self.taken_out.after();
+        self.remove_uncounted(start)
+    }
+
+    /// The same as `remove`, and nothing is counted.
+    pub(crate) fn remove_uncounted(&mut self, start: T) -> V
+        requires { IsSome (start_at (T.rank start) self.old.entries) }
+        ensures entries { self.new
+            ≡ record self.old { entries = without (T.rank start) self.old.entries } }
+        ensures value { option_map (λ e. e.value) (start_at (T.rank start) self.old.entries)
+            ≡ Some result }
+        ensures shorter { length self.new.entries + 1 ≡ length self.old.entries }
+    {
         value_of(remove(&mut self.tree, start))
     }
 
@@ -339,8 +376,25 @@ impl<T: Integer, V: Clone + Drop> Counted<T, V> {
         ensures longer { OnOk result (length self.new.entries ≡ length self.old.entries + 1) }
         ensures err { OnErr result (self.new ≡ self.old) }
     {
+        self.insert_clone_uncounted(of, start)?;
+        self.put_in = self.put_in.after();
+        Ok(())
+    }
+
+    /// The same as `insert_clone`, and nothing is counted.
+    pub(crate) fn insert_clone_uncounted(&mut self, of: T, start: T) -> Result<(), AllocError>
+        requires present { IsSome (start_at (T.rank of) self.old.entries) }
+        requires absent { start_at (T.rank start) self.old.entries ≡ None }
+        ensures ok { OnOk result
+            (IsCloneInserted V.is_clone (T.rank of)
+            (T.rank start) self.old.entries self.new.entries) }
+        ensures same { OnOk result (self.new
+            ≡ record self.old { entries = self.new.entries }) }
+        ensures longer { OnOk result (length self.new.entries ≡ length self.old.entries + 1) }
+        ensures err { OnErr result (self.new ≡ self.old) }
+    {
         let node = cloned(node_at(&self.tree, of))?;
-        self.insert(start, node.end, node.value)?;
+        self.insert_uncounted(start, node.end, node.value)?;
         Ok(())
     }
 }

@@ -1,9 +1,9 @@
 //! The entries as a table has them: reads that aren't counted, beside the counted ones.
-ghost use Rattle.std.specs.Prelude.{◌≡◌, ◌-◌, [], ◌+ℤ◌, pos, length, slice_get, map, IfOk, OnOk, OnErr};
+ghost use Rattle.std.specs.Prelude.{◌≡◌, ◌-◌, [], ◌+ℤ◌, pos, length, slice_get, map, Some, None, IsSome, IfOk, OnOk, OnErr};
 ghost use Rattle.std.specs.Option.{option_map};
 ghost use Rattle.blaze_entries.specs.Counted.{uncounted};
 ghost use Rattle.blaze_entries.specs.Entries.{shown_entry};
-ghost use Rattle.blaze_entries.specs.Starts.{StartsAscend, last_below, first_from, below, from};
+ghost use Rattle.blaze_entries.specs.Starts.{StartsAscend, last_below, first_from, start_at, below, from, without, with_end, IsCloneInserted};
 
 use crate::counted::Counted;
 use crate::into_iter::IntoIter;
@@ -125,6 +125,14 @@ impl<T: Integer, V> Entries<T, V> {
         Iter::new(counted.tree.iter())
     }
 
+    /// Moves the end of the entry at a start.
+    pub fn set_end(&mut self, start: T, end: T)
+        ensures { self.new
+            ≡ record self.old { entries = with_end (T.rank start) (T.rank end) self.old.entries } }
+    {
+        self.counted.set_end(start, end);
+    }
+
     /// Keeps the entries that start below a key, and answers the others.
     pub fn split_off(&mut self, key: T) -> Result<Self, AllocError>
         ensures below { OnOk result (self.new
@@ -149,10 +157,38 @@ impl<T: Integer, V: Drop> Entries<T, V> {
         Ok(Entries { counted })
     }
 
+    /// Takes the entry at a start out, and answers its value. It is not counted.
+    pub fn remove(&mut self, start: T) -> V
+        requires { IsSome (start_at (T.rank start) self.old.entries) }
+        ensures entries { self.new
+            ≡ record self.old { entries = without (T.rank start) self.old.entries } }
+        ensures value { option_map (λ e. e.value) (start_at (T.rank start) self.old.entries)
+            ≡ Some result }
+    {
+        self.counted.remove_uncounted(start)
+    }
+
     /// Takes all entries out. No entry is counted.
     pub fn clear(&mut self)
         ensures { self.new ≡ record self.old { entries = [] } }
     {
         self.counted.clear();
+    }
+}
+
+impl<T: Integer, V: Clone + Drop> Entries<T, V> {
+    /// Puts an entry in that starts at `start`, where none is, ends where the entry at `of` ends and has a clone of its
+    /// value. It is not counted.
+    pub fn insert_clone(&mut self, of: T, start: T) -> Result<(), AllocError>
+        requires present { IsSome (start_at (T.rank of) self.old.entries) }
+        requires absent { start_at (T.rank start) self.old.entries ≡ None }
+        ensures ok { OnOk result
+            (IsCloneInserted V.is_clone (T.rank of)
+            (T.rank start) self.old.entries self.new.entries) }
+        ensures same { OnOk result (self.new
+            ≡ record self.old { entries = self.new.entries }) }
+        ensures err { OnErr result (self.new ≡ self.old) }
+    {
+        self.counted.insert_clone_uncounted(of, start)
     }
 }

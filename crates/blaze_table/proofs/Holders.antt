@@ -1,109 +1,140 @@
--- Whether a range lies inside an entry with an equal value, by the entry that starts there or below it.
-use Rattle.std.proofs.Common.{◌≡◌, ◌+◌, ◌≤◌, ℤ, pos, ◌+ℤ◌, ◌≤ℤ◌, ◌<ℤ◌, Bool, true, false, ◌&&◌, cond, List, [], ◌∷◌, ◌++◌, length, Option, Some, None, refl, ◌∙◌, sym, subst, ap, arith, inl, inr}
-use Rattle.std.specs.Prelude.{◌↔◌, int_le}
-use Rattle.std.specs.List.{last_or}
+-- The last entry that starts below a key, with what stands before and behind it: searches and edits at its start.
+use Rattle.std.proofs.Common.{◌≡◌, Bool, ℤ, pos, ◌+ℤ◌, ◌≤ℤ◌, ◌<ℤ◌, List, [], ◌∷◌, ◌++◌, Option, Some, None, refl, ◌∙◌, sym, subst, ap, arith}
+use Rattle.std.specs.Prelude.{IsSome}
 use Rattle.std.specs.Option.{option_map}
-use Rattle.std.proofs.lemmas.Int.{ints, by_lt_z}
-use Rattle.blaze_entries.specs.Found.{found_in}
-use Rattle.blaze_entries.specs.Scanned.{Seen}
-use Rattle.blaze_entries.specs.Starts.{StartsAscend, below, last_below, start_at}
-use Rattle.blaze_table.specs.Entries.{Entry}
-use Rattle.blaze_table.specs.Canonical.{IsCanonical}
-use Rattle.blaze_table.specs.Painted.{IsInside, or_else}
-use Rattle.blaze_table.specs.Planned.{IsPlanOf, reaches}
-use Rattle.blaze_table.specs.Splice.{before, after, IsBelow}
-use Rattle.blaze_table.proofs.Clearing.{below_below}
-use Rattle.blaze_table.proofs.Growing.{last_there}
-use Rattle.blaze_table.proofs.Inside.{inside_above}
-use Rattle.blaze_table.proofs.LooksSay.{le_holds}
-use Rattle.blaze_table.proofs.Lookup.{IsAbove-from_apart}
-use Rattle.blaze_table.proofs.Plans.{first_is, not_below, above_more}
-use Rattle.blaze_table.proofs.Splices.{by_after, before_keeps, after_skips, le_true, le_false}
-use Rattle.blaze_table.proofs.Splits.{last_at, no_last, no_last_from, none_at, ends_below}
-use Rattle.blaze_table.proofs.Walked.{same_below}
-use Rattle.blaze_table.proofs.Widened.{after_over}
+use Rattle.std.proofs.lemmas.Int.{ints}
+use Rattle.blaze_entries.specs.Found.{range_in}
+use Rattle.blaze_entries.specs.Starts.{StartsAscend, last_below, start_at, with_entry, without, with_end}
+use Rattle.blaze_entries.proofs.Ascending.{by_order}
+use Rattle.blaze_entries.proofs.Halves.{StartsBelow}
+use Rattle.blaze_table.specs.Canonical.{IsApart, IsCanonical}
+use Rattle.blaze_table.specs.Entries.{Entry, entry}
+use Rattle.blaze_table.specs.LastBelow.{IsLastBelow}
+use Rattle.blaze_table.specs.Splice.{IsBelow}
+use Rattle.blaze_table.proofs.EditLists.{start_skips, end_put}
+use Rattle.blaze_table.proofs.Growing.{found_there}
+use Rattle.blaze_table.proofs.Splits.{last_at, canonical_part, ends_below, none_at, more_below, append_assoc}
 
-module _ {V : Type 0} (eq : V → V → Bool) (v : V) (l h : ℤ) (w : l ≤ℤ h) where
-  -- a list in which a range lies inside an entry is no longer than what lies below and above, and one entry
-  pub inside_short : (es : List (Entry V)) → IsCanonical eq es → IsInside eq l h v es → length es ≤ length (before l es) + length (after h es) + 1
-  inside_short [] c i = absurd i
-  inside_short (e ∷ es) c (inl p) = by_after h e es
-      (λ u q. rw (q, after_over eq h es (above_more eq h e.hi es p.1 (IsAbove-from_apart eq e es c.1)) c.2) (omega arith))
-      (λ u m q. rw q (omega arith))
-      (λ u m q. rw q (omega arith))
-  inside_short (e ∷ es) c (inr p) =
-      let over = inside_above eq l h v e.hi es c.2 (IsAbove-from_apart eq e es c.1) p in
-      rw (before_keeps l e es over, after_skips h e es (omega (arith, ints))) (omega (arith, inside_short es c.2 p))
+module _ {V : Type 0} where
+  -- an entry put in behind those that start below it
+  pub with_entry-between : (p : Entry V) (b high : ℤ) (xs ys : List (Entry V)) → StartsBelow p.lo xs → p.lo <ℤ b → StartsAscend b high ys → with_entry p (xs ++ ys) ≡ xs ++ p ∷ ys
+  with_entry-between p b high [] [] u l s = refl
+  with_entry-between p b high [] (y ∷ ys) u l s = by_order p.lo y.lo
+      (λ o q r. rw q refl)
+      (λ o q r. absurd (omega (arith, ints, s.0)))
+      (λ o q r. absurd (omega (arith, ints, s.0)))
+  with_entry-between p b high (x ∷ xs) ys u l s = by_order p.lo x.lo
+      (λ o q r. absurd (omega (arith, ints, u.0)))
+      (λ o q r. absurd (omega (arith, ints, u.0)))
+      (λ o q r. rw q (ap (λ t. x ∷ t) (with_entry-between p b high xs ys u.1 l s)))
 
-  not_inside : (b high : ℤ) (es : List (Entry V)) → l <ℤ b → StartsAscend b high es → IsInside eq l h v es → ⊥
-  not_inside b high [] u s i = i
-  not_inside b high (e ∷ es) u s (inl p) = absurd (omega (arith, ints, s.0, p.0))
-  not_inside b high (e ∷ es) u s (inr p) = not_inside (e.lo +ℤ pos 1) high es (omega (arith, ints, s.0)) s.2 p
+  pub without-between : (k : ℤ) (e : Entry V) (xs ys : List (Entry V)) → e.lo ≡ k → StartsBelow k xs → without k (xs ++ e ∷ ys) ≡ xs ++ ys
+  without-between k e [] ys p u = by_order k e.lo (λ o q r. absurd (omega (arith, ints))) (λ o q r. rw r refl) (λ o q r. absurd (omega (arith, ints)))
+  without-between k e (x ∷ xs) ys p u = by_order k x.lo
+      (λ o q r. absurd (omega (arith, ints, u.0)))
+      (λ o q r. absurd (omega (arith, ints, u.0)))
+      (λ o q r. rw r (ap (λ t. x ∷ t) (without-between k e xs ys p u.1)))
 
-  inside_part : (xs : List (Entry V)) (e : Entry V) (ys : List (Entry V)) → e.lo ≤ℤ l → h ≤ℤ e.hi → eq e.value v ≡ true → IsInside eq l h v (xs ++ e ∷ ys)
-  inside_part [] e ys a b q = inl (a, b, q)
-  inside_part (x ∷ xs) e ys a b q = inr (inside_part xs e ys a b q)
+  -- none starts at a key between entries
+  pub none-between : (k b high : ℤ) (xs ys : List (Entry V)) → StartsBelow k xs → k <ℤ b → StartsAscend b high ys → start_at k (xs ++ ys) ≡ None
+  none-between k b high [] ys u l s = none_at k b high ys l s
+  none-between k b high (x ∷ xs) ys u l s = start_skips k x (xs ++ ys) (λ q. omega (arith, ints, u.0)) ∙ none-between k b high xs ys u.1 l s
 
-  part_inside : (high : ℤ) (xs : List (Entry V)) (e : Entry V) (ys : List (Entry V)) → e.lo ≤ℤ l → IsBelow e.lo xs → StartsAscend (l +ℤ pos 1) high ys → IsInside eq l h v (xs ++ e ∷ ys) → (h ≤ℤ e.hi) × (eq e.value v ≡ true)
-  part_inside high [] e ys a b s (inl p) = (p.1, p.2)
-  part_inside high [] e ys a b s (inr p) = absurd (not_inside (l +ℤ pos 1) high ys (omega (arith, ints)) s p)
-  part_inside high (x ∷ xs) e ys a b s (inl p) = absurd (omega (arith, ints, b.0, p.1))
-  part_inside high (x ∷ xs) e ys a b s (inr p) = part_inside high xs e ys a b.1 s p
+  pub starts_behind : (k : ℤ) (xs : List (Entry V)) (e : Entry V) → StartsBelow k xs → e.lo <ℤ k → StartsBelow k (xs ++ e ∷ [])
+  starts_behind k [] e u l = (l, tt)
+  starts_behind k (x ∷ xs) e u l = (u.0, starts_behind k xs e u.1 l)
 
-  module _ (low high : ℤ) (es : List (Entry V)) (s : StartsAscend low high es) (c : IsCanonical eq es) where
-    both : (a b : Bool) → (a && b) ≡ true → (a ≡ true) × (b ≡ true)
-    both true b q = (refl, q)
-    both false b q = cc
+module _ {V : Type 0} (eq : V → V → Bool) (b high : ℤ) (es : List (Entry V)) where
+  -- the last entry that starts below b starts at s and ends at z
+  pub record Holder (s z : ℤ) : Type 0 where
+    pub of : Entry V
+    pub lo : of.lo ≡ s
+    pub hi : of.hi ≡ z
+    pub front : List (Entry V)
+    pub back : List (Entry V)
+    pub parts : es ≡ front ++ of ∷ back
+    pub starts : of.lo <ℤ b
+    pub front_starts : StartsBelow of.lo front
+    pub front_ends : IsBelow of.lo front
+    pub here : IsCanonical eq (of ∷ back)
+    pub back_starts : StartsAscend b high back
+    pub back_over : StartsAscend (of.hi +ℤ pos 1) high back
 
-    together : (a b : Bool) → a ≡ true → b ≡ true → (a && b) ≡ true
-    together true true p q = refl
-    together true false p q = q
-    together false b p q = p
+  pub holder : (low s z : ℤ) → StartsAscend low high es → IsCanonical eq es → IsLastBelow b s z es → Holder s z
+  holder low s z a c p = by_last (last_below b es) refl p
+    where
+      over : (h : ℤ) (e : Entry V) (ys : List (Entry V)) → IsApart eq e ys → StartsAscend h high ys → StartsAscend (e.hi +ℤ pos 1) high ys
+      over h e [] r t = tt
+      over h e (y ∷ ys) r t = (omega (arith, ints, r.0), t.1, t.2)
 
-    -- by the last entry that starts up to the range's first key
-    inside_last : (o : Option (Entry V)) → last_below (l +ℤ pos 1) es ≡ o → (reaches h (option_map (found_in eq v) o) ≡ true) ↔ IsInside eq l h v es
-    inside_last None q = ((λ r. cc), (λ i. absurd (not_inside (l +ℤ pos 1) high es (omega (arith, ints)) (no_last_from (l +ℤ pos 1) low high es s q) i)))
-    inside_last (Some e) q =
-        let i = last_at (l +ℤ pos 1) low high e es s q in
-        let up = i.starts in (
-          (λ r.
-              let t = both (eq e.value v) (int_le h e.hi) r in
-              subst (IsInside eq l h v) (sym i.parts) (inside_part i.front e i.back (omega (arith, ints)) (le_holds h e.hi t.1) t.0)),
-          (λ j.
-              let t = part_inside high i.front e i.back (omega (arith, ints)) (ends_below eq i.front e i.back (subst (IsCanonical eq) i.parts c)) i.back_from (subst (IsInside eq l h v) i.parts j) in
-              together (eq e.value v) (int_le h e.hi) t.1 (le_true h e.hi t.0)),
-        )
+      by_last : (o : Option (Entry V)) → last_below b es ≡ o → Some (s, z) ≡ option_map range_in o → Holder s z
+      by_last None q p = cc
+      by_last (Some e) q p =
+          let ends : range_in e ≡ (s, z) = cc in
+          let i = last_at b low high e es a q in
+          let whole = subst (IsCanonical eq) i.parts c in
+          let here = canonical_part eq i.front (e ∷ i.back) whole in
+          record {
+            of = e;
+            lo = ap (λ (t : ℤ × ℤ). t.0) ends;
+            hi = ap (λ (t : ℤ × ℤ). t.1) ends;
+            front = i.front;
+            back = i.back;
+            parts = i.parts;
+            starts = i.starts;
+            front_starts = i.front_below;
+            front_ends = ends_below eq i.front e i.back whole;
+            here = here;
+            back_starts = i.back_from;
+            back_over = over b e i.back here.1 i.back_from;
+          }
 
-    -- it starts there, or is the last below
-    holder_is : option_map (found_in eq v) (last_below (l +ℤ pos 1) es) ≡ or_else (option_map (found_in eq v) (start_at l es)) (option_map (found_in eq v) (last_below l es))
-    holder_is = by_last (last_below (l +ℤ pos 1) es) refl
+  module _ (s z : ℤ) (h : Holder s z) where
+    pub there : start_at s es ≡ Some h.of
+    there = ap (start_at s) h.parts ∙ ap (λ k. start_at k (h.front ++ h.of ∷ h.back)) (sym h.lo) ∙ found_there h.of.lo h.of h.front h.back refl h.front_starts
+
+    pub present : IsSome (start_at s es)
+    present = subst (λ o. IsSome o) (sym there) refl
+
+    pub is_holder : {e : Entry V} → start_at s es ≡ Some e → h.of ≡ e
+    is_holder q = one (start_at s es) there q
       where
-        by_last : (o : Option (Entry V)) → last_below (l +ℤ pos 1) es ≡ o → option_map (found_in eq v) o ≡ or_else (option_map (found_in eq v) (start_at l es)) (option_map (found_in eq v) (last_below l es))
-        by_last None q =
-            let no_start = none_at l (l +ℤ pos 1) high es (omega (arith, ints)) (no_last_from (l +ℤ pos 1) low high es s q) in
-            let no_left : last_below l es ≡ None = ap (last_or None) (sym (below_below l (l +ℤ pos 1) es (omega (arith, ints))) ∙ ap (below l) (no_last (l +ℤ pos 1) low high es s q)) in
-            sym (ap (λ x. or_else (option_map (found_in eq v) x) (option_map (found_in eq v) (last_below l es))) no_start ∙ ap (option_map (found_in eq v)) no_left)
-        by_last (Some e) q =
-            let i = last_at (l +ℤ pos 1) low high e es s q in
-            let up = i.starts in
-            by_lt_z e.lo l
-            (λ u.
-            let left : last_below l es ≡ Some e = ap (last_or None) (same_below eq v l h low high es s c (l +ℤ pos 1) e i l u (omega (arith, ints))) ∙ q in
-            let no_start : option_map (found_in eq v) (start_at l es) ≡ None = sym (first_is eq v l low high es s) ∙ ap (λ x. not_below l (option_map (found_in eq v) x)) q ∙ ap (λ b. cond b (Some (found_in eq v e)) None) (le_false l e.lo u) in
-            sym (ap (λ x. or_else x (option_map (found_in eq v) (last_below l es))) no_start ∙ ap (option_map (found_in eq v)) left))
-            (λ u.
-            let same : e.lo ≡ l = omega (arith, ints) in
-            let here : start_at l es ≡ Some e = ap (λ x. start_at x es) (sym same) ∙ last_there (l +ℤ pos 1) high e es i in
-            sym (ap (λ x. or_else (option_map (found_in eq v) x) (option_map (found_in eq v) (last_below l es))) here))
+        one : {e f : Entry V} (o : Option (Entry V)) → o ≡ Some e → o ≡ Some f → e ≡ f
+        one o p q = cc
 
-    pub inside_seen : (p : Seen) → IsPlanOf eq l h v es p → (reaches h (or_else p.first p.left) ≡ true) ↔ IsInside eq l h v es
-    inside_seen p r =
-        let holder : option_map (found_in eq v) (last_below (l +ℤ pos 1) es) ≡ or_else p.first p.left = holder_is ∙ sym (ap (λ x. or_else x p.left) r.first ∙ ap (or_else (option_map (found_in eq v) (start_at l es))) r.left) in
-        let last = inside_last (last_below (l +ℤ pos 1) es) refl in
-        ((λ t. last.0 (ap (reaches h) holder ∙ t)), (λ i. sym (ap (reaches h) holder) ∙ last.1 i))
+    -- at a key that it has, and where it does not start
+    module _ (k : ℤ) (l : s <ℤ k) (u : k ≤ℤ z) where
+      parts_before : es ≡ (h.front ++ h.of ∷ []) ++ h.back
+      parts_before = h.parts ∙ sym (append_assoc h.front (h.of ∷ []) h.back)
 
-    pub not_reached : (p : Seen) → IsPlanOf eq l h v es p → reaches h (or_else p.first p.left) ≡ false → IsInside eq l h v es → ⊥
-    not_reached p r n i = true_false (reaches h (or_else p.first p.left)) ((inside_seen p r).1 i) n
-      where
-        true_false : (b : Bool) → b ≡ true → b ≡ false → ⊥
-        true_false b p q = cc
+      starts_before : StartsBelow k (h.front ++ h.of ∷ [])
+      starts_before =
+          let at_lo = h.lo in
+          starts_behind k h.front h.of (more_below h.of.lo k h.front (omega (arith, ints)) h.front_starts) (omega (arith, ints))
+
+      pub absent_inside : start_at k es ≡ None
+      absent_inside =
+          let at_hi = h.hi in
+          ap (start_at k) parts_before ∙ none-between k (h.of.hi +ℤ pos 1) high (h.front ++ h.of ∷ []) h.back starts_before (omega (arith, ints)) h.back_over
+
+      pub put_inside : (p : Entry V) → p.lo ≡ k → with_entry p es ≡ h.front ++ h.of ∷ p ∷ h.back
+      put_inside p q =
+          let at_hi = h.hi in
+          ap (with_entry p) parts_before
+          ∙ with_entry-between p (h.of.hi +ℤ pos 1) high (h.front ++ h.of ∷ []) h.back (subst (λ x. StartsBelow x (h.front ++ h.of ∷ [])) (sym q) starts_before) (omega (arith, ints)) h.back_over
+          ∙ append_assoc h.front (h.of ∷ []) (p ∷ h.back)
+
+    pub taken_out : without s es ≡ h.front ++ h.back
+    taken_out =
+        ap (without s) h.parts ∙ ap (λ k. without k (h.front ++ h.of ∷ h.back)) (sym h.lo)
+        ∙ without-between h.of.lo h.of h.front h.back refl h.front_starts
+
+    pub put_in_place : (p : Entry V) → s ≤ℤ p.lo → p.lo ≤ℤ z → with_entry p (without s es) ≡ h.front ++ p ∷ h.back
+    put_in_place p l u =
+        let at_lo = h.lo in
+        let at_hi = h.hi in
+        ap (with_entry p) taken_out
+        ∙ with_entry-between p (h.of.hi +ℤ pos 1) high h.front h.back (more_below h.of.lo p.lo h.front (omega (arith, ints)) h.front_starts) (omega (arith, ints)) h.back_over
+
+    pub end_moved : (y : ℤ) (ys : List (Entry V)) → with_end s y (h.front ++ h.of ∷ ys) ≡ h.front ++ entry h.of.lo y h.of.value ∷ ys
+    end_moved y ys = ap (λ k. with_end k y (h.front ++ h.of ∷ ys)) (sym h.lo) ∙ end_put h.of.lo y h.of h.front ys refl h.front_starts

@@ -15,7 +15,11 @@ pub mod Between
 pub mod Pieces
 pub mod Cutting
 pub mod CutSlots
+pub mod Holders
+pub mod SeenInside
+pub mod CutEdits
 pub mod Splitting
+pub mod SplitEdits
 pub mod Kept
 pub mod RangeMaps
 pub mod NextEntries
@@ -42,4 +46,5 @@ pub mod WalkedPlans
 pub mod Outside
 pub mod FewLooks
 pub mod Holders
+pub mod SeenInside
 pub mod Descents

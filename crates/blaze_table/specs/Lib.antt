@@ -17,3 +17,5 @@ pub mod Splice
 pub mod Keeping
 pub mod Whole
 pub mod Planned
+pub mod CountedCut
+pub mod LastBelow

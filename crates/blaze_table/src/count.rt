@@ -8,6 +8,7 @@ ghost use Rattle.blaze_table.specs.Slots.{entry_of, entries_of};
 ghost use Rattle.blaze_table.specs.Table.{IsTable};
 
 use crate::Slot;
+use blaze_entries::Entries;
 use blaze_int::compare::{is_at_most, is_below, length};
 use blaze_int::{Integer, SafeLength};
 
@@ -20,6 +21,19 @@ pub fn count<T: Integer, V: Eq>(slots: &[Slot<T, V>]) -> T::SafeLen
     let mut sum = T::SafeLen::zero();
     for slot in slots {
         sum = sum.plus(length(slot.lo, slot.hi));
+    }
+    sum
+}
+
+/// How many keys entries have.
+pub fn count_entries<T: Integer, V: Eq>(entries: &Entries<T, V>) -> T::SafeLen
+    requires canonical { IsCanonical V.eq entries.now.entries }
+    requires fits { keys_in entries.now.entries ≤ℤ pos T.SafeLen.most }
+    ensures { pos (T.SafeLen.number result) ≡ keys_in entries.now.entries }
+{
+    let mut sum = T::SafeLen::zero();
+    for entry in entries.iter() {
+        sum = sum.plus(length(entry.0, entry.1));
     }
     sum
 }

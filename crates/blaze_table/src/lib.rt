@@ -6,6 +6,7 @@ mod canonical;
 mod copy;
 mod count;
 mod cut;
+mod cut_entries;
 mod fill;
 mod gaps;
 mod into_iter;
@@ -23,6 +24,7 @@ mod set_compare;
 mod set_display;
 mod splice;
 mod split;
+mod split_entries;
 mod table;
 
 pub use into_iter::IntoIter;

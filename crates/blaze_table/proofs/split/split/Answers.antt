@@ -4,7 +4,7 @@ use Rattle.blaze_table.specs.Count.{keys_in}
 use Rattle.blaze_table.specs.Canonical.{IsCanonical}
 use Rattle.blaze_table.specs.Splice.{IsSplitOf}
 use Rattle.blaze_table.specs.Slots.{entries_of}
-use Rattle.blaze_table.proofs.Splitting.{is_split, split_tables, split_fits}
+use Rattle.blaze_table.proofs.Splitting.{is_split, split_counted, split_tables, split_fits}
 use Rattle.blaze_table.proofs.split.split.Goals as goal
 
 pub count-below_len-requires-clause-canonical : goal.count-below_len-requires-clause-canonical
@@ -69,7 +69,8 @@ returns-clause-below g c =
     let is = ap (entries_of rank) (c.from_vec.ensures.items ∙ ap (λ v. v.items) c.swap.ensures.y_after) in
     let r = subst (λ l. IsSplitOf eq k l B F) is c.part.ensures in
     let counted = c.count-below_len.ensures ∙ ap (λ items. keys_in (entries_of rank items)) c.deref-2.ensures.value in
-    (split_tables eq g.met.V.Eq.laws k es B F c.requires.table.canonical r g.T.Integer.low g.T.Integer.high _ _ (g.T.SafeLen.SafeLength.number c.minus-from_len.result) c.requires.table counted (omega (arith, c.minus-from_len.ensures))).0
+    let whole = split_counted eq g.met.V.Eq.laws k es B F c.requires.table.canonical r g.T.Integer.low g.T.Integer.high _ c.requires.table in
+    (split_tables eq g.met.V.Eq.laws k es B F c.requires.table.canonical r g.T.Integer.low g.T.Integer.high _ c.requires.table _ (g.T.SafeLen.SafeLength.number c.minus-from_len.result) counted (omega (arith, ints, whole, counted, c.minus-from_len.ensures))).0
 
 pub returns-clause-from : goal.returns-clause-from
 returns-clause-from g c =
@@ -82,4 +83,5 @@ returns-clause-from g c =
     let is = ap (entries_of rank) (c.from_vec.ensures.items ∙ ap (λ v. v.items) c.swap.ensures.y_after) in
     let r = subst (λ l. IsSplitOf eq k l B F) is c.part.ensures in
     let counted = c.count-below_len.ensures ∙ ap (λ items. keys_in (entries_of rank items)) c.deref-2.ensures.value in
-    (split_tables eq g.met.V.Eq.laws k es B F c.requires.table.canonical r g.T.Integer.low g.T.Integer.high _ _ _ c.requires.table counted (omega (arith, c.minus-from_len.ensures))).1
+    let whole = split_counted eq g.met.V.Eq.laws k es B F c.requires.table.canonical r g.T.Integer.low g.T.Integer.high _ c.requires.table in
+    (split_tables eq g.met.V.Eq.laws k es B F c.requires.table.canonical r g.T.Integer.low g.T.Integer.high _ c.requires.table _ _ counted (omega (arith, ints, whole, counted, c.minus-from_len.ensures))).1

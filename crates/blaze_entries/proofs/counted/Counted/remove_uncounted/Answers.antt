@@ -7,8 +7,8 @@ use Rattle.blaze_entries.specs.Starts.{without, start_at}
 use Rattle.blaze_entries.proofs.Ascending.{start_without, length-without}
 use Rattle.blaze_entries.proofs.Held.{places_ascend, are_held, edited_places, full_of, without-held}
 use Rattle.blaze_entries.proofs.Lent.{some_taken, full_taken, value_taken, found_at}
-use Rattle.blaze_entries.proofs.Views.{taken_out}
-use Rattle.blaze_entries.proofs.counted.Counted.remove.Goals as goal
+use Rattle.blaze_entries.proofs.Views.{edited}
+use Rattle.blaze_entries.proofs.counted.Counted.remove_uncounted.Goals as goal
 
 pub remove-requires : goal.remove-requires
 remove-requires g c = places_ascend g.T.Integer.low g.T.Integer.high _ c.self.invariant
@@ -42,9 +42,8 @@ returns-clause-entries g c =
     let high = g.T.Integer.high in
     let k = g.T.Integer.rank c.args.start in
     let ps = places g.T.Integer.rank c.self.inside.tree.entries in
-    taken_out (without k) c.args.self.now _ _ _ (full ps) _ c.self.view_is
+    edited (without k) c.args.self.now _ _ _ (full ps) _ c.self.view_is
     (full_of _ (without k (full ps)) (edited_places low high (without k) ps _ (without k (full ps)) c.self.invariant c.remove.ensures.nodes (without-held k (full ps))))
-    _ c.after-self-inside.ensures
 
 pub returns-clause-value : goal.returns-clause-value
 returns-clause-value g c =

@@ -6,8 +6,8 @@ use Rattle.blaze_entries.specs.Places.{places, full, held}
 use Rattle.blaze_entries.specs.Starts.{with_entry, start_at}
 use Rattle.blaze_entries.proofs.Ascending.{start_with_entry, length-with_entry}
 use Rattle.blaze_entries.proofs.Held.{places_ascend, are_held, edited_places, full_of, with_entry-held}
-use Rattle.blaze_entries.proofs.Views.{put_in}
-use Rattle.blaze_entries.proofs.counted.Counted.insert.Goals as goal
+use Rattle.blaze_entries.proofs.Views.{edited}
+use Rattle.blaze_entries.proofs.counted.Counted.insert_uncounted.Goals as goal
 
 pub insert-requires : goal.insert-requires
 insert-requires g c = places_ascend g.T.Integer.low g.T.Integer.high _ c.self.invariant
@@ -30,9 +30,8 @@ returns-clause-ok g c =
     let high = g.T.Integer.high in
     let ps = places rank c.self.inside.tree.entries in
     let e = entry (rank c.args.start) (rank c.args.end) c.args.value in
-    put_in (with_entry e) c.args.self.now _ _ _ (full ps) _ c.self.view_is
+    edited (with_entry e) c.args.self.now _ _ _ (full ps) _ c.self.view_is
     (full_of _ (with_entry e (full ps)) (edited_places low high (with_entry (held e)) ps _ (with_entry e (full ps)) c.self.invariant c.in_ok-insert.ensures.ok (with_entry-held e (full ps))))
-    _ c.after-self-inside.ensures
 
 pub returns-clause-longer : goal.returns-clause-longer
 returns-clause-longer g c =

@@ -1,0 +1,159 @@
+//! A key taken out of entries, in place. Each clone and each growth comes before the first edit that can't be taken back.
+ghost use Rattle.std.specs.Prelude.{◌≡◌, Some, None, pos, ◌+ℤ◌, ◌≤ℤ◌, ◌<ℤ◌, Ok, OnOk, OnErr, IfOk};
+ghost use Rattle.blaze_table.specs.Canonical.{IsCanonical};
+ghost use Rattle.blaze_table.specs.CountedCut.{IsCountedCut};
+ghost use Rattle.blaze_table.specs.Cut.{IsAmongOthers};
+ghost use Rattle.blaze_table.specs.Entries.{at, SameOption};
+ghost use Rattle.blaze_table.specs.LastBelow.{IsLastBelow};
+ghost use Rattle.blaze_table.specs.Painted.{ClonesAreAlike};
+ghost use Rattle.blaze_table.specs.Planned.{IsWorked};
+ghost use Rattle.blaze_table.specs.Splice.{IsCutOf, IsListCut};
+ghost use Rattle.blaze_table.specs.Table.{IsTable};
+
+use blaze_entries::Counted;
+use blaze_int::compare::{after, before, is_at_most, is_below};
+use blaze_int::{Integer, SafeLength};
+use std::alloc::AllocError;
+
+// Takes a key out of the entry that has keys below and above it.
+fn cut_inside<T: Integer, V: Eq + Clone>(
+    entries: &mut Counted<T, V>,
+    key: T,
+    start: T,
+    end: T,
+) -> Result<V, AllocError>
+    requires clones { ClonesAreAlike V.is_clone V.eq }
+    requires canonical { IsCanonical V.eq entries.old.entries }
+    requires found { IsLastBelow (T.rank key +ℤ pos 1) (T.rank start) (T.rank end) entries.old.entries }
+    requires starts_below { T.rank start <ℤ T.rank key }
+    requires ends_above { T.rank key <ℤ T.rank end }
+    ensures cut { OnOk result (IsCutOf V.eq (T.rank key) entries.old.entries entries.new.entries) }
+    ensures value { IfOk result (λ value. SameOption V.eq (at entries.old.entries (T.rank key)) (Some value)) }
+    ensures worked { OnOk result (IsWorked 1 1 entries.old entries.new) }
+    ensures err { OnErr result (entries.new.entries ≡ entries.old.entries) }
+{
+    entries.in_hand();
+    let value = entries.clone_value(start)?;
+    entries.insert_clone(start, after(key, end))?;
+    entries.set_end(start, before(key, start));
+    Ok(value)
+}
+
+// Takes a key out of the entry that ends there and starts below it.
+fn cut_end<T: Integer, V: Eq + Clone>(
+    entries: &mut Counted<T, V>,
+    key: T,
+    start: T,
+    end: T,
+) -> Result<V, AllocError>
+    requires clones { ClonesAreAlike V.is_clone V.eq }
+    requires canonical { IsCanonical V.eq entries.old.entries }
+    requires found { IsLastBelow (T.rank key +ℤ pos 1) (T.rank start) (T.rank end) entries.old.entries }
+    requires starts_below { T.rank start <ℤ T.rank key }
+    requires ends { T.rank end ≡ T.rank key }
+    ensures cut { OnOk result (IsCutOf V.eq (T.rank key) entries.old.entries entries.new.entries) }
+    ensures value { IfOk result (λ value. SameOption V.eq (at entries.old.entries (T.rank key)) (Some value)) }
+    ensures worked { OnOk result (IsWorked 1 1 entries.old entries.new) }
+    ensures err { OnErr result (entries.new.entries ≡ entries.old.entries) }
+{
+    entries.in_hand();
+    let value = entries.clone_value(start)?;
+    entries.set_end(start, before(key, start));
+    Ok(value)
+}
+
+// Takes a key out of the entry that starts there and ends above it.
+fn cut_start<T: Integer, V: Eq + Clone>(
+    entries: &mut Counted<T, V>,
+    key: T,
+    start: T,
+    end: T,
+) -> Result<V, AllocError>
+    requires clones { ClonesAreAlike V.is_clone V.eq }
+    requires canonical { IsCanonical V.eq entries.old.entries }
+    requires found { IsLastBelow (T.rank key +ℤ pos 1) (T.rank start) (T.rank end) entries.old.entries }
+    requires starts { T.rank start ≡ T.rank key }
+    requires ends_above { T.rank key <ℤ T.rank end }
+    ensures cut { OnOk result (IsCutOf V.eq (T.rank key) entries.old.entries entries.new.entries) }
+    ensures value { IfOk result (λ value. SameOption V.eq (at entries.old.entries (T.rank key)) (Some value)) }
+    ensures worked { OnOk result (IsWorked 1 1 entries.old entries.new) }
+    ensures err { OnErr result (entries.new.entries ≡ entries.old.entries) }
+{
+    entries.in_hand();
+    let value = entries.clone_value(start)?;
+    entries.move_start(start, after(key, end))?;
+    Ok(value)
+}
+
+// Takes the entry out that has the key alone.
+fn cut_whole<T: Integer, V: Eq + Drop>(entries: &mut Counted<T, V>, key: T, start: T, end: T) -> V
+    requires canonical { IsCanonical V.eq entries.old.entries }
+    requires found { IsLastBelow (T.rank key +ℤ pos 1) (T.rank start) (T.rank end) entries.old.entries }
+    requires starts { T.rank start ≡ T.rank key }
+    requires ends { T.rank end ≡ T.rank key }
+    ensures cut { IsCutOf V.eq (T.rank key) entries.old.entries entries.new.entries }
+    ensures value { SameOption V.eq (at entries.old.entries (T.rank key)) (Some result) }
+    ensures worked { IsWorked 1 1 entries.old entries.new }
+{
+    entries.in_hand();
+    entries.remove(start)
+}
+
+// Takes a key out of the entry that has it.
+fn cut_holder<T: Integer, V: Eq + Clone>(
+    entries: &mut Counted<T, V>,
+    key: T,
+    start: T,
+    end: T,
+) -> Result<V, AllocError>
+    requires clones { ClonesAreAlike V.is_clone V.eq }
+    requires canonical { IsCanonical V.eq entries.old.entries }
+    requires found { IsLastBelow (T.rank key +ℤ pos 1) (T.rank start) (T.rank end) entries.old.entries }
+    requires starts { T.rank start ≤ℤ T.rank key }
+    requires ends { T.rank key ≤ℤ T.rank end }
+    ensures cut { OnOk result (IsCutOf V.eq (T.rank key) entries.old.entries entries.new.entries) }
+    ensures value { IfOk result (λ value. SameOption V.eq (at entries.old.entries (T.rank key)) (Some value)) }
+    ensures worked { OnOk result (IsWorked 1 1 entries.old entries.new) }
+    ensures refused { OnErr result (T.rank start <ℤ T.rank end) }
+    ensures err { OnErr result (entries.new.entries ≡ entries.old.entries) }
+{
+    if is_below(start, key) {
+        if is_below(key, end) {
+            cut_inside(entries, key, start, end)
+        } else {
+            cut_end(entries, key, start, end)
+        }
+    } else if is_below(key, end) {
+        cut_start(entries, key, start, end)
+    } else {
+        Ok(cut_whole(entries, key, start, end))
+    }
+}
+
+/// Takes a key out, and answers the value that was there and the new count of keys, where `len` is the old. Refused memory
+/// leaves the entries as they are.
+pub fn cut<T: Integer, V: Eq + Clone>(
+    entries: &mut Counted<T, V>,
+    len: T::SafeLen,
+    key: T,
+) -> Result<(Option<V>, T::SafeLen), AllocError>
+    requires clones { ClonesAreAlike V.is_clone V.eq }
+    requires table { IsTable V.eq T.low T.high (T.SafeLen.number len) entries.old.entries }
+    ensures table { IfOk result (λ r. IsTable V.eq T.low T.high (T.SafeLen.number r.1) entries.new.entries) }
+    ensures cut { OnOk result (IsListCut V.eq (T.rank key) entries.old.entries entries.new.entries) }
+    ensures value { IfOk result (λ r. SameOption V.eq (at entries.old.entries (T.rank key)) r.0) }
+    ensures none { at entries.old.entries (T.rank key) ≡ None → (result ≡ Ok (None, len)) × (entries.new.entries ≡ entries.old.entries) }
+    ensures counted { OnOk result (IsCountedCut entries.old entries.new) }
+    ensures refused { OnErr result (IsAmongOthers (T.rank key) entries.old.entries) }
+    ensures err { OnErr result (entries.new.entries ≡ entries.old.entries) }
+{
+    entries.in_hand();
+    match entries.range_at_or_below(key) {
+        Some(ends) if is_at_most(key, ends.1) => {
+            let value = cut_holder(entries, key, ends.0, ends.1)?;
+            let rest = len.minus(T::SafeLen::one());
+            Ok((Some(value), rest))
+        }
+        _ => Ok((None, len)),
+    }
+}
