@@ -45,6 +45,4 @@ pub mod Walked
 pub mod WalkedPlans
 pub mod Outside
 pub mod FewLooks
-pub mod Holders
-pub mod SeenInside
 pub mod Descents

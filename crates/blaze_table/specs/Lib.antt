@@ -17,5 +17,5 @@ pub mod Splice
 pub mod Keeping
 pub mod Whole
 pub mod Planned
-pub mod CountedCut
+pub mod Counted
 pub mod LastBelow

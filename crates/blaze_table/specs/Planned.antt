@@ -122,11 +122,3 @@ pub record IsWorked {V : Type 0} (p q : ℕ) (old new : CountedEntries V) : Type
   pub balance : length new.entries + new.taken_out + old.put_in ≡ length old.entries + old.taken_out + new.put_in
   pub taken : old.taken_out ≤ new.taken_out
   pub looks : new.looks + old.taken_out ≤ old.looks + new.taken_out + q
-
--- What a successful paint counts: it puts in at most two entries; the entries are those before, plus those put in, less
--- those taken out; and it looks at most six times, and twice for each entry taken out.
-pub record IsCountedPaint {V : Type 0} (old new : CountedEntries V) : Type 0 where
-  pub puts : new.put_in ≤ old.put_in + 2
-  pub balance : length new.entries + new.taken_out + old.put_in ≡ length old.entries + old.taken_out + new.put_in
-  pub taken : old.taken_out ≤ new.taken_out
-  pub looks : new.looks + 2 * old.taken_out ≤ old.looks + 2 * new.taken_out + 6

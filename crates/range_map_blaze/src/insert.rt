@@ -3,6 +3,7 @@ ghost use Rattle.std.specs.Prelude.{◌≡◌, ◌↔◌, ◌≤ℤ◌, ◌<ℤ�
 ghost use Rattle.blaze_int.specs.Bounds.{start_rank, end_rank};
 ghost use Rattle.blaze_table.specs.Entries.{Entry, entry, at, SameOption};
 ghost use Rattle.blaze_table.specs.Count.{keys_in};
+ghost use Rattle.blaze_table.specs.Counted.{IsCountedPaint};
 ghost use Rattle.blaze_table.specs.Painted.{IsPainted, IsInside, ClonesAreAlike};
 ghost use Rattle.range_map_blaze.specs.Somewhere.{IsPaintedSomewhere};
 
@@ -18,8 +19,10 @@ impl<T: Integer, V: Eq + Clone> RangeMapBlaze<T, V> {
         requires { ClonesAreAlike V.is_clone V.eq }
         ensures ok { OnOk result (IsPainted V.eq T.low T.high (entry (T.rank key) (T.rank key) value) self.old.entries self.new.entries) }
         ensures value { IfOk result (λ old. SameOption V.eq (at self.old.entries (T.rank key)) old) }
-        ensures inside { IsInside V.eq (T.rank key) (T.rank key) value self.old.entries → self.new ≡ self.old }
-        ensures err { OnErr result (self.new ≡ self.old) }
+        ensures inside { IsInside V.eq (T.rank key) (T.rank key) value self.old.entries
+            → self.new.entries ≡ self.old.entries }
+        ensures counted { OnOk result (IsCountedPaint self.old self.new) }
+        ensures err { OnErr result (self.new.entries ≡ self.old.entries) }
     {
         let old = match self.get(key) {
             Some(old) => Some(old.clone()?),
@@ -50,8 +53,9 @@ impl<T: Integer, V: Eq + Clone> RangeMapBlaze<T, V> {
             → (result ≡ Ok false) × (self.new ≡ self.old) }
         ensures inside { R.has_bounds range
             → IsInside V.eq (start_rank T.rank T.low (R.start_bound range)) (end_rank T.rank T.high (R.end_bound range)) value self.old.entries
-            → (result ≡ Ok false) × (self.new ≡ self.old) }
-        ensures err { OnErr result (self.new ≡ self.old) }
+            → (result ≡ Ok false) × (self.new.entries ≡ self.old.entries) }
+        ensures counted { OnOk result (IsCountedPaint self.old self.new) }
+        ensures err { OnErr result (self.new.entries ≡ self.old.entries) }
     {
         self.in_hand();
         match bounds_of(&range) {
