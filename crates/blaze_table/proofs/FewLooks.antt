@@ -9,7 +9,7 @@ use Rattle.blaze_entries.specs.Starts.{StartsAscend, below, from}
 use Rattle.blaze_entries.proofs.Halves.{below_takes, below_skips, below_none, from_takes, from_skips, from_all}
 use Rattle.blaze_table.specs.Entries.{Entry}
 use Rattle.blaze_table.specs.Canonical.{IsCanonical}
-use Rattle.blaze_table.specs.Counted.{IsCountedPaint}
+use Rattle.blaze_table.specs.Work.{IsCountedPaint}
 use Rattle.blaze_table.specs.Planned.{IsWorked}
 use Rattle.blaze_table.specs.Splice.{before, after}
 use Rattle.blaze_table.proofs.Lookup.{IsAbove-from_apart}

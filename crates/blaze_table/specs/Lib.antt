@@ -17,5 +17,5 @@ pub mod Splice
 pub mod Keeping
 pub mod Whole
 pub mod Planned
-pub mod Counted
+pub mod Work
 pub mod LastBelow

@@ -1,7 +1,7 @@
 //! A key taken out of entries, in place. Each clone and each growth comes before the first edit that can't be taken back.
 ghost use Rattle.std.specs.Prelude.{◌≡◌, Some, None, pos, ◌+ℤ◌, ◌≤ℤ◌, ◌<ℤ◌, Ok, OnOk, OnErr, IfOk};
 ghost use Rattle.blaze_table.specs.Canonical.{IsCanonical};
-ghost use Rattle.blaze_table.specs.Counted.{IsCountedCut};
+ghost use Rattle.blaze_table.specs.Work.{IsCountedCut};
 ghost use Rattle.blaze_table.specs.Cut.{IsAmongOthers};
 ghost use Rattle.blaze_table.specs.Entries.{at, SameOption};
 ghost use Rattle.blaze_table.specs.LastBelow.{IsLastBelow};

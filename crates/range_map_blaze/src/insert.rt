@@ -3,7 +3,7 @@ ghost use Rattle.std.specs.Prelude.{◌≡◌, ◌↔◌, ◌≤ℤ◌, ◌<ℤ�
 ghost use Rattle.blaze_int.specs.Bounds.{start_rank, end_rank};
 ghost use Rattle.blaze_table.specs.Entries.{Entry, entry, at, SameOption};
 ghost use Rattle.blaze_table.specs.Count.{keys_in};
-ghost use Rattle.blaze_table.specs.Counted.{IsCountedPaint};
+ghost use Rattle.blaze_table.specs.Work.{IsCountedPaint};
 ghost use Rattle.blaze_table.specs.Painted.{IsPainted, IsInside, ClonesAreAlike};
 ghost use Rattle.range_map_blaze.specs.Somewhere.{IsPaintedSomewhere};
 

@@ -1,7 +1,7 @@
 //! Keys taken out.
 ghost use Rattle.std.specs.Prelude.{◌≡◌, ℤ, [], None, Ok, MatchOption, IfOk, OnOk, OnErr};
 ghost use Rattle.blaze_table.specs.Entries.{Entry, at, SameOption};
-ghost use Rattle.blaze_table.specs.Counted.{IsCountedCut};
+ghost use Rattle.blaze_table.specs.Work.{IsCountedCut};
 ghost use Rattle.blaze_table.specs.Cut.{IsCut, IsSplit, IsAmongOthers};
 ghost use Rattle.blaze_table.specs.Painted.{ClonesAreAlike};
 ghost use Rattle.range_map_blaze.specs.Pairs.{IsFirstPair, IsLastPair, PopsFirst, PopsLast};

@@ -2,7 +2,7 @@
 ghost use Rattle.std.specs.Prelude.{◌≡◌, ◌+◌, ◌≤◌, length, pos, ◌+ℤ◌, ◌≤ℤ◌, Ok, IfOk, OnOk, OnErr};
 ghost use Rattle.blaze_entries.specs.Scanned.{seen_of};
 ghost use Rattle.blaze_table.specs.Count.{keys_in};
-ghost use Rattle.blaze_table.specs.Counted.{IsCountedPaint};
+ghost use Rattle.blaze_table.specs.Work.{IsCountedPaint};
 ghost use Rattle.blaze_table.specs.Entries.{entry};
 ghost use Rattle.blaze_table.specs.Painted.{IsInside, ClonesAreAlike, or_else};
 ghost use Rattle.blaze_table.specs.Planned.{IsPlanOf, IsWorked, reaches};
