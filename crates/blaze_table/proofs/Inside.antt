@@ -1,6 +1,6 @@
 -- A paint inside an entry with an equal value changes nothing; and what the entry at a key says of its neighbourhood.
 use Rattle.std.proofs.Common.{◌≡◌, ℤ, pos, ◌+ℤ◌, ◌≤ℤ◌, ◌<ℤ◌, Bool, true, false, ◌&&◌, cond, List, [], ◌∷◌, Option, Some, None, refl, ◌∙◌, sym, ap, subst, arith, inl, inr}
-use Rattle.std.specs.Prelude.{◌↔◌, int_lt, int_le}
+use Rattle.std.specs.Prelude.{◌↔◌, int_lt, int_le, length}
 use Rattle.std.specs.Cmp.{IsEquivalence}
 use Rattle.std.proofs.lemmas.Int.{ints}
 use Rattle.blaze_table.specs.Entries.{Entry, at, entry_at, SameOption}
@@ -33,6 +33,7 @@ module _ {V : Type 0} (eq : V → V → Bool) (l h : ℤ) (v : V) where
               (λ a. rw (holds_under p k a) (same_itself eq laws (at es k)))
               (λ b. rw (holds_over p k b) (same_itself eq laws (at es k)));
           few = omega arith;
+          alone = λ none. omega (arith, ap length none);
         }
 
 -- what the entry at the first key says of one that has all the keys

@@ -76,6 +76,7 @@ module _ {V : Type 0} (eq : V → V → Bool) (laws : IsEquivalence eq) where
             (same_or_right (at left k) (at r.above k) (at (after p.hi es) k) (back eq laws (after p.hi es) r.above (content_as (after p.hi es) r.above r.like) k))
             (same_along eq refl (three eq laws p.lo p.hi p.value es w c k) (same_in_or eq laws p.lo p.hi p.value es w c (at left k) _ (at (after p.hi es) k) (at_left eq laws p.lo p.hi p.value es w c k)))));
         few = rw r.glued (omega (arith, length-glue eq left r.above, length-glue eq (before p.lo es) (p ∷ []), length_around p.lo p.hi es w, length_as (after p.hi es) r.above r.like));
+        alone = λ none. rw r.glued (omega (arith, length-glue eq left r.above, length-glue eq (before p.lo es) (p ∷ []), ap (λ l. length (before p.lo l)) none, ap (λ l. length (after p.hi l)) none, length_as (after p.hi es) r.above r.like));
       }
 
   pub glue-nil : (L : List (Entry V)) → glue eq L [] ≡ L
@@ -173,6 +174,7 @@ module _ {V : Type 0} (eq : V → V → Bool) (laws : IsEquivalence eq) (p : Ent
     canonical = c;
     content = λ k. same_along eq refl (sym (nowhere (at es k) k)) (same_itself eq laws (at es k));
     few = omega arith;
+    alone = λ none. omega (arith, ap length none);
   }
     where
       nowhere : (o : Option V) (k : ℤ) → cond (holds p k) (Some p.value) o ≡ o

@@ -14,7 +14,7 @@ module _ {V : Type 0} (eq : V → V → Bool) (laws : IsEquivalence eq) (low hig
   range_map es t = record { runs = one_per_run eq laws es t.canonical; keys = t.are_keys }
 
   pub painted_map : (p : Entry V) (old new : List (Entry V)) → IsTable eq low high n new → IsListPainted eq p old new → IsPainted eq low high p old new
-  painted_map p old new t d = record { range_map = range_map new t; content = d.content; few = d.few }
+  painted_map p old new t d = record { range_map = range_map new t; content = d.content; few = d.few; alone = d.alone }
 
   pub cut_map : (k : ℤ) (old new : List (Entry V)) → IsTable eq low high n new → IsListCut eq k old new → IsCut eq low high k old new
   cut_map k old new t d = record { range_map = range_map new t; content = d.content }

@@ -56,6 +56,7 @@ pub record IsListPainted {V : Type 0} (eq : V → V → Bool) (p : Entry V) (old
   pub canonical : IsCanonical eq new
   pub content : (k : ℤ) → SameOption eq (at new k) (painted p.lo p.hi p.value (at old) k)
   pub few : length new ≤ length old + 2
+  pub alone : old ≡ [] → length new ≤ 1
 
 -- the list without the key k, where the part above may have values that are only equal to the old
 pub record IsCutOf {V : Type 0} (eq : V → V → Bool) (k : ℤ) (es new : List (Entry V)) : Type 0 where
