@@ -5,3 +5,4 @@ pub mod Counted
 pub mod Found
 pub mod Changed
 pub mod Scanned
+pub mod Answers

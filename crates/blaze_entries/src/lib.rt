@@ -10,6 +10,7 @@ mod into_iter;
 mod iter;
 mod nodes;
 mod places;
+mod retain;
 mod scan;
 
 pub use counted::Counted;

@@ -4,8 +4,8 @@ ghost use Rattle.std.specs.Iterator.{YieldsFirstBy, YieldsLastBy, item_count, Up
 ghost use Rattle.std.specs.Iterator.SizeHint.{IsWithinCount};
 ghost use Rattle.blaze_table.specs.RangeSets.{bare_range, IsRangeSet};
 
-use crate::into_iter::IntoIter;
 use crate::table::RangeTable;
+use blaze_entries::IntoIter;
 use blaze_int::Integer;
 use std::iter::FusedIterator;
 use std::marker::Model;

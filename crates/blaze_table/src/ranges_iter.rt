@@ -4,8 +4,8 @@ ghost use Rattle.std.specs.Iterator.{YieldsFirstBy, YieldsLastBy, item_count, Up
 ghost use Rattle.std.specs.Iterator.SizeHint.{IsWithinCount};
 ghost use Rattle.blaze_table.specs.RangeSets.{bare_range, IsRangeSet};
 
-use crate::iter::Iter;
 use crate::table::RangeTable;
+use blaze_entries::Iter;
 use blaze_int::Integer;
 use std::iter::FusedIterator;
 use std::marker::Model;
