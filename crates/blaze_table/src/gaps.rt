@@ -4,7 +4,7 @@ ghost use Rattle.blaze_table.specs.Canonical.{IsCanonical};
 ghost use Rattle.blaze_table.specs.Entries.{at};
 ghost use Rattle.blaze_table.specs.Gap.{IsGap, IsClearFrom};
 
-use crate::search::{entry_above, entry_below};
+use crate::search::entry_above;
 use blaze_entries::Entries;
 use blaze_int::Integer;
 use blaze_int::compare::{after, before};
@@ -18,7 +18,7 @@ pub fn gap_round<T: Integer, V: Eq>(entries: &Entries<T, V>, key: T) -> (T, T)
     (gap_start(entries, key), gap_end(entries, key))
 }
 
-// The key after the entry below a key that has no value.
+// The key after the entry that starts below a key, which has no value.
 fn gap_start<T: Integer, V: Eq>(entries: &Entries<T, V>, key: T) -> T
     requires canonical { IsCanonical V.eq entries.now.entries }
     requires unmapped { at entries.now.entries (T.rank key) ≡ None }
@@ -27,8 +27,9 @@ fn gap_start<T: Integer, V: Eq>(entries: &Entries<T, V>, key: T) -> T
     ensures clear { IsClearFrom (at entries.now.entries) (T.rank result) (T.rank key) }
     ensures least { (T.rank result ≡ T.low) ⊎ IsSome (at entries.now.entries (T.rank result -ℤ pos 1)) }
 {
+    entries.in_hand();
     key.in_hand();
-    match entry_below(entries, key) {
+    match entries.at_or_below(key) {
         Some(found) => {
             let end = found.1;
             end.in_hand();
@@ -38,7 +39,7 @@ fn gap_start<T: Integer, V: Eq>(entries: &Entries<T, V>, key: T) -> T
     }
 }
 
-// The key before the entry above a key that has no value.
+// The key before the entry that starts above a key, which has no value.
 fn gap_end<T: Integer, V: Eq>(entries: &Entries<T, V>, key: T) -> T
     requires canonical { IsCanonical V.eq entries.now.entries }
     requires unmapped { at entries.now.entries (T.rank key) ≡ None }
@@ -47,12 +48,14 @@ fn gap_end<T: Integer, V: Eq>(entries: &Entries<T, V>, key: T) -> T
     ensures clear { IsClearFrom (at entries.now.entries) (T.rank key) (T.rank result) }
     ensures greatest { (T.rank result ≡ T.high) ⊎ IsSome (at entries.now.entries (T.rank result +ℤ pos 1)) }
 {
+    entries.in_hand();
     key.in_hand();
     match entry_above(entries, key) {
         Some(found) => {
             let start = found.0;
             start.in_hand();
-            before(start, key)
+            let last = before(start, key);
+            last
         }
         None => T::max_value(),
     }

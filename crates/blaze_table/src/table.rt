@@ -10,7 +10,7 @@ ghost use Rattle.blaze_table.specs.Cut.{IsCut, IsSplit, IsAmongOthers};
 ghost use Rattle.blaze_table.specs.Gap.{IsGap};
 ghost use Rattle.blaze_table.specs.Listed.{listed};
 ghost use Rattle.blaze_table.specs.Planned.{IsCountedPaint, IsCountedCut};
-ghost use Rattle.blaze_table.specs.Retain.{AnswersAt, IsKeyRetained};
+ghost use Rattle.blaze_table.specs.Retain.{AnswersAt, IsCallableAtEach, IsKeyRetained};
 
 use crate::copy::clone_entries;
 use crate::count::count_entries;
@@ -161,7 +161,7 @@ impl<T: Integer, V: Eq + Drop> RangeTable<T, V> {
     /// Keeps the entries that a closure answers true at: one call for each, ascending. No memory is taken, and no entry is
     /// counted.
     pub fn retain_entries<F: FnMut(&RangeInclusive<T>, &V) -> bool>(&mut self, f: F)
-        requires { F.IsAlwaysCallable f }
+        requires { IsCallableAtEach T.rank F.FnMut f self.old.entries }
         ensures range_map { IsRangeMap V.eq T.low T.high self.new.entries }
         ensures kept { IsFiltered (AnswersAt T.rank F.FnMut) f self.old.entries self.new.entries }
         ensures uncounted { self.new ≡ record self.old { entries = self.new.entries } }
@@ -255,7 +255,7 @@ impl<T: Integer, V: Eq + Clone> RangeTable<T, V> {
     {
         let _ = &self.entries;
         let (kept, len) = retain_keys(&self.entries, self.len, &f)?;
-        self.entries.replace_all(kept)?;
+        self.entries.set_sorted(kept)?;
         self.len = len;
         Ok(())
     }
