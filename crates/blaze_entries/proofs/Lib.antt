@@ -9,3 +9,5 @@ pub mod Views
 pub mod Steps
 pub mod Built
 pub mod Scans
+pub mod InTurn
+pub mod Asked

@@ -6,3 +6,4 @@ pub mod Found
 pub mod Changed
 pub mod Overlap
 pub mod Scanned
+pub mod Answers

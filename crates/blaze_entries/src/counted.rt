@@ -1,6 +1,8 @@
 //! The entries with their counters. Each look here is counted: there is no other way to read an entry.
 ghost use Rattle.std.specs.Prelude.{◌≡◌, ◌+◌, [], pos, ◌+ℤ◌, ◌≤ℤ◌, length, map, reverse, Some, None, IsSome, IfSome, OnOk, OnErr, IfOk};
+ghost use Rattle.std.specs.List.Retain.{IsFiltered};
 ghost use Rattle.std.specs.Option.{option_map};
+ghost use Rattle.blaze_entries.specs.Answers.{AnswersAt, IsCallableAtEach};
 ghost use Rattle.blaze_entries.specs.Entries.{entry, shown_entry};
 ghost use Rattle.blaze_entries.specs.Counted.{uncounted};
 ghost use Rattle.blaze_entries.specs.Found.{found_in, found_of, range_in, ranks_of};
@@ -16,11 +18,13 @@ use crate::nodes::{
     replace, replace_front, set_end, split_off,
 };
 use crate::places::{cloned, found, range_of, value_of};
+use crate::retain::retain;
 use crate::scan::{Plan, next_or_last, walk};
 use blaze_int::Integer;
 use std::alloc::{AllocError, Global};
 use std::collections::BTreeMap;
 use std::marker::Model;
+use std::ops::RangeInclusive;
 
 /// Entries by their starts, and how much work was done on them.
 #[derive(Drop)]
@@ -147,6 +151,27 @@ impl<T: Integer, V: Drop> Counted<T, V> {
             put_in: Count::new(),
             taken_out: Count::new(),
         })
+    }
+
+    /// Has the entries of a list whose starts ascend in place of its own: first key, last key and value. No entry is counted.
+    pub(crate) fn set_sorted(&mut self, entries: Vec<(T, T, V)>) -> Result<(), AllocError>
+        requires { StartsAscend T.low T.high (map (shown_entry T.rank (λ v. v)) entries.items) }
+        ensures ok { OnOk result (self.new
+            ≡ record self.old { entries = map (shown_entry T.rank (λ v. v)) entries.items }) }
+        ensures err { OnErr result (self.new ≡ self.old) }
+    {
+        let tree = tree_of(self.alloc, entries)?;
+        self.tree = tree;
+        Ok(())
+    }
+
+    /// Keeps the entries that a closure answers true at: one call for each, ascending. No entry is counted.
+    pub(crate) fn retain<F: FnMut(&RangeInclusive<T>, &V) -> bool>(&mut self, f: F)
+        requires { IsCallableAtEach T.rank F.FnMut f self.old.entries }
+        ensures entries { IsFiltered (AnswersAt T.rank F.FnMut) f self.old.entries self.new.entries }
+        ensures uncounted { self.new ≡ record self.old { entries = self.new.entries } }
+    {
+        retain(&mut self.tree, f);
     }
 
     /// The entries by value.

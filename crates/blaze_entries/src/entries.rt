@@ -1,6 +1,8 @@
 //! The entries as a table has them: reads that aren't counted, beside the counted ones.
 ghost use Rattle.std.specs.Prelude.{◌≡◌, ◌-◌, [], ◌+ℤ◌, pos, length, slice_get, map, Some, None, IsSome, IfOk, OnOk, OnErr};
+ghost use Rattle.std.specs.List.Retain.{IsFiltered};
 ghost use Rattle.std.specs.Option.{option_map};
+ghost use Rattle.blaze_entries.specs.Answers.{AnswersAt, IsCallableAtEach};
 ghost use Rattle.blaze_entries.specs.Counted.{uncounted};
 ghost use Rattle.blaze_entries.specs.Entries.{shown_entry};
 ghost use Rattle.blaze_entries.specs.Starts.{StartsAscend, last_below, first_from, start_at, below, from, without, with_end, IsCloneInserted};
@@ -13,6 +15,7 @@ use crate::places::shown;
 use blaze_int::Integer;
 use std::alloc::{AllocError, Global};
 use std::marker::Model;
+use std::ops::RangeInclusive;
 
 /// Entries by their starts. What works on `counted` alone can't read an entry without a count.
 #[derive(Drop)]
@@ -166,6 +169,27 @@ impl<T: Integer, V: Drop> Entries<T, V> {
             ≡ Some result }
     {
         self.counted.remove_uncounted(start)
+    }
+
+    /// Has the entries of a list whose starts ascend in place of its own: first key, last key and value. No entry is counted.
+    /// Refused memory drops the list.
+    pub fn set_sorted(&mut self, entries: Vec<(T, T, V)>) -> Result<(), AllocError>
+        requires { StartsAscend T.low T.high (map (shown_entry T.rank (λ v. v)) entries.items) }
+        ensures ok { OnOk result (self.new
+            ≡ record self.old { entries = map (shown_entry T.rank (λ v. v)) entries.items }) }
+        ensures err { OnErr result (self.new ≡ self.old) }
+    {
+        self.counted.set_sorted(entries)
+    }
+
+    /// Keeps the entries that a closure answers true at: one call for each, ascending. No memory is taken, and no entry is
+    /// counted.
+    pub fn retain<F: FnMut(&RangeInclusive<T>, &V) -> bool>(&mut self, f: F)
+        requires { IsCallableAtEach T.rank F.FnMut f self.old.entries }
+        ensures entries { IsFiltered (AnswersAt T.rank F.FnMut) f self.old.entries self.new.entries }
+        ensures uncounted { self.new ≡ record self.old { entries = self.new.entries } }
+    {
+        self.counted.retain(f);
     }
 
     /// Takes all entries out. No entry is counted.

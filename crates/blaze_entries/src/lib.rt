@@ -11,6 +11,7 @@ mod iter;
 mod nodes;
 mod overlap;
 mod places;
+mod retain;
 mod scan;
 
 pub use counted::Counted;

@@ -3,18 +3,14 @@ pub mod Unique
 pub mod Runs
 pub mod Fewest
 pub mod Splices
-pub mod Slots
 pub mod Painted
 pub mod ListLaws
-pub mod Places
 pub mod Order
 pub mod Mapped
 pub mod Counted
 pub mod Inside
 pub mod Between
-pub mod Pieces
 pub mod Cutting
-pub mod CutSlots
 pub mod Holders
 pub mod SeenInside
 pub mod CutEdits
@@ -23,7 +19,6 @@ pub mod SplitEdits
 pub mod Kept
 pub mod RangeMaps
 pub mod NextEntries
-pub mod Retained
 pub mod Clones
 pub mod PairLists
 pub mod Keeping
@@ -46,3 +41,4 @@ pub mod WalkedPlans
 pub mod Outside
 pub mod FewLooks
 pub mod Descents
+pub mod Glued

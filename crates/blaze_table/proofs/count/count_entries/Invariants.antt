@@ -3,8 +3,10 @@ use Rattle.blaze_table.specs.Canonical.{IsCanonical}
 use Rattle.blaze_table.specs.Count.{keys_in}
 use Rattle.blaze_table.proofs.count.count_entries.Given as goal
 
-abbrev pub invariant-loop-entry : goal.invariant-loop-entry
-invariant-loop-entry g l = record {
-  canonical : IsCanonical g.V.PartialEq.eq l.entry-iterator;
-  is : pos (g.T.SafeLen.SafeLength.number l.sum) +ℤ keys_in l.entry-iterator ≡ keys_in l.entries.entries;
-}
+-- the sum is that of the entries so far
+abbrev pub invariant-loop-start : goal.invariant-loop-start
+invariant-loop-start g l =
+    (goal.iterator-loop-start g).can_next l.start-iterator
+    × (goal.iterator-loop-start g).is_finite l.start-iterator
+    × IsCanonical g.V.PartialEq.eq l.start-iterator
+    × (pos (g.T.SafeLen.SafeLength.number l.sum) +ℤ keys_in l.start-iterator ≡ keys_in l.entries.entries)
