@@ -7,5 +7,5 @@ pub mod Moves
 pub mod NodeLists
 pub mod Views
 pub mod Steps
-pub mod Built
+pub mod Collected
 pub mod Scans
