@@ -1,5 +1,5 @@
 -- Lists in the order of their starts: what the edits keep, and how long they are.
-use Rattle.std.proofs.Common.{◌≡◌, ◌+◌, ℤ, pos, ◌+ℤ◌, ◌≤ℤ◌, ◌<ℤ◌, true, false, cond, List, [], ◌∷◌, length, Option, Some, None, arith}
+use Rattle.std.proofs.Common.{◌≡◌, ◌+◌, ℤ, pos, ◌+ℤ◌, ◌≤ℤ◌, ◌<ℤ◌, true, false, cond, List, [], ◌∷◌, length, Option, Some, None, refl, arith}
 use Rattle.std.specs.Prelude.{IsSome}
 use Rattle.std.specs.Ordering.{int_cmp, int_eq}
 use Rattle.std.specs.declared.cmp.Ordering.TheVariants.{Less, Equal, Greater}
@@ -17,6 +17,14 @@ by_order a b l e g = by_lt_z a b
     (λ h. by_lt_z b a (λ k. g k (grind (arith, ints)) (grind (arith, ints))) (λ k. e (omega (arith, ints)) (grind (arith, ints)) (grind (arith, ints))))
 
 module _ {V : Type 0} where
+  -- none starts below the first
+  pub start_none : (k b high : ℤ) (es : List (Entry V)) → k <ℤ b → StartsAscend b high es → start_at k es ≡ None
+  start_none k b high [] l h = refl
+  start_none k b high (e ∷ es) l h = by_order k e.lo
+      (λ o q r. rw r (start_none k (e.lo +ℤ pos 1) high es (omega (arith, ints)) h.2))
+      (λ o q r. absurd (omega (arith, ints, h.0)))
+      (λ o q r. absurd (omega (arith, ints, h.0)))
+
   -- from an earlier start on
   pub start_lower : (b c high : ℤ) (es : List (Entry V)) → c ≤ℤ b → StartsAscend b high es → StartsAscend c high es
   start_lower b c high [] l h = tt

@@ -7,7 +7,7 @@ pub mod Moves
 pub mod NodeLists
 pub mod Views
 pub mod Steps
-pub mod Built
+pub mod Collected
 pub mod Scans
 pub mod InTurn
 pub mod Asked

@@ -1,5 +1,5 @@
 -- One step of an iterator over full places.
-use Rattle.std.proofs.Common.{◌≡◌, ℕ, ◌+◌, ◌<◌, length, List, [], ◌∷◌, ◌++◌, Option, Some, None, refl, ◌∙◌, sym, subst, ap, arith, length-append}
+use Rattle.std.proofs.Common.{◌≡◌, ◌+◌, length, List, [], ◌∷◌, ◌++◌, Option, Some, None, refl, ◌∙◌, sym, subst, ap, arith, length-append}
 use Rattle.std.specs.Prelude.{map, MatchOption}
 use Rattle.std.specs.Iterator.{MakesProgress, item_count}
 use Rattle.std.specs.Map.Iter.{TakesFirst, TakesLast}

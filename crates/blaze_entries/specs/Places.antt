@@ -11,6 +11,10 @@ use Rattle.blaze_entries.specs.declared.nodes.EndValue.{EndValue}
 abbrev pub place_of : {T V : Type 0} → (T → ℤ) → T × EndValue T V → Entry V
 place_of rank p = entry (rank p.0) (rank p.1.end) p.1.value
 
+-- the start and node of an entry: first key, last key and value
+abbrev pub node_of : {T V : Type 0} → T × T × V → T × EndValue T (Option V)
+node_of e = (e.0, record { end = e.1; value = Some e.2 })
+
 abbrev pub places : {T V : Type 0} → (T → ℤ) → List (T × EndValue T V) → List (Entry V)
 places rank nodes = map (place_of rank) nodes
 

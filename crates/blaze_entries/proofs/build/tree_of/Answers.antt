@@ -1,25 +1,16 @@
-use Rattle.std.proofs.Common.{◌≡◌, ◌++◌, map, sym, subst, ap, ◌∙◌}
-use Rattle.std.specs.Vec.Iter.{into_iter_items}
-use Rattle.blaze_entries.specs.Entries.{shown_entry}
-use Rattle.blaze_entries.specs.Places.{places, held}
+use Rattle.std.proofs.Common.{map, sym, subst, ◌∙◌}
+use Rattle.blaze_entries.specs.Places.{node_of}
 use Rattle.blaze_entries.specs.Starts.{StartsAscend}
-use Rattle.blaze_entries.proofs.Built.{ascend_front, pushed}
+use Rattle.blaze_entries.proofs.Collected.{collected, places_of_nodes}
 use Rattle.blaze_entries.proofs.Held.{starts_of_held}
 use Rattle.blaze_entries.proofs.build.tree_of.Goals as goal
 
-pub insert-requires : goal.insert-requires
-insert-requires g c =
-    let low = g.T.Integer.low in
-    let high = g.T.Integer.high in
-    ascend_front low high _ _ (subst (StartsAscend low high) (sym c.loop-start.invariant) (starts_of_held low high _ c.requires))
-
-pub loop-start-preserved : goal.loop-start-preserved
-loop-start-preserved g c =
+pub returns : goal.returns
+returns g c =
     let rank = g.T.Integer.rank in
     let low = g.T.Integer.low in
     let high = g.T.Integer.high in
-    let shown = shown_entry rank (λ v. v) in
-    pushed low high (places rank c.loop-start.tree.entries) (places rank c.insert.new.tree.entries) (map held (map shown (into_iter_items c.next.new.self))) (map held (map shown c.args.entries.items)) _
-    (starts_of_held low high _ c.requires)
-    (ap (λ l. places rank c.loop-start.tree.entries ++ map held (map shown l)) (sym c.in-Some.ensures.steps.0) ∙ c.loop-start.invariant)
-    c.in_ok-insert.ensures.ok
+    let items = c.args.entries.items in
+    collected rank g.T.Integer.of_rank low high g.T.Ord.cmp g.T.PartialEq.eq g.met.T.Integer.ranked g.met.T.Ord.total (map node_of items) c.in_ok-tree.tree
+    (subst (StartsAscend low high) (sym (places_of_nodes rank items)) (starts_of_held low high _ c.requires))
+    c.in_ok-tree.ensures c.starts_in_hand.ensures ∙ places_of_nodes rank items

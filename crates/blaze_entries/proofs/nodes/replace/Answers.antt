@@ -1,7 +1,6 @@
 use Rattle.std.proofs.Common.{ap, ◌∙◌, arith}
 use Rattle.std.proofs.lemmas.Int.{ints}
-use Rattle.std.specs.Option.{option_map}
-use Rattle.blaze_entries.specs.Places.{places, place_at}
+use Rattle.blaze_entries.specs.Places.{places}
 use Rattle.blaze_entries.proofs.NodeLists.{places_set, places_lookup}
 use Rattle.blaze_entries.proofs.nodes.replace.Goals as goal
 

@@ -1,8 +1,7 @@
 use Rattle.std.proofs.Common.{◌≡◌, List, [], ◌∷◌, ◌++◌, subst}
 use Rattle.std.specs.Prelude.{MatchOption}
-use Rattle.std.specs.Map.Iter.{deref_pair}
 use Rattle.blaze_entries.specs.Entries.{Entry, shown_entry}
-use Rattle.blaze_entries.specs.Places.{place_of, place_lent, places, full}
+use Rattle.blaze_entries.specs.Places.{place_of, places, full}
 use Rattle.blaze_entries.proofs.Lent.{full_given}
 use Rattle.blaze_entries.proofs.Steps.{takes_last_shown, last_taken, by_view, goes_last}
 use Rattle.blaze_entries.proofs.into_iter.IntoIterDoubleEndedIterator.next_back.Goals as goal

@@ -1,4 +1,4 @@
-use Rattle.std.proofs.Common.{◌≡◌, List, [], ◌∷◌, ◌++◌, subst}
+use Rattle.std.proofs.Common.{◌≡◌, List, [], ◌∷◌, subst}
 use Rattle.std.specs.Prelude.{MatchOption}
 use Rattle.std.specs.Map.Iter.{deref_pair}
 use Rattle.blaze_entries.specs.Entries.{Entry, shown_entry}
