@@ -1,6 +1,7 @@
 //! Keys taken out.
 ghost use Rattle.std.specs.Prelude.{◌≡◌, ℤ, [], None, Ok, MatchOption, IfOk, OnOk, OnErr};
 ghost use Rattle.blaze_table.specs.Entries.{Entry, at, SameOption};
+ghost use Rattle.blaze_table.specs.Counted.{uncounted};
 ghost use Rattle.blaze_table.specs.Work.{IsCountedCut};
 ghost use Rattle.blaze_table.specs.Cut.{IsCut, IsSplit, IsAmongOthers};
 ghost use Rattle.blaze_table.specs.Painted.{ClonesAreAlike};
@@ -86,6 +87,8 @@ impl<T: Integer, V: Eq + Clone> RangeMapBlaze<T, V> {
     /// Keeps the keys below one, and answers the map of the keys from it on. Refused memory leaves the map unchanged.
     pub fn split_off(&mut self, key: T) -> Result<Self, AllocError>
         requires { ClonesAreAlike V.is_clone V.eq }
+        ensures uncounted { IfOk result (λ from. (self.new ≡ record self.old { entries = self.new.entries })
+            × (from ≡ uncounted from.entries)) }
         ensures ok { IfOk result (λ from. IsSplit V.eq T.low T.high (T.rank key) self.old.entries self.new.entries from.entries) }
         ensures err { OnErr result (self.new ≡ self.old) }
     {
