@@ -33,7 +33,6 @@ pub fn paint<T: Integer, V: Eq + Clone>(
     ensures err { OnErr result (entries.new.entries ≡ entries.old.entries) }
 {
     let _ = entries.len();
-    let _ = (len, lo, hi, &value);
     unreachable!()
 }
 
@@ -55,6 +54,5 @@ pub fn paint_by_splice<T: Integer, V: Eq + Clone>(
     ensures err { OnErr result (entries.new.entries ≡ entries.old.entries) }
 {
     let _ = entries.len();
-    let _ = (len, lo, hi, &value);
     unreachable!()
 }
