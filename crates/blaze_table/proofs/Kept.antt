@@ -1,6 +1,7 @@
 -- Some entries of a canonical list are canonical.
-use Rattle.std.proofs.Common.{ℤ, pos, ◌≤ℤ◌, ◌<ℤ◌, Bool, true, false, List, [], ◌∷◌, arith}
+use Rattle.std.proofs.Common.{ℤ, pos, ◌≤ℤ◌, ◌<ℤ◌, Bool, true, false, List, [], ◌∷◌, sym, subst, arith}
 use Rattle.std.specs.List.{items_where_true}
+use Rattle.std.specs.List.Retain.{IsFiltered}
 use Rattle.std.proofs.lemmas.Int.{ints}
 use Rattle.blaze_table.specs.Entries.{Entry}
 use Rattle.blaze_table.specs.Canonical.{IsApart, IsCanonical, AreKeys}
@@ -37,3 +38,10 @@ module _ {V : Type 0} (eq : V → V → Bool) where
   are_keys_kept low high (b ∷ bs) [] a = tt
   are_keys_kept low high (true ∷ bs) (e ∷ es) a = (a.0, a.1, are_keys_kept low high bs es a.2)
   are_keys_kept low high (false ∷ bs) (e ∷ es) a = are_keys_kept low high bs es a.2
+
+module _ {F V : Type 0} (eq : V → V → Bool) where
+  pub canonical_filtered : (R : F → Entry V → Bool → F → Type 0) (f : F) (old new : List (Entry V)) → IsFiltered R f old new → IsCanonical eq old → IsCanonical eq new
+  canonical_filtered R f old new h c = subst (IsCanonical eq) (sym h.4) (canonical_kept eq h.0 old c)
+
+  pub are_keys_filtered : (low high : ℤ) (R : F → Entry V → Bool → F → Type 0) (f : F) (old new : List (Entry V)) → IsFiltered R f old new → AreKeys low high old → AreKeys low high new
+  are_keys_filtered low high R f old new h a = subst (AreKeys low high) (sym h.4) (are_keys_kept eq low high h.0 old a)
