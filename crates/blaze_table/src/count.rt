@@ -8,7 +8,7 @@ use blaze_int::compare::length;
 use blaze_int::{Integer, SafeLength};
 
 /// How many keys entries have.
-pub fn count_entries<T: Integer, V: Eq>(entries: &Entries<T, V>) -> T::SafeLen
+pub fn count<T: Integer, V: Eq>(entries: &Entries<T, V>) -> T::SafeLen
     requires canonical { IsCanonical V.eq entries.now.entries }
     requires fits { keys_in entries.now.entries ≤ℤ pos T.SafeLen.most }
     ensures { pos (T.SafeLen.number result) ≡ keys_in entries.now.entries }

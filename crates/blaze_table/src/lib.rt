@@ -3,7 +3,7 @@
 
 mod copy;
 mod count;
-mod cut_entries;
+mod cut;
 mod gaps;
 mod into_ranges_iter;
 mod keep;
@@ -14,7 +14,7 @@ mod search;
 mod set_compare;
 mod set_display;
 mod splice;
-mod split_entries;
+mod split;
 mod table;
 
 pub use blaze_entries::{IntoIter, Iter};

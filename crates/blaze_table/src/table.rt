@@ -13,13 +13,13 @@ ghost use Rattle.blaze_table.specs.Work.{IsCountedPaint, IsCountedCut};
 ghost use Rattle.blaze_table.specs.Retain.{AnswersAt, IsCallableAtEach, IsKeyRetained};
 
 use crate::copy::clone_entries;
-use crate::count::count_entries;
-use crate::cut_entries::cut;
+use crate::count::count;
+use crate::cut::cut;
 use crate::gaps::gap_round;
 use crate::keep::retain_keys;
 use crate::search::{entry_above, entry_below, entry_holding};
 use crate::splice::{paint, paint_by_splice};
-use crate::split_entries::split;
+use crate::split::split;
 use blaze_entries::{Entries, IntoIter, Iter};
 use blaze_int::length::differ;
 use blaze_int::{Integer, SafeLength};
@@ -146,7 +146,7 @@ impl<T: Integer, V: Eq + Drop> RangeTable<T, V> {
         ensures { IfOk result (λ table. table ≡ uncounted (listed T.rank entries.items)) }
     {
         let entries = Entries::from_sorted(alloc, entries)?;
-        let len = count_entries(&entries);
+        let len = count(&entries);
         Ok(RangeTable { entries, len })
     }
 
@@ -168,7 +168,7 @@ impl<T: Integer, V: Eq + Drop> RangeTable<T, V> {
     {
         let _ = &self.entries;
         self.entries.retain(f);
-        let len = count_entries(&self.entries);
+        let len = count(&self.entries);
         self.len = len;
     }
 }

@@ -13,13 +13,13 @@ from_sorted-requires g c =
     let eq = g.V.PartialEq.eq in
     starts_ascend eq g.T.Integer.low g.T.Integer.high _ (canonical eq g.met.V.Eq.laws _ c.requires.runs) c.requires.keys
 
-pub count_entries-len-requires-clause-canonical : goal.count_entries-len-requires-clause-canonical
-count_entries-len-requires-clause-canonical g c =
+pub count-len-requires-clause-canonical : goal.count-len-requires-clause-canonical
+count-len-requires-clause-canonical g c =
     let eq = g.V.PartialEq.eq in
     subst (λ (s : CountedEntries g.row.V.Denot). IsCanonical eq s.entries) (sym c.in_ok-entries.ensures) (canonical eq g.met.V.Eq.laws _ c.requires.runs)
 
-pub count_entries-len-requires-clause-fits : goal.count_entries-len-requires-clause-fits
-count_entries-len-requires-clause-fits g c =
+pub count-len-requires-clause-fits : goal.count-len-requires-clause-fits
+count-len-requires-clause-fits g c =
     let eq = g.V.PartialEq.eq in
     let bound = keys_among eq g.T.Integer.low g.T.Integer.high _ g.met.T.Integer.ranked.some_key (canonical eq g.met.V.Eq.laws _ c.requires.runs) c.requires.keys in
     omega (arith, ints, bound, ap (λ (s : CountedEntries g.row.V.Denot). keys_in s.entries) c.in_ok-entries.ensures, g.met.T.Integer.has_room)
@@ -30,5 +30,5 @@ invariant_of-result g c =
     record {
       canonical = subst (λ (s : CountedEntries g.row.V.Denot). IsCanonical eq s.entries) (sym c.in_ok-entries.ensures) (canonical eq g.met.V.Eq.laws _ c.requires.runs);
       are_keys = subst (λ (s : CountedEntries g.row.V.Denot). AreKeys g.T.Integer.low g.T.Integer.high s.entries) (sym c.in_ok-entries.ensures) c.requires.keys;
-      counted = c.count_entries-len.ensures;
+      counted = c.count-len.ensures;
     }

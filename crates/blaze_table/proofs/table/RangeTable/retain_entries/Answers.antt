@@ -5,11 +5,11 @@ use Rattle.blaze_table.proofs.Kept.{canonical_filtered, are_keys_filtered}
 use Rattle.blaze_table.proofs.RangeMaps.{range_map}
 use Rattle.blaze_table.proofs.table.RangeTable.retain_entries.Goals as goal
 
-pub count_entries-len-requires-clause-canonical : goal.count_entries-len-requires-clause-canonical
-count_entries-len-requires-clause-canonical g c = canonical_filtered g.V.PartialEq.eq _ _ _ _ c.retain.ensures.entries c.self.invariant.canonical
+pub count-len-requires-clause-canonical : goal.count-len-requires-clause-canonical
+count-len-requires-clause-canonical g c = canonical_filtered g.V.PartialEq.eq _ _ _ _ c.retain.ensures.entries c.self.invariant.canonical
 
-pub count_entries-len-requires-clause-fits : goal.count_entries-len-requires-clause-fits
-count_entries-len-requires-clause-fits g c =
+pub count-len-requires-clause-fits : goal.count-len-requires-clause-fits
+count-len-requires-clause-fits g c =
     let eq = g.V.PartialEq.eq in
     let bound = keys_among eq g.T.Integer.low g.T.Integer.high _ g.met.T.Integer.ranked.some_key
     (canonical_filtered eq _ _ _ _ c.retain.ensures.entries c.self.invariant.canonical)
@@ -22,7 +22,7 @@ invariant_of-self g c =
     record {
       canonical = canonical_filtered eq _ _ _ _ c.retain.ensures.entries c.self.invariant.canonical;
       are_keys = are_keys_filtered eq g.T.Integer.low g.T.Integer.high _ _ _ _ c.retain.ensures.entries c.self.invariant.are_keys;
-      counted = c.count_entries-len.ensures;
+      counted = c.count-len.ensures;
     }
 
 pub returns-clause-range_map : goal.returns-clause-range_map

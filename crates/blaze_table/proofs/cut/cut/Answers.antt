@@ -8,8 +8,8 @@ use Rattle.blaze_table.proofs.Cutting.{cut_nothing, cut_table, cut_is, covered_o
 use Rattle.blaze_table.proofs.Holders.{holder}
 use Rattle.blaze_table.proofs.LooksSay.{le_holds, le_fails}
 use Rattle.blaze_table.proofs.Unique.{same_none}
-use Rattle.blaze_table.proofs.cut_entries.cut.Goals as goal
-use Rattle.blaze_table.proofs.cut_entries.cut.Goals.{in_default-via-in-Some+else-is_at_most, in_default-via-in_default}
+use Rattle.blaze_table.proofs.cut.cut.Goals as goal
+use Rattle.blaze_table.proofs.cut.cut.Goals.{in_default-via-in-Some+else-is_at_most, in_default-via-in_default}
 
 pub cut_holder-requires-clause-starts : goal.cut_holder-requires-clause-starts
 cut_holder-requires-clause-starts g c =

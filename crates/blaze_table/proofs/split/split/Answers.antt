@@ -1,5 +1,5 @@
 use Rattle.blaze_table.proofs.Splitting.{is_split, split_counted, split_tables}
-use Rattle.blaze_table.proofs.split_entries.split.Goals as goal
+use Rattle.blaze_table.proofs.split.split.Goals as goal
 
 pub count_parts-lens-requires-clause-below : goal.count_parts-lens-requires-clause-below
 count_parts-lens-requires-clause-below g c =

@@ -4,7 +4,7 @@ use Rattle.blaze_entries.specs.Counted.{CountedEntries}
 use Rattle.blaze_entries.specs.Starts.{with_end}
 use Rattle.blaze_table.proofs.Holders.{holder, present, absent_inside}
 use Rattle.blaze_table.proofs.SplitEdits.{starts_under, split_inside, clone_there, clone_removed}
-use Rattle.blaze_table.proofs.split_entries.split_across.Goals as goal
+use Rattle.blaze_table.proofs.split.split_across.Goals as goal
 
 pub insert_clone-requires-clause-present : goal.insert_clone-requires-clause-present
 insert_clone-requires-clause-present g c =

@@ -12,7 +12,7 @@ ghost use Rattle.blaze_table.specs.Painted.{ClonesAreAlike};
 ghost use Rattle.blaze_table.specs.Splice.{IsListSplit, IsSplitOf};
 ghost use Rattle.blaze_table.specs.Table.{IsTable};
 
-use crate::count::count_entries;
+use crate::count::count;
 use blaze_entries::Entries;
 use blaze_int::compare::{before, is_at_most};
 use blaze_int::{Integer, SafeLength};
@@ -88,10 +88,10 @@ fn count_parts<T: Integer, V: Eq>(
 {
     len.in_hand();
     if below.len() < from.len() {
-        let below_len = count_entries(below);
+        let below_len = count(below);
         (below_len, len.minus(below_len))
     } else {
-        let from_len = count_entries(from);
+        let from_len = count(from);
         (len.minus(from_len), from_len)
     }
 }

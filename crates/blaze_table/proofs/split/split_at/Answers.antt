@@ -4,8 +4,8 @@ use Rattle.blaze_table.specs.Splice.{IsSplitOf}
 use Rattle.blaze_table.proofs.Holders.{holder}
 use Rattle.blaze_table.proofs.LooksSay.{le_fails}
 use Rattle.blaze_table.proofs.SplitEdits.{split_behind, split_above, if_split}
-use Rattle.blaze_table.proofs.split_entries.split_at.Goals as goal
-use Rattle.blaze_table.proofs.split_entries.split_at.Goals.{in_default-via-in-Some+else-is_at_most, in_default-via-in_default}
+use Rattle.blaze_table.proofs.split.split_at.Goals as goal
+use Rattle.blaze_table.proofs.split.split_at.Goals.{in_default-via-in-Some+else-is_at_most, in_default-via-in_default}
 
 pub returns-in_default-clause-split : goal.returns-in_default-clause-split
 returns-in_default-clause-split g c =

@@ -1,7 +1,7 @@
 use Rattle.std.proofs.Common.{◌≡◌, pos, ◌+ℤ◌}
 use Rattle.blaze_table.specs.Canonical.{IsCanonical}
 use Rattle.blaze_table.specs.Count.{keys_in}
-use Rattle.blaze_table.proofs.count.count_entries.Given as goal
+use Rattle.blaze_table.proofs.count.count.Given as goal
 
 -- the sum is that of the entries so far
 abbrev pub invariant-loop-start : goal.invariant-loop-start
