@@ -1,4 +1,4 @@
-use Rattle.std.proofs.Common.{◌≡◌, ◌∙◌, pos, ◌+ℤ◌, length, sym, subst, ap, arith}
+use Rattle.std.proofs.Common.{◌≡◌, ◌∙◌, pos, ◌+ℤ◌, length, refl, ap, arith}
 use Rattle.std.proofs.lemmas.Int.{ints}
 use Rattle.blaze_entries.specs.Counted.{CountedEntries}
 use Rattle.blaze_entries.specs.Starts.{with_end}
@@ -16,13 +16,12 @@ returns-clause-cut g c =
     let rank = g.T.Integer.rank in
     end_cut g.V.PartialEq.eq g.met.V.Eq.laws (rank c.args.key) g.T.Integer.high c.args.entries.now.entries _ _
     (holder g.V.PartialEq.eq (rank c.args.key +ℤ pos 1) g.T.Integer.high c.args.entries.now.entries g.T.Integer.low _ _ c.in_hand.ensures c.requires.canonical c.requires.found)
-    (rank c.before-2.result) c.set_end.new.self.entries c.requires.starts_below c.requires.ends c.before-2.ensures
+    refl (rank c.before-2.result) c.set_end.new.self.entries c.requires.starts_below c.before-2.ensures
     (ap (λ (s : CountedEntries g.row.V.Denot). s.entries) c.set_end.ensures ∙ ap (λ (s : CountedEntries g.row.V.Denot). with_end (rank c.args.start) (rank c.before-2.result) s.entries) c.in_ok-value.ensures.looked)
 
 pub returns-clause-value : goal.returns-clause-value
 returns-clause-value g c =
     let rank = g.T.Integer.rank in
-    let ends = c.requires.ends in
     value_cloned g.V.PartialEq.eq g.met.V.Eq.laws (rank c.args.key) g.T.Integer.high c.args.entries.now.entries _ _
     (holder g.V.PartialEq.eq (rank c.args.key +ℤ pos 1) g.T.Integer.high c.args.entries.now.entries g.T.Integer.low _ _ c.in_hand.ensures c.requires.canonical c.requires.found)
     g.V.Clone.is_clone c.requires.clones c.in_ok-value.value (omega (arith, ints)) c.in_ok-value.ensures.value

@@ -1,4 +1,4 @@
-use Rattle.std.proofs.Common.{◌≡◌, ◌∙◌, None, pos, ◌+ℤ◌, length, sym, subst, ap, arith}
+use Rattle.std.proofs.Common.{◌≡◌, ◌∙◌, None, pos, ◌+ℤ◌, length, refl, sym, subst, ap, arith}
 use Rattle.std.proofs.lemmas.Int.{ints}
 use Rattle.std.specs.Prelude.{IsSome}
 use Rattle.blaze_entries.specs.Counted.{CountedEntries}
@@ -13,12 +13,11 @@ clone_value-requires g c =
 
 pub move_start-requires-clause-present : goal.move_start-requires-clause-present
 move_start-requires-clause-present g c =
-    subst (λ es. IsSome (start_at (g.T.Integer.rank c.args.start) es)) (sym (ap (λ (s : CountedEntries g.row.V.Denot). s.entries) c.in_ok-value.ensures.looked))
+    subst (λ es. IsSome (start_at (g.T.Integer.rank c.args.key) es)) (sym (ap (λ (s : CountedEntries g.row.V.Denot). s.entries) c.in_ok-value.ensures.looked))
     (present g.V.PartialEq.eq _ g.T.Integer.high _ _ _ (holder g.V.PartialEq.eq _ g.T.Integer.high _ g.T.Integer.low _ _ c.in_hand.ensures c.requires.canonical c.requires.found))
 
 pub move_start-requires-clause-absent : goal.move_start-requires-clause-absent
 move_start-requires-clause-absent g c =
-    let starts = c.requires.starts in
     let above = c.requires.ends_above in
     let next = c.after.ensures in
     subst (λ es. start_at (g.T.Integer.rank c.after.result) es ≡ None) (sym (ap (λ (s : CountedEntries g.row.V.Denot). s.entries) c.in_ok-value.ensures.looked))
@@ -30,8 +29,8 @@ returns-clause-cut g c =
     let rank = g.T.Integer.rank in
     start_cut g.V.PartialEq.eq g.met.V.Eq.laws (rank c.args.key) g.T.Integer.high c.args.entries.now.entries _ _
     (holder g.V.PartialEq.eq (rank c.args.key +ℤ pos 1) g.T.Integer.high c.args.entries.now.entries g.T.Integer.low _ _ c.in_hand.ensures c.requires.canonical c.requires.found)
-    (rank c.after.result) c.move_start.new.self.entries c.requires.starts c.requires.ends_above c.after.ensures
-    (subst (λ es. IsStartMoved (rank c.args.start) (rank c.after.result) es c.move_start.new.self.entries)
+    refl (rank c.after.result) c.move_start.new.self.entries c.requires.ends_above c.after.ensures
+    (subst (λ es. IsStartMoved (rank c.args.key) (rank c.after.result) es c.move_start.new.self.entries)
     (ap (λ (s : CountedEntries g.row.V.Denot). s.entries) c.in_ok-value.ensures.looked) c.in_ok-move_start.ensures.ok)
 
 pub returns-clause-value : goal.returns-clause-value

@@ -1,4 +1,4 @@
-use Rattle.std.proofs.Common.{◌≡◌, ◌∙◌, pos, ◌+ℤ◌, length, ap, arith}
+use Rattle.std.proofs.Common.{◌≡◌, ◌∙◌, pos, ◌+ℤ◌, length, refl, ap, arith}
 use Rattle.std.proofs.lemmas.Int.{ints}
 use Rattle.blaze_entries.specs.Counted.{CountedEntries}
 use Rattle.blaze_table.proofs.CutEdits.{whole_cut, value_removed}
@@ -14,13 +14,12 @@ returns-clause-cut g c =
     let rank = g.T.Integer.rank in
     whole_cut g.V.PartialEq.eq g.met.V.Eq.laws (rank c.args.key) g.T.Integer.high c.args.entries.now.entries _ _
     (holder g.V.PartialEq.eq (rank c.args.key +ℤ pos 1) g.T.Integer.high c.args.entries.now.entries g.T.Integer.low _ _ c.in_hand.ensures c.requires.canonical c.requires.found)
-    c.remove.new.self.entries c.requires.starts c.requires.ends
+    refl refl c.remove.new.self.entries
     (ap (λ (s : CountedEntries g.row.V.Denot). s.entries) c.remove.ensures.entries)
 
 pub returns-clause-value : goal.returns-clause-value
 returns-clause-value g c =
     let rank = g.T.Integer.rank in
-    let ends = c.requires.ends in
     value_removed g.V.PartialEq.eq g.met.V.Eq.laws (rank c.args.key) g.T.Integer.high c.args.entries.now.entries _ _
     (holder g.V.PartialEq.eq (rank c.args.key +ℤ pos 1) g.T.Integer.high c.args.entries.now.entries g.T.Integer.low _ _ c.in_hand.ensures c.requires.canonical c.requires.found)
     c.remove.result (omega (arith, ints)) c.remove.ensures.value
