@@ -1,6 +1,6 @@
 //! Entries split at a key, in place. What is to be put in is put in before the split, which can be refused; only then is
 //! anything else edited.
-ghost use Rattle.std.specs.Prelude.{◌≡◌, Some, pos, ◌+◌, ◌+ℤ◌, ◌≤ℤ◌, ◌<ℤ◌, IfOk, OnErr};
+ghost use Rattle.std.specs.Prelude.{◌≡◌, pos, ◌+ℤ◌, ◌≤ℤ◌, IfOk, OnErr};
 ghost use Rattle.std.specs.Option.{option_map};
 ghost use Rattle.blaze_entries.specs.Counted.{uncounted};
 ghost use Rattle.blaze_entries.specs.Found.{range_in, ranks_of};

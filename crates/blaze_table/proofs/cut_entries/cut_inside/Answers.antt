@@ -2,7 +2,7 @@ use Rattle.std.proofs.Common.{◌≡◌, ◌∙◌, None, pos, ◌+ℤ◌, lengt
 use Rattle.std.proofs.lemmas.Int.{ints}
 use Rattle.std.specs.Prelude.{IsSome}
 use Rattle.blaze_entries.specs.Counted.{CountedEntries}
-use Rattle.blaze_entries.specs.Starts.{start_at, with_end, IsCloneInserted}
+use Rattle.blaze_entries.specs.Starts.{start_at, IsCloneInserted}
 use Rattle.blaze_table.proofs.CutEdits.{inside_cut, value_cloned}
 use Rattle.blaze_table.proofs.EditLists.{length-with_end}
 use Rattle.blaze_table.proofs.Holders.{holder, present, absent_inside}
