@@ -87,15 +87,15 @@ module _ {V : Type 0} (eq : V → V → Bool) (laws : IsEquivalence eq) (k high 
       }
 
   -- the edits, where it starts below the key or at it, and ends at the key or above it
-  pub end_cut : (y : ℤ) (new : List (Entry V)) → s <ℤ k → z ≡ k → y ≡ k -ℤ pos 1 → new ≡ with_end s y es → IsCutOf eq k es new
-  end_cut y new u w q n =
+  pub end_cut : z ≡ k → (y : ℤ) (new : List (Entry V)) → s <ℤ k → y ≡ k -ℤ pos 1 → new ≡ with_end s y es → IsCutOf eq k es new
+  end_cut w y new u q n =
       let l = h.lo in
       let r = h.hi in
       let new_is : new ≡ h.front ++ entry e.lo (k -ℤ pos 1) e.value ∷ h.back = n ∙ ap (with_end s y) h.parts ∙ end_moved eq b high es s z h y h.back ∙ ap (λ x. h.front ++ entry e.lo x e.value ∷ h.back) q in
       parted new (h.front ++ entry e.lo (k -ℤ pos 1) e.value ∷ h.back) new_is (cut_end eq laws k h.front under e h.back h.here.2 over (omega (arith, ints)) (omega (arith, ints)))
 
-  pub start_cut : (n : ℤ) (new : List (Entry V)) → s ≡ k → k <ℤ z → n ≡ k +ℤ pos 1 → IsStartMoved s n es new → IsCutOf eq k es new
-  start_cut n new u w q m =
+  pub start_cut : s ≡ k → (n : ℤ) (new : List (Entry V)) → k <ℤ z → n ≡ k +ℤ pos 1 → IsStartMoved s n es new → IsCutOf eq k es new
+  start_cut u n new w q m =
       let l = h.lo in
       let r = h.hi in
       let one = is_holder eq b high es s z h m.found in
@@ -119,8 +119,8 @@ module _ {V : Type 0} (eq : V → V → Bool) (laws : IsEquivalence eq) (k high 
       let like : eq e.value i.value ≡ true = subst (λ (x : Entry V). eq x.value i.value ≡ true) (sym one) (alike i.of.value i.value i.clone) in
       parted new (h.front ++ entry e.lo (k -ℤ pos 1) e.value ∷ entry (k +ℤ pos 1) e.hi i.value ∷ h.back) new_is (cut_inside eq laws k h.front under e h.back i.value (omega (arith, ints)) (omega (arith, ints)) like)
 
-  pub whole_cut : (new : List (Entry V)) → s ≡ k → z ≡ k → new ≡ without s es → IsCutOf eq k es new
-  whole_cut new u w n =
+  pub whole_cut : s ≡ k → z ≡ k → (new : List (Entry V)) → new ≡ without s es → IsCutOf eq k es new
+  whole_cut u w new n =
       let l = h.lo in
       let r = h.hi in
       parted new (h.front ++ h.back) (n ∙ taken_out eq b high es s z h) (cut_whole eq laws k h.front under e h.back h.here.2 over (omega (arith, ints)) (omega (arith, ints)))

@@ -24,11 +24,13 @@ fn cut_inside<T: Integer, V: Eq + Clone>(
 ) -> Result<V, AllocError>
     requires clones { ClonesAreAlike V.is_clone V.eq }
     requires canonical { IsCanonical V.eq entries.old.entries }
-    requires found { IsLastBelow (T.rank key +ℤ pos 1) (T.rank start) (T.rank end) entries.old.entries }
+    requires found { IsLastBelow
+        (T.rank key +ℤ pos 1) (T.rank start) (T.rank end) entries.old.entries }
     requires starts_below { T.rank start <ℤ T.rank key }
     requires ends_above { T.rank key <ℤ T.rank end }
     ensures cut { OnOk result (IsCutOf V.eq (T.rank key) entries.old.entries entries.new.entries) }
-    ensures value { IfOk result (λ value. SameOption V.eq (at entries.old.entries (T.rank key)) (Some value)) }
+    ensures value { IfOk result
+        (λ value. SameOption V.eq (at entries.old.entries (T.rank key)) (Some value)) }
     ensures worked { OnOk result (IsWorked 1 1 entries.old entries.new) }
     ensures err { OnErr result (entries.new.entries ≡ entries.old.entries) }
 {
@@ -44,15 +46,15 @@ fn cut_end<T: Integer, V: Eq + Clone>(
     entries: &mut Counted<T, V>,
     key: T,
     start: T,
-    end: T,
 ) -> Result<V, AllocError>
     requires clones { ClonesAreAlike V.is_clone V.eq }
     requires canonical { IsCanonical V.eq entries.old.entries }
-    requires found { IsLastBelow (T.rank key +ℤ pos 1) (T.rank start) (T.rank end) entries.old.entries }
+    requires found { IsLastBelow
+        (T.rank key +ℤ pos 1) (T.rank start) (T.rank key) entries.old.entries }
     requires starts_below { T.rank start <ℤ T.rank key }
-    requires ends { T.rank end ≡ T.rank key }
     ensures cut { OnOk result (IsCutOf V.eq (T.rank key) entries.old.entries entries.new.entries) }
-    ensures value { IfOk result (λ value. SameOption V.eq (at entries.old.entries (T.rank key)) (Some value)) }
+    ensures value { IfOk result
+        (λ value. SameOption V.eq (at entries.old.entries (T.rank key)) (Some value)) }
     ensures worked { OnOk result (IsWorked 1 1 entries.old entries.new) }
     ensures err { OnErr result (entries.new.entries ≡ entries.old.entries) }
 {
@@ -66,37 +68,36 @@ fn cut_end<T: Integer, V: Eq + Clone>(
 fn cut_start<T: Integer, V: Eq + Clone>(
     entries: &mut Counted<T, V>,
     key: T,
-    start: T,
     end: T,
 ) -> Result<V, AllocError>
     requires clones { ClonesAreAlike V.is_clone V.eq }
     requires canonical { IsCanonical V.eq entries.old.entries }
-    requires found { IsLastBelow (T.rank key +ℤ pos 1) (T.rank start) (T.rank end) entries.old.entries }
-    requires starts { T.rank start ≡ T.rank key }
+    requires found { IsLastBelow
+        (T.rank key +ℤ pos 1) (T.rank key) (T.rank end) entries.old.entries }
     requires ends_above { T.rank key <ℤ T.rank end }
     ensures cut { OnOk result (IsCutOf V.eq (T.rank key) entries.old.entries entries.new.entries) }
-    ensures value { IfOk result (λ value. SameOption V.eq (at entries.old.entries (T.rank key)) (Some value)) }
+    ensures value { IfOk result
+        (λ value. SameOption V.eq (at entries.old.entries (T.rank key)) (Some value)) }
     ensures worked { OnOk result (IsWorked 1 1 entries.old entries.new) }
     ensures err { OnErr result (entries.new.entries ≡ entries.old.entries) }
 {
     entries.in_hand();
-    let value = entries.clone_value(start)?;
-    entries.move_start(start, after(key, end))?;
+    let value = entries.clone_value(key)?;
+    entries.move_start(key, after(key, end))?;
     Ok(value)
 }
 
 // Takes the entry out that has the key alone.
-fn cut_whole<T: Integer, V: Eq + Drop>(entries: &mut Counted<T, V>, key: T, start: T, end: T) -> V
+fn cut_whole<T: Integer, V: Eq + Drop>(entries: &mut Counted<T, V>, key: T) -> V
     requires canonical { IsCanonical V.eq entries.old.entries }
-    requires found { IsLastBelow (T.rank key +ℤ pos 1) (T.rank start) (T.rank end) entries.old.entries }
-    requires starts { T.rank start ≡ T.rank key }
-    requires ends { T.rank end ≡ T.rank key }
+    requires found { IsLastBelow
+        (T.rank key +ℤ pos 1) (T.rank key) (T.rank key) entries.old.entries }
     ensures cut { IsCutOf V.eq (T.rank key) entries.old.entries entries.new.entries }
     ensures value { SameOption V.eq (at entries.old.entries (T.rank key)) (Some result) }
     ensures worked { IsWorked 1 1 entries.old entries.new }
 {
     entries.in_hand();
-    entries.remove(start)
+    entries.remove(key)
 }
 
 // Takes a key out of the entry that has it.
@@ -108,11 +109,13 @@ fn cut_holder<T: Integer, V: Eq + Clone>(
 ) -> Result<V, AllocError>
     requires clones { ClonesAreAlike V.is_clone V.eq }
     requires canonical { IsCanonical V.eq entries.old.entries }
-    requires found { IsLastBelow (T.rank key +ℤ pos 1) (T.rank start) (T.rank end) entries.old.entries }
+    requires found { IsLastBelow
+        (T.rank key +ℤ pos 1) (T.rank start) (T.rank end) entries.old.entries }
     requires starts { T.rank start ≤ℤ T.rank key }
     requires ends { T.rank key ≤ℤ T.rank end }
     ensures cut { OnOk result (IsCutOf V.eq (T.rank key) entries.old.entries entries.new.entries) }
-    ensures value { IfOk result (λ value. SameOption V.eq (at entries.old.entries (T.rank key)) (Some value)) }
+    ensures value { IfOk result
+        (λ value. SameOption V.eq (at entries.old.entries (T.rank key)) (Some value)) }
     ensures worked { OnOk result (IsWorked 1 1 entries.old entries.new) }
     ensures refused { OnErr result (T.rank start <ℤ T.rank end) }
     ensures err { OnErr result (entries.new.entries ≡ entries.old.entries) }
@@ -121,12 +124,12 @@ fn cut_holder<T: Integer, V: Eq + Clone>(
         if is_below(key, end) {
             cut_inside(entries, key, start, end)
         } else {
-            cut_end(entries, key, start, end)
+            cut_end(entries, key, start)
         }
     } else if is_below(key, end) {
-        cut_start(entries, key, start, end)
+        cut_start(entries, key, end)
     } else {
-        Ok(cut_whole(entries, key, start, end))
+        Ok(cut_whole(entries, key))
     }
 }
 
@@ -139,10 +142,13 @@ pub fn cut<T: Integer, V: Eq + Clone>(
 ) -> Result<(Option<V>, T::SafeLen), AllocError>
     requires clones { ClonesAreAlike V.is_clone V.eq }
     requires table { IsTable V.eq T.low T.high (T.SafeLen.number len) entries.old.entries }
-    ensures table { IfOk result (λ r. IsTable V.eq T.low T.high (T.SafeLen.number r.1) entries.new.entries) }
-    ensures cut { OnOk result (IsListCut V.eq (T.rank key) entries.old.entries entries.new.entries) }
+    ensures table { IfOk result
+        (λ r. IsTable V.eq T.low T.high (T.SafeLen.number r.1) entries.new.entries) }
+    ensures cut { OnOk result
+        (IsListCut V.eq (T.rank key) entries.old.entries entries.new.entries) }
     ensures value { IfOk result (λ r. SameOption V.eq (at entries.old.entries (T.rank key)) r.0) }
-    ensures none { at entries.old.entries (T.rank key) ≡ None → (result ≡ Ok (None, len)) × (entries.new.entries ≡ entries.old.entries) }
+    ensures none { at entries.old.entries (T.rank key) ≡ None
+        → (result ≡ Ok (None, len)) × (entries.new.entries ≡ entries.old.entries) }
     ensures counted { OnOk result (IsCountedCut entries.old entries.new) }
     ensures refused { OnErr result (IsAmongOthers (T.rank key) entries.old.entries) }
     ensures err { OnErr result (entries.new.entries ≡ entries.old.entries) }

@@ -1,6 +1,6 @@
 //! Entries split at a key, in place. What is to be put in is put in before the split, which can be refused; only then is
 //! anything else edited.
-ghost use Rattle.std.specs.Prelude.{◌≡◌, Some, pos, ◌+◌, ◌+ℤ◌, ◌≤ℤ◌, ◌<ℤ◌, IfOk, OnErr};
+ghost use Rattle.std.specs.Prelude.{◌≡◌, pos, ◌+ℤ◌, ◌≤ℤ◌, IfOk, OnErr};
 ghost use Rattle.std.specs.Option.{option_map};
 ghost use Rattle.blaze_entries.specs.Counted.{uncounted};
 ghost use Rattle.blaze_entries.specs.Found.{range_in, ranks_of};
@@ -27,26 +27,28 @@ fn range_below<T: Integer, V>(entries: &Entries<T, V>, key: T) -> Option<(T, T)>
     Some((entry.0, entry.1))
 }
 
-// Splits entries at a key that one of them has, and does not start at.
+// Splits entries at a key that one of them has and does not start at, by that one's first and last key.
 fn split_across<T: Integer, V: Eq + Clone>(
     entries: &mut Entries<T, V>,
     key: T,
-    start: T,
-    end: T,
+    ends: (T, T),
 ) -> Result<Entries<T, V>, AllocError>
     requires clones { ClonesAreAlike V.is_clone V.eq }
     requires canonical { IsCanonical V.eq entries.old.entries }
-    requires found { IsLastBelow (T.rank key) (T.rank start) (T.rank end) entries.old.entries }
-    requires ends { T.rank key ≤ℤ T.rank end }
-    ensures split { IfOk result (λ from. IsSplitOf V.eq (T.rank key) entries.old.entries entries.new.entries from.entries) }
-    ensures same { IfOk result (λ from. (entries.new ≡ record entries.old { entries = entries.new.entries }) × (from ≡ uncounted from.entries)) }
+    requires found { IsLastBelow (T.rank key) (T.rank ends.0) (T.rank ends.1) entries.old.entries }
+    requires reaches { T.rank key ≤ℤ T.rank ends.1 }
+    ensures split { IfOk result (λ from. IsSplitOf V.eq
+        (T.rank key) entries.old.entries entries.new.entries from.entries) }
+    ensures same { IfOk result
+        (λ from. (entries.new ≡ record entries.old { entries = entries.new.entries })
+        × (from ≡ uncounted from.entries)) }
     ensures err { OnErr result (entries.new ≡ entries.old) }
 {
     entries.in_hand();
-    entries.insert_clone(start, key)?;
+    entries.insert_clone(ends.0, key)?;
     match entries.split_off(key) {
         Ok(from) => {
-            entries.set_end(start, before(key, start));
+            entries.set_end(ends.0, before(key, ends.0));
             Ok(from)
         }
         Err(refused) => {
@@ -63,13 +65,16 @@ fn split_at<T: Integer, V: Eq + Clone>(
 ) -> Result<Entries<T, V>, AllocError>
     requires clones { ClonesAreAlike V.is_clone V.eq }
     requires canonical { IsCanonical V.eq entries.old.entries }
-    ensures split { IfOk result (λ from. IsSplitOf V.eq (T.rank key) entries.old.entries entries.new.entries from.entries) }
-    ensures same { IfOk result (λ from. (entries.new ≡ record entries.old { entries = entries.new.entries }) × (from ≡ uncounted from.entries)) }
+    ensures split { IfOk result (λ from. IsSplitOf V.eq
+        (T.rank key) entries.old.entries entries.new.entries from.entries) }
+    ensures same { IfOk result
+        (λ from. (entries.new ≡ record entries.old { entries = entries.new.entries })
+        × (from ≡ uncounted from.entries)) }
     ensures err { OnErr result (entries.new ≡ entries.old) }
 {
     entries.in_hand();
     match range_below(entries, key) {
-        Some(ends) if is_at_most(key, ends.1) => split_across(entries, key, ends.0, ends.1),
+        Some(ends) if is_at_most(key, ends.1) => split_across(entries, key, ends),
         _ => entries.split_off(key),
     }
 }
@@ -82,7 +87,8 @@ fn count_parts<T: Integer, V: Eq>(
 ) -> (T::SafeLen, T::SafeLen)
     requires below { IsCanonical V.eq below.now.entries }
     requires from { IsCanonical V.eq from.now.entries }
-    requires counted { keys_in below.now.entries +ℤ keys_in from.now.entries ≡ pos (T.SafeLen.number len) }
+    requires counted { keys_in below.now.entries +ℤ keys_in from.now.entries
+        ≡ pos (T.SafeLen.number len) }
     ensures below { pos (T.SafeLen.number result.0) ≡ keys_in below.now.entries }
     ensures from { pos (T.SafeLen.number result.1) ≡ keys_in from.now.entries }
 {
@@ -105,10 +111,15 @@ pub fn split<T: Integer, V: Eq + Clone>(
 ) -> Result<(Entries<T, V>, T::SafeLen, T::SafeLen), AllocError>
     requires clones { ClonesAreAlike V.is_clone V.eq }
     requires table { IsTable V.eq T.low T.high (T.SafeLen.number len) entries.old.entries }
-    ensures below { IfOk result (λ r. IsTable V.eq T.low T.high (T.SafeLen.number r.1) entries.new.entries) }
-    ensures from { IfOk result (λ r. IsTable V.eq T.low T.high (T.SafeLen.number r.2) r.0.entries) }
-    ensures split { IfOk result (λ r. IsListSplit V.eq (T.rank key) entries.old.entries entries.new.entries r.0.entries) }
-    ensures same { IfOk result (λ r. (entries.new ≡ record entries.old { entries = entries.new.entries }) × (r.0 ≡ uncounted r.0.entries)) }
+    ensures below { IfOk result
+        (λ r. IsTable V.eq T.low T.high (T.SafeLen.number r.1) entries.new.entries) }
+    ensures from { IfOk result
+        (λ r. IsTable V.eq T.low T.high (T.SafeLen.number r.2) r.0.entries) }
+    ensures split { IfOk result (λ r. IsListSplit V.eq
+        (T.rank key) entries.old.entries entries.new.entries r.0.entries) }
+    ensures same { IfOk result
+        (λ r. (entries.new ≡ record entries.old { entries = entries.new.entries })
+        × (r.0 ≡ uncounted r.0.entries)) }
     ensures err { OnErr result (entries.new ≡ entries.old) }
 {
     let from = split_at(entries, key)?;
