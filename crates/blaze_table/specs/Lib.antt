@@ -17,3 +17,4 @@ pub mod Listed
 pub mod Splice
 pub mod Keeping
 pub mod Planned
+pub mod CountedCut

@@ -129,10 +129,3 @@ pub record IsCountedPaint {V : Type 0} (old new : CountedEntries V) : Type 0 whe
   pub balance : length new.entries + new.taken_out + old.put_in ≡ length old.entries + old.taken_out + new.put_in
   pub taken : old.taken_out ≤ new.taken_out
   pub looks : new.looks + 2 * old.taken_out ≤ old.looks + 2 * new.taken_out + 6
-
--- What a successful cut counts.
-pub record IsCountedCut {V : Type 0} (old new : CountedEntries V) : Type 0 where
-  pub puts : new.put_in ≤ old.put_in + 1
-  pub balance : length new.entries + new.taken_out + old.put_in ≡ length old.entries + old.taken_out + new.put_in
-  pub taken : old.taken_out ≤ new.taken_out
-  pub looks : new.looks + 2 * old.taken_out ≤ old.looks + 2 * new.taken_out + 6

@@ -3,7 +3,7 @@ ghost use Rattle.std.specs.Prelude.{◌≡◌, None, Ok, IfOk, OnOk, OnErr};
 ghost use Rattle.blaze_table.specs.Cut.{IsAmongOthers};
 ghost use Rattle.blaze_table.specs.Entries.{at, SameOption};
 ghost use Rattle.blaze_table.specs.Painted.{ClonesAreAlike};
-ghost use Rattle.blaze_table.specs.Planned.{IsCountedCut};
+ghost use Rattle.blaze_table.specs.CountedCut.{IsCountedCut};
 ghost use Rattle.blaze_table.specs.Splice.{IsListCut};
 ghost use Rattle.blaze_table.specs.Table.{IsTable};
 

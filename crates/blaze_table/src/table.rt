@@ -9,7 +9,8 @@ ghost use Rattle.blaze_table.specs.Painted.{IsPainted, ClonesAreAlike, IsInside}
 ghost use Rattle.blaze_table.specs.Cut.{IsCut, IsSplit, IsAmongOthers};
 ghost use Rattle.blaze_table.specs.Gap.{IsGap};
 ghost use Rattle.blaze_table.specs.Listed.{listed};
-ghost use Rattle.blaze_table.specs.Planned.{IsCountedPaint, IsCountedCut};
+ghost use Rattle.blaze_table.specs.CountedCut.{IsCountedCut};
+ghost use Rattle.blaze_table.specs.Planned.{IsCountedPaint};
 ghost use Rattle.blaze_table.specs.Retain.{AnswersAt, IsCallableAtEach, IsKeyRetained};
 
 use crate::copy::clone_entries;
