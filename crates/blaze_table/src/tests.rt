@@ -75,8 +75,6 @@ fn paints_by_one_walk_and_by_single_looks(rt: HostRuntime) -> Result<(), Fail> {
 }
 
 #[test]
-fn neighbours(
-#[test]
 fn neighbours(rt: HostRuntime) -> Result<(), Fail> {
     let subject = table(rt.alloc(), &[(1, 3, 'a'), (6, 8, 'b'), (20, 20, 'c')])?;
     assert_eq!(rt; subject.next_above(3), Some((6, 8, &'b')));
