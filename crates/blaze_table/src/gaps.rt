@@ -7,7 +7,7 @@ ghost use Rattle.blaze_table.specs.Gap.{IsGap, IsClearFrom};
 use crate::search::entry_above;
 use blaze_entries::Entries;
 use blaze_int::Integer;
-use blaze_int::compare::{after, before as key_before};
+use blaze_int::compare::{after, before};
 
 /// The gap round a key that has no value.
 pub fn gap_round<T: Integer, V: Eq>(entries: &Entries<T, V>, key: T) -> (T, T)
@@ -54,7 +54,8 @@ fn gap_end<T: Integer, V: Eq>(entries: &Entries<T, V>, key: T) -> T
         Some(found) => {
             let start = found.0;
             start.in_hand();
-            key_before(start, key)
+            let last = before(start, key);
+            last
         }
         None => T::max_value(),
     }
