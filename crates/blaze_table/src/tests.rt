@@ -37,9 +37,33 @@ fn neighbours(rt: HostRuntime) -> Result<(), Fail> {
     assert_eq!(rt; subject.next_above(3), Some((6, 8, &'b')));
     assert_eq!(rt; subject.next_above(7), Some((20, 20, &'c')));
     assert_eq!(rt; subject.next_above(20), None);
+    assert_eq!(rt; subject.next_above(i64::MAX), None);
     assert_eq!(rt; subject.next_below(6), Some((1, 3, &'a')));
     assert_eq!(rt; subject.next_below(21), Some((20, 20, &'c')));
     assert_eq!(rt; subject.next_below(3), None);
+    Ok(())
+}
+
+#[test]
+fn gaps(rt: HostRuntime) -> Result<(), Fail> {
+    let subject = table(rt.alloc(), &[(1, 3, 'a'), (6, 8, 'b')])?;
+    for (key, gap) in [(0, (i64::MIN, 0)), (5, (4, 5)), (9, (9, i64::MAX))] {
+        if subject.find(key).is_none() {
+            assert_eq!(rt; subject.gap_round(key), gap);
+        }
+    }
+    Ok(())
+}
+
+#[test]
+fn paints_by_splice(rt: HostRuntime) -> Result<(), Fail> {
+    let mut subject = RangeTable::new(rt.alloc());
+    assert!(rt; subject.paint_by_splice(0, 9, 'a')?);
+    assert!(rt; !subject.paint_by_splice(2, 4, 'b')?);
+    assert!(rt; !subject.paint_by_splice(3, 3, 'b')?);
+    check_entries(&rt, &subject, &[(0, 1, 'a'), (2, 4, 'b'), (5, 9, 'a')]);
+    assert!(rt; subject.paint_by_splice(5, 12, 'b')?);
+    check_entries(&rt, &subject, &[(0, 1, 'a'), (2, 12, 'b')]);
     Ok(())
 }
 
