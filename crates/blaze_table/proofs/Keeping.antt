@@ -56,10 +56,6 @@ module _ {F T V : Type 0} (R : F → T × V → Bool → F → Type 0) (f : F) (
     content = h.content;
   }
 
-  -- nothing more is asked at
-  pub more_none : (a : ℤ) (es : List (Entry V)) → KeepsMore R f rank eq low high [] a a es es
-  more_none a es pairs h = subst (λ ps. IsKept R f rank eq low high ps a es) (sym (append-nil pairs)) h
-
   -- one part of the pairs, and then another
   pub more_both : (xs ys : List (T × V)) (a b c d : ℤ) (old mid new : List (Entry V)) → b ≤ℤ c → KeepsMore R f rank eq low high xs a b old mid → KeepsMore R f rank eq low high ys c d mid new → KeepsMore R f rank eq low high (xs ++ ys) a d old new
   more_both xs ys a b c d old mid new l p q pairs h = subst (λ ps. IsKept R f rank eq low high ps d new) (append_assoc pairs xs ys) (q (pairs ++ xs) (kept_below (pairs ++ xs) b c mid l (p pairs h)))

@@ -5,7 +5,6 @@ pub mod Fewest
 pub mod Splices
 pub mod Painted
 pub mod ListLaws
-pub mod Order
 pub mod Mapped
 pub mod Counted
 pub mod Inside

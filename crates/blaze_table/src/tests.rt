@@ -80,6 +80,7 @@ fn neighbours(rt: HostRuntime) -> Result<(), Fail> {
     assert_eq!(rt; subject.next_above(3), Some((6, 8, &'b')));
     assert_eq!(rt; subject.next_above(7), Some((20, 20, &'c')));
     assert_eq!(rt; subject.next_above(20), None);
+    assert_eq!(rt; subject.next_above(i64::MAX), None);
     assert_eq!(rt; subject.next_below(6), Some((1, 3, &'a')));
     assert_eq!(rt; subject.next_below(21), Some((20, 20, &'c')));
     assert_eq!(rt; subject.next_below(3), None);
