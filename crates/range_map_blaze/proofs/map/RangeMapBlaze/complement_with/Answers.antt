@@ -2,9 +2,8 @@ use Rattle.std.proofs.Common.{[], ◌++◌, ◌∷◌, ◌∙◌, sym, ap, subst
 use Rattle.std.proofs.lemmas.List.{map-append}
 use Rattle.blaze_table.specs.Entries.{entry, SameEntries, shown_entry}
 use Rattle.blaze_table.specs.RangeSets.{bare_range, unit_eq}
-use Rattle.range_map_blaze.proofs.Streams.{same-push}
 use Rattle.range_map_blaze.proofs.Choices.{complement_of}
-use Rattle.range_map_blaze.proofs.Streams.{range_map_as}
+use Rattle.range_map_blaze.proofs.Streams.{same-push, range_map_as}
 use Rattle.range_map_blaze.proofs.Valued.{valued, valued-append, valued_map, complement_as}
 use Rattle.range_map_blaze.proofs.map.RangeMapBlaze.complement_with.Goals as goal
 
