@@ -35,8 +35,9 @@ impl<T: Integer, V: Eq + Clone> RangeMapBlaze<T, V> {
     /// Puts a value on the keys of a range, over what was there, and answers whether the number of keys changed.
     ///
     /// The bounds are those that the range tells: through `RangeBounds` a `RangeInclusive` that was iterated to its end
-    /// has an excluded end and names no key. Bounds that name no key answer false and change nothing. Inside one entry with an equal value nothing changes, the
-    /// stored value neither. Both take no memory. Refused memory leaves the map unchanged.
+    /// has an excluded end and names no key. Bounds that name no key answer false and change nothing. Inside one entry with
+    /// an equal value nothing changes, the stored value neither. Both take no memory. Refused memory leaves the map
+    /// unchanged.
     pub fn ranges_insert<R: RangeBounds<T> + Drop>(
         &mut self,
         range: R,
