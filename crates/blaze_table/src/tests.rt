@@ -62,8 +62,22 @@ fn paints_by_one_walk_and_by_single_looks(rt: HostRuntime) -> Result<(), Fail> {
     let apart = [(0, 2, 'a'), (4, 6, 'b'), (8, 9, 'c')];
     let over = [(0, 0, 'a'), (1, 8, 'd'), (9, 9, 'c')];
     check_paint(&rt, alloc, &apart, (1, 8, 'd'), true, &over)?;
-    check_paint(&rt, alloc, &[(5, 9, 'a')], (0, 9, 'a'), true, &[(0, 9, 'a')])?;
-    check_paint(&rt, alloc, &[(5, 9, 'a')], (5, 20, 'a'), true, &[(5, 20, 'a')])?;
+    check_paint(
+        &rt,
+        alloc,
+        &[(5, 9, 'a')],
+        (0, 9, 'a'),
+        true,
+        &[(0, 9, 'a')],
+    )?;
+    check_paint(
+        &rt,
+        alloc,
+        &[(5, 9, 'a')],
+        (5, 20, 'a'),
+        true,
+        &[(5, 20, 'a')],
+    )?;
     let halves = [(0, 4, 'b'), (5, 9, 'a')];
     check_paint(&rt, alloc, &[(0, 9, 'a')], (0, 4, 'b'), false, &halves)?;
     let mut bytes = RangeTable::new(alloc);

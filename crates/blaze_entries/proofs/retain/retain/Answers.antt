@@ -15,7 +15,7 @@ loop-found-init g c =
     let old = entries_of rank c.args.tree.now.entries in (
       c.requires.held,
       subst (λ k. IsAsked (AnswersAt rank g.F.FnMut) c.args.f low high old k old c.args.f) (sym c.min_value-from.ensures)
-      (asked_none (AnswersAt rank g.F.FnMut) c.args.f low high old c.requires.held.ascend),
+          (asked_none (AnswersAt rank g.F.FnMut) c.args.f low high old c.requires.held.ascend),
     )
 
 pub f-stays-requires : goal.f-stays-requires

@@ -16,9 +16,9 @@ loop-start-init g c =
       tt,
       tt,
       subst (λ left. IsReached (AnswersAtPair g.F.Fn) c.args.f.now rank g.V.PartialEq.eq g.T.Integer.low g.T.Integer.high g.T.Integer.of_rank all left len (listed rank c.new-out.result.items))
-      (sym (c.into_iter-start-iterator.ensures.into_iter_gives ∙ c.iter-start-items.ensures))
-      (subst (λ es. IsReached (AnswersAtPair g.F.Fn) c.args.f.now rank g.V.PartialEq.eq g.T.Integer.low g.T.Integer.high g.T.Integer.of_rank all all len (listed rank es)) (sym c.new-out.ensures.items)
-      (reached_none (AnswersAtPair g.F.Fn) c.args.f.now rank g.V.PartialEq.eq g.T.Integer.low g.T.Integer.high g.T.Integer.of_rank all len c.requires.table.are_keys c.requires.table.counted)),
+          (sym (c.into_iter-start-iterator.ensures.into_iter_gives ∙ c.iter-start-items.ensures))
+          (subst (λ es. IsReached (AnswersAtPair g.F.Fn) c.args.f.now rank g.V.PartialEq.eq g.T.Integer.low g.T.Integer.high g.T.Integer.of_rank all all len (listed rank es)) (sym c.new-out.ensures.items)
+          (reached_none (AnswersAtPair g.F.Fn) c.args.f.now rank g.V.PartialEq.eq g.T.Integer.low g.T.Integer.high g.T.Integer.of_rank all len c.requires.table.are_keys c.requires.table.counted)),
     )
 
 pub keep_keys-requires-clause-order : goal.keep_keys-requires-clause-order
@@ -47,8 +47,8 @@ loop-start-preserved g c =
       tt,
       tt,
       reached_more (AnswersAtPair g.F.Fn) c.args.f.now rank g.V.PartialEq.eq g.T.Integer.low g.T.Integer.high g.T.Integer.of_rank all _ _ _ out
-      (subst (λ left. IsReached (AnswersAtPair g.F.Fn) c.args.f.now rank g.V.PartialEq.eq g.T.Integer.low g.T.Integer.high g.T.Integer.of_rank all left (pos (g.T.SafeLen.SafeLength.number c.loop-start.left)) out) c.in-Some.ensures.steps c.loop-start.invariant.2)
-      c.requires.table.canonical _ _ c.in_ok-left.ensures.kept c.in_ok-left.ensures.counted,
+          (subst (λ left. IsReached (AnswersAtPair g.F.Fn) c.args.f.now rank g.V.PartialEq.eq g.T.Integer.low g.T.Integer.high g.T.Integer.of_rank all left (pos (g.T.SafeLen.SafeLength.number c.loop-start.left)) out) c.in-Some.ensures.steps c.loop-start.invariant.2)
+          c.requires.table.canonical _ _ c.in_ok-left.ensures.kept c.in_ok-left.ensures.counted,
     )
 
 pub returns-clause-retained : goal.returns-clause-retained
