@@ -17,6 +17,8 @@ use std::ops::RangeInclusive;
 #[derive(Drop)]
 pub struct RangeValuesIter<'a, T: Integer, V: Eq> {
     entries: Iter<'a, T, V>,
+    // Its type says that keys and values live as long as the table is lent.
+    table: &'a RangeTable<T, V>,
 }
 
 impl<'a, T: Integer, V: Eq> Model for RangeValuesIter<'a, T, V> {
@@ -42,6 +44,7 @@ impl<'a, T: Integer, V: Eq> RangeValuesIter<'a, T, V> {
         table.in_hand();
         RangeValuesIter {
             entries: table.iter(),
+            table,
         }
     }
 }
