@@ -9,7 +9,7 @@ use Rattle.blaze_table.specs.Canonical.{IsDisjoint, IsClear}
 use Rattle.blaze_table.specs.Count.{nat_of}
 use Rattle.blaze_table.specs.Pairs.{pairs_from, pairs_of, pair_list}
 use Rattle.blaze_table.proofs.PairLists.{nat_of-pos, pairs_first, pairs_last, pairs_one, pair_list-append}
-use Rattle.blaze_iters.specs.Left.{RangesLeft, ranges_left, pairs_left, seen, IsRestAfter, IsRestBefore}
+use Rattle.blaze_iters.specs.Left.{RangesLeft, ranges_left, pairs_left, seen, OpensFirst, OpensLast, IsRestAfter, IsRestBefore}
 use Rattle.blaze_iters.specs.Owned.{OwnedLeft, owned_ranges, HasSeveralFirst, HasSeveralLast}
 
 module _ {K V : Type 0} (of_rank : ℤ → K) where
@@ -96,6 +96,14 @@ module _ {K V : Type 0} (rank : K → ℤ) (of_rank : ℤ → K) (s : OwnedLeft 
 
   pub some_of_last : HasSeveralLast s → 1 ≤ length (pairs_left of_rank (λ es. es) s)
   some_of_last h = let full : h.0.lo ≤ℤ h.0.hi = omega (arith, ints, h.3) in rw h.2 (some_last of_rank h.1 h.0 full)
+
+-- the range that is opened at the near end is not asked for
+module _ {V I : Type 0} (left : I → List (Entry V)) (s t : RangesLeft V I) (near : Option (Entry V)) where
+  pub opened_first : OpensFirst left s t → OpensFirst left s (record t { front = near })
+  opened_first o = record { between = o.between; far = o.far }
+
+  pub opened_last : OpensLast left s t → OpensLast left s (record t { back = near })
+  opened_last o = record { between = o.between; far = o.far }
 
 -- the last of entries that are not empty is not
 pub last_full : {V : Type 0} (es : List (Entry V)) (e : Entry V) → IsDisjoint (es ++ e ∷ []) → e.lo ≤ℤ e.hi

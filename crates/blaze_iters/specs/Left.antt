@@ -1,5 +1,6 @@
 -- What a key-wise iterator has left.
-use Rattle.std.specs.Prelude.{◌≡◌, ℤ, pos, ◌+ℤ◌, ◌≤ℤ◌, List, ◌++◌, map, Option, None, Some, MatchOption, option_map}
+use Rattle.std.specs.Prelude.{◌≡◌, ℤ, pos, ◌+ℤ◌, ◌≤ℤ◌, List, [], ◌∷◌, ◌++◌, map, reverse, Option, None, Some, IfSome, MatchOption, option_map}
+use Rattle.std.specs.Iterator.{YieldsFirstBy, YieldsLastBy}
 use Rattle.std.specs.Option.{option_to_list}
 use Rattle.blaze_table.specs.Entries.{Entry, shown_entry}
 use Rattle.blaze_table.specs.Pairs.{pair_list}
@@ -27,6 +28,41 @@ keys_left of_rank left s = map (λ p. p.0) (pairs_left of_rank left s)
 
 abbrev pub values_left : {K V I : Type 0} → (ℤ → K) → (I → List (Entry V)) → RangesLeft V I → List V
 values_left of_rank left s = map (λ p. p.1) (pairs_left of_rank left s)
+
+-- ---- which range a call opens
+
+-- the ranges between, once one more is taken from the front: none is taken where one is opened there
+abbrev pub between_after : {V : Type 0} → Option (Entry V) → List (Entry V) → List (Entry V)
+between_after (Some e) es = es
+between_after None [] = []
+between_after None (e ∷ es) = es
+
+-- the range that is opened at the far end: it is taken where no other is left
+abbrev pub far_after : {V : Type 0} → Option (Entry V) → List (Entry V) → Option (Entry V) → Option (Entry V)
+far_after (Some e) es far = far
+far_after None (e ∷ es) far = far
+far_after None [] far = None
+
+module _ {V I : Type 0} (left : I → List (Entry V)) where
+  -- Where a range is opened at the front, the ranges between stay, and so does the back; else the first of those between is
+  -- opened and the back stays; only where none is between is the range at the back taken.
+  pub record OpensFirst (s t : RangesLeft V I) : Type 0 where
+    pub between : left t.inner ≡ between_after s.front (left s.inner)
+    pub far : t.back ≡ far_after s.front (left s.inner) s.back
+
+  -- the same from the back
+  pub record OpensLast (s t : RangesLeft V I) : Type 0 where
+    pub between : reverse (left t.inner) ≡ between_after s.back (reverse (left s.inner))
+    pub far : t.front ≡ far_after s.back (reverse (left s.inner)) s.front
+
+  module _ {A B : Type 0} (view : A → B) (items : RangesLeft V I → List B) where
+    -- a call from s gave the first of what was left, as `YieldsFirstBy` says, and opened no other range than it must
+    abbrev pub YieldsOpeningFirst : RangesLeft V I → Option A → RangesLeft V I → Type 0
+    YieldsOpeningFirst s r t = YieldsFirstBy view items s r t × IfSome r (λ _. OpensFirst s t)
+
+    -- the same from the back
+    abbrev pub YieldsOpeningLast : RangesLeft V I → Option A → RangesLeft V I → Type 0
+    YieldsOpeningLast s r t = YieldsLastBy view items s r t × IfSome r (λ _. OpensLast s t)
 
 -- a key with what shows its value
 abbrev pub shown_pair : {K R V : Type 0} → (R → V) → K × R → K × V

@@ -3,7 +3,7 @@ use Rattle.std.specs.Prelude.{◌≡◌, ◌<ℤ◌, Bool, true, List, [], ◌�
 use Rattle.std.specs.declared.alloc.AllocError.{AllocError}
 use Rattle.blaze_table.specs.Entries.{Entry}
 use Rattle.blaze_table.specs.Canonical.{IsDisjoint}
-use Rattle.blaze_iters.specs.Left.{RangesLeft, unopened, ranges_left, AreFull}
+use Rattle.blaze_iters.specs.Left.{RangesLeft, unopened, ranges_left, AreFull, OpensFirst, OpensLast}
 
 -- what an iterator by value has left
 abbrev pub OwnedLeft : Type 0 → Type 0
@@ -25,16 +25,16 @@ abbrev pub HasSeveralLast : {V : Type 0} → OwnedLeft V → Type 0
 HasSeveralLast {V} s = (e : Entry V) × (es : List (Entry V)) × (owned_ranges s ≡ es ++ e ∷ []) × (e.lo <ℤ e.hi)
 
 module _ {V A B : Type 0} (items : OwnedLeft V → List B) (IsGiven : A → B → Type 0) where
-  -- a call from s gave the first of what was left, or was refused a clone, where that is not the last key of its range: then
-  -- nothing is left. It gave `None` where nothing was left
+  -- a call from s gave the first of what was left and opened no other range than it must, or was refused a clone, where that
+  -- is not the last key of its range: then nothing is left. It gave `None` where nothing was left
   abbrev pub GivesFirst : OwnedLeft V → Option (Result A AllocError) → OwnedLeft V → Type 0
   GivesFirst s r t = MatchOption r ((items s ≡ []) × (items t ≡ []))
-      (λ given. MatchResult given (λ a. (b : B) × (items s ≡ b ∷ items t) × IsGiven a b) (λ _. HasSeveralFirst s × (t ≡ unopened [])))
+      (λ given. MatchResult given (λ a. ((b : B) × (items s ≡ b ∷ items t) × IsGiven a b) × OpensFirst (λ es. es) s t) (λ _. HasSeveralFirst s × (t ≡ unopened [])))
 
   -- the same from the back
   abbrev pub GivesLast : OwnedLeft V → Option (Result A AllocError) → OwnedLeft V → Type 0
   GivesLast s r t = MatchOption r ((items s ≡ []) × (items t ≡ []))
-      (λ given. MatchResult given (λ a. (b : B) × (items s ≡ items t ++ b ∷ []) × IsGiven a b) (λ _. HasSeveralLast s × (t ≡ unopened [])))
+      (λ given. MatchResult given (λ a. ((b : B) × (items s ≡ items t ++ b ∷ []) × IsGiven a b) × OpensLast (λ es. es) s t) (λ _. HasSeveralLast s × (t ≡ unopened [])))
 
 -- a pair with the stored key, and a value that is equal to the stored one
 abbrev pub IsLikePair : {K V : Type 0} → (V → V → Bool) → K × V → K × V → Type 0

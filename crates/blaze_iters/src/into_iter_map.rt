@@ -1,12 +1,12 @@
 //! The keys of a table, each with its range's value, by value.
 ghost use Rattle.std.specs.Prelude.{◌≡◌, ◌≤◌, ◌≤ℤ◌, [], length, None, IfSome, IfNone, unwrap_or};
-ghost use Rattle.std.specs.Iterator.{YieldsFirst, YieldsLast, YieldsFirstBy, YieldsLastBy, item_count, UpTo};
+ghost use Rattle.std.specs.Iterator.{YieldsFirstBy, YieldsLastBy, item_count, UpTo};
 ghost use Rattle.std.specs.Iterator.SizeHint.{IsWithinCount};
 ghost use Rattle.blaze_table.specs.Entries.{Entry, shown_entry};
 ghost use Rattle.blaze_table.specs.Canonical.{IsDisjoint};
 ghost use Rattle.blaze_table.specs.Painted.{ClonesAreAlike};
 ghost use Rattle.blaze_table.specs.Pairs.{pair_list};
-ghost use Rattle.blaze_iters.specs.Left.{RangesLeft, unopened, seen, pairs_left, keys_left};
+ghost use Rattle.blaze_iters.specs.Left.{RangesLeft, unopened, seen, OpensFirst, OpensLast, YieldsOpeningFirst, YieldsOpeningLast, pairs_left, keys_left};
 ghost use Rattle.blaze_iters.specs.Owned.{OwnedLeft, owned_ranges, IsOwned, GivesFirst, GivesLast, IsLikePair};
 
 use crate::rest::{rest_after, rest_before, second, second_last};
@@ -73,7 +73,7 @@ impl<T: Integer, V: Eq + Drop> IntoIterMap<T, V> {
 
     /// Takes the first key that is left, and clones nothing.
     pub(crate) fn next_key(&mut self) -> Option<T>
-        ensures { YieldsFirst (keys_left T.of_rank (λ es. es)) self.old result self.new }
+        ensures { YieldsOpeningFirst (λ es. es) (λ k. k) (keys_left T.of_rank (λ es. es)) self.old result self.new }
     {
         let (lo, hi, value) = take_first(&mut self.front, &mut self.inner, &mut self.back)?;
         lo.in_hand();
@@ -83,7 +83,7 @@ impl<T: Integer, V: Eq + Drop> IntoIterMap<T, V> {
 
     /// Takes the last key that is left, and clones nothing.
     pub(crate) fn next_back_key(&mut self) -> Option<T>
-        ensures { YieldsLast (keys_left T.of_rank (λ es. es)) self.old result self.new }
+        ensures { YieldsOpeningLast (λ es. es) (λ k. k) (keys_left T.of_rank (λ es. es)) self.old result self.new }
     {
         let (lo, hi, value) = take_last(&mut self.front, &mut self.inner, &mut self.back)?;
         hi.in_hand();
@@ -187,6 +187,7 @@ fn take_first<T: Integer, V: Drop>(
     ensures left { owned_ranges (seen T.rank (λ v. v) front.old (unwrap_or inner.old []) back.old) ≡ owned_ranges (seen T.rank (λ v. v) result (unwrap_or inner.new []) back.new) }
     ensures owned { IsOwned (seen T.rank (λ v. v) result (unwrap_or inner.new []) back.new) }
     ensures front { front.new ≡ None }
+    ensures opens { OpensFirst (λ es. es) (seen T.rank (λ v. v) front.old (unwrap_or inner.old []) back.old) (seen T.rank (λ v. v) front.new (unwrap_or inner.new []) back.new) }
     ensures none { IfNone result (owned_ranges (seen T.rank (λ v. v) None (unwrap_or inner.new []) back.new) ≡ []) }
 {
     if let Some(rest) = front.take() {
@@ -208,6 +209,7 @@ fn take_last<T: Integer, V: Drop>(
     ensures left { owned_ranges (seen T.rank (λ v. v) front.old (unwrap_or inner.old []) back.old) ≡ owned_ranges (seen T.rank (λ v. v) front.new (unwrap_or inner.new []) result) }
     ensures owned { IsOwned (seen T.rank (λ v. v) front.new (unwrap_or inner.new []) result) }
     ensures back { back.new ≡ None }
+    ensures opens { OpensLast (λ es. es) (seen T.rank (λ v. v) front.old (unwrap_or inner.old []) back.old) (seen T.rank (λ v. v) front.new (unwrap_or inner.new []) back.new) }
     ensures none { IfNone result (owned_ranges (seen T.rank (λ v. v) front.new (unwrap_or inner.new []) None) ≡ []) }
 {
     if let Some(rest) = back.take() {

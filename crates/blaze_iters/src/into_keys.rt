@@ -1,9 +1,9 @@
 //! The keys of a table, by value.
 ghost use Rattle.std.specs.Prelude.{◌≡◌, length, None, IfSome, map};
-ghost use Rattle.std.specs.Iterator.{YieldsFirst, YieldsLast, item_count, UpTo};
+ghost use Rattle.std.specs.Iterator.{item_count, UpTo};
 ghost use Rattle.std.specs.Iterator.SizeHint.{IsWithinCount};
 ghost use Rattle.blaze_table.specs.Pairs.{pair_list};
-ghost use Rattle.blaze_iters.specs.Left.{unopened, keys_left};
+ghost use Rattle.blaze_iters.specs.Left.{unopened, keys_left, YieldsOpeningFirst, YieldsOpeningLast};
 
 use crate::into_iter_map::IntoIterMap;
 use blaze_int::Integer;
@@ -40,7 +40,7 @@ impl<T: Integer, V: Eq + Drop> IntoKeys<T, V> {
 impl<T: Integer, V: Eq + Drop> Iterator for IntoKeys<T, V> {
     type Item = T;
 
-    ghost next_gives = { YieldsFirst (keys_left T.of_rank (λ es. es)) };
+    ghost next_gives = { YieldsOpeningFirst (λ es. es) (λ k. k) (keys_left T.of_rank (λ es. es)) };
 
     ghost remaining = { item_count (keys_left T.of_rank (λ es. es)) };
 
@@ -59,7 +59,7 @@ impl<T: Integer, V: Eq + Drop> Iterator for IntoKeys<T, V> {
 }
 
 impl<T: Integer, V: Eq + Drop> DoubleEndedIterator for IntoKeys<T, V> {
-    ghost next_back_gives = { YieldsLast (keys_left T.of_rank (λ es. es)) };
+    ghost next_back_gives = { YieldsOpeningLast (λ es. es) (λ k. k) (keys_left T.of_rank (λ es. es)) };
 
     fn next_back(&mut self) -> Option<T> {
         self.pairs.next_back_key()

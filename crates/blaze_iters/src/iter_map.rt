@@ -1,10 +1,10 @@
 //! The keys of a stream of ranges, each with its range's value.
 ghost use Rattle.std.specs.Prelude.{◌≡◌, ◌++◌, [], ◌≤ℤ◌, None, IfSome, IfNone};
-ghost use Rattle.std.specs.Iterator.{YieldsFirstBy, YieldsLastBy, item_count, UpTo};
+ghost use Rattle.std.specs.Iterator.{item_count, UpTo};
 ghost use Rattle.std.specs.Iterator.SizeHint.{IsWithinCount};
 ghost use Rattle.blaze_table.specs.Entries.{Entry, shown_entry};
 ghost use Rattle.blaze_table.specs.Pairs.{pair_list};
-ghost use Rattle.blaze_iters.specs.Left.{RangesLeft, unopened, seen, AreFull, ranges_left, pairs_left, shown_pair};
+ghost use Rattle.blaze_iters.specs.Left.{RangesLeft, unopened, seen, AreFull, OpensFirst, OpensLast, YieldsOpeningFirst, YieldsOpeningLast, ranges_left, pairs_left, shown_pair};
 
 use crate::rest::{rest_after, rest_before};
 use blaze_int::Integer;
@@ -69,6 +69,7 @@ fn take_first<T: Integer, VC: ValueCarrier, I: SortedDisjointMap<T, VC>>(
     ensures left { ranges_left I.left (seen T.rank VC.shown front.old inner.old back.old) ≡ ranges_left I.left (seen T.rank VC.shown result inner.new back.new) }
     ensures full { AreFull (seen T.rank VC.shown result inner.new back.new) }
     ensures front { front.new ≡ None }
+    ensures opens { OpensFirst I.left (seen T.rank VC.shown front.old inner.old back.old) (seen T.rank VC.shown front.new inner.new back.new) }
     ensures none { IfNone result (ranges_left I.left (seen T.rank VC.shown None inner.new back.new) ≡ []) }
 {
     if let Some(rest) = front.take() {
@@ -88,7 +89,7 @@ impl<T: Integer, VC: ValueCarrier + Copy, I: SortedDisjointMap<T, VC>> Iterator
     for IterMap<T, VC, I> {
     type Item = (T, VC);
 
-    ghost next_gives = { YieldsFirstBy (shown_pair VC.shown) (pairs_left T.of_rank I.left) };
+    ghost next_gives = { YieldsOpeningFirst I.left (shown_pair VC.shown) (pairs_left T.of_rank I.left) };
 
     ghost remaining = { item_count (pairs_left T.of_rank I.left) };
 
@@ -120,6 +121,7 @@ fn take_last<T: Integer, VC: ValueCarrier, I: BothEnds<T, VC>>(
     ensures left { ranges_left I.left (seen T.rank VC.shown front.old inner.old back.old) ≡ ranges_left I.left (seen T.rank VC.shown front.new inner.new result) }
     ensures full { AreFull (seen T.rank VC.shown front.new inner.new result) }
     ensures back { back.new ≡ None }
+    ensures opens { OpensLast I.left (seen T.rank VC.shown front.old inner.old back.old) (seen T.rank VC.shown front.new inner.new back.new) }
     ensures none { IfNone result (ranges_left I.left (seen T.rank VC.shown front.new inner.new None) ≡ []) }
 {
     if let Some(rest) = back.take() {
@@ -137,7 +139,7 @@ fn take_last<T: Integer, VC: ValueCarrier, I: BothEnds<T, VC>>(
 
 impl<T: Integer, VC: ValueCarrier + Copy, I: BothEnds<T, VC>> DoubleEndedIterator
     for IterMap<T, VC, I> {
-    ghost next_back_gives = { YieldsLastBy (shown_pair VC.shown) (pairs_left T.of_rank I.left) };
+    ghost next_back_gives = { YieldsOpeningLast I.left (shown_pair VC.shown) (pairs_left T.of_rank I.left) };
 
     fn next_back(&mut self) -> Option<(T, VC)> {
         let (lo, hi, value) = take_last(&mut self.front, &mut self.inner, &mut self.back)?;

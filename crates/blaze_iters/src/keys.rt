@@ -1,9 +1,9 @@
 //! The keys of a stream of ranges.
 ghost use Rattle.std.specs.Prelude.{◌≡◌, None, IfSome, map};
-ghost use Rattle.std.specs.Iterator.{YieldsFirst, YieldsLast, item_count, UpTo};
+ghost use Rattle.std.specs.Iterator.{item_count, UpTo};
 ghost use Rattle.std.specs.Iterator.SizeHint.{IsWithinCount};
 ghost use Rattle.blaze_table.specs.Pairs.{pair_list};
-ghost use Rattle.blaze_iters.specs.Left.{RangesLeft, unopened, keys_left};
+ghost use Rattle.blaze_iters.specs.Left.{RangesLeft, unopened, keys_left, YieldsOpeningFirst, YieldsOpeningLast};
 
 use crate::iter_map::IterMap;
 use blaze_int::Integer;
@@ -53,7 +53,7 @@ impl<'a, T: Integer, V: Eq + Clone> Keys<T, &'a V, RangeValuesIter<'a, T, V>> {
 impl<T: Integer, VC: ValueCarrier + Copy, I: SortedDisjointMap<T, VC>> Iterator for Keys<T, VC, I> {
     type Item = T;
 
-    ghost next_gives = { YieldsFirst (keys_left T.of_rank I.left) };
+    ghost next_gives = { YieldsOpeningFirst I.left (λ k. k) (keys_left T.of_rank I.left) };
 
     ghost remaining = { item_count (keys_left T.of_rank I.left) };
 
@@ -74,7 +74,7 @@ impl<T: Integer, VC: ValueCarrier + Copy, I: SortedDisjointMap<T, VC>> Iterator 
 
 impl<T: Integer, VC: ValueCarrier + Copy, I: BothEnds<T, VC>> DoubleEndedIterator
     for Keys<T, VC, I> {
-    ghost next_back_gives = { YieldsLast (keys_left T.of_rank I.left) };
+    ghost next_back_gives = { YieldsOpeningLast I.left (λ k. k) (keys_left T.of_rank I.left) };
 
     fn next_back(&mut self) -> Option<T> {
         let (key, _) = self.pairs.next_back()?;

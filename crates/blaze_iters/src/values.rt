@@ -1,9 +1,9 @@
 //! The values of a stream of ranges, key by key.
 ghost use Rattle.std.specs.Prelude.{◌≡◌, None, IfSome, map};
-ghost use Rattle.std.specs.Iterator.{YieldsFirstBy, YieldsLastBy, item_count, UpTo};
+ghost use Rattle.std.specs.Iterator.{item_count, UpTo};
 ghost use Rattle.std.specs.Iterator.SizeHint.{IsWithinCount};
 ghost use Rattle.blaze_table.specs.Pairs.{pair_list};
-ghost use Rattle.blaze_iters.specs.Left.{RangesLeft, unopened, values_left};
+ghost use Rattle.blaze_iters.specs.Left.{RangesLeft, unopened, values_left, YieldsOpeningFirst, YieldsOpeningLast};
 
 use crate::iter_map::IterMap;
 use blaze_int::Integer;
@@ -54,7 +54,7 @@ impl<T: Integer, VC: ValueCarrier + Copy, I: SortedDisjointMap<T, VC>> Iterator
     for Values<T, VC, I> {
     type Item = VC;
 
-    ghost next_gives = { YieldsFirstBy VC.shown (values_left T.of_rank I.left) };
+    ghost next_gives = { YieldsOpeningFirst I.left VC.shown (values_left T.of_rank I.left) };
 
     ghost remaining = { item_count (values_left T.of_rank I.left) };
 
@@ -75,7 +75,7 @@ impl<T: Integer, VC: ValueCarrier + Copy, I: SortedDisjointMap<T, VC>> Iterator
 
 impl<T: Integer, VC: ValueCarrier + Copy, I: BothEnds<T, VC>> DoubleEndedIterator
     for Values<T, VC, I> {
-    ghost next_back_gives = { YieldsLastBy VC.shown (values_left T.of_rank I.left) };
+    ghost next_back_gives = { YieldsOpeningLast I.left VC.shown (values_left T.of_rank I.left) };
 
     fn next_back(&mut self) -> Option<VC> {
         let (_, value) = self.pairs.next_back()?;

@@ -13,7 +13,7 @@ use Rattle.blaze_table.specs.Splice.{IsBelow}
 use Rattle.blaze_table.proofs.Lookup.{at_in, at_under, at_over, by_place}
 use Rattle.blaze_table.proofs.Unique.{same_along}
 use Rattle.blaze_table.proofs.Runs.{one_per_run}
-use Rattle.blaze_table.proofs.Slots.{IsBelow-push}
+use Rattle.blaze_table.proofs.Glued.{IsBelow-push}
 use Rattle.blaze_table.proofs.Splices.{below_more}
 use Rattle.blaze_streams.specs.declared.list_segments.Segment.{Segment}
 use Rattle.blaze_streams.specs.Segments.{row, present, row_eq, entry_of, entries_of, IsSegmentsOf}

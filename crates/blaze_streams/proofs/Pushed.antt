@@ -3,7 +3,7 @@ use Rattle.std.proofs.Common.{◌≡◌, Bool, true, false, cond, List, [], ◌�
 use Rattle.std.proofs.lemmas.List.{map-append}
 use Rattle.blaze_table.specs.Entries.{Entry, entry}
 use Rattle.blaze_table.specs.Splice.{is_joinable, glue}
-use Rattle.blaze_table.proofs.Slots.{glue-last, glue-apart}
+use Rattle.blaze_table.proofs.Glued.{glue-last, glue-apart}
 
 module _ {X V : Type 0} (seen : X → Entry V) (eq : V → V → Bool) (old new items : List X) (last : X) (p : Entry V) (is : old ≡ items ++ last ∷ []) where
   before : glue eq (map seen old) (p ∷ []) ≡ glue eq (map seen items ++ seen last ∷ []) (p ∷ [])

@@ -1,8 +1,9 @@
 //! A list that keeps the law of a stream of ranges, as a stream.
 ghost use Rattle.std.specs.Prelude.{◌≡◌, length, refl, Some, IfSome};
-ghost use Rattle.std.specs.Iterator.{YieldsFirstBy, item_count, UpTo};
+ghost use Rattle.std.specs.Iterator.{item_count, UpTo};
 ghost use Rattle.std.specs.Iterator.SizeHint.{IsWithinCount};
 ghost use Rattle.blaze_table.specs.RangeSets.{bare_range, bare_ranges, IsRangeSet};
+ghost use Rattle.blaze_table.specs.Whole.{YieldsWholeFirst};
 
 use crate::ranges_stream::SortedDisjoint;
 use blaze_int::Integer;
@@ -48,7 +49,7 @@ impl<T: Integer> CanonIter<T> {
 impl<T: Integer> Iterator for CanonIter<T> {
     type Item = RangeInclusive<T>;
 
-    ghost next_gives = { YieldsFirstBy (bare_range T.rank) (λ s. s) };
+    ghost next_gives = { YieldsWholeFirst (λ r. r) (bare_range T.rank) (λ s. s) };
 
     ghost remaining = { item_count (λ s. s) };
 
@@ -87,5 +88,5 @@ impl<T: Integer> SortedDisjoint<T> for CanonIter<T> {
 
     ghost counted = { λ _. refl };
 
-    ghost gives = { λ _ _ _ given. given };
+    ghost gives = { λ _ _ _ given. given.0 };
 }

@@ -1,10 +1,11 @@
 //! A list that keeps the law of a stream of ranges with their values, as a stream.
 ghost use Rattle.std.specs.Prelude.{◌≡◌, length, refl, Some, IfSome};
-ghost use Rattle.std.specs.Iterator.{YieldsFirstBy, item_count, UpTo};
+ghost use Rattle.std.specs.Iterator.{item_count, UpTo};
 ghost use Rattle.std.specs.Iterator.SizeHint.{IsWithinCount};
 ghost use Rattle.blaze_table.specs.Canonical.{IsRangeMap};
 ghost use Rattle.blaze_streams.specs.RangeLists.{shown_ranges};
 ghost use Rattle.blaze_streams.specs.Ranges.{shown_range};
+ghost use Rattle.blaze_table.specs.Whole.{YieldsWholeFirst};
 
 use crate::carrier::ValueCarrier;
 use crate::stream::SortedDisjointMap;
@@ -52,7 +53,7 @@ impl<T: Integer, VC: ValueCarrier> CanonMapIter<T, VC> {
 impl<T: Integer, VC: ValueCarrier> Iterator for CanonMapIter<T, VC> {
     type Item = (RangeInclusive<T>, VC);
 
-    ghost next_gives = { YieldsFirstBy (shown_range T.rank VC.shown) (λ s. s) };
+    ghost next_gives = { YieldsWholeFirst (λ p. p.0) (shown_range T.rank VC.shown) (λ s. s) };
 
     ghost remaining = { item_count (λ s. s) };
 
@@ -92,5 +93,5 @@ impl<T: Integer, VC: ValueCarrier> SortedDisjointMap<T, VC> for CanonMapIter<T, 
 
     ghost counted = { λ _. refl };
 
-    ghost gives = { λ _ _ _ given. given };
+    ghost gives = { λ _ _ _ given. given.0 };
 }

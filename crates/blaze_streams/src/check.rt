@@ -1,10 +1,11 @@
 //! A list of ranges, as a stream where it keeps the law.
 ghost use Rattle.std.specs.Prelude.{◌≡◌, ◌↔◌, length, refl, Some, IfSome, IfOk, IfErr, IsOk};
-ghost use Rattle.std.specs.Iterator.{YieldsFirstBy, item_count, UpTo};
+ghost use Rattle.std.specs.Iterator.{item_count, UpTo};
 ghost use Rattle.std.specs.Iterator.SizeHint.{IsWithinCount};
 ghost use Rattle.blaze_table.specs.Canonical.{IsOnePerRun};
 ghost use Rattle.blaze_streams.specs.Breaks.{IsFirstBreak};
 ghost use Rattle.blaze_table.specs.RangeSets.{bare_range, bare_ranges, unit_eq};
+ghost use Rattle.blaze_table.specs.Whole.{YieldsWholeFirst};
 
 use crate::breaks::first_break;
 use crate::canon::CanonIter;
@@ -54,7 +55,7 @@ impl<T: Integer> CheckSortedDisjoint<T> {
 impl<T: Integer> Iterator for CheckSortedDisjoint<T> {
     type Item = RangeInclusive<T>;
 
-    ghost next_gives = { YieldsFirstBy (bare_range T.rank) (λ s. s) };
+    ghost next_gives = { YieldsWholeFirst (λ r. r) (bare_range T.rank) (λ s. s) };
 
     ghost remaining = { item_count (λ s. s) };
 
@@ -91,5 +92,5 @@ impl<T: Integer> SortedDisjoint<T> for CheckSortedDisjoint<T> {
 
     ghost counted = { λ _. refl };
 
-    ghost gives = { λ _ _ _ given. given };
+    ghost gives = { λ _ _ _ given. given.0 };
 }

@@ -1,11 +1,12 @@
 //! A list of ranges with their values, as a stream where it keeps the law.
 ghost use Rattle.std.specs.Prelude.{◌≡◌, ◌↔◌, length, refl, Some, IfSome, IfOk, IfErr, IsOk};
-ghost use Rattle.std.specs.Iterator.{YieldsFirstBy, item_count, UpTo};
+ghost use Rattle.std.specs.Iterator.{item_count, UpTo};
 ghost use Rattle.std.specs.Iterator.SizeHint.{IsWithinCount};
 ghost use Rattle.blaze_table.specs.Canonical.{IsOnePerRun};
 ghost use Rattle.blaze_streams.specs.Breaks.{IsFirstBreak};
 ghost use Rattle.blaze_streams.specs.RangeLists.{shown_ranges};
 ghost use Rattle.blaze_streams.specs.Ranges.{shown_range};
+ghost use Rattle.blaze_table.specs.Whole.{YieldsWholeFirst};
 
 use crate::breaks::first_break;
 use crate::canon_map::CanonMapIter;
@@ -55,7 +56,7 @@ impl<T: Integer, VC: ValueCarrier> CheckSortedDisjointMap<T, VC> {
 impl<T: Integer, VC: ValueCarrier> Iterator for CheckSortedDisjointMap<T, VC> {
     type Item = (RangeInclusive<T>, VC);
 
-    ghost next_gives = { YieldsFirstBy (shown_range T.rank VC.shown) (λ s. s) };
+    ghost next_gives = { YieldsWholeFirst (λ p. p.0) (shown_range T.rank VC.shown) (λ s. s) };
 
     ghost remaining = { item_count (λ s. s) };
 
@@ -92,5 +93,5 @@ impl<T: Integer, VC: ValueCarrier> SortedDisjointMap<T, VC> for CheckSortedDisjo
 
     ghost counted = { λ _. refl };
 
-    ghost gives = { λ _ _ _ given. given };
+    ghost gives = { λ _ _ _ given. given.0 };
 }

@@ -1,10 +1,11 @@
 //! A table's entries by value, as ranges with shared values.
 ghost use Rattle.std.specs.Prelude.{◌≡◌, length, map, refl, Some, IfSome, IfOk};
-ghost use Rattle.std.specs.Iterator.{YieldsFirstBy, YieldsLastBy, item_count, UpTo};
+ghost use Rattle.std.specs.Iterator.{item_count, UpTo};
 ghost use Rattle.std.specs.Iterator.SizeHint.{IsWithinCount};
 ghost use Rattle.std.specs.Rc.{rc_value};
 ghost use Rattle.blaze_table.specs.Entries.{shown_entry};
 ghost use Rattle.blaze_streams.specs.Ranges.{shown_range};
+ghost use Rattle.blaze_table.specs.Whole.{YieldsWholeFirst, YieldsWholeLast};
 
 use crate::stream::{BothEnds, SortedDisjointMap};
 use blaze_int::Integer;
@@ -69,7 +70,7 @@ impl<T: Integer, V: Eq + Drop> IntoRangeValuesIter<T, V> {
 impl<T: Integer, V: Eq + Drop> Iterator for IntoRangeValuesIter<T, V> {
     type Item = (RangeInclusive<T>, Rc<V>);
 
-    ghost next_gives = { YieldsFirstBy (shown_range T.rank rc_value) (λ s. s) };
+    ghost next_gives = { YieldsWholeFirst (λ p. p.0) (shown_range T.rank rc_value) (λ s. s) };
 
     ghost remaining = { item_count (λ s. s) };
 
@@ -90,7 +91,7 @@ impl<T: Integer, V: Eq + Drop> Iterator for IntoRangeValuesIter<T, V> {
 }
 
 impl<T: Integer, V: Eq + Drop> DoubleEndedIterator for IntoRangeValuesIter<T, V> {
-    ghost next_back_gives = { YieldsLastBy (shown_range T.rank rc_value) (λ s. s) };
+    ghost next_back_gives = { YieldsWholeLast (λ p. p.0) (shown_range T.rank rc_value) (λ s. s) };
 
     fn next_back(&mut self) -> Option<(RangeInclusive<T>, Rc<V>)> {
         let (start, end, value) = self.entries.next_back()?;
@@ -123,11 +124,11 @@ impl<T: Integer, V: Eq + Clone> SortedDisjointMap<T, Rc<V>> for IntoRangeValuesI
 
     ghost counted = { λ _. refl };
 
-    ghost gives = { λ _ _ _ given. given };
+    ghost gives = { λ _ _ _ given. given.0 };
 }
 
 impl<T: Integer, V: Eq + Clone> BothEnds<T, Rc<V>> for IntoRangeValuesIter<T, V> {
     ghost ready_back = { λ _. tt };
 
-    ghost gives_back = { λ _ _ _ given. given };
+    ghost gives_back = { λ _ _ _ given. given.0 };
 }

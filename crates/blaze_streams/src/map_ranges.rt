@@ -1,8 +1,9 @@
 //! A map's keys as ranges.
 ghost use Rattle.std.specs.Prelude.{◌≡◌, refl};
-ghost use Rattle.std.specs.Iterator.{YieldsFirstBy, item_count};
+ghost use Rattle.std.specs.Iterator.{item_count};
 ghost use Rattle.blaze_streams.specs.KeyRanges.{AreKeyRanges};
 ghost use Rattle.blaze_table.specs.RangeSets.{bare_range};
+ghost use Rattle.blaze_table.specs.Whole.{YieldsWholeFirst};
 
 use crate::ranges_stream::SortedDisjoint;
 use blaze_int::Integer;
@@ -54,7 +55,7 @@ impl<'a, T: Integer, V: Eq> MapRangesIter<'a, T, V> {
 impl<'a, T: Integer, V: Eq> Iterator for MapRangesIter<'a, T, V> {
     type Item = RangeInclusive<T>;
 
-    ghost next_gives = { YieldsFirstBy (bare_range T.rank) (λ s. s) };
+    ghost next_gives = { YieldsWholeFirst (λ r. r) (bare_range T.rank) (λ s. s) };
 
     ghost remaining = { item_count (λ s. s) };
 
@@ -90,5 +91,5 @@ impl<'a, T: Integer, V: Eq> SortedDisjoint<T> for MapRangesIter<'a, T, V> {
 
     ghost counted = { λ _. refl };
 
-    ghost gives = { λ _ _ _ given. given };
+    ghost gives = { λ _ _ _ given. given.0 };
 }

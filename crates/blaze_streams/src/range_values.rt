@@ -1,8 +1,9 @@
 //! A table's entries as ranges with their values.
 ghost use Rattle.std.specs.Prelude.{◌≡◌, length, refl, Some, IfSome};
-ghost use Rattle.std.specs.Iterator.{YieldsFirstBy, YieldsLastBy, item_count, UpTo};
+ghost use Rattle.std.specs.Iterator.{item_count, UpTo};
 ghost use Rattle.std.specs.Iterator.SizeHint.{IsWithinCount};
 ghost use Rattle.blaze_streams.specs.Ranges.{shown_range};
+ghost use Rattle.blaze_table.specs.Whole.{YieldsWholeFirst, YieldsWholeLast};
 
 use crate::carrier::ValueCarrier;
 use crate::stream::{BothEnds, SortedDisjointMap};
@@ -16,6 +17,8 @@ use std::ops::RangeInclusive;
 #[derive(Drop)]
 pub struct RangeValuesIter<'a, T: Integer, V: Eq> {
     entries: Iter<'a, T, V>,
+    // Its type says that keys and values live as long as the table is lent.
+    table: &'a RangeTable<T, V>,
 }
 
 impl<'a, T: Integer, V: Eq> Model for RangeValuesIter<'a, T, V> {
@@ -41,6 +44,7 @@ impl<'a, T: Integer, V: Eq> RangeValuesIter<'a, T, V> {
         table.in_hand();
         RangeValuesIter {
             entries: table.iter(),
+            table,
         }
     }
 }
@@ -48,7 +52,7 @@ impl<'a, T: Integer, V: Eq> RangeValuesIter<'a, T, V> {
 impl<'a, T: Integer, V: Eq> Iterator for RangeValuesIter<'a, T, V> {
     type Item = (RangeInclusive<T>, &'a V);
 
-    ghost next_gives = { YieldsFirstBy (shown_range T.rank (λ v. v.now)) (λ s. s) };
+    ghost next_gives = { YieldsWholeFirst (λ p. p.0) (shown_range T.rank (λ v. v.now)) (λ s. s) };
 
     ghost remaining = { item_count (λ s. s) };
 
@@ -69,7 +73,7 @@ impl<'a, T: Integer, V: Eq> Iterator for RangeValuesIter<'a, T, V> {
 }
 
 impl<'a, T: Integer, V: Eq> DoubleEndedIterator for RangeValuesIter<'a, T, V> {
-    ghost next_back_gives = { YieldsLastBy (shown_range T.rank (λ v. v.now)) (λ s. s) };
+    ghost next_back_gives = { YieldsWholeLast (λ p. p.0) (shown_range T.rank (λ v. v.now)) (λ s. s) };
 
     fn next_back(&mut self) -> Option<(RangeInclusive<T>, &'a V)> {
         let (start, end, value) = self.entries.next_back()?;
@@ -102,11 +106,11 @@ impl<'a, T: Integer, V: Eq + Clone> SortedDisjointMap<T, &'a V> for RangeValuesI
 
     ghost counted = { λ _. refl };
 
-    ghost gives = { λ _ _ _ given. given };
+    ghost gives = { λ _ _ _ given. given.0 };
 }
 
 impl<'a, T: Integer, V: Eq + Clone> BothEnds<T, &'a V> for RangeValuesIter<'a, T, V> {
     ghost ready_back = { λ _. tt };
 
-    ghost gives_back = { λ _ _ _ given. given };
+    ghost gives_back = { λ _ _ _ given. given.0 };
 }

@@ -22,7 +22,7 @@ impl<'a, T: Integer> SortedDisjoint<T> for RangesIter<'a, T> {
 
     ghost counted = { λ _. refl };
 
-    ghost gives = { λ _ _ _ given. given };
+    ghost gives = { λ _ _ _ given. given.0 };
 }
 
 impl<T: Integer> SortedDisjoint<T> for IntoRangesIter<T> {
@@ -42,5 +42,5 @@ impl<T: Integer> SortedDisjoint<T> for IntoRangesIter<T> {
 
     ghost counted = { λ _. refl };
 
-    ghost gives = { λ _ _ _ given. given };
+    ghost gives = { λ _ _ _ given. given.0 };
 }

@@ -1,16 +1,15 @@
 -- The gap between two neighbours.
-use Rattle.std.proofs.Common.{◌≡◌, ℕ, zero, suc, ◌+◌, ◌<◌, ◌≤◌, ℤ, pos, ◌+ℤ◌, ◌-ℤ◌, ◌≤ℤ◌, ◌<ℤ◌, Bool, true, false, List, [], ◌∷◌, length, get_or, Option, Some, None, refl, ◌∙◌, ap, arith, inl, inr}
-use Rattle.std.proofs.lemmas.List.{get_or_default}
-use Rattle.std.specs.Prelude.{int_lt, IsSome, ◌⊎◌}
-use Rattle.std.specs.List.{AllWithin}
+use Rattle.std.proofs.Common.{◌≡◌, ℤ, pos, ◌+ℤ◌, ◌-ℤ◌, ◌≤ℤ◌, ◌<ℤ◌, Bool, true, false, cond, List, [], ◌∷◌, ◌++◌, Option, Some, None, refl, ◌∙◌, sym, ap, subst, arith, inl, inr}
+use Rattle.std.specs.Prelude.{int_lt, IsSome, ◌⊎◌, find}
 use Rattle.std.proofs.lemmas.Int.{ints, by_lt_z}
-use Rattle.blaze_table.specs.declared.Slot.{Slot}
-use Rattle.blaze_table.specs.Entries.{at}
+use Rattle.blaze_entries.specs.Starts.{StartsAscend, last_below}
+use Rattle.blaze_table.specs.Entries.{Entry, at}
 use Rattle.blaze_table.specs.Canonical.{IsCanonical}
-use Rattle.blaze_table.specs.Slots.{entry_of, entries_of}
 use Rattle.blaze_table.specs.Gap.{IsGap, IsClearFrom}
-use Rattle.blaze_table.proofs.Lookup.{at_in, at_over}
-use Rattle.blaze_table.proofs.Places.{ends_rise, at_place, at_no_place}
+use Rattle.blaze_table.specs.Splice.{IsBelow}
+use Rattle.blaze_table.proofs.Lookup.{at_in, at_under, at_over}
+use Rattle.blaze_table.proofs.NextEntries.{lt_yes, lt_no, last, front_ends}
+use Rattle.blaze_table.proofs.Splits.{LastAt, no_last_from, canonical_part}
 
 none_some : {X : Type 0} (o : Option X) → o ≡ None → IsSome o → ⊥
 none_some None e s = cc
@@ -37,50 +36,83 @@ module _ {V : Type 0} (content : ℤ → Option V) where
       last c d m n h none (inl p) = omega (arith, ints)
       last c d m n h none (inr p) = by_lt_z b d (λ u. absurd (none_some (content (b +ℤ pos 1)) (none (b +ℤ pos 1) (omega (arith, ints)) (omega (arith, ints))) p)) (λ u. u)
 
-module _ {T V : Type 0} (rank : T → ℤ) (eq : V → V → Bool) where
-  starts_above : (x : Slot T V) (xs : List (Slot T V)) → IsCanonical eq (entries_of rank (x ∷ xs)) → (i : ℕ) (d : Slot T V) → i < length xs → rank x.hi <ℤ rank (get_or xs i d).lo
-  starts_above x [] c i d l = absurd (omega arith)
-  starts_above x (y ∷ xs) c zero d l = c.1.0
-  starts_above x (y ∷ xs) c (suc i) d l = omega (arith, ints, c.1.0, c.2.0, starts_above y xs c.2 i d (omega arith))
+-- of two intervals that meet at a key
+pub clear_both : {V : Type 0} (content : ℤ → Option V) (k a b : ℤ) → IsClearFrom content a k → IsClearFrom content k b → IsClearFrom content a b
+clear_both content k a b l r j m n = by_lt_z j k (λ u. l j m (omega (arith, ints))) (λ u. r j u n)
 
-  in_order : (xs : List (Slot T V)) → IsCanonical eq (entries_of rank xs) → (i : ℕ) (d : Slot T V) → i < length xs → rank (get_or xs i d).lo ≤ℤ rank (get_or xs i d).hi
-  in_order [] c i d l = absurd (omega arith)
-  in_order (x ∷ xs) c zero d l = c.0
-  in_order (x ∷ xs) c (suc i) d l = in_order xs c.2 i d (omega arith)
+some_by : {X : Type 0} (o : Option X) (x : X) → o ≡ Some x → IsSome o
+some_by (Some y) x e = refl
+some_by None x e = cc
 
-  at_range : (xs : List (Slot T V)) → IsCanonical eq (entries_of rank xs) → (i : ℕ) (d : Slot T V) → i < length xs → (k : ℤ) → rank (get_or xs i d).lo ≤ℤ k → k ≤ℤ rank (get_or xs i d).hi → at (entries_of rank xs) k ≡ Some (get_or xs i d).value
-  at_range [] c i d l k p q = absurd (omega arith)
-  at_range (x ∷ xs) c zero d l k p q = at_in (entry_of rank x) (entries_of rank xs) k p q
-  at_range (x ∷ xs) c (suc i) d l k p q =
-      at_over (entry_of rank x) (entries_of rank xs) k (omega (arith, ints, starts_above x xs c i d (omega arith))) ∙ at_range xs c.2 i d (omega arith) k p q
+module _ {V : Type 0} where
+  -- no key below the first start has a value
+  at_none : (k b high : ℤ) (es : List (Entry V)) → k <ℤ b → StartsAscend b high es → at es k ≡ None
+  at_none k b high [] l h = refl
+  at_none k b high (e ∷ es) l h = at_under e es k (omega (arith, ints, h.0)) ∙ at_none k (e.lo +ℤ pos 1) high es (omega (arith, ints, h.0)) h.2
 
-  is_some_by : (o : Option V) (v : V) → o ≡ Some v → IsSome o
-  is_some_by (Some x) v e = refl
-  is_some_by None v e = cc
+  at_past : (k b : ℤ) (xs ys : List (Entry V)) → b ≤ℤ k → IsBelow b xs → at (xs ++ ys) k ≡ at ys k
+  at_past k b [] ys l h = refl
+  at_past k b (x ∷ xs) ys l h = at_over x (xs ++ ys) k (omega (arith, ints, h.0)) ∙ at_past k b xs ys l h.1
 
-  pub start_is_some : (xs : List (Slot T V)) → IsCanonical eq (entries_of rank xs) → (i : ℕ) (d : Slot T V) → i < length xs → (k : ℤ) → k ≡ rank (get_or xs i d).lo → IsSome (at (entries_of rank xs) k)
-  start_is_some xs c i d l k e = is_some_by _ _ (at_range xs c i d l k (omega (arith, ints)) (omega (arith, ints, in_order xs c i d l)))
+  -- an entry that starts up to a key without a value ends below it
+  ends_before : (k : ℤ) (e : Entry V) (es : List (Entry V)) → at (e ∷ es) k ≡ None → e.lo ≤ℤ k → e.hi <ℤ k
+  ends_before k e es n l = by_lt_z e.hi k (λ h. h) (λ h. absurd (none_some (at (e ∷ es) k) n (some_by (at (e ∷ es) k) e.value (at_in e es k l h))))
 
-  pub end_is_some : (xs : List (Slot T V)) → IsCanonical eq (entries_of rank xs) → (i : ℕ) (d : Slot T V) → i < length xs → (k : ℤ) → k ≡ rank (get_or xs i d).hi → IsSome (at (entries_of rank xs) k)
-  end_is_some xs c i d l k e = is_some_by _ _ (at_range xs c i d l k (omega (arith, ints, in_order xs c i d l)) (omega (arith, ints)))
+  -- the least entry that starts above a key without a value, and what is between
+  pub record IsAboveGap (k : ℤ) (es : List (Entry V)) (o : Option (Entry V)) : Type 0 where
+    pub none : o ≡ None → (j : ℤ) → k ≤ℤ j → at es j ≡ None
+    pub clear : (e : Entry V) → o ≡ Some e → (j : ℤ) → k ≤ℤ j → j <ℤ e.lo → at es j ≡ None
+    pub starts : (e : Entry V) → o ≡ Some e → k <ℤ e.lo
+    pub there : (e : Entry V) → o ≡ Some e → IsSome (at es e.lo)
 
-  -- what ends below b does where the slot before the place ends right below b
-  pub all_up_to : (xs : List (Slot T V)) → IsCanonical eq (entries_of rank xs) → (i : ℕ) (s : Slot T V) (b : ℤ) → i < length xs → rank (get_or xs i s).hi <ℤ b → AllWithin (λ x. int_lt (rank x.hi) b ≡ true) xs 0 (i + 1)
-  all_up_to xs c i s b l h k d m n =
-      let last = ends_rise rank eq xs c k i d (omega arith) l in
-      let same = ap (λ (x : Slot T V). rank x.hi) (get_or_default xs i s d l) in
-      grind (arith, ints)
+module _ {V : Type 0} (eq : V → V → Bool) where
+  pub above_gap : (k b high : ℤ) (es : List (Entry V)) → IsCanonical eq es → StartsAscend b high es → at es k ≡ None → IsAboveGap k es (find (λ e. int_lt k e.lo) es)
+  above_gap k b high [] c a n = record {
+    none = λ p j l. refl;
+    clear = λ e p. cc;
+    starts = λ e p. cc;
+    there = λ e p. cc;
+  }
+  above_gap k b high (e ∷ es) c a n = by_lt_z k e.lo
+      (λ l. subst (IsAboveGap k (e ∷ es)) (sym (ap (λ t. cond t (Some e) (find (λ x. int_lt k x.lo) es)) (lt_yes k e.lo l)))
+      (record {
+        none = λ p. cc;
+        clear = λ f p j m u. let same : e ≡ f = cc in at_none j e.lo high (e ∷ es) (subst (λ (x : Entry V). j <ℤ x.lo) (sym same) u) (omega (arith, ints), a.1, a.2);
+        starts = λ f p. let same : e ≡ f = cc in subst (λ (x : Entry V). k <ℤ x.lo) same l;
+        there = λ f p. let same : e ≡ f = cc in subst (λ (x : Entry V). IsSome (at (e ∷ es) x.lo)) same (some_by (at (e ∷ es) e.lo) e.value (at_in e es e.lo (omega (arith, ints)) c.0));
+      }))
+      (λ l.
+      let u = ends_before k e es n l in
+      let i = above_gap k (e.lo +ℤ pos 1) high es c.2 a.2 (sym (at_over e es k u) ∙ n) in
+      subst (IsAboveGap k (e ∷ es)) (sym (ap (λ t. cond t (Some e) (find (λ x. int_lt k x.lo) es)) (lt_no k e.lo l)))
+      (record {
+        none = λ p j m. at_over e es j (omega (arith, ints)) ∙ i.none p j m;
+        clear = λ f p j m v. at_over e es j (omega (arith, ints)) ∙ i.clear f p j m v;
+        starts = i.starts;
+        there = λ f p. let s = i.starts f p in subst IsSome (sym (at_over e es f.lo (omega (arith, ints)))) (i.there f p);
+      }))
 
-  pub clear_between : (xs : List (Slot T V)) → IsCanonical eq (entries_of rank xs) → (i : ℕ) (a b : ℤ) → i ≤ length xs → AllWithin (λ x. int_lt (rank x.hi) a ≡ true) xs 0 i
-      → ((d : Slot T V) → i < length xs → b <ℤ rank (get_or xs i d).lo) → IsClearFrom (at (entries_of rank xs)) a b
-  clear_between xs c i a b l below above j m n =
-      at_no_place rank eq j xs i c (λ k d o p. lt_more (rank (get_or xs k d).hi) (below k d o p)) l (λ d o. omega (arith, ints, above d o))
-    where
-      lt_more : (h : ℤ) → int_lt h a ≡ true → int_lt h j ≡ true
-      lt_more h e = grind (arith, ints)
+  module _ (k b high : ℤ) (es : List (Entry V)) (c : IsCanonical eq es) (a : StartsAscend b high es) (n : at es k ≡ None) where
+    -- nothing starts up to the key
+    pub below_clear : None ≡ last_below (k +ℤ pos 1) es → (j : ℤ) → j ≤ℤ k → at es j ≡ None
+    below_clear p j l = at_none j (k +ℤ pos 1) high es (omega (arith, ints)) (no_last_from (k +ℤ pos 1) b high es a (sym p))
 
-  -- a key with no value is below the slot at its place
-  pub unmapped_below : (xs : List (Slot T V)) → IsCanonical eq (entries_of rank xs) → (i : ℕ) (k : ℤ) → AllWithin (λ x. int_lt (rank x.hi) k ≡ true) xs 0 i → AllWithin (λ x. int_lt (rank x.hi) k ≡ false) xs i (length xs)
-      → at (entries_of rank xs) k ≡ None → (d : Slot T V) → i < length xs → k <ℤ rank (get_or xs i d).lo
-  unmapped_below xs c i k below not_below none d l =
-      by_lt_z k (rank (get_or xs i d).lo) (λ u. u) (λ u. absurd (none_some _ none (is_some_by _ _ (at_place rank eq k xs i d below l u (not_below i d (omega arith) l)))))
+    -- the last entry that starts up to the key, and what is between
+    module _ (e : Entry V) (is : Some e ≡ last_below (k +ℤ pos 1) es) where
+      abbrev parts : LastAt (k +ℤ pos 1) high e es
+      parts = last eq k b high es c a e is
+
+      here : (j : ℤ) → e.lo ≤ℤ j → at es j ≡ at (e ∷ parts.back) j
+      here j l = ap (λ x. at x j) parts.parts ∙ at_past j e.lo parts.front (e ∷ parts.back) l (front_ends eq k b high es c a e is)
+
+      pub below_ends : e.hi <ℤ k
+      below_ends = ends_before k e parts.back (sym (here k (omega (arith, ints, parts.starts))) ∙ n) (omega (arith, ints, parts.starts))
+
+      ordered : e.lo ≤ℤ e.hi
+      ordered = (canonical_part eq parts.front (e ∷ parts.back) (subst (IsCanonical eq) parts.parts c)).0
+
+      pub between : (j : ℤ) → e.hi <ℤ j → j ≤ℤ k → at es j ≡ None
+      between j l m = here j (omega (arith, ints, ordered)) ∙ at_over e parts.back j l ∙ at_none j (k +ℤ pos 1) high parts.back (omega (arith, ints)) parts.back_from
+
+      pub below_there : IsSome (at es e.hi)
+      below_there = some_by (at es e.hi) e.value (here e.hi ordered ∙ at_in e parts.back e.hi ordered (omega (arith, ints)))

@@ -5,7 +5,7 @@ use Rattle.std.proofs.lemmas.Int.{ints}
 use Rattle.blaze_table.specs.Entries.{Entry, SameEntries, entry}
 use Rattle.blaze_table.specs.Canonical.{IsApart, IsCanonical, AreKeys}
 use Rattle.blaze_table.specs.Count.{keys_in}
-use Rattle.blaze_table.specs.Splice.{before, after, glue, IsPaintOf, overlap, covered, IsListPainted}
+use Rattle.blaze_table.specs.Splice.{before, after, glue, IsPaintOf, IsListPainted, overlap, covered}
 use Rattle.blaze_table.specs.Table.{IsTable}
 use Rattle.blaze_table.proofs.Lookup.{IsAbove, IsAbove-from_apart}
 use Rattle.blaze_table.proofs.Splices.{by_before, by_after, by_join, canonical_paint}
@@ -127,20 +127,6 @@ module _ {V : Type 0} (eq : V → V → Bool) where
   are_keys_as low high (e ∷ es) [] s a = absurd s
   are_keys_as low high (e ∷ es) (f ∷ fs) s a = (omega (arith, ints, s.0, a.0), omega (arith, ints, s.1, a.1), are_keys_as low high es fs s.3 a.2)
 
-  -- one more entry looked at, by a count that loses what of it is covered
-  module _ (l h : ℤ) (e : Entry V) (es : List (Entry V)) (left whole : ℤ) (c : IsCanonical eq (e ∷ es)) (room : keys_in (e ∷ es) ≤ℤ left) (is : left -ℤ covered l h (e ∷ es) ≡ whole) where
-    pub looked_fits : overlap l h e ≤ℤ left
-    looked_fits = omega (arith, ints, overlap_most l h e c.0, some_keys es c.2)
-
-    pub looked_room : (next : ℤ) → next +ℤ overlap l h e ≡ left → keys_in es ≤ℤ next
-    looked_room next n = omega (arith, ints, overlap_most l h e c.0)
-
-    pub looked_is : (next : ℤ) → next +ℤ overlap l h e ≡ left → next -ℤ covered l h es ≡ whole
-    looked_is next n = omega (arith, ints)
-
-  pub looked_all : (l h : ℤ) (es : List (Entry V)) (left : ℤ) → l ≤ℤ h → IsCanonical eq es → left -ℤ pos 0 ≡ keys_in es -ℤ covered l h es → left ≡ keys_in (before l es) +ℤ keys_in (after h es)
-  looked_all l h es left w c is = omega (arith, ints, keys_apart l h es w c)
-
   module _ (laws : IsEquivalence eq) where
     -- a painted list has no more keys than there are
     with_value : (low high l h : ℤ) (v : V) (es : List (Entry V)) → l ≤ℤ h → low ≤ℤ l → h ≤ℤ high → IsCanonical eq es → AreKeys low high es
@@ -170,7 +156,7 @@ module _ {V : Type 0} (eq : V → V → Bool) where
           counted = k ∙ sym (ap keys_in r.glued ∙ omega (arith, ints, keys_glue left r.above, keys_glue (before p.lo es) (p ∷ []), same_keys_in eq (after p.hi es) r.above r.like));
         }
 
-    -- the same, over the list that the code took the slots from
+    -- the same, over the list that the code had at hand
     pub painted_from : (low high : ℤ) (n old : ℕ) (p : Entry V) (es at_hand new : List (Entry V)) → p.lo ≤ℤ p.hi → low ≤ℤ p.lo → p.hi ≤ℤ high → at_hand ≡ es → IsTable eq low high old es
         → pos n ≡ (keys_in (before p.lo es) +ℤ keys_in (after p.hi es)) +ℤ ((p.hi -ℤ p.lo) +ℤ pos 1)
         → IsPaintOf eq p at_hand new → IsTable eq low high n new × IsListPainted eq p es new
@@ -178,10 +164,3 @@ module _ {V : Type 0} (eq : V → V → Bool) where
         let q = subst (λ l. IsPaintOf eq p l new) e r in
         let d = is_painted eq laws p es new w i.canonical q in
         (painted_table low high n p es new f t i.are_keys k q d.canonical, d)
-
--- two counts differ where the numbers do
-pub painted_changed : {A : Type 0} {m n : ℕ} {a b : ℤ} → (A → (m ≡ n → ⊥)) × ((m ≡ n → ⊥) → A) → pos m ≡ a → pos n ≡ b → (A → (a ≡ b → ⊥)) × ((a ≡ b → ⊥) → A)
-painted_changed d p q = (
-  (λ t e. d.0 t (omega (arith, ints))),
-  (λ f. d.1 (λ e. f (omega (arith, ints)))),
-)

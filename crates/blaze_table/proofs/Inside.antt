@@ -1,5 +1,5 @@
 -- A paint inside an entry with an equal value changes nothing; and what the entry at a key says of its neighbourhood.
-use Rattle.std.proofs.Common.{◌≡◌, ℤ, pos, ◌+ℤ◌, ◌≤ℤ◌, ◌<ℤ◌, Bool, true, false, ◌&&◌, cond, List, [], ◌∷◌, Option, Some, None, refl, ◌∙◌, sym, ap, subst, arith, inl, inr}
+use Rattle.std.proofs.Common.{◌≡◌, ℤ, pos, ◌+ℤ◌, ◌≤ℤ◌, ◌<ℤ◌, Bool, true, false, ◌&&◌, cond, List, [], ◌∷◌, length, Option, Some, None, refl, ◌∙◌, sym, ap, subst, arith, inl, inr}
 use Rattle.std.specs.Prelude.{◌↔◌, int_lt, int_le}
 use Rattle.std.specs.Cmp.{IsEquivalence}
 use Rattle.std.proofs.lemmas.Int.{ints}
@@ -11,7 +11,7 @@ use Rattle.blaze_table.proofs.Lookup.{IsAbove, IsAbove-from_apart, at_in, at_ove
 use Rattle.blaze_table.proofs.Unique.{same_along, same_itself}
 
 module _ {V : Type 0} (eq : V → V → Bool) (l h : ℤ) (v : V) where
-  inside_above : (b : ℤ) (es : List (Entry V)) → IsCanonical eq es → IsAbove b es → IsInside eq l h v es → b <ℤ l
+  pub inside_above : (b : ℤ) (es : List (Entry V)) → IsCanonical eq es → IsAbove b es → IsInside eq l h v es → b <ℤ l
   inside_above b [] c a i = absurd i
   inside_above b (e ∷ es) c a (inl w) = omega (arith, ints, w.0)
   inside_above b (e ∷ es) c a (inr i) = omega (arith, ints, c.0, inside_above e.hi es c.2 (IsAbove-from_apart eq e es c.1) i)
@@ -33,6 +33,7 @@ module _ {V : Type 0} (eq : V → V → Bool) (l h : ℤ) (v : V) where
               (λ a. rw (holds_under p k a) (same_itself eq laws (at es k)))
               (λ b. rw (holds_over p k b) (same_itself eq laws (at es k)));
           few = omega arith;
+          alone = λ e. let none = ap length e in omega arith;
         }
 
 -- what the entry at the first key says of one that has all the keys

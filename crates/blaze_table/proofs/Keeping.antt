@@ -1,52 +1,28 @@
 -- Keys put one after another behind a list: what is kept of the pairs asked at.
-use Rattle.std.proofs.Common.{◌≡◌, ℕ, ◌+◌, ◌<◌, ◌≤◌, get_or, take, drop, ℤ, pos, ◌+ℤ◌, ◌-ℤ◌, ◌≤ℤ◌, Bool, true, false, cond, List, [], ◌∷◌, ◌++◌, length, Option, Some, None, refl, ap, sym, ◌∙◌, subst, arith, append_assoc, append-nil}
+use Rattle.std.proofs.Common.{◌≡◌, ℕ, ◌+◌, ℤ, pos, ◌+ℤ◌, ◌-ℤ◌, ◌≤ℤ◌, Bool, true, false, cond, List, [], ◌∷◌, ◌++◌, length, Option, Some, None, refl, ap, sym, ◌∙◌, subst, arith, append_assoc, append-nil}
 use Rattle.std.specs.Ordering.{int_eq}
 use Rattle.std.specs.Cmp.{IsEquivalence}
 use Rattle.std.specs.List.{items_where_true}
-use Rattle.std.specs.List.Retain.{ReturnsInTurn}
 use Rattle.std.proofs.lemmas.Int.{ints, by_lt_z}
-use Rattle.std.proofs.lemmas.List.{length-append, take_more, take_all, drop_all}
-use Rattle.blaze_table.specs.declared.Slot.{Slot}
+use Rattle.std.proofs.lemmas.List.{length-append}
+use Rattle.blaze_entries.proofs.InTurn.{returns-push, picked-push_true, picked-push_false}
 use Rattle.blaze_table.specs.Entries.{Entry, entry, at, SameOption}
 use Rattle.blaze_table.specs.Canonical.{IsCanonical, AreKeys}
 use Rattle.blaze_table.specs.Count.{keys_in, nat_of}
 use Rattle.blaze_table.specs.Keeping.{AddsKey, IsKept, KeepsMore}
 use Rattle.blaze_table.specs.Pairs.{pairs_from, pairs_of, pair_list, value_at}
-use Rattle.blaze_table.specs.Slots.{entry_of, entries_of}
 use Rattle.blaze_table.specs.Splice.{glue, IsBelow}
 use Rattle.blaze_table.specs.Table.{IsTable}
 use Rattle.blaze_table.proofs.Counted.{keys_glue, are_keys_glue, some_keys}
 use Rattle.blaze_table.proofs.Lookup.{IsAbove, IsAbove-from_apart, at_in, at_under, at_over}
 use Rattle.blaze_table.proofs.PairLists.{nat_of-pos, pairs_append, pair_list-push}
-use Rattle.blaze_table.proofs.Retained.{canonical_drop}
-use Rattle.blaze_table.proofs.Slots.{entries-push, rest_is}
 use Rattle.blaze_table.proofs.Splices.{or_else, canonical_glue, at_glue, below_glue, below_more}
+use Rattle.blaze_table.proofs.Splits.{canonical_part}
 use Rattle.blaze_table.proofs.Unique.{same_along, same_trans}
 
 -- the count of a list with one key more
 pub keys_added : {V : Type 0} (eq : V → V → Bool) (k : ℤ) (v : V) (old new : List (Entry V)) → AddsKey eq k v old new → keys_in new ≡ keys_in old +ℤ pos 1
 keys_added eq k v old new a = ap keys_in a.glued ∙ omega (arith, ints, keys_glue eq old (entry k k a.value ∷ []))
-
-module _ {F X : Type 0} (R : F → X → Bool → F → Type 0) where
-  returns-push : (f g h : F) (bs : List Bool) (xs : List X) (b : Bool) (x : X) → length bs ≡ length xs → ReturnsInTurn R f bs xs g → R g x b h → ReturnsInTurn R f (bs ++ b ∷ []) (xs ++ x ∷ []) h
-  returns-push f g h [] [] b x l p r = (h, subst (λ s. R s x b h) (sym p) r, refl)
-  returns-push f g h [] (y ∷ ys) b x l p r = absurd (omega arith)
-  returns-push f g h (c ∷ bs) [] b x l p r = absurd (omega arith)
-  returns-push f g h (c ∷ bs) (y ∷ ys) b x l p r = (p.0, p.1, returns-push p.0 g h bs ys b x (omega arith) p.2 r)
-
-picked-push_true : {X : Type 0} (bs : List Bool) (xs : List X) (x : X) → length bs ≡ length xs → items_where_true (bs ++ true ∷ []) (xs ++ x ∷ []) ≡ items_where_true bs xs ++ x ∷ []
-picked-push_true [] [] x l = refl
-picked-push_true [] (y ∷ ys) x l = absurd (omega arith)
-picked-push_true (b ∷ bs) [] x l = absurd (omega arith)
-picked-push_true (true ∷ bs) (y ∷ ys) x l = ap (λ zs. y ∷ zs) (picked-push_true bs ys x (omega arith))
-picked-push_true (false ∷ bs) (y ∷ ys) x l = picked-push_true bs ys x (omega arith)
-
-picked-push_false : {X : Type 0} (bs : List Bool) (xs : List X) (x : X) → length bs ≡ length xs → items_where_true (bs ++ false ∷ []) (xs ++ x ∷ []) ≡ items_where_true bs xs
-picked-push_false [] [] x l = refl
-picked-push_false [] (y ∷ ys) x l = absurd (omega arith)
-picked-push_false (b ∷ bs) [] x l = absurd (omega arith)
-picked-push_false (true ∷ bs) (y ∷ ys) x l = ap (λ zs. y ∷ zs) (picked-push_false bs ys x (omega arith))
-picked-push_false (false ∷ bs) (y ∷ ys) x l = picked-push_false bs ys x (omega arith)
 
 value_at-push : {T V : Type 0} (rank : T → ℤ) (ps : List (T × V)) (p : T × V) (k : ℤ) → value_at rank (ps ++ p ∷ []) k ≡ or_else (value_at rank ps k) (cond (int_eq k (rank p.0)) (Some p.1) None)
 unfolding or_else
@@ -79,10 +55,6 @@ module _ {F T V : Type 0} (R : F → T × V → Bool → F → Type 0) (f : F) (
     below = below_more b c es l h.below;
     content = h.content;
   }
-
-  -- nothing more is asked at
-  pub more_none : (a : ℤ) (es : List (Entry V)) → KeepsMore R f rank eq low high [] a a es es
-  more_none a es pairs h = subst (λ ps. IsKept R f rank eq low high ps a es) (sym (append-nil pairs)) h
 
   -- one part of the pairs, and then another
   pub more_both : (xs ys : List (T × V)) (a b c d : ℤ) (old mid new : List (Entry V)) → b ≤ℤ c → KeepsMore R f rank eq low high xs a b old mid → KeepsMore R f rank eq low high ys c d mid new → KeepsMore R f rank eq low high (xs ++ ys) a d old new
@@ -155,18 +127,22 @@ module _ {F T V : Type 0} (R : F → T × V → Bool → F → Type 0) (f : F) (
       (subst (λ ps. KeepsMore R f rank eq low high ps lo (k +ℤ pos 1) old new) (sym all)
       (more_both (pairs_from of_rank lo m v) (pairs_from of_rank k 1 v) lo k k (k +ℤ pos 1) old mid new (omega (arith, ints)) p q))
 
-  -- the slots before the place i were gone over, and the list is what is kept of them
-  pub record IsReached (of_rank : ℤ → T) (slots : List (Slot T V)) (i : ℕ) (left : ℤ) (es : List (Entry V)) : Type 0 where
+  -- the entries before those that are left were gone over, and the list is what is kept of them
+  pub record IsReached (of_rank : ℤ → T) (all left : List (Entry V)) (len : ℤ) (es : List (Entry V)) : Type 0 where
+    pub done : List (Entry V)
+    pub parts : all ≡ done ++ left
     pub end : ℤ
-    pub kept : IsKept R f rank eq low high (pair_list of_rank (entries_of rank (take i slots))) end es
-    pub above : IsAbove (end -ℤ pos 1) (entries_of rank (drop i slots))
-    pub counted : left ≡ keys_in es +ℤ keys_in (entries_of rank (drop i slots))
+    pub kept : IsKept R f rank eq low high (pair_list of_rank done) end es
+    pub above : IsAbove (end -ℤ pos 1) left
+    pub counted : len ≡ keys_in es +ℤ keys_in left
 
-  pub reached_none : (of_rank : ℤ → T) (slots : List (Slot T V)) (left : ℤ) → AreKeys low high (entries_of rank slots) → left ≡ keys_in (entries_of rank slots) → IsReached of_rank slots 0 left []
-  reached_none of_rank slots left a e = record {
+  pub reached_none : (of_rank : ℤ → T) (all : List (Entry V)) (len : ℤ) → AreKeys low high all → len ≡ keys_in all → IsReached of_rank all all len []
+  reached_none of_rank all len a e = record {
+    done = [];
+    parts = refl;
     end = low;
     kept = kept_none low;
-    above = from_low (entries_of rank slots) a;
+    above = from_low all a;
     counted = omega (arith, ints);
   }
     where
@@ -174,44 +150,36 @@ module _ {F T V : Type 0} (R : F → T × V → Bool → F → Type 0) (f : F) (
       from_low [] k = tt
       from_low (d ∷ es) k = omega (arith, ints, k.0)
 
-  module _ (of_rank : ℤ → T) (slots : List (Slot T V)) (i : ℕ) (left : ℤ) (es : List (Entry V)) (h : IsReached of_rank slots i left es) (c : IsCanonical eq (entries_of rank slots)) (x : Slot T V) (l : i < length slots) (is : x ≡ get_or slots i x) where
-    split : entries_of rank (drop i slots) ≡ entry_of rank x ∷ entries_of rank (drop (i + 1) slots)
-    split = rest_is rank slots i x l is
+  module _ (of_rank : ℤ → T) (all : List (Entry V)) (e : Entry V) (rest : List (Entry V)) (len : ℤ) (es : List (Entry V)) (h : IsReached of_rank all (e ∷ rest) len es) (c : IsCanonical eq all) where
+    here : IsCanonical eq (e ∷ rest)
+    here = canonical_part eq h.done (e ∷ rest) (subst (IsCanonical eq) h.parts c)
 
-    here : IsCanonical eq (entry_of rank x ∷ entries_of rank (drop (i + 1) slots))
-    here = subst (IsCanonical eq) split (canonical_drop rank eq slots i c)
-
-    pub reached_order : rank x.lo ≤ℤ rank x.hi
+    pub reached_order : e.lo ≤ℤ e.hi
     reached_order = here.0
 
-    pub reached_room : (rank x.hi -ℤ rank x.lo +ℤ pos 1) ≤ℤ left
-    reached_room = omega (arith, ints, h.counted, ap keys_in split, some_keys eq es h.kept.canonical, some_keys eq (entries_of rank (drop (i + 1) slots)) here.2)
+    pub reached_room : (e.hi -ℤ e.lo +ℤ pos 1) ≤ℤ len
+    reached_room = omega (arith, ints, h.counted, some_keys eq es h.kept.canonical, some_keys eq rest here.2)
 
-    pub reached_more : (next : ℤ) (new : List (Entry V)) → KeepsMore R f rank eq low high (pairs_of of_rank (entry_of rank x)) (rank x.lo) (rank x.hi +ℤ pos 1) es new
-        → next +ℤ keys_in es +ℤ (rank x.hi -ℤ rank x.lo +ℤ pos 1) ≡ left +ℤ keys_in new → IsReached of_rank slots (i + 1) next new
-    reached_more next new m e =
-        let start : IsAbove (h.end -ℤ pos 1) (entry_of rank x ∷ entries_of rank (drop (i + 1) slots)) = subst (IsAbove (h.end -ℤ pos 1)) split h.above in
-        let taken = ap (entries_of rank) (take_more slots i x l ∙ ap (λ y. take i slots ++ y ∷ []) (sym is)) ∙ entries-push rank (take i slots) x in
-        let pairs = ap (pair_list of_rank) taken ∙ pair_list-push of_rank (entries_of rank (take i slots)) (entry_of rank x) in
-        record {
-          end = rank x.hi +ℤ pos 1;
-          kept = subst (λ ps. IsKept R f rank eq low high ps (rank x.hi +ℤ pos 1) new) (sym pairs)
-              (m (pair_list of_rank (entries_of rank (take i slots))) (kept_below _ h.end (rank x.lo) es (omega (arith, ints, start)) h.kept));
-          above = subst (λ b. IsAbove b (entries_of rank (drop (i + 1) slots))) (omega (arith, ints)) (IsAbove-from_apart eq (entry_of rank x) (entries_of rank (drop (i + 1) slots)) here.1);
-          counted = omega (arith, ints, h.counted, ap keys_in split);
-        }
+    pub reached_more : (next : ℤ) (new : List (Entry V)) → KeepsMore R f rank eq low high (pairs_of of_rank e) e.lo (e.hi +ℤ pos 1) es new
+        → next +ℤ keys_in es +ℤ (e.hi -ℤ e.lo +ℤ pos 1) ≡ len +ℤ keys_in new → IsReached of_rank all rest next new
+    reached_more next new m q = record {
+      done = h.done ++ e ∷ [];
+      parts = h.parts ∙ sym (append_assoc h.done (e ∷ []) rest);
+      end = e.hi +ℤ pos 1;
+      kept = subst (λ ps. IsKept R f rank eq low high ps (e.hi +ℤ pos 1) new) (sym (pair_list-push of_rank h.done e))
+          (m (pair_list of_rank h.done) (kept_below _ h.end e.lo es (omega (arith, ints, h.above)) h.kept));
+      above = subst (λ b. IsAbove b rest) (omega (arith, ints)) (IsAbove-from_apart eq e rest here.1);
+      counted = omega (arith, ints, h.counted);
+    }
 
-  -- all slots were gone over
-  module _ (of_rank : ℤ → T) (slots : List (Slot T V)) (i : ℕ) (left : ℤ) (es : List (Entry V)) (h : IsReached of_rank slots i left es) (all : length slots ≤ i) where
-    pub reached_table : (n : ℕ) → pos n ≡ left → IsTable eq low high n es
+  -- all entries were gone over
+  module _ (of_rank : ℤ → T) (all : List (Entry V)) (len : ℤ) (es : List (Entry V)) (h : IsReached of_rank all [] len es) where
+    pub reached_table : (n : ℕ) → pos n ≡ len → IsTable eq low high n es
     reached_table n p = record {
       canonical = h.kept.canonical;
       are_keys = h.kept.are_keys;
-      counted = omega (arith, ints, p, h.counted, ap (λ xs. keys_in (entries_of rank xs)) (drop_all i slots all));
+      counted = omega (arith, ints, p, h.counted);
     }
 
-    asked : pair_list of_rank (entries_of rank (take i slots)) ≡ pair_list of_rank (entries_of rank slots)
-    asked = ap (λ xs. pair_list of_rank (entries_of rank xs)) (take_all i slots all)
-
-    pub reached_pairs : IsKept R f rank eq low high (pair_list of_rank (entries_of rank slots)) h.end es
-    reached_pairs = subst (λ ps. IsKept R f rank eq low high ps h.end es) asked h.kept
+    pub reached_pairs : IsKept R f rank eq low high (pair_list of_rank all) h.end es
+    reached_pairs = subst (λ l. IsKept R f rank eq low high (pair_list of_rank l) h.end es) (sym (h.parts ∙ append-nil h.done)) h.kept

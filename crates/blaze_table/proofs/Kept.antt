@@ -1,10 +1,10 @@
 -- Some entries of a canonical list are canonical.
-use Rattle.std.proofs.Common.{ℤ, pos, ◌≤ℤ◌, ◌<ℤ◌, Bool, true, false, List, [], ◌∷◌, arith}
+use Rattle.std.proofs.Common.{ℤ, ◌<ℤ◌, Bool, true, false, List, [], ◌∷◌, sym, subst, arith}
 use Rattle.std.specs.List.{items_where_true}
+use Rattle.std.specs.List.Retain.{IsFiltered}
 use Rattle.std.proofs.lemmas.Int.{ints}
 use Rattle.blaze_table.specs.Entries.{Entry}
 use Rattle.blaze_table.specs.Canonical.{IsApart, IsCanonical, AreKeys}
-use Rattle.blaze_table.specs.Count.{keys_in}
 
 module _ {V : Type 0} (eq : V → V → Bool) where
   apart_far : (e f : Entry V) (bs : List Bool) (fs : List (Entry V)) → e.hi <ℤ f.lo → IsCanonical eq (f ∷ fs) → IsApart eq e (items_where_true bs fs)
@@ -25,15 +25,15 @@ module _ {V : Type 0} (eq : V → V → Bool) where
   canonical_kept (true ∷ bs) (e ∷ es) c = (c.0, apart_kept e bs es c, canonical_kept bs es c.2)
   canonical_kept (false ∷ bs) (e ∷ es) c = canonical_kept bs es c.2
 
-  pub keys_kept : (bs : List Bool) (es : List (Entry V)) → IsCanonical eq es → (pos 0 ≤ℤ keys_in (items_where_true bs es)) × (keys_in (items_where_true bs es) ≤ℤ keys_in es)
-  keys_kept [] [] c = (omega (arith, ints), omega (arith, ints))
-  keys_kept [] (e ∷ es) c = let i = keys_kept [] es c.2 in (omega (arith, ints), omega (arith, ints, i.1, c.0))
-  keys_kept (b ∷ bs) [] c = (omega (arith, ints), omega (arith, ints))
-  keys_kept (true ∷ bs) (e ∷ es) c = let i = keys_kept bs es c.2 in (omega (arith, ints, i.0, c.0), omega (arith, ints, i.1))
-  keys_kept (false ∷ bs) (e ∷ es) c = let i = keys_kept bs es c.2 in (i.0, omega (arith, ints, i.1, c.0))
-
   pub are_keys_kept : (low high : ℤ) (bs : List Bool) (es : List (Entry V)) → AreKeys low high es → AreKeys low high (items_where_true bs es)
   are_keys_kept low high [] es a = tt
   are_keys_kept low high (b ∷ bs) [] a = tt
   are_keys_kept low high (true ∷ bs) (e ∷ es) a = (a.0, a.1, are_keys_kept low high bs es a.2)
   are_keys_kept low high (false ∷ bs) (e ∷ es) a = are_keys_kept low high bs es a.2
+
+module _ {F V : Type 0} (eq : V → V → Bool) where
+  pub canonical_filtered : (R : F → Entry V → Bool → F → Type 0) (f : F) (old new : List (Entry V)) → IsFiltered R f old new → IsCanonical eq old → IsCanonical eq new
+  canonical_filtered R f old new h c = subst (IsCanonical eq) (sym h.4) (canonical_kept eq h.0 old c)
+
+  pub are_keys_filtered : (low high : ℤ) (R : F → Entry V → Bool → F → Type 0) (f : F) (old new : List (Entry V)) → IsFiltered R f old new → AreKeys low high old → AreKeys low high new
+  are_keys_filtered low high R f old new h a = subst (AreKeys low high) (sym h.4) (are_keys_kept eq low high h.0 old a)

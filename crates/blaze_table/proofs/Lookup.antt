@@ -42,13 +42,6 @@ value-entry_at {V} (e ∷ es) k = either (holds e k) (value-entry_at es k)
     either true p = refl
     either false p = p
 
-pub none-entry_at : {V : Type 0} (es : List (Entry V)) (k : ℤ) → at es k ≡ None → entry_at es k ≡ None
-none-entry_at {V} es k n = none (entry_at es k) (value-entry_at es k ∙ n)
-  where
-    none : (o : Option (Entry V)) → option_map (λ (f : Entry V). f.value) o ≡ None → o ≡ None
-    none None p = refl
-    none (Some e) p = cc
-
 pub holds_in : {V : Type 0} (e : Entry V) (k : ℤ) → e.lo ≤ℤ k → k ≤ℤ e.hi → holds e k ≡ true
 holds_in e k l h = grind (arith, ints)
 

@@ -1,5 +1,5 @@
 -- A list that is the paint of another, but for values above that are only like the old.
-use Rattle.std.proofs.Common.{◌≡◌, ℤ, pos, ◌+ℤ◌, ◌-ℤ◌, ◌≤ℤ◌, ◌<ℤ◌, Bool, true, false, cond, List, [], ◌∷◌, ◌++◌, length, Option, Some, None, refl, ◌∙◌, sym, subst, ap, arith}
+use Rattle.std.proofs.Common.{◌≡◌, ◌+◌, ◌≤◌, ℤ, pos, ◌+ℤ◌, ◌-ℤ◌, ◌≤ℤ◌, ◌<ℤ◌, Bool, true, false, cond, List, [], ◌∷◌, ◌++◌, length, Option, Some, None, refl, ◌∙◌, sym, subst, ap, arith}
 use Rattle.std.specs.Prelude.{int_lt, int_le, ◌&&◌}
 use Rattle.std.proofs.lemmas.Int.{ints}
 use Rattle.std.specs.Cmp.{IsEquivalence}
@@ -63,6 +63,19 @@ module _ {V : Type 0} (eq : V → V → Bool) (laws : IsEquivalence eq) where
   same_or_right None x y s = s
   same_or_right (Some v) x y s = laws.refl v
 
+  -- it is at most one entry longer than what lies below and above
+  pub painted_short : (p : Entry V) (es new : List (Entry V)) → IsPaintOf eq p es new → length new ≤ length (before p.lo es) + length (after p.hi es) + 1
+  painted_short p es new r =
+      let left = glue eq (before p.lo es) (p ∷ []) in
+      let long = ap length r.glued in
+      omega (arith, long, length-glue eq left r.above, length-glue eq (before p.lo es) (p ∷ []), length_as (after p.hi es) r.above r.like)
+
+  painted_alone : (p : Entry V) (es new : List (Entry V)) → IsPaintOf eq p es new → es ≡ [] → length new ≤ 1
+  painted_alone p es new r e =
+      let none_before = ap (λ l. length (before p.lo l)) e in
+      let none_after = ap (λ l. length (after p.hi l)) e in
+      omega (arith, painted_short p es new r, none_before, none_after)
+
   pub is_painted : (p : Entry V) (es new : List (Entry V)) → p.lo ≤ℤ p.hi → IsCanonical eq es → IsPaintOf eq p es new → IsListPainted eq p es new
   is_painted p es new w c r =
       let left = glue eq (before p.lo es) (p ∷ []) in
@@ -75,7 +88,8 @@ module _ {V : Type 0} (eq : V → V → Bool) (laws : IsEquivalence eq) where
             (same_trans eq laws _ (or_else (at left k) (at (after p.hi es) k)) _
             (same_or_right (at left k) (at r.above k) (at (after p.hi es) k) (back eq laws (after p.hi es) r.above (content_as (after p.hi es) r.above r.like) k))
             (same_along eq refl (three eq laws p.lo p.hi p.value es w c k) (same_in_or eq laws p.lo p.hi p.value es w c (at left k) _ (at (after p.hi es) k) (at_left eq laws p.lo p.hi p.value es w c k)))));
-        few = rw r.glued (omega (arith, length-glue eq left r.above, length-glue eq (before p.lo es) (p ∷ []), length_around p.lo p.hi es w, length_as (after p.hi es) r.above r.like));
+        few = omega (arith, painted_short p es new r, length_around p.lo p.hi es w);
+        alone = painted_alone p es new r;
       }
 
   pub glue-nil : (L : List (Entry V)) → glue eq L [] ≡ L
@@ -173,6 +187,7 @@ module _ {V : Type 0} (eq : V → V → Bool) (laws : IsEquivalence eq) (p : Ent
     canonical = c;
     content = λ k. same_along eq refl (sym (nowhere (at es k) k)) (same_itself eq laws (at es k));
     few = omega arith;
+    alone = λ e. let none = ap length e in omega arith;
   }
     where
       nowhere : (o : Option V) (k : ℤ) → cond (holds p k) (Some p.value) o ≡ o

@@ -1,5 +1,5 @@
 -- The parts of a list below a key and from it on.
-use Rattle.std.proofs.Common.{◌≡◌, ℕ, ◌+◌, ℤ, pos, ◌+ℤ◌, ◌-ℤ◌, ◌≤ℤ◌, ◌<ℤ◌, Bool, true, false, cond, List, [], ◌∷◌, ◌++◌, Option, Some, None, refl, ◌∙◌, sym, ap, subst, arith}
+use Rattle.std.proofs.Common.{◌≡◌, ℕ, ℤ, pos, ◌+ℤ◌, ◌-ℤ◌, ◌≤ℤ◌, ◌<ℤ◌, Bool, true, false, cond, List, [], ◌∷◌, ◌++◌, Option, Some, None, refl, ◌∙◌, sym, ap, subst, arith}
 use Rattle.std.specs.Prelude.{int_lt, int_le, ◌&&◌}
 use Rattle.std.specs.Cmp.{IsEquivalence}
 use Rattle.std.proofs.lemmas.Int.{ints, by_lt_z}
@@ -65,20 +65,24 @@ module _ {V : Type 0} (eq : V → V → Bool) where
       from_content = λ j. same_along eq refl (from_content j) (back eq laws (after (k -ℤ pos 1) es) from (content_as eq laws (after (k -ℤ pos 1) es) from r.like) j);
     }
 
-    -- the counts of the two, where the numbers add up
-    pub split_tables : (low high : ℤ) (n m o : ℕ) → IsTable eq low high n es → pos m ≡ keys_in below → m + o ≡ n → IsTable eq low high m below × IsTable eq low high o from
-    split_tables low high n m o t p q = (
-      (record {
-        canonical = is_split.below_canonical;
-        are_keys = subst (AreKeys low high) (sym r.below_is) (are_keys_before eq low high k es t.are_keys);
-        counted = p;
-      }),
-      (record {
-        canonical = is_split.from_canonical;
-        are_keys = are_keys_as eq low high (after (k -ℤ pos 1) es) from r.like (are_keys_after eq low high (k -ℤ pos 1) es t.are_keys);
-        counted = omega (arith, ints, p, q, t.counted, keys_split k es c, ap keys_in r.below_is, same_keys_in eq (after (k -ℤ pos 1) es) from r.like);
-      }),
-    )
+    module _ (low high : ℤ) (n : ℕ) (t : IsTable eq low high n es) where
+      pub split_counted : keys_in below +ℤ keys_in from ≡ pos n
+      split_counted = omega (arith, ints, t.counted, keys_split k es c, ap keys_in r.below_is, same_keys_in eq (after (k -ℤ pos 1) es) from r.like)
+
+      -- with the counts of the two
+      pub split_tables : (m o : ℕ) → pos m ≡ keys_in below → pos o ≡ keys_in from → IsTable eq low high m below × IsTable eq low high o from
+      split_tables m o p q = (
+        (record {
+          canonical = is_split.below_canonical;
+          are_keys = subst (AreKeys low high) (sym r.below_is) (are_keys_before eq low high k es t.are_keys);
+          counted = p;
+        }),
+        (record {
+          canonical = is_split.from_canonical;
+          are_keys = are_keys_as eq low high (after (k -ℤ pos 1) es) from r.like (are_keys_after eq low high (k -ℤ pos 1) es t.are_keys);
+          counted = q;
+        }),
+      )
 
 module _ {V : Type 0} (eq : V → V → Bool) (laws : IsEquivalence eq) (k : ℤ) where
   after_below : (A X : List (Entry V)) → IsBelow k A → after (k -ℤ pos 1) (A ++ X) ≡ after (k -ℤ pos 1) X

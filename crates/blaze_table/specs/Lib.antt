@@ -1,4 +1,5 @@
-pub mod Entries
+pub use Rattle.blaze_entries.specs.Entries
+pub use Rattle.blaze_entries.specs.Counted
 pub mod Canonical
 pub mod Count
 pub mod Laws
@@ -12,6 +13,10 @@ pub mod Printed
 pub mod Retain
 pub mod Table
 pub mod RangeSets
-pub mod Slots
+pub mod Listed
 pub mod Splice
 pub mod Keeping
+pub mod Whole
+pub mod Planned
+pub mod Work
+pub mod LastBelow

@@ -7,11 +7,13 @@ use Rattle.blaze_table.specs.Canonical.{IsRangeMap}
 abbrev pub painted : {V : Type 0} → ℤ → ℤ → V → (ℤ → Option V) → ℤ → Option V
 painted l h v content k = if int_le l k && int_le k h then Some v else content k
 
--- what painting an entry does to a range map: its content is the painted one, and it has at most two entries more
+-- what painting an entry does to a range map: its content is the painted one, and it has at most two entries more; and one
+-- at most, where the map was empty
 pub record IsPainted {V : Type 0} (eq : V → V → Bool) (low high : ℤ) (p : Entry V) (old new : List (Entry V)) : Type 0 where
   pub range_map : IsRangeMap eq low high new
   pub content : (k : ℤ) → SameOption eq (at new k) (painted p.lo p.hi p.value (at old) k)
   pub few : length new ≤ length old + 2
+  pub alone : old ≡ [] → length new ≤ 1
 
 -- an entry has all the keys from l up to h, with a value equal to v
 abbrev pub IsInside : {V : Type 0} → (V → V → Bool) → ℤ → ℤ → V → List (Entry V) → Type 0

@@ -1,23 +1,12 @@
 -- What a closure answers at the entries or the pairs of a list, and what is kept by it.
-use Rattle.std.specs.Prelude.{◌≡◌, ℤ, Bool, false, List}
+use Rattle.std.specs.Prelude.{◌≡◌, ℤ, Bool, List}
 use Rattle.std.specs.Borrow.{Bor}
-use Rattle.std.specs.Fn.{Mut, Called, Shared, FnReturns}
+use Rattle.std.specs.Fn.{Shared, FnReturns}
 use Rattle.std.specs.List.Retain.{IsFiltered}
-use Rattle.std.specs.Range.{range_inclusive_start, range_inclusive_end, range_inclusive_exhausted}
-use Rattle.std.specs.declared.ops.RangeInclusive.{RangeInclusive}
+pub use Rattle.blaze_entries.specs.Answers.{AnswersAt, IsCallableAtEach}
 use Rattle.blaze_table.specs.Entries.{Entry, at, SameOption}
 use Rattle.blaze_table.specs.Canonical.{IsRangeMap}
 use Rattle.blaze_table.specs.Pairs.{pair_list, value_at}
-
--- a call of f at the entry's range and value may answer r, and leave f as f'
-pub record AnswersAt {F T V : Type 0} (rank : T → ℤ) (g : Mut F (Bor (RangeInclusive T) × (Bor V × Unit {0})) Bool) (f : F) (e : Entry V) (r : Bool) (f' : F) : Type 0 where
-  pub range : Bor (RangeInclusive T)
-  pub value : Bor V
-  pub starts : rank (range_inclusive_start range.now) ≡ e.lo
-  pub ends : rank (range_inclusive_end range.now) ≡ e.hi
-  pub whole : range_inclusive_exhausted range.now ≡ false
-  pub stored : value.now ≡ e.value
-  pub called : Called g f (range, (value, tt)) r f'
 
 -- a call of f at the key and the value of a pair may answer r; f stays as it is
 pub record AnswersAtPair {F T V : Type 0} (g : Shared F (Bor T × (Bor V × Unit {0})) Bool) (f : F) (p : T × V) (r : Bool) (f' : F) : Type 0 where

@@ -1,6 +1,7 @@
 -- Lists taken apart at a key and put together again: the words of this crate's own functions. No public clause names them.
 use Rattle.std.specs.Prelude.{◌≡◌, ℤ, pos, ◌+◌, ◌≤◌, length, ◌+ℤ◌, ◌-ℤ◌, ◌<ℤ◌, ◌++◌, int_lt, int_le, Bool, ◌&&◌, if◌then◌else◌, List, [], ◌∷◌, Option, Some, None}
 use Rattle.std.specs.Ordering.{int_eq}
+pub use Rattle.blaze_entries.specs.Overlap.{later, earlier, overlap, covered}
 use Rattle.blaze_table.specs.Entries.{Entry, entry, at, SameEntries, SameOption}
 use Rattle.blaze_table.specs.Canonical.{IsCanonical}
 use Rattle.blaze_table.specs.Painted.{painted}
@@ -56,6 +57,7 @@ pub record IsListPainted {V : Type 0} (eq : V → V → Bool) (p : Entry V) (old
   pub canonical : IsCanonical eq new
   pub content : (k : ℤ) → SameOption eq (at new k) (painted p.lo p.hi p.value (at old) k)
   pub few : length new ≤ length old + 2
+  pub alone : old ≡ [] → length new ≤ 1
 
 -- the list without the key k, where the part above may have values that are only equal to the old
 pub record IsCutOf {V : Type 0} (eq : V → V → Bool) (k : ℤ) (es new : List (Entry V)) : Type 0 where
@@ -84,18 +86,3 @@ pub record IsListSplit {V : Type 0} (eq : V → V → Bool) (k : ℤ) (old below
 abbrev pub across : {V : Type 0} → ℤ → List (Entry V) → Option V
 across k [] = None
 across k (e ∷ es) = if int_lt e.lo k && int_le k e.hi then Some e.value else across k es
-
-abbrev pub later : ℤ → ℤ → ℤ
-later a b = if int_lt a b then b else a
-
-abbrev pub earlier : ℤ → ℤ → ℤ
-earlier a b = if int_lt a b then a else b
-
--- how many of the entry's keys lie from l up to h
-abbrev pub overlap : {V : Type 0} → ℤ → ℤ → Entry V → ℤ
-overlap l h e = if int_le (later e.lo l) (earlier e.hi h) then (earlier e.hi h -ℤ later e.lo l) +ℤ pos 1 else pos 0
-
--- how many of the entries' keys lie from l up to h
-abbrev pub covered : {V : Type 0} → ℤ → ℤ → List (Entry V) → ℤ
-covered l h [] = pos 0
-covered l h (e ∷ es) = overlap l h e +ℤ covered l h es

@@ -1,227 +1,165 @@
-//! A key taken out of slots.
-ghost use Rattle.std.specs.Prelude.{◌≡◌, ◌≤◌, ◌<◌, ◌+◌, ◌-◌, ◌++◌, ◌∷◌, [], Some, None, ◌≤ℤ◌, ◌<ℤ◌, pos, ◌+ℤ◌, ◌-ℤ◌, length, int_lt, true, false, vec_len, slice_index_or, take, drop, Ok, OnOk, OnErr, IfOk};
-ghost use Rattle.std.specs.List.{AllWithin, insert};
-ghost use Rattle.std.specs.Vec.{vec_capacity};
-ghost use Rattle.blaze_table.specs.Entries.{Entry, at, SameOption, SameEntries, entry};
+//! A key taken out of entries, in place. Each clone and each growth comes before the first edit that can't be taken back.
+ghost use Rattle.std.specs.Prelude.{◌≡◌, Some, None, pos, ◌+ℤ◌, ◌≤ℤ◌, ◌<ℤ◌, Ok, OnOk, OnErr, IfOk};
 ghost use Rattle.blaze_table.specs.Canonical.{IsCanonical};
+ghost use Rattle.blaze_table.specs.Work.{IsCountedCut};
 ghost use Rattle.blaze_table.specs.Cut.{IsAmongOthers};
+ghost use Rattle.blaze_table.specs.Entries.{at, SameOption};
+ghost use Rattle.blaze_table.specs.LastBelow.{IsLastBelow};
 ghost use Rattle.blaze_table.specs.Painted.{ClonesAreAlike};
+ghost use Rattle.blaze_table.specs.Planned.{IsWorked};
 ghost use Rattle.blaze_table.specs.Splice.{IsCutOf, IsListCut};
 ghost use Rattle.blaze_table.specs.Table.{IsTable};
-ghost use Rattle.blaze_table.specs.Slots.{entry_of, entries_of};
 
-use crate::Slot;
-use crate::search::place_at;
-use blaze_int::compare::{after, before, is_below};
+use blaze_entries::Counted;
+use blaze_int::compare::{after, before, is_at_most, is_below};
 use blaze_int::{Integer, SafeLength};
 use std::alloc::AllocError;
-use std::mem;
 
-// Puts a slot where there is room.
-fn insert<T, V>(slots: &mut Vec<Slot<T, V>>, place: usize, slot: Slot<T, V>)
-    requires bound { place ≤ vec_len slots.old }
-    requires room { vec_len slots.old < vec_capacity slots.old }
-    ensures { slots.new.items ≡ insert slots.old.items place slot }
-{
-    match slots.insert(place, slot) {
-        Ok(()) => {}
-        Err(_) => unreachable!(),
-    }
-}
-
-// A clone of the value at a place.
-fn value_at<T, V: Clone>(slots: &[Slot<T, V>], place: usize) -> Result<V, AllocError>
-    requires { place < length slots.now }
-    ensures { IfOk result (λ v. (d : Slot T V) → V.is_clone (slice_index_or slots.now place d).value v) }
-{
-    slots[place].value.clone()
-}
-
-// Takes the slot at a place out, and puts another there.
-#[tactic(auto, using(crate::proofs::Pieces::set_parts))]
-fn exchange<T, V>(slots: &mut Vec<Slot<T, V>>, place: usize, slot: Slot<T, V>) -> Slot<T, V>
-    requires { place < vec_len slots.old }
-    ensures old { (d : Slot T V) → result ≡ slice_index_or slots.old.items place d }
-    ensures items { slots.new.items ≡ take place slots.old.items ++ slot ∷ drop (place + 1) slots.old.items }
-    ensures capacity { vec_capacity slots.new ≡ vec_capacity slots.old }
-{
-    mem::replace(&mut slots[place], slot)
-}
-
-// Takes a key out of the slot at a place that has keys below and above it.
+// Takes a key out of the entry that has keys below and above it.
 fn cut_inside<T: Integer, V: Eq + Clone>(
-    slots: &mut Vec<Slot<T, V>>,
-    place: usize,
+    entries: &mut Counted<T, V>,
     key: T,
-    lo: T,
-    hi: T,
+    start: T,
+    end: T,
 ) -> Result<V, AllocError>
     requires clones { ClonesAreAlike V.is_clone V.eq }
-    requires canonical { IsCanonical V.eq (entries_of T.rank slots.old.items) }
-    requires bound { place < length slots.old.items }
-    requires below { AllWithin (λ slot. int_lt (T.rank slot.hi) (T.rank key) ≡ true) slots.old.items 0 place }
-    requires lo { (d : Slot T V) → lo ≡ (slice_index_or slots.old.items place d).lo }
-    requires hi { (d : Slot T V) → hi ≡ (slice_index_or slots.old.items place d).hi }
-    requires starts_below { T.rank lo <ℤ T.rank key }
-    requires ends_above { T.rank key <ℤ T.rank hi }
-    ensures ok { OnOk result (IsCutOf V.eq (T.rank key) (entries_of T.rank slots.old.items) (entries_of T.rank slots.new.items)) }
-    ensures value { IfOk result (λ value. SameOption V.eq (at (entries_of T.rank slots.old.items) (T.rank key)) (Some value)) }
-    ensures err { OnErr result (slots.new.items ≡ slots.old.items) }
+    requires canonical { IsCanonical V.eq entries.old.entries }
+    requires found { IsLastBelow
+        (T.rank key +ℤ pos 1) (T.rank start) (T.rank end) entries.old.entries }
+    requires starts_below { T.rank start <ℤ T.rank key }
+    requires ends_above { T.rank key <ℤ T.rank end }
+    ensures cut { OnOk result (IsCutOf V.eq (T.rank key) entries.old.entries entries.new.entries) }
+    ensures value { IfOk result
+        (λ value. SameOption V.eq (at entries.old.entries (T.rank key)) (Some value)) }
+    ensures worked { OnOk result (IsWorked 1 1 entries.old entries.new) }
+    ensures err { OnErr result (entries.new.entries ≡ entries.old.entries) }
 {
-    slots.reserve(1)?;
-    let given = value_at(slots, place)?;
-    let value = value_at(slots, place)?;
-    let right = Slot {
-        lo: after(key, hi),
-        hi,
-        value,
-    };
-    let old = exchange(slots, place, right);
-    let left = Slot {
-        lo,
-        hi: before(key, lo),
-        value: old.value,
-    };
-    insert(slots, place, left);
-    Ok(given)
+    entries.in_hand();
+    let value = entries.clone_value(start)?;
+    entries.insert_clone(start, after(key, end))?;
+    entries.set_end(start, before(key, start));
+    Ok(value)
 }
 
-// Takes a key out of the slot at a place where it is the last and not the first.
+// Takes a key out of the entry that ends there and starts below it.
 fn cut_end<T: Integer, V: Eq + Clone>(
-    slots: &mut Vec<Slot<T, V>>,
-    place: usize,
+    entries: &mut Counted<T, V>,
     key: T,
-    lo: T,
+    start: T,
 ) -> Result<V, AllocError>
     requires clones { ClonesAreAlike V.is_clone V.eq }
-    requires canonical { IsCanonical V.eq (entries_of T.rank slots.old.items) }
-    requires bound { place < length slots.old.items }
-    requires below { AllWithin (λ slot. int_lt (T.rank slot.hi) (T.rank key) ≡ true) slots.old.items 0 place }
-    requires lo { (d : Slot T V) → lo ≡ (slice_index_or slots.old.items place d).lo }
-    requires starts_below { T.rank lo <ℤ T.rank key }
-    requires ends { (d : Slot T V) → T.rank (slice_index_or slots.old.items place d).hi ≡ T.rank key }
-    ensures ok { OnOk result (IsCutOf V.eq (T.rank key) (entries_of T.rank slots.old.items) (entries_of T.rank slots.new.items)) }
-    ensures value { IfOk result (λ value. SameOption V.eq (at (entries_of T.rank slots.old.items) (T.rank key)) (Some value)) }
-    ensures err { OnErr result (slots.new.items ≡ slots.old.items) }
+    requires canonical { IsCanonical V.eq entries.old.entries }
+    requires found { IsLastBelow
+        (T.rank key +ℤ pos 1) (T.rank start) (T.rank key) entries.old.entries }
+    requires starts_below { T.rank start <ℤ T.rank key }
+    ensures cut { OnOk result (IsCutOf V.eq (T.rank key) entries.old.entries entries.new.entries) }
+    ensures value { IfOk result
+        (λ value. SameOption V.eq (at entries.old.entries (T.rank key)) (Some value)) }
+    ensures worked { OnOk result (IsWorked 1 1 entries.old entries.new) }
+    ensures err { OnErr result (entries.new.entries ≡ entries.old.entries) }
 {
-    let given = value_at(slots, place)?;
-    slots[place].hi = before(key, lo);
-    Ok(given)
+    entries.in_hand();
+    let value = entries.clone_value(start)?;
+    entries.set_end(start, before(key, start));
+    Ok(value)
 }
 
-// Takes a key out of the slot at a place where it is the first and not the last.
+// Takes a key out of the entry that starts there and ends above it.
 fn cut_start<T: Integer, V: Eq + Clone>(
-    slots: &mut Vec<Slot<T, V>>,
-    place: usize,
+    entries: &mut Counted<T, V>,
     key: T,
-    hi: T,
+    end: T,
 ) -> Result<V, AllocError>
     requires clones { ClonesAreAlike V.is_clone V.eq }
-    requires canonical { IsCanonical V.eq (entries_of T.rank slots.old.items) }
-    requires bound { place < length slots.old.items }
-    requires below { AllWithin (λ slot. int_lt (T.rank slot.hi) (T.rank key) ≡ true) slots.old.items 0 place }
-    requires hi { (d : Slot T V) → hi ≡ (slice_index_or slots.old.items place d).hi }
-    requires ends_above { T.rank key <ℤ T.rank hi }
-    requires starts { (d : Slot T V) → T.rank key ≡ T.rank (slice_index_or slots.old.items place d).lo }
-    ensures ok { OnOk result (IsCutOf V.eq (T.rank key) (entries_of T.rank slots.old.items) (entries_of T.rank slots.new.items)) }
-    ensures value { IfOk result (λ value. SameOption V.eq (at (entries_of T.rank slots.old.items) (T.rank key)) (Some value)) }
-    ensures err { OnErr result (slots.new.items ≡ slots.old.items) }
+    requires canonical { IsCanonical V.eq entries.old.entries }
+    requires found { IsLastBelow
+        (T.rank key +ℤ pos 1) (T.rank key) (T.rank end) entries.old.entries }
+    requires ends_above { T.rank key <ℤ T.rank end }
+    ensures cut { OnOk result (IsCutOf V.eq (T.rank key) entries.old.entries entries.new.entries) }
+    ensures value { IfOk result
+        (λ value. SameOption V.eq (at entries.old.entries (T.rank key)) (Some value)) }
+    ensures worked { OnOk result (IsWorked 1 1 entries.old entries.new) }
+    ensures err { OnErr result (entries.new.entries ≡ entries.old.entries) }
 {
-    let given = value_at(slots, place)?;
-    slots[place].lo = after(key, hi);
-    Ok(given)
+    entries.in_hand();
+    let value = entries.clone_value(key)?;
+    entries.move_start(key, after(key, end))?;
+    Ok(value)
 }
 
-// Takes the slot at a place out, which has one key.
-fn cut_whole<T: Integer, V: Eq>(slots: &mut Vec<Slot<T, V>>, place: usize, key: T) -> V
-    requires canonical { IsCanonical V.eq (entries_of T.rank slots.old.items) }
-    requires bound { place < length slots.old.items }
-    requires below { AllWithin (λ slot. int_lt (T.rank slot.hi) (T.rank key) ≡ true) slots.old.items 0 place }
-    requires starts { (d : Slot T V) → T.rank (slice_index_or slots.old.items place d).lo ≡ T.rank key }
-    requires ends { (d : Slot T V) → T.rank (slice_index_or slots.old.items place d).hi ≡ T.rank key }
-    ensures cut { IsCutOf V.eq (T.rank key) (entries_of T.rank slots.old.items) (entries_of T.rank slots.new.items) }
-    ensures value { SameOption V.eq (at (entries_of T.rank slots.old.items) (T.rank key)) (Some result) }
+// Takes the entry out that has the key alone.
+fn cut_whole<T: Integer, V: Eq + Drop>(entries: &mut Counted<T, V>, key: T) -> V
+    requires canonical { IsCanonical V.eq entries.old.entries }
+    requires found { IsLastBelow
+        (T.rank key +ℤ pos 1) (T.rank key) (T.rank key) entries.old.entries }
+    ensures cut { IsCutOf V.eq (T.rank key) entries.old.entries entries.new.entries }
+    ensures value { SameOption V.eq (at entries.old.entries (T.rank key)) (Some result) }
+    ensures worked { IsWorked 1 1 entries.old entries.new }
 {
-    let slot = slots.remove(place);
-    slot.value
+    entries.in_hand();
+    entries.remove(key)
 }
 
-// Takes the key out of the slot at a place that has it.
-fn cut_at<T: Integer, V: Eq + Clone>(
-    slots: &mut Vec<Slot<T, V>>,
-    place: usize,
+// Takes a key out of the entry that has it.
+fn cut_holder<T: Integer, V: Eq + Clone>(
+    entries: &mut Counted<T, V>,
     key: T,
-    lo: T,
-    hi: T,
+    start: T,
+    end: T,
 ) -> Result<V, AllocError>
     requires clones { ClonesAreAlike V.is_clone V.eq }
-    requires canonical { IsCanonical V.eq (entries_of T.rank slots.old.items) }
-    requires bound { place < length slots.old.items }
-    requires below { AllWithin (λ slot. int_lt (T.rank slot.hi) (T.rank key) ≡ true) slots.old.items 0 place }
-    requires lo { (d : Slot T V) → lo ≡ (slice_index_or slots.old.items place d).lo }
-    requires hi { (d : Slot T V) → hi ≡ (slice_index_or slots.old.items place d).hi }
-    requires starts { T.rank lo ≤ℤ T.rank key }
-    requires ends { T.rank key ≤ℤ T.rank hi }
-    ensures ok { OnOk result (IsCutOf V.eq (T.rank key) (entries_of T.rank slots.old.items) (entries_of T.rank slots.new.items)) }
-    ensures value { IfOk result (λ value. SameOption V.eq (at (entries_of T.rank slots.old.items) (T.rank key)) (Some value)) }
-    ensures refused { OnErr result (T.rank lo <ℤ T.rank hi) }
-    ensures err { OnErr result (slots.new.items ≡ slots.old.items) }
+    requires canonical { IsCanonical V.eq entries.old.entries }
+    requires found { IsLastBelow
+        (T.rank key +ℤ pos 1) (T.rank start) (T.rank end) entries.old.entries }
+    requires starts { T.rank start ≤ℤ T.rank key }
+    requires ends { T.rank key ≤ℤ T.rank end }
+    ensures cut { OnOk result (IsCutOf V.eq (T.rank key) entries.old.entries entries.new.entries) }
+    ensures value { IfOk result
+        (λ value. SameOption V.eq (at entries.old.entries (T.rank key)) (Some value)) }
+    ensures worked { OnOk result (IsWorked 1 1 entries.old entries.new) }
+    ensures refused { OnErr result (T.rank start <ℤ T.rank end) }
+    ensures err { OnErr result (entries.new.entries ≡ entries.old.entries) }
 {
-    if is_below(lo, key) {
-        if is_below(key, hi) {
-            cut_inside(slots, place, key, lo, hi)
+    if is_below(start, key) {
+        if is_below(key, end) {
+            cut_inside(entries, key, start, end)
         } else {
-            cut_end(slots, place, key, lo)
+            cut_end(entries, key, start)
         }
-    } else if is_below(key, hi) {
-        cut_start(slots, place, key, hi)
+    } else if is_below(key, end) {
+        cut_start(entries, key, end)
     } else {
-        Ok(cut_whole(slots, place, key))
+        Ok(cut_whole(entries, key))
     }
 }
 
-/// Takes a key out of slots, and answers the value that was there.
-fn cut_slots<T: Integer, V: Eq + Clone>(
-    slots: &mut Vec<Slot<T, V>>,
-    key: T,
-) -> Result<Option<V>, AllocError>
-    requires clones { ClonesAreAlike V.is_clone V.eq }
-    requires canonical { IsCanonical V.eq (entries_of T.rank slots.old.items) }
-    ensures ok { OnOk result (IsCutOf V.eq (T.rank key) (entries_of T.rank slots.old.items) (entries_of T.rank slots.new.items)) }
-    ensures value { IfOk result (λ value. SameOption V.eq (at (entries_of T.rank slots.old.items) (T.rank key)) value) }
-    ensures none { at (entries_of T.rank slots.old.items) (T.rank key) ≡ None → (result ≡ Ok None) × (slots.new.items ≡ slots.old.items) }
-    ensures refused { OnErr result (IsAmongOthers (T.rank key) (entries_of T.rank slots.old.items)) }
-    ensures err { OnErr result (slots.new.items ≡ slots.old.items) }
-{
-    match place_at(slots, key) {
-        None => Ok(None),
-        Some(place) => {
-            let (lo, hi) = (slots[place].lo, slots[place].hi);
-            Ok(Some(cut_at(slots, place, key, lo, hi)?))
-        }
-    }
-}
-
-/// Takes a key out, and answers the value that was there and the new count of keys, where `len` is the old.
+/// Takes a key out, and answers the value that was there and the new count of keys, where `len` is the old. Refused memory
+/// leaves the entries as they are.
 pub fn cut<T: Integer, V: Eq + Clone>(
-    slots: &mut Vec<Slot<T, V>>,
+    entries: &mut Counted<T, V>,
     len: T::SafeLen,
     key: T,
 ) -> Result<(Option<V>, T::SafeLen), AllocError>
     requires clones { ClonesAreAlike V.is_clone V.eq }
-    requires table { IsTable V.eq T.low T.high (T.SafeLen.number len) (entries_of T.rank slots.old.items) }
-    ensures table { IfOk result (λ r. IsTable V.eq T.low T.high (T.SafeLen.number r.1) (entries_of T.rank slots.new.items)) }
-    ensures cut { OnOk result (IsListCut V.eq (T.rank key) (entries_of T.rank slots.old.items) (entries_of T.rank slots.new.items)) }
-    ensures value { IfOk result (λ r. SameOption V.eq (at (entries_of T.rank slots.old.items) (T.rank key)) r.0) }
-    ensures none { at (entries_of T.rank slots.old.items) (T.rank key) ≡ None → (result ≡ Ok (None, len)) × (slots.new.items ≡ slots.old.items) }
-    ensures refused { OnErr result (IsAmongOthers (T.rank key) (entries_of T.rank slots.old.items)) }
-    ensures err { OnErr result (slots.new.items ≡ slots.old.items) }
+    requires table { IsTable V.eq T.low T.high (T.SafeLen.number len) entries.old.entries }
+    ensures table { IfOk result
+        (λ r. IsTable V.eq T.low T.high (T.SafeLen.number r.1) entries.new.entries) }
+    ensures cut { OnOk result
+        (IsListCut V.eq (T.rank key) entries.old.entries entries.new.entries) }
+    ensures value { IfOk result (λ r. SameOption V.eq (at entries.old.entries (T.rank key)) r.0) }
+    ensures none { at entries.old.entries (T.rank key) ≡ None
+        → (result ≡ Ok (None, len)) × (entries.new.entries ≡ entries.old.entries) }
+    ensures counted { OnOk result (IsCountedCut entries.old entries.new) }
+    ensures refused { OnErr result (IsAmongOthers (T.rank key) entries.old.entries) }
+    ensures err { OnErr result (entries.new.entries ≡ entries.old.entries) }
 {
-    match cut_slots(slots, key)? {
-        None => Ok((None, len)),
-        Some(value) => {
+    entries.in_hand();
+    match entries.range_at_or_below(key) {
+        Some(ends) if is_at_most(key, ends.1) => {
+            let value = cut_holder(entries, key, ends.0, ends.1)?;
             let rest = len.minus(T::SafeLen::one());
             Ok((Some(value), rest))
         }
+        _ => Ok((None, len)),
     }
 }

@@ -1,62 +1,62 @@
 //! The gap round a key.
-ghost use Rattle.std.specs.Prelude.{◌≡◌, ◌⊎◌, ◌≤◌, ◌<◌, ◌+◌, ◌-◌, ◌≤ℤ◌, ◌<ℤ◌, None, pos, ◌+ℤ◌, ◌-ℤ◌, length, int_lt, true, false, IsSome, slice_index_or};
-ghost use Rattle.std.specs.List.{AllWithin};
+ghost use Rattle.std.specs.Prelude.{◌≡◌, ◌⊎◌, ◌≤ℤ◌, None, pos, ◌+ℤ◌, ◌-ℤ◌, IsSome};
+ghost use Rattle.blaze_table.specs.Canonical.{IsCanonical};
 ghost use Rattle.blaze_table.specs.Entries.{at};
-ghost use Rattle.blaze_table.specs.Canonical.{IsCanonical, AreKeys};
-ghost use Rattle.blaze_table.specs.Gap.{IsGap};
-ghost use Rattle.blaze_table.specs.Slots.{entries_of};
+ghost use Rattle.blaze_table.specs.Gap.{IsGap, IsClearFrom};
 
-use crate::Slot;
-use crate::search::place_of;
+use crate::search::entry_above;
+use blaze_entries::Entries;
 use blaze_int::Integer;
 use blaze_int::compare::{after, before};
 
-// The gap round a key that has no value.
-pub fn gap_round<T: Integer, V: Eq>(slots: &[Slot<T, V>], key: T) -> (T, T)
-    requires canonical { IsCanonical V.eq (entries_of T.rank slots.now) }
-    requires unmapped { at (entries_of T.rank slots.now) (T.rank key) ≡ None }
-    ensures { IsGap T.low T.high (at (entries_of T.rank slots.now)) (T.rank key) (T.rank result.0) (T.rank result.1) }
+/// The gap round a key that has no value.
+pub fn gap_round<T: Integer, V: Eq>(entries: &Entries<T, V>, key: T) -> (T, T)
+    requires canonical { IsCanonical V.eq entries.now.entries }
+    requires unmapped { at entries.now.entries (T.rank key) ≡ None }
+    ensures { IsGap T.low T.high (at entries.now.entries) (T.rank key) (T.rank result.0) (T.rank result.1) }
 {
-    let place = place_of(slots, key);
-    (gap_start(slots, place, key), gap_end(slots, place, key))
+    (gap_start(entries, key), gap_end(entries, key))
 }
 
-// The key after the slots before a place.
-fn gap_start<T: Integer, V: Eq>(slots: &[Slot<T, V>], place: usize, key: T) -> T
-    requires canonical { IsCanonical V.eq (entries_of T.rank slots.now) }
-    requires bound { place ≤ length slots.now }
-    requires below { AllWithin (λ slot. int_lt (T.rank slot.hi) (T.rank key) ≡ true) slots.now 0 place }
+// The key after the entry that starts below a key, which has no value.
+fn gap_start<T: Integer, V: Eq>(entries: &Entries<T, V>, key: T) -> T
+    requires canonical { IsCanonical V.eq entries.now.entries }
+    requires unmapped { at entries.now.entries (T.rank key) ≡ None }
     ensures is_key { T.low ≤ℤ T.rank result }
     ensures reaches { T.rank result ≤ℤ T.rank key }
-    ensures below { AllWithin (λ slot. int_lt (T.rank slot.hi) (T.rank result) ≡ true) slots.now 0 place }
-    ensures least { (T.rank result ≡ T.low) ⊎ IsSome (at (entries_of T.rank slots.now) (T.rank result -ℤ pos 1)) }
+    ensures clear { IsClearFrom (at entries.now.entries) (T.rank result) (T.rank key) }
+    ensures least { (T.rank result ≡ T.low) ⊎ IsSome (at entries.now.entries (T.rank result -ℤ pos 1)) }
 {
+    entries.in_hand();
     key.in_hand();
-    if place == 0 {
-        T::min_value()
-    } else {
-        let end = slots[place - 1].hi;
-        end.in_hand();
-        after(end, key)
+    match entries.at_or_below(key) {
+        Some(found) => {
+            let end = found.1;
+            end.in_hand();
+            after(end, key)
+        }
+        None => T::min_value(),
     }
 }
 
-// The key before the slots from a place on.
-fn gap_end<T: Integer, V: Eq>(slots: &[Slot<T, V>], place: usize, key: T) -> T
-    requires canonical { IsCanonical V.eq (entries_of T.rank slots.now) }
-    requires bound { place ≤ length slots.now }
-    requires above { (d : Slot T V) → place < length slots.now → T.rank key <ℤ T.rank (slice_index_or slots.now place d).lo }
+// The key before the entry that starts above a key, which has no value.
+fn gap_end<T: Integer, V: Eq>(entries: &Entries<T, V>, key: T) -> T
+    requires canonical { IsCanonical V.eq entries.now.entries }
+    requires unmapped { at entries.now.entries (T.rank key) ≡ None }
     ensures is_key { T.rank result ≤ℤ T.high }
     ensures reaches { T.rank key ≤ℤ T.rank result }
-    ensures above { (d : Slot T V) → place < length slots.now → T.rank result <ℤ T.rank (slice_index_or slots.now place d).lo }
-    ensures greatest { (T.rank result ≡ T.high) ⊎ IsSome (at (entries_of T.rank slots.now) (T.rank result +ℤ pos 1)) }
+    ensures clear { IsClearFrom (at entries.now.entries) (T.rank key) (T.rank result) }
+    ensures greatest { (T.rank result ≡ T.high) ⊎ IsSome (at entries.now.entries (T.rank result +ℤ pos 1)) }
 {
+    entries.in_hand();
     key.in_hand();
-    if place < slots.len() {
-        let start = slots[place].lo;
-        start.in_hand();
-        before(start, key)
-    } else {
-        T::max_value()
+    match entry_above(entries, key) {
+        Some(found) => {
+            let start = found.0;
+            start.in_hand();
+            let last = before(start, key);
+            last
+        }
+        None => T::max_value(),
     }
 }

@@ -1,138 +1,128 @@
-//! Slots split at a key.
-ghost use Rattle.std.specs.Prelude.{◌≡◌, ◌≤◌, ◌<◌, ◌+◌, ◌-◌, ◌++◌, ◌∷◌, [], Some, None, ◌≤ℤ◌, ◌<ℤ◌, pos, ◌+ℤ◌, ◌-ℤ◌, length, int_lt, true, false, vec_len, take, drop, IfOk, IfSome, OnOk, OnErr};
-ghost use Rattle.std.specs.List.{AllWithin};
-ghost use Rattle.std.specs.Vec.{vec_capacity};
-ghost use Rattle.blaze_table.specs.Entries.{Entry, at, SameOption, SameEntries, entry};
-ghost use Rattle.blaze_table.specs.Count.{keys_in};
+//! Entries split at a key, in place. What is to be put in is put in before the split, which can be refused; only then is
+//! anything else edited.
+ghost use Rattle.std.specs.Prelude.{◌≡◌, pos, ◌+ℤ◌, ◌≤ℤ◌, IfOk, OnErr};
+ghost use Rattle.std.specs.Option.{option_map};
+ghost use Rattle.blaze_entries.specs.Counted.{uncounted};
+ghost use Rattle.blaze_entries.specs.Found.{range_in, ranks_of};
+ghost use Rattle.blaze_entries.specs.Starts.{last_below};
 ghost use Rattle.blaze_table.specs.Canonical.{IsCanonical};
-ghost use Rattle.blaze_table.specs.Table.{IsTable};
-ghost use Rattle.blaze_table.specs.Splice.{IsListSplit, before, after, IsBelow, IsSplitOf, across};
+ghost use Rattle.blaze_table.specs.Count.{keys_in};
+ghost use Rattle.blaze_table.specs.LastBelow.{IsLastBelow};
 ghost use Rattle.blaze_table.specs.Painted.{ClonesAreAlike};
-ghost use Rattle.std.specs.VecDeque.{deque_len};
-ghost use Rattle.blaze_table.specs.Slots.{entry_of, entries_of};
+ghost use Rattle.blaze_table.specs.Splice.{IsListSplit, IsSplitOf};
+ghost use Rattle.blaze_table.specs.Table.{IsTable};
 
-use crate::Slot;
-use crate::build::{put, put_all, take_below};
 use crate::count::count;
-use crate::search::slot_at;
-use blaze_int::compare::{before, is_at_most, is_below};
+use blaze_entries::Entries;
+use blaze_int::compare::{before, is_at_most};
 use blaze_int::{Integer, SafeLength};
 use std::alloc::AllocError;
-use std::collections::VecDeque;
-use std::mem;
 
-// A clone of the value of the slot that starts below a key and holds it, if there is one.
-fn clone_across<T: Integer, V: Eq + Clone>(
-    slots: &[Slot<T, V>],
+// The first and last key of the entry with the greatest start below a key.
+fn range_below<T: Integer, V>(entries: &Entries<T, V>, key: T) -> Option<(T, T)>
+    ensures { option_map (ranks_of T.rank) result
+        ≡ option_map range_in (last_below (T.rank key) entries.now.entries) }
+{
+    let entry = entries.below(key)?;
+    Some((entry.0, entry.1))
+}
+
+// Splits entries at a key that one of them has and does not start at, by that one's first and last key.
+fn split_across<T: Integer, V: Eq + Clone>(
+    entries: &mut Entries<T, V>,
     key: T,
-) -> Result<Option<V>, AllocError>
-    requires canonical { IsCanonical V.eq (entries_of T.rank slots.now) }
+    ends: (T, T),
+) -> Result<Entries<T, V>, AllocError>
     requires clones { ClonesAreAlike V.is_clone V.eq }
-    ensures { IfOk result (λ spare. SameOption V.eq (across (T.rank key) (entries_of T.rank slots.now)) spare) }
+    requires canonical { IsCanonical V.eq entries.old.entries }
+    requires found { IsLastBelow (T.rank key) (T.rank ends.0) (T.rank ends.1) entries.old.entries }
+    requires reaches { T.rank key ≤ℤ T.rank ends.1 }
+    ensures split { IfOk result (λ from. IsSplitOf V.eq
+        (T.rank key) entries.old.entries entries.new.entries from.entries) }
+    ensures same { IfOk result
+        (λ from. (entries.new ≡ record entries.old { entries = entries.new.entries })
+        × (from ≡ uncounted from.entries)) }
+    ensures err { OnErr result (entries.new ≡ entries.old) }
 {
-    match slot_at(slots, key) {
-        Some(slot) if is_below(slot.lo, key) => Ok(Some(slot.value.clone()?)),
-        _ => Ok(None),
-    }
-}
-
-// Adds the parts of a slot that a key cuts, and the slots behind it.
-fn put_parts<T: Integer, V: Eq + Drop>(
-    below: &mut Vec<Slot<T, V>>,
-    from: &mut Vec<Slot<T, V>>,
-    slot: Slot<T, V>,
-    rest: VecDeque<Slot<T, V>>,
-    key: T,
-    value: V,
-)
-    requires below_room { vec_len below.old < vec_capacity below.old }
-    requires from_room { 1 + deque_len rest ≤ vec_capacity from.old }
-    requires empty { vec_len from.old ≡ 0 }
-    requires none { from.old.items ≡ [] }
-    requires starts_below { T.rank slot.lo <ℤ T.rank key }
-    requires reaches { T.rank key ≤ℤ T.rank slot.hi }
-    requires is_below { IsBelow (T.rank key) (entries_of T.rank below.old.items) }
-    requires alike { V.eq slot.value value ≡ true }
-    ensures { IsSplitOf V.eq (T.rank key) (entries_of T.rank below.old.items ++ entries_of T.rank (slot ∷ rest.items)) (entries_of T.rank below.new.items) (entries_of T.rank from.new.items) }
-{
-    put(
-        from,
-        Slot {
-            lo: key,
-            hi: slot.hi,
-            value,
-        },
-    );
-    put(
-        below,
-        Slot {
-            lo: slot.lo,
-            hi: before(key, slot.lo),
-            value: slot.value,
-        },
-    );
-    put_all(from, rest);
-}
-
-// Parts slots that are in order at a key, into two vectors with room. The spare is a clone of the value on both sides.
-fn part<T: Integer, V: Eq + Drop>(
-    below: &mut Vec<Slot<T, V>>,
-    from: &mut Vec<Slot<T, V>>,
-    old: VecDeque<Slot<T, V>>,
-    key: T,
-    spare: Option<V>,
-)
-    requires canonical { IsCanonical V.eq (entries_of T.rank old.items) }
-    requires below_room { deque_len old < vec_capacity below.old }
-    requires from_room { deque_len old < vec_capacity from.old }
-    requires below_empty { vec_len below.old ≡ 0 }
-    requires below_none { below.old.items ≡ [] }
-    requires from_empty { vec_len from.old ≡ 0 }
-    requires from_none { from.old.items ≡ [] }
-    requires spare { SameOption V.eq (across (T.rank key) (entries_of T.rank old.items)) spare }
-    ensures { IsSplitOf V.eq (T.rank key) (entries_of T.rank old.items) (entries_of T.rank below.new.items) (entries_of T.rank from.new.items) }
-{
-    let mut old = old;
-    match take_below(&mut old, key, below) {
-        None => {}
-        Some(slot) => {
-            if is_below(slot.lo, key) {
-                match spare {
-                    None => unreachable!(),
-                    Some(value) => put_parts(below, from, slot, old, key, value),
-                }
-            } else {
-                put(from, slot);
-                put_all(from, old);
-            }
+    entries.in_hand();
+    entries.insert_clone(ends.0, key)?;
+    match entries.split_off(key) {
+        Ok(from) => {
+            entries.set_end(ends.0, before(key, ends.0));
+            Ok(from)
+        }
+        Err(refused) => {
+            entries.remove(key);
+            Err(refused)
         }
     }
 }
 
-/// Keeps the keys below one, and answers the slots of the keys from it on with both counts of keys, where `len` is that of
-/// all: first the count of those that stay.
+// Splits entries at a key.
+fn split_at<T: Integer, V: Eq + Clone>(
+    entries: &mut Entries<T, V>,
+    key: T,
+) -> Result<Entries<T, V>, AllocError>
+    requires clones { ClonesAreAlike V.is_clone V.eq }
+    requires canonical { IsCanonical V.eq entries.old.entries }
+    ensures split { IfOk result (λ from. IsSplitOf V.eq
+        (T.rank key) entries.old.entries entries.new.entries from.entries) }
+    ensures same { IfOk result
+        (λ from. (entries.new ≡ record entries.old { entries = entries.new.entries })
+        × (from ≡ uncounted from.entries)) }
+    ensures err { OnErr result (entries.new ≡ entries.old) }
+{
+    entries.in_hand();
+    match range_below(entries, key) {
+        Some(ends) if is_at_most(key, ends.1) => split_across(entries, key, ends),
+        _ => entries.split_off(key),
+    }
+}
+
+// The counts of keys of both parts of entries, where `len` is that of all: the shorter part alone is walked.
+fn count_parts<T: Integer, V: Eq>(
+    below: &Entries<T, V>,
+    from: &Entries<T, V>,
+    len: T::SafeLen,
+) -> (T::SafeLen, T::SafeLen)
+    requires below { IsCanonical V.eq below.now.entries }
+    requires from { IsCanonical V.eq from.now.entries }
+    requires counted { keys_in below.now.entries +ℤ keys_in from.now.entries
+        ≡ pos (T.SafeLen.number len) }
+    ensures below { pos (T.SafeLen.number result.0) ≡ keys_in below.now.entries }
+    ensures from { pos (T.SafeLen.number result.1) ≡ keys_in from.now.entries }
+{
+    len.in_hand();
+    if below.len() < from.len() {
+        let below_len = count(below);
+        (below_len, len.minus(below_len))
+    } else {
+        let from_len = count(from);
+        (len.minus(from_len), from_len)
+    }
+}
+
+/// Keeps the keys below one, and answers the entries of the keys from it on with both counts of keys, where `len` is that of
+/// all: first the count of those that stay. No work is counted. Refused memory leaves the entries as they are.
 pub fn split<T: Integer, V: Eq + Clone>(
-    slots: &mut Vec<Slot<T, V>>,
+    entries: &mut Entries<T, V>,
     key: T,
     len: T::SafeLen,
-) -> Result<(Vec<Slot<T, V>>, T::SafeLen, T::SafeLen), AllocError>
+) -> Result<(Entries<T, V>, T::SafeLen, T::SafeLen), AllocError>
     requires clones { ClonesAreAlike V.is_clone V.eq }
-    requires table { IsTable V.eq T.low T.high (T.SafeLen.number len) (entries_of T.rank slots.old.items) }
-    ensures split { IfOk result (λ parts. IsListSplit V.eq (T.rank key) (entries_of T.rank slots.old.items) (entries_of T.rank slots.new.items) (entries_of T.rank parts.0.items)) }
-    ensures below { IfOk result (λ parts. IsTable V.eq T.low T.high (T.SafeLen.number parts.1) (entries_of T.rank slots.new.items)) }
-    ensures from { IfOk result (λ parts. IsTable V.eq T.low T.high (T.SafeLen.number parts.2) (entries_of T.rank parts.0.items)) }
-    ensures err { OnErr result (slots.new.items ≡ slots.old.items) }
+    requires table { IsTable V.eq T.low T.high (T.SafeLen.number len) entries.old.entries }
+    ensures below { IfOk result
+        (λ r. IsTable V.eq T.low T.high (T.SafeLen.number r.1) entries.new.entries) }
+    ensures from { IfOk result
+        (λ r. IsTable V.eq T.low T.high (T.SafeLen.number r.2) r.0.entries) }
+    ensures split { IfOk result (λ r. IsListSplit V.eq
+        (T.rank key) entries.old.entries entries.new.entries r.0.entries) }
+    ensures same { IfOk result
+        (λ r. (entries.new ≡ record entries.old { entries = entries.new.entries })
+        × (r.0 ≡ uncounted r.0.entries)) }
+    ensures err { OnErr result (entries.new ≡ entries.old) }
 {
-    let spare = clone_across(slots, key)?;
-    let Some(room) = slots.len().checked_add(1) else {
-        return Err(AllocError);
-    };
-    let mut from = Vec::with_capacity(*slots.allocator(), room)?;
-    let mut old = Vec::with_capacity(*slots.allocator(), room)?;
-    len.in_hand();
-    mem::swap(slots, &mut old);
-    part(slots, &mut from, VecDeque::from_vec(old), key, spare);
-    let below_len = count(slots);
-    let from_len = len.minus(below_len);
-    Ok((from, below_len, from_len))
+    let from = split_at(entries, key)?;
+    let lens = count_parts(entries, &from, len);
+    Ok((from, lens.0, lens.1))
 }

@@ -1,71 +1,60 @@
 //! The table.
-ghost use Rattle.std.specs.Prelude.{◌≡◌, ◌↔◌, ◌-◌, ◌≤ℤ◌, int_lt, pos, [], length, slice_get, find, reverse, false, None, Ok, IfOk, OnOk, OnErr, IsTrue, option_map, map};
+ghost use Rattle.std.specs.Prelude.{◌≡◌, ◌↔◌, ◌-◌, ◌≤ℤ◌, int_lt, pos, [], length, slice_get, find, reverse, false, None, Ok, IfOk, OnOk, OnErr, IsTrue, option_map};
 ghost use Rattle.std.specs.List.Retain.{IsFiltered};
-ghost use Rattle.std.specs.Option.{option_copied};
+ghost use Rattle.blaze_table.specs.Counted.{uncounted};
 ghost use Rattle.blaze_table.specs.Entries.{Entry, entry, at, entry_at, shown_entry, SameOption, SameEntries};
 ghost use Rattle.blaze_table.specs.Canonical.{IsRangeMap};
 ghost use Rattle.blaze_table.specs.Count.{keys_in, mapped_keys};
 ghost use Rattle.blaze_table.specs.Painted.{IsPainted, ClonesAreAlike, IsInside};
 ghost use Rattle.blaze_table.specs.Cut.{IsCut, IsSplit, IsAmongOthers};
 ghost use Rattle.blaze_table.specs.Gap.{IsGap};
-ghost use Rattle.blaze_table.specs.Retain.{AnswersAt, IsKeyRetained};
-ghost use Rattle.blaze_table.specs.Slots.{entry_of};
+ghost use Rattle.blaze_table.specs.Listed.{listed};
+ghost use Rattle.blaze_table.specs.Work.{IsCountedPaint, IsCountedCut};
+ghost use Rattle.blaze_table.specs.Retain.{AnswersAt, IsCallableAtEach, IsKeyRetained};
 
-use crate::Slot;
-use crate::canonical::slots_of;
-use crate::copy::clone_slots;
+use crate::copy::clone_entries;
 use crate::count::count;
 use crate::cut::cut;
 use crate::gaps::gap_round;
-use crate::into_iter::IntoIter;
-use crate::iter::Iter;
 use crate::keep::retain_keys;
-use crate::neighbours::{slot_above, slot_below};
-use crate::paint::paint;
-use crate::retain::retain;
-use crate::search::{is_inside, slot_at};
+use crate::search::{entry_above, entry_below, entry_holding};
+use crate::splice::{paint, paint_by_splice};
 use crate::split::split;
+use blaze_entries::{Entries, IntoIter, Iter};
 use blaze_int::length::differ;
 use blaze_int::{Integer, SafeLength};
 use std::alloc::{AllocError, Global};
 use std::marker::Model;
 use std::ops::RangeInclusive;
 
-// What a slot shows: its first key, last key and value.
-fn shown<T: Integer, V>(slot: Option<&Slot<T, V>>) -> Option<(T, T, &V)>
-    ensures { option_map (shown_entry T.rank (λ v. v.now)) result ≡ option_map (entry_of T.rank) (option_copied slot.entry) }
-{
-    match slot {
-        Some(slot) => Some((slot.lo, slot.hi, &slot.value)),
-        None => None,
-    }
-}
-
-/// Ranges with their values: ascending, disjoint, as few as there can be; and the number of their keys.
+/// Ranges with their values: ascending, disjoint, as few as there can be; and the number of their keys. Contracts see the
+/// list with the work on it: looks at entries, entries put in and entries taken out.
 #[derive(Drop)]
 pub struct RangeTable<T: Integer, V: Eq> {
-    slots: Vec<Slot<T, V>>,
+    entries: Entries<T, V>,
     len: T::SafeLen,
 }
 
 impl<T: Integer, V: Eq> Model for RangeTable<T, V> {
-    ghost use Rattle.blaze_table.specs.Slots.{entries_of};
-    ghost use Rattle.blaze_table.specs.Table.{RangeMap, IsTable};
+    ghost use Rattle.blaze_table.specs.Counted.{CountedEntries, counted_code};
+    ghost use Rattle.blaze_table.specs.Table.{IsTable};
 
-    ghost Value = { RangeMap V };
+    ghost Value = { CountedEntries V };
 
-    ghost view = { λ a. record { entries = entries_of T.rank a.slots.items } };
+    ghost coded = { counted_code V.code };
 
-    ghost invariant = { λ a. IsTable V.eq T.low T.high (T.SafeLen.number a.len) (entries_of T.rank a.slots.items) };
+    ghost view = { λ a. a.entries };
+
+    ghost invariant = { λ a. IsTable V.eq T.low T.high (T.SafeLen.number a.len) a.entries.entries };
 }
 
 impl<T: Integer, V: Eq> RangeTable<T, V> {
     /// The empty table.
     pub fn new(alloc: Global) -> Self
-        ensures { result.entries ≡ [] }
+        ensures { result ≡ uncounted [] }
     {
         RangeTable {
-            slots: Vec::new(alloc),
+            entries: Entries::new(alloc),
             len: T::SafeLen::zero(),
         }
     }
@@ -75,7 +64,7 @@ impl<T: Integer, V: Eq> RangeTable<T, V> {
         ensures lengths { pos (T.SafeLen.number result) ≡ keys_in self.now.entries }
         ensures mapped { T.SafeLen.number result ≡ mapped_keys T.low T.high (at self.now.entries) }
     {
-        let _ = &self.slots;
+        let _ = &self.entries;
         self.len
     }
 
@@ -83,19 +72,19 @@ impl<T: Integer, V: Eq> RangeTable<T, V> {
     pub fn entries(&self) -> usize
         ensures { result ≡ length self.now.entries }
     {
-        self.slots.len()
+        self.entries.len()
     }
 
     /// The allocator of the table's memory.
     pub fn allocator(&self) -> Global {
-        *self.slots.allocator()
+        self.entries.allocator()
     }
 
     /// Does nothing; its contract says that the list is canonical and its ends are keys.
     pub fn in_hand(&self)
         ensures { IsRangeMap V.eq T.low T.high self.now.entries }
     {
-        let _ = &self.slots;
+        let _ = &self.entries;
     }
 
     /// The entry that holds a key: its first key, last key and value.
@@ -103,42 +92,42 @@ impl<T: Integer, V: Eq> RangeTable<T, V> {
         ensures entry { option_map (shown_entry T.rank (λ v. v.now)) result ≡ entry_at self.now.entries (T.rank key) }
         ensures value { option_map (λ e. e.2.now) result ≡ at self.now.entries (T.rank key) }
     {
-        shown(slot_at(&self.slots, key))
+        entry_holding(&self.entries, key)
     }
 
     /// The least entry: its first key, last key and value.
     pub fn first(&self) -> Option<(T, T, &V)>
         ensures { option_map (shown_entry T.rank (λ v. v.now)) result ≡ slice_get self.now.entries 0 }
     {
-        shown(self.slots.first())
+        self.entries.first()
     }
 
     /// The greatest entry: its first key, last key and value.
     pub fn last(&self) -> Option<(T, T, &V)>
         ensures { option_map (shown_entry T.rank (λ v. v.now)) result ≡ slice_get self.now.entries (length self.now.entries - 1) }
     {
-        shown(self.slots.last())
+        self.entries.last()
     }
 
     /// The least entry that starts above a key: its first key, last key and value.
     pub fn next_above(&self, key: T) -> Option<(T, T, &V)>
         ensures { option_map (shown_entry T.rank (λ v. v.now)) result ≡ find (λ e. int_lt (T.rank key) e.lo) self.now.entries }
     {
-        shown(slot_above(&self.slots, key))
+        entry_above(&self.entries, key)
     }
 
     /// The greatest entry that ends below a key: its first key, last key and value.
     pub fn next_below(&self, key: T) -> Option<(T, T, &V)>
         ensures { option_map (shown_entry T.rank (λ v. v.now)) result ≡ find (λ e. int_lt e.hi (T.rank key)) (reverse self.now.entries) }
     {
-        shown(slot_below(&self.slots, key))
+        entry_below(&self.entries, key)
     }
 
     /// The entries, ascending: first key, last key and value.
     pub fn iter(&self) -> Iter<'_, T, V>
         ensures { result ≡ self.now.entries }
     {
-        Iter::new(self.slots.as_slice())
+        self.entries.iter()
     }
 
     /// The greatest range of keys without a value that holds a key without one: its first and last key.
@@ -146,38 +135,40 @@ impl<T: Integer, V: Eq> RangeTable<T, V> {
         requires { at self.now.entries (T.rank key) ≡ None }
         ensures { IsGap T.low T.high (at self.now.entries) (T.rank key) (T.rank result.0) (T.rank result.1) }
     {
-        gap_round(&self.slots, key)
+        gap_round(&self.entries, key)
     }
 }
 
 impl<T: Integer, V: Eq + Drop> RangeTable<T, V> {
     /// The table of a canonical list of entries: first key, last key and value. Refused memory drops the list.
     pub fn from_canonical(alloc: Global, entries: Vec<(T, T, V)>) -> Result<Self, AllocError>
-        requires { IsRangeMap V.eq T.low T.high (map (shown_entry T.rank (λ v. v)) entries.items) }
-        ensures { IfOk result (λ table. table.entries ≡ map (shown_entry T.rank (λ v. v)) entries.items) }
+        requires { IsRangeMap V.eq T.low T.high (listed T.rank entries.items) }
+        ensures { IfOk result (λ table. table ≡ uncounted (listed T.rank entries.items)) }
     {
-        let slots = slots_of(alloc, entries)?;
-        let len = count(&slots);
-        Ok(RangeTable { slots, len })
+        let entries = Entries::from_sorted(alloc, entries)?;
+        let len = count(&entries);
+        Ok(RangeTable { entries, len })
     }
 
-    /// Takes all entries out.
+    /// Takes all entries out. No entry is counted.
     pub fn clear(&mut self)
-        ensures { self.new.entries ≡ [] }
+        ensures { self.new ≡ record self.old { entries = [] } }
     {
-        self.slots.clear();
+        self.entries.clear();
         self.len = T::SafeLen::zero();
     }
 
-    /// Keeps the entries that a closure answers true at: one call for each, ascending. No memory is taken.
+    /// Keeps the entries that a closure answers true at: one call for each, ascending. No memory is taken, and no entry is
+    /// counted.
     pub fn retain_entries<F: FnMut(&RangeInclusive<T>, &V) -> bool>(&mut self, f: F)
-        requires { F.IsAlwaysCallable f }
+        requires { IsCallableAtEach T.rank F.FnMut f self.old.entries }
         ensures range_map { IsRangeMap V.eq T.low T.high self.new.entries }
         ensures kept { IsFiltered (AnswersAt T.rank F.FnMut) f self.old.entries self.new.entries }
+        ensures uncounted { self.new ≡ record self.old { entries = self.new.entries } }
     {
-        let _ = &self.slots;
-        let old_len = self.len;
-        let len = retain(&mut self.slots, old_len, f);
+        let _ = &self.entries;
+        self.entries.retain(f);
+        let len = count(&self.entries);
         self.len = len;
     }
 }
@@ -186,65 +177,85 @@ impl<T: Integer, V: Eq + Clone> RangeTable<T, V> {
     /// A table of the same ranges, each with a clone of its value.
     pub fn clone(&self) -> Result<Self, AllocError>
         requires { ClonesAreAlike V.is_clone V.eq }
-        ensures { IfOk result (λ copy. SameEntries V.eq self.now.entries copy.entries) }
+        ensures same { IfOk result (λ copy. SameEntries V.eq self.now.entries copy.entries) }
+        ensures uncounted { IfOk result (λ copy. copy ≡ uncounted copy.entries) }
     {
-        let _ = &self.slots;
-        let slots = clone_slots(*self.slots.allocator(), &self.slots)?;
+        let _ = &self.entries;
+        let copy = clone_entries(&self.entries)?;
+        let entries = Entries::from_sorted(self.entries.allocator(), copy)?;
         Ok(RangeTable {
-            slots,
+            entries,
             len: self.len,
         })
     }
 
-    /// Puts a value on the keys from lo up to hi, and answers whether the number of keys changed.
-    /// Refused memory leaves the table unchanged. Inside one entry with an equal value nothing changes, the stored value
+    /// Puts a value on the keys from lo up to hi, and answers whether the number of keys changed. The entries that the range
+    /// touches are seen in one walk, and edited in place.
+    /// Refused memory leaves the entries unchanged. Inside one entry with an equal value nothing changes, the stored value
     /// neither, and no memory is taken.
     pub fn paint(&mut self, lo: T, hi: T, value: V) -> Result<bool, AllocError>
         requires order { T.rank lo ≤ℤ T.rank hi }
         requires clones { ClonesAreAlike V.is_clone V.eq }
         ensures ok { OnOk result (IsPainted V.eq T.low T.high (entry (T.rank lo) (T.rank hi) value) self.old.entries self.new.entries) }
         ensures changed { IfOk result (λ changed. IsTrue changed ↔ (¬ (keys_in self.new.entries ≡ keys_in self.old.entries))) }
-        ensures inside { IsInside V.eq (T.rank lo) (T.rank hi) value self.old.entries → (result ≡ Ok false) × (self.new ≡ self.old) }
-        ensures err { OnErr result (self.new ≡ self.old) }
+        ensures inside { IsInside V.eq (T.rank lo) (T.rank hi) value self.old.entries → (result ≡ Ok false) × (self.new.entries ≡ self.old.entries) }
+        ensures counted { OnOk result (IsCountedPaint self.old self.new) }
+        ensures err { OnErr result (self.new.entries ≡ self.old.entries) }
     {
-        let _ = &self.slots;
-        if is_inside(&self.slots, lo, hi, &value) {
-            return Ok(false);
-        }
+        let _ = &self.entries;
         let old_len = self.len;
-        let new_len = paint(&mut self.slots, old_len, lo, hi, value)?;
+        let new_len = paint(&mut self.entries.counted, old_len, lo, hi, value)?;
         self.len = new_len;
         Ok(differ(new_len, old_len))
     }
 
-    /// Takes a key out, and answers the value that was there. Refused memory leaves the table unchanged. No memory is taken
+    /// Puts a value on the keys from lo up to hi, as `paint` does: the entries beside the range are found by single looks.
+    pub fn paint_by_splice(&mut self, lo: T, hi: T, value: V) -> Result<bool, AllocError>
+        requires order { T.rank lo ≤ℤ T.rank hi }
+        requires clones { ClonesAreAlike V.is_clone V.eq }
+        ensures ok { OnOk result (IsPainted V.eq T.low T.high (entry (T.rank lo) (T.rank hi) value) self.old.entries self.new.entries) }
+        ensures changed { IfOk result (λ changed. IsTrue changed ↔ (¬ (keys_in self.new.entries ≡ keys_in self.old.entries))) }
+        ensures inside { IsInside V.eq (T.rank lo) (T.rank hi) value self.old.entries → (result ≡ Ok false) × (self.new.entries ≡ self.old.entries) }
+        ensures counted { OnOk result (IsCountedPaint self.old self.new) }
+        ensures err { OnErr result (self.new.entries ≡ self.old.entries) }
+    {
+        let _ = &self.entries;
+        let old_len = self.len;
+        let new_len = paint_by_splice(&mut self.entries.counted, old_len, lo, hi, value)?;
+        self.len = new_len;
+        Ok(differ(new_len, old_len))
+    }
+
+    /// Takes a key out, and answers the value that was there. Refused memory leaves the entries unchanged. No memory is taken
     /// where the key has no value or is an entry of its own.
     pub fn cut_key(&mut self, key: T) -> Result<Option<V>, AllocError>
         requires { ClonesAreAlike V.is_clone V.eq }
         ensures ok { OnOk result (IsCut V.eq T.low T.high (T.rank key) self.old.entries self.new.entries) }
         ensures value { IfOk result (λ value. SameOption V.eq (at self.old.entries (T.rank key)) value) }
-        ensures none { at self.old.entries (T.rank key) ≡ None → (result ≡ Ok None) × (self.new ≡ self.old) }
+        ensures none { at self.old.entries (T.rank key) ≡ None → (result ≡ Ok None) × (self.new.entries ≡ self.old.entries) }
+        ensures counted { OnOk result (IsCountedCut self.old self.new) }
         ensures refused { OnErr result (IsAmongOthers (T.rank key) self.old.entries) }
-        ensures err { OnErr result (self.new ≡ self.old) }
+        ensures err { OnErr result (self.new.entries ≡ self.old.entries) }
     {
-        let _ = &self.slots;
+        let _ = &self.entries;
         let old_len = self.len;
-        let (value, len) = cut(&mut self.slots, old_len, key)?;
+        let (value, len) = cut(&mut self.entries.counted, old_len, key)?;
         self.len = len;
         Ok(value)
     }
 
     /// Keeps the keys that a closure answers true at: one call for each key that has a value, ascending, with the stored
-    /// value. Refused memory leaves the table unchanged.
+    /// value. Refused memory leaves the table unchanged. No entry is counted.
     pub fn retain_keys<F: Fn(&T, &V) -> bool>(&mut self, f: F) -> Result<(), AllocError>
         requires callable { F.IsAlwaysCallable f }
         requires clones { ClonesAreAlike V.is_clone V.eq }
         ensures ok { OnOk result (IsKeyRetained F.Fn f T.rank T.of_rank V.eq T.low T.high self.old.entries self.new.entries) }
+        ensures uncounted { OnOk result (self.new ≡ record self.old { entries = self.new.entries }) }
         ensures err { OnErr result (self.new ≡ self.old) }
     {
-        let _ = &self.slots;
-        let (slots, len) = retain_keys(*self.slots.allocator(), &self.slots, self.len, &f)?;
-        self.slots = slots;
+        let _ = &self.entries;
+        let (kept, len) = retain_keys(&self.entries, self.len, &f)?;
+        self.entries.set_sorted(kept)?;
         self.len = len;
         Ok(())
     }
@@ -253,14 +264,15 @@ impl<T: Integer, V: Eq + Clone> RangeTable<T, V> {
     pub fn split_at(&mut self, key: T) -> Result<Self, AllocError>
         requires { ClonesAreAlike V.is_clone V.eq }
         ensures ok { IfOk result (λ from. IsSplit V.eq T.low T.high (T.rank key) self.old.entries self.new.entries from.entries) }
+        ensures uncounted { IfOk result (λ from. (self.new ≡ record self.old { entries = self.new.entries }) × (from ≡ uncounted from.entries)) }
         ensures err { OnErr result (self.new ≡ self.old) }
     {
-        let _ = &self.slots;
+        let _ = &self.entries;
         let old_len = self.len;
-        let (from, below_len, from_len) = split(&mut self.slots, key, old_len)?;
+        let (entries, below_len, from_len) = split(&mut self.entries, key, old_len)?;
         self.len = below_len;
         Ok(RangeTable {
-            slots: from,
+            entries,
             len: from_len,
         })
     }
@@ -275,6 +287,6 @@ impl<T: Integer, V: Eq + Drop> IntoIterator for RangeTable<T, V> {
 
     /// The entries by value, ascending: first key, last key and value. No memory is taken.
     fn into_iter(self) -> IntoIter<T, V> {
-        IntoIter::new(self.slots)
+        self.entries.into_iter()
     }
 }

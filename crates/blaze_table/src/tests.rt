@@ -31,12 +31,70 @@ fn check_entries(rt: &impl Abort, table: &RangeTable<i64, char>, expected: &[(i6
     }
 }
 
+/// Asserts what a paint makes of entries, by one walk and by single looks.
+fn check_paint(
+    rt: &impl Abort,
+    alloc: Global,
+    before: &[(i64, i64, char)],
+    painted: (i64, i64, char),
+    changed: bool,
+    expected: &[(i64, i64, char)],
+) -> Result<(), AllocError> {
+    let (lo, hi, value) = painted;
+    if lo > hi {
+        return Ok(());
+    }
+    let mut walked = table(alloc, before)?;
+    assert_eq!(rt; walked.paint(lo, hi, value)?, changed);
+    check_entries(rt, &walked, expected);
+    let mut looked = table(alloc, before)?;
+    assert_eq!(rt; looked.paint_by_splice(lo, hi, value)?, changed);
+    check_entries(rt, &looked, expected);
+    assert_eq!(rt; looked.len(), walked.len());
+    Ok(())
+}
+
+#[test]
+fn paints_by_one_walk_and_by_single_looks(rt: HostRuntime) -> Result<(), Fail> {
+    let alloc = rt.alloc();
+    let between = [(0, 2, 'a'), (3, 5, 'b'), (6, 9, 'a')];
+    check_paint(&rt, alloc, &between, (3, 5, 'a'), false, &[(0, 9, 'a')])?;
+    let apart = [(0, 2, 'a'), (4, 6, 'b'), (8, 9, 'c')];
+    let over = [(0, 0, 'a'), (1, 8, 'd'), (9, 9, 'c')];
+    check_paint(&rt, alloc, &apart, (1, 8, 'd'), true, &over)?;
+    check_paint(
+        &rt,
+        alloc,
+        &[(5, 9, 'a')],
+        (0, 9, 'a'),
+        true,
+        &[(0, 9, 'a')],
+    )?;
+    check_paint(
+        &rt,
+        alloc,
+        &[(5, 9, 'a')],
+        (5, 20, 'a'),
+        true,
+        &[(5, 20, 'a')],
+    )?;
+    let halves = [(0, 4, 'b'), (5, 9, 'a')];
+    check_paint(&rt, alloc, &[(0, 9, 'a')], (0, 4, 'b'), false, &halves)?;
+    let mut bytes = RangeTable::new(alloc);
+    assert!(rt; bytes.paint_by_splice(0u8, 9, 'a')?);
+    assert!(rt; bytes.paint_by_splice(10, 255, 'b')?);
+    assert!(rt; !bytes.paint_by_splice(10, 255, 'a')?);
+    assert_eq!(rt; bytes.find(7), Some((0, 255, &'a')));
+    Ok(())
+}
+
 #[test]
 fn neighbours(rt: HostRuntime) -> Result<(), Fail> {
     let subject = table(rt.alloc(), &[(1, 3, 'a'), (6, 8, 'b'), (20, 20, 'c')])?;
     assert_eq!(rt; subject.next_above(3), Some((6, 8, &'b')));
     assert_eq!(rt; subject.next_above(7), Some((20, 20, &'c')));
     assert_eq!(rt; subject.next_above(20), None);
+    assert_eq!(rt; subject.next_above(i64::MAX), None);
     assert_eq!(rt; subject.next_below(6), Some((1, 3, &'a')));
     assert_eq!(rt; subject.next_below(21), Some((20, 20, &'c')));
     assert_eq!(rt; subject.next_below(3), None);
@@ -133,6 +191,8 @@ fn refused_clones_change_nothing(rt: HostRuntime) -> Result<(), Fail> {
     let mut subject = no_clones(rt.alloc(), &left)?;
     assert!(rt; subject.paint(4, 5, two(&left)).is_err());
     assert_eq!(rt; shown(&subject, 4), unchanged);
+    assert!(rt; subject.paint_by_splice(4, 5, two(&left)).is_err());
+    assert_eq!(rt; shown(&subject, 4), unchanged);
     assert!(rt; subject.cut_key(5).is_err());
     assert_eq!(rt; shown(&subject, 5), unchanged);
     left.set(1);
@@ -147,11 +207,19 @@ fn refused_clones_change_nothing(rt: HostRuntime) -> Result<(), Fail> {
 fn paints_at_one_end_need_no_clone(rt: HostRuntime) -> Result<(), Fail> {
     let left = Cell::new(0u32);
     let mut low = no_clones(rt.alloc(), &left)?;
-    let _ = low.paint(0, 4, two(&left))?;
+    assert!(rt; !low.paint(0, 4, two(&left))?);
     assert_eq!(rt; shown(&low, 0), (Some((0, 4, 2)), 2, 10));
     assert_eq!(rt; shown(&low, 9), (Some((5, 9, 1)), 2, 10));
     let mut high = no_clones(rt.alloc(), &left)?;
-    let _ = high.paint(5, 9, two(&left))?;
+    assert!(rt; !high.paint(5, 9, two(&left))?);
+    assert_eq!(rt; shown(&high, 0), (Some((0, 4, 1)), 2, 10));
+    assert_eq!(rt; shown(&high, 9), (Some((5, 9, 2)), 2, 10));
+    let mut low = no_clones(rt.alloc(), &left)?;
+    assert!(rt; !low.paint_by_splice(0, 4, two(&left))?);
+    assert_eq!(rt; shown(&low, 0), (Some((0, 4, 2)), 2, 10));
+    assert_eq!(rt; shown(&low, 9), (Some((5, 9, 1)), 2, 10));
+    let mut high = no_clones(rt.alloc(), &left)?;
+    assert!(rt; !high.paint_by_splice(5, 9, two(&left))?);
     assert_eq!(rt; shown(&high, 0), (Some((0, 4, 1)), 2, 10));
     assert_eq!(rt; shown(&high, 9), (Some((5, 9, 2)), 2, 10));
     Ok(())

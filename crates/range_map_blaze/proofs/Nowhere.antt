@@ -1,5 +1,5 @@
 -- A paint of no key changes nothing.
-use Rattle.std.proofs.Common.{◌≡◌, ℤ, ◌<ℤ◌, Bool, false, ◌&&◌, cond, List, Option, Some, None, sym, subst, arith}
+use Rattle.std.proofs.Common.{◌≡◌, ℤ, ◌<ℤ◌, Bool, false, ◌&&◌, cond, List, length, Option, Some, None, sym, subst, ap, arith}
 use Rattle.std.specs.Prelude.{int_le}
 use Rattle.std.specs.Cmp.{IsEquivalence}
 use Rattle.std.proofs.lemmas.Int.{ints}
@@ -20,4 +20,5 @@ module _ {V : Type 0} (eq : V → V → Bool) (laws : IsEquivalence eq) where
     range_map = r;
     content = λ k. subst (λ b. SameOption eq (at es k) (cond b (Some p.value) (at es k))) (sym (no_key p.lo p.hi k w)) (same_itself (at es k));
     few = omega arith;
+    alone = λ e. omega (arith, ap length e);
   }

@@ -1,5 +1,5 @@
 -- Pairs painted in parts, one part after another.
-use Rattle.std.proofs.Common.{◌≡◌, ◌≤◌, ℤ, ◌≤ℤ◌, ◌<ℤ◌, Bool, true, false, ◌&&◌, cond, List, [], ◌∷◌, ◌++◌, length, map, Option, Some, None, refl, ◌∙◌, sym, ap, subst, arith, inl, inr}
+use Rattle.std.proofs.Common.{◌≡◌, ◌+◌, ◌-◌, ◌*◌, ◌≤◌, ℤ, ◌≤ℤ◌, ◌<ℤ◌, Bool, true, false, ◌&&◌, cond, List, [], ◌∷◌, ◌++◌, length, map, Option, Some, None, refl, ◌∙◌, sym, ap, subst, arith, inl, inr}
 use Rattle.std.specs.Prelude.{int_le}
 use Rattle.std.specs.Cmp.{IsEquivalence}
 use Rattle.std.proofs.lemmas.Int.{ints}
@@ -46,7 +46,7 @@ module _ {V : Type 0} (eq : V → V → Bool) (laws : IsEquivalence eq) where
   module _ (low high : ℤ) where
     -- no pair
     pub extended_none : (es : List (Entry V)) → IsRangeMap eq low high es → IsExtended eq low high [] es es
-    extended_none es r = record { range_map = r; content = λ k. same_itself eq laws (at es k); few = omega arith; inside = λ _. refl }
+    extended_none es r = record { range_map = r; content = λ k. same_itself eq laws (at es k); few = omega arith; alone = λ e. omega (arith, ap length e); inside = λ _. refl }
 
     -- one pair
     pub extended_one : (p : Entry V) (old new : List (Entry V)) → IsPainted eq low high p old new → p.lo ≤ℤ p.hi → (IsInside eq p.lo p.hi p.value old → new ≡ old) → IsExtended eq low high (p ∷ []) old new
@@ -54,8 +54,20 @@ module _ {V : Type 0} (eq : V → V → Bool) (laws : IsEquivalence eq) where
       range_map = i.range_map;
       content = λ k. subst (SameOption eq (at new k)) (painted_one (holds p k) p.value (at old k)) (i.content k);
       few = omega (arith, i.few);
+      alone = λ e. omega (arith, i.alone e);
       inside = λ a. elim a.0 [ inl h ↦ absurd (omega (arith, ints)) | inr h ↦ u h ];
     }
+
+    empty : (es : List (Entry V)) → length es ≤ 0 → es ≡ []
+    empty [] h = refl
+    empty (e ∷ es) h = absurd (omega arith)
+
+    alone_more : (done others part old cur new : List (Entry V)) → IsExtended eq low high done old cur → IsExtended eq low high part cur new → length part ≤ length others
+        → old ≡ [] → length new ≤ 2 * length (done ++ others) - 1
+    alone_more [] others part old cur new d p l e =
+        let none = empty cur (omega (arith, d.few, ap length e)) in
+        omega (arith, p.alone none, l)
+    alone_more (q ∷ done) others part old cur new d p l e = omega (arith, d.alone e, p.few, l, length-append done others)
 
     -- a part, and then a part that stands for others
     pub extended_more : (done others part old cur new : List (Entry V)) → IsExtended eq low high done old cur → IsExtended eq low high part cur new
@@ -67,6 +79,7 @@ module _ {V : Type 0} (eq : V → V → Bool) (laws : IsEquivalence eq) where
           (same_trans eq laws (at new k) (painted_in_order part (at cur) k) (or_else (last_at others k) (painted_in_order done (at old) k)) (p.content k)
           (or_alike (last_at part k) (last_at others k) (at cur k) (painted_in_order done (at old) k) (s k) (d.content k)));
       few = omega (arith, d.few, p.few, length-append done others);
+      alone = alone_more done others part old cur new d p l;
       inside = λ a.
           let b = inside_parts eq done others old a in
           let same = d.inside b.0 in

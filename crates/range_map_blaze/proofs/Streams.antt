@@ -4,10 +4,16 @@ use Rattle.std.specs.Cmp.{IsEquivalence}
 use Rattle.std.proofs.lemmas.List.{map-append}
 use Rattle.blaze_table.specs.Entries.{Entry, SameEntries, shown_entry}
 use Rattle.blaze_table.specs.Canonical.{IsRangeMap}
-use Rattle.blaze_table.proofs.Clones.{same-push}
 use Rattle.blaze_table.proofs.Painted.{canonical_as}
 use Rattle.blaze_table.proofs.Counted.{are_keys_as}
 use Rattle.blaze_table.proofs.Runs.{canonical, one_per_run}
+
+-- an entry more on both lists
+pub same-push : {V : Type 0} (eq : V → V → Bool) (es fs : List (Entry V)) (e f : Entry V) → SameEntries eq es fs → e.lo ≡ f.lo → e.hi ≡ f.hi → eq e.value f.value ≡ true → SameEntries eq (es ++ e ∷ []) (fs ++ f ∷ [])
+same-push eq [] [] e f s l h v = (l, h, v, tt)
+same-push eq [] (g ∷ fs) e f s l h v = absurd s
+same-push eq (g ∷ es) [] e f s l h v = absurd s
+same-push eq (g ∷ es) (k ∷ fs) e f s l h v = (s.0, s.1, s.2, same-push eq es fs e f s.3 l h v)
 
 -- values that are equal keep a range map's list one
 pub range_map_as : {V : Type 0} (eq : V → V → Bool) → IsEquivalence eq → (low high : ℤ) (es fs : List (Entry V)) → SameEntries eq es fs → IsRangeMap eq low high es → IsRangeMap eq low high fs

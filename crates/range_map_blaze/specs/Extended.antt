@@ -1,5 +1,5 @@
 -- What painting pairs in order gives: each pair is a range with a value, seen as an entry, and the later pair wins.
-use Rattle.std.specs.Prelude.{◌≡◌, ℤ, ◌<ℤ◌, ◌+◌, ◌*◌, ◌≤◌, ◌⊎◌, length, Bool, List, [], ◌∷◌, ◌++◌}
+use Rattle.std.specs.Prelude.{◌≡◌, ℤ, ◌<ℤ◌, ◌+◌, ◌-◌, ◌*◌, ◌≤◌, ◌⊎◌, length, Bool, List, [], ◌∷◌, ◌++◌}
 use Rattle.blaze_table.specs.Entries.{Entry, at, SameOption}
 use Rattle.blaze_table.specs.Canonical.{IsRangeMap}
 use Rattle.blaze_table.specs.Painted.{IsInside, painted_in_order}
@@ -13,12 +13,13 @@ abbrev pub AreInside : {V : Type 0} → (V → V → Bool) → List (Entry V) �
 AreInside eq [] es = Unit {0}
 AreInside eq (p ∷ ps) es = ((p.hi <ℤ p.lo) ⊎ IsInside eq p.lo p.hi p.value es) × AreInside eq ps es
 
--- what painting pairs in order does to a range map: its content is the painted one, each pair adds two entries at most, and
--- pairs that all lie inside entries with equal values change nothing, the stored values neither
+-- what painting pairs in order does to a range map: its content is the painted one, each pair adds two entries at most, the
+-- first pair of all one, and pairs that all lie inside entries with equal values change nothing, the stored values neither
 pub record IsExtended {V : Type 0} (eq : V → V → Bool) (low high : ℤ) (pairs old new : List (Entry V)) : Type 0 where
   pub range_map : IsRangeMap eq low high new
   pub content : (k : ℤ) → SameOption eq (at new k) (painted_in_order pairs (at old) k)
   pub few : length new ≤ length old + 2 * length pairs
+  pub alone : old ≡ [] → length new ≤ 2 * length pairs - 1
   pub inside : AreInside eq pairs old → new ≡ old
 
 -- a first part of the pairs, perhaps none of them, is painted

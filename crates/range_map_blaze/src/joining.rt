@@ -59,7 +59,7 @@ impl<T: Integer, V: Eq + Clone> RangeMapBlaze<T, V> {
     pub(crate) fn paint_pair(&mut self, pair: Pair<T, V>) -> Result<(), AllocError>
         requires { ClonesAreAlike V.is_clone V.eq }
         ensures ok { OnOk result (IsExtended V.eq T.low T.high (shown_pair T.rank pair ∷ []) self.old.entries self.new.entries) }
-        ensures err { OnErr result (self.new ≡ self.old) }
+        ensures err { OnErr result (self.new.entries ≡ self.old.entries) }
     {
         self.in_hand();
         if is_at_most(pair.start, pair.end) {
@@ -72,7 +72,7 @@ impl<T: Integer, V: Eq + Clone> RangeMapBlaze<T, V> {
     pub(crate) fn paint_pending(&mut self, pending: Option<Pair<T, V>>) -> Result<(), AllocError>
         requires { ClonesAreAlike V.is_clone V.eq }
         ensures ok { OnOk result (IsExtended V.eq T.low T.high (option_to_list (option_map (shown_pair T.rank) pending)) self.old.entries self.new.entries) }
-        ensures err { OnErr result (self.new ≡ self.old) }
+        ensures err { OnErr result (self.new.entries ≡ self.old.entries) }
     {
         self.in_hand();
         match pending {
@@ -93,7 +93,7 @@ impl<T: Integer, V: Eq + Clone> RangeMapBlaze<T, V> {
             → IsUnderway V.eq T.low T.high pairs old self.old.entries (option_map (shown_pair T.rank) pending)
             → IsUnderway V.eq T.low T.high (pairs ++ shown_pair T.rank next ∷ []) old self.new.entries (option_map (shown_pair T.rank) left)) }
         ensures ended { T.rank next.end <ℤ T.rank next.start → IfOk result (λ left. left ≡ None) }
-        ensures err { OnErr result (self.new ≡ self.old) }
+        ensures err { OnErr result (self.new.entries ≡ self.old.entries) }
     {
         if is_below(next.end, next.start) {
             self.paint_pending(pending)?;

@@ -1,10 +1,11 @@
 //! Look-ups by key.
-ghost use Rattle.std.specs.Prelude.{◌≡◌, ◌↔◌, ◌<ℤ◌, ℤ, Option, Some, None, MatchOption, IsSome, IsTrue, option_map, []};
+ghost use Rattle.std.specs.Prelude.{◌≡◌, ◌↔◌, ◌<ℤ◌, ℤ, Option, Some, None, MatchOption, IfSome, IsSome, IsTrue, option_map, []};
 ghost use Rattle.std.specs.Option.{option_copied};
 ghost use Rattle.std.specs.Range.{range_inclusive_start, range_inclusive_end};
 ghost use Rattle.blaze_streams.specs.Ranges.{shown_range};
 ghost use Rattle.blaze_table.specs.Entries.{Entry, entry, at, entry_at};
 ghost use Rattle.blaze_table.specs.Gap.{IsGap};
+ghost use Rattle.blaze_table.specs.Whole.{IsWhole};
 ghost use Rattle.range_map_blaze.specs.Pairs.{IsFirstPair, IsLastPair};
 
 use crate::map::RangeMapBlaze;
@@ -41,7 +42,8 @@ impl<T: Integer, V: Eq> RangeMapBlaze<T, V> {
 
     /// The entry that holds a key: its range and its value.
     pub fn range_at(&self, key: T) -> Option<(RangeInclusive<T>, &V)>
-        ensures { option_map (shown_range T.rank (λ v. v.now)) result ≡ entry_at self.now.entries (T.rank key) }
+        ensures entry { option_map (shown_range T.rank (λ v. v.now)) result ≡ entry_at self.now.entries (T.rank key) }
+        ensures whole { IfSome result (λ pair. IsWhole pair.0) }
     {
         match self.table.find(key) {
             Some((start, end, value)) => Some((start..=end, value)),
@@ -52,9 +54,10 @@ impl<T: Integer, V: Eq> RangeMapBlaze<T, V> {
     /// The entry that holds a key, or the greatest range of keys without a value that holds it, and `None`. On the empty map
     /// that is the whole key type.
     pub fn range_or_gap_at(&self, key: T) -> (RangeInclusive<T>, Option<&V>)
-        ensures { MatchOption result.1
+        ensures entry { MatchOption result.1
             ((at self.now.entries (T.rank key) ≡ None) × IsGap T.low T.high (at self.now.entries) (T.rank key) (T.rank (range_inclusive_start result.0)) (T.rank (range_inclusive_end result.0)))
             (λ v. entry_at self.now.entries (T.rank key) ≡ Some (entry (T.rank (range_inclusive_start result.0)) (T.rank (range_inclusive_end result.0)) v.now)) }
+        ensures whole { IsWhole result.0 }
     {
         match self.table.find(key) {
             Some((start, end, value)) => (start..=end, Some(value)),

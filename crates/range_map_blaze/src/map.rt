@@ -14,16 +14,19 @@ use std::alloc::{AllocError, Global};
 use std::marker::Model;
 
 /// A map from integers to values, kept as ranges: ascending, disjoint, and as few as there can be. Touching ranges with
-/// equal values are one range.
+/// equal values are one range. Contracts see the list of entries with the work on it: looks at entries, entries put in and
+/// entries taken out.
 #[derive(Drop)]
 pub struct RangeMapBlaze<T: Integer, V: Eq> {
     pub(crate) table: RangeTable<T, V>,
 }
 
 impl<T: Integer, V: Eq> Model for RangeMapBlaze<T, V> {
-    ghost use Rattle.blaze_table.specs.Table.{RangeMap};
+    ghost use Rattle.blaze_table.specs.Counted.{CountedEntries, counted_code};
 
-    ghost Value = { RangeMap V };
+    ghost Value = { CountedEntries V };
+
+    ghost coded = { counted_code V.code };
 
     ghost view = { λ m. m.table };
 }
@@ -104,9 +107,9 @@ impl<T: Integer, V: Eq> RangeMapBlaze<T, V> {
 }
 
 impl<T: Integer, V: Eq + Drop> RangeMapBlaze<T, V> {
-    /// Takes all entries out.
+    /// Takes all entries out. No entry is counted.
     pub fn clear(&mut self)
-        ensures { self.new.entries ≡ [] }
+        ensures { self.new ≡ record self.old { entries = [] } }
     {
         self.table.clear();
     }

@@ -3,7 +3,7 @@ ghost use Rattle.std.specs.Prelude.{◌≡◌, OnOk, OnErr};
 ghost use Rattle.std.specs.List.Retain.{IsFiltered};
 ghost use Rattle.blaze_table.specs.Canonical.{IsRangeMap};
 ghost use Rattle.blaze_table.specs.Painted.{ClonesAreAlike};
-ghost use Rattle.blaze_table.specs.Retain.{AnswersAt, IsKeyRetained};
+ghost use Rattle.blaze_table.specs.Retain.{AnswersAt, IsCallableAtEach, IsKeyRetained};
 
 use crate::map::RangeMapBlaze;
 use blaze_int::Integer;
@@ -11,11 +11,12 @@ use std::alloc::AllocError;
 use std::ops::RangeInclusive;
 
 impl<T: Integer, V: Eq + Drop> RangeMapBlaze<T, V> {
-    /// Keeps the entries that a closure answers true at: one call for each, ascending. No memory is taken.
+    /// Keeps the entries that a closure answers true at: one call for each, ascending, and no other. No memory is taken.
     pub fn ranges_retain<F: FnMut(&RangeInclusive<T>, &V) -> bool>(&mut self, f: F)
-        requires { F.IsAlwaysCallable f }
+        requires { IsCallableAtEach T.rank F.FnMut f self.old.entries }
         ensures range_map { IsRangeMap V.eq T.low T.high self.new.entries }
         ensures kept { IsFiltered (AnswersAt T.rank F.FnMut) f self.old.entries self.new.entries }
+        ensures uncounted { self.new ≡ record self.old { entries = self.new.entries } }
     {
         self.table.retain_entries(f);
     }
@@ -28,6 +29,7 @@ impl<T: Integer, V: Eq + Clone> RangeMapBlaze<T, V> {
         requires callable { F.IsAlwaysCallable f }
         requires clones { ClonesAreAlike V.is_clone V.eq }
         ensures ok { OnOk result (IsKeyRetained F.Fn f T.rank T.of_rank V.eq T.low T.high self.old.entries self.new.entries) }
+        ensures uncounted { OnOk result (self.new ≡ record self.old { entries = self.new.entries }) }
         ensures err { OnErr result (self.new ≡ self.old) }
     {
         self.table.retain_keys(f)

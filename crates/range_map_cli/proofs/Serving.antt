@@ -1,12 +1,13 @@
 -- Where a session is, where the bytes of its reader are known.
-use Rattle.std.proofs.Common.{◌≡◌, ℕ, List, [], ◌++◌, length, refl, sym, ap, ◌∙◌, subst, arith, append-nil, Option, Some, None, IfSome}
+use Rattle.std.proofs.Common.{◌≡◌, ℕ, zero, suc, ◌≤◌, List, [], ◌∷◌, ◌++◌, take, length, length-append, refl, sym, ap, ◌∙◌, subst, arith, append-nil, Option, Some, None, IfSome, false}
 use Rattle.std.proofs.KnownBytes.{Appends-nil, Consumes-kept}
 use Rattle.std.specs.Io.KnownBytes.{Appends, Consumes, Keeps}
 use Rattle.range_map_cli.specs.declared.session.Session.{Session}
 use Rattle.range_map_cli.specs.declared.End.{End}
 use Rattle.range_map_cli.specs.declared.End.TheVariants as ends
-use Rattle.range_map_cli.specs.Lines.{ends_in}
-use Rattle.range_map_cli.specs.Output.{AnswersFirst, no_memory, Prints, Closes, Streams}
+use Rattle.range_map_cli.specs.Lines.{lines_of, ends_in}
+use Rattle.range_map_cli.specs.Commands.{Command, command_of}
+use Rattle.range_map_cli.specs.Output.{AnswersFirst, no_memory, Prints, Closes, Streams, commands_of, has_bad, before, bad_or}
 use Rattle.range_map_cli.specs.States.{content_of}
 use Rattle.range_map_cli.specs.Sessions.{Forwards, IsAt, IsServing}
 use Rattle.range_map_cli.proofs.Cuts.{ends_in-append}
@@ -63,6 +64,25 @@ pub serving_lost : (held now later last had mid has : Option (List ℕ)) (sessio
     → Forwards later last fed.waiting.items lost → (lost ≡ [] → ⊥) → IfSome had (λ text. Closes held last text ends.WriteFault)
 serving_lost held now later last had mid has session fed bytes lost at gave step h some =
     serving_stop held now last had mid has session bytes ends.WriteFault at gave (λ text rest lines here. closes_waiting held later text fed rest lines (step text rest lines here) last lost h some)
+
+-- where so many commands come first, so many lines are good
+good_lines : (n : ℕ) (lines : List (List ℕ)) → n ≤ length (commands_of lines) → has_bad (take n lines) ≡ false
+good_lines zero lines h = refl
+good_lines (suc n) [] h = absurd (omega arith)
+good_lines (suc n) (line ∷ lines) h = by_command (command_of line) h (λ k. good_lines n lines k)
+  where
+    by_command : (o : Option Command) → suc n ≤ length (before o (commands_of lines)) → (n ≤ length (commands_of lines) → has_bad (take n lines) ≡ false) → bad_or o (has_bad (take n lines)) ≡ false
+    by_command None g later = absurd (omega arith)
+    by_command (Some command) g later = later (omega (arith, g))
+
+-- no line that ends in the bytes read so far is bad
+pub serving_good : (held now had mid : Option (List ℕ)) (session : Session) (bytes : List ℕ) → IsServing held now had mid session → Consumes had mid bytes → IfSome had (λ text. has_bad (take (ends_in bytes) (lines_of text)) ≡ false)
+serving_good held now None mid session bytes at read = tt
+serving_good held now (Some text) None session bytes at read = absurd at
+serving_good held now (Some text) (Some rest) session bytes at read =
+    let lines : length at.commands ≡ ends_in bytes = omega (arith, at.counted, ap ends_in read, ends_in-append bytes rest) in
+    let more = ap length at.asked ∙ length-append at.commands (commands_of (lines_of (at.partial ++ rest))) in
+    good_lines (ends_in bytes) (lines_of text) (omega (arith, more, lines))
 
 -- reading failed
 pub serving_read : (held now had mid : Option (List ℕ)) (session : Session) → IsServing held now had mid session → session.waiting.items ≡ [] → IfSome had (λ text. Closes held now text ends.ReadFault)

@@ -1,5 +1,5 @@
 -- What is printed for a text.
-use Rattle.std.specs.Prelude.{◌≡◌, ℕ, ◌+◌, ◌-◌, ◌^◌, min, List, [], ◌∷◌, ◌++◌, length, take, Bool, true, false, if◌then◌else◌, codes, Option, Some, None, IfSome, decimal}
+use Rattle.std.specs.Prelude.{◌≡◌, ℕ, ◌+◌, ◌-◌, ◌≤◌, ◌^◌, min, List, [], ◌∷◌, ◌++◌, length, take, Bool, true, false, if◌then◌else◌, codes, Option, Some, None, IfSome, decimal}
 use Rattle.std.specs.Io.KnownBytes.{Appends, Consumes}
 use Rattle.range_map_cli.specs.Lines.{lines_of, ends_in}
 use Rattle.range_map_cli.specs.Commands.{Command, command_of}
@@ -67,6 +67,11 @@ Ends text ends.WriteFault out = (end : End) × (rest : List ℕ) × Prints text 
 -- a writer that held and holds these bytes, where they are known, was given what serving the text prints where it ends so
 abbrev pub Closes : Option (List ℕ) → Option (List ℕ) → List ℕ → End → Type 0
 Closes held holds text end = (out : List ℕ) × Appends held holds out × Ends text end out
+
+-- Some bytes of the text were read, and no more: those of the last read, which asked for 8192 at most, and those before it, in
+-- which no bad line ends.
+abbrev pub StopsReading : Option (List ℕ) → Option (List ℕ) → Type 0
+StopsReading had has = (earlier last : List ℕ) × Consumes had has (earlier ++ last) × (length last ≤ 8192) × IfSome had (λ text. has_bad (take (ends_in earlier) (lines_of text)) ≡ false)
 
 -- Some bytes of the text were read, and no more. The lines that end in them were answered, and nothing else was written.
 abbrev pub Streams : Option (List ℕ) → Option (List ℕ) → Option (List ℕ) → Option (List ℕ) → Type 0

@@ -1,6 +1,6 @@
 //! Serves a reader and a writer.
 ghost use Rattle.std.specs.Prelude.{◌≡◌, IfSome};
-ghost use Rattle.range_map_cli.specs.Output.{Closes, Streams};
+ghost use Rattle.range_map_cli.specs.Output.{Closes, Streams, StopsReading};
 
 use crate::End;
 use crate::output::flush;
@@ -14,9 +14,10 @@ const CHUNK: usize = 8192;
 /// Answers each line of the input as it comes, until the end of the input or a bad line.
 ///
 /// The range map is empty at first. The answers to the lines that end in the bytes of one read are written before the
-/// next read. A read or a write that fails is not tried again.
+/// next read, and none follows the read in which a bad line ends. A read or a write that fails is not tried again.
 pub fn serve<R: Read, W: Write>(alloc: Global, input: &mut R, output: &mut W) -> End
     ensures closes { IfSome (R.remaining input.old) (λ text. Closes (W.contents output.old) (W.contents output.new) text result) }
+    ensures stops { result ≡ End.BadLine → StopsReading (R.remaining input.old) (R.remaining input.new) }
     ensures streams { result ≡ End.ReadFault → Streams (W.contents output.old) (W.contents output.new) (R.remaining input.old) (R.remaining input.new) }
 {
     let Ok(mut session) = Session::new(alloc) else {

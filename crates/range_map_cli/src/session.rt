@@ -1,5 +1,5 @@
 //! The steps of a session.
-ghost use Rattle.std.specs.Prelude.{◌≡◌, ◌≢◌, ◌+◌, ◌-◌, ◌^◌, ◌++◌, ◌∷◌, [], min, ℕ, ℤ, List, Option, Some, None, take, IfOk, OnOk, IfErr, IsErrOf, string_bytes};
+ghost use Rattle.std.specs.Prelude.{◌≡◌, ◌≢◌, ◌⊎◌, ◌+◌, ◌-◌, ◌^◌, ◌++◌, ◌∷◌, [], min, ℕ, ℤ, List, Option, Some, None, take, IfOk, OnOk, IfErr, IsErrOf, string_bytes};
 ghost use Rattle.std.specs.Io.KnownBytes.{Appends};
 ghost use Rattle.range_map_cli.specs.Lines.{Lacks};
 ghost use Rattle.range_map_cli.specs.Commands.{Command, command_of};
@@ -99,7 +99,7 @@ impl Session {
 
 /// Writes what waits, and a last text.
 pub fn close<W: Write>(waiting: &mut Vec<u8>, output: &mut W, text: &[u8], end: End) -> End
-    ensures kind { end ≢ End.ReadFault → result ≢ End.ReadFault }
+    ensures kind { (result ≡ end) ⊎ (result ≡ End.WriteFault) }
     ensures closes { (held : Option (List ℕ)) (all out : List ℕ) → Appends held (W.contents output.old) out → Prints all end (out ++ (waiting.old.items ++ text.now)) → Closes held (W.contents output.new) all result }
 {
     let Ok(()) = put(waiting, output, text) else {

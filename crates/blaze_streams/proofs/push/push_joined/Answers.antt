@@ -1,7 +1,7 @@
 use Rattle.std.proofs.Common.{sym, ◌∙◌, ap, ◌++◌, ◌∷◌, [], ◌+ℤ◌, pos}
 use Rattle.std.specs.Ordering.{int_eq}
 use Rattle.std.specs.Range.{range_inclusive_end}
-use Rattle.blaze_table.proofs.Slots.{and_both, and_first, and_second}
+use Rattle.blaze_table.proofs.Glued.{and_both, and_first, and_second}
 use Rattle.blaze_table.specs.Entries.{entry}
 use Rattle.blaze_streams.specs.Ranges.{shown_range}
 use Rattle.blaze_streams.proofs.Pushed.{pushed_joined, pushed_apart}

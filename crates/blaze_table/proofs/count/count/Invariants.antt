@@ -1,11 +1,12 @@
-use Rattle.std.proofs.Common.{◌≡◌, pos, ◌+ℤ◌, drop}
+use Rattle.std.proofs.Common.{◌≡◌, pos, ◌+ℤ◌}
 use Rattle.blaze_table.specs.Canonical.{IsCanonical}
 use Rattle.blaze_table.specs.Count.{keys_in}
-use Rattle.blaze_table.specs.Slots.{entries_of}
 use Rattle.blaze_table.proofs.count.count.Given as goal
 
-abbrev pub invariant-loop-slot : goal.invariant-loop-slot
-invariant-loop-slot g l = record {
-  canonical : IsCanonical g.V.PartialEq.eq (entries_of g.T.Integer.rank (drop l.slot-index l.slots));
-  is : pos (g.T.SafeLen.SafeLength.number l.sum) +ℤ keys_in (entries_of g.T.Integer.rank (drop l.slot-index l.slots)) ≡ keys_in (entries_of g.T.Integer.rank l.slots);
-}
+-- the sum is that of the entries so far
+abbrev pub invariant-loop-start : goal.invariant-loop-start
+invariant-loop-start g l =
+    (goal.iterator-loop-start g).can_next l.start-iterator
+    × (goal.iterator-loop-start g).is_finite l.start-iterator
+    × IsCanonical g.V.PartialEq.eq l.start-iterator
+    × (pos (g.T.SafeLen.SafeLength.number l.sum) +ℤ keys_in l.start-iterator ≡ keys_in l.entries.entries)

@@ -5,7 +5,7 @@ use Rattle.blaze_table.specs.Count.{nat_of}
 use Rattle.blaze_table.specs.Keeping.{KeepsMore}
 use Rattle.blaze_table.specs.Pairs.{pairs_from}
 use Rattle.blaze_table.specs.Retain.{AnswersAtPair}
-use Rattle.blaze_table.specs.Slots.{entries_of}
+use Rattle.blaze_table.specs.Listed.{listed}
 use Rattle.blaze_table.proofs.Keeping.{more_next}
 use Rattle.blaze_table.proofs.keep.keep_keys.Goals as goal
 
@@ -15,15 +15,15 @@ below a b h = grind (arith, ints)
 not_below : (a b : ℤ) → int_lt a b ≡ false → b ≤ℤ a
 not_below a b h = grind (arith, ints)
 
-pub loop-out-preserved : goal.loop-out-preserved
-loop-out-preserved g c =
+pub loop-end-preserved : goal.loop-end-preserved
+loop-end-preserved g c =
     let rank = g.T.Integer.rank in
-    let i = c.loop-out.invariant in
-    let less = below (rank c.loop-out.key) (rank c.args.slot.now.hi) (sym c.is_below.ensures ∙ c.loop-out-test.true) in
+    let i = c.loop-end.invariant in
+    let less = below (rank c.loop-end.key) (rank c.args.end) (sym c.is_below.ensures ∙ c.loop-end-test.true) in
     record {
       from = omega (arith, ints, i.from, c.after-key.ensures);
       to = omega (arith, ints, less, c.after-key.ensures);
-      kept = more_next (AnswersAtPair g.F.Fn) c.args.f.now rank g.V.PartialEq.eq g.T.Integer.low g.T.Integer.high g.T.Integer.of_rank (rank c.args.slot.now.lo) (rank c.loop-out.key) (rank c.after-key.result) c.args.slot.now.value _ _ _
+      kept = more_next (AnswersAtPair g.F.Fn) c.args.f.now rank g.V.PartialEq.eq g.T.Integer.low g.T.Integer.high g.T.Integer.of_rank (rank c.args.start) (rank c.loop-end.key) (rank c.after-key.result) c.args.value.now _ _ _
           i.from c.after-key.ensures i.kept c.in_ok-left.ensures.kept;
       room = omega (arith, ints, i.room, c.after-key.ensures, c.in_ok-left.ensures.room);
       counted = omega (arith, ints, i.counted, c.in_ok-left.ensures.counted, c.after-key.ensures);
@@ -32,18 +32,18 @@ loop-out-preserved g c =
 pub returns-clause-kept : goal.returns-clause-kept
 returns-clause-kept g c =
     let rank = g.T.Integer.rank in
-    let lo = rank c.args.slot.now.lo in
-    let hi = rank c.args.slot.now.hi in
-    let i = c.loop-out.invariant in
-    let end : rank c.loop-out.key ≡ hi = omega (arith, ints, i.to, not_below (rank c.loop-out.key) hi (sym c.is_below.ensures ∙ c.loop-out-test.false)) in
+    let lo = rank c.args.start in
+    let hi = rank c.args.end in
+    let i = c.loop-end.invariant in
+    let end : rank c.loop-end.key ≡ hi = omega (arith, ints, i.to, not_below (rank c.loop-end.key) hi (sym c.is_below.ensures ∙ c.loop-end-test.false)) in
     let long : (hi +ℤ pos 1) -ℤ lo ≡ hi -ℤ lo +ℤ pos 1 = omega (arith, ints) in
-    let all = more_next (AnswersAtPair g.F.Fn) c.args.f.now rank g.V.PartialEq.eq g.T.Integer.low g.T.Integer.high g.T.Integer.of_rank lo (rank c.loop-out.key) (hi +ℤ pos 1) c.args.slot.now.value _ _ _
+    let all = more_next (AnswersAtPair g.F.Fn) c.args.f.now rank g.V.PartialEq.eq g.T.Integer.low g.T.Integer.high g.T.Integer.of_rank lo (rank c.loop-end.key) (hi +ℤ pos 1) c.args.value.now _ _ _
     i.from (omega (arith, ints, end)) i.kept c.in_ok-left-2.ensures.kept in
-    subst (λ n. KeepsMore (AnswersAtPair g.F.Fn) c.args.f.now rank g.V.PartialEq.eq g.T.Integer.low g.T.Integer.high (pairs_from g.T.Integer.of_rank lo n c.args.slot.now.value) lo (hi +ℤ pos 1) (entries_of rank c.args.out.now.items) (entries_of rank c.keep_key-2.new.out.items)) (ap nat_of long) all
+    subst (λ n. KeepsMore (AnswersAtPair g.F.Fn) c.args.f.now rank g.V.PartialEq.eq g.T.Integer.low g.T.Integer.high (pairs_from g.T.Integer.of_rank lo n c.args.value.now) lo (hi +ℤ pos 1) (listed rank c.args.out.now.items) (listed rank c.keep_key-2.new.out.items)) (ap nat_of long) all
 
 pub returns-clause-counted : goal.returns-clause-counted
 returns-clause-counted g c =
     let rank = g.T.Integer.rank in
-    let i = c.loop-out.invariant in
-    let end : rank c.loop-out.key ≡ rank c.args.slot.now.hi = omega (arith, ints, i.to, not_below (rank c.loop-out.key) (rank c.args.slot.now.hi) (sym c.is_below.ensures ∙ c.loop-out-test.false)) in
+    let i = c.loop-end.invariant in
+    let end : rank c.loop-end.key ≡ rank c.args.end = omega (arith, ints, i.to, not_below (rank c.loop-end.key) (rank c.args.end) (sym c.is_below.ensures ∙ c.loop-end-test.false)) in
     omega (arith, ints, end, i.counted, c.in_ok-left-2.ensures.counted)

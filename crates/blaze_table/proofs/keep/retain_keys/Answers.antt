@@ -1,38 +1,67 @@
-use Rattle.std.proofs.Common.{refl, sym, subst, pos}
+use Rattle.std.proofs.Common.{[], ◌∙◌, refl, sym, ap, subst, pos}
 use Rattle.std.specs.List.{items_where_true}
+use Rattle.blaze_table.specs.Entries.{shown_entry}
+use Rattle.blaze_table.specs.Listed.{listed}
 use Rattle.blaze_table.specs.Pairs.{pair_list}
 use Rattle.blaze_table.specs.Retain.{AnswersAtPair}
-use Rattle.blaze_table.specs.Slots.{entries_of}
 use Rattle.blaze_table.proofs.Keeping.{IsReached, reached_none, reached_order, reached_room, reached_more, reached_table, reached_pairs}
 use Rattle.blaze_table.proofs.RangeMaps.{range_map}
 use Rattle.blaze_table.proofs.keep.retain_keys.Goals as goal
 
-pub loop-slot-init : goal.loop-slot-init
-loop-slot-init g c =
+pub loop-start-init : goal.loop-start-init
+loop-start-init g c =
     let rank = g.T.Integer.rank in
-    subst (λ es. IsReached (AnswersAtPair g.F.Fn) c.args.f.now rank g.V.PartialEq.eq g.T.Integer.low g.T.Integer.high g.T.Integer.of_rank c.args.slots.now 0 (pos (g.T.SafeLen.SafeLength.number c.args.len)) (entries_of rank es)) (sym c.new-out.ensures.items)
-    (reached_none (AnswersAtPair g.F.Fn) c.args.f.now rank g.V.PartialEq.eq g.T.Integer.low g.T.Integer.high g.T.Integer.of_rank c.args.slots.now _ c.requires.table.are_keys c.requires.table.counted)
+    let all = c.args.entries.now.entries in
+    let len = pos (g.T.SafeLen.SafeLength.number c.args.len) in (
+      tt,
+      tt,
+      subst (λ left. IsReached (AnswersAtPair g.F.Fn) c.args.f.now rank g.V.PartialEq.eq g.T.Integer.low g.T.Integer.high g.T.Integer.of_rank all left len (listed rank c.new-out.result.items))
+          (sym (c.into_iter-start-iterator.ensures.into_iter_gives ∙ c.iter-start-items.ensures))
+          (subst (λ es. IsReached (AnswersAtPair g.F.Fn) c.args.f.now rank g.V.PartialEq.eq g.T.Integer.low g.T.Integer.high g.T.Integer.of_rank all all len (listed rank es)) (sym c.new-out.ensures.items)
+          (reached_none (AnswersAtPair g.F.Fn) c.args.f.now rank g.V.PartialEq.eq g.T.Integer.low g.T.Integer.high g.T.Integer.of_rank all len c.requires.table.are_keys c.requires.table.counted)),
+    )
 
 pub keep_keys-requires-clause-order : goal.keep_keys-requires-clause-order
 keep_keys-requires-clause-order g c =
-    reached_order (AnswersAtPair g.F.Fn) c.args.f.now g.T.Integer.rank g.V.PartialEq.eq g.T.Integer.low g.T.Integer.high g.T.Integer.of_rank c.args.slots.now _ _ _ c.loop-slot.invariant c.requires.table.canonical c.slot-item.result c.loop-slot-test.true c.slot-item.is
+    let rank = g.T.Integer.rank in
+    let all = c.args.entries.now.entries in
+    let out = listed rank c.loop-start.out.items in
+    reached_order (AnswersAtPair g.F.Fn) c.args.f.now rank g.V.PartialEq.eq g.T.Integer.low g.T.Integer.high g.T.Integer.of_rank all _ _ _ out
+    (subst (λ left. IsReached (AnswersAtPair g.F.Fn) c.args.f.now rank g.V.PartialEq.eq g.T.Integer.low g.T.Integer.high g.T.Integer.of_rank all left (pos (g.T.SafeLen.SafeLength.number c.loop-start.left)) out) c.in-Some.ensures.steps c.loop-start.invariant.2)
+    c.requires.table.canonical
 
 pub keep_keys-requires-clause-counted : goal.keep_keys-requires-clause-counted
 keep_keys-requires-clause-counted g c =
-    reached_room (AnswersAtPair g.F.Fn) c.args.f.now g.T.Integer.rank g.V.PartialEq.eq g.T.Integer.low g.T.Integer.high g.T.Integer.of_rank c.args.slots.now _ _ _ c.loop-slot.invariant c.requires.table.canonical c.slot-item.result c.loop-slot-test.true c.slot-item.is
+    let rank = g.T.Integer.rank in
+    let all = c.args.entries.now.entries in
+    let out = listed rank c.loop-start.out.items in
+    reached_room (AnswersAtPair g.F.Fn) c.args.f.now rank g.V.PartialEq.eq g.T.Integer.low g.T.Integer.high g.T.Integer.of_rank all _ _ _ out
+    (subst (λ left. IsReached (AnswersAtPair g.F.Fn) c.args.f.now rank g.V.PartialEq.eq g.T.Integer.low g.T.Integer.high g.T.Integer.of_rank all left (pos (g.T.SafeLen.SafeLength.number c.loop-start.left)) out) c.in-Some.ensures.steps c.loop-start.invariant.2)
+    c.requires.table.canonical
 
-pub loop-slot-preserved : goal.loop-slot-preserved
-loop-slot-preserved g c =
-    reached_more (AnswersAtPair g.F.Fn) c.args.f.now g.T.Integer.rank g.V.PartialEq.eq g.T.Integer.low g.T.Integer.high g.T.Integer.of_rank c.args.slots.now _ _ _ c.loop-slot.invariant c.requires.table.canonical c.slot-item.result c.loop-slot-test.true c.slot-item.is
-    _ _ c.in_ok-left.ensures.kept c.in_ok-left.ensures.counted
+pub loop-start-preserved : goal.loop-start-preserved
+loop-start-preserved g c =
+    let rank = g.T.Integer.rank in
+    let all = c.args.entries.now.entries in
+    let out = listed rank c.loop-start.out.items in (
+      tt,
+      tt,
+      reached_more (AnswersAtPair g.F.Fn) c.args.f.now rank g.V.PartialEq.eq g.T.Integer.low g.T.Integer.high g.T.Integer.of_rank all _ _ _ out
+          (subst (λ left. IsReached (AnswersAtPair g.F.Fn) c.args.f.now rank g.V.PartialEq.eq g.T.Integer.low g.T.Integer.high g.T.Integer.of_rank all left (pos (g.T.SafeLen.SafeLength.number c.loop-start.left)) out) c.in-Some.ensures.steps c.loop-start.invariant.2)
+          c.requires.table.canonical _ _ c.in_ok-left.ensures.kept c.in_ok-left.ensures.counted,
+    )
 
 pub returns-clause-retained : goal.returns-clause-retained
 returns-clause-retained g c =
     let rank = g.T.Integer.rank in
-    let pairs = reached_pairs (AnswersAtPair g.F.Fn) c.args.f.now rank g.V.PartialEq.eq g.T.Integer.low g.T.Integer.high g.T.Integer.of_rank c.args.slots.now _ _ _ c.loop-slot.invariant c.loop-slot-test.false in
-    let table = reached_table (AnswersAtPair g.F.Fn) c.args.f.now rank g.V.PartialEq.eq g.T.Integer.low g.T.Integer.high g.T.Integer.of_rank c.args.slots.now _ _ _ c.loop-slot.invariant c.loop-slot-test.false _ refl in
+    let all = c.args.entries.now.entries in
+    let out = listed rank c.loop-start.out.items in
+    let len = pos (g.T.SafeLen.SafeLength.number c.loop-start.left) in
+    let reached = subst (λ left. IsReached (AnswersAtPair g.F.Fn) c.args.f.now rank g.V.PartialEq.eq g.T.Integer.low g.T.Integer.high g.T.Integer.of_rank all left len out) c.in-None.ensures.steps.0 c.loop-start.invariant.2 in
+    let pairs = reached_pairs (AnswersAtPair g.F.Fn) c.args.f.now rank g.V.PartialEq.eq g.T.Integer.low g.T.Integer.high g.T.Integer.of_rank all len out reached in
+    let table = reached_table (AnswersAtPair g.F.Fn) c.args.f.now rank g.V.PartialEq.eq g.T.Integer.low g.T.Integer.high g.T.Integer.of_rank all len out reached _ refl in
     record {
-      kept = items_where_true pairs.answers (pair_list g.T.Integer.of_rank (entries_of rank c.args.slots.now));
+      kept = items_where_true pairs.answers (pair_list g.T.Integer.of_rank all);
       filtered = (pairs.answers, c.args.f.now, pairs.long, pairs.returns, refl);
       range_map = range_map g.V.PartialEq.eq g.met.V.Eq.laws g.T.Integer.low g.T.Integer.high _ _ table;
       content = pairs.content;
@@ -40,4 +69,9 @@ returns-clause-retained g c =
 
 pub returns-clause-table : goal.returns-clause-table
 returns-clause-table g c =
-    reached_table (AnswersAtPair g.F.Fn) c.args.f.now g.T.Integer.rank g.V.PartialEq.eq g.T.Integer.low g.T.Integer.high g.T.Integer.of_rank c.args.slots.now _ _ _ c.loop-slot.invariant c.loop-slot-test.false _ refl
+    let rank = g.T.Integer.rank in
+    let all = c.args.entries.now.entries in
+    let out = listed rank c.loop-start.out.items in
+    let len = pos (g.T.SafeLen.SafeLength.number c.loop-start.left) in
+    let reached = subst (λ left. IsReached (AnswersAtPair g.F.Fn) c.args.f.now rank g.V.PartialEq.eq g.T.Integer.low g.T.Integer.high g.T.Integer.of_rank all left len out) c.in-None.ensures.steps.0 c.loop-start.invariant.2 in
+    reached_table (AnswersAtPair g.F.Fn) c.args.f.now rank g.V.PartialEq.eq g.T.Integer.low g.T.Integer.high g.T.Integer.of_rank all len out reached _ refl

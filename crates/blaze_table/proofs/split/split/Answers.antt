@@ -1,85 +1,27 @@
-use Rattle.std.proofs.Common.{◌∙◌, sym, ap, subst, pos, ◌≤ℤ◌, arith}
-use Rattle.std.proofs.lemmas.Int.{ints}
-use Rattle.blaze_table.specs.Count.{keys_in}
-use Rattle.blaze_table.specs.Canonical.{IsCanonical}
-use Rattle.blaze_table.specs.Splice.{IsSplitOf}
-use Rattle.blaze_table.specs.Slots.{entries_of}
-use Rattle.blaze_table.proofs.Splitting.{is_split, split_tables, split_fits}
+use Rattle.blaze_table.proofs.Splitting.{is_split, split_counted, split_tables}
 use Rattle.blaze_table.proofs.split.split.Goals as goal
 
-pub count-below_len-requires-clause-canonical : goal.count-below_len-requires-clause-canonical
-count-below_len-requires-clause-canonical g c =
-    let rank = g.T.Integer.rank in
-    let eq = g.V.PartialEq.eq in
-    let k = rank c.args.key in
-    let es = entries_of rank c.args.slots.now.items in
-    let B = entries_of rank c.part.new.below.items in
-    let F = entries_of rank c.part.new.from.items in
-    let is = ap (entries_of rank) (c.from_vec.ensures.items ∙ ap (λ v. v.items) c.swap.ensures.y_after) in
-    let r = subst (λ l. IsSplitOf eq k l B F) is c.part.ensures in
-    subst (λ items. IsCanonical eq (entries_of rank items)) (sym c.deref-2.ensures.value) (is_split eq g.met.V.Eq.laws k es B F c.requires.table.canonical r).below_canonical
+pub count_parts-lens-requires-clause-below : goal.count_parts-lens-requires-clause-below
+count_parts-lens-requires-clause-below g c =
+    (is_split g.V.PartialEq.eq g.met.V.Eq.laws _ _ _ _ c.requires.table.canonical c.in_ok-from.ensures.split).below_canonical
 
-pub count-below_len-requires-clause-fits : goal.count-below_len-requires-clause-fits
-count-below_len-requires-clause-fits g c =
-    let rank = g.T.Integer.rank in
-    let eq = g.V.PartialEq.eq in
-    let k = rank c.args.key in
-    let es = entries_of rank c.args.slots.now.items in
-    let B = entries_of rank c.part.new.below.items in
-    let F = entries_of rank c.part.new.from.items in
-    let is = ap (entries_of rank) (c.from_vec.ensures.items ∙ ap (λ v. v.items) c.swap.ensures.y_after) in
-    let r = subst (λ l. IsSplitOf eq k l B F) is c.part.ensures in
-    let fits = split_fits eq g.met.V.Eq.laws k es B F c.requires.table.canonical r in
-    subst (λ items. keys_in (entries_of rank items) ≤ℤ pos g.T.SafeLen.SafeLength.most) (sym c.deref-2.ensures.value) (omega (arith, ints, fits, c.requires.table.counted, c.in_hand.ensures))
+pub count_parts-lens-requires-clause-from : goal.count_parts-lens-requires-clause-from
+count_parts-lens-requires-clause-from g c =
+    (is_split g.V.PartialEq.eq g.met.V.Eq.laws _ _ _ _ c.requires.table.canonical c.in_ok-from.ensures.split).from_canonical
 
-pub minus-from_len-requires : goal.minus-from_len-requires
-minus-from_len-requires g c =
-    let rank = g.T.Integer.rank in
-    let eq = g.V.PartialEq.eq in
-    let k = rank c.args.key in
-    let es = entries_of rank c.args.slots.now.items in
-    let B = entries_of rank c.part.new.below.items in
-    let F = entries_of rank c.part.new.from.items in
-    let is = ap (entries_of rank) (c.from_vec.ensures.items ∙ ap (λ v. v.items) c.swap.ensures.y_after) in
-    let r = subst (λ l. IsSplitOf eq k l B F) is c.part.ensures in
-    let fits = split_fits eq g.met.V.Eq.laws k es B F c.requires.table.canonical r in
-    let counted = c.count-below_len.ensures ∙ ap (λ items. keys_in (entries_of rank items)) c.deref-2.ensures.value in
-    omega (arith, ints, fits, c.requires.table.counted, counted)
-
-pub returns-clause-split : goal.returns-clause-split
-returns-clause-split g c =
-    let rank = g.T.Integer.rank in
-    let eq = g.V.PartialEq.eq in
-    let k = rank c.args.key in
-    let es = entries_of rank c.args.slots.now.items in
-    let B = entries_of rank c.part.new.below.items in
-    let F = entries_of rank c.part.new.from.items in
-    let is = ap (entries_of rank) (c.from_vec.ensures.items ∙ ap (λ v. v.items) c.swap.ensures.y_after) in
-    let r = subst (λ l. IsSplitOf eq k l B F) is c.part.ensures in
-    is_split eq g.met.V.Eq.laws k es B F c.requires.table.canonical r
+pub count_parts-lens-requires-clause-counted : goal.count_parts-lens-requires-clause-counted
+count_parts-lens-requires-clause-counted g c =
+    split_counted g.V.PartialEq.eq g.met.V.Eq.laws _ _ _ _ c.requires.table.canonical c.in_ok-from.ensures.split g.T.Integer.low g.T.Integer.high _ c.requires.table
 
 pub returns-clause-below : goal.returns-clause-below
 returns-clause-below g c =
-    let rank = g.T.Integer.rank in
-    let eq = g.V.PartialEq.eq in
-    let k = rank c.args.key in
-    let es = entries_of rank c.args.slots.now.items in
-    let B = entries_of rank c.part.new.below.items in
-    let F = entries_of rank c.part.new.from.items in
-    let is = ap (entries_of rank) (c.from_vec.ensures.items ∙ ap (λ v. v.items) c.swap.ensures.y_after) in
-    let r = subst (λ l. IsSplitOf eq k l B F) is c.part.ensures in
-    let counted = c.count-below_len.ensures ∙ ap (λ items. keys_in (entries_of rank items)) c.deref-2.ensures.value in
-    (split_tables eq g.met.V.Eq.laws k es B F c.requires.table.canonical r g.T.Integer.low g.T.Integer.high _ _ (g.T.SafeLen.SafeLength.number c.minus-from_len.result) c.requires.table counted (omega (arith, c.minus-from_len.ensures))).0
+    (split_tables g.V.PartialEq.eq g.met.V.Eq.laws _ _ _ _ c.requires.table.canonical c.in_ok-from.ensures.split g.T.Integer.low g.T.Integer.high _ c.requires.table
+    _ _ c.count_parts-lens.ensures.below c.count_parts-lens.ensures.from).0
 
 pub returns-clause-from : goal.returns-clause-from
 returns-clause-from g c =
-    let rank = g.T.Integer.rank in
-    let eq = g.V.PartialEq.eq in
-    let k = rank c.args.key in
-    let es = entries_of rank c.args.slots.now.items in
-    let B = entries_of rank c.part.new.below.items in
-    let F = entries_of rank c.part.new.from.items in
-    let is = ap (entries_of rank) (c.from_vec.ensures.items ∙ ap (λ v. v.items) c.swap.ensures.y_after) in
-    let r = subst (λ l. IsSplitOf eq k l B F) is c.part.ensures in
-    let counted = c.count-below_len.ensures ∙ ap (λ items. keys_in (entries_of rank items)) c.deref-2.ensures.value in
-    (split_tables eq g.met.V.Eq.laws k es B F c.requires.table.canonical r g.T.Integer.low g.T.Integer.high _ _ _ c.requires.table counted (omega (arith, c.minus-from_len.ensures))).1
+    (split_tables g.V.PartialEq.eq g.met.V.Eq.laws _ _ _ _ c.requires.table.canonical c.in_ok-from.ensures.split g.T.Integer.low g.T.Integer.high _ c.requires.table
+    _ _ c.count_parts-lens.ensures.below c.count_parts-lens.ensures.from).1
+
+pub returns-clause-split : goal.returns-clause-split
+returns-clause-split g c = is_split g.V.PartialEq.eq g.met.V.Eq.laws _ _ _ _ c.requires.table.canonical c.in_ok-from.ensures.split

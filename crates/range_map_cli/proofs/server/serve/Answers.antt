@@ -1,8 +1,9 @@
-use Rattle.std.proofs.Common.{◌++◌, [], sym, subst, refl, take}
+use Rattle.std.proofs.Common.{◌++◌, [], sym, subst, refl, take, arith}
+use Rattle.std.proofs.lemmas.List.{length-take}
 use Rattle.std.proofs.KnownBytes.{Consumes-nil, Consumes-trans, Appends-nil, Keeps-refl}
 use Rattle.range_map_cli.specs.declared.End.TheVariants as ends
 use Rattle.range_map_cli.specs.Output.{Prints, no_memory}
-use Rattle.range_map_cli.proofs.Serving.{IfSome-all, prints_at_start, serving_start, serving_more, serving_lost, serving_read, streams_at}
+use Rattle.range_map_cli.proofs.Serving.{IfSome-all, prints_at_start, serving_start, serving_more, serving_lost, serving_read, serving_good, streams_at}
 use Rattle.range_map_cli.proofs.server.serve.Goals as goal
 
 -- memory is refused at once
@@ -44,3 +45,23 @@ returns-clause-closes g c = serving_read _ _ _ _ c.loop-turn.session c.loop-turn
 
 pub returns-clause-streams : goal.returns-clause-streams
 returns-clause-streams g c = λ _. streams_at _ _ _ _ _ c.loop-turn.session _ c.loop-turn.invariant.serving c.loop-turn.invariant.written c.loop-turn.invariant.reads.1 (Keeps-refl _)
+
+-- a bad line ends in the bytes that were read last
+pub returns-in-Err-clause-stops : goal.returns-in-Err-clause-stops
+returns-in-Err-clause-stops g c = λ _. (
+  c.loop-turn.invariant.reads.0,
+  take c.in-Ok-read.count c.read.new.buf,
+  Consumes-trans _ _ _ _ _ c.loop-turn.invariant.reads.1 c.in-Ok-read.ensures.bytes.0,
+  let shorter = length-take c.in-Ok-read.count c.read.new.buf in omega (arith, shorter, c.read.auto.buf),
+  serving_good _ _ _ _ c.loop-turn.session _ c.loop-turn.invariant.serving c.loop-turn.invariant.reads.1,
+)
+
+-- or it has no end, and nothing more comes
+pub returns-then-count-eq0-clause-stops : goal.returns-then-count-eq0-clause-stops
+returns-then-count-eq0-clause-stops g c = λ _. (
+  c.loop-turn.invariant.reads.0,
+  take c.in-Ok-read.count c.read.new.buf,
+  Consumes-trans _ _ _ _ _ c.loop-turn.invariant.reads.1 c.in-Ok-read.ensures.bytes.0,
+  let shorter = length-take c.in-Ok-read.count c.read.new.buf in omega (arith, shorter, c.read.auto.buf),
+  serving_good _ _ _ _ c.loop-turn.session _ c.loop-turn.invariant.serving c.loop-turn.invariant.reads.1,
+)

@@ -1,28 +1,32 @@
 use Rattle.std.proofs.Common.{[], None, Some, refl, ◌<ℤ◌, arith}
 use Rattle.std.specs.Prelude.{unwrap_or}
 use Rattle.std.proofs.lemmas.Int.{ints}
-use Rattle.blaze_iters.proofs.Steps.{takes_last, several_last, some_of_last, goes_last, goes_refused}
+use Rattle.blaze_iters.proofs.Steps.{takes_last, several_last, some_of_last, goes_last, goes_refused, opened_last}
 use Rattle.blaze_iters.proofs.into_iter_map.IntoIterMapDoubleEndedIterator.next_back.Goals as goal
 
 pub returns-in-None-clause-steps : goal.returns-in-None-clause-steps
 returns-in-None-clause-steps g c =
     let key = g.met.T.Integer.ranked.one_key c.in_ok-lo.hi c.in_hand.ensures.from c.in_hand.ensures.to in
     let last = takes_last g.T.Integer.rank g.T.Integer.of_rank (λ v. v) (λ es. es) c.in_ok-lo.lo c.in_ok-lo.hi c.in_ok-lo.value
-    None c.take_last.new.front (unwrap_or c.take_last.new.inner []) key c.in-None.ensures in
-    ((c.in_ok-lo.hi, c.in_ok-lo.value), rw (← c.self.view_is, c.in_ok-lo.ensures.left, c.in_ok-lo.ensures.back) last, (refl, g.met.V.Eq.laws.refl c.in_ok-lo.value))
+    None c.take_last.new.front (unwrap_or c.take_last.new.inner []) key c.in-None.ensures in (
+      ((c.in_ok-lo.hi, c.in_ok-lo.value), rw (← c.self.view_is, c.in_ok-lo.ensures.left, c.in_ok-lo.ensures.back) last, (refl, g.met.V.Eq.laws.refl c.in_ok-lo.value)),
+      rw (← c.self.view_is) (opened_last _ _ _ _ c.in_ok-lo.ensures.opens),
+    )
 
 pub returns-in-None-clause-goes : goal.returns-in-None-clause-goes
-returns-in-None-clause-goes g c = goes_last _ _ _ _ _ _ c.requires (returns-in-None-clause-steps g c).1
+returns-in-None-clause-goes g c = goes_last _ _ _ _ _ _ c.requires (returns-in-None-clause-steps g c).0.1
 
 pub returns-in-Ok-clause-steps : goal.returns-in-Ok-clause-steps
 returns-in-Ok-clause-steps g c =
     let key = g.met.T.Integer.ranked.one_key c.in_ok-lo.hi c.in_hand.ensures.from c.in_hand.ensures.to in
     let last = takes_last g.T.Integer.rank g.T.Integer.of_rank (λ v. v) (λ es. es) c.in_ok-lo.lo c.in_ok-lo.hi c.in_ok-lo.value
-    (Some (c.in_ok-lo.lo, c.in-Some.previous, c.in_ok-lo.value)) c.take_last.new.front (unwrap_or c.take_last.new.inner []) key (c.in-Some.ensures.0, c.in-Some.ensures.1, refl, refl) in
-    ((c.in_ok-lo.hi, c.in_ok-lo.value), rw (← c.self.view_is, c.in_ok-lo.ensures.left) last, (refl, c.requires c.in_ok-lo.value c.in-Ok.copy c.in-Ok.ensures.cases))
+    (Some (c.in_ok-lo.lo, c.in-Some.previous, c.in_ok-lo.value)) c.take_last.new.front (unwrap_or c.take_last.new.inner []) key (c.in-Some.ensures.0, c.in-Some.ensures.1, refl, refl) in (
+      ((c.in_ok-lo.hi, c.in_ok-lo.value), rw (← c.self.view_is, c.in_ok-lo.ensures.left) last, (refl, c.requires c.in_ok-lo.value c.in-Ok.copy c.in-Ok.ensures.cases)),
+      rw (← c.self.view_is) (opened_last _ _ _ _ c.in_ok-lo.ensures.opens),
+    )
 
 pub returns-in-Ok-clause-goes : goal.returns-in-Ok-clause-goes
-returns-in-Ok-clause-goes g c = goes_last _ _ _ _ _ _ c.requires (returns-in-Ok-clause-steps g c).1
+returns-in-Ok-clause-goes g c = goes_last _ _ _ _ _ _ c.requires (returns-in-Ok-clause-steps g c).0.1
 
 pub returns-in-Err-clause-steps : goal.returns-in-Err-clause-steps
 returns-in-Err-clause-steps g c =

@@ -1,11 +1,18 @@
-use Rattle.std.proofs.Common.{subst}
-use Rattle.blaze_table.specs.Entries.{SameEntries}
-use Rattle.blaze_table.specs.Slots.{entries_of}
+use Rattle.std.proofs.Common.{sym, subst}
+use Rattle.blaze_table.specs.Counted.{CountedEntries}
+use Rattle.blaze_table.specs.Table.{IsTable}
 use Rattle.blaze_table.proofs.Clones.{table_as}
+use Rattle.blaze_table.proofs.RangeMaps.{starts_ascend}
 use Rattle.blaze_table.proofs.table.RangeTable.clone.Goals as goal
+
+pub from_sorted-requires : goal.from_sorted-requires
+from_sorted-requires g c =
+    let eq = g.V.PartialEq.eq in
+    let copied = table_as eq g.met.V.Eq.laws g.T.Integer.low g.T.Integer.high _ _ _ c.in_ok-copy.ensures c.self.invariant in
+    starts_ascend eq g.T.Integer.low g.T.Integer.high _ copied.canonical copied.are_keys
 
 pub invariant_of-result : goal.invariant_of-result
 invariant_of-result g c =
-    let rank = g.T.Integer.rank in
-    let copied = subst (λ items. SameEntries g.V.PartialEq.eq (entries_of rank items) (entries_of rank c.in_ok-slots.slots.items)) c.deref.ensures.value c.in_ok-slots.ensures in
-    table_as g.V.PartialEq.eq g.met.V.Eq.laws g.T.Integer.low g.T.Integer.high _ _ _ copied c.self.invariant
+    let eq = g.V.PartialEq.eq in
+    subst (λ (s : CountedEntries g.row.V.Denot). IsTable eq g.T.Integer.low g.T.Integer.high (g.T.SafeLen.SafeLength.number c.self.inside.len) s.entries) (sym c.in_ok-entries.ensures)
+    (table_as eq g.met.V.Eq.laws g.T.Integer.low g.T.Integer.high _ _ _ c.in_ok-copy.ensures c.self.invariant)

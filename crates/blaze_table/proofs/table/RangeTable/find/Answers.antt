@@ -1,6 +1,6 @@
 use Rattle.std.proofs.Common.{◌≡◌, ◌∙◌, ℤ, ap, refl, Bor, Option, Some, None, option_map}
+use Rattle.blaze_table.specs.Counted.{CountedEntries}
 use Rattle.blaze_table.specs.Entries.{Entry, at, shown_entry}
-use Rattle.blaze_table.specs.Slots.{entries_of}
 use Rattle.blaze_table.proofs.Lookup.{value-entry_at}
 use Rattle.blaze_table.proofs.table.RangeTable.find.Goals as goal
 
@@ -10,9 +10,8 @@ value_shown rank shown (Some p) = refl
 
 pub returns-clause-value : goal.returns-clause-value
 returns-clause-value g c =
-    let rank = g.T.Integer.rank in
-    let k = rank c.args.key in
-    value_shown rank (λ (v : Bor g.row.V.Denot). v.now) c.shown.result
-    ∙ ap (option_map (λ (e : Entry g.row.V.Denot). e.value)) (c.shown.ensures ∙ c.slot_at.ensures)
-    ∙ value-entry_at (entries_of rank c.deref.result.now) k
-    ∙ ap (λ es. at es k) (ap (entries_of rank) c.deref.ensures.value ∙ ap (λ s. s.entries) c.self.view_is)
+    let k = g.T.Integer.rank c.args.key in
+    value_shown g.T.Integer.rank (λ (v : Bor g.row.V.Denot). v.now) c.entry_holding.result
+    ∙ ap (option_map (λ (e : Entry g.row.V.Denot). e.value)) c.entry_holding.ensures
+    ∙ value-entry_at c.self.inside.entries.entries k
+    ∙ ap (λ (s : CountedEntries g.row.V.Denot). at s.entries k) c.self.view_is

@@ -1,7 +1,8 @@
 use Rattle.std.proofs.Common.{subst}
 use Rattle.blaze_table.specs.Canonical.{IsRangeMap}
+use Rattle.blaze_table.specs.Counted.{CountedEntries}
 use Rattle.blaze_table.proofs.RangeMaps.{range_map}
 use Rattle.blaze_table.proofs.table.RangeTable.in_hand.Goals as goal
 
 pub returns : goal.returns
-returns g c = subst (λ s. IsRangeMap g.V.PartialEq.eq g.T.Integer.low g.T.Integer.high s.entries) c.self.view_is (range_map g.V.PartialEq.eq g.met.V.Eq.laws g.T.Integer.low g.T.Integer.high _ _ c.self.invariant)
+returns g c = subst (λ (s : CountedEntries g.row.V.Denot). IsRangeMap g.V.PartialEq.eq g.T.Integer.low g.T.Integer.high s.entries) c.self.view_is (range_map g.V.PartialEq.eq g.met.V.Eq.laws g.T.Integer.low g.T.Integer.high _ _ c.self.invariant)

@@ -1,7 +1,8 @@
 use Rattle.std.proofs.Common.{◌≡◌, ◌∙◌, subst, arith}
 use Rattle.std.proofs.lemmas.Int.{ints}
-use Rattle.blaze_table.specs.Entries.{at}
 use Rattle.blaze_table.specs.Count.{mapped_keys}
+use Rattle.blaze_table.specs.Counted.{CountedEntries}
+use Rattle.blaze_table.specs.Entries.{at}
 use Rattle.blaze_table.proofs.ListLaws.{lengths_mapped}
 use Rattle.blaze_table.proofs.table.RangeTable.len.Goals as goal
 
@@ -10,4 +11,4 @@ returns-clause-mapped g c =
     let low = g.T.Integer.low in
     let high = g.T.Integer.high in
     let is = c.self.invariant.counted ∙ lengths_mapped g.V.PartialEq.eq low high _ c.self.invariant.canonical c.self.invariant.are_keys in
-    subst (λ s. g.T.SafeLen.SafeLength.number c.self.inside.len ≡ mapped_keys low high (at s.entries)) c.self.view_is (omega (arith, ints, is))
+    subst (λ (s : CountedEntries g.row.V.Denot). g.T.SafeLen.SafeLength.number c.self.inside.len ≡ mapped_keys low high (at s.entries)) c.self.view_is (omega (arith, ints, is))

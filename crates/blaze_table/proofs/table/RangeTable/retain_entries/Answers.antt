@@ -1,5 +1,29 @@
+use Rattle.std.proofs.Common.{arith}
+use Rattle.std.proofs.lemmas.Int.{ints}
+use Rattle.blaze_table.proofs.Counted.{keys_among}
+use Rattle.blaze_table.proofs.Kept.{canonical_filtered, are_keys_filtered}
 use Rattle.blaze_table.proofs.RangeMaps.{range_map}
 use Rattle.blaze_table.proofs.table.RangeTable.retain_entries.Goals as goal
 
+pub count-len-requires-clause-canonical : goal.count-len-requires-clause-canonical
+count-len-requires-clause-canonical g c = canonical_filtered g.V.PartialEq.eq _ _ _ _ c.retain.ensures.entries c.self.invariant.canonical
+
+pub count-len-requires-clause-fits : goal.count-len-requires-clause-fits
+count-len-requires-clause-fits g c =
+    let eq = g.V.PartialEq.eq in
+    let bound = keys_among eq g.T.Integer.low g.T.Integer.high _ g.met.T.Integer.ranked.some_key
+    (canonical_filtered eq _ _ _ _ c.retain.ensures.entries c.self.invariant.canonical)
+    (are_keys_filtered eq g.T.Integer.low g.T.Integer.high _ _ _ _ c.retain.ensures.entries c.self.invariant.are_keys) in
+    omega (arith, ints, bound, g.met.T.Integer.has_room)
+
+pub invariant_of-self : goal.invariant_of-self
+invariant_of-self g c =
+    let eq = g.V.PartialEq.eq in
+    record {
+      canonical = canonical_filtered eq _ _ _ _ c.retain.ensures.entries c.self.invariant.canonical;
+      are_keys = are_keys_filtered eq g.T.Integer.low g.T.Integer.high _ _ _ _ c.retain.ensures.entries c.self.invariant.are_keys;
+      counted = c.count-len.ensures;
+    }
+
 pub returns-clause-range_map : goal.returns-clause-range_map
-returns-clause-range_map g c = range_map g.V.PartialEq.eq g.met.V.Eq.laws g.T.Integer.low g.T.Integer.high _ _ c.retain-len.ensures.table
+returns-clause-range_map g c = range_map g.V.PartialEq.eq g.met.V.Eq.laws g.T.Integer.low g.T.Integer.high _ _ (invariant_of-self g c)

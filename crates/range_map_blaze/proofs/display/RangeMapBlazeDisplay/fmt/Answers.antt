@@ -23,7 +23,7 @@ loop-range-preserved g c = (
   search rules,
   λ p whole known.
       let so_far = c.loop-range.invariant.3 p whole known in
-      let step = c.in-Some.ensures.steps in
+      let step = c.in-Some.ensures.steps.0 in
       let parts = split_some _ _ so_far.1 (sym (ap (entries_text g.T.Debug.debug_output g.T.Integer.of_rank g.V.Debug.debug_output c.loop-range.lead.now) step) ∙ so_far.3) in
       let rank = g.T.Integer.rank in
       let of_rank = g.T.Integer.of_rank in

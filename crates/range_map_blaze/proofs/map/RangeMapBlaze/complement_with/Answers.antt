@@ -2,9 +2,8 @@ use Rattle.std.proofs.Common.{[], ◌++◌, ◌∷◌, ◌∙◌, sym, ap, subst
 use Rattle.std.proofs.lemmas.List.{map-append}
 use Rattle.blaze_table.specs.Entries.{entry, SameEntries, shown_entry}
 use Rattle.blaze_table.specs.RangeSets.{bare_range, unit_eq}
-use Rattle.blaze_table.proofs.Clones.{same-push}
 use Rattle.range_map_blaze.proofs.Choices.{complement_of}
-use Rattle.range_map_blaze.proofs.Streams.{range_map_as}
+use Rattle.range_map_blaze.proofs.Streams.{same-push, range_map_as}
 use Rattle.range_map_blaze.proofs.Valued.{valued, valued-append, valued_map, complement_as}
 use Rattle.range_map_blaze.proofs.map.RangeMapBlaze.complement_with.Goals as goal
 
@@ -29,7 +28,7 @@ loop-range-preserved g c =
       i.0,
       i.1 ++ r ∷ [],
       i.2,
-      i.3 ∙ ap (λ es. i.1 ++ es) c.in-Some.ensures.steps ∙ sym (append_assoc i.1 (r ∷ []) c.next.new.self),
+      i.3 ∙ ap (λ es. i.1 ++ es) c.in-Some.ensures.steps.0 ∙ sym (append_assoc i.1 (r ∷ []) c.next.new.self),
       rw (more, valued-append v i.1 (r ∷ [])) (same-push g.V.PartialEq.eq (valued v i.1) (map (shown_entry g.T.Integer.rank (λ w. w)) items) e (shown_entry g.T.Integer.rank (λ w. w) x) i.4
           (sym (ap g.T.Integer.rank c.into_inner-lo.ensures.start)) (sym (ap g.T.Integer.rank c.into_inner-lo.ensures.end)) (c.requires v c.in_ok-clone.field-0 c.in_ok-clone.ensures.cases)),
     )
@@ -37,12 +36,12 @@ loop-range-preserved g c =
 pub from_canonical-requires : goal.from_canonical-requires
 from_canonical-requires g c =
     let i = c.loop-range.invariant in
-    let all = i.3 ∙ ap (λ es. i.1 ++ es) c.in-None.ensures.steps.0 ∙ append-nil i.1 in
+    let all = i.3 ∙ ap (λ es. i.1 ++ es) c.in-None.ensures.steps.0.0 ∙ append-nil i.1 in
     range_map_as g.V.PartialEq.eq g.met.V.Eq.laws g.T.Integer.low g.T.Integer.high (valued c.args.value.now i.1) _ i.4
     (valued_map g.V.PartialEq.eq g.met.V.Eq.laws c.args.value.now g.T.Integer.low g.T.Integer.high i.1 (rw all at i.2.range_map))
 
 pub returns : goal.returns
 returns g c =
     let i = c.loop-range.invariant in
-    let all = i.3 ∙ ap (λ es. i.1 ++ es) c.in-None.ensures.steps.0 ∙ append-nil i.1 in
+    let all = i.3 ∙ ap (λ es. i.1 ++ es) c.in-None.ensures.steps.0.0 ∙ append-nil i.1 in
     rw c.in_ok-table.ensures (complement_as g.V.PartialEq.eq g.met.V.Eq.laws c.args.value.now g.T.Integer.low g.T.Integer.high c.args.self.now.entries i.1 _ (rw all at i.2) i.4)

@@ -1,4 +1,4 @@
-use Rattle.std.proofs.Common.{ap, refl}
+use Rattle.std.proofs.Common.{refl}
 use Rattle.range_map_blaze.specs.Extended.{shown_point}
 use Rattle.range_map_blaze.proofs.Joinings.{underway_begun, underway_painted, underway_item, front_painted}
 use Rattle.range_map_blaze.proofs.map.RangeMapBlaze.extend_points.Goals as goal
@@ -15,13 +15,13 @@ pub returns-in_err-pending : goal.returns-in_err-pending
 returns-in_err-pending g c =
     let it = c.into_iter-key-iterator in
     front_painted g.I.IntoIterator.into_iter_gives g.I.IntoIter.Iterator.next_gives (shown_point g.T.Integer.rank) g.V.PartialEq.eq g.T.Integer.low g.T.Integer.high c.args.iter it.result _ c.loop-key.yielded _ _ _ _ c.from_residual.result
-    it.ensures.into_iter_gives c.loop-key.yielded_by c.loop-key.invariant (ap (λ s. s.entries) c.in_err-pending.ensures.err) c.from_residual.ensures.0
+    it.ensures.into_iter_gives c.loop-key.yielded_by c.loop-key.invariant c.in_err-pending.ensures.err c.from_residual.ensures.0
 
 pub returns-in_err-paint_pending : goal.returns-in_err-paint_pending
 returns-in_err-paint_pending g c =
     let it = c.into_iter-key-iterator in
     front_painted g.I.IntoIterator.into_iter_gives g.I.IntoIter.Iterator.next_gives (shown_point g.T.Integer.rank) g.V.PartialEq.eq g.T.Integer.low g.T.Integer.high c.args.iter it.result _ c.loop-key.yielded _ _ _ _ c.from_residual-in_err-paint_pending.result
-    it.ensures.into_iter_gives c.loop-key.yielded_by c.loop-key.invariant (ap (λ s. s.entries) c.in_err-paint_pending.ensures.err) c.from_residual-in_err-paint_pending.ensures.0
+    it.ensures.into_iter_gives c.loop-key.yielded_by c.loop-key.invariant c.in_err-paint_pending.ensures.err c.from_residual-in_err-paint_pending.ensures.0
 
 pub returns : goal.returns
 returns g c =

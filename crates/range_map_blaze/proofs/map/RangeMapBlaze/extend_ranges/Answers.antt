@@ -15,13 +15,13 @@ pub returns-in_err-pending : goal.returns-in_err-pending
 returns-in_err-pending g c =
     let it = c.into_iter-range-iterator in
     front_painted g.I.IntoIterator.into_iter_gives g.I.IntoIter.Iterator.next_gives (shown_range g.T.Integer.rank (λ v. v)) g.V.PartialEq.eq g.T.Integer.low g.T.Integer.high c.args.iter it.result _ c.loop-range.yielded _ _ _ _ c.from_residual.result
-    it.ensures.into_iter_gives c.loop-range.yielded_by c.loop-range.invariant (ap (λ s. s.entries) c.in_err-pending.ensures.err) c.from_residual.ensures.0
+    it.ensures.into_iter_gives c.loop-range.yielded_by c.loop-range.invariant c.in_err-pending.ensures.err c.from_residual.ensures.0
 
 pub returns-in_err-paint_pending : goal.returns-in_err-paint_pending
 returns-in_err-paint_pending g c =
     let it = c.into_iter-range-iterator in
     front_painted g.I.IntoIterator.into_iter_gives g.I.IntoIter.Iterator.next_gives (shown_range g.T.Integer.rank (λ v. v)) g.V.PartialEq.eq g.T.Integer.low g.T.Integer.high c.args.iter it.result _ c.loop-range.yielded _ _ _ _ c.from_residual-in_err-paint_pending.result
-    it.ensures.into_iter_gives c.loop-range.yielded_by c.loop-range.invariant (ap (λ s. s.entries) c.in_err-paint_pending.ensures.err) c.from_residual-in_err-paint_pending.ensures.0
+    it.ensures.into_iter_gives c.loop-range.yielded_by c.loop-range.invariant c.in_err-paint_pending.ensures.err c.from_residual-in_err-paint_pending.ensures.0
 
 pub returns : goal.returns
 returns g c =

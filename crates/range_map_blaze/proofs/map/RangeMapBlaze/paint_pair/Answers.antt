@@ -1,4 +1,4 @@
-use Rattle.std.proofs.Common.{[], ◌∷◌, ap, subst, arith}
+use Rattle.std.proofs.Common.{[], ◌∷◌, subst, arith}
 use Rattle.std.proofs.lemmas.Int.{ints}
 use Rattle.range_map_blaze.specs.Extended.{IsExtended}
 use Rattle.range_map_blaze.specs.Underway.{shown_pair}
@@ -8,7 +8,7 @@ use Rattle.range_map_blaze.proofs.map.RangeMapBlaze.paint_pair.Goals as goal
 pub returns-in_ok-paint-clause-ok : goal.returns-in_ok-paint-clause-ok
 returns-in_ok-paint-clause-ok g c =
     subst (λ s. IsExtended g.V.PartialEq.eq g.T.Integer.low g.T.Integer.high (shown_pair g.T.Integer.rank c.args.pair ∷ []) s.entries c.paint.new.self.entries) c.self.view_is
-    (extended_one g.V.PartialEq.eq g.met.V.Eq.laws g.T.Integer.low g.T.Integer.high (shown_pair g.T.Integer.rank c.args.pair) _ _ c.in_ok-paint.ensures.ok (grind (arith, ints, c.is_at_most.ensures, c.if-is_at_most.true)) (λ i. ap (λ s. s.entries) (c.in_ok-paint.ensures.inside i).1))
+    (extended_one g.V.PartialEq.eq g.met.V.Eq.laws g.T.Integer.low g.T.Integer.high (shown_pair g.T.Integer.rank c.args.pair) _ _ c.in_ok-paint.ensures.ok (grind (arith, ints, c.is_at_most.ensures, c.if-is_at_most.true)) (λ i. (c.in_ok-paint.ensures.inside i).1))
 
 pub returns-else-is_at_most-clause-ok : goal.returns-else-is_at_most-clause-ok
 returns-else-is_at_most-clause-ok g c =

@@ -4,8 +4,8 @@ use Rattle.blaze_table.specs.Entries.{at}
 use Rattle.blaze_table.specs.Gap.{IsGap}
 use Rattle.range_map_blaze.proofs.map.RangeMapBlaze.range_or_gap_at.Goals as goal
 
-pub returns-in-None : goal.returns-in-None
-returns-in-None g c =
+pub returns-in-None-clause-entry : goal.returns-in-None-clause-entry
+returns-in-None-clause-entry g c =
     let rank = g.T.Integer.rank in
     let low = g.T.Integer.low in
     let high = g.T.Integer.high in

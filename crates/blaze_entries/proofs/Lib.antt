@@ -1,0 +1,13 @@
+pub mod Ascending
+pub mod Changes
+pub mod Halves
+pub mod Held
+pub mod Lent
+pub mod Moves
+pub mod NodeLists
+pub mod Views
+pub mod Steps
+pub mod Collected
+pub mod Scans
+pub mod InTurn
+pub mod Asked

@@ -1,0 +1,101 @@
+-- What a look at the last of the nodes that are left says, and what a walk has after it.
+use Rattle.std.proofs.Common.{◌≡◌, ℕ, ◌+◌, ◌<◌, length, ℤ, pos, ◌+ℤ◌, ◌-ℤ◌, ◌≤ℤ◌, Bool, true, false, cond, List, [], ◌∷◌, ◌++◌, Option, Some, None, ◌∙◌, sym, ap, arith, length-append}
+use Rattle.std.specs.Prelude.{MatchOption, OnSome, int_lt, int_le, reverse}
+use Rattle.std.proofs.lemmas.Int.{ints}
+use Rattle.std.specs.Option.{option_map}
+use Rattle.std.proofs.lemmas.List.{length-map, reverse-append}
+use Rattle.blaze_entries.specs.Entries.{Entry}
+use Rattle.blaze_entries.specs.Found.{found_in, found_of}
+use Rattle.blaze_entries.specs.Places.{held, full, places, place_of, AreFull}
+use Rattle.blaze_entries.specs.Overlap.{later, earlier, shared, overlap}
+use Rattle.blaze_entries.specs.Scanned.{Seen, seen, walked, answers, walked_keys}
+use Rattle.blaze_entries.specs.declared.found.Found.{Found}
+use Rattle.blaze_entries.specs.declared.nodes.EndValue.{EndValue}
+
+-- what the last entry's look says
+pub found_last : {T V : Type 0} (rank : T → ℤ) (eq : V → V → Bool) (v : V) (r : Option (Found T)) (o : Option (Entry V)) (es fs : List (Entry V))
+    → option_map (found_of rank) r ≡ option_map (found_in eq v) o → MatchOption o ((es ≡ []) × (fs ≡ [])) (λ e. es ≡ fs ++ e ∷ [])
+    → MatchOption r (es ≡ []) (λ f. (e : Entry V) × (found_of rank f ≡ found_in eq v e) × (es ≡ fs ++ e ∷ []))
+found_last rank eq v None None es fs q h = h.0
+found_last rank eq v None (Some e) es fs q h = cc
+found_last rank eq v (Some f) None es fs q h = cc
+found_last rank eq v (Some f) (Some e) es fs q h = (e, cc, h)
+
+-- as many nodes as entries
+pub length-nodes : {T V : Type 0} (rank : T → ℤ) (m : List (T × EndValue T (Option V))) → AreFull (places rank m) → length m ≡ length (full (places rank m))
+length-nodes rank m h = sym (length-map m (place_of rank)) ∙ ap length h.held ∙ length-map (full (places rank m)) held
+
+pub shorter_last : {A V : Type 0} (P : A → Entry V → Type 0) (r : Option A) (es fs : List (Entry V)) (m n : ℕ) → MatchOption r (es ≡ []) (λ f. (e : Entry V) × P f e × (es ≡ fs ++ e ∷ []))
+    → m ≡ length fs → n ≡ length es → OnSome r (m < n)
+shorter_last P None es fs m n h p q = tt
+shorter_last P (Some f) es fs m n h p q =
+    let l : length es ≡ length fs + 1 = ap length h.2 ∙ length-append fs (h.0 ∷ []) in
+    omega arith
+
+-- what ends a list begins it in reverse
+pub down_from : {X : Type 0} (x : X) (xs ys : List X) → xs ≡ ys ++ x ∷ [] → reverse xs ≡ x ∷ reverse ys
+down_from x xs ys q = ap reverse q ∙ reverse-append ys (x ∷ [])
+
+up_to_keys : (a b : ℤ) → pos 0 ≤ℤ cond (int_le a b) ((b -ℤ a) +ℤ pos 1) (pos 0)
+up_to_keys a b = grind (arith, ints)
+
+pub shared_keys : (l h a b : ℤ) → pos 0 ≤ℤ shared l h a b
+shared_keys l h a b = up_to_keys (later a l) (earlier b h)
+
+module _ {V : Type 0} (l h : ℤ) where
+  pub some_walked : (es : List (Entry V)) → pos 0 ≤ℤ walked_keys l h es
+  some_walked [] = omega (arith, ints)
+  some_walked (e ∷ es) =
+      elim (int_lt e.lo l) as (λ t. pos 0 ≤ℤ (overlap l h e +ℤ cond t (pos 0) (walked_keys l h es))) [
+        | true ↦ omega (arith, ints, shared_keys l h e.lo e.hi)
+        | false ↦ omega (arith, ints, shared_keys l h e.lo e.hi, some_walked es)
+      ]
+
+  -- a walk over es, of which f is seen first, and then the entries fs
+  module _ (eq : V → V → Bool) (v : V) (f : ℤ × ℤ × Bool) (e : Entry V) (is : f ≡ found_in eq v e) (es fs : List (Entry V)) (parts : es ≡ e ∷ fs) where
+    start : f.0 ≡ e.lo
+    start = ap (λ (t : ℤ × ℤ × Bool). t.0) is
+
+    keys : shared l h f.0 f.1 ≡ overlap l h e
+    keys = ap (λ (t : ℤ × ℤ × Bool). shared l h t.0 t.1) is
+
+    pub step_fits : (len : ℤ) → walked_keys l h es ≤ℤ len → shared l h f.0 f.1 ≤ℤ len
+    step_fits len room =
+        let all = ap (walked_keys l h) parts in
+        elim (int_lt e.lo l) as (λ t. walked_keys l h es ≡ overlap l h e +ℤ cond t (pos 0) (walked_keys l h fs) → shared l h f.0 f.1 ≤ℤ len) [
+          | true ↦ λ q. omega (arith, ints, keys, room)
+          | false ↦ λ q. omega (arith, ints, keys, room, some_walked fs)
+        ] all
+
+    -- it starts below the range
+    module _ (under : int_lt f.0 l ≡ true) where
+      here : int_lt e.lo l ≡ true
+      here = ap (λ x. int_lt x l) (sym start) ∙ under
+
+      pub last_walked : (s : Seen) → walked eq v l h s es ≡ seen l h s f
+      last_walked s = ap (walked eq v l h s) parts ∙ ap (λ b. cond b (seen l h s (found_in eq v e)) (walked eq v l h (seen l h s (found_in eq v e)) fs)) here ∙ ap (seen l h s) (sym is)
+
+      pub last_answers : answers l es ≡ 1
+      last_answers = ap (answers l) parts ∙ ap (λ b. cond b 1 (answers l fs + 1)) here
+
+      pub last_keys : walked_keys l h es ≡ shared l h f.0 f.1
+      last_keys =
+          let all = ap (walked_keys l h) parts ∙ ap (λ b. overlap l h e +ℤ cond b (pos 0) (walked_keys l h fs)) here in
+          omega (arith, ints, all, keys)
+
+    -- it does not
+    module _ (over : int_lt f.0 l ≡ false) where
+      here_not : int_lt e.lo l ≡ false
+      here_not = ap (λ x. int_lt x l) (sym start) ∙ over
+
+      pub next_walked : (s : Seen) → walked eq v l h s es ≡ walked eq v l h (seen l h s f) fs
+      next_walked s = ap (walked eq v l h s) parts ∙ ap (λ b. cond b (seen l h s (found_in eq v e)) (walked eq v l h (seen l h s (found_in eq v e)) fs)) here_not
+          ∙ ap (λ t. walked eq v l h (seen l h s t) fs) (sym is)
+
+      pub next_answers : answers l es ≡ answers l fs + 1
+      next_answers = ap (answers l) parts ∙ ap (λ b. cond b 1 (answers l fs + 1)) here_not
+
+      pub next_keys : walked_keys l h es ≡ shared l h f.0 f.1 +ℤ walked_keys l h fs
+      next_keys =
+          let all = ap (walked_keys l h) parts ∙ ap (λ b. overlap l h e +ℤ cond b (pos 0) (walked_keys l h fs)) here_not in
+          omega (arith, ints, all, keys)

@@ -1,0 +1,16 @@
+use Rattle.std.proofs.Common.{map, sym, subst, ◌∙◌}
+use Rattle.blaze_entries.specs.Places.{node_of}
+use Rattle.blaze_entries.specs.Starts.{StartsAscend}
+use Rattle.blaze_entries.proofs.Collected.{collected, places_of_nodes}
+use Rattle.blaze_entries.proofs.Held.{starts_of_held}
+use Rattle.blaze_entries.proofs.build.tree_of.Goals as goal
+
+pub returns : goal.returns
+returns g c =
+    let rank = g.T.Integer.rank in
+    let low = g.T.Integer.low in
+    let high = g.T.Integer.high in
+    let items = c.args.entries.items in
+    collected rank g.T.Integer.of_rank low high g.T.Ord.cmp g.T.PartialEq.eq g.met.T.Integer.ranked g.met.T.Ord.total (map node_of items) c.in_ok-tree.tree
+    (subst (StartsAscend low high) (sym (places_of_nodes rank items)) (starts_of_held low high _ c.requires))
+    c.in_ok-tree.ensures c.starts_in_hand.ensures ∙ places_of_nodes rank items

@@ -1,0 +1,24 @@
+use Rattle.std.proofs.Common.{◌≡◌, ◌∙◌, subst}
+use Rattle.std.specs.Option.{option_map}
+use Rattle.blaze_entries.specs.Counted.{CountedEntries}
+use Rattle.blaze_entries.specs.Found.{found_in, found_of}
+use Rattle.blaze_entries.specs.Places.{places, full}
+use Rattle.blaze_entries.specs.Starts.{first_from}
+use Rattle.blaze_entries.proofs.Held.{places_ascend}
+use Rattle.blaze_entries.proofs.Lent.{full_lent, found_from}
+use Rattle.blaze_entries.proofs.counted.Counted.at_or_above.Goals as goal
+
+pub node_at_or_above-requires : goal.node_at_or_above-requires
+node_at_or_above-requires g c = places_ascend g.T.Integer.low g.T.Integer.high _ c.self.invariant
+
+pub found-requires : goal.found-requires
+found-requires g c =
+    let ps = places g.T.Integer.rank c.self.inside.tree.entries in
+    full_lent g.T.Integer.rank c.node_at_or_above.result (first_from (g.T.Integer.rank c.args.key) (full ps))
+    (c.node_at_or_above.ensures ∙ found_from g.T.Integer.low g.T.Integer.high (g.T.Integer.rank c.args.key) ps c.self.invariant)
+
+pub returns-clause-found : goal.returns-clause-found
+returns-clause-found g c =
+    let ps = places g.T.Integer.rank c.self.inside.tree.entries in
+    subst (λ (s : CountedEntries g.row.V.Denot). option_map (found_of g.T.Integer.rank) c.found.result ≡ option_map (found_in g.V.PartialEq.eq c.args.value.now) (first_from (g.T.Integer.rank c.args.key) s.entries)) c.self.view_is
+    (c.found.ensures (first_from (g.T.Integer.rank c.args.key) (full ps)) (c.node_at_or_above.ensures ∙ found_from g.T.Integer.low g.T.Integer.high (g.T.Integer.rank c.args.key) ps c.self.invariant))

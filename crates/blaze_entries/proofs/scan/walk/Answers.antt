@@ -1,0 +1,65 @@
+use Rattle.std.proofs.Common.{◌≡◌, ◌+◌, pos, ◌+ℤ◌, ◌≤ℤ◌, arith, ap, sym, subst, ◌∙◌}
+use Rattle.std.proofs.lemmas.Int.{ints}
+use Rattle.std.specs.Prelude.{reverse, map}
+use Rattle.blaze_entries.specs.Places.{places, full, held}
+use Rattle.blaze_entries.specs.Scanned.{seen_of, unseen, walked, answers, walked_keys}
+use Rattle.blaze_entries.specs.Starts.{below}
+use Rattle.blaze_entries.proofs.Held.{places_ascend, full_of, full_held, below-held}
+use Rattle.blaze_entries.proofs.NodeLists.{places_between}
+use Rattle.blaze_entries.proofs.Scans.{down_from, step_fits, last_keys, next_walked, next_answers, next_keys}
+use Rattle.blaze_entries.proofs.scan.walk.Goals as goal
+
+pub loop-found-init : goal.loop-found-init
+loop-found-init g c =
+    let rank = g.T.Integer.rank in
+    let low = g.T.Integer.low in
+    let high = g.T.Integer.high in
+    let k = rank c.args.top +ℤ pos 1 in
+    let ps = places rank c.args.tree.now.entries in
+    let q : places rank c.range-nodes.result ≡ map held (below k (full ps)) =
+    ap (places rank) (c.range-nodes.ensures.between tt)
+    ∙ places_between rank g.T.Ord.cmp low high g.met.T.Integer.ranked.order c.args.top c.in_hand.ensures.from c.in_hand.ensures.to c.args.tree.now.entries (places_ascend low high ps c.requires.held)
+    ∙ ap (below k) c.requires.held.full.held ∙ below-held k (full ps) in
+    let e = full_of (places rank c.range-nodes.result) (below k (full ps)) q in
+    record {
+      full = full_held (places rank c.range-nodes.result) (below k (full ps)) q;
+      plan = ap (λ s. walked g.V.PartialEq.eq c.args.value.now (rank c.args.lo) (rank c.args.hi) s (reverse (full (places rank c.range-nodes.result)))) c.new-plan.ensures
+          ∙ ap (λ es. walked g.V.PartialEq.eq c.args.value.now (rank c.args.lo) (rank c.args.hi) (unseen (rank c.args.hi)) (reverse es)) e;
+      room = subst (λ es. walked_keys (rank c.args.lo) (rank c.args.hi) (reverse es) ≤ℤ pos (g.T.SafeLen.SafeLength.number c.args.len)) (sym e) c.requires.len;
+      left = ap (λ es. pos (g.T.SafeLen.SafeLength.number c.args.len) +ℤ walked_keys (rank c.args.lo) (rank c.args.hi) (reverse es)) (sym e);
+      looks = ap (λ es. c.args.looks.now.number + answers (rank c.args.lo) (reverse es)) e;
+    }
+
+pub less-left-requires : goal.less-left-requires
+less-left-requires g c =
+    let rank = g.T.Integer.rank in
+    let seen = c.in-Some.ensures.found in
+    step_fits (rank c.args.lo) (rank c.args.hi) g.V.PartialEq.eq c.args.value.now _ seen.0 seen.1 _ _ (down_from seen.0 _ _ seen.2) (pos (g.T.SafeLen.SafeLength.number c.loop-found.left)) c.loop-found.invariant.room
+
+pub returns-then-is_below-clause-len : goal.returns-then-is_below-clause-len
+returns-then-is_below-clause-len g c =
+    let rank = g.T.Integer.rank in
+    let seen = c.in-Some.ensures.found in
+    let keys = last_keys (rank c.args.lo) (rank c.args.hi) g.V.PartialEq.eq c.args.value.now _ seen.0 seen.1 _ _ (down_from seen.0 _ _ seen.2) (sym c.is_below.ensures ∙ c.if-is_below.true) in
+    omega (arith, ints, keys, c.less-left.ensures, c.loop-found.invariant.left)
+
+pub loop-found-preserved : goal.loop-found-preserved
+loop-found-preserved g c =
+    let rank = g.T.Integer.rank in
+    let eq = g.V.PartialEq.eq in
+    let l = rank c.args.lo in
+    let h = rank c.args.hi in
+    let v = c.args.value.now in
+    let seen = c.in-Some.ensures.found in
+    let down = down_from seen.0 _ _ seen.2 in
+    let over = sym c.is_below.ensures ∙ c.if-is_below.false in
+    let keys = next_keys l h eq v _ seen.0 seen.1 _ _ down over in
+    let looks = next_answers l h eq v _ seen.0 seen.1 _ _ down over in
+    record {
+      full = c.in-Some.ensures.full;
+      plan = ap (λ s. walked eq v l h s (reverse (full (places rank c.next_found.new.nodes)))) c.past-plan.ensures
+          ∙ sym (next_walked l h eq v _ seen.0 seen.1 _ _ down over (seen_of rank c.loop-found.plan)) ∙ c.loop-found.invariant.plan;
+      looks = omega (arith, looks, c.in-Some.ensures.looked, c.loop-found.invariant.looks);
+      room = omega (arith, ints, keys, c.less-left.ensures, c.loop-found.invariant.room);
+      left = omega (arith, ints, keys, c.less-left.ensures, c.loop-found.invariant.left);
+    }

@@ -1,0 +1,49 @@
+-- A walk down the entries from above a range, and what it has seen.
+use Rattle.std.specs.Prelude.{ℕ, ◌+◌, ℤ, pos, ◌+ℤ◌, int_lt, int_le, Bool, if◌then◌else◌, List, [], ◌∷◌, Option, Some, None}
+use Rattle.std.specs.Option.{option_map}
+use Rattle.blaze_entries.specs.Entries.{Entry}
+use Rattle.blaze_entries.specs.Found.{found_in, found_of}
+use Rattle.blaze_entries.specs.Overlap.{overlap}
+use Rattle.blaze_entries.specs.declared.scan.Plan.{Plan}
+
+-- by the ranks: where the range ends once it is joined with what is above it, the ends of the entry that keeps a rest above
+-- the range, the entry that starts where the range does, and the entry that starts below the range
+pub record Seen : Type 0 where
+  pub end : ℤ
+  pub rest : Option (ℤ × ℤ)
+  pub first : Option (ℤ × ℤ × Bool)
+  pub left : Option (ℤ × ℤ × Bool)
+
+-- of a range that ends at h, before the first entry
+abbrev pub unseen : ℤ → Seen
+unseen h = record { end = h; rest = None; first = None; left = None }
+
+abbrev pub seen_of : {T : Type 0} → (T → ℤ) → Plan T → Seen
+seen_of rank p = record { end = rank p.end; rest = option_map (λ r. (rank r.0, rank r.1)) p.rest; first = option_map (found_of rank) p.first; left = option_map (found_of rank) p.left }
+
+-- after an entry that goes on above h: its end where the values are equal, else its rest
+abbrev pub seen_end : ℤ → Seen → ℤ × ℤ × Bool → Seen
+seen_end h s t = if int_lt h t.1 then (if t.2 then record s { end = t.1 } else (if int_le t.0 h then record s { rest = Some (t.0, t.1) } else s)) else s
+
+-- after an entry that starts at l, or below it
+abbrev pub seen_start : ℤ → Seen → ℤ × ℤ × Bool → Seen
+seen_start l s t = if int_lt t.0 l then record s { left = Some t } else (if int_le t.0 l then record s { first = Some t } else s)
+
+abbrev pub seen : ℤ → ℤ → Seen → ℤ × ℤ × Bool → Seen
+seen l h s t = seen_start l (seen_end h s t) t
+
+module _ {V : Type 0} (eq : V → V → Bool) (v : V) (l h : ℤ) where
+  -- the entries in the order of the walk: it ends behind the first that starts below l
+  abbrev pub walked : Seen → List (Entry V) → Seen
+  walked s [] = s
+  walked s (e ∷ es) = if int_lt e.lo l then seen l h s (found_in eq v e) else walked (seen l h s (found_in eq v e)) es
+
+-- how many answers it takes: one for each entry, and `None` where no entry is left
+abbrev pub answers : {V : Type 0} → ℤ → List (Entry V) → ℕ
+answers l [] = 1
+answers l (e ∷ es) = if int_lt e.lo l then 1 else answers l es + 1
+
+-- how many of the keys of the walk's entries lie from l up to h
+abbrev pub walked_keys : {V : Type 0} → ℤ → ℤ → List (Entry V) → ℤ
+walked_keys l h [] = pos 0
+walked_keys l h (e ∷ es) = overlap l h e +ℤ (if int_lt e.lo l then pos 0 else walked_keys l h es)

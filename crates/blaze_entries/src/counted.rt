@@ -1,0 +1,425 @@
+//! The entries with their counters. Each look here is counted: there is no other way to read an entry.
+ghost use Rattle.std.specs.Prelude.{◌≡◌, ◌+◌, [], pos, ◌+ℤ◌, ◌≤ℤ◌, length, map, reverse, Some, None, IsSome, IfSome, OnOk, OnErr, IfOk};
+ghost use Rattle.std.specs.List.Retain.{IsFiltered};
+ghost use Rattle.std.specs.Option.{option_map};
+ghost use Rattle.blaze_entries.specs.Answers.{AnswersAt, IsCallableAtEach};
+ghost use Rattle.blaze_entries.specs.Entries.{entry, shown_entry};
+ghost use Rattle.blaze_entries.specs.Counted.{uncounted};
+ghost use Rattle.blaze_entries.specs.Found.{found_in, found_of, range_in, ranks_of};
+ghost use Rattle.blaze_entries.specs.Scanned.{seen_of, unseen, walked, answers, walked_keys};
+ghost use Rattle.blaze_entries.specs.Starts.{StartsAscend, below, from, last_below, first_from, start_at, with_entry, without, with_end, with_end_value, IsStartMoved, IsFrontReplaced, IsCloneInserted};
+
+use crate::build::tree_of;
+use crate::count::Count;
+use crate::found::Found;
+use crate::into_iter::IntoIter;
+use crate::nodes::{
+    EndValue, insert, move_node, node_at, node_at_or_above, node_at_or_below, node_below, remove,
+    replace, replace_front, set_end, split_off,
+};
+use crate::places::{cloned, found, range_of, value_of};
+use crate::retain::retain;
+use crate::scan::{Plan, next_or_last, walk};
+use blaze_int::Integer;
+use std::alloc::{AllocError, Global};
+use std::collections::BTreeMap;
+use std::marker::Model;
+use std::ops::RangeInclusive;
+
+/// Entries by their starts, and how much work was done on them.
+#[derive(Drop)]
+pub struct Counted<T: Integer, V> {
+    pub(crate) tree: BTreeMap<T, EndValue<T, Option<V>>>,
+    alloc: Global,
+    looks: Count,
+    put_in: Count,
+    taken_out: Count,
+}
+
+impl<T: Integer, V> Model for Counted<T, V> {
+    ghost use Rattle.blaze_entries.specs.Counted.{CountedEntries, counted_code};
+
+    ghost Value = { CountedEntries V };
+
+    ghost coded = { counted_code V.code };
+
+    ghost use Rattle.blaze_entries.specs.Places.{places, entries_of, AreHeld};
+
+    ghost view = { λ c. record {
+      entries = entries_of T.rank c.tree.entries;
+      looks = c.looks.number;
+      put_in = c.put_in.number;
+      taken_out = c.taken_out.number;
+    } };
+
+    ghost invariant = { λ c. AreHeld T.low T.high (places T.rank c.tree.entries) };
+}
+
+impl<T: Integer, V> Counted<T, V> {
+    /// No entries.
+    pub fn new(alloc: Global) -> Self
+        ensures { result ≡ uncounted [] }
+    {
+        Counted {
+            tree: BTreeMap::new(alloc),
+            alloc,
+            looks: Count::new(),
+            put_in: Count::new(),
+            taken_out: Count::new(),
+        }
+    }
+
+    /// The allocator of the entries' memory.
+    pub fn allocator(&self) -> Global {
+        self.alloc
+    }
+
+    /// The number of entries.
+    pub fn len(&self) -> usize
+        ensures { result ≡ length self.now.entries }
+    {
+        self.tree.len()
+    }
+
+    /// Keeps the entries that start below a key, and answers the others.
+    pub(crate) fn split_off(&mut self, key: T) -> Result<Self, AllocError>
+        ensures below { OnOk result (self.new
+            ≡ record self.old { entries = below (T.rank key) self.old.entries }) }
+        ensures from { IfOk result (λ others. others
+            ≡ uncounted (from (T.rank key) self.old.entries)) }
+        ensures err { OnErr result (self.new ≡ self.old) }
+    {
+        key.in_hand();
+        let tree = split_off(&mut self.tree, key)?;
+        Ok(Counted {
+            tree,
+            alloc: self.alloc,
+            looks: Count::new(),
+            put_in: Count::new(),
+            taken_out: Count::new(),
+        })
+    }
+
+    /// Does nothing; its contract says that the starts are keys and ascend.
+    pub fn in_hand(&self)
+        ensures { StartsAscend T.low T.high self.now.entries }
+    {
+        let _ = &self.tree;
+    }
+
+    /// The first and last key of the entry with the greatest start up to a key.
+    pub fn range_at_or_below(&mut self, key: T) -> Option<(T, T)>
+        ensures found { option_map (ranks_of T.rank) result
+            ≡ option_map range_in (last_below (T.rank key +ℤ pos 1) self.old.entries) }
+        ensures looked { self.new ≡ record self.old { looks = self.old.looks + 1 } }
+    {
+        self.looks = self.looks.after();
+        range_of(node_at_or_below(&self.tree, key))
+    }
+
+    /// The first and last key of the entry with the least start from a key on.
+    pub fn range_at_or_above(&mut self, key: T) -> Option<(T, T)>
+        ensures found { option_map (ranks_of T.rank) result
+            ≡ option_map range_in (first_from (T.rank key) self.old.entries) }
+        ensures looked { self.new ≡ record self.old { looks = self.old.looks + 1 } }
+    {
+        self.looks = self.looks.after();
+        range_of(node_at_or_above(&self.tree, key))
+    }
+
+    /// Moves the end of the entry at a start.
+    pub fn set_end(&mut self, start: T, end: T)
+        ensures { self.new
+            ≡ record self.old { entries = with_end (T.rank start) (T.rank end) self.old.entries } }
+    {
+        set_end(&mut self.tree, start, end);
+    }
+}
+
+impl<T: Integer, V: Drop> Counted<T, V> {
+    /// The entries of a list whose starts ascend: first key, last key and value. Refused memory drops the list.
+    pub(crate) fn from_sorted(alloc: Global, entries: Vec<(T, T, V)>) -> Result<Self, AllocError>
+        requires { StartsAscend T.low T.high (map (shown_entry T.rank (λ v. v)) entries.items) }
+        ensures { IfOk result (λ counted. counted
+            ≡ uncounted (map (shown_entry T.rank (λ v. v)) entries.items)) }
+    {
+        let tree = tree_of(alloc, entries)?;
+        Ok(Counted {
+            tree,
+            alloc,
+            looks: Count::new(),
+            put_in: Count::new(),
+            taken_out: Count::new(),
+        })
+    }
+
+    /// Has the entries of a list whose starts ascend in place of its own: first key, last key and value. No entry is counted.
+    pub(crate) fn set_sorted(&mut self, entries: Vec<(T, T, V)>) -> Result<(), AllocError>
+        requires { StartsAscend T.low T.high (map (shown_entry T.rank (λ v. v)) entries.items) }
+        ensures ok { OnOk result (self.new
+            ≡ record self.old { entries = map (shown_entry T.rank (λ v. v)) entries.items }) }
+        ensures err { OnErr result (self.new ≡ self.old) }
+    {
+        let tree = tree_of(self.alloc, entries)?;
+        self.tree = tree;
+        Ok(())
+    }
+
+    /// Keeps the entries that a closure answers true at: one call for each, ascending. No entry is counted.
+    pub(crate) fn retain<F: FnMut(&RangeInclusive<T>, &V) -> bool>(&mut self, f: F)
+        requires { IsCallableAtEach T.rank F.FnMut f self.old.entries }
+        ensures entries { IsFiltered (AnswersAt T.rank F.FnMut) f self.old.entries self.new.entries }
+        ensures uncounted { self.new ≡ record self.old { entries = self.new.entries } }
+    {
+        retain(&mut self.tree, f);
+    }
+
+    /// The entries by value.
+    pub(crate) fn into_entries(self) -> IntoIter<T, V>
+        ensures { result ≡ self.entries }
+    {
+        let Counted { tree, .. } = self;
+        IntoIter::new(tree.into_iter())
+    }
+
+    /// Takes all entries out. No entry is counted.
+    pub fn clear(&mut self)
+        ensures { self.new ≡ record self.old { entries = [] } }
+    {
+        self.tree.clear();
+    }
+
+    /// Gives the entry at a start another end and value.
+    pub fn replace(&mut self, start: T, end: T, value: V)
+        ensures { self.new
+            ≡ record self.old {
+              entries = with_end_value (T.rank start)
+                  (T.rank end) value self.old.entries;
+            } }
+    {
+        let value = Some(value);
+        replace(&mut self.tree, start, EndValue { end, value });
+    }
+
+    /// Puts an entry in, at a start where none is.
+    pub fn insert(&mut self, start: T, end: T, value: V) -> Result<(), AllocError>
+        requires { start_at (T.rank start) self.old.entries ≡ None }
+        ensures ok { OnOk result (self.new
+            ≡ record self.old {
+              entries = with_entry
+                  (entry (T.rank start) (T.rank end) value) self.old.entries;
+              put_in = self.old.put_in + 1;
+            }) }
+        ensures longer { OnOk result (length self.new.entries ≡ length self.old.entries + 1) }
+        ensures err { OnErr result (self.new ≡ self.old) }
+    {
+        self.insert_uncounted(start, end, value)?;
+        self.put_in = self.put_in.after();
+        Ok(())
+    }
+
+    /// The same as `insert`, and nothing is counted.
+    fn insert_uncounted(&mut self, start: T, end: T, value: V) -> Result<(), AllocError>
+        requires { start_at (T.rank start) self.old.entries ≡ None }
+        ensures ok { OnOk result (self.new
+            ≡ record self.old {
+              entries = with_entry
+                  (entry (T.rank start) (T.rank end) value) self.old.entries;
+            }) }
+        ensures longer { OnOk result (length self.new.entries ≡ length self.old.entries + 1) }
+        ensures err { OnErr result (self.new ≡ self.old) }
+    {
+        start.in_hand();
+        let value = Some(value);
+        insert(&mut self.tree, start, EndValue { end, value })?;
+        Ok(())
+    }
+
+    /// Takes the entry at a start out, and answers its value.
+    pub fn remove(&mut self, start: T) -> V
+        requires { IsSome (start_at (T.rank start) self.old.entries) }
+        ensures entries { self.new
+            ≡ record self.old {
+              entries = without (T.rank start) self.old.entries;
+              taken_out = self.old.taken_out + 1;
+            } }
+        ensures value { option_map (λ e. e.value) (start_at (T.rank start) self.old.entries)
+            ≡ Some result }
+        ensures shorter { length self.new.entries + 1 ≡ length self.old.entries }
+    {
+        self.taken_out = self.taken_out.after();
+        self.remove_uncounted(start)
+    }
+
+    /// The same as `remove`, and nothing is counted.
+    pub(crate) fn remove_uncounted(&mut self, start: T) -> V
+        requires { IsSome (start_at (T.rank start) self.old.entries) }
+        ensures entries { self.new
+            ≡ record self.old { entries = without (T.rank start) self.old.entries } }
+        ensures value { option_map (λ e. e.value) (start_at (T.rank start) self.old.entries)
+            ≡ Some result }
+        ensures shorter { length self.new.entries + 1 ≡ length self.old.entries }
+    {
+        value_of(remove(&mut self.tree, start))
+    }
+
+    /// Moves the entry at a start to another start, where none is, with its end and value.
+    pub fn move_start(&mut self, from: T, to: T) -> Result<(), AllocError>
+        requires present { IsSome (start_at (T.rank from) self.old.entries) }
+        requires absent { start_at (T.rank to) self.old.entries ≡ None }
+        ensures ok { OnOk result
+            (IsStartMoved (T.rank from) (T.rank to) self.old.entries self.new.entries) }
+        ensures counted { OnOk result (self.new
+            ≡ record self.old {
+              entries = self.new.entries;
+              put_in = self.old.put_in + 1;
+              taken_out = self.old.taken_out + 1;
+            }) }
+        ensures length { OnOk result (length self.new.entries ≡ length self.old.entries) }
+        ensures err { OnErr result (self.new ≡ self.old) }
+    {
+        to.in_hand();
+        let place = EndValue {
+            end: to,
+            value: None,
+        };
+        move_node(&mut self.tree, from, to, place)?;
+        self.put_in = self.put_in.after();
+        self.taken_out = self.taken_out.after();
+        Ok(())
+    }
+
+    /// Replaces the front of the entry at a start: it has another end and value, and what it had is an entry from another
+    /// start on, where none is.
+    pub fn replace_front(&mut self, start: T, end: T, value: V, to: T) -> Result<(), AllocError>
+        requires present { IsSome (start_at (T.rank start) self.old.entries) }
+        requires absent { start_at (T.rank to) self.old.entries ≡ None }
+        ensures ok { OnOk result
+            (IsFrontReplaced (T.rank start) (T.rank end) value
+            (T.rank to) self.old.entries self.new.entries) }
+        ensures counted { OnOk result (self.new
+            ≡ record self.old { entries = self.new.entries; put_in = self.old.put_in + 1 }) }
+        ensures longer { OnOk result (length self.new.entries ≡ length self.old.entries + 1) }
+        ensures err { OnErr result (self.new ≡ self.old) }
+    {
+        to.in_hand();
+        let value = Some(value);
+        let place = EndValue {
+            end: to,
+            value: None,
+        };
+        replace_front(&mut self.tree, start, EndValue { end, value }, to, place)?;
+        self.put_in = self.put_in.after();
+        Ok(())
+    }
+}
+
+impl<T: Integer, V: Eq> Counted<T, V> {
+    /// The entry with the greatest start below a key.
+    pub fn below(&mut self, key: T, value: &V) -> Option<Found<T>>
+        ensures found { option_map (found_of T.rank) result
+            ≡ option_map (found_in V.eq value.now) (last_below (T.rank key) self.old.entries) }
+        ensures looked { self.new ≡ record self.old { looks = self.old.looks + 1 } }
+    {
+        self.looks = self.looks.after();
+        found(node_below(&self.tree, key), value)
+    }
+
+    /// The entry with the greatest start up to a key.
+    pub fn at_or_below(&mut self, key: T, value: &V) -> Option<Found<T>>
+        ensures found { option_map (found_of T.rank) result
+            ≡ option_map (found_in V.eq value.now)
+            (last_below (T.rank key +ℤ pos 1) self.old.entries) }
+        ensures looked { self.new ≡ record self.old { looks = self.old.looks + 1 } }
+    {
+        self.looks = self.looks.after();
+        found(node_at_or_below(&self.tree, key), value)
+    }
+
+    /// The entry with the least start from a key on.
+    pub fn at_or_above(&mut self, key: T, value: &V) -> Option<Found<T>>
+        ensures found { option_map (found_of T.rank) result
+            ≡ option_map (found_in V.eq value.now) (first_from (T.rank key) self.old.entries) }
+        ensures looked { self.new ≡ record self.old { looks = self.old.looks + 1 } }
+    {
+        self.looks = self.looks.after();
+        found(node_at_or_above(&self.tree, key), value)
+    }
+}
+
+impl<T: Integer, V: Eq> Counted<T, V> {
+    /// Walks down the entries, in one search, from the one that may start right above a range to the first that starts
+    /// below it. A length loses how many of their keys lie in the range.
+    pub fn scan(&mut self, len: T::SafeLen, lo: T, hi: T, value: &V) -> (Plan<T>, T::SafeLen)
+        requires { walked_keys (T.rank lo) (T.rank hi)
+            (reverse (below (T.rank hi +ℤ pos 2) self.old.entries))
+            ≤ℤ pos (T.SafeLen.number len) }
+        ensures plan { seen_of T.rank result.0
+            ≡ walked V.eq value.now (T.rank lo) (T.rank hi) (unseen (T.rank hi))
+            (reverse (below (T.rank hi +ℤ pos 2) self.old.entries)) }
+        ensures len { pos (T.SafeLen.number result.1)
+            +ℤ walked_keys (T.rank lo) (T.rank hi)
+            (reverse (below (T.rank hi +ℤ pos 2) self.old.entries))
+            ≡ pos (T.SafeLen.number len) }
+        ensures looked { self.new
+            ≡ record self.old {
+              looks = self.old.looks + answers (T.rank lo)
+                  (reverse (below (T.rank hi +ℤ pos 2) self.old.entries));
+            } }
+    {
+        let top = next_or_last(hi);
+        walk(&self.tree, top, len, lo, hi, value, &mut self.looks)
+    }
+}
+
+impl<T: Integer, V: Clone> Counted<T, V> {
+    /// A clone of the value of the entry at a start.
+    pub fn clone_value(&mut self, start: T) -> Result<V, AllocError>
+        requires { IsSome (start_at (T.rank start) self.old.entries) }
+        ensures value { IfOk result
+            (λ value. IfSome (start_at (T.rank start) self.old.entries)
+            (λ e. V.is_clone e.value value)) }
+        ensures looked { self.new ≡ record self.old { looks = self.old.looks + 1 } }
+    {
+        self.looks = self.looks.after();
+        let node = cloned(node_at(&self.tree, start))?;
+        Ok(node.value)
+    }
+}
+
+impl<T: Integer, V: Clone + Drop> Counted<T, V> {
+    /// Puts an entry in that starts at `start`, where none is, ends where the entry at `of` ends and has a clone of its
+    /// value.
+    pub fn insert_clone(&mut self, of: T, start: T) -> Result<(), AllocError>
+        requires present { IsSome (start_at (T.rank of) self.old.entries) }
+        requires absent { start_at (T.rank start) self.old.entries ≡ None }
+        ensures ok { OnOk result
+            (IsCloneInserted V.is_clone (T.rank of)
+            (T.rank start) self.old.entries self.new.entries) }
+        ensures counted { OnOk result (self.new
+            ≡ record self.old { entries = self.new.entries; put_in = self.old.put_in + 1 }) }
+        ensures longer { OnOk result (length self.new.entries ≡ length self.old.entries + 1) }
+        ensures err { OnErr result (self.new ≡ self.old) }
+    {
+        self.insert_clone_uncounted(of, start)?;
+        self.put_in = self.put_in.after();
+        Ok(())
+    }
+
+    /// The same as `insert_clone`, and nothing is counted.
+    pub(crate) fn insert_clone_uncounted(&mut self, of: T, start: T) -> Result<(), AllocError>
+        requires present { IsSome (start_at (T.rank of) self.old.entries) }
+        requires absent { start_at (T.rank start) self.old.entries ≡ None }
+        ensures ok { OnOk result
+            (IsCloneInserted V.is_clone (T.rank of)
+            (T.rank start) self.old.entries self.new.entries) }
+        ensures same { OnOk result (self.new
+            ≡ record self.old { entries = self.new.entries }) }
+        ensures longer { OnOk result (length self.new.entries ≡ length self.old.entries + 1) }
+        ensures err { OnErr result (self.new ≡ self.old) }
+    {
+        let node = cloned(node_at(&self.tree, of))?;
+        self.insert_uncounted(start, node.end, node.value)?;
+        Ok(())
+    }
+}

@@ -1,0 +1,82 @@
+//! Entries, one after another, from both ends.
+ghost use Rattle.std.specs.Prelude.{◌≡◌, length, Some, IfSome};
+ghost use Rattle.std.specs.Iterator.{YieldsFirstBy, YieldsLastBy, item_count, UpTo};
+ghost use Rattle.std.specs.Iterator.SizeHint.{IsWithinCount};
+ghost use Rattle.blaze_entries.specs.Entries.{shown_entry};
+ghost use Rattle.blaze_entries.specs.Places.{places, entries_of, AreFull};
+
+use crate::nodes::EndValue;
+use crate::places::shown;
+use blaze_int::Integer;
+use std::collections::btree_map;
+use std::iter::FusedIterator;
+use std::marker::Model;
+
+/// Entries, ascending: first key, last key and value.
+#[derive(Drop)]
+pub struct Iter<'a, T: Integer, V> {
+    rest: btree_map::Iter<'a, T, EndValue<T, Option<V>>>,
+}
+
+impl<'a, T: Integer, V> Model for Iter<'a, T, V> {
+    ghost use Rattle.std.specs.Prelude.{List};
+    ghost use Rattle.std.specs.Coded.{coded_list};
+    ghost use Rattle.blaze_entries.specs.Entries.{Entry, entry_code};
+
+    ghost Value = { List (Entry V) };
+
+    ghost coded = { coded_list (entry_code V.code) };
+
+    ghost use Rattle.blaze_entries.specs.Places.{places, entries_of, AreFull};
+
+    ghost view = { λ s. entries_of T.rank s.rest };
+
+    ghost invariant = { λ s. AreFull (places T.rank s.rest) };
+}
+
+impl<'a, T: Integer, V> Iter<'a, T, V> {
+    pub(crate) fn new(rest: btree_map::Iter<'a, T, EndValue<T, Option<V>>>) -> Self
+        requires { AreFull (places T.rank rest) }
+        ensures { result ≡ entries_of T.rank rest.entry }
+    {
+        Iter { rest }
+    }
+}
+
+impl<'a, T: Integer, V> Iterator for Iter<'a, T, V> {
+    type Item = (T, T, &'a V);
+
+    ghost next_gives = { YieldsFirstBy (shown_entry T.rank (λ v. v.now)) (λ s. s) };
+
+    ghost remaining = { item_count (λ s. s) };
+
+    fn next(&mut self) -> Option<(T, T, &'a V)> {
+        shown(self.rest.next())
+    }
+
+    /// Exact: how many entries are left.
+    fn size_hint(&self) -> (usize, Option<usize>)
+        ensures lower { IsWithinCount result.0 (item_count (λ s. s) self.now) }
+        ensures upper { IfSome result.1 (UpTo (item_count (λ s. s) self.now)) }
+        ensures exact { result ≡ (length self.now, Some (length self.now)) }
+    {
+        let len = self.len();
+        (len, Some(len))
+    }
+}
+
+impl<'a, T: Integer, V> DoubleEndedIterator for Iter<'a, T, V> {
+    ghost next_back_gives = { YieldsLastBy (shown_entry T.rank (λ v. v.now)) (λ s. s) };
+
+    fn next_back(&mut self) -> Option<(T, T, &'a V)> {
+        shown(self.rest.next_back())
+    }
+}
+
+impl<'a, T: Integer, V> ExactSizeIterator for Iter<'a, T, V> {
+    fn len(&self) -> usize {
+        self.rest.len()
+    }
+}
+
+impl<'a, T: Integer, V> FusedIterator for Iter<'a, T, V> {}

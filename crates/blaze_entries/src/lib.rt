@@ -1,0 +1,23 @@
+//! The entries of a table in a tree by their starts, with counters of the work on them.
+#![tactic(auto)]
+
+mod build;
+mod count;
+mod counted;
+mod entries;
+mod found;
+mod into_iter;
+mod iter;
+mod nodes;
+mod overlap;
+mod places;
+mod retain;
+mod scan;
+
+pub use counted::Counted;
+pub use entries::Entries;
+pub use found::Found;
+pub use into_iter::IntoIter;
+pub use iter::Iter;
+pub use overlap::less;
+pub use scan::{Plan, next_or_last};

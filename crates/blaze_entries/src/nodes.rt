@@ -1,0 +1,222 @@
+//! The tree: from each start to its end and value. Searches, and edits of its nodes.
+ghost use Rattle.std.specs.BTreeMap.{is_at, get};
+ghost use Rattle.std.specs.Prelude.{◌≡◌, ℤ, pos, ◌+ℤ◌, None, IsSome, OnOk, OnErr, IfOk};
+ghost use Rattle.std.specs.Option.{option_map, option_copied};
+ghost use Rattle.blaze_entries.specs.Changed.{changed};
+ghost use Rattle.blaze_entries.specs.Places.{place_of, places, place_lent, place_at};
+ghost use Rattle.blaze_entries.specs.Starts.{StartsAscend, below, from, last_below, first_from, start_at, with_entry, without, with_end, with_end_value, IsStartMoved, IsFrontReplaced};
+
+use blaze_int::Integer;
+use std::alloc::AllocError;
+use std::collections::BTreeMap;
+use std::mem;
+
+/// Where an entry ends, and its value.
+#[derive(Drop)]
+pub struct EndValue<T, V> {
+    pub end: T,
+    pub value: V,
+}
+
+// Moves the end of the node at a start.
+fn change_end<T: Integer, V>(tree: &mut BTreeMap<T, EndValue<T, V>>, start: T, end: T)
+    ensures { tree.new.entries
+        ≡ changed (is_at (T.cmp start)) (λ node. record node { end = end }) tree.old.entries }
+{
+    if let Some(node) = tree.get_mut(&start) {
+        node.end = end;
+    }
+}
+
+// Puts a node in place of that at a start, and answers the old one.
+fn exchange<T: Integer, V: Drop>(
+    tree: &mut BTreeMap<T, EndValue<T, V>>,
+    start: T,
+    node: EndValue<T, V>,
+) -> Option<EndValue<T, V>>
+    ensures nodes { tree.new.entries ≡ changed (is_at (T.cmp start)) (λ _. node) tree.old.entries }
+    ensures old { option_map (place_at T.rank start) result
+        ≡ option_map (place_at T.rank start) (get T.cmp tree.old start) }
+{
+    match tree.get_mut(&start) {
+        Some(old) => Some(mem::replace(old, node)),
+        None => None,
+    }
+}
+
+/// The node with the greatest start below a key.
+pub fn node_below<T: Integer, V>(
+    tree: &BTreeMap<T, EndValue<T, V>>,
+    key: T,
+) -> Option<(&T, &EndValue<T, V>)>
+    requires { StartsAscend T.low T.high (places T.rank tree.now.entries) }
+    ensures { option_map (place_lent T.rank) result
+        ≡ last_below (T.rank key) (places T.rank tree.now.entries) }
+{
+    key.in_hand();
+    tree.range(..key).next_back()
+}
+
+/// The node with the greatest start up to a key.
+pub fn node_at_or_below<T: Integer, V>(
+    tree: &BTreeMap<T, EndValue<T, V>>,
+    key: T,
+) -> Option<(&T, &EndValue<T, V>)>
+    requires { StartsAscend T.low T.high (places T.rank tree.now.entries) }
+    ensures { option_map (place_lent T.rank) result
+        ≡ last_below (T.rank key +ℤ pos 1) (places T.rank tree.now.entries) }
+{
+    key.in_hand();
+    tree.range(..=key).next_back()
+}
+
+/// The node with the least start from a key on.
+pub fn node_at_or_above<T: Integer, V>(
+    tree: &BTreeMap<T, EndValue<T, V>>,
+    key: T,
+) -> Option<(&T, &EndValue<T, V>)>
+    requires { StartsAscend T.low T.high (places T.rank tree.now.entries) }
+    ensures { option_map (place_lent T.rank) result
+        ≡ first_from (T.rank key) (places T.rank tree.now.entries) }
+{
+    key.in_hand();
+    tree.range(key..).next()
+}
+
+/// The node at a start.
+pub fn node_at<T: Integer, V>(
+    tree: &BTreeMap<T, EndValue<T, V>>,
+    start: T,
+) -> Option<&EndValue<T, V>>
+    requires { StartsAscend T.low T.high (places T.rank tree.now.entries) }
+    ensures { option_map (place_at T.rank start) (option_copied result)
+        ≡ start_at (T.rank start) (places T.rank tree.now.entries) }
+{
+    start.in_hand();
+    tree.get(&start)
+}
+
+/// Puts a node in.
+pub fn insert<T: Integer, V: Drop>(
+    tree: &mut BTreeMap<T, EndValue<T, V>>,
+    start: T,
+    node: EndValue<T, V>,
+) -> Result<(), AllocError>
+    requires { StartsAscend T.low T.high (places T.rank tree.old.entries) }
+    ensures ok { OnOk result (places T.rank tree.new.entries
+        ≡ with_entry (place_at T.rank start node) (places T.rank tree.old.entries)) }
+    ensures err { OnErr result (tree.new.entries ≡ tree.old.entries) }
+{
+    start.in_hand();
+    tree.insert(start, node)?;
+    Ok(())
+}
+
+/// Takes the node at a start out.
+pub fn remove<T: Integer, V>(
+    tree: &mut BTreeMap<T, EndValue<T, V>>,
+    start: T,
+) -> Option<EndValue<T, V>>
+    requires { StartsAscend T.low T.high (places T.rank tree.old.entries) }
+    ensures nodes { places T.rank tree.new.entries
+        ≡ without (T.rank start) (places T.rank tree.old.entries) }
+    ensures old { option_map (place_at T.rank start) result
+        ≡ start_at (T.rank start) (places T.rank tree.old.entries) }
+{
+    start.in_hand();
+    tree.remove(&start)
+}
+
+/// Moves the end of the node at a start.
+pub fn set_end<T: Integer, V>(tree: &mut BTreeMap<T, EndValue<T, V>>, start: T, end: T)
+    requires { StartsAscend T.low T.high (places T.rank tree.old.entries) }
+    ensures { places T.rank tree.new.entries
+        ≡ with_end (T.rank start) (T.rank end) (places T.rank tree.old.entries) }
+{
+    start.in_hand();
+    change_end(tree, start, end);
+}
+
+/// Puts a node in place of that at a start, and answers the old one.
+pub fn replace<T: Integer, V: Drop>(
+    tree: &mut BTreeMap<T, EndValue<T, V>>,
+    start: T,
+    node: EndValue<T, V>,
+) -> Option<EndValue<T, V>>
+    requires { StartsAscend T.low T.high (places T.rank tree.old.entries) }
+    ensures nodes { places T.rank tree.new.entries
+        ≡ with_end_value (T.rank start) (T.rank node.end) node.value
+        (places T.rank tree.old.entries) }
+    ensures old { option_map (place_at T.rank start) result
+        ≡ start_at (T.rank start) (places T.rank tree.old.entries) }
+{
+    start.in_hand();
+    exchange(tree, start, node)
+}
+
+/// Keeps the nodes that start below a key, and answers the others.
+pub fn split_off<T: Integer, V>(
+    tree: &mut BTreeMap<T, EndValue<T, V>>,
+    key: T,
+) -> Result<BTreeMap<T, EndValue<T, V>>, AllocError>
+    requires { StartsAscend T.low T.high (places T.rank tree.old.entries) }
+    ensures below { OnOk result (places T.rank tree.new.entries
+        ≡ below (T.rank key) (places T.rank tree.old.entries)) }
+    ensures from { IfOk result (λ others. places T.rank others.entries
+        ≡ from (T.rank key) (places T.rank tree.old.entries)) }
+    ensures err { OnErr result (tree.new.entries ≡ tree.old.entries) }
+{
+    key.in_hand();
+    let others = tree.split_off(&key)?;
+    Ok(others)
+}
+
+/// Moves the node at a start to another start, where none is. The place there is made before the node is taken.
+pub fn move_node<T: Integer, V: Drop>(
+    tree: &mut BTreeMap<T, EndValue<T, V>>,
+    from: T,
+    to: T,
+    place: EndValue<T, V>,
+) -> Result<(), AllocError>
+    requires starts { StartsAscend T.low T.high (places T.rank tree.old.entries) }
+    requires present { IsSome (start_at (T.rank from) (places T.rank tree.old.entries)) }
+    requires absent { start_at (T.rank to) (places T.rank tree.old.entries) ≡ None }
+    ensures ok { OnOk result
+        (IsStartMoved (T.rank from) (T.rank to) (places T.rank tree.old.entries)
+        (places T.rank tree.new.entries)) }
+    ensures err { OnErr result (tree.new.entries ≡ tree.old.entries) }
+{
+    from.in_hand();
+    to.in_hand();
+    insert(tree, to, place)?;
+    if let Some(node) = remove(tree, from) {
+        replace(tree, to, node);
+    }
+    Ok(())
+}
+
+/// Replaces the front of the node at a start, and moves the rest of it to another start, where none is. The place there
+/// is made before the node is replaced.
+pub fn replace_front<T: Integer, V: Drop>(
+    tree: &mut BTreeMap<T, EndValue<T, V>>,
+    start: T,
+    front: EndValue<T, V>,
+    to: T,
+    place: EndValue<T, V>,
+) -> Result<(), AllocError>
+    requires starts { StartsAscend T.low T.high (places T.rank tree.old.entries) }
+    requires present { IsSome (start_at (T.rank start) (places T.rank tree.old.entries)) }
+    requires absent { start_at (T.rank to) (places T.rank tree.old.entries) ≡ None }
+    ensures ok { OnOk result
+        (IsFrontReplaced (T.rank start) (T.rank front.end) front.value (T.rank to)
+        (places T.rank tree.old.entries) (places T.rank tree.new.entries)) }
+    ensures err { OnErr result (tree.new.entries ≡ tree.old.entries) }
+{
+    start.in_hand();
+    to.in_hand();
+    insert(tree, to, place)?;
+    if let Some(node) = replace(tree, start, front) {
+        replace(tree, to, node);
+    }
+    Ok(())
+}

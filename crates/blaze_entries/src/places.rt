@@ -1,0 +1,110 @@
+//! What a node whose place is full shows.
+ghost use Rattle.std.specs.Prelude.{◌≡◌, ℤ, Option, Some, IfSome, IsSome, IfOk};
+ghost use Rattle.std.specs.Option.{option_map, option_copied};
+ghost use Rattle.blaze_entries.specs.Entries.{Entry, entry, shown_entry};
+ghost use Rattle.blaze_entries.specs.Found.{found_in, found_of, range_in, ranks_of};
+ghost use Rattle.blaze_entries.specs.Places.{held, place_lent, place_of};
+
+use crate::found::Found;
+use crate::nodes::EndValue;
+use blaze_int::Integer;
+use std::alloc::AllocError;
+
+/// A node's first key, last key and value.
+pub fn shown<'a, T: Integer, V>(
+    node: Option<(&'a T, &'a EndValue<T, Option<V>>)>,
+) -> Option<(T, T, &'a V)>
+    requires { IfSome node (λ p. IsSome p.1.now.value) }
+    ensures { (e : Option (Entry V)) → option_map (place_lent T.rank) node.entry
+        ≡ option_map held e → option_map (shown_entry T.rank (λ v. v.now)) result ≡ e }
+{
+    let (start, node) = node?;
+    match &node.value {
+        Some(value) => Some((*start, node.end, value)),
+        None => unreachable!(),
+    }
+}
+
+/// A node's first key, last key and value, by value.
+pub fn given<T: Integer, V>(node: Option<(T, EndValue<T, Option<V>>)>) -> Option<(T, T, V)>
+    requires { IfSome node (λ p. IsSome p.1.value) }
+    ensures { (e : Option (Entry V)) → option_map (place_of T.rank) node ≡ option_map held e
+        → option_map (shown_entry T.rank (λ v. v)) result ≡ e }
+{
+    let (start, node) = node?;
+    let EndValue { end, value } = node;
+    match value {
+        Some(value) => Some((start, end, value)),
+        None => unreachable!(),
+    }
+}
+
+/// A node's first and last key, and whether its value is equal to another.
+pub fn found<T: Integer, V: Eq>(
+    node: Option<(&T, &EndValue<T, Option<V>>)>,
+    value: &V,
+) -> Option<Found<T>>
+    requires { IfSome node (λ p. IsSome p.1.now.value) }
+    ensures { (e : Option (Entry V)) → option_map (place_lent T.rank) node.entry
+        ≡ option_map held e → option_map (found_of T.rank) result
+        ≡ option_map (found_in V.eq value.now) e }
+{
+    let (start, node) = node?;
+    match &node.value {
+        Some(other) => Some(Found {
+            start: *start,
+            end: node.end,
+            is_equal: *other == *value,
+        }),
+        None => unreachable!(),
+    }
+}
+
+/// A node's first and last key.
+pub fn range_of<T: Integer, V>(node: Option<(&T, &EndValue<T, Option<V>>)>) -> Option<(T, T)>
+    ensures { (e : Option (Entry V)) → option_map (place_lent T.rank) node.entry
+        ≡ option_map held e → option_map (ranks_of T.rank) result ≡ option_map range_in e }
+{
+    let (start, node) = node?;
+    Some((*start, node.end))
+}
+
+/// A node's value.
+pub fn value_of<T: Integer, V>(node: Option<EndValue<T, Option<V>>>) -> V
+    requires present { IsSome node }
+    requires full { IfSome node (λ n. IsSome n.value) }
+    ensures { option_map (λ n. n.value) node ≡ Some (Some result) }
+{
+    match node {
+        Some(node) => {
+            let EndValue { value, .. } = node;
+            match value {
+                Some(value) => value,
+                None => unreachable!(),
+            }
+        }
+        None => unreachable!(),
+    }
+}
+
+/// A node's last key and a clone of its value.
+pub fn cloned<T: Integer, V: Clone>(
+    node: Option<&EndValue<T, Option<V>>>,
+) -> Result<EndValue<T, V>, AllocError>
+    requires present { IsSome node }
+    requires full { IfSome node (λ n. IsSome n.now.value) }
+    ensures { IfOk result (λ r. (k : ℤ) (e : Entry V)
+        → option_map (λ n. entry k (T.rank n.end) n.value) (option_copied node.entry)
+        ≡ Some (held e) → (T.rank r.end ≡ e.hi) × V.is_clone e.value r.value) }
+{
+    match node {
+        Some(node) => match &node.value {
+            Some(value) => Ok(EndValue {
+                end: node.end,
+                value: value.clone()?,
+            }),
+            None => unreachable!(),
+        },
+        None => unreachable!(),
+    }
+}

@@ -1,0 +1,162 @@
+//! A walk down the tree from above a range, in one search.
+ghost use Rattle.std.specs.Prelude.{◌≡◌, ◌⊎◌, ◌+◌, ◌++◌, ◌∷◌, [], pos, ◌+ℤ◌, ◌≤ℤ◌, ◌<◌, length, reverse, MatchOption, OnSome};
+ghost use Rattle.blaze_entries.specs.Entries.{Entry};
+ghost use Rattle.blaze_entries.specs.Found.{found_in, found_of};
+ghost use Rattle.blaze_entries.specs.Places.{places, entries_of, AreFull, AreHeld};
+ghost use Rattle.blaze_entries.specs.Scanned.{seen_of, unseen, seen_end, seen_start, seen, walked, answers, walked_keys};
+ghost use Rattle.blaze_entries.specs.Starts.{below};
+
+use crate::count::Count;
+use crate::found::Found;
+use crate::nodes::EndValue;
+use crate::overlap::less;
+use crate::places::found;
+use blaze_int::Integer;
+use blaze_int::compare::{is_at_most, is_below};
+use std::collections::{BTreeMap, btree_map};
+
+/// What a walk down the entries from above a range has seen.
+#[derive(Clone, Copy)]
+pub struct Plan<T> {
+    /// Where the range ends, once it is joined with what is above it.
+    pub end: T,
+    /// The first and last key of the entry that keeps a rest above the range.
+    pub rest: Option<(T, T)>,
+    /// The entry that starts where the range does.
+    pub first: Option<Found<T>>,
+    /// The entry with the greatest start below the range.
+    pub left: Option<Found<T>>,
+}
+
+impl<T: Integer> Plan<T> {
+    /// The plan before the first entry.
+    pub fn new(hi: T) -> Plan<T>
+        ensures { seen_of T.rank result ≡ unseen (T.rank hi) }
+    {
+        Plan {
+            end: hi,
+            rest: None,
+            first: None,
+            left: None,
+        }
+    }
+
+    // The plan after an entry, by its end.
+    fn past_end(self, hi: T, found: Found<T>) -> Plan<T>
+        ensures { seen_of T.rank result
+            ≡ seen_end (T.rank hi) (seen_of T.rank self) (found_of T.rank found) }
+    {
+        if is_below(hi, found.end) {
+            if found.is_equal {
+                return Plan {
+                    end: found.end,
+                    ..self
+                };
+            }
+            if is_at_most(found.start, hi) {
+                return Plan {
+                    rest: Some((found.start, found.end)),
+                    ..self
+                };
+            }
+        }
+        self
+    }
+
+    // The plan after an entry, by its start.
+    fn past_start(self, lo: T, found: Found<T>) -> Plan<T>
+        ensures { seen_of T.rank result
+            ≡ seen_start (T.rank lo) (seen_of T.rank self) (found_of T.rank found) }
+    {
+        if is_below(found.start, lo) {
+            return Plan {
+                left: Some(found),
+                ..self
+            };
+        }
+        if is_at_most(found.start, lo) {
+            return Plan {
+                first: Some(found),
+                ..self
+            };
+        }
+        self
+    }
+
+    /// The plan after an entry.
+    pub fn past(self, lo: T, hi: T, found: Found<T>) -> Plan<T>
+        ensures { seen_of T.rank result
+            ≡ seen (T.rank lo) (T.rank hi) (seen_of T.rank self) (found_of T.rank found) }
+    {
+        self.past_end(hi, found).past_start(lo, found)
+    }
+}
+
+// The last of the nodes that are left, counted.
+fn next_found<'a, T: Integer, V: Eq>(
+    nodes: &mut btree_map::Range<'a, T, EndValue<T, Option<V>>>,
+    value: &V,
+    looks: &mut Count,
+) -> Option<Found<T>>
+    requires { AreFull (places T.rank nodes.old) }
+    ensures full { AreFull (places T.rank nodes.new) }
+    ensures found { MatchOption result (entries_of T.rank nodes.old ≡ []) (λ f. (e : Entry V)
+        × (found_of T.rank f ≡ found_in V.eq value.now e)
+        × (entries_of T.rank nodes.old ≡ entries_of T.rank nodes.new ++ e ∷ [])) }
+    ensures looked { looks.new.number ≡ looks.old.number + 1 }
+    ensures shorter { OnSome result (length nodes.new < length nodes.old) }
+{
+    *looks = looks.after();
+    found(nodes.next_back(), value)
+}
+
+/// Walks down the entries from a key on, to the first that starts below a range. A length loses how many of their keys lie
+/// in the range.
+pub fn walk<T: Integer, V: Eq>(
+    tree: &BTreeMap<T, EndValue<T, Option<V>>>,
+    top: T,
+    len: T::SafeLen,
+    lo: T,
+    hi: T,
+    value: &V,
+    looks: &mut Count,
+) -> (Plan<T>, T::SafeLen)
+    requires held { AreHeld T.low T.high (places T.rank tree.now.entries) }
+    requires len { walked_keys (T.rank lo) (T.rank hi)
+        (reverse (below (T.rank top +ℤ pos 1) (entries_of T.rank tree.now.entries)))
+        ≤ℤ pos (T.SafeLen.number len) }
+    ensures plan { seen_of T.rank result.0
+        ≡ walked V.eq value.now (T.rank lo) (T.rank hi) (unseen (T.rank hi))
+        (reverse (below (T.rank top +ℤ pos 1) (entries_of T.rank tree.now.entries))) }
+    ensures len { pos (T.SafeLen.number result.1)
+        +ℤ walked_keys (T.rank lo) (T.rank hi)
+        (reverse (below (T.rank top +ℤ pos 1) (entries_of T.rank tree.now.entries)))
+        ≡ pos (T.SafeLen.number len) }
+    ensures looked { looks.new.number
+        ≡ looks.old.number + answers (T.rank lo)
+        (reverse (below (T.rank top +ℤ pos 1) (entries_of T.rank tree.now.entries))) }
+{
+    top.in_hand();
+    let mut plan = Plan::new(hi);
+    let mut left = len;
+    let mut nodes = tree.range(..=top);
+    while let Some(found) = next_found(&mut nodes, value, looks) {
+        left = less(left, found, lo, hi);
+        plan = plan.past(lo, hi, found);
+        if is_below(found.start, lo) {
+            return (plan, left);
+        }
+    }
+    (plan, left)
+}
+
+/// The key after one, or that key itself where it is the greatest.
+pub fn next_or_last<T: Integer>(key: T) -> T
+    ensures { (T.rank result ≡ T.rank key +ℤ pos 1)
+        ⊎ ((T.rank key ≡ T.high) × (T.rank result ≡ T.high)) }
+{
+    match key.checked_add_one() {
+        Some(next) => next,
+        None => key,
+    }
+}

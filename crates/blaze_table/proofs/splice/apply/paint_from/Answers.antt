@@ -1,0 +1,13 @@
+use Rattle.blaze_table.proofs.Composed.{put_canonical, put_at}
+use Rattle.blaze_table.proofs.splice.apply.paint_from.Goals as goal
+
+pub trim-requires-clause-canonical : goal.trim-requires-clause-canonical
+trim-requires-clause-canonical g c =
+    let rank = g.T.Integer.rank in
+    put_canonical g.V.PartialEq.eq g.T.Integer.low g.T.Integer.high c.args.entries.now.entries c.in_hand.ensures c.requires.canonical (rank c.args.lo) (rank c.args.plan.end) c.args.value c.requires.order c.put.new.entries.entries c.in_ok-put.ensures.ok
+
+pub returns-clause-put : goal.returns-clause-put
+returns-clause-put g c =
+    let rank = g.T.Integer.rank in
+    put_at g.V.PartialEq.eq g.T.Integer.low g.T.Integer.high c.args.entries.now.entries c.in_hand.ensures c.requires.canonical (rank c.args.lo) (rank c.args.plan.end) c.args.value c.requires.order c.put.new.entries.entries c.in_ok-put.ensures.ok
+    c.in_hand-2.ensures c.trim.new.entries.entries c.clear.new.entries.entries c.trim.ensures.entries c.clear.ensures.entries

@@ -1,0 +1,31 @@
+use Rattle.std.proofs.Common.{length, ap, ◌∙◌, arith}
+use Rattle.blaze_entries.specs.Counted.{CountedEntries}
+use Rattle.blaze_entries.specs.Starts.{start_at}
+use Rattle.blaze_table.proofs.Composed.{extended}
+use Rattle.blaze_table.proofs.EditLists.{length-with_end}
+use Rattle.blaze_table.proofs.Splits.{some_of}
+use Rattle.blaze_table.proofs.splice.apply.paint_on.Goals as goal
+
+pub returns-clause-extended : goal.returns-clause-extended
+returns-clause-extended g c =
+    let rank = g.T.Integer.rank in
+    let e = some_of (start_at (rank c.args.first) c.args.entries.now.entries) c.requires.there in
+    extended g.V.PartialEq.eq g.T.Integer.low g.T.Integer.high c.args.entries.now.entries c.in_hand.ensures c.requires.canonical (rank c.args.first) (rank c.args.end) e.0 c.requires.order e.1
+    c.move_rest.new.entries.entries c.clear.new.entries.entries c.set_end.new.self.entries c.in_ok-move_rest.ensures.kept c.clear.ensures.entries (ap (λ (s : CountedEntries g.row.V.Denot). s.entries) c.set_end.ensures)
+
+pub returns-clause-worked : goal.returns-clause-worked
+returns-clause-worked g c =
+    let e = c.set_end.ensures in
+    let a = c.in_ok-move_rest.ensures.worked in
+    let b = c.clear.ensures.worked in
+    let long = ap (λ (s : CountedEntries g.row.V.Denot). length s.entries) e ∙ length-with_end (g.T.Integer.rank c.args.first) (g.T.Integer.rank c.args.end) c.clear.new.entries.entries in
+    let puts = ap (λ (s : CountedEntries g.row.V.Denot). s.put_in) e in
+    let taken = ap (λ (s : CountedEntries g.row.V.Denot). s.taken_out) e in
+    let looks = ap (λ (s : CountedEntries g.row.V.Denot). s.looks) e in
+    record {
+      put = omega (arith, puts, a.put, b.put);
+      puts = omega (arith, puts, a.puts, b.puts);
+      balance = omega (arith, long, puts, taken, a.balance, b.balance);
+      taken = omega (arith, taken, a.taken, b.taken);
+      looks = omega (arith, looks, taken, a.looks, b.looks);
+    }

@@ -1,0 +1,42 @@
+use Rattle.std.proofs.Common.{length, ap, sym, ◌∙◌, arith}
+use Rattle.std.specs.Option.{option_map}
+use Rattle.blaze_entries.specs.Counted.{CountedEntries}
+use Rattle.blaze_table.specs.Planned.{ends_of}
+use Rattle.blaze_table.proofs.EditLists.{length-with_end}
+use Rattle.blaze_table.proofs.Growing.{trim_none, trim_short, trim_long, trim_starts}
+use Rattle.blaze_table.proofs.LooksSay.{le_holds, le_fails}
+use Rattle.blaze_table.proofs.splice.edits.trim.Goals as goal
+
+pub before-end-requires : goal.before-end-requires
+before-end-requires g c =
+    let rank = g.T.Integer.rank in
+    trim_starts g.V.PartialEq.eq (rank c.args.lo) g.T.Integer.low g.T.Integer.high c.args.entries.now.entries c.in_hand.ensures c.requires.canonical _ _
+    (sym (ap (option_map (ends_of rank)) c.in-Some.is) ∙ c.requires.left)
+
+pub returns-then-is_at_most-clause-entries : goal.returns-then-is_at_most-clause-entries
+returns-then-is_at_most-clause-entries g c =
+    let rank = g.T.Integer.rank in
+    ap (λ (s : CountedEntries g.row.V.Denot). s.entries) c.set_end.ensures
+    ∙ trim_long g.V.PartialEq.eq (rank c.args.lo) g.T.Integer.low g.T.Integer.high c.args.entries.now.entries c.in_hand.ensures c.requires.canonical _ _
+    (sym (ap (option_map (ends_of rank)) c.in-Some.is) ∙ c.requires.left) (rank c.before-end.result) c.before-end.ensures (le_holds _ _ (sym c.is_at_most.ensures ∙ c.if-is_at_most.true))
+
+pub returns-then-is_at_most-clause-worked : goal.returns-then-is_at_most-clause-worked
+returns-then-is_at_most-clause-worked g c =
+    let e = c.set_end.ensures in
+    let long = ap (λ (s : CountedEntries g.row.V.Denot). length s.entries) e ∙ length-with_end (g.T.Integer.rank c.in-Some.found.start) (g.T.Integer.rank c.before-end.result) c.args.entries.now.entries in
+    let puts = ap (λ (s : CountedEntries g.row.V.Denot). s.put_in) e in
+    let taken = ap (λ (s : CountedEntries g.row.V.Denot). s.taken_out) e in
+    let looks = ap (λ (s : CountedEntries g.row.V.Denot). s.looks) e in
+    record { put = omega (arith, puts); puts = omega (arith, puts); balance = omega (arith, long, puts, taken); taken = omega (arith, taken); looks = omega (arith, looks, taken) }
+
+pub returns-else-is_at_most-clause-entries : goal.returns-else-is_at_most-clause-entries
+returns-else-is_at_most-clause-entries g c =
+    let rank = g.T.Integer.rank in
+    trim_short g.V.PartialEq.eq (rank c.args.lo) g.T.Integer.low g.T.Integer.high c.args.entries.now.entries c.in_hand.ensures c.requires.canonical _ _
+    (sym (ap (option_map (ends_of rank)) c.in-Some.is) ∙ c.requires.left) (le_fails _ _ (sym c.is_at_most.ensures ∙ c.if-is_at_most.false))
+
+pub returns-in_default-clause-entries : goal.returns-in_default-clause-entries
+returns-in_default-clause-entries g c =
+    let rank = g.T.Integer.rank in
+    trim_none g.V.PartialEq.eq (rank c.args.lo) g.T.Integer.low g.T.Integer.high c.args.entries.now.entries c.in_hand.ensures c.requires.canonical
+    (sym (ap (option_map (ends_of rank)) c.in_default.is) ∙ c.requires.left)

@@ -1,0 +1,57 @@
+use Rattle.std.proofs.Common.{arith, sym, ◌∙◌}
+use Rattle.std.proofs.lemmas.Int.{ints}
+use Rattle.blaze_entries.specs.Scanned.{seen_of}
+use Rattle.blaze_table.specs.Entries.{entry}
+use Rattle.blaze_table.proofs.Counted.{keys_painted, painted_table}
+use Rattle.blaze_table.proofs.SeenInside.{inside_seen, inside_short, not_reached}
+use Rattle.blaze_table.proofs.Inside.{inside_painted}
+use Rattle.blaze_table.proofs.Painted.{is_painted, painted_short}
+use Rattle.blaze_table.proofs.splice.paint_planned.Goals as goal
+
+pub returns-then-is_inside-clause-painted : goal.returns-then-is_inside-clause-painted
+returns-then-is_inside-clause-painted g c =
+    let rank = g.T.Integer.rank in
+    let eq = g.V.PartialEq.eq in
+    let seen = inside_seen eq c.args.value (rank c.args.lo) (rank c.args.hi) c.requires.order g.T.Integer.low g.T.Integer.high c.args.entries.now.entries c.in_hand.ensures c.requires.table.canonical (seen_of rank c.args.plan) c.requires.plan in
+    inside_painted eq (rank c.args.lo) (rank c.args.hi) c.args.value g.met.V.Eq.laws c.args.entries.now.entries c.requires.table.canonical (seen.0 (sym c.is_inside.ensures ∙ c.if-is_inside.true))
+
+pub returns-then-is_inside-clause-short : goal.returns-then-is_inside-clause-short
+returns-then-is_inside-clause-short g c =
+    let rank = g.T.Integer.rank in
+    let eq = g.V.PartialEq.eq in
+    let seen = inside_seen eq c.args.value (rank c.args.lo) (rank c.args.hi) c.requires.order g.T.Integer.low g.T.Integer.high c.args.entries.now.entries c.in_hand.ensures c.requires.table.canonical (seen_of rank c.args.plan) c.requires.plan in
+    inside_short eq c.args.value (rank c.args.lo) (rank c.args.hi) c.requires.order c.args.entries.now.entries c.requires.table.canonical (seen.0 (sym c.is_inside.ensures ∙ c.if-is_inside.true))
+
+pub returns-in_err-apply-clause-inside : goal.returns-in_err-apply-clause-inside
+returns-in_err-apply-clause-inside g c = λ i.
+    let rank = g.T.Integer.rank in
+    absurd (not_reached g.V.PartialEq.eq c.args.value (rank c.args.lo) (rank c.args.hi) c.requires.order g.T.Integer.low g.T.Integer.high c.args.entries.now.entries c.in_hand.ensures c.requires.table.canonical (seen_of rank c.args.plan) c.requires.plan
+    (sym c.is_inside.ensures ∙ c.if-is_inside.false) i)
+
+pub returns-clause-inside : goal.returns-clause-inside
+returns-clause-inside g c = λ i.
+    let rank = g.T.Integer.rank in
+    absurd (not_reached g.V.PartialEq.eq c.args.value (rank c.args.lo) (rank c.args.hi) c.requires.order g.T.Integer.low g.T.Integer.high c.args.entries.now.entries c.in_hand.ensures c.requires.table.canonical (seen_of rank c.args.plan) c.requires.plan
+    (sym c.is_inside.ensures ∙ c.if-is_inside.false) i)
+
+pub plus-requires : goal.plus-requires
+plus-requires g c =
+    let rank = g.T.Integer.rank in
+    let bound = keys_painted g.V.PartialEq.eq g.met.V.Eq.laws g.T.Integer.low g.T.Integer.high (rank c.args.lo) (rank c.args.hi) c.args.entries.now.entries c.requires.order c.in_hand-2.ensures.from c.in_hand-3.ensures.to c.requires.table.canonical c.requires.table.are_keys in
+    omega (arith, ints, bound, g.met.T.Integer.has_room, c.requires.outside, c.length.ensures)
+
+pub returns-clause-painted : goal.returns-clause-painted
+returns-clause-painted g c =
+    let rank = g.T.Integer.rank in
+    is_painted g.V.PartialEq.eq g.met.V.Eq.laws (entry (rank c.args.lo) (rank c.args.hi) c.args.value) c.args.entries.now.entries c.apply.new.entries.entries c.requires.order c.requires.table.canonical c.in_ok-apply.ensures.painted
+
+pub returns-clause-table : goal.returns-clause-table
+returns-clause-table g c =
+    let rank = g.T.Integer.rank in
+    painted_table g.V.PartialEq.eq g.met.V.Eq.laws g.T.Integer.low g.T.Integer.high _ (entry (rank c.args.lo) (rank c.args.hi) c.args.value) c.args.entries.now.entries c.apply.new.entries.entries c.in_hand-2.ensures.from c.in_hand-3.ensures.to c.requires.table.are_keys
+    (omega (arith, ints, c.requires.outside, c.length.ensures, c.plus.ensures)) c.in_ok-apply.ensures.painted (returns-clause-painted g c).canonical
+
+pub returns-clause-short : goal.returns-clause-short
+returns-clause-short g c =
+    let rank = g.T.Integer.rank in
+    painted_short g.V.PartialEq.eq g.met.V.Eq.laws (entry (rank c.args.lo) (rank c.args.hi) c.args.value) c.args.entries.now.entries c.apply.new.entries.entries c.in_ok-apply.ensures.painted

@@ -1,0 +1,124 @@
+-- A paint planned by what lies beside its range, and the steps that make it, in the words of the list.
+use Rattle.std.specs.Prelude.{◌≡◌, ℕ, ◌+◌, ◌*◌, ◌≤◌, ◌⊎◌, ◌++◌, ◌&&◌, ◌||◌, ℤ, pos, ◌+ℤ◌, ◌≤ℤ◌, ◌<ℤ◌, int_lt, int_le, if◌then◌else◌, Bool, true, false, List, [], ◌∷◌, length, Option, Some, None}
+use Rattle.std.specs.Option.{option_map}
+use Rattle.std.specs.Ordering.{int_eq}
+use Rattle.blaze_entries.specs.Counted.{CountedEntries}
+use Rattle.blaze_entries.specs.Found.{found_in}
+use Rattle.blaze_entries.specs.Scanned.{Seen}
+use Rattle.blaze_entries.specs.Starts.{below, from, last_below, start_at}
+use Rattle.blaze_entries.specs.declared.found.Found.{Found}
+use Rattle.blaze_table.specs.Entries.{Entry, entry, SameEntries}
+use Rattle.blaze_table.specs.Splice.{before, after}
+
+-- ---- the plan
+
+-- the first of the entries does not start right above h with a value equal to v
+abbrev pub IsUnjoined : {V : Type 0} → (V → V → Bool) → ℤ → V → List (Entry V) → Type 0
+IsUnjoined eq h v [] = Unit {0}
+IsUnjoined eq h v (f ∷ fs) = f.lo ≡ h +ℤ pos 1 → eq f.value v ≡ false
+
+-- a range that ends at h with the value v is joined with the first of the entries, which ends at z
+pub record IsJoinedTo {V : Type 0} (eq : V → V → Bool) (h : ℤ) (v : V) (es : List (Entry V)) (z : ℤ) : Type 0 where
+  pub next : Entry V
+  pub others : List (Entry V)
+  pub first : es ≡ next ∷ others
+  pub touches : next.lo ≡ h +ℤ pos 1
+  pub ends : next.hi ≡ z
+  pub like : eq next.value v ≡ true
+
+-- where a range that ends at h with the value v ends, beside entries that start above it
+abbrev pub IsEndAfter : {V : Type 0} → (V → V → Bool) → ℤ → V → List (Entry V) → ℤ → Type 0
+IsEndAfter eq h v es z = ((z ≡ h) × IsUnjoined eq h v es) ⊎ IsJoinedTo eq h v es z
+
+-- where it ends in a list
+abbrev pub IsEnd : {V : Type 0} → (V → V → Bool) → ℤ → V → List (Entry V) → ℤ → Type 0
+IsEnd eq h v es z = IsEndAfter eq h v (after h es) z
+
+-- the ends of an entry that was looked at, if it goes on above h with an unequal value
+abbrev pub rest_of : ℤ → Option (ℤ × ℤ × Bool) → Option (ℤ × ℤ)
+rest_of h None = None
+rest_of h (Some t) = if int_lt h t.1 then (if t.2 then None else Some (t.0, t.1)) else None
+
+-- whether an entry that was looked at has an equal value and ends at h or above
+abbrev pub reaches : ℤ → Option (ℤ × ℤ × Bool) → Bool
+reaches h None = false
+reaches h (Some t) = t.2 && int_le h t.1
+
+-- where the entry starts, if a range from l on is joined with it: it has an equal value, and reaches the key before l
+abbrev pub joined_start : ℤ → Option (ℤ × ℤ × Bool) → Option ℤ
+joined_start l None = None
+joined_start l (Some n) = if n.2 && (int_le l n.1 || int_eq l (n.1 +ℤ pos 1)) then Some n.0 else None
+
+-- what was seen of the entries is what a paint of the keys from l up to h with v has to know
+pub record IsPlanOf {V : Type 0} (eq : V → V → Bool) (l h : ℤ) (v : V) (es : List (Entry V)) (s : Seen) : Type 0 where
+  pub end : IsEnd eq h v es s.end
+  pub rest : s.rest ≡ rest_of h (option_map (found_in eq v) (last_below (h +ℤ pos 1) es))
+  pub first : s.first ≡ option_map (found_in eq v) (start_at l es)
+  pub left : s.left ≡ option_map (found_in eq v) (last_below l es)
+
+-- ---- the steps
+
+-- the ends of an entry that was looked at
+abbrev pub ends_of : {T : Type 0} → (T → ℤ) → Found T → ℤ × ℤ
+ends_of rank f = (rank f.start, rank f.end)
+
+-- the entry that starts at s, up to z, ends at t above it
+pub record IsRestOf {V : Type 0} (z : ℤ) (es : List (Entry V)) (s t : ℤ) : Type 0 where
+  pub of : Entry V
+  pub found : start_at s es ≡ Some of
+  pub ends : of.hi ≡ t
+  pub starts : s ≤ℤ z
+  pub over : z <ℤ t
+  pub none : start_at (z +ℤ pos 1) es ≡ None
+  pub rest : after z es ≡ entry (z +ℤ pos 1) of.hi of.value ∷ from (z +ℤ pos 1) es
+
+-- which entry has keys on both sides of the end of z, if there is one
+abbrev pub IsRest : {V : Type 0} → ℤ → List (Entry V) → Option (ℤ × ℤ) → Type 0
+IsRest z es None = after z es ≡ from (z +ℤ pos 1) es
+IsRest z es (Some r) = IsRestOf z es r.0 r.1
+
+-- an entry starts at n, that ends where the entry at s ended and has an equal value; what starts up to k is as before, and
+-- so is what starts from n on
+pub record IsRestPut {V : Type 0} (eq : V → V → Bool) (k s n : ℤ) (old new : List (Entry V)) : Type 0 where
+  pub of : Entry V
+  pub found : start_at s old ≡ Some of
+  pub value : V
+  pub like : eq of.value value ≡ true
+  pub below : below (k +ℤ pos 1) new ≡ below (k +ℤ pos 1) old
+  pub from : from n new ≡ entry n of.hi value ∷ from n old
+
+-- what lies above z starts above it, with equal values, and what starts up to k is as before
+pub record IsRestKept {V : Type 0} (eq : V → V → Bool) (k z : ℤ) (old new : List (Entry V)) : Type 0 where
+  pub below : below (k +ℤ pos 1) new ≡ below (k +ℤ pos 1) old
+  pub like : SameEntries eq (after z old) (from (z +ℤ pos 1) new)
+
+-- the entry p is there, what lies above its end starts above it, with equal values, and what starts below p is as before
+pub record IsStartPut {V : Type 0} (eq : V → V → Bool) (p : Entry V) (old new : List (Entry V)) : Type 0 where
+  pub below : below p.lo new ≡ below p.lo old
+  pub here : start_at p.lo new ≡ Some p
+  pub like : SameEntries eq (after p.hi old) (from (p.hi +ℤ pos 1) new)
+
+-- the entry p stands in the list, between what lies below and above it
+pub record IsPutAt {V : Type 0} (eq : V → V → Bool) (p : Entry V) (old new : List (Entry V)) : Type 0 where
+  pub above : List (Entry V)
+  pub like : SameEntries eq (after p.hi old) above
+  pub put : new ≡ before p.lo old ++ p ∷ above
+
+-- the entry that starts at f ends at z, and behind it is what lies above z
+pub record IsExtended {V : Type 0} (eq : V → V → Bool) (f z : ℤ) (old new : List (Entry V)) : Type 0 where
+  pub of : Entry V
+  pub found : start_at f old ≡ Some of
+  pub above : List (Entry V)
+  pub like : SameEntries eq (after z old) above
+  pub put : new ≡ below f old ++ entry f z of.value ∷ above
+
+-- ---- the work
+
+-- What a step counts: it puts in at most p entries; the entries are those before, plus those put in, less those taken out;
+-- and it looks at most q times, and once for each entry taken out.
+pub record IsWorked {V : Type 0} (p q : ℕ) (old new : CountedEntries V) : Type 0 where
+  pub put : old.put_in ≤ new.put_in
+  pub puts : new.put_in ≤ old.put_in + p
+  pub balance : length new.entries + new.taken_out + old.put_in ≡ length old.entries + old.taken_out + new.put_in
+  pub taken : old.taken_out ≤ new.taken_out
+  pub looks : new.looks + old.taken_out ≤ old.looks + new.taken_out + q

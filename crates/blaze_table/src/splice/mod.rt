@@ -1,0 +1,132 @@
+//! A value put on the keys of a range, in place: the entries beside the range are found, then edited.
+ghost use Rattle.std.specs.Prelude.{◌≡◌, ◌+◌, ◌≤◌, length, pos, ◌+ℤ◌, ◌≤ℤ◌, Ok, IfOk, OnOk, OnErr};
+ghost use Rattle.blaze_entries.specs.Scanned.{seen_of};
+ghost use Rattle.blaze_table.specs.Count.{keys_in};
+ghost use Rattle.blaze_table.specs.Work.{IsCountedPaint};
+ghost use Rattle.blaze_table.specs.Entries.{entry};
+ghost use Rattle.blaze_table.specs.Painted.{IsInside, ClonesAreAlike, or_else};
+ghost use Rattle.blaze_table.specs.Planned.{IsPlanOf, IsWorked, reaches};
+ghost use Rattle.blaze_table.specs.Splice.{IsListPainted, before, after};
+ghost use Rattle.blaze_table.specs.Table.{IsTable};
+
+mod apply;
+mod edits;
+mod place;
+mod plan;
+
+use apply::apply;
+use blaze_entries::{Counted, Plan};
+use blaze_int::compare::{is_at_most, length};
+use blaze_int::{Integer, SafeLength};
+use plan::plan;
+use std::alloc::AllocError;
+
+// Whether one entry has all keys of a range that ends at `hi`, with an equal value.
+fn is_inside<T: Integer>(plan: Plan<T>, hi: T) -> bool
+    ensures { result
+        ≡ reaches (T.rank hi) (or_else (seen_of T.rank plan).first (seen_of T.rank plan).left) }
+{
+    match plan.first.or(plan.left) {
+        Some(found) => found.is_equal && is_at_most(hi, found.end),
+        None => false,
+    }
+}
+
+// Puts a value on the keys from lo up to hi, as planned, where `outside` is how many keys lie outside of the range. Inside an
+// entry with an equal value nothing changes.
+fn paint_planned<T: Integer, V: Eq + Clone>(
+    entries: &mut Counted<T, V>,
+    len: T::SafeLen,
+    lo: T,
+    hi: T,
+    value: V,
+    plan: Plan<T>,
+    outside: T::SafeLen,
+) -> Result<T::SafeLen, AllocError>
+    requires order { T.rank lo ≤ℤ T.rank hi }
+    requires clones { ClonesAreAlike V.is_clone V.eq }
+    requires table { IsTable V.eq T.low T.high (T.SafeLen.number len) entries.old.entries }
+    requires plan { IsPlanOf V.eq
+        (T.rank lo) (T.rank hi) value entries.old.entries (seen_of T.rank plan) }
+    requires outside { pos (T.SafeLen.number outside)
+        ≡ keys_in (before (T.rank lo) entries.old.entries)
+        +ℤ keys_in (after (T.rank hi) entries.old.entries) }
+    ensures table { IfOk result
+        (λ len. IsTable V.eq T.low T.high (T.SafeLen.number len) entries.new.entries) }
+    ensures painted { OnOk result
+        (IsListPainted V.eq
+        (entry (T.rank lo) (T.rank hi) value) entries.old.entries entries.new.entries) }
+    ensures inside { IsInside V.eq (T.rank lo) (T.rank hi) value entries.old.entries
+        → (result ≡ Ok len) × (entries.new.entries ≡ entries.old.entries) }
+    ensures worked { OnOk result (IsWorked 2 1 entries.old entries.new) }
+    ensures short { OnOk result (length entries.new.entries
+        ≤ length (before (T.rank lo) entries.old.entries)
+        + length (after (T.rank hi) entries.old.entries)
+        + 1) }
+    ensures err { OnErr result (entries.new.entries ≡ entries.old.entries) }
+{
+    entries.in_hand();
+    lo.in_hand();
+    hi.in_hand();
+    if is_inside(plan, hi) {
+        return Ok(len);
+    }
+    apply(entries, lo, hi, value, plan)?;
+    Ok(outside.plus(length(lo, hi)))
+}
+
+/// Puts a value on the keys from lo up to hi, and answers how many keys there are then: the entries that the range touches
+/// are found by single looks, what is to be put in is put in, and only then is anything else edited. Inside an entry with an
+/// equal value nothing changes. Refused memory leaves the entries as they are.
+pub fn paint_by_splice<T: Integer, V: Eq + Clone>(
+    entries: &mut Counted<T, V>,
+    len: T::SafeLen,
+    lo: T,
+    hi: T,
+    value: V,
+) -> Result<T::SafeLen, AllocError>
+    requires order { T.rank lo ≤ℤ T.rank hi }
+    requires clones { ClonesAreAlike V.is_clone V.eq }
+    requires table { IsTable V.eq T.low T.high (T.SafeLen.number len) entries.old.entries }
+    ensures table { IfOk result
+        (λ len. IsTable V.eq T.low T.high (T.SafeLen.number len) entries.new.entries) }
+    ensures painted { OnOk result
+        (IsListPainted V.eq
+        (entry (T.rank lo) (T.rank hi) value) entries.old.entries entries.new.entries) }
+    ensures inside { IsInside V.eq (T.rank lo) (T.rank hi) value entries.old.entries
+        → (result ≡ Ok len) × (entries.new.entries ≡ entries.old.entries) }
+    ensures counted { OnOk result (IsCountedPaint entries.old entries.new) }
+    ensures err { OnErr result (entries.new.entries ≡ entries.old.entries) }
+{
+    entries.in_hand();
+    let seen = plan(entries, len, lo, hi, &value);
+    paint_planned(entries, len, lo, hi, value, seen.0, seen.1)
+}
+
+/// Puts a value on the keys from lo up to hi, and answers how many keys there are then: the entries that the range touches
+/// are seen in one walk, what is to be put in is put in, and only then is anything else edited. Inside an entry with an equal
+/// value nothing changes. Refused memory leaves the entries as they are.
+pub fn paint<T: Integer, V: Eq + Clone>(
+    entries: &mut Counted<T, V>,
+    len: T::SafeLen,
+    lo: T,
+    hi: T,
+    value: V,
+) -> Result<T::SafeLen, AllocError>
+    requires order { T.rank lo ≤ℤ T.rank hi }
+    requires clones { ClonesAreAlike V.is_clone V.eq }
+    requires table { IsTable V.eq T.low T.high (T.SafeLen.number len) entries.old.entries }
+    ensures table { IfOk result
+        (λ len. IsTable V.eq T.low T.high (T.SafeLen.number len) entries.new.entries) }
+    ensures painted { OnOk result
+        (IsListPainted V.eq
+        (entry (T.rank lo) (T.rank hi) value) entries.old.entries entries.new.entries) }
+    ensures inside { IsInside V.eq (T.rank lo) (T.rank hi) value entries.old.entries
+        → (result ≡ Ok len) × (entries.new.entries ≡ entries.old.entries) }
+    ensures counted { OnOk result (IsCountedPaint entries.old entries.new) }
+    ensures err { OnErr result (entries.new.entries ≡ entries.old.entries) }
+{
+    entries.in_hand();
+    let seen = entries.scan(len, lo, hi, &value);
+    paint_planned(entries, len, lo, hi, value, seen.0, seen.1)
+}

@@ -1,0 +1,46 @@
+//! What a paint has to know of the entries beside its range, found by single looks.
+ghost use Rattle.std.specs.Prelude.{◌≡◌, ◌+◌, pos, ◌+ℤ◌, ◌≤ℤ◌, reverse};
+ghost use Rattle.blaze_entries.specs.Scanned.{seen_of, unseen, walked, answers, walked_keys};
+ghost use Rattle.blaze_entries.specs.Starts.{below};
+
+use blaze_entries::{Counted, Plan, less, next_or_last};
+use blaze_int::Integer;
+use blaze_int::compare::is_below;
+
+/// Walks down the entries by single looks, from the one that may start right above a range to the first that starts below
+/// it. A length loses how many of their keys lie in the range.
+pub fn plan<T: Integer, V: Eq>(
+    entries: &mut Counted<T, V>,
+    len: T::SafeLen,
+    lo: T,
+    hi: T,
+    value: &V,
+) -> (Plan<T>, T::SafeLen)
+    requires { walked_keys (T.rank lo) (T.rank hi)
+        (reverse (below (T.rank hi +ℤ pos 2) entries.old.entries)) ≤ℤ pos (T.SafeLen.number len) }
+    ensures plan { seen_of T.rank result.0
+        ≡ walked V.eq value.now (T.rank lo) (T.rank hi) (unseen (T.rank hi))
+        (reverse (below (T.rank hi +ℤ pos 2) entries.old.entries)) }
+    ensures len { pos (T.SafeLen.number result.1)
+        +ℤ walked_keys (T.rank lo) (T.rank hi)
+        (reverse (below (T.rank hi +ℤ pos 2) entries.old.entries)) ≡ pos (T.SafeLen.number len) }
+    ensures looked { entries.new
+        ≡ record entries.old {
+          looks = entries.old.looks + answers (T.rank lo)
+              (reverse (below (T.rank hi +ℤ pos 2) entries.old.entries));
+        } }
+{
+    entries.in_hand();
+    let mut plan = Plan::new(hi);
+    let mut left = len;
+    let mut last = entries.at_or_below(next_or_last(hi), value);
+    while let Some(found) = last {
+        left = less(left, found, lo, hi);
+        plan = plan.past(lo, hi, found);
+        if is_below(found.start, lo) {
+            return (plan, left);
+        }
+        last = entries.below(found.start, value);
+    }
+    (plan, left)
+}

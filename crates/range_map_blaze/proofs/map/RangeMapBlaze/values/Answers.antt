@@ -1,0 +1,8 @@
+use Rattle.std.proofs.Common.{◌∙◌, ap, map}
+use Rattle.blaze_table.specs.Counted.{CountedEntries}
+use Rattle.blaze_table.specs.Pairs.{pair_list}
+use Rattle.range_map_blaze.proofs.map.RangeMapBlaze.values.Goals as goal
+
+pub returns-clause-values : goal.returns-clause-values
+returns-clause-values g c =
+    c.of_table.ensures.values ∙ ap (λ (s : CountedEntries g.row.V.Denot). map (λ (p : g.row.T.Denot × g.row.V.Denot). p.1) (pair_list g.T.Integer.of_rank s.entries)) c.self.view_is
