@@ -30,12 +30,6 @@ module _ {V : Type 0} where
       (λ m. rw (le_false k e.lo m) (below_from j k es l))
       (λ m. rw (le_true k e.lo m, lt_false e.lo j (omega (arith, ints))) (below_from j k es l))
 
-  pub from_below : (j k : ℤ) (es : List (Entry V)) → j ≤ℤ k → from k (below j es) ≡ []
-  from_below j k [] l = refl
-  from_below j k (e ∷ es) l = by_lt_z e.lo j
-      (λ m. rw (lt_true e.lo j m, le_false k e.lo (omega (arith, ints))) (from_below j k es l))
-      (λ m. rw (lt_false e.lo j m) (from_below j k es l))
-
   -- nothing to take out
   pub whole : (f z low high : ℤ) (es : List (Entry V)) → StartsAscend low high es → z ≡ f → es ≡ below (f +ℤ pos 1) es ++ from (z +ℤ pos 1) es
   whole f z low high es h q = halves (f +ℤ pos 1) low high es h ∙ ap (λ x. below (f +ℤ pos 1) es ++ from (x +ℤ pos 1) es) (sym q)

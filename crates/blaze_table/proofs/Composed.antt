@@ -1,9 +1,8 @@
 -- The steps of a paint in place one after another.
-use Rattle.std.proofs.Common.{◌≡◌, ℤ, pos, ◌+ℤ◌, ◌≤ℤ◌, Bool, List, [], ◌∷◌, ◌++◌, Some, None, refl, ◌∙◌, sym, subst, ap, arith}
+use Rattle.std.proofs.Common.{◌≡◌, ℤ, pos, ◌+ℤ◌, ◌≤ℤ◌, Bool, List, [], ◌∷◌, ◌++◌, Some, refl, ◌∙◌, sym, subst, ap, arith}
 use Rattle.std.specs.Prelude.{int_lt, int_le}
-use Rattle.std.specs.List.{last_or}
 use Rattle.std.proofs.lemmas.Int.{ints, by_lt_z}
-use Rattle.blaze_entries.specs.Starts.{StartsAscend, below, from, last_below, start_at, with_end}
+use Rattle.blaze_entries.specs.Starts.{StartsAscend, below, from, start_at, with_end}
 use Rattle.blaze_entries.proofs.Halves.{StartsBelow, below_takes, from_skips, below_all, below_none, from_none}
 use Rattle.blaze_table.specs.Entries.{Entry, entry}
 use Rattle.blaze_table.specs.Canonical.{IsCanonical}
@@ -47,9 +46,6 @@ module _ {V : Type 0} (eq : V → V → Bool) where
 
       pub put_canonical : IsCanonical eq (below l c2)
       put_canonical = subst (IsCanonical eq) (sym r.below) (canonical_below l low high es s c)
-
-      pub put_last : last_below l c2 ≡ last_below l es
-      put_last = ap (last_or None) r.below
 
       pub put_at : StartsAscend low high c2 → (c3 c4 : List (Entry V)) → c3 ≡ before l (below l c2) ++ from l c2 → c4 ≡ below (l +ℤ pos 1) c3 ++ from (z +ℤ pos 1) c3 → IsPutAt eq p es c4
       put_at s2 c3 c4 q t =

@@ -5,11 +5,10 @@ use Rattle.std.proofs.lemmas.Int.{ints}
 use Rattle.blaze_table.specs.Entries.{Entry, SameEntries, entry}
 use Rattle.blaze_table.specs.Canonical.{IsApart, IsCanonical, AreKeys}
 use Rattle.blaze_table.specs.Count.{keys_in}
-use Rattle.blaze_table.specs.Splice.{before, after, glue, IsPaintOf, IsListPainted, overlap, covered}
+use Rattle.blaze_table.specs.Splice.{before, after, glue, IsPaintOf, overlap, covered}
 use Rattle.blaze_table.specs.Table.{IsTable}
 use Rattle.blaze_table.proofs.Lookup.{IsAbove, IsAbove-from_apart}
 use Rattle.blaze_table.proofs.Splices.{by_before, by_after, by_join, canonical_paint}
-use Rattle.blaze_table.proofs.Painted.{is_painted}
 
 module _ {V : Type 0} where
   pub overlap_none : (l h : ℤ) (e : Entry V) → e.lo ≤ℤ e.hi → e.hi <ℤ l → overlap l h e ≡ pos 0
@@ -155,12 +154,3 @@ module _ {V : Type 0} (eq : V → V → Bool) where
           are_keys = subst (AreKeys low high) (sym r.glued) (are_keys_glue low high left r.above (are_keys_glue low high (before p.lo es) (p ∷ []) (are_keys_before low high p.lo es a) (f, t, tt)) (are_keys_as low high (after p.hi es) r.above r.like (are_keys_after low high p.hi es a)));
           counted = k ∙ sym (ap keys_in r.glued ∙ omega (arith, ints, keys_glue left r.above, keys_glue (before p.lo es) (p ∷ []), same_keys_in eq (after p.hi es) r.above r.like));
         }
-
-    -- the same, over the list that the code had at hand
-    pub painted_from : (low high : ℤ) (n old : ℕ) (p : Entry V) (es at_hand new : List (Entry V)) → p.lo ≤ℤ p.hi → low ≤ℤ p.lo → p.hi ≤ℤ high → at_hand ≡ es → IsTable eq low high old es
-        → pos n ≡ (keys_in (before p.lo es) +ℤ keys_in (after p.hi es)) +ℤ ((p.hi -ℤ p.lo) +ℤ pos 1)
-        → IsPaintOf eq p at_hand new → IsTable eq low high n new × IsListPainted eq p es new
-    painted_from low high n old p es at_hand new w f t e i k r =
-        let q = subst (λ l. IsPaintOf eq p l new) e r in
-        let d = is_painted eq laws p es new w i.canonical q in
-        (painted_table low high n p es new f t i.are_keys k q d.canonical, d)

@@ -190,13 +190,6 @@ module _ {V : Type 0} (eq : V → V → Bool) (k : ℤ) where
       (λ l. absurd (same_along eq (at_before eq (e ∷ es) k k c l (omega (arith, ints))) refl s))
       (λ h. omega (arith, ints, overlap_none k k e c.0 h, covered_one es c.2 v (same_along eq (at_over e es k h) refl s)))
 
-  pub covered_zero : (es : List (Entry V)) → IsCanonical eq es → SameOption eq (at es k) None → covered k k es ≡ pos 0
-  covered_zero [] c s = refl
-  covered_zero (e ∷ es) c s = by_place e k
-      (λ l h. absurd (same_along eq (at_in e es k l h) refl s))
-      (λ l. covered_none eq k k (e ∷ es) c l)
-      (λ h. omega (arith, ints, overlap_none k k e c.0 h, covered_zero es c.2 (same_along eq (at_over e es k h) refl s)))
-
   pub one_fits : (es : List (Entry V)) → IsCanonical eq es → covered k k es ≤ℤ keys_in es
   one_fits [] c = omega (arith, ints)
   one_fits (e ∷ es) c = omega (arith, ints, overlap_most k k e c.0, one_fits es c.2)

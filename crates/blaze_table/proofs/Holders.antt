@@ -5,7 +5,7 @@ use Rattle.std.specs.Option.{option_map}
 use Rattle.std.proofs.lemmas.Int.{ints}
 use Rattle.blaze_entries.specs.Found.{range_in}
 use Rattle.blaze_entries.specs.Starts.{StartsAscend, last_below, start_at, with_entry, without, with_end}
-use Rattle.blaze_entries.proofs.Ascending.{by_order}
+use Rattle.blaze_entries.proofs.Ascending.{by_order, start_none}
 use Rattle.blaze_entries.proofs.Halves.{StartsBelow}
 use Rattle.blaze_table.specs.Canonical.{IsApart, IsCanonical}
 use Rattle.blaze_table.specs.Entries.{Entry, entry}
@@ -13,7 +13,7 @@ use Rattle.blaze_table.specs.LastBelow.{IsLastBelow}
 use Rattle.blaze_table.specs.Splice.{IsBelow}
 use Rattle.blaze_table.proofs.EditLists.{start_skips, end_put}
 use Rattle.blaze_table.proofs.Growing.{found_there}
-use Rattle.blaze_table.proofs.Splits.{last_at, canonical_part, ends_below, none_at, more_below, append_assoc}
+use Rattle.blaze_table.proofs.Splits.{last_at, canonical_part, ends_below, more_below, append_assoc}
 
 module _ {V : Type 0} where
   -- an entry put in behind those that start below it
@@ -37,7 +37,7 @@ module _ {V : Type 0} where
 
   -- none starts at a key between entries
   pub none-between : (k b high : ℤ) (xs ys : List (Entry V)) → StartsBelow k xs → k <ℤ b → StartsAscend b high ys → start_at k (xs ++ ys) ≡ None
-  none-between k b high [] ys u l s = none_at k b high ys l s
+  none-between k b high [] ys u l s = start_none k b high ys l s
   none-between k b high (x ∷ xs) ys u l s = start_skips k x (xs ++ ys) (λ q. omega (arith, ints, u.0)) ∙ none-between k b high xs ys u.1 l s
 
   pub starts_behind : (k : ℤ) (xs : List (Entry V)) (e : Entry V) → StartsBelow k xs → e.lo <ℤ k → StartsBelow k (xs ++ e ∷ [])

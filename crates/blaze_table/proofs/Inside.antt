@@ -1,13 +1,12 @@
--- A paint inside an entry with an equal value changes nothing; and what the entry at a key says of its neighbourhood.
-use Rattle.std.proofs.Common.{◌≡◌, ℤ, pos, ◌+ℤ◌, ◌≤ℤ◌, ◌<ℤ◌, Bool, true, false, ◌&&◌, cond, List, [], ◌∷◌, length, Option, Some, None, refl, ◌∙◌, sym, ap, subst, arith, inl, inr}
-use Rattle.std.specs.Prelude.{◌↔◌, int_lt, int_le}
+-- A paint inside an entry with an equal value changes nothing.
+use Rattle.std.proofs.Common.{ℤ, ◌≤ℤ◌, ◌<ℤ◌, Bool, List, [], ◌∷◌, length, Some, refl, sym, ap, arith, inl, inr}
 use Rattle.std.specs.Cmp.{IsEquivalence}
 use Rattle.std.proofs.lemmas.Int.{ints}
-use Rattle.blaze_table.specs.Entries.{Entry, at, entry_at, SameOption}
+use Rattle.blaze_table.specs.Entries.{Entry, at, SameOption}
 use Rattle.blaze_table.specs.Canonical.{IsCanonical}
 use Rattle.blaze_table.specs.Painted.{IsInside}
-use Rattle.blaze_table.specs.Splice.{IsListPainted, around, across}
-use Rattle.blaze_table.proofs.Lookup.{IsAbove, IsAbove-from_apart, at_in, at_over, by_place, holds_in, holds_under, holds_over, entry_in, entry_under, entry_over}
+use Rattle.blaze_table.specs.Splice.{IsListPainted}
+use Rattle.blaze_table.proofs.Lookup.{IsAbove, IsAbove-from_apart, at_in, at_over, by_place, holds_in, holds_under, holds_over}
 use Rattle.blaze_table.proofs.Unique.{same_along, same_itself}
 
 module _ {V : Type 0} (eq : V → V → Bool) (l h : ℤ) (v : V) where
@@ -35,108 +34,3 @@ module _ {V : Type 0} (eq : V → V → Bool) (l h : ℤ) (v : V) where
           few = omega arith;
           alone = λ e. let none = ap length e in omega arith;
         }
-
--- what the entry at the first key says of one that has all the keys
-abbrev pub IsInsideEntry : {V : Type 0} → (V → V → Bool) → ℤ → V → Option (Entry V) → Type 0
-IsInsideEntry eq h v None = ⊥
-IsInsideEntry eq h v (Some e) = (h ≤ℤ e.hi) × (eq e.value v ≡ true)
-
-module _ {V : Type 0} (eq : V → V → Bool) (l h : ℤ) (v : V) (w : l ≤ℤ h) where
-  inside_from : (es : List (Entry V)) → IsInsideEntry eq h v (entry_at es l) → IsInside eq l h v es
-  inside_from [] i = absurd i
-  inside_from (e ∷ es) i = by_place e l
-      (λ a b. let j = subst (IsInsideEntry eq h v) (entry_in e es l a b) i in inl (a, j.0, j.1))
-      (λ a. inr (inside_from es (subst (IsInsideEntry eq h v) (entry_under e es l a) i)))
-      (λ b. inr (inside_from es (subst (IsInsideEntry eq h v) (entry_over e es l b) i)))
-
-  inside_to : (es : List (Entry V)) → IsCanonical eq es → IsInside eq l h v es → IsInsideEntry eq h v (entry_at es l)
-  inside_to [] c i = absurd i
-  inside_to (e ∷ es) c (inl p) = subst (IsInsideEntry eq h v) (sym (entry_in e es l p.0 (omega (arith, ints, p.1)))) (p.1, p.2)
-  inside_to (e ∷ es) c (inr q) =
-      subst (IsInsideEntry eq h v) (sym (entry_over e es l (inside_above eq l h v e.hi es c.2 (IsAbove-from_apart eq e es c.1) q))) (inside_to es c.2 q)
-
-  -- an entry that has all the keys is the one at the first
-  pub inside_entry : (es : List (Entry V)) (o : Option (Entry V)) → IsCanonical eq es → o ≡ entry_at es l → IsInsideEntry eq h v o ↔ IsInside eq l h v es
-  inside_entry es o c p = (
-    (λ i. inside_from es (subst (IsInsideEntry eq h v) p i)),
-    (λ i. subst (IsInsideEntry eq h v) (sym p) (inside_to es c i)),
-  )
-
--- the value of an entry that starts below l and ends above h
-abbrev pub around_entry : {V : Type 0} → ℤ → ℤ → Option (Entry V) → Option V
-around_entry l h None = None
-around_entry l h (Some e) = cond (int_lt e.lo l && int_lt h e.hi) (Some e.value) None
-
--- the value of an entry that starts below k
-abbrev pub across_entry : {V : Type 0} → ℤ → Option (Entry V) → Option V
-across_entry k None = None
-across_entry k (Some e) = cond (int_lt e.lo k) (Some e.value) None
-
-lt_no : (a b : ℤ) → b ≤ℤ a → int_lt a b ≡ false
-lt_no a b p = grind (arith, ints)
-
-lt_yes : (a b : ℤ) → a <ℤ b → int_lt a b ≡ true
-lt_yes a b p = grind (arith, ints)
-
-le_no : (a b : ℤ) → b <ℤ a → int_le a b ≡ false
-le_no a b p = grind (arith, ints)
-
-le_yes : (a b : ℤ) → a ≤ℤ b → int_le a b ≡ true
-le_yes a b p = grind (arith, ints)
-
-second_false : (a b : Bool) → b ≡ false → (a && b) ≡ false
-second_false true b p = p
-second_false false b p = refl
-
-skip : {X : Type 0} (b : Bool) (x y : X) → b ≡ false → cond b x y ≡ y
-skip true x y p = cc
-skip false x y p = refl
-
-same_else : {X : Type 0} (b : Bool) (x y z : X) → y ≡ z → cond b x y ≡ cond b x z
-same_else b x y z p = ap (cond b x) p
-
-module _ {V : Type 0} (eq : V → V → Bool) where
-  around_above : (l h b : ℤ) (es : List (Entry V)) → IsCanonical eq es → IsAbove b es → l ≤ℤ (b +ℤ pos 1) → around l h es ≡ None
-  around_above l h b [] c a p = refl
-  around_above l h b (e ∷ es) c a p =
-      ap (λ (t : Bool). cond (t && int_lt h e.hi) (Some e.value) (around l h es)) (lt_no e.lo l (omega (arith, ints)))
-      ∙ around_above l h e.hi es c.2 (IsAbove-from_apart eq e es c.1) (omega (arith, ints, c.0))
-
-  -- the value on both sides of a range is that of the entry at its first key
-  pub around_is : (l h : ℤ) (es : List (Entry V)) → l ≤ℤ h → IsCanonical eq es → around l h es ≡ around_entry l h (entry_at es l)
-  around_is l h [] w c = refl
-  around_is l h (e ∷ es) w c = by_place e l
-      (λ a b.
-      same_else (int_lt e.lo l && int_lt h e.hi) (Some e.value) (around l h es) None (around_above l h e.hi es c.2 (IsAbove-from_apart eq e es c.1) (omega (arith, ints)))
-      ∙ ap (around_entry l h) (sym (entry_in e es l a b)))
-      (λ a.
-      ap (λ (t : Bool). cond (t && int_lt h e.hi) (Some e.value) (around l h es)) (lt_no e.lo l (omega (arith, ints)))
-      ∙ around_is l h es w c.2 ∙ ap (around_entry l h) (sym (entry_under e es l a)))
-      (λ b.
-      skip (int_lt e.lo l && int_lt h e.hi) (Some e.value) (around l h es) (second_false (int_lt e.lo l) (int_lt h e.hi) (lt_no h e.hi (omega (arith, ints))))
-      ∙ around_is l h es w c.2 ∙ ap (around_entry l h) (sym (entry_over e es l b)))
-
-  across_above : (k b : ℤ) (es : List (Entry V)) → IsCanonical eq es → IsAbove b es → k ≤ℤ (b +ℤ pos 1) → across k es ≡ None
-  across_above k b [] c a p = refl
-  across_above k b (e ∷ es) c a p =
-      ap (λ (t : Bool). cond (t && int_le k e.hi) (Some e.value) (across k es)) (lt_no e.lo k (omega (arith, ints)))
-      ∙ across_above k e.hi es c.2 (IsAbove-from_apart eq e es c.1) (omega (arith, ints, c.0))
-
-  both_true : (a b : Bool) → b ≡ true → (a && b) ≡ a
-  both_true true b p = p
-  both_true false b p = refl
-
-  -- the value on both sides of a key is that of the entry there
-  pub across_is : (k : ℤ) (es : List (Entry V)) → IsCanonical eq es → across k es ≡ across_entry k (entry_at es k)
-  across_is k [] c = refl
-  across_is k (e ∷ es) c = by_place e k
-      (λ a b.
-      ap (λ (t : Bool). cond t (Some e.value) (across k es)) (both_true (int_lt e.lo k) (int_le k e.hi) (le_yes k e.hi b))
-      ∙ same_else (int_lt e.lo k) (Some e.value) (across k es) None (across_above k e.hi es c.2 (IsAbove-from_apart eq e es c.1) (omega (arith, ints)))
-      ∙ ap (across_entry k) (sym (entry_in e es k a b)))
-      (λ a.
-      ap (λ (t : Bool). cond (t && int_le k e.hi) (Some e.value) (across k es)) (lt_no e.lo k (omega (arith, ints)))
-      ∙ across_is k es c.2 ∙ ap (across_entry k) (sym (entry_under e es k a)))
-      (λ b.
-      skip (int_lt e.lo k && int_le k e.hi) (Some e.value) (across k es) (second_false (int_lt e.lo k) (int_le k e.hi) (le_no k e.hi b))
-      ∙ across_is k es c.2 ∙ ap (across_entry k) (sym (entry_over e es k b)))

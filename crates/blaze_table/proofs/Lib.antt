@@ -20,6 +20,7 @@ pub mod RangeMaps
 pub mod NextEntries
 pub mod Clones
 pub mod PairLists
+pub mod AtPairs
 pub mod Keeping
 pub mod PairLaws
 pub mod UnitLaws

@@ -7,7 +7,7 @@ use Rattle.std.proofs.lemmas.Int.{ints}
 use Rattle.std.proofs.lemmas.List.{reverse-append}
 use Rattle.std.proofs.lemmas.List.Folds.{find-append}
 use Rattle.blaze_entries.specs.Starts.{StartsAscend, below, first_entry, last_below, first_from}
-use Rattle.blaze_entries.proofs.Halves.{StartsBelow, below_all, below_none}
+use Rattle.blaze_entries.proofs.Halves.{below_all, below_none}
 use Rattle.blaze_table.specs.Entries.{Entry, entry_at}
 use Rattle.blaze_table.specs.Canonical.{IsCanonical}
 use Rattle.blaze_table.specs.Splice.{IsBelow}

@@ -7,6 +7,7 @@ use Rattle.std.proofs.lemmas.Int.{ints, by_lt_z}
 use Rattle.blaze_entries.specs.Found.{found_in, ranks_of}
 use Rattle.blaze_entries.specs.Scanned.{Seen}
 use Rattle.blaze_entries.specs.Starts.{StartsAscend, from, last_below, start_at}
+use Rattle.blaze_entries.proofs.Ascending.{start_none}
 use Rattle.blaze_entries.proofs.Halves.{StartsBelow, from_takes, from_skips}
 use Rattle.blaze_table.specs.Entries.{Entry, entry}
 use Rattle.blaze_table.specs.Canonical.{IsCanonical}
@@ -14,7 +15,7 @@ use Rattle.blaze_table.specs.Planned.{IsUnjoined, IsJoinedTo, IsEnd, rest_of, jo
 use Rattle.blaze_table.specs.Splice.{after}
 use Rattle.blaze_table.proofs.Lookup.{IsAbove, IsAbove-from_apart}
 use Rattle.blaze_table.proofs.Splices.{by_after, by_bool, after_skips, lt_true, lt_false, le_true, le_false}
-use Rattle.blaze_table.proofs.Splits.{LastAt, last_at, no_last_from, none_at, more_below, after_short, after_long, after_none, none_next}
+use Rattle.blaze_table.proofs.Splits.{LastAt, last_at, no_last_from, more_below, after_short, after_long, after_none, none_next}
 use Rattle.blaze_table.proofs.Growing.{last_there, below_last}
 use Rattle.blaze_table.proofs.EditLists.{start_skips, start_below}
 use Rattle.blaze_table.proofs.Placing.{ends_before}
@@ -155,7 +156,7 @@ module _ {V : Type 0} (eq : V → V → Bool) (v : V) (l low high : ℤ) (es : L
   first_is = by_last (last_below (l +ℤ pos 1) es) refl
     where
       by_last : (o : Option (Entry V)) → last_below (l +ℤ pos 1) es ≡ o → not_below l (option_map (found_in eq v) o) ≡ option_map (found_in eq v) (start_at l es)
-      by_last None q = sym (ap (option_map (found_in eq v)) (none_at l (l +ℤ pos 1) high es (omega (arith, ints)) (no_last_from (l +ℤ pos 1) low high es s q)))
+      by_last None q = sym (ap (option_map (found_in eq v)) (start_none l (l +ℤ pos 1) high es (omega (arith, ints)) (no_last_from (l +ℤ pos 1) low high es s q)))
       by_last (Some e) q =
           let i = last_at (l +ℤ pos 1) low high e es s q in
           let up = i.starts in

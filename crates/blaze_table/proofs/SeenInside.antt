@@ -7,6 +7,7 @@ use Rattle.std.proofs.lemmas.Int.{ints, by_lt_z}
 use Rattle.blaze_entries.specs.Found.{found_in}
 use Rattle.blaze_entries.specs.Scanned.{Seen}
 use Rattle.blaze_entries.specs.Starts.{StartsAscend, below, last_below, start_at}
+use Rattle.blaze_entries.proofs.Ascending.{start_none}
 use Rattle.blaze_table.specs.Entries.{Entry}
 use Rattle.blaze_table.specs.Canonical.{IsCanonical}
 use Rattle.blaze_table.specs.Painted.{IsInside, or_else}
@@ -19,7 +20,7 @@ use Rattle.blaze_table.proofs.LooksSay.{le_holds}
 use Rattle.blaze_table.proofs.Lookup.{IsAbove-from_apart}
 use Rattle.blaze_table.proofs.Plans.{first_is, not_below, above_more}
 use Rattle.blaze_table.proofs.Splices.{by_after, before_keeps, after_skips, le_true, le_false}
-use Rattle.blaze_table.proofs.Splits.{last_at, no_last, no_last_from, none_at, ends_below}
+use Rattle.blaze_table.proofs.Splits.{last_at, no_last, no_last_from, ends_below}
 use Rattle.blaze_table.proofs.Walked.{same_below}
 use Rattle.blaze_table.proofs.Widened.{after_over}
 
@@ -80,7 +81,7 @@ module _ {V : Type 0} (eq : V → V → Bool) (v : V) (l h : ℤ) (w : l ≤ℤ 
       where
         by_last : (o : Option (Entry V)) → last_below (l +ℤ pos 1) es ≡ o → option_map (found_in eq v) o ≡ or_else (option_map (found_in eq v) (start_at l es)) (option_map (found_in eq v) (last_below l es))
         by_last None q =
-            let no_start = none_at l (l +ℤ pos 1) high es (omega (arith, ints)) (no_last_from (l +ℤ pos 1) low high es s q) in
+            let no_start = start_none l (l +ℤ pos 1) high es (omega (arith, ints)) (no_last_from (l +ℤ pos 1) low high es s q) in
             let no_left : last_below l es ≡ None = ap (last_or None) (sym (below_below l (l +ℤ pos 1) es (omega (arith, ints))) ∙ ap (below l) (no_last (l +ℤ pos 1) low high es s q)) in
             sym (ap (λ x. or_else (option_map (found_in eq v) x) (option_map (found_in eq v) (last_below l es))) no_start ∙ ap (option_map (found_in eq v)) no_left)
         by_last (Some e) q =

@@ -31,9 +31,6 @@ le_false a b h = grind (arith, ints)
 eq_true : (a b : ℤ) → int_eq a b ≡ true → a ≡ b
 eq_true a b h = grind (arith, ints)
 
-eq_false : (a b : ℤ) → int_eq a b ≡ false → a ≡ b → ⊥
-eq_false a b h p = grind (arith, ints)
-
 unfoldable pub or_else : {V : Type 0} → Option V → Option V → Option V
 or_else None y = y
 or_else (Some x) y = Some x
@@ -193,12 +190,6 @@ module _ {V : Type 0} (eq : V → V → Bool) where
   apart_glue e g [] (f ∷ fs) a = by_join g f fs (λ q v p. rw p a) (λ n p. rw p a)
   apart_glue e g (h ∷ L) M a = a
 
-  above_glue : (b : ℤ) (L M : List (Entry V)) → IsAbove b L → IsAbove b M → IsAbove b (glue eq L M)
-  above_glue b [] M l m = m
-  above_glue b (e ∷ []) [] l m = l
-  above_glue b (e ∷ []) (f ∷ fs) l m = by_join e f fs (λ q v p. rw p l) (λ n p. rw p l)
-  above_glue b (e ∷ f ∷ L) M l m = l
-
   module _ (laws : IsEquivalence eq) where
     apart_like : (e f : Entry V) (fs : List (Entry V)) → eq e.value f.value ≡ true → IsApart eq f fs → IsApart eq (entry e.lo f.hi e.value) fs
     apart_like e f [] v a = tt
@@ -256,9 +247,6 @@ module _ {V : Type 0} (eq : V → V → Bool) where
       pub canonical_paint : IsCanonical eq (paint eq l h v es)
       canonical_paint = canonical_glue h left (after h es) canonical_left (canonical_after h es c) below_left (above_after h es)
 
-      pub length-paint : length (paint eq l h v es) ≤ length es + 2
-      length-paint = omega (arith, length-glue left (after h es), length-glue (before l es) (entry l h v ∷ []), length_around l h es w)
-
       pub at_left : (k : ℤ) → SameOption eq (at left k) (or_else (at (before l es) k) (at (entry l h v ∷ []) k))
       at_left k = at_glue (before l es) (entry l h v ∷ []) k (canonical_before l es c) (w, tt, tt)
 
@@ -279,8 +267,3 @@ module _ {V : Type 0} (eq : V → V → Bool) where
           or_last : (a b : Option V) → b ≡ None → or_else (or_else a None) b ≡ a
           or_last None b p = p
           or_last (Some x) b p = refl
-
-      pub at_paint : (k : ℤ) → SameOption eq (at (paint eq l h v es) k) (painted l h v (at es) k)
-      at_paint k = same_trans eq laws (at (paint eq l h v es) k) _ (painted l h v (at es) k)
-          (at_glue left (after h es) k canonical_left (canonical_after h es c))
-          (same_along eq refl (three k) (same_in_or (at left k) (or_else (at (before l es) k) (at (entry l h v ∷ []) k)) (at (after h es) k) (at_left k)))

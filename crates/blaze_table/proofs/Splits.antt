@@ -4,7 +4,7 @@ use Rattle.std.specs.Prelude.{IsSome, int_le}
 use Rattle.std.specs.List.{filter, last_or}
 use Rattle.std.proofs.lemmas.Int.{ints, by_lt_z}
 use Rattle.blaze_entries.specs.Starts.{StartsAscend, below, from, first_entry, last_below, first_from, start_at}
-use Rattle.blaze_entries.proofs.Ascending.{by_order}
+use Rattle.blaze_entries.proofs.Ascending.{by_order, start_none}
 use Rattle.blaze_entries.proofs.Halves.{StartsBelow, below_takes, below_skips, from_takes, from_skips, below_none, from_all, from_none}
 use Rattle.blaze_table.specs.Entries.{Entry, entry}
 use Rattle.blaze_table.specs.Canonical.{IsApart, IsCanonical}
@@ -120,13 +120,6 @@ module _ {V : Type 0} where
           above_first : (gs xs : List (Entry V)) (x : Entry V) (zs : List (Entry V)) → gs ≡ xs ++ x ∷ zs → StartsAscend (f.lo +ℤ pos 1) high gs → f.lo <ℤ x.lo
           above_first gs xs x zs q s = let r = in_front (f.lo +ℤ pos 1) xs zs x (subst (StartsAscend (f.lo +ℤ pos 1) high) q s) in omega (arith, ints)
 
-  pub none_at : (k b high : ℤ) (es : List (Entry V)) → k <ℤ b → StartsAscend b high es → start_at k es ≡ None
-  none_at k b high [] l h = refl
-  none_at k b high (e ∷ es) l h = by_order k e.lo
-      (λ o q r. rw r (none_at k (e.lo +ℤ pos 1) high es (omega (arith, ints)) h.2))
-      (λ o q r. absurd (omega (arith, ints, h.0)))
-      (λ o q r. absurd (omega (arith, ints, h.0)))
-
   -- the first entry from k on is there
   pub first_there : (k b high : ℤ) (e : Entry V) (es : List (Entry V)) → StartsAscend b high es → first_from k es ≡ Some e → (k ≤ℤ e.lo) × (start_at e.lo es ≡ Some e) × (from k es ≡ from e.lo es)
   first_there k b high e [] h n = absurd (no_some n)
@@ -166,7 +159,7 @@ module _ {V : Type 0} where
       no_some : None ≡ Some e → ⊥
       no_some p = cc
   from_at k b high e (f ∷ fs) h n = by_order k f.lo
-      (λ o q r. absurd (no_some (sym (none_at k (f.lo +ℤ pos 1) high fs (omega (arith, ints)) h.2) ∙ (sym (ap (λ t. cond t (Some f) (start_at k fs)) r) ∙ n))))
+      (λ o q r. absurd (no_some (sym (start_none k (f.lo +ℤ pos 1) high fs (omega (arith, ints)) h.2) ∙ (sym (ap (λ t. cond t (Some f) (start_at k fs)) r) ∙ n))))
       (λ o q r.
       let same : f ≡ e = some_same (sym (ap (λ t. cond t (Some f) (start_at k fs)) r) ∙ n) in (
         subst (λ (x : Entry V). x.lo ≡ k) same (sym o),

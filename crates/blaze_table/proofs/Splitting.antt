@@ -1,19 +1,19 @@
 -- The parts of a list below a key and from it on.
-use Rattle.std.proofs.Common.{◌≡◌, ℕ, ℤ, pos, ◌+ℤ◌, ◌-ℤ◌, ◌≤ℤ◌, ◌<ℤ◌, Bool, true, false, cond, List, [], ◌∷◌, ◌++◌, Option, Some, None, refl, ◌∙◌, sym, ap, subst, arith}
-use Rattle.std.specs.Prelude.{int_lt, int_le, ◌&&◌}
+use Rattle.std.proofs.Common.{◌≡◌, ℕ, ℤ, pos, ◌+ℤ◌, ◌-ℤ◌, ◌≤ℤ◌, ◌<ℤ◌, Bool, true, false, cond, List, [], ◌∷◌, ◌++◌, None, refl, ◌∙◌, sym, ap, subst, arith}
+use Rattle.std.specs.Prelude.{int_le}
 use Rattle.std.specs.Cmp.{IsEquivalence}
 use Rattle.std.proofs.lemmas.Int.{ints, by_lt_z}
-use Rattle.blaze_table.specs.Entries.{Entry, at, SameEntries, SameOption, entry}
+use Rattle.blaze_table.specs.Entries.{Entry, at, SameEntries, entry}
 use Rattle.blaze_table.specs.Canonical.{IsCanonical, AreKeys}
 use Rattle.blaze_table.specs.Count.{keys_in}
-use Rattle.blaze_table.specs.Splice.{before, after, IsBelow, IsSplitOf, across, IsListSplit}
+use Rattle.blaze_table.specs.Splice.{before, after, IsBelow, IsSplitOf, IsListSplit}
 use Rattle.blaze_table.specs.Cut.{below_at, from_at}
 use Rattle.blaze_table.specs.Table.{IsTable}
 use Rattle.blaze_table.proofs.Lookup.{IsAbove, IsAbove-from_apart, at_before}
 use Rattle.blaze_table.proofs.Unique.{same_along, same_itself, back}
 use Rattle.blaze_table.proofs.Splices.{by_before, by_after, before_cuts, after_skips, after_cuts, canonical_before, canonical_after, above_after, at-before_under, at-before_over, at-after_over, lt_true, lt_false}
 use Rattle.blaze_table.proofs.Painted.{canonical_as, content_as, before_past, entries_themselves}
-use Rattle.blaze_table.proofs.Counted.{before_none, are_keys_before, are_keys_after, are_keys_as, same_keys_in, some_keys}
+use Rattle.blaze_table.proofs.Counted.{before_none, are_keys_before, are_keys_after, are_keys_as, same_keys_in}
 
 module _ {V : Type 0} (eq : V → V → Bool) where
   -- the two parts have all the keys
@@ -111,36 +111,3 @@ module _ {V : Type 0} (eq : V → V → Bool) (laws : IsEquivalence eq) (k : ℤ
       below_is = sym (before_past k A C b ∙ ap (λ xs. A ++ xs) (before_none eq k C c a) ∙ append_none A);
       like = subst (λ xs. SameEntries eq xs C) (sym (after_below A C b ∙ after_all C c a)) (entries_themselves eq laws C);
     }
-
-    pub across_here : (e : Entry V) (C : List (Entry V)) (o : Option V) → e.lo <ℤ k → k ≤ℤ e.hi → SameOption eq (across k (A ++ e ∷ C)) o → SameOption eq (Some e.value) o
-    across_here e C o l h s = same_along eq (past A b ∙ both (int_lt e.lo k) (int_le k e.hi) (lt_true e.lo k l) (le_yes k e.hi h)) refl s
-      where
-        le_yes : (x y : ℤ) → x ≤ℤ y → int_le x y ≡ true
-        le_yes x y p = grind (arith, ints)
-
-        le_no : (x y : ℤ) → y <ℤ x → int_le x y ≡ false
-        le_no x y p = grind (arith, ints)
-
-        skips : (f : Entry V) (x y : Bool) (r : Option V) → y ≡ false → cond (x && y) (Some f.value) r ≡ r
-        skips f true y r p = ap (λ z. cond z (Some f.value) r) p
-        skips f false y r p = refl
-
-        past : (xs : List (Entry V)) → IsBelow k xs → across k (xs ++ e ∷ C) ≡ across k (e ∷ C)
-        past [] w = refl
-        past (x ∷ xs) w = skips x (int_lt x.lo k) (int_le k x.hi) (across k (xs ++ e ∷ C)) (le_no k x.hi w.0) ∙ past xs w.1
-
-        both : (x y : Bool) → x ≡ true → y ≡ true → cond (x && y) (Some e.value) (across k C) ≡ Some e.value
-        both true true i j = refl
-        both true false i j = cc
-        both false y i j = cc
-
-  pub split_end : (A : List (Entry V)) → IsBelow k A → IsSplitOf eq k A A []
-  split_end A b = subst (λ es. IsSplitOf eq k es A []) (append_none A) (split_between A b [] tt tt)
-
-  pub tail_of : (L M : List (Entry V)) → IsCanonical eq (L ++ M) → IsCanonical eq M
-  tail_of [] M c = c
-  tail_of (e ∷ L) M c = tail_of L M c.2
-
--- the parts have no more keys than the whole
-pub split_fits : {V : Type 0} (eq : V → V → Bool) (laws : IsEquivalence eq) (k : ℤ) (es below from : List (Entry V)) → IsCanonical eq es → IsSplitOf eq k es below from → keys_in below ≤ℤ keys_in es
-split_fits eq laws k es below from c r = omega (arith, ints, keys_split eq k es c, ap keys_in r.below_is, some_keys eq (after (k -ℤ pos 1) es) (canonical_after eq (k -ℤ pos 1) es c))

@@ -8,11 +8,12 @@ use Rattle.std.proofs.lemmas.List.{reverse-append}
 use Rattle.blaze_entries.specs.Found.{found_in}
 use Rattle.blaze_entries.specs.Scanned.{Seen, seen, seen_end, seen_start, walked}
 use Rattle.blaze_entries.specs.Starts.{StartsAscend, below, last_below, start_at}
+use Rattle.blaze_entries.proofs.Ascending.{start_none}
 use Rattle.blaze_entries.proofs.Halves.{below_all, below_none, below_skips, below_takes}
 use Rattle.blaze_table.specs.Entries.{Entry}
 use Rattle.blaze_table.specs.Canonical.{IsCanonical}
 use Rattle.blaze_table.proofs.Splices.{by_bool, lt_true, lt_false, le_true, le_false}
-use Rattle.blaze_table.proofs.Splits.{LastAt, last_at, no_last, no_last_from, none_at, filter_append, append_none, starts_below, more_below}
+use Rattle.blaze_table.proofs.Splits.{LastAt, last_at, no_last, no_last_from, filter_append, append_none, starts_below, more_below}
 use Rattle.blaze_table.proofs.Clearing.{below_below}
 use Rattle.blaze_table.proofs.Growing.{last_there, below_last}
 use Rattle.blaze_table.proofs.Placing.{ends_before}
@@ -86,7 +87,7 @@ module _ {V : Type 0} (eq : V → V → Bool) (v : V) (l h low high : ℤ) (es :
           let empty = no_last k low high es s q in
           let below_l : below l es ≡ [] = sym (below_below l k es (omega (arith, ints))) ∙ ap (below l) empty in
           ap (λ x. walked eq v l h p (reverse x)) empty ∙ none
-          ∙ sym (ap (λ x. record p { first = option_map (found_in eq v) x; left = option_map (found_in eq v) (last_below l es) }) (none_at l k high es u (no_last_from k low high es s q))
+          ∙ sym (ap (λ x. record p { first = option_map (found_in eq v) x; left = option_map (found_in eq v) (last_below l es) }) (start_none l k high es u (no_last_from k low high es s q))
           ∙ ap (λ x. record p { first = None; left = option_map (found_in eq v) (last_or None x) }) below_l)
       by_last (Some e) q =
           let i = last_at k low high e es s q in

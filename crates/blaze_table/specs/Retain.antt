@@ -2,6 +2,7 @@
 use Rattle.std.specs.Prelude.{◌≡◌, ℤ, Bool, List}
 use Rattle.std.specs.Borrow.{Bor}
 use Rattle.std.specs.Fn.{Shared, FnReturns}
+use Rattle.std.specs.List.{All}
 use Rattle.std.specs.List.Retain.{IsFiltered}
 pub use Rattle.blaze_entries.specs.Answers.{AnswersAt, IsCallableAtEach}
 use Rattle.blaze_table.specs.Entries.{Entry, at, SameOption}
@@ -16,6 +17,14 @@ pub record AnswersAtPair {F T V : Type 0} (g : Shared F (Bor T × (Bor V × Unit
   pub stored : value.now ≡ p.1
   pub says : FnReturns g f (key, (value, tt)) r
   pub same : f' ≡ f
+
+-- f may be called at the key and the value of a pair
+abbrev pub TakesPair : {F T V : Type 0} → Shared F (Bor T × (Bor V × Unit {0})) Bool → F → T × V → Type 0
+TakesPair {F} {T} {V} g f p = (key : Bor T) (value : Bor V) → key.now ≡ p.0 → value.now ≡ p.1 → g.pre f (key, (value, tt))
+
+-- f may be called at each pair of the pair list
+abbrev pub IsCallableAtPairs : {F T V : Type 0} → Shared F (Bor T × (Bor V × Unit {0})) Bool → F → (ℤ → T) → List (Entry V) → Type 0
+IsCallableAtPairs g f of_rank entries = All (TakesPair g f) (pair_list of_rank entries)
 
 -- What keeping the keys that a closure answers true at does to a range map. The closure is called once for each pair of the
 -- pair list, in order, and the kept pairs are those at which it answers true; the content is theirs.

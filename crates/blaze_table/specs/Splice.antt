@@ -1,5 +1,5 @@
 -- Lists taken apart at a key and put together again: the words of this crate's own functions. No public clause names them.
-use Rattle.std.specs.Prelude.{◌≡◌, ℤ, pos, ◌+◌, ◌≤◌, length, ◌+ℤ◌, ◌-ℤ◌, ◌<ℤ◌, ◌++◌, int_lt, int_le, Bool, ◌&&◌, if◌then◌else◌, List, [], ◌∷◌, Option, Some, None}
+use Rattle.std.specs.Prelude.{◌≡◌, ℤ, pos, ◌+◌, ◌≤◌, length, ◌+ℤ◌, ◌-ℤ◌, ◌<ℤ◌, ◌++◌, int_lt, int_le, Bool, ◌&&◌, if◌then◌else◌, List, [], ◌∷◌}
 use Rattle.std.specs.Ordering.{int_eq}
 pub use Rattle.blaze_entries.specs.Overlap.{later, earlier, overlap, covered}
 use Rattle.blaze_table.specs.Entries.{Entry, entry, at, SameEntries, SameOption}
@@ -41,11 +41,6 @@ abbrev pub IsBelow : {V : Type 0} → ℤ → List (Entry V) → Type 0
 IsBelow b [] = Unit {0}
 IsBelow b (e ∷ es) = (e.hi <ℤ b) × IsBelow b es
 
--- the value of the first entry that starts below l and ends above h
-abbrev pub around : {V : Type 0} → ℤ → ℤ → List (Entry V) → Option V
-around l h [] = None
-around l h (e ∷ es) = if int_lt e.lo l && int_lt h e.hi then Some e.value else around l h es
-
 -- the list with the entry painted, where an entry above it may have a value that is only equal to the old
 pub record IsPaintOf {V : Type 0} (eq : V → V → Bool) (p : Entry V) (es new : List (Entry V)) : Type 0 where
   pub above : List (Entry V)
@@ -81,8 +76,3 @@ pub record IsListSplit {V : Type 0} (eq : V → V → Bool) (k : ℤ) (old below
   pub from_canonical : IsCanonical eq from
   pub below_content : (j : ℤ) → SameOption eq (at below j) (below_at k (at old) j)
   pub from_content : (j : ℤ) → SameOption eq (at from j) (from_at k (at old) j)
-
--- the value of the first entry that starts below k and holds it
-abbrev pub across : {V : Type 0} → ℤ → List (Entry V) → Option V
-across k [] = None
-across k (e ∷ es) = if int_lt e.lo k && int_le k e.hi then Some e.value else across k es

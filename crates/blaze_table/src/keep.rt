@@ -1,12 +1,13 @@
 //! Keys that a closure keeps, put into a new list one after another.
 ghost use Rattle.std.specs.Prelude.{◌≡◌, ◌+◌, ◌<◌, ◌≤◌, ◌++◌, ◌∷◌, [], true, pos, ◌+ℤ◌, ◌-ℤ◌, ◌≤ℤ◌, vec_len, IfOk, OnOk};
+ghost use Rattle.std.specs.List.{All};
 ghost use Rattle.std.specs.Vec.{vec_capacity};
 ghost use Rattle.blaze_table.specs.Count.{keys_in};
 ghost use Rattle.blaze_table.specs.Entries.{Entry, entry};
 ghost use Rattle.blaze_table.specs.Keeping.{AddsKey, KeepsMore};
 ghost use Rattle.blaze_table.specs.Painted.{ClonesAreAlike};
 ghost use Rattle.blaze_table.specs.Pairs.{pairs_of, pairs_from};
-ghost use Rattle.blaze_table.specs.Retain.{AnswersAtPair, IsKeyRetained};
+ghost use Rattle.blaze_table.specs.Retain.{AnswersAtPair, IsCallableAtPairs, IsKeyRetained, TakesPair};
 ghost use Rattle.blaze_table.specs.Listed.{listed};
 ghost use Rattle.blaze_table.specs.Table.{IsTable};
 
@@ -71,7 +72,7 @@ fn keep_key<T: Integer, V: Eq + Clone, F: Fn(&T, &V) -> bool>(
     len: T::SafeLen,
     f: &F,
 ) -> Result<T::SafeLen, AllocError>
-    requires callable { F.IsAlwaysCallable f.now }
+    requires callable { TakesPair F.Fn f.now (T.of_rank (T.rank key), value.now) }
     requires clones { ClonesAreAlike V.is_clone V.eq }
     requires counted { pos 1 ≤ℤ pos (T.SafeLen.number len) }
     ensures kept { OnOk result (KeepsMore (AnswersAtPair F.Fn) f.now T.rank V.eq T.low T.high (pairs_from T.of_rank (T.rank key) 1 value.now) (T.rank key) (T.rank key +ℤ pos 1) (listed T.rank out.old.items) (listed T.rank out.new.items)) }
@@ -96,7 +97,7 @@ fn keep_keys<T: Integer, V: Eq + Clone, F: Fn(&T, &V) -> bool>(
     len: T::SafeLen,
     f: &F,
 ) -> Result<T::SafeLen, AllocError>
-    requires callable { F.IsAlwaysCallable f.now }
+    requires callable { All (TakesPair F.Fn f.now) (pairs_of T.of_rank (entry (T.rank start) (T.rank end) value.now)) }
     requires clones { ClonesAreAlike V.is_clone V.eq }
     requires order { T.rank start ≤ℤ T.rank end }
     requires counted { (T.rank end -ℤ T.rank start +ℤ pos 1) ≤ℤ pos (T.SafeLen.number len) }
@@ -120,7 +121,7 @@ pub fn retain_keys<T: Integer, V: Eq + Clone, F: Fn(&T, &V) -> bool>(
     len: T::SafeLen,
     f: &F,
 ) -> Result<(Vec<(T, T, V)>, T::SafeLen), AllocError>
-    requires callable { F.IsAlwaysCallable f.now }
+    requires callable { IsCallableAtPairs F.Fn f.now T.of_rank entries.now.entries }
     requires clones { ClonesAreAlike V.is_clone V.eq }
     requires table { IsTable V.eq T.low T.high (T.SafeLen.number len) entries.now.entries }
     ensures retained { IfOk result (λ kept. IsKeyRetained F.Fn f.now T.rank T.of_rank V.eq T.low T.high entries.now.entries (listed T.rank kept.0.items)) }

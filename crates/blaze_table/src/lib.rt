@@ -4,6 +4,7 @@
 mod copy;
 mod count;
 mod cut;
+mod entry_keys;
 mod gaps;
 mod into_ranges_iter;
 mod keep;
@@ -18,6 +19,7 @@ mod split;
 mod table;
 
 pub use blaze_entries::{IntoIter, Iter};
+pub use entry_keys::keys_in_hand;
 pub use into_ranges_iter::IntoRangesIter;
 pub use range_set::RangeSetBlaze;
 pub use ranges_iter::RangesIter;

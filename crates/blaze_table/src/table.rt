@@ -10,7 +10,7 @@ ghost use Rattle.blaze_table.specs.Cut.{IsCut, IsSplit, IsAmongOthers};
 ghost use Rattle.blaze_table.specs.Gap.{IsGap};
 ghost use Rattle.blaze_table.specs.Listed.{listed};
 ghost use Rattle.blaze_table.specs.Work.{IsCountedPaint, IsCountedCut};
-ghost use Rattle.blaze_table.specs.Retain.{AnswersAt, IsCallableAtEach, IsKeyRetained};
+ghost use Rattle.blaze_table.specs.Retain.{AnswersAt, IsCallableAtEach, IsCallableAtPairs, IsKeyRetained};
 
 use crate::copy::clone_entries;
 use crate::count::count;
@@ -247,7 +247,7 @@ impl<T: Integer, V: Eq + Clone> RangeTable<T, V> {
     /// Keeps the keys that a closure answers true at: one call for each key that has a value, ascending, with the stored
     /// value. Refused memory leaves the table unchanged. No entry is counted.
     pub fn retain_keys<F: Fn(&T, &V) -> bool>(&mut self, f: F) -> Result<(), AllocError>
-        requires callable { F.IsAlwaysCallable f }
+        requires callable { IsCallableAtPairs F.Fn f T.of_rank self.old.entries }
         requires clones { ClonesAreAlike V.is_clone V.eq }
         ensures ok { OnOk result (IsKeyRetained F.Fn f T.rank T.of_rank V.eq T.low T.high self.old.entries self.new.entries) }
         ensures uncounted { OnOk result (self.new ≡ record self.old { entries = self.new.entries }) }

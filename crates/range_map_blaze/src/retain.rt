@@ -3,7 +3,7 @@ ghost use Rattle.std.specs.Prelude.{◌≡◌, OnOk, OnErr};
 ghost use Rattle.std.specs.List.Retain.{IsFiltered};
 ghost use Rattle.blaze_table.specs.Canonical.{IsRangeMap};
 ghost use Rattle.blaze_table.specs.Painted.{ClonesAreAlike};
-ghost use Rattle.blaze_table.specs.Retain.{AnswersAt, IsCallableAtEach, IsKeyRetained};
+ghost use Rattle.blaze_table.specs.Retain.{AnswersAt, IsCallableAtEach, IsCallableAtPairs, IsKeyRetained};
 
 use crate::map::RangeMapBlaze;
 use blaze_int::Integer;
@@ -26,7 +26,7 @@ impl<T: Integer, V: Eq + Clone> RangeMapBlaze<T, V> {
     /// Keeps the keys that a closure answers true at: one call for each key that has a value, ascending, with the stored
     /// value. Refused memory leaves the map unchanged.
     pub fn retain<F: Fn(&T, &V) -> bool>(&mut self, f: F) -> Result<(), AllocError>
-        requires callable { F.IsAlwaysCallable f }
+        requires callable { IsCallableAtPairs F.Fn f T.of_rank self.old.entries }
         requires clones { ClonesAreAlike V.is_clone V.eq }
         ensures ok { OnOk result (IsKeyRetained F.Fn f T.rank T.of_rank V.eq T.low T.high self.old.entries self.new.entries) }
         ensures uncounted { OnOk result (self.new ≡ record self.old { entries = self.new.entries }) }

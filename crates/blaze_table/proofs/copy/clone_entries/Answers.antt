@@ -1,4 +1,4 @@
-use Rattle.std.proofs.Common.{[], subst, sym}
+use Rattle.std.proofs.Common.{[], subst}
 use Rattle.std.proofs.lemmas.List.{append-nil}
 use Rattle.blaze_table.specs.Entries.{SameEntries}
 use Rattle.blaze_table.specs.Listed.{listed}

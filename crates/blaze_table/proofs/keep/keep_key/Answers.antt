@@ -4,6 +4,9 @@ use Rattle.blaze_table.specs.Retain.{AnswersAtPair}
 use Rattle.blaze_table.proofs.Keeping.{keys_added, more_no, more_yes}
 use Rattle.blaze_table.proofs.keep.keep_key.Goals as goal
 
+pub f-stays-requires : goal.f-stays-requires
+f-stays-requires g c = c.requires.callable _ _ (sym (g.met.T.Integer.ranked.one_key c.args.key c.in_hand.ensures.from c.in_hand.ensures.to)) refl
+
 pub returns-then-not-stays-clause-kept : goal.returns-then-not-stays-clause-kept
 returns-then-not-stays-clause-kept g c =
     let rank = g.T.Integer.rank in

@@ -4,9 +4,11 @@ use Rattle.std.proofs.lemmas.Int.{ints}
 use Rattle.blaze_table.specs.Count.{nat_of}
 use Rattle.blaze_table.specs.Keeping.{KeepsMore}
 use Rattle.blaze_table.specs.Pairs.{pairs_from}
-use Rattle.blaze_table.specs.Retain.{AnswersAtPair}
+use Rattle.blaze_table.specs.Retain.{AnswersAtPair, TakesPair}
 use Rattle.blaze_table.specs.Listed.{listed}
+use Rattle.blaze_table.proofs.AtPairs.{all_at}
 use Rattle.blaze_table.proofs.Keeping.{more_next}
+use Rattle.blaze_table.proofs.PairLists.{nat_of-pos}
 use Rattle.blaze_table.proofs.keep.keep_keys.Goals as goal
 
 below : (a b : ℤ) → int_lt a b ≡ true → a <ℤ b
@@ -14,6 +16,21 @@ below a b h = grind (arith, ints)
 
 not_below : (a b : ℤ) → int_lt a b ≡ false → b ≤ℤ a
 not_below a b h = grind (arith, ints)
+
+pub keep_key-requires-clause-callable : goal.keep_key-requires-clause-callable
+keep_key-requires-clause-callable g c =
+    let rank = g.T.Integer.rank in
+    let i = c.loop-end.invariant in
+    let less = below (rank c.loop-end.key) (rank c.args.end) (sym c.is_below.ensures ∙ c.loop-end-test.true) in
+    all_at g.T.Integer.of_rank (TakesPair g.F.Fn c.args.f.now) (rank c.args.start) _ c.args.value.now (rank c.loop-end.key) c.requires.callable i.from
+    (omega (arith, ints, less, nat_of-pos (rank c.args.end -ℤ rank c.args.start +ℤ pos 1) (omega (arith, ints, c.requires.order))))
+
+pub keep_key-requires-2-clause-callable : goal.keep_key-requires-2-clause-callable
+keep_key-requires-2-clause-callable g c =
+    let rank = g.T.Integer.rank in
+    let i = c.loop-end.invariant in
+    all_at g.T.Integer.of_rank (TakesPair g.F.Fn c.args.f.now) (rank c.args.start) _ c.args.value.now (rank c.loop-end.key) c.requires.callable i.from
+    (omega (arith, ints, i.to, nat_of-pos (rank c.args.end -ℤ rank c.args.start +ℤ pos 1) (omega (arith, ints, c.requires.order))))
 
 pub loop-end-preserved : goal.loop-end-preserved
 loop-end-preserved g c =

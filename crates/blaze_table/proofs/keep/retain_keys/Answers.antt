@@ -1,9 +1,9 @@
-use Rattle.std.proofs.Common.{[], ◌∙◌, refl, sym, ap, subst, pos}
-use Rattle.std.specs.List.{items_where_true}
-use Rattle.blaze_table.specs.Entries.{shown_entry}
+use Rattle.std.proofs.Common.{◌∙◌, refl, sym, subst, pos}
+use Rattle.std.specs.List.{All, items_where_true}
 use Rattle.blaze_table.specs.Listed.{listed}
 use Rattle.blaze_table.specs.Pairs.{pair_list}
-use Rattle.blaze_table.specs.Retain.{AnswersAtPair}
+use Rattle.blaze_table.specs.Retain.{AnswersAtPair, TakesPair}
+use Rattle.blaze_table.proofs.AtPairs.{all_pairs}
 use Rattle.blaze_table.proofs.Keeping.{IsReached, reached_none, reached_order, reached_room, reached_more, reached_table, reached_pairs}
 use Rattle.blaze_table.proofs.RangeMaps.{range_map}
 use Rattle.blaze_table.proofs.keep.retain_keys.Goals as goal
@@ -20,6 +20,15 @@ loop-start-init g c =
           (subst (λ es. IsReached (AnswersAtPair g.F.Fn) c.args.f.now rank g.V.PartialEq.eq g.T.Integer.low g.T.Integer.high g.T.Integer.of_rank all all len (listed rank es)) (sym c.new-out.ensures.items)
           (reached_none (AnswersAtPair g.F.Fn) c.args.f.now rank g.V.PartialEq.eq g.T.Integer.low g.T.Integer.high g.T.Integer.of_rank all len c.requires.table.are_keys c.requires.table.counted)),
     )
+
+pub keep_keys-requires-clause-callable : goal.keep_keys-requires-clause-callable
+keep_keys-requires-clause-callable g c =
+    let rank = g.T.Integer.rank in
+    let all = c.args.entries.now.entries in
+    let out = listed rank c.loop-start.out.items in
+    let h = subst (λ left. IsReached (AnswersAtPair g.F.Fn) c.args.f.now rank g.V.PartialEq.eq g.T.Integer.low g.T.Integer.high g.T.Integer.of_rank all left (pos (g.T.SafeLen.SafeLength.number c.loop-start.left)) out) c.in-Some.ensures.steps c.loop-start.invariant.2 in
+    let P = TakesPair g.F.Fn c.args.f.now in
+    all_pairs g.T.Integer.of_rank P h.done _ _ (subst (λ es. All P (pair_list g.T.Integer.of_rank es)) h.parts c.requires.callable)
 
 pub keep_keys-requires-clause-order : goal.keep_keys-requires-clause-order
 keep_keys-requires-clause-order g c =

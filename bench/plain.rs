@@ -1,0 +1,210 @@
+//! The works of `driver.cpp` over the plain Rust map, as a static library.
+mod draw;
+mod ranges;
+
+use draw::Draw;
+use ranges::RangeMap;
+
+type Map = RangeMap<u64>;
+
+/// Keys for each entry of a prepared map, on average, with the gap behind it.
+const SPACING: u64 = 17;
+
+/// Added to a work's number where the entries that are left are to be in the checksum.
+const CHECKED: u32 = 100;
+
+/// A map of `size` entries of 1 to 16 keys, or of `keys` keys, behind gaps of 1 to `gap` keys.
+fn prepared(seed: u64, size: u64, gap: u64, keys: u64) -> Map {
+    let mut draw = Draw(seed);
+    let mut next = 0;
+    let entries = (0..size).map(|_| {
+        let start = next + draw.key(gap);
+        let end = start + if keys == 0 { draw.key(16) } else { keys as i64 - 1 };
+        next = end + 2;
+        (start, end, draw.below(4))
+    });
+    Map::from_ascending(size as usize, entries)
+}
+
+fn mix(sum: u64, part: u64) -> u64 {
+    sum.wrapping_mul(31).wrapping_add(part)
+}
+
+fn checksum(check: bool, mut sum: u64, map: &Map) -> u64 {
+    if check {
+        for (start, end, value) in map.entries() {
+            sum = mix(mix(mix(sum, start as u64), end as u64), *value);
+        }
+    }
+    mix(sum, map.len() as u64)
+}
+
+/// Copies of a map, so that each has at most `size` of the operations.
+fn copies(size: u64) -> Vec<Map> {
+    let map = prepared(1, size, 16, 0);
+    vec![map; (100_000 / size).max(1) as usize]
+}
+
+/// Paints, insertions or removals at random places of maps of `size` entries.
+fn change(check: bool, size: u64, count: u64, operation: fn(&mut Map, &mut Draw, u64, u64) -> u64) -> u64 {
+    let mut draw = Draw(2);
+    let (mut sum, mut left) = (0, count);
+    for mut map in copies(size) {
+        let count = left.min(size);
+        left -= count;
+        sum = mix(sum, operation(&mut map, &mut draw, SPACING * size, count));
+        sum = checksum(check, sum, &map);
+    }
+    sum
+}
+
+fn paint(map: &mut Map, draw: &mut Draw, limit: u64, count: u64) -> u64 {
+    for _ in 0..count {
+        let lo = draw.key(limit);
+        let hi = lo + draw.key(16);
+        map.paint(lo, hi, draw.below(4));
+    }
+    0
+}
+
+fn insert(map: &mut Map, draw: &mut Draw, limit: u64, count: u64) -> u64 {
+    let mut sum = 0;
+    for _ in 0..count {
+        let key = draw.key(limit);
+        sum += map.insert(key, draw.below(4)).unwrap_or(7);
+    }
+    sum
+}
+
+fn remove(map: &mut Map, draw: &mut Draw, limit: u64, count: u64) -> u64 {
+    let mut sum = 0;
+    for _ in 0..count {
+        sum += map.remove(draw.key(limit)).unwrap_or(7);
+    }
+    sum
+}
+
+/// Sixteen paints at a time among the same 64 keys, then among the next 64.
+fn paint_clumps(check: bool, count: u64) -> u64 {
+    let mut draw = Draw(2);
+    let mut map = Map::default();
+    for place in 0..count {
+        let lo = (place / 16 * 64) as i64 + draw.key(64);
+        let hi = lo + draw.key(16);
+        map.paint(lo, hi, draw.below(4));
+    }
+    checksum(check, 0, &map)
+}
+
+fn get(size: u64, count: u64) -> u64 {
+    let map = prepared(1, size, 16, 0);
+    let mut draw = Draw(2);
+    let mut sum = 0;
+    for _ in 0..count {
+        sum += map.get(draw.key(SPACING * size)).copied().unwrap_or(7);
+    }
+    sum
+}
+
+fn split_off(check: bool, size: u64, count: u64) -> u64 {
+    let map = prepared(1, size, 16, 0);
+    let mut sum = 0;
+    for (place, mut map) in (0..).zip(vec![map; 16]) {
+        if place < count {
+            let upper = map.split_off((SPACING * size / 2) as i64);
+            sum = checksum(check, sum, &upper);
+        }
+        sum = checksum(check, sum, &map);
+    }
+    sum
+}
+
+fn append(check: bool, size: u64, count: u64) -> u64 {
+    let map = prepared(1, size, 16, 0);
+    let other = prepared(3, size, 16, 0);
+    let mut sum = 0;
+    for (place, (mut map, mut other)) in (0..).zip(vec![(map, other); 4]) {
+        if place < count {
+            map.append(&mut other);
+        }
+        sum = checksum(check, sum, &map);
+        sum = checksum(check, sum, &other);
+    }
+    sum
+}
+
+fn pop_first(check: bool, size: u64, count: u64) -> u64 {
+    let mut map = prepared(1, size, 16, 0);
+    let mut sum = 0;
+    for _ in 0..count {
+        if let Some((key, value)) = map.pop_first() {
+            sum = mix(mix(sum, key as u64), value);
+        }
+    }
+    checksum(check, sum, &map)
+}
+
+/// An operation on two lent maps, again and again.
+fn combine(check: bool, size: u64, other: u64, count: u64, operation: fn(&Map, &Map) -> Map) -> u64 {
+    let map = prepared(1, size, 16, 0);
+    let other = prepared(3, other, 16 * (size / other), 0);
+    let mut sum = 0;
+    for _ in 0..count {
+        sum = checksum(check, sum, &operation(&map, &other));
+    }
+    sum
+}
+
+/// Small maps, each taken over by value.
+fn union_by_value(check: bool, size: u64, count: u64) -> u64 {
+    let mut map = prepared(1, size, 16, 0);
+    let others: Vec<Map> = (3..1003).map(|seed| prepared(seed, 100, 16 * (size / 100), 0)).collect();
+    for other in others.into_iter().take(count as usize) {
+        map = map.union_by_value(other);
+    }
+    checksum(check, 0, &map)
+}
+
+/// Each key with its value, again and again.
+fn walk(size: u64, keys: u64, count: u64) -> u64 {
+    let map = prepared(1, size, 16, keys);
+    let mut sum = 0u64;
+    for _ in 0..count {
+        for (start, end, value) in map.entries() {
+            // (faster than a loop over `start..=end`)
+            let mut key = start;
+            while key <= end {
+                sum = (sum ^ key as u64).wrapping_add(*value);
+                key += 1;
+            }
+        }
+    }
+    sum
+}
+
+/// Does a work and answers a checksum, which is not 0; 0 where there is no such work.
+#[unsafe(no_mangle)]
+pub extern "C" fn plain_run(work: u32, size: u64, count: u64) -> u64 {
+    let check = work >= CHECKED;
+    let sum = match work % CHECKED {
+        0 => change(check, size, count, paint),
+        1 => change(check, size, count, insert),
+        2 => change(check, size, count, remove),
+        3 => paint_clumps(check, count),
+        4 => get(size, count),
+        5 => split_off(check, size, count),
+        6 => append(check, size, count),
+        7 => pop_first(check, size, count),
+        8 => combine(check, size, size, count, Map::union),
+        9 => combine(check, size, size / 10, count, Map::union),
+        10 => combine(check, size, 100, count, Map::union),
+        11 => union_by_value(check, size, count),
+        12 => combine(check, size, size, count, Map::intersection),
+        13 => combine(check, size, size, count, Map::difference),
+        14 => combine(check, size, size, count, Map::symmetric_difference),
+        15 => walk(size, 100, count),
+        16 => walk(size, 1, count),
+        _ => return 0,
+    };
+    sum | 1
+}

@@ -1,0 +1,557 @@
+//! The yardstick: a map from ranges of integers to values over std's `BTreeMap`, with a kept number of keys, in plain Rust.
+use std::collections::BTreeMap;
+use std::mem::{replace, take};
+use std::ops::Bound::{Excluded, Unbounded};
+
+/// The entries by their first keys: the last key and the value.
+#[derive(Clone)]
+pub struct RangeMap<V> {
+    tree: BTreeMap<i64, (i64, V)>,
+    len: u128,
+}
+
+impl<V> Default for RangeMap<V> {
+    fn default() -> Self {
+        RangeMap { tree: BTreeMap::new(), len: 0 }
+    }
+}
+
+/// How many keys lie from `start` up to `end`.
+fn length(start: i64, end: i64) -> u128 {
+    (i128::from(end) - i128::from(start) + 1) as u128
+}
+
+/// First keys of entries to be taken out: few as a rule, which then take no memory.
+#[derive(Default)]
+struct Gone {
+    few: [i64; 4],
+    count: usize,
+    more: Vec<i64>,
+}
+
+impl Gone {
+    fn push(&mut self, start: i64) {
+        if self.count < self.few.len() {
+            self.few[self.count] = start;
+            self.count += 1;
+        } else {
+            self.more.push(start);
+        }
+    }
+}
+
+/// What a paint leaves of an entry on its right.
+enum Rest<V> {
+    Nothing,
+    /// An entry that is cut in two.
+    Copy(i64, V),
+    /// An entry that starts among the painted keys: its first key.
+    Moved(i64),
+}
+
+impl<V: Eq + Clone> RangeMap<V> {
+    /// The map of ascending entries, where later ones may touch earlier ones.
+    pub fn from_ascending(capacity: usize, entries: impl Iterator<Item = (i64, i64, V)>) -> Self {
+        let mut gathered = Gathered::with_capacity(capacity);
+        for (start, end, value) in entries {
+            gathered.push(start, end, value);
+        }
+        gathered.build()
+    }
+
+    /// The number of keys.
+    pub fn len(&self) -> u128 {
+        self.len
+    }
+
+    /// The entries, ascending.
+    pub fn entries(&self) -> impl Iterator<Item = (i64, i64, &V)> {
+        self.tree.iter().map(|(start, (end, value))| (*start, *end, value))
+    }
+
+    /// Puts a value on the keys from `lo` up to `hi`, and says whether the number of keys changed. One pass backward over
+    /// the entries that touch the keys edits ends in place; what it found is then taken out and put in.
+    pub fn paint(&mut self, lo: i64, hi: i64, value: V) -> bool {
+        if lo > hi {
+            return false;
+        }
+        let mut end = hi;
+        let mut covered = 0;
+        let mut joined = false;
+        let mut place = None;
+        let mut rest = Rest::Nothing;
+        let mut gone = Gone::default();
+        for (&start, entry) in self.tree.range_mut(..=hi.saturating_add(1)).rev() {
+            if start > hi {
+                if entry.1 == value {
+                    end = entry.0;
+                    gone.push(start);
+                }
+            } else if start > lo {
+                covered += length(start, entry.0.min(hi));
+                if entry.0 <= hi {
+                    gone.push(start);
+                } else if entry.1 == value {
+                    end = entry.0;
+                    gone.push(start);
+                } else {
+                    rest = Rest::Moved(start);
+                }
+            } else if start == lo {
+                if entry.0 >= hi && entry.1 == value {
+                    return false;
+                }
+                covered += length(lo, entry.0.min(hi));
+                place = Some(entry);
+            } else {
+                if entry.1 == value {
+                    if entry.0 >= hi {
+                        return false;
+                    }
+                    if entry.0 >= lo - 1 {
+                        covered += length(lo, entry.0);
+                        entry.0 = end;
+                        joined = true;
+                    }
+                } else if entry.0 >= lo {
+                    covered += length(lo, entry.0.min(hi));
+                    if entry.0 > hi {
+                        rest = Rest::Copy(entry.0, entry.1.clone());
+                    }
+                    entry.0 = lo - 1;
+                }
+                break;
+            }
+        }
+        match place {
+            Some(entry) if joined => {
+                if entry.0 > hi {
+                    rest = Rest::Copy(entry.0, entry.1.clone());
+                }
+                gone.push(lo);
+            }
+            Some(entry) => {
+                let (old_end, old) = replace(entry, (end, value));
+                if old_end > hi {
+                    rest = Rest::Copy(old_end, old);
+                }
+            }
+            None if joined => {}
+            None => {
+                self.tree.insert(lo, (end, value));
+            }
+        }
+        self.settle(hi, gone, rest);
+        let painted = length(lo, hi);
+        self.len = self.len - covered + painted;
+        painted != covered
+    }
+
+    /// Takes the covered entries out, and puts in what is left on the right of `hi`.
+    fn settle(&mut self, hi: i64, gone: Gone, rest: Rest<V>) {
+        for start in &gone.few[..gone.count] {
+            self.tree.remove(start);
+        }
+        for start in &gone.more {
+            self.tree.remove(start);
+        }
+        match rest {
+            Rest::Nothing => {}
+            Rest::Copy(end, value) => {
+                self.tree.insert(hi + 1, (end, value));
+            }
+            Rest::Moved(start) => {
+                if let Some(entry) = self.tree.remove(&start) {
+                    self.tree.insert(hi + 1, entry);
+                }
+            }
+        }
+    }
+
+    /// Puts a value on a key, and answers the value that was there.
+    pub fn insert(&mut self, key: i64, value: V) -> Option<V> {
+        let old = self.get(key).cloned();
+        self.paint(key, key, value);
+        old
+    }
+
+    /// The value at a key.
+    pub fn get(&self, key: i64) -> Option<&V> {
+        let (_, (end, value)) = self.tree.range(..=key).next_back()?;
+        if key <= *end { Some(value) } else { None }
+    }
+
+    /// Takes a key out, and answers the value that was there.
+    pub fn remove(&mut self, key: i64) -> Option<V> {
+        let (&start, entry) = self.tree.range_mut(..=key).next_back()?;
+        let end = entry.0;
+        if end < key {
+            return None;
+        }
+        self.len -= 1;
+        let value = if start < key {
+            entry.0 = key - 1;
+            entry.1.clone()
+        } else {
+            self.tree.remove(&key)?.1
+        };
+        if key < end {
+            self.tree.insert(key + 1, (end, value.clone()));
+        }
+        Some(value)
+    }
+
+    /// Takes the least key out, and answers it with its value.
+    pub fn pop_first(&mut self) -> Option<(i64, V)> {
+        let (key, (end, value)) = self.tree.pop_first()?;
+        self.len -= 1;
+        if key < end {
+            self.tree.insert(key + 1, (end, value.clone()));
+        }
+        Some((key, value))
+    }
+
+    /// Keeps the keys below one, and answers the map of the keys from it on.
+    pub fn split_off(&mut self, key: i64) -> Self {
+        let mut tree = self.tree.split_off(&key);
+        if let Some((_, entry)) = self.tree.range_mut(..key).next_back()
+            && entry.0 >= key
+        {
+            tree.insert(key, (entry.0, entry.1.clone()));
+            entry.0 = key - 1;
+        }
+        let len = tree.iter().map(|(start, (end, _))| length(*start, *end)).sum();
+        self.len -= len;
+        RangeMap { tree, len }
+    }
+
+    /// Takes the entries of another map over; where both have a value, the other's wins.
+    pub fn append(&mut self, other: &mut Self) {
+        *self = take(self).union_by_value(take(other));
+    }
+
+    /// The values of `other` where it has some, and else those of `self`.
+    pub fn union(&self, other: &Self) -> Self {
+        if are_few(other.tree.len(), self.tree.len()) {
+            let mut map = self.clone();
+            map.paint_all(other);
+            return map;
+        }
+        let mut gathered = Gathered::with_capacity(self.tree.len() + other.tree.len());
+        let left = self.entries().map(|(start, end, value)| (start, end, value.clone()));
+        let right = other.entries().map(|(start, end, value)| (start, end, value.clone()));
+        gathered.unite(left, right);
+        gathered.build()
+    }
+
+    /// The same, where both maps may be used up.
+    pub fn union_by_value(mut self, other: Self) -> Self {
+        if are_few(other.tree.len(), self.tree.len()) {
+            self.paint_all(&other);
+            return self;
+        }
+        let mut gathered = Gathered::with_capacity(self.tree.len() + other.tree.len());
+        let left = self.tree.into_iter().map(|(start, (end, value))| (start, end, value));
+        let right = other.tree.into_iter().map(|(start, (end, value))| (start, end, value));
+        gathered.unite(left, right);
+        gathered.build()
+    }
+
+    fn paint_all(&mut self, other: &Self) {
+        for (start, end, value) in other.entries() {
+            self.paint(start, end, value.clone());
+        }
+    }
+
+    /// The values of `other` on the keys of both.
+    pub fn intersection(&self, other: &Self) -> Self {
+        let mut gathered = Gathered::with_capacity(self.tree.len().max(other.tree.len()));
+        let (mut left, mut right) = (self.entries(), other.entries());
+        let (mut a, mut b) = (left.next(), right.next());
+        while let (Some((a_start, a_end, _)), Some((b_start, b_end, value))) = (a, b) {
+            let (start, end) = (a_start.max(b_start), a_end.min(b_end));
+            if start <= end {
+                gathered.push(start, end, value.clone());
+            }
+            if a_end <= b_end {
+                a = left.next();
+            } else {
+                b = right.next();
+            }
+        }
+        gathered.build()
+    }
+
+    /// The values of `self` off the keys of `other`.
+    pub fn difference(&self, other: &Self) -> Self {
+        let mut gathered = Gathered::with_capacity(self.tree.len());
+        let mut right = other.entries();
+        let mut b = right.next();
+        for (start, a_end, value) in self.entries() {
+            let mut next = Some(start);
+            while let (Some(first), Some((b_start, b_end, _))) = (next, b) {
+                if b_end < first {
+                    b = right.next();
+                } else if b_start > a_end {
+                    break;
+                } else {
+                    if first < b_start {
+                        gathered.push(first, b_start - 1, value.clone());
+                    }
+                    next = if b_end < a_end { Some(b_end + 1) } else { None };
+                }
+            }
+            if let Some(first) = next {
+                gathered.push(first, a_end, value.clone());
+            }
+        }
+        gathered.build()
+    }
+
+    /// The values on the keys that exactly one of the two maps has.
+    pub fn symmetric_difference(&self, other: &Self) -> Self {
+        let mut gathered = Gathered::with_capacity(self.tree.len() + other.tree.len());
+        let (mut left, mut right) = (self.entries(), other.entries());
+        let (mut a, mut b) = (left.next(), right.next());
+        loop {
+            match (a, b) {
+                (Some((a_start, a_end, a_value)), Some((b_start, b_end, b_value))) => {
+                    if a_start < b_start {
+                        let end = a_end.min(b_start - 1);
+                        gathered.push(a_start, end, a_value.clone());
+                        a = if end < a_end { Some((b_start, a_end, a_value)) } else { left.next() };
+                    } else if b_start < a_start {
+                        let end = b_end.min(a_start - 1);
+                        gathered.push(b_start, end, b_value.clone());
+                        b = if end < b_end { Some((a_start, b_end, b_value)) } else { right.next() };
+                    } else {
+                        let end = a_end.min(b_end);
+                        a = if end < a_end { Some((end + 1, a_end, a_value)) } else { left.next() };
+                        b = if end < b_end { Some((end + 1, b_end, b_value)) } else { right.next() };
+                    }
+                }
+                (Some((start, end, value)), None) => {
+                    gathered.push(start, end, value.clone());
+                    a = left.next();
+                }
+                (None, Some((start, end, value))) => {
+                    gathered.push(start, end, value.clone());
+                    b = right.next();
+                }
+                (None, None) => return gathered.build(),
+            }
+        }
+    }
+
+    /// The entry that holds a key: its first and last key and its value; else the gap round the key.
+    pub fn range_or_gap_at(&self, key: i64) -> (i64, i64, Option<&V>) {
+        let mut first = i64::MIN;
+        if let Some((start, (end, value))) = self.tree.range(..=key).next_back() {
+            if key <= *end {
+                return (*start, *end, Some(value));
+            }
+            first = end + 1;
+        }
+        let next = self.tree.range((Excluded(key), Unbounded)).next();
+        let last = next.map_or(i64::MAX, |(start, _)| start - 1);
+        (first, last, None)
+    }
+}
+
+/// Whether so few entries take less time to paint into a map of `len` entries than a pass over both.
+fn are_few(few: usize, len: usize) -> bool {
+    few * 16 < len
+}
+
+/// Entries on their way into a map, ascending.
+struct Gathered<V> {
+    entries: Vec<(i64, (i64, V))>,
+    len: u128,
+}
+
+impl<V: Eq> Gathered<V> {
+    fn with_capacity(capacity: usize) -> Self {
+        Gathered { entries: Vec::with_capacity(capacity), len: 0 }
+    }
+
+    /// Puts an entry behind the others; one that touches the last, with an equal value, lengthens it.
+    fn push(&mut self, start: i64, end: i64, value: V) {
+        self.len += length(start, end);
+        if let Some((_, last)) = self.entries.last_mut()
+            && last.0 == start.wrapping_sub(1)
+            && last.1 == value
+        {
+            last.0 = end;
+        } else {
+            self.entries.push((start, (end, value)));
+        }
+    }
+
+    /// Puts in the values of `right` where it has some, and else those of `left`.
+    fn unite(&mut self, left: impl Iterator<Item = (i64, i64, V)>, right: impl Iterator<Item = (i64, i64, V)>)
+    where
+        V: Clone,
+    {
+        let mut left = left;
+        let mut a = left.next();
+        for (b_start, b_end, b_value) in right {
+            // what lies before the right entry
+            while let Some((start, end, value)) = a.take() {
+                if end < b_start {
+                    self.push(start, end, value);
+                    a = left.next();
+                } else if start < b_start {
+                    self.push(start, b_start - 1, value.clone());
+                    a = Some((b_start, end, value));
+                } else {
+                    a = Some((start, end, value));
+                    break;
+                }
+            }
+            // what lies under it
+            while let Some((_, end, value)) = a.take_if(|(start, _, _)| *start <= b_end) {
+                if end > b_end {
+                    a = Some((b_end + 1, end, value));
+                    break;
+                }
+                a = left.next();
+            }
+            self.push(b_start, b_end, b_value);
+        }
+        while let Some((start, end, value)) = a {
+            self.push(start, end, value);
+            a = left.next();
+        }
+    }
+
+    /// The map of the entries, built in one pass.
+    fn build(self) -> RangeMap<V> {
+        RangeMap { tree: BTreeMap::from_iter(self.entries), len: self.len }
+    }
+}
+
+#[cfg(test)]
+mod tests {
+    use super::*;
+    use crate::draw::Draw;
+
+    const KEYS: i64 = 40;
+
+    /// A value, or none, for each of a few keys.
+    type Model = Vec<Option<u64>>;
+
+    fn listed(model: &Model) -> Vec<(i64, i64, u64)> {
+        let mut list: Vec<(i64, i64, u64)> = Vec::new();
+        for (key, value) in (0i64..).zip(model) {
+            let Some(value) = *value else { continue };
+            match list.last_mut() {
+                Some((_, end, last)) if *end == key - 1 && *last == value => *end = key,
+                _ => list.push((key, key, value)),
+            }
+        }
+        list
+    }
+
+    fn assert_same(map: &RangeMap<u64>, model: &Model) {
+        let list: Vec<_> = map.entries().map(|(start, end, value)| (start, end, *value)).collect();
+        assert_eq!(list, listed(model));
+        assert_eq!(map.len(), model.iter().flatten().count() as u128);
+    }
+
+    fn chosen(a: &Model, b: &Model, choose: fn(Option<u64>, Option<u64>) -> Option<u64>) -> Model {
+        a.iter().zip(b).map(|(a, b)| choose(*a, *b)).collect()
+    }
+
+    fn painted(draw: &mut Draw, count: u64) -> (RangeMap<u64>, Model) {
+        let mut map = RangeMap::default();
+        let mut model: Model = vec![None; KEYS as usize];
+        for _ in 0..count {
+            step(draw, &mut map, &mut model);
+            assert_same(&map, &model);
+        }
+        (map, model)
+    }
+
+    fn step(draw: &mut Draw, map: &mut RangeMap<u64>, model: &mut Model) {
+        let key = draw.key(KEYS as u64);
+        let place = key as usize;
+        match draw.below(8) {
+            0 => assert_eq!(map.remove(key), model[place].take()),
+            1 => {
+                let value = draw.below(3);
+                assert_eq!(map.insert(key, value), model[place].replace(value));
+            }
+            2 => assert_eq!(map.get(key).copied(), model[place]),
+            3 => {
+                let (start, end, value) = map.range_or_gap_at(key);
+                assert_eq!(value.copied(), model[place]);
+                assert!(start <= key && key <= end);
+                let same = |key: i64| model.get(key as usize).is_some_and(|v| *v == model[place]);
+                assert!((start.max(0)..=end.min(KEYS - 1)).all(same));
+                assert!(value.is_some() || start == i64::MIN || !same(start - 1));
+                assert!(value.is_some() || end == i64::MAX || !same(end + 1));
+            }
+            4 if draw.below(4) == 0 => {
+                let first = model.iter().position(Option::is_some);
+                let wanted = first.and_then(|key| Some((key as i64, model[key].take()?)));
+                assert_eq!(map.pop_first(), wanted);
+            }
+            _ => {
+                let hi = (key + draw.key(9)).min(KEYS - 1);
+                let value = draw.below(3);
+                let keys = place..=hi as usize;
+                let changed = model[keys.clone()].contains(&None);
+                assert_eq!(map.paint(key, hi, value), changed);
+                model[keys].fill(Some(value));
+            }
+        }
+    }
+
+    #[test]
+    fn paints_and_removals() {
+        let mut draw = Draw(1);
+        for _ in 0..2000 {
+            painted(&mut draw, 100);
+        }
+    }
+
+    #[test]
+    fn two_maps() {
+        let mut draw = Draw(2);
+        for _ in 0..20000 {
+            let (few, more) = (draw.below(30), draw.below(30));
+            let (mut a, first) = painted(&mut draw, few);
+            let (mut b, second) = painted(&mut draw, more);
+            let either = chosen(&first, &second, |a, b| b.or(a));
+            assert_same(&a.union(&b), &either);
+            assert_same(&a.clone().union_by_value(b.clone()), &either);
+            assert_same(&a.intersection(&b), &chosen(&first, &second, |a, b| a.and(b)));
+            assert_same(&a.difference(&b), &chosen(&first, &second, |a, b| if b.is_none() { a } else { None }));
+            assert_same(&a.symmetric_difference(&b), &chosen(&first, &second, |a, b| a.xor(b)));
+            let key = draw.below(KEYS as u64) as usize;
+            let upper = a.clone().split_off(key as i64);
+            let (mut below, mut above) = (first.clone(), first.clone());
+            below[key..].fill(None);
+            above[..key].fill(None);
+            assert_same(&upper, &above);
+            let mut lower = a.clone();
+            lower.split_off(key as i64);
+            assert_same(&lower, &below);
+            a.append(&mut b);
+            assert_same(&a, &either);
+            assert_same(&b, &vec![None; KEYS as usize]);
+        }
+    }
+
+    #[test]
+    fn keys_at_both_ends_of_the_type() {
+        let mut map = RangeMap::default();
+        assert!(map.paint(i64::MIN, i64::MAX, 1));
+        assert!(!map.paint(i64::MAX, i64::MAX, 2));
+        assert!(!map.paint(i64::MIN, i64::MIN, 2));
+        assert_eq!(map.len(), 1 << 64);
+        assert_eq!(map.entries().count(), 3);
+        assert!(!map.paint(i64::MIN, i64::MAX, 1));
+        assert_eq!(map.entries().count(), 1);
+    }
+}

@@ -1,0 +1,42 @@
+#!/usr/bin/env bash
+# Measures the library beside plain Rust (`ranges.rs`) and Boost's interval_map, and prints tables in Markdown.
+#
+#     bench/run.sh                    every work: some minutes on a machine that does nothing else
+#     bench/run.sh --quick            few operations and rounds: a look, no result
+#     bench/run.sh [--quick] WORD..   the works whose names have one of the words, as paint, append or program
+#
+# Times are of the processor: the least of nine rounds in which the sides take turns, less the same for no operation. All sides
+# have the same pseudo-random input, and must leave the same entries. 'over' marks a ratio above its limit, '(fewer)' a side
+# that was slow and did less than a quarter of the operations; one that takes over 3 s for a work has one round. The program on
+# lines is timed as a process, user and system.
+#
+# It needs `rt`, rustc, g++ and Boost's headers (Debian: libboost-dev), and first proves and builds what it measures where that
+# is not built yet. It is no part of the merge gate, and no test rests on a time.
+set -euo pipefail
+cd "$(dirname "$(readlink -f "${BASH_SOURCE[0]}")")"
+root="$(cd .. && pwd)"
+kit="$(dirname "$(rt doc)")"
+mkdir -p out
+
+echo "bench: proving and building the library and the program" >&2
+for crate in blaze_int blaze_table blaze_streams blaze_iters range_map_blaze bench_library; do
+    if ! (cd "$root/crates/$crate" && rt lib) >out/log 2>&1; then
+        cat out/log >&2
+        exit 1
+    fi
+done
+"$root/rangemap" </dev/null
+
+echo "bench: building the other sides" >&2
+rust=(rustc --edition 2024 -O -C target-cpu=x86-64-v2 -C panic=abort -A dead_code)
+rustc --edition 2024 -O -C debug-assertions -A dead_code --test -o out/plain_test plain.rs
+out/plain_test --quiet >&2
+"${rust[@]}" --crate-type staticlib -o out/libplain.a plain.rs
+"${rust[@]}" -o out/plain_lines plain_lines.rs
+g++ -std=c++17 -O2 -Wall -Wextra -c -o out/boost.o boost.cpp
+g++ -std=c++17 -O2 -Wall -Wextra -o out/driver driver.cpp out/boost.o out/libplain.a \
+    "$root/crates/bench_library/out/libbench_library.a" "$kit/c/liblibc_c.a"
+
+folder="$(mktemp -d)"
+trap 'rm -rf "$folder"' EXIT
+out/driver --programs "$folder" "$root/crates/rangemap/out/rangemap" "$PWD/out/plain_lines" "$@"

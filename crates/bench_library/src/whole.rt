@@ -1,0 +1,118 @@
+//! Works on whole maps.
+use crate::prepared::{Map, checksum, prepared, spread};
+use std::alloc::{AllocError, Global};
+
+/// What is made of two maps.
+#[derive(Clone, Copy, Debug)]
+pub enum Combination {
+    Union,
+    Intersection,
+    Difference,
+    SymmetricDifference,
+}
+
+/// Maps cut in the middle, of sixteen.
+pub fn split_off(alloc: Global, check: bool, size: u64, count: u64) -> Result<u64, AllocError> {
+    let map = prepared(alloc, 1, size, 16, 0)?;
+    let mut maps = Vec::new(alloc);
+    for _ in 0..16 {
+        maps.push(map.clone()?)?;
+    }
+    let middle = (spread(size) / 2).cast_signed();
+    let mut sum = 0;
+    let mut left = count;
+    for map in maps {
+        let mut map = map;
+        if left > 0 {
+            left -= 1;
+            let upper = map.split_off(middle)?;
+            sum = checksum(check, sum, &upper);
+        }
+        sum = checksum(check, sum, &map);
+    }
+    Ok(sum)
+}
+
+/// Maps taken over by others of the same size, of four.
+pub fn append(alloc: Global, check: bool, size: u64, count: u64) -> Result<u64, AllocError> {
+    let map = prepared(alloc, 1, size, 16, 0)?;
+    let other = prepared(alloc, 3, size, 16, 0)?;
+    let mut pairs = Vec::new(alloc);
+    for _ in 0..4 {
+        pairs.push((map.clone()?, other.clone()?))?;
+    }
+    let mut sum = 0;
+    let mut left = count;
+    for (map, other) in pairs {
+        let mut map = map;
+        let mut other = other;
+        if left > 0 {
+            left -= 1;
+            map.append(&mut other)?;
+        }
+        sum = checksum(check, sum, &map);
+        sum = checksum(check, sum, &other);
+    }
+    Ok(sum)
+}
+
+/// A map made of two lent maps, again and again.
+pub fn combine(
+    alloc: Global,
+    check: bool,
+    combination: Combination,
+    size: u64,
+    other: u64,
+    count: u64,
+) -> Result<u64, AllocError> {
+    let gap = if other == 0 { 0 } else { size / other };
+    let map = prepared(alloc, 1, size, 16, 0)?;
+    let other = prepared(alloc, 3, other, gap.saturating_mul(16), 0)?;
+    let mut sum = 0;
+    for _ in 0..count {
+        let made = match combination {
+            Combination::Union => (&map | &other)?,
+            Combination::Intersection => (&map & &other)?,
+            Combination::Difference => (&map - &other)?,
+            Combination::SymmetricDifference => (&map ^ &other)?,
+        };
+        sum = checksum(check, sum, &made);
+    }
+    Ok(sum)
+}
+
+/// Small maps, each taken over by value, of a thousand.
+pub fn union_by_value(
+    alloc: Global,
+    check: bool,
+    size: u64,
+    count: u64,
+) -> Result<u64, AllocError> {
+    let mut map = prepared(alloc, 1, size, 16, 0)?;
+    let gap = (size / 100).saturating_mul(16);
+    let mut others = Vec::new(alloc);
+    for seed in 3..1003 {
+        others.push(prepared(alloc, seed, 100, gap, 0)?)?;
+    }
+    let mut left = count;
+    for other in others {
+        if left == 0 {
+            break;
+        }
+        left -= 1;
+        map = (map | other)?;
+    }
+    Ok(checksum(check, 0, &map))
+}
+
+/// Each key with its value, again and again.
+pub fn walk(alloc: Global, size: u64, keys: u64, count: u64) -> Result<u64, AllocError> {
+    let map = prepared(alloc, 1, size, 16, keys)?;
+    let mut sum = 0u64;
+    for _ in 0..count {
+        for (key, value) in map.iter() {
+            sum = (sum ^ key.cast_unsigned()).wrapping_add(*value);
+        }
+    }
+    Ok(sum)
+}

@@ -1,0 +1,15 @@
+//! The keys of a list in hand.
+ghost use Rattle.blaze_table.specs.Canonical.{AreKeys};
+ghost use Rattle.blaze_table.specs.Listed.{listed};
+
+use blaze_int::Integer;
+
+/// Does nothing; its contract says that the ends of entries are keys: first key, last key and value.
+pub fn keys_in_hand<T: Integer, V>(entries: &[(T, T, V)])
+    ensures { AreKeys T.low T.high (listed T.rank entries.now) }
+{
+    for entry in entries {
+        entry.0.in_hand();
+        entry.1.in_hand();
+    }
+}
