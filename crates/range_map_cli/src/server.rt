@@ -1,6 +1,6 @@
 //! Serves a reader and a writer.
-ghost use Rattle.std.specs.Prelude.{◌≡◌, IfSome};
-ghost use Rattle.range_map_cli.specs.Output.{Closes, Streams, StopsReading};
+ghost use Rattle.std.specs.Prelude.{◌≡◌};
+ghost use Rattle.range_map_cli.specs.Output.{Serves, Streams, StopsReading};
 
 use crate::End;
 use crate::output::flush;
@@ -16,7 +16,7 @@ const CHUNK: usize = 8192;
 /// The range map is empty at first. The answers to the lines that end in the bytes of one read are written before the
 /// next read, and none follows the read in which a bad line ends. A read or a write that fails is not tried again.
 pub fn serve<R: Read, W: Write>(alloc: Global, input: &mut R, output: &mut W) -> End
-    ensures closes { IfSome (R.remaining input.old) (λ text. Closes (W.contents output.old) (W.contents output.new) text result) }
+    ensures closes { Serves (W.contents output.old) (W.contents output.new) (R.remaining input.old) (R.remaining input.new) result }
     ensures stops { result ≡ End.BadLine → StopsReading (R.remaining input.old) (R.remaining input.new) }
     ensures streams { result ≡ End.ReadFault → Streams (W.contents output.old) (W.contents output.new) (R.remaining input.old) (R.remaining input.new) }
 {

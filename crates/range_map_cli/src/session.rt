@@ -6,7 +6,7 @@ ghost use Rattle.range_map_cli.specs.Commands.{Command, command_of};
 ghost use Rattle.range_map_cli.specs.Replies.{after, Replies};
 ghost use Rattle.range_map_cli.specs.Output.{Prints, Closes};
 ghost use Rattle.range_map_cli.specs.States.{content_of, HasWords};
-ghost use Rattle.range_map_cli.specs.Sessions.{IsAt};
+ghost use Rattle.range_map_cli.specs.Sessions.{IsAt, ClosesBefore};
 
 use crate::answer::answer;
 use crate::output::{flush, put};
@@ -100,7 +100,7 @@ impl Session {
 /// Writes what waits, and a last text.
 pub fn close<W: Write>(waiting: &mut Vec<u8>, output: &mut W, text: &[u8], end: End) -> End
     ensures kind { (result ≡ end) ⊎ (result ≡ End.WriteFault) }
-    ensures closes { (held : Option (List ℕ)) (all out : List ℕ) → Appends held (W.contents output.old) out → Prints all end (out ++ (waiting.old.items ++ text.now)) → Closes held (W.contents output.new) all result }
+    ensures closes { (held : Option (List ℕ)) (all out : List ℕ) (n : ℕ) → Appends held (W.contents output.old) out → Prints all n end (out ++ (waiting.old.items ++ text.now)) → Closes held (W.contents output.new) all n result }
 {
     let Ok(()) = put(waiting, output, text) else {
         return End::WriteFault;
@@ -116,7 +116,7 @@ fn end_line<W: Write>(session: &mut Session, alloc: Global, output: &mut W) -> R
     ensures ok { OnOk result ((held : Option (List ℕ)) (text rest : List ℕ) (lines : ℕ) → IsAt held (W.contents output.old) text session.old (10 ∷ rest) lines → IsAt held (W.contents output.new) text session.new rest lines) }
     ensures line { OnOk result (session.new.line.items ≡ []) }
     ensures kind { IfErr result (λ end. end ≢ End.ReadFault) }
-    ensures err { IfErr result (λ end. (held : Option (List ℕ)) (text rest : List ℕ) (lines : ℕ) → IsAt held (W.contents output.old) text session.old (10 ∷ rest) lines → Closes held (W.contents output.new) text end) }
+    ensures err { IfErr result (λ end. (held : Option (List ℕ)) (text rest : List ℕ) (lines : ℕ) → IsAt held (W.contents output.old) text session.old (10 ∷ rest) lines → ClosesBefore held (W.contents output.new) text rest lines end) }
 {
     match session.answer(alloc) {
         Ok(()) => match put(&mut session.waiting, output, session.reply.as_bytes()) {
@@ -139,7 +139,7 @@ fn take_part<W: Write>(session: &mut Session, output: &mut W, bytes: &[u8]) -> R
     requires { Lacks 10 bytes.now }
     ensures ok { OnOk result ((held : Option (List ℕ)) (text rest : List ℕ) (lines : ℕ) → IsAt held (W.contents output.old) text session.old (bytes.now ++ rest) lines → IsAt held (W.contents output.new) text session.new rest lines) }
     ensures kind { IfErr result (λ end. end ≢ End.ReadFault) }
-    ensures err { IfErr result (λ end. (held : Option (List ℕ)) (text rest : List ℕ) (lines : ℕ) → IsAt held (W.contents output.old) text session.old (bytes.now ++ rest) lines → Closes held (W.contents output.new) text end) }
+    ensures err { IfErr result (λ end. (held : Option (List ℕ)) (text rest : List ℕ) (lines : ℕ) → IsAt held (W.contents output.old) text session.old (bytes.now ++ rest) lines → ClosesBefore held (W.contents output.new) text rest lines end) }
 {
     match session.keep(bytes) {
         Ok(()) => Ok(()),
@@ -156,7 +156,7 @@ pub fn feed<W: Write>(
 ) -> Result<(), End>
     ensures ok { OnOk result ((held : Option (List ℕ)) (text rest : List ℕ) (lines : ℕ) → IsAt held (W.contents output.old) text session.old (bytes.now ++ rest) lines → IsAt held (W.contents output.new) text session.new rest lines) }
     ensures kind { IfErr result (λ end. end ≢ End.ReadFault) }
-    ensures err { IfErr result (λ end. (held : Option (List ℕ)) (text rest : List ℕ) (lines : ℕ) → IsAt held (W.contents output.old) text session.old (bytes.now ++ rest) lines → Closes held (W.contents output.new) text end) }
+    ensures err { IfErr result (λ end. (held : Option (List ℕ)) (text rest : List ℕ) (lines : ℕ) → IsAt held (W.contents output.old) text session.old (bytes.now ++ rest) lines → ClosesBefore held (W.contents output.new) text rest lines end) }
 {
     let mut rest = bytes;
     while let Some((line, after)) = split_once(rest, b'\n') {
@@ -170,7 +170,7 @@ pub fn feed<W: Write>(
 /// Answers what stands after the last LF, if anything does, and writes what waits.
 pub fn finish<W: Write>(session: &mut Session, alloc: Global, output: &mut W) -> End
     ensures kind { result ≢ End.ReadFault }
-    ensures closes { (held : Option (List ℕ)) (text : List ℕ) (lines : ℕ) → IsAt held (W.contents output.old) text session.old [] lines → Closes held (W.contents output.new) text result }
+    ensures closes { (held : Option (List ℕ)) (text : List ℕ) (lines : ℕ) → IsAt held (W.contents output.old) text session.old [] lines → ClosesBefore held (W.contents output.new) text [] (lines + 1) result }
 {
     if session.line.is_empty() {
         return close(&mut session.waiting, output, b"", End::Done);

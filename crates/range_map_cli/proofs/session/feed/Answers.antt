@@ -1,6 +1,7 @@
-use Rattle.std.proofs.Common.{◌≡◌, ◌++◌, ◌∷◌, ◌∙◌, ap, subst, append_assoc}
+use Rattle.std.proofs.Common.{◌≡◌, ◌++◌, [], ◌∷◌, ◌∙◌, arith, ap, subst, append_assoc}
 use Rattle.std.proofs.lemmas.Result.{err_from_is_err_and, IfErr-weaker}
 use Rattle.range_map_cli.specs.Sessions.{IsAt}
+use Rattle.range_map_cli.proofs.Cuts.{ends_in-append}
 use Rattle.range_map_cli.proofs.session.feed.Goals as goal
 
 pub returns-in_err-take_part-clause-err : goal.returns-in_err-take_part-clause-err
@@ -10,7 +11,8 @@ returns-in_err-take_part-clause-err g c =
     let after = c.in-Some.after.now in
     rw (p.1, p.2) (λ held text rest lines at.
     let split : c.loop-line.rest.now ++ rest ≡ line ++ 10 ∷ (after ++ rest) = ap (λ l. l ++ rest) c.in-Some.ensures.1 ∙ append_assoc line (10 ∷ after) rest in
-    c.in_err-take_part.ensures.err held text (10 ∷ (after ++ rest)) lines (subst (λ l. IsAt held (g.W.Write.contents c.loop-line.output) text c.loop-line.session l lines) split (c.loop-line.invariant held text rest lines at)))
+    let h = c.in_err-take_part.ensures.err held text (10 ∷ (after ++ rest)) lines (subst (λ l. IsAt held (g.W.Write.contents c.loop-line.output) text c.loop-line.session l lines) split (c.loop-line.invariant held text rest lines at)) in
+    (h.0, omega (arith, h.1, ends_in-append (10 ∷ []) (after ++ rest), ends_in-append after rest), h.2))
 
 pub returns-in_err-end_line-clause-err : goal.returns-in_err-end_line-clause-err
 returns-in_err-end_line-clause-err g c =
@@ -20,7 +22,7 @@ returns-in_err-end_line-clause-err g c =
     rw (p.1, p.2) (λ held text rest lines at.
     let split : c.loop-line.rest.now ++ rest ≡ line ++ 10 ∷ (after ++ rest) = ap (λ l. l ++ rest) c.in-Some.ensures.1 ∙ append_assoc line (10 ∷ after) rest in
     let here = c.in_ok-take_part.ensures.ok held text (10 ∷ (after ++ rest)) lines (subst (λ l. IsAt held (g.W.Write.contents c.loop-line.output) text c.loop-line.session l lines) split (c.loop-line.invariant held text rest lines at)) in
-    c.in_err-end_line.ensures.err held text (after ++ rest) lines here)
+    let h = c.in_err-end_line.ensures.err held text (after ++ rest) lines here in (h.0, omega (arith, h.1, ends_in-append after rest), h.2))
 
 pub loop-line-preserved : goal.loop-line-preserved
 loop-line-preserved g c = λ held text more lines at.
