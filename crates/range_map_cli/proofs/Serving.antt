@@ -1,32 +1,20 @@
 -- Where a session is, where the bytes of its reader are known.
 use Rattle.std.proofs.Common.{◌≡◌, ℕ, zero, suc, ◌+◌, ◌≤◌, List, [], ◌∷◌, ◌++◌, take, length, length-append, refl, sym, ap, ◌∙◌, subst, arith, append-nil, Option, Some, None, IfSome, false, inl, inr}
-use Rattle.std.proofs.KnownBytes.{Appends-nil, Consumes-kept, Consumes-nil, Consumes-trans}
+use Rattle.std.proofs.KnownBytes.{Appends-nil, Consumes-kept, Consumes-trans}
 use Rattle.std.specs.Io.KnownBytes.{Appends, Consumes, IsAtEnd, Keeps}
 use Rattle.range_map_cli.specs.declared.session.Session.{Session}
 use Rattle.range_map_cli.specs.declared.End.{End}
 use Rattle.range_map_cli.specs.declared.End.TheVariants as ends
 use Rattle.range_map_cli.specs.Lines.{lines_of, ends_in}
 use Rattle.range_map_cli.specs.Commands.{Command, command_of}
-use Rattle.range_map_cli.specs.Output.{AnswersFirst, AreRead, no_memory, Prints, Closes, Serves, Streams, commands_of, has_bad, before, bad_or}
+use Rattle.range_map_cli.specs.Output.{AnswersFirst, AreRead, Closes, Serves, Streams, commands_of, has_bad, before, bad_or}
 use Rattle.range_map_cli.specs.States.{content_of}
 use Rattle.range_map_cli.specs.Sessions.{ClosesBefore, Forwards, IsAt, IsServing}
 use Rattle.range_map_cli.proofs.Cuts.{ends_in-append}
 use Rattle.range_map_cli.proofs.Progress.{answers_first, next_flush}
 use Rattle.range_map_cli.proofs.Endings.{closes_waiting}
 
-pub IfSome-all : (o : Option (List ℕ)) (P : List ℕ → Type 0) → ((text : List ℕ) → P text) → IfSome o P
-IfSome-all None P h = tt
-IfSome-all (Some text) P h = h text
-
--- a text of no lines is printed before memory is refused
-pub prints_at_start : (text : List ℕ) → Prints text 0 ends.NoMemory ([] ++ ([] ++ no_memory))
-prints_at_start text = ([], refl, refl)
-
--- memory is refused before the first read
-pub serving_refused : (held later had : Option (List ℕ)) (end : End) → ((text : List ℕ) → Closes held later text 0 end) → Serves held later had had end
-serving_refused held later had end closes = ([], Consumes-nil had, IfSome-all had _ (λ text. (0, inl (omega arith), closes text)))
-
-pub serving_start : (held had : Option (List ℕ)) (session : Session) → session.map.entries ≡ [] → session.number ≡ 0 → session.line.items ≡ [] → session.waiting.items ≡ [] → IsServing held held had had session
+pub serving_start : (held had : Option (List ℕ)) (session : Session) → session.map.entries ≡ [] → session.number ≡ 0 → session.line ≡ [] → session.waiting.items ≡ [] → IsServing held held had had session
 serving_start held None session map number line waiting = tt
 serving_start held (Some text) session map number line waiting = record {
   commands = [];

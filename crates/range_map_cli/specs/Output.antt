@@ -48,21 +48,22 @@ AnswersFirst n text out = Answers nothing (take n (commands_of (lines_of text)))
 abbrev pub no_memory : List ℕ
 no_memory = line (codes "out of memory")
 
--- this is printed where serving the text ends so with its first n lines, and no write fails
+-- This is printed where serving the text ends so with its first n lines, and no write fails. Where memory is refused, the
+-- answers to those lines are not yet the whole output.
 abbrev pub Prints : List ℕ → ℕ → End → List ℕ → Type 0
 Prints text n ends.Done out = (length (lines_of text) ≤ n) × (has_bad (lines_of text) ≡ false) × IsOutput text out
 Prints text n ends.BadLine out = (has_bad (take n (lines_of text)) ≡ true) × IsOutput text out
-Prints text n ends.NoMemory out = (answers : List ℕ) × AnswersFirst n text answers × (out ≡ answers ++ no_memory)
+Prints text n ends.NoMemory out = (answers : List ℕ) × AnswersFirst n text answers × (out ≡ answers ++ no_memory) × (IsOutput text answers → ⊥)
 Prints text n ends.ReadFault out = AnswersFirst n text out
 Prints text n ends.WriteFault out = ⊥
 
--- the same, where at a fault of the writer a beginning of such a text is printed, and not all
+-- The same, where at a fault of the writer a beginning of such a text is printed, and not all. That is not the whole output.
 abbrev pub Ends : List ℕ → ℕ → End → List ℕ → Type 0
 Ends text n ends.Done out = Prints text n ends.Done out
 Ends text n ends.BadLine out = Prints text n ends.BadLine out
 Ends text n ends.NoMemory out = Prints text n ends.NoMemory out
 Ends text n ends.ReadFault out = Prints text n ends.ReadFault out
-Ends text n ends.WriteFault out = (end : End) × (rest : List ℕ) × Prints text n end (out ++ rest) × (rest ≡ [] → ⊥)
+Ends text n ends.WriteFault out = (end : End) × (rest : List ℕ) × Prints text n end (out ++ rest) × (rest ≡ [] → ⊥) × (IsOutput text out → ⊥)
 
 -- a writer that held and holds these bytes, where they are known, was given what serving the text prints where it ends so with
 -- its first n lines

@@ -37,7 +37,7 @@ pub record IsAt (held holds : Option (List ℕ)) (text : List ℕ) (session : Se
   pub counted : length commands + ends_in rest ≡ lines
   pub number : session.number ≡ min (length commands) (2 ^ 64 - 1)
   pub no_end : Lacks 10 partial
-  pub kept : session.line.items ≡ take 81 partial
+  pub kept : session.line ≡ take 81 partial
 
 -- The writer was given what serving the text prints where it ends so with first lines of it, of which none ends in the rest. The
 -- ends of lines, those of the lines and those in the rest, are at most as many as given.
