@@ -71,7 +71,7 @@ impl Session {
         ensures line { OnOk result (self.new.line ≡ []) }
         ensures waiting { self.new.waiting.items ≡ self.old.waiting.items }
         ensures bad { IsErrOf result Fault.BadLine → (command_of self.old.line ≡ None) × (self.new.number ≡ self.old.number) }
-        ensures no_memory { IsErrOf result Fault.NoMemory → command_of self.old.line ≢ Some Blank }
+        ensures no_memory { IsErrOf result Fault.NoMemory → (command_of self.old.line ≢ None) × (command_of self.old.line ≢ Some Blank) }
     {
         let Some(request) = request::read(self.line.as_slice()) else {
             return Err(Fault::BadLine);

@@ -27,7 +27,7 @@ returns-in-Err-clause-err g c = λ held text rest lines at.
 
 pub returns-in-Err-NoMemory-clause-err : goal.returns-in-Err-NoMemory-clause-err
 returns-in-Err-NoMemory-clause-err g c = λ held text rest lines at.
-    let prints = behind held _ text c.args.session.now _ lines at (length at.commands) ends.NoMemory no_memory (prints_no_memory held _ text c.args.session.now rest lines at (c.in-Err-NoMemory.ensures.no_memory (ap Err c.in-Err-NoMemory.field-0-is))) in
+    let prints = behind held _ text c.args.session.now _ lines at (length at.commands) ends.NoMemory no_memory (prints_no_memory held _ text c.args.session.now rest lines at (c.in-Err-NoMemory.ensures.no_memory (ap Err c.in-Err-NoMemory.field-0-is)).1) in
     (length at.commands, omega (arith, one_more held _ text c.args.session.now rest lines at), c.close.ensures.closes held text at.forwards.0 (length at.commands) at.forwards.1 (subst (λ l. Prints text (length at.commands) ends.NoMemory (at.forwards.0 ++ (l ++ no_memory))) (sym c.answer.ensures.waiting) prints))
 
 pub returns-in-Ok-format-clause-err : goal.returns-in-Ok-format-clause-err
