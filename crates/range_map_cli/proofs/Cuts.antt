@@ -1,15 +1,15 @@
 -- Where lines end in a text.
-use Rattle.std.proofs.Common.{◌≡◌, ℕ, ◌+◌, List, [], ◌∷◌, ◌++◌, take, false, cond, eqb, refl, ap, ◌∙◌, zero-add, length, arith}
-use Rattle.std.proofs.lemmas.List.Elements.{All-head, All-tail}
+use Rattle.std.proofs.Common.{◌≡◌, ℕ, ◌+◌, List, [], ◌∷◌, ◌++◌, take, Bool, true, false, cond, eqb, refl, sym, ap, ◌∙◌, zero-add, length, arith}
+use Rattle.std.proofs.lemmas.List.Elements.{All-cons, All-head, All-tail}
 use Rattle.std.proofs.lemmas.List.Sums.{sum_by-append, sum_by-cons}
 use Rattle.std.specs.List.{onto_first}
 use Rattle.range_map_cli.specs.Lines.{lines_of, ends_in, Lacks}
 
 -- the first byte is not the one that lacks
-other_head : (b byte : ℕ) (bs : List ℕ) → Lacks byte (b ∷ bs) → eqb b byte ≡ false
+pub other_head : (b byte : ℕ) (bs : List ℕ) → Lacks byte (b ∷ bs) → eqb b byte ≡ false
 other_head b byte bs h = All-head (λ x. eqb x byte ≡ false) b bs h
 
-other_tail : (b byte : ℕ) (bs : List ℕ) → Lacks byte (b ∷ bs) → Lacks byte bs
+pub other_tail : (b byte : ℕ) (bs : List ℕ) → Lacks byte (b ∷ bs) → Lacks byte bs
 other_tail b byte bs h = All-tail (λ x. eqb x byte ≡ false) b bs h
 
 -- a line ends at the first LF
@@ -26,6 +26,17 @@ lines_last b (d ∷ bs) h = rw (other_head b 10 (d ∷ bs) h) (ap (onto_first b)
 pub ends_in-Lacks : (bytes : List ℕ) → Lacks 10 bytes → ends_in bytes ≡ 0
 ends_in-Lacks [] h = refl
 ends_in-Lacks (b ∷ bs) h = sum_by-cons (λ x. cond (eqb x 10) 1 0) b bs ∙ ap (λ t. cond t 1 0 + ends_in bs) (other_head b 10 bs h) ∙ zero-add (ends_in bs) ∙ ends_in-Lacks bs (other_tail b 10 bs h)
+
+-- and bytes in which no line ends have no LF
+pub Lacks-ends_in : (bytes : List ℕ) → ends_in bytes ≡ 0 → Lacks 10 bytes
+Lacks-ends_in [] h = λ k d in'. absurd (omega arith)
+Lacks-ends_in (b ∷ bs) h =
+    let none = neither (eqb b 10) (ends_in bs) (sym (sum_by-cons (λ x. cond (eqb x 10) 1 0) b bs) ∙ h) in
+    All-cons (λ x. eqb x 10 ≡ false) b bs none.0 (Lacks-ends_in bs none.1)
+  where
+    neither : (t : Bool) (n : ℕ) → cond t 1 0 + n ≡ 0 → (t ≡ false) × (n ≡ 0)
+    neither true n e = absurd (omega (arith, e))
+    neither false n e = (refl, omega (arith, e))
 
 pub ends_in-append : (xs ys : List ℕ) → ends_in (xs ++ ys) ≡ ends_in xs + ends_in ys
 ends_in-append xs ys = sum_by-append (λ b. cond (eqb b 10) 1 0) xs ys

@@ -1,17 +1,18 @@
 -- The kept bytes of a line.
-use Rattle.std.proofs.Common.{◌≡◌, ℕ, ◌+◌, ◌-◌, List, ◌++◌, length, take, sym, ap, ◌∙◌, arith, length-take, min, append-nil, ⊎_elim}
-use Rattle.std.proofs.lemmas.List.{take_all, take-append-le, take_min}
+use Rattle.std.proofs.Common.{◌≡◌, ℕ, zero, suc, ◌+◌, ◌-◌, ◌≤◌, min, List, [], ◌∷◌, ◌++◌, length, take, refl, sym, ap, ◌∙◌, arith}
+use Rattle.std.proofs.lemmas.List.{take_min}
 use Rattle.std.proofs.Math.Seq.{take-append-add}
-use Rattle.std.proofs.str.Laws.{order}
+
+-- what is not kept of a text is not kept of one that it begins
+pub take_again : (n : ℕ) (xs ys : List ℕ) → take n (take n xs ++ ys) ≡ take n (xs ++ ys)
+take_again zero xs ys = refl
+take_again (suc n) [] ys = refl
+take_again (suc n) (x ∷ xs) ys = ap (λ l. x ∷ l) (take_again n xs ys)
 
 -- as many bytes are kept as there is room for
-pub keep_more : (partial line bytes : List ℕ) (room : ℕ) → line ≡ take 81 partial → room ≡ 81 - length line → line ++ take (min room (length bytes)) bytes ≡ take 81 (partial ++ bytes)
-keep_more partial line bytes room kept left =
-    ⊎_elim (λ long.
-    let full : room ≡ 0 = omega (arith, left, ap length kept, length-take 81 partial) in
-    ap (λ l. line ++ l) (take_min room bytes ∙ ap (λ n. take n bytes) full) ∙ append-nil line ∙ kept ∙ sym (take-append-le 81 partial bytes (omega arith)))
-    (λ short.
-    let whole : line ≡ partial = kept ∙ take_all 81 partial short in
-    let rest : 81 ≡ length partial + room = omega (arith, left, ap length whole) in
-    ap (λ l. l ++ take (min room (length bytes)) bytes) whole ∙ ap (λ l. partial ++ l) (take_min room bytes) ∙ sym (ap (λ n. take n (partial ++ bytes)) rest ∙ take-append-add partial bytes room))
-    (order 81 (length partial))
+pub keep_room : (line bytes : List ℕ) (count kept : ℕ) → length line ≡ count → count ≤ 81 → kept ≡ min (length bytes) (81 - count) → line ++ take kept bytes ≡ take 81 (line ++ bytes)
+keep_room line bytes count kept long small is =
+    let room = 81 - count in
+    let turned : kept ≡ min room (length bytes) = omega (arith, is) in
+    let all : length line + room ≡ 81 = omega (arith, long, small) in
+    ap (λ n. line ++ take n bytes) turned ∙ ap (λ l. line ++ l) (take_min room bytes) ∙ sym (take-append-add line bytes room) ∙ ap (λ n. take n (line ++ bytes)) all

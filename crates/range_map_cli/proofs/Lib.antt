@@ -6,6 +6,8 @@ pub mod Cuts
 pub mod Good
 pub mod Forwarding
 pub mod Progress
+pub mod Determined
+pub mod Faults
 pub mod Endings
 pub mod Serving
 pub mod Contents

@@ -11,6 +11,7 @@ use Rattle.range_map_cli.specs.Replies.{Content, nothing, after, Replies}
 use Rattle.range_map_cli.specs.Output.{commands_of, has_bad, before, bad_or, Answers, AnswersFirst}
 use Rattle.range_map_cli.specs.States.{content_of, HasWords}
 use Rattle.range_map_cli.specs.Sessions.{after_all, Forwards, IsAt}
+use Rattle.range_map_cli.proofs.Kept.{take_again}
 use Rattle.range_map_cli.proofs.Lengths.{command_of-take}
 use Rattle.range_map_cli.proofs.Cuts.{lines_end, lines_last, ends_in-Lacks, ends_in-append}
 use Rattle.range_map_cli.proofs.Good.{HasWords-after}
@@ -29,7 +30,7 @@ after_all-push content (c ∷ cs) command = after_all-push (after c content) cs 
 -- bytes of a line that does not end in them
 pub next_part : (held now : Option (List ℕ)) (text : List ℕ) (session new : Session) (bytes rest : List ℕ) (lines : ℕ)
     → IsAt held now text session (bytes ++ rest) lines → Lacks 10 bytes → new ≡ record session { line = new.line }
-    → ((partial : List ℕ) → session.line.items ≡ take 81 partial → new.line.items ≡ take 81 (partial ++ bytes)) → IsAt held now text new rest lines
+    → new.line ≡ take 81 (session.line ++ bytes) → IsAt held now text new rest lines
 next_part held now text session new bytes rest lines at none same line =
     let joined : at.partial ++ (bytes ++ rest) ≡ (at.partial ++ bytes) ++ rest = sym (append_assoc at.partial bytes rest) in
     record {
@@ -45,22 +46,22 @@ next_part held now text session new bytes rest lines at none same line =
       counted = omega (arith, at.counted, ends_in-append bytes rest, ends_in-Lacks bytes none);
       number = ap (λ (s : Session). s.number) same ∙ at.number;
       no_end = All-append (λ b. (b == 10) ≡ false) at.partial bytes at.no_end none;
-      kept = line at.partial at.kept;
+      kept = line ∙ ap (λ l. take 81 (l ++ bytes)) at.kept ∙ take_again 81 at.partial bytes;
     }
 
 -- what the line that ends here asks
 module _ (held now : Option (List ℕ)) (text : List ℕ) (session : Session) (rest : List ℕ) (lines : ℕ) (at : IsAt held now text session (10 ∷ rest) lines) where
-  same_command : command_of at.partial ≡ command_of session.line.items
+  same_command : command_of at.partial ≡ command_of session.line
   same_command = sym (ap command_of at.kept ∙ command_of-take at.partial)
 
-  pub asked_here : commands_of (lines_of text) ≡ at.commands ++ before (command_of session.line.items) (commands_of (lines_of rest))
+  pub asked_here : commands_of (lines_of text) ≡ at.commands ++ before (command_of session.line) (commands_of (lines_of rest))
   asked_here = at.asked ∙ ap (λ cs. at.commands ++ cs) (ap commands_of (lines_end at.partial rest at.no_end) ∙ ap (λ o. before o (commands_of (lines_of rest))) same_command)
 
-  pub bad_here : has_bad (lines_of text) ≡ bad_or (command_of session.line.items) (has_bad (lines_of rest))
+  pub bad_here : has_bad (lines_of text) ≡ bad_or (command_of session.line) (has_bad (lines_of rest))
   bad_here = at.bad ∙ ap has_bad (lines_end at.partial rest at.no_end) ∙ ap (λ o. bad_or o (has_bad (lines_of rest))) same_command
 
   -- a good line, with its reply
-  module _ (command : Command) (reply : List ℕ) (is : command_of session.line.items ≡ Some command)
+  module _ (command : Command) (reply : List ℕ) (is : command_of session.line ≡ Some command)
       (replies : HasWords (content_of session.map.entries) → Replies (content_of session.map.entries) command reply) where
     same_content : content_of session.map.entries ≡ after_all at.commands nothing
     same_content = fun_ext at.stored
@@ -75,7 +76,7 @@ module _ (held now : Option (List ℕ)) (text : List ℕ) (session : Session) (r
 
     -- the line is answered
     pub next_line : (later : Option (List ℕ)) (new : Session) → ((key : ℤ) → content_of new.map.entries key ≡ after command (content_of session.map.entries) key)
-        → Forwards now later (session.waiting.items ++ reply) new.waiting.items → new.number ≡ min (session.number + 1) (2 ^ 64 - 1) → new.line.items ≡ [] → IsAt held later text new rest lines
+        → Forwards now later (session.waiting.items ++ reply) new.waiting.items → new.number ≡ min (session.number + 1) (2 ^ 64 - 1) → new.line ≡ [] → IsAt held later text new rest lines
     next_line later new stored put number line =
         let content : after_all (at.commands ++ command ∷ []) nothing ≡ after command (after_all at.commands nothing) = after_all-push nothing at.commands command in
         record {
@@ -87,7 +88,7 @@ module _ (held now : Option (List ℕ)) (text : List ℕ) (session : Session) (r
           answered = answered_next;
           forwards = Forwards-trans held now later (at.answers ++ reply) (session.waiting.items ++ reply) new.waiting.items (Forwards-push held now at.answers session.waiting.items reply at.forwards) put;
           stored = λ key. stored key ∙ ap (λ c. after command c key) same_content ∙ sym (ap (λ (c : Content). c key) content);
-          words = subst HasWords (sym content) (HasWords-after session.line.items command (after_all at.commands nothing) is at.words);
+          words = subst HasWords (sym content) (HasWords-after session.line command (after_all at.commands nothing) is at.words);
           counted = omega (arith, at.counted, length-append at.commands (command ∷ []), ends_in-append (10 ∷ []) rest);
           number = number ∙ one_more (length at.commands) _ _ at.number (length-append at.commands (command ∷ []));
           no_end = λ k d h. absurd (omega arith);
@@ -113,11 +114,11 @@ next_flush held now later text session new rest lines at wrote same none = recor
   counted = at.counted;
   number = ap (λ (s : Session). s.number) same ∙ at.number;
   no_end = at.no_end;
-  kept = ap (λ (s : Session). s.line.items) same ∙ at.kept;
+  kept = ap (λ (s : Session). s.line) same ∙ at.kept;
 }
 
 -- a last line without an LF is one that ends
-pub last_line : (held now : Option (List ℕ)) (text : List ℕ) (session : Session) (lines : ℕ) → IsAt held now text session [] lines → (session.line.items ≡ [] → ⊥) → IsAt held now text session (10 ∷ []) (lines + 1)
+pub last_line : (held now : Option (List ℕ)) (text : List ℕ) (session : Session) (lines : ℕ) → IsAt held now text session [] lines → (session.line ≡ [] → ⊥) → IsAt held now text session (10 ∷ []) (lines + 1)
 last_line held now text session lines at some =
     let same : lines_of (at.partial ++ []) ≡ lines_of (at.partial ++ 10 ∷ []) = last at.partial at.no_end (λ none. some (at.kept ∙ ap (take 81) none)) in
     let none : ends_in [] ≡ 0 = refl in

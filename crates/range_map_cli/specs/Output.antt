@@ -1,5 +1,5 @@
 -- What is printed for a text.
-use Rattle.std.specs.Prelude.{◌≡◌, ℕ, ◌+◌, ◌-◌, ◌≤◌, ◌^◌, min, List, [], ◌∷◌, ◌++◌, length, take, Bool, true, false, if◌then◌else◌, codes, Option, Some, None, IfSome, decimal}
+use Rattle.std.specs.Prelude.{◌≡◌, ℕ, ◌+◌, ◌-◌, ◌≤◌, ◌⊎◌, ◌^◌, min, List, [], ◌∷◌, ◌++◌, length, take, Bool, true, false, if◌then◌else◌, codes, Option, Some, None, IfSome, decimal}
 use Rattle.std.specs.Io.KnownBytes.{Appends, Consumes}
 use Rattle.range_map_cli.specs.Lines.{lines_of, ends_in}
 use Rattle.range_map_cli.specs.Commands.{Command, command_of}
@@ -48,25 +48,37 @@ AnswersFirst n text out = Answers nothing (take n (commands_of (lines_of text)))
 abbrev pub no_memory : List ℕ
 no_memory = line (codes "out of memory")
 
--- this is printed where serving the text ends so, and no write fails
-abbrev pub Prints : List ℕ → End → List ℕ → Type 0
-Prints text ends.Done out = (has_bad (lines_of text) ≡ false) × IsOutput text out
-Prints text ends.BadLine out = (has_bad (lines_of text) ≡ true) × IsOutput text out
-Prints text ends.NoMemory out = (n : ℕ) × (answers : List ℕ) × AnswersFirst n text answers × (out ≡ answers ++ no_memory)
-Prints text ends.ReadFault out = (n : ℕ) × AnswersFirst n text out
-Prints text ends.WriteFault out = ⊥
+-- This is printed where serving the text ends so with its first n lines, and no write fails. Where memory is refused, the
+-- answers to those lines are not yet the whole output.
+abbrev pub Prints : List ℕ → ℕ → End → List ℕ → Type 0
+Prints text n ends.Done out = (length (lines_of text) ≤ n) × (has_bad (lines_of text) ≡ false) × IsOutput text out
+Prints text n ends.BadLine out = (has_bad (take n (lines_of text)) ≡ true) × IsOutput text out
+Prints text n ends.NoMemory out = (answers : List ℕ) × AnswersFirst n text answers × (out ≡ answers ++ no_memory) × (IsOutput text answers → ⊥)
+Prints text n ends.ReadFault out = AnswersFirst n text out
+Prints text n ends.WriteFault out = ⊥
 
--- the same, where at a fault of the writer a beginning of such a text is printed, and not all
-abbrev pub Ends : List ℕ → End → List ℕ → Type 0
-Ends text ends.Done out = Prints text ends.Done out
-Ends text ends.BadLine out = Prints text ends.BadLine out
-Ends text ends.NoMemory out = Prints text ends.NoMemory out
-Ends text ends.ReadFault out = Prints text ends.ReadFault out
-Ends text ends.WriteFault out = (end : End) × (rest : List ℕ) × Prints text end (out ++ rest) × (rest ≡ [] → ⊥)
+-- The same, where at a fault of the writer a beginning of such a text is printed, and not all. That is not the whole output.
+abbrev pub Ends : List ℕ → ℕ → End → List ℕ → Type 0
+Ends text n ends.Done out = Prints text n ends.Done out
+Ends text n ends.BadLine out = Prints text n ends.BadLine out
+Ends text n ends.NoMemory out = Prints text n ends.NoMemory out
+Ends text n ends.ReadFault out = Prints text n ends.ReadFault out
+Ends text n ends.WriteFault out = (end : End) × (rest : List ℕ) × Prints text n end (out ++ rest) × (rest ≡ [] → ⊥) × (IsOutput text out → ⊥)
 
--- a writer that held and holds these bytes, where they are known, was given what serving the text prints where it ends so
-abbrev pub Closes : Option (List ℕ) → Option (List ℕ) → List ℕ → End → Type 0
-Closes held holds text end = (out : List ℕ) × Appends held holds out × Ends text end out
+-- a writer that held and holds these bytes, where they are known, was given what serving the text prints where it ends so with
+-- its first n lines
+abbrev pub Closes : Option (List ℕ) → Option (List ℕ) → List ℕ → ℕ → End → Type 0
+Closes held holds text n end = (out : List ℕ) × Appends held holds out × Ends text n end out
+
+-- the first n lines of the text were read, where these bytes of it were: the lines end in the bytes, or the bytes are the whole
+-- text, whose last line may have no LF
+abbrev pub AreRead : List ℕ → List ℕ → ℕ → Type 0
+AreRead text bytes n = (n ≤ ends_in bytes) ⊎ (bytes ≡ text)
+
+-- Some bytes of the text were read, and no more. The writer was given what serving the text prints where it ends so with first
+-- lines of it that were read.
+abbrev pub Serves : Option (List ℕ) → Option (List ℕ) → Option (List ℕ) → Option (List ℕ) → End → Type 0
+Serves held holds had has end = (bytes : List ℕ) × Consumes had has bytes × IfSome had (λ text. (n : ℕ) × AreRead text bytes n × Closes held holds text n end)
 
 -- Some bytes of the text were read, and no more: those of the last read, which asked for 8192 at most, and those before it, in
 -- which no bad line ends.

@@ -1,12 +1,13 @@
 -- How far a session is in its text.
-use Rattle.std.specs.Prelude.{◌≡◌, ℕ, ◌+◌, ◌-◌, ◌^◌, min, ℤ, List, [], ◌∷◌, ◌++◌, length, take, Option, Some, None}
+use Rattle.std.specs.Prelude.{◌≡◌, ℕ, ◌+◌, ◌-◌, ◌≤◌, ◌^◌, min, ℤ, List, [], ◌∷◌, ◌++◌, length, take, Option, Some, None}
 use Rattle.std.specs.Io.KnownBytes.{Appends}
 use Rattle.range_map_cli.specs.Lines.{lines_of, ends_in, Lacks}
 use Rattle.range_map_cli.specs.Commands.{Command}
 use Rattle.range_map_cli.specs.Replies.{Content, nothing, after}
-use Rattle.range_map_cli.specs.Output.{commands_of, has_bad, Answers}
+use Rattle.range_map_cli.specs.Output.{commands_of, has_bad, Answers, Closes}
 use Rattle.range_map_cli.specs.States.{content_of, HasWords}
 use Rattle.range_map_cli.specs.declared.session.Session.{Session}
+use Rattle.range_map_cli.specs.declared.End.{End}
 
 -- the content after all of the commands
 abbrev pub after_all : List Command → Content → Content
@@ -36,9 +37,14 @@ pub record IsAt (held holds : Option (List ℕ)) (text : List ℕ) (session : Se
   pub counted : length commands + ends_in rest ≡ lines
   pub number : session.number ≡ min (length commands) (2 ^ 64 - 1)
   pub no_end : Lacks 10 partial
-  pub kept : session.line.items ≡ take 81 partial
+  pub kept : session.line ≡ take 81 partial
 
--- the same of what a reader had and has, where that is known
+-- The writer was given what serving the text prints where it ends so with first lines of it, of which none ends in the rest. The
+-- ends of lines, those of the lines and those in the rest, are at most as many as given.
+abbrev pub ClosesBefore : Option (List ℕ) → Option (List ℕ) → List ℕ → List ℕ → ℕ → End → Type 0
+ClosesBefore held holds text rest lines end = (n : ℕ) × (n + ends_in rest ≤ lines) × Closes held holds text n end
+
+-- where a session is, of what a reader had and has, where that is known
 abbrev pub IsServing : Option (List ℕ) → Option (List ℕ) → Option (List ℕ) → Option (List ℕ) → Session → Type 0
 IsServing held holds None rest session = Unit {0}
 IsServing held holds (Some text) None session = ⊥

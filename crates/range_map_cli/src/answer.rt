@@ -1,9 +1,9 @@
 //! What a request answers, by the range map.
-ghost use Rattle.std.specs.Prelude.{◌≡◌, ◌↔◌, ℤ, IsTrue, IfOk, OnOk, option_map, string_bytes};
+ghost use Rattle.std.specs.Prelude.{◌≡◌, ◌≢◌, ◌↔◌, ℤ, IsTrue, IfOk, OnErr, OnOk, option_map, string_bytes};
 ghost use Rattle.std.specs.Option.{option_copied};
 ghost use Rattle.blaze_table.specs.Cut.{cut_at};
 ghost use Rattle.blaze_table.specs.Painted.{painted};
-ghost use Rattle.range_map_cli.specs.Commands.{asked};
+ghost use Rattle.range_map_cli.specs.Commands.{asked, Blank};
 ghost use Rattle.range_map_cli.specs.Pieces.{IsPiece};
 ghost use Rattle.range_map_cli.specs.Replies.{after, greatest_key, key_count, least_key, word_or_dash as shown_word, Replies};
 ghost use Rattle.range_map_cli.specs.States.{content_of, HasWords};
@@ -81,6 +81,7 @@ pub fn answer(
 ) -> Result<(), AllocError>
     ensures reply { OnOk result (HasWords (content_of map.old.entries) → Replies (content_of map.old.entries) (asked request.entry) (string_bytes reply.new)) }
     ensures content { OnOk result ((key : ℤ) → content_of map.new.entries key ≡ after (asked request.entry) (content_of map.old.entries) key) }
+    ensures refused { OnErr result (asked request.entry ≢ Blank) }
 {
     reply.clear();
     match request {

@@ -2,6 +2,7 @@
 #![tactic(auto)]
 
 mod answer;
+mod line;
 mod output;
 mod request;
 mod server;
@@ -20,10 +21,11 @@ pub enum End {
     Done,
     /// A line was bad. The lines before it were answered, and nothing after it was read.
     BadLine,
-    /// Memory was refused.
+    /// Memory was refused in the answer to a line. The lines before it were answered, and a line `out of memory` was
+    /// written.
     NoMemory,
     /// A read failed, or 2^64 - 1 reads did not reach the end of the text.
     ReadFault,
-    /// A write failed, or took nothing of a text that is not empty.
+    /// A write failed, or took nothing of a text that is not empty. Not all of the output was written.
     WriteFault,
 }

@@ -1,10 +1,10 @@
 //! Serves a reader and a writer.
-ghost use Rattle.std.specs.Prelude.{◌≡◌, IfSome};
-ghost use Rattle.range_map_cli.specs.Output.{Closes, Streams, StopsReading};
+ghost use Rattle.std.specs.Prelude.{◌≡◌};
+ghost use Rattle.range_map_cli.specs.Output.{Serves, Streams, StopsReading};
 
 use crate::End;
 use crate::output::flush;
-use crate::session::{NO_MEMORY, Session, close, feed, finish};
+use crate::session::{Session, feed, finish};
 use std::alloc::Global;
 use std::io::{Read, Write};
 
@@ -15,14 +15,13 @@ const CHUNK: usize = 8192;
 ///
 /// The range map is empty at first. The answers to the lines that end in the bytes of one read are written before the
 /// next read, and none follows the read in which a bad line ends. A read or a write that fails is not tried again.
+/// What is written is of lines that were read, whatever the end. A text that asks nothing needs no memory.
 pub fn serve<R: Read, W: Write>(alloc: Global, input: &mut R, output: &mut W) -> End
-    ensures closes { IfSome (R.remaining input.old) (λ text. Closes (W.contents output.old) (W.contents output.new) text result) }
+    ensures closes { Serves (W.contents output.old) (W.contents output.new) (R.remaining input.old) (R.remaining input.new) result }
     ensures stops { result ≡ End.BadLine → StopsReading (R.remaining input.old) (R.remaining input.new) }
     ensures streams { result ≡ End.ReadFault → Streams (W.contents output.old) (W.contents output.new) (R.remaining input.old) (R.remaining input.new) }
 {
-    let Ok(mut session) = Session::new(alloc) else {
-        return close(&mut Vec::new(alloc), output, NO_MEMORY, End::NoMemory);
-    };
+    let mut session = Session::new(alloc);
     let mut chunk = [0u8; CHUNK];
     for _turn in 0..u64::MAX {
         let Ok(count) = input.read(&mut chunk) else {

@@ -1,23 +1,20 @@
 //! The steps of a session.
 ghost use Rattle.std.specs.Prelude.{◌≡◌, ◌≢◌, ◌⊎◌, ◌+◌, ◌-◌, ◌^◌, ◌++◌, ◌∷◌, [], min, ℕ, ℤ, List, Option, Some, None, take, IfOk, OnOk, IfErr, IsErrOf, string_bytes};
 ghost use Rattle.std.specs.Io.KnownBytes.{Appends};
-ghost use Rattle.range_map_cli.specs.Lines.{Lacks};
-ghost use Rattle.range_map_cli.specs.Commands.{Command, command_of};
+ghost use Rattle.range_map_cli.specs.Commands.{Blank, Command, command_of};
 ghost use Rattle.range_map_cli.specs.Replies.{after, Replies};
 ghost use Rattle.range_map_cli.specs.Output.{Prints, Closes};
 ghost use Rattle.range_map_cli.specs.States.{content_of, HasWords};
-ghost use Rattle.range_map_cli.specs.Sessions.{IsAt};
+ghost use Rattle.range_map_cli.specs.Sessions.{IsAt, ClosesBefore};
 
 use crate::answer::answer;
+use crate::line::Line;
 use crate::output::{flush, put};
 use crate::split::split_once;
 use crate::{End, request};
 use range_map_blaze::RangeMapBlaze;
-use std::alloc::{AllocError, Global};
+use std::alloc::Global;
 use std::io::Write;
-
-/// How many bytes of a line are kept: one more than a good line may have.
-const LINE: usize = 81;
 
 /// How many bytes of answers wait at most.
 const ROOM: usize = 16384;
@@ -31,7 +28,7 @@ pub struct Session {
     /// How many lines were answered; it stays at 2^64 - 1.
     number: u64,
     /// The first bytes of the line that is being read.
-    line: Vec<u8>,
+    line: Line,
     /// What is printed for the line that was answered last.
     reply: String,
     /// Answers that are still to be written.
@@ -46,42 +43,35 @@ enum Fault {
 }
 
 impl Session {
-    /// The session before the first byte.
-    pub fn new(alloc: Global) -> Result<Self, AllocError>
-        ensures map { IfOk result (λ session. session.map.entries ≡ []) }
-        ensures number { IfOk result (λ session. session.number ≡ 0) }
-        ensures line { IfOk result (λ session. session.line.items ≡ []) }
-        ensures waiting { IfOk result (λ session. session.waiting.items ≡ []) }
+    /// The session before the first byte. Where there is no memory for answers that wait, each is written at once.
+    pub fn new(alloc: Global) -> Self
+        ensures map { result.map.entries ≡ [] }
+        ensures number { result.number ≡ 0 }
+        ensures line { result.line ≡ [] }
+        ensures waiting { result.waiting.items ≡ [] }
     {
-        Ok(Session {
+        Session {
             map: RangeMapBlaze::new(alloc),
             number: 0,
-            line: Vec::with_capacity(alloc, LINE)?,
+            line: Line::new(),
             reply: String::new(alloc),
-            waiting: Vec::with_capacity(alloc, ROOM)?,
-        })
-    }
-
-    /// Keeps the next bytes of the line, as many as there is room for.
-    fn keep(&mut self, bytes: &[u8]) -> Result<(), AllocError>
-        ensures ok { OnOk result ((partial : List ℕ) → self.old.line.items ≡ take 81 partial → self.new.line.items ≡ take 81 (partial ++ bytes.now)) }
-        ensures rest { self.new ≡ record self.old { line = self.new.line } }
-    {
-        let room = LINE.saturating_sub(self.line.len());
-        self.line
-            .extend_from_slice(&bytes[..room.min(bytes.len())])?;
-        Ok(())
+            waiting: match Vec::with_capacity(alloc, ROOM) {
+                Ok(waiting) => waiting,
+                Err(_) => Vec::new(alloc),
+            },
+        }
     }
 
     /// Answers the line, which ends here.
     fn answer(&mut self, alloc: Global) -> Result<(), Fault>
-        ensures ok { OnOk result ((command : Command) × (command_of self.old.line.items ≡ Some command)
+        ensures ok { OnOk result ((command : Command) × (command_of self.old.line ≡ Some command)
             × (HasWords (content_of self.old.map.entries) → Replies (content_of self.old.map.entries) command (string_bytes self.new.reply))
             × ((key : ℤ) → content_of self.new.map.entries key ≡ after command (content_of self.old.map.entries) key)) }
         ensures number { OnOk result (self.new.number ≡ min (self.old.number + 1) (2 ^ 64 - 1)) }
-        ensures line { OnOk result (self.new.line.items ≡ []) }
+        ensures line { OnOk result (self.new.line ≡ []) }
         ensures waiting { self.new.waiting.items ≡ self.old.waiting.items }
-        ensures bad { IsErrOf result Fault.BadLine → (command_of self.old.line.items ≡ None) × (self.new.number ≡ self.old.number) }
+        ensures bad { IsErrOf result Fault.BadLine → (command_of self.old.line ≡ None) × (self.new.number ≡ self.old.number) }
+        ensures no_memory { IsErrOf result Fault.NoMemory → (command_of self.old.line ≢ None) × (command_of self.old.line ≢ Some Blank) }
     {
         let Some(request) = request::read(self.line.as_slice()) else {
             return Err(Fault::BadLine);
@@ -100,7 +90,7 @@ impl Session {
 /// Writes what waits, and a last text.
 pub fn close<W: Write>(waiting: &mut Vec<u8>, output: &mut W, text: &[u8], end: End) -> End
     ensures kind { (result ≡ end) ⊎ (result ≡ End.WriteFault) }
-    ensures closes { (held : Option (List ℕ)) (all out : List ℕ) → Appends held (W.contents output.old) out → Prints all end (out ++ (waiting.old.items ++ text.now)) → Closes held (W.contents output.new) all result }
+    ensures closes { (held : Option (List ℕ)) (all out : List ℕ) (n : ℕ) → Appends held (W.contents output.old) out → Prints all n end (out ++ (waiting.old.items ++ text.now)) → Closes held (W.contents output.new) all n result }
 {
     let Ok(()) = put(waiting, output, text) else {
         return End::WriteFault;
@@ -114,9 +104,9 @@ pub fn close<W: Write>(waiting: &mut Vec<u8>, output: &mut W, text: &[u8], end: 
 /// Answers the line, which ends here.
 fn end_line<W: Write>(session: &mut Session, alloc: Global, output: &mut W) -> Result<(), End>
     ensures ok { OnOk result ((held : Option (List ℕ)) (text rest : List ℕ) (lines : ℕ) → IsAt held (W.contents output.old) text session.old (10 ∷ rest) lines → IsAt held (W.contents output.new) text session.new rest lines) }
-    ensures line { OnOk result (session.new.line.items ≡ []) }
+    ensures line { OnOk result (session.new.line ≡ []) }
     ensures kind { IfErr result (λ end. end ≢ End.ReadFault) }
-    ensures err { IfErr result (λ end. (held : Option (List ℕ)) (text rest : List ℕ) (lines : ℕ) → IsAt held (W.contents output.old) text session.old (10 ∷ rest) lines → Closes held (W.contents output.new) text end) }
+    ensures err { IfErr result (λ end. (held : Option (List ℕ)) (text rest : List ℕ) (lines : ℕ) → IsAt held (W.contents output.old) text session.old (10 ∷ rest) lines → ClosesBefore held (W.contents output.new) text rest lines end) }
 {
     match session.answer(alloc) {
         Ok(()) => match put(&mut session.waiting, output, session.reply.as_bytes()) {
@@ -134,19 +124,6 @@ fn end_line<W: Write>(session: &mut Session, alloc: Global, output: &mut W) -> R
     }
 }
 
-/// Takes bytes of a line that does not end in them.
-fn take_part<W: Write>(session: &mut Session, output: &mut W, bytes: &[u8]) -> Result<(), End>
-    requires { Lacks 10 bytes.now }
-    ensures ok { OnOk result ((held : Option (List ℕ)) (text rest : List ℕ) (lines : ℕ) → IsAt held (W.contents output.old) text session.old (bytes.now ++ rest) lines → IsAt held (W.contents output.new) text session.new rest lines) }
-    ensures kind { IfErr result (λ end. end ≢ End.ReadFault) }
-    ensures err { IfErr result (λ end. (held : Option (List ℕ)) (text rest : List ℕ) (lines : ℕ) → IsAt held (W.contents output.old) text session.old (bytes.now ++ rest) lines → Closes held (W.contents output.new) text end) }
-{
-    match session.keep(bytes) {
-        Ok(()) => Ok(()),
-        Err(_) => Err(close(&mut session.waiting, output, NO_MEMORY, End::NoMemory)),
-    }
-}
-
 /// Takes the next bytes of the text: answers the lines that end in them, and keeps the beginning of the next.
 pub fn feed<W: Write>(
     session: &mut Session,
@@ -156,21 +133,22 @@ pub fn feed<W: Write>(
 ) -> Result<(), End>
     ensures ok { OnOk result ((held : Option (List ℕ)) (text rest : List ℕ) (lines : ℕ) → IsAt held (W.contents output.old) text session.old (bytes.now ++ rest) lines → IsAt held (W.contents output.new) text session.new rest lines) }
     ensures kind { IfErr result (λ end. end ≢ End.ReadFault) }
-    ensures err { IfErr result (λ end. (held : Option (List ℕ)) (text rest : List ℕ) (lines : ℕ) → IsAt held (W.contents output.old) text session.old (bytes.now ++ rest) lines → Closes held (W.contents output.new) text end) }
+    ensures err { IfErr result (λ end. (held : Option (List ℕ)) (text rest : List ℕ) (lines : ℕ) → IsAt held (W.contents output.old) text session.old (bytes.now ++ rest) lines → ClosesBefore held (W.contents output.new) text rest lines end) }
 {
     let mut rest = bytes;
     while let Some((line, after)) = split_once(rest, b'\n') {
-        take_part(session, output, line)?;
+        session.line.keep(line);
         end_line(session, alloc, output)?;
         rest = after;
     }
-    take_part(session, output, rest)
+    session.line.keep(rest);
+    Ok(())
 }
 
 /// Answers what stands after the last LF, if anything does, and writes what waits.
 pub fn finish<W: Write>(session: &mut Session, alloc: Global, output: &mut W) -> End
     ensures kind { result ≢ End.ReadFault }
-    ensures closes { (held : Option (List ℕ)) (text : List ℕ) (lines : ℕ) → IsAt held (W.contents output.old) text session.old [] lines → Closes held (W.contents output.new) text result }
+    ensures closes { (held : Option (List ℕ)) (text : List ℕ) (lines : ℕ) → IsAt held (W.contents output.old) text session.old [] lines → ClosesBefore held (W.contents output.new) text [] (lines + 1) result }
 {
     if session.line.is_empty() {
         return close(&mut session.waiting, output, b"", End::Done);

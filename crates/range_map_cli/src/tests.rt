@@ -264,6 +264,11 @@ fn memory_that_is_refused(rt: HostRuntime) -> Result<(), Fail> {
     }
     assert!(rt; held.len() < 150_000);
     assert!(rt; 2 <= refused, "{refused} places");
+    output.got.clear();
+    let mut blank = b"\n\n".as_slice();
+    let end = serve(rt.alloc(), &mut blank, &mut output);
+    assert_eq!(rt; end, End::Done);
+    assert!(rt; output.got.is_empty());
     drop(held);
     output.got.clear();
     let mut input = FIRST_INPUT;

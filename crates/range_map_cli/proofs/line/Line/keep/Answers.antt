@@ -1,0 +1,15 @@
+use Rattle.std.proofs.Common.{◌≡◌, ◌+◌, ◌++◌, length, take, ap, ◌∙◌, arith, length-take}
+use Rattle.std.proofs.lemmas.Slice.{take-put_mid}
+use Rattle.range_map_cli.proofs.Kept.{keep_room}
+use Rattle.range_map_cli.proofs.line.Line.keep.Goals as goal
+
+pub returns : goal.returns
+returns c =
+    let bytes = c.args.bytes.now in
+    let count = c.self.inside.count in
+    let kept = c.min-count.result in
+    let line = take count c.self.inside.bytes in
+    let long : length line ≡ count = omega (arith, length-take count c.self.inside.bytes, c.self.invariant) in
+    let part : c.copy_from_slice.new.self ≡ take kept bytes = c.copy_from_slice.ensures.after in
+    let few : length c.copy_from_slice.new.self ≡ kept = omega (arith, ap length part, length-take kept bytes) in
+    take-put_mid count _ c.self.inside.bytes c.copy_from_slice.new.self (count + kept) (omega (arith, few)) (omega (arith, c.self.invariant)) ∙ ap (λ l. line ++ l) part ∙ keep_room line bytes count kept long c.self.invariant c.min-count.ensures ∙ ap (λ l. take 81 (l ++ bytes)) c.self.view_is
