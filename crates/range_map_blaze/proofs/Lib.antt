@@ -11,3 +11,6 @@ pub mod Insides
 pub mod Paintings
 pub mod Joinings
 pub mod Unions
+pub mod Gaps
+pub mod Fillings
+pub mod FilledUnder

@@ -5,6 +5,7 @@ mod append;
 mod complement;
 mod display;
 mod extend;
+mod fill;
 mod insert;
 mod iter;
 mod joining;

@@ -5,7 +5,6 @@ ghost use Rattle.range_map_blaze.specs.Union.{IsUnion};
 
 use crate::lent::lent_union;
 use crate::map::RangeMapBlaze;
-use crate::pointwise::difference;
 use blaze_int::Integer;
 use std::alloc::AllocError;
 
@@ -14,7 +13,7 @@ use std::alloc::AllocError;
 enum Path {
     /// The right map's few entries are painted over the left map.
     Over,
-    /// What the left map has off the right map's keys is painted into the right map: few entries.
+    /// The left map's few entries fill the gaps of the right map.
     Under,
     /// Both maps are gone through in one pass.
     Merge,
@@ -76,7 +75,7 @@ pub fn union_by_value<T: Integer, V: Eq + Clone>(
 {
     match path_for(left.ranges_len(), right.ranges_len()) {
         Path::Over => painted_over_by(left, right),
-        Path::Under => painted_under(&left, right),
+        Path::Under => painted_under_by(left, right),
         Path::Merge => union(&left, &right),
     }
 }
@@ -137,7 +136,7 @@ fn painted_over_by<T: Integer, V: Eq + Clone>(
     Ok(map)
 }
 
-/// What the left map has off the right map's keys, painted into the right map.
+/// The left map's entries filled into the right map, with clones of their values.
 fn painted_under<T: Integer, V: Eq + Clone>(
     left: &RangeMapBlaze<T, V>,
     right: RangeMapBlaze<T, V>,
@@ -145,11 +144,29 @@ fn painted_under<T: Integer, V: Eq + Clone>(
     requires { ClonesAreAlike V.is_clone V.eq }
     ensures { IfOk result (λ map. IsUnion V.eq T.low T.high left.now.entries right.entries map.entries) }
 {
-    left.in_hand();
-    right.in_hand();
-    let alone = difference(left, &right)?;
     let mut map = right;
-    alone.in_hand();
-    map.extend_from(alone)?;
+    left.in_hand();
+    map.in_hand();
+    for (start, end, value) in left.table.iter() {
+        let value = value.clone()?;
+        map.fill(start, end, value)?;
+    }
+    Ok(map)
+}
+
+/// The left map's entries filled into the right map, with their own values.
+fn painted_under_by<T: Integer, V: Eq + Clone>(
+    left: RangeMapBlaze<T, V>,
+    right: RangeMapBlaze<T, V>,
+) -> Result<RangeMapBlaze<T, V>, AllocError>
+    requires { ClonesAreAlike V.is_clone V.eq }
+    ensures { IfOk result (λ map. IsUnion V.eq T.low T.high left.entries right.entries map.entries) }
+{
+    let mut map = right;
+    left.in_hand();
+    map.in_hand();
+    for (start, end, value) in left.table {
+        map.fill(start, end, value)?;
+    }
     Ok(map)
 }
