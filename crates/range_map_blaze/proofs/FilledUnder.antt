@@ -1,11 +1,9 @@
 -- One map's entries filled into another.
-use Rattle.std.proofs.Common.{◌≡◌, ℤ, ◌≤ℤ◌, Bool, true, false, cond, List, [], ◌∷◌, ◌++◌, Some, None, refl, ◌∙◌, sym, ap, subst}
+use Rattle.std.proofs.Common.{◌≡◌, ℤ, Bool, true, false, cond, List, [], ◌∷◌, ◌++◌, Some, None, refl, ◌∙◌, sym, ap}
 use Rattle.std.specs.Cmp.{IsEquivalence}
 use Rattle.blaze_table.specs.Entries.{Entry, entry, at, holds, SameOption}
-use Rattle.blaze_table.specs.Canonical.{IsCanonical, IsRangeMap}
+use Rattle.blaze_table.specs.Canonical.{IsRangeMap}
 use Rattle.blaze_table.specs.Painted.{or_else}
-use Rattle.blaze_table.proofs.Runs.{canonical}
-use Rattle.blaze_table.proofs.Splits.{canonical_part}
 use Rattle.blaze_table.proofs.Unique.{same_along, same_itself, same_trans}
 use Rattle.range_map_blaze.specs.Filled.{IsFilled}
 use Rattle.range_map_blaze.specs.Union.{IsUnion}
@@ -51,7 +49,3 @@ module _ {V : Type 0} (eq : V → V → Bool) (laws : IsEquivalence eq) (low hig
     range_map = u.range_map;
     content = λ k. same_along eq {a = at new k} refl (turned (at right k) (at left k)) (u.content k);
   })
-
-  -- an entry of a range map has a key
-  pub with_key : (done : List (Entry V)) (e : Entry V) (rest all : List (Entry V)) → all ≡ done ++ e ∷ rest → IsRangeMap eq low high all → e.lo ≤ℤ e.hi
-  with_key done e rest all p r = (canonical_part eq done (e ∷ rest) (subst (IsCanonical eq) p (canonical eq laws all r.runs))).0

@@ -14,3 +14,4 @@ pub mod Unions
 pub mod Gaps
 pub mod Fillings
 pub mod FilledUnder
+pub mod Unpainted

@@ -7,6 +7,7 @@ mod display;
 mod extend;
 mod fill;
 mod insert;
+mod inside;
 mod iter;
 mod joining;
 mod lent;

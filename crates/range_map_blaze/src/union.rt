@@ -10,7 +10,7 @@ use std::alloc::AllocError;
 
 /// How a union is made, which changes nothing of what it is.
 #[derive(Clone, Copy, Debug)]
-enum Path {
+pub enum Path {
     /// The right map's few entries are painted over the left map.
     Over,
     /// The left map's few entries fill the gaps of the right map.
@@ -20,7 +20,7 @@ enum Path {
 }
 
 /// The path for maps of so many entries.
-fn path_for(left_len: usize, right_len: usize) -> Path {
+pub fn path_for(left_len: usize, right_len: usize) -> Path {
     if right_len == 0 || are_few(right_len, left_len) {
         Path::Over
     } else if left_len == 0 || are_few(left_len, right_len) {
@@ -137,7 +137,7 @@ fn painted_over_by<T: Integer, V: Eq + Clone>(
 }
 
 /// The left map's entries filled into the right map, with clones of their values.
-fn painted_under<T: Integer, V: Eq + Clone>(
+pub fn painted_under<T: Integer, V: Eq + Clone>(
     left: &RangeMapBlaze<T, V>,
     right: RangeMapBlaze<T, V>,
 ) -> Result<RangeMapBlaze<T, V>, AllocError>

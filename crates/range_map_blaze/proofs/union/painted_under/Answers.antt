@@ -1,6 +1,7 @@
 use Rattle.std.proofs.Common.{[], ◌++◌, ◌∷◌, ◌∙◌, sym, ap, append-nil, append_assoc, subst}
 use Rattle.blaze_table.specs.Entries.{shown_entry}
-use Rattle.range_map_blaze.proofs.FilledUnder.{IsUnder, under_none, under_more, under_all, with_key}
+use Rattle.range_map_blaze.proofs.FilledUnder.{IsUnder, under_none, under_more, under_all}
+use Rattle.range_map_blaze.proofs.Insides.{with_key}
 use Rattle.range_map_blaze.proofs.union.painted_under.Goals as goal
 
 pub loop-start-init : goal.loop-start-init
@@ -14,7 +15,7 @@ pub fill-requires-clause-order : goal.fill-requires-clause-order
 fill-requires-clause-order g c =
     let i = c.loop-start.invariant in
     let e = shown_entry g.T.Integer.rank (λ v. v.now) (c.in-Some.start, c.in-Some.end, c.in-Some.value) in
-    with_key g.V.PartialEq.eq g.met.V.Eq.laws g.T.Integer.low g.T.Integer.high c.args.right.entries i.0 e _ _ (i.1 ∙ ap (λ es. i.0 ++ es) c.in-Some.ensures.steps) c.in_hand.ensures
+    with_key g.V.PartialEq.eq g.met.V.Eq.laws g.T.Integer.low g.T.Integer.high i.0 e _ _ (i.1 ∙ ap (λ es. i.0 ++ es) c.in-Some.ensures.steps) c.in_hand.ensures
 
 pub loop-start-preserved : goal.loop-start-preserved
 loop-start-preserved g c =
