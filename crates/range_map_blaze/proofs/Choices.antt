@@ -70,21 +70,6 @@ module _ {V : Type 0} (eq : V → V → Bool) (laws : IsEquivalence eq) (low hig
     content = λ k. same_trans eq laws (at new k) (right_first (at old k) (at right k)) _ (c.content k) (over_like (at left k) (at old k) (at right k) (content_as eq laws left old s k));
   }
 
-  -- what the left map has alone, painted over a map that is like the right one
-  under_like : (x y z w : Option V) → SameOption eq y z → SameOption eq w (left_alone x y) → SameOption eq (right_first z w) (right_first x y)
-  under_like x None None None s t = t
-  under_like x None None (Some w) s t = t
-  under_like x None (Some z) w s t = absurd s
-  under_like x (Some y) None w s t = absurd s
-  under_like x (Some y) (Some z) None s t = laws.symm z y ∙ s
-  under_like x (Some y) (Some z) (Some w) s t = absurd t
-
-  pub chosen_under : (left right old alone new : List (Entry V)) → SameEntries eq right old → IsChosen eq low high left_alone left right alone → IsChosen eq low high right_first old alone new → IsChosen eq low high right_first left right new
-  chosen_under left right old alone new s d c = record {
-    range_map = c.range_map;
-    content = λ k. same_trans eq laws (at new k) (right_first (at old k) (at alone k)) _ (c.content k) (under_like (at left k) (at right k) (at old k) (at alone k) (content_as eq laws right old s k) (d.content k));
-  }
-
   -- painted into a map that is like the right one
   right_like : (x y z : Option V) → SameOption eq y z → SameOption eq (right_first x z) (right_first x y)
   right_like None None None s = tt

@@ -1,12 +1,14 @@
 -- Pairs that lie inside entries with equal values.
-use Rattle.std.proofs.Common.{◌≡◌, ℤ, pos, ◌+ℤ◌, ◌-ℤ◌, ◌≤ℤ◌, ◌<ℤ◌, ◌⊎◌, Bool, true, List, [], ◌∷◌, ◌++◌, Some, refl, ◌∙◌, subst, arith, inl, inr}
+use Rattle.std.proofs.Common.{◌≡◌, ℤ, pos, ◌+ℤ◌, ◌-ℤ◌, ◌≤ℤ◌, ◌⊎◌, Bool, true, List, [], ◌∷◌, ◌++◌, Some, refl, ◌∙◌, subst, arith, inl, inr}
 use Rattle.std.specs.Cmp.{IsEquivalence}
 use Rattle.std.proofs.lemmas.Int.{ints, by_lt_z}
 use Rattle.blaze_table.specs.Entries.{Entry, at, SameOption}
-use Rattle.blaze_table.specs.Canonical.{IsCanonical}
+use Rattle.blaze_table.specs.Canonical.{IsCanonical, IsRangeMap}
 use Rattle.blaze_table.specs.Painted.{IsInside}
 use Rattle.blaze_table.proofs.Inside.{inside_at}
 use Rattle.blaze_table.proofs.Lookup.{at_before, at_in, at_over}
+use Rattle.blaze_table.proofs.Runs.{canonical}
+use Rattle.blaze_table.proofs.Splits.{canonical_part}
 use Rattle.blaze_table.proofs.Unique.{breaks, same_along}
 use Rattle.range_map_blaze.specs.Extended.{AreInside}
 
@@ -15,7 +17,19 @@ module _ {V : Type 0} (eq : V → V → Bool) where
   inside_parts [] qs es i = (tt, i)
   inside_parts (p ∷ ps) qs es i = let r = inside_parts ps qs es i.1 in ((i.0, r.0), r.1)
 
+  pub inside_more : (ps : List (Entry V)) (p : Entry V) (es : List (Entry V)) → AreInside eq ps es → IsInside eq p.lo p.hi p.value es → AreInside eq (ps ++ p ∷ []) es
+  inside_more [] p es a i = (inr i, tt)
+  inside_more (q ∷ ps) p es a i = (a.0, inside_more ps p es a.1 i)
+
+  -- not all, where one that has a key does not
+  pub not_inside : (ps : List (Entry V)) (p : Entry V) (qs es : List (Entry V)) → p.lo ≤ℤ p.hi → (IsInside eq p.lo p.hi p.value es → ⊥) → AreInside eq (ps ++ p ∷ qs) es → ⊥
+  not_inside ps p qs es w n a = elim (inside_parts ps (p ∷ qs) es a).1.0 [ inl h ↦ absurd (omega (arith, ints)) | inr h ↦ n h ]
+
   module _ (laws : IsEquivalence eq) where
+    -- an entry of a range map has a key
+    pub with_key : (low high : ℤ) (done : List (Entry V)) (e : Entry V) (rest all : List (Entry V)) → all ≡ done ++ e ∷ rest → IsRangeMap eq low high all → e.lo ≤ℤ e.hi
+    with_key low high done e rest all p r = (canonical_part eq done (e ∷ rest) (subst (IsCanonical eq) p (canonical eq laws all r.runs))).0
+
     -- an equal value serves as well
     pub inside_equal : (l h : ℤ) (v w : V) (es : List (Entry V)) → eq v w ≡ true → IsInside eq l h v es → IsInside eq l h w es
     inside_equal l h v w [] q i = i

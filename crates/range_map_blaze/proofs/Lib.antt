@@ -11,3 +11,7 @@ pub mod Insides
 pub mod Paintings
 pub mod Joinings
 pub mod Unions
+pub mod Gaps
+pub mod Fillings
+pub mod FilledUnder
+pub mod Unpainted

@@ -13,7 +13,7 @@ use Rattle.range_map_blaze.specs.Extended.{AreInside, IsExtended}
 use Rattle.range_map_blaze.proofs.Insides.{inside_equal, inside_parts}
 
 module _ {V : Type 0} where
-  or_none : (a : Option V) → or_else a None ≡ a
+  pub or_none : (a : Option V) → or_else a None ≡ a
   or_none None = refl
   or_none (Some x) = refl
 

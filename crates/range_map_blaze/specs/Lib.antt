@@ -5,3 +5,4 @@ pub mod Somewhere
 pub mod Extended
 pub mod Underway
 pub mod Union
+pub mod Filled

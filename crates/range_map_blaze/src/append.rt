@@ -1,16 +1,19 @@
-//! The entries of another map, painted in order.
+//! The entries of another map, painted over this one's.
 ghost use Rattle.std.specs.Prelude.{◌≡◌, [], Ok, OnOk, OnErr};
 ghost use Rattle.blaze_table.specs.Painted.{ClonesAreAlike};
 ghost use Rattle.range_map_blaze.specs.Extended.{IsExtended, IsPartlyExtended};
 
 use crate::joining::Pair;
 use crate::map::RangeMapBlaze;
+use crate::union::{Path, painted_under, path_for};
 use blaze_int::Integer;
 use std::alloc::AllocError;
 
 impl<T: Integer, V: Eq + Clone> RangeMapBlaze<T, V> {
-    /// Paints the entries of another map, ascending: where both have a value, the other's wins. Refused memory leaves a
-    /// first part of them painted, perhaps none, and drops the others. An empty other map takes no memory.
+    /// Puts the entries of another map over this one's: where both have a value, the other's wins. They are painted,
+    /// ascending; where this map has few entries beside the other, clones of those fill the other map, and that takes this
+    /// one's place. Refused memory leaves a first part of them painted, perhaps none, and drops the others. An empty other map
+    /// takes no memory.
     pub fn extend_from(&mut self, other: Self) -> Result<(), AllocError>
         requires { ClonesAreAlike V.is_clone V.eq }
         ensures ok { OnOk result (IsExtended V.eq T.low T.high other.entries self.old.entries self.new.entries) }
@@ -21,9 +24,39 @@ impl<T: Integer, V: Eq + Clone> RangeMapBlaze<T, V> {
         if other.is_empty() {
             return Ok(());
         }
+        match path_for(self.ranges_len(), other.ranges_len()) {
+            Path::Under => self.fill_other(other),
+            Path::Over | Path::Merge => self.paint_entries(other),
+        }
+    }
+
+    // Paints the entries of another map, ascending.
+    fn paint_entries(&mut self, other: Self) -> Result<(), AllocError>
+        requires { ClonesAreAlike V.is_clone V.eq }
+        ensures ok { OnOk result (IsExtended V.eq T.low T.high other.entries self.old.entries self.new.entries) }
+        ensures err { OnErr result (IsPartlyExtended V.eq T.low T.high other.entries self.old.entries self.new.entries) }
+    {
+        self.in_hand();
         for (start, end, value) in other.table {
             self.paint_pair(Pair { start, end, value })?;
         }
+        Ok(())
+    }
+
+    // Fills another map with clones of this one's entries, and puts it in this one's place; but nothing changes where all its
+    // entries lie inside this one's with equal values. Refused memory leaves this map unchanged.
+    fn fill_other(&mut self, other: Self) -> Result<(), AllocError>
+        requires { ClonesAreAlike V.is_clone V.eq }
+        ensures ok { OnOk result (IsExtended V.eq T.low T.high other.entries self.old.entries self.new.entries) }
+        ensures err { OnErr result (self.new ≡ self.old) }
+    {
+        self.in_hand();
+        other.in_hand();
+        if self.all_inside(&other) {
+            return Ok(());
+        }
+        let map = painted_under(self, other)?;
+        *self = map;
         Ok(())
     }
 

@@ -5,23 +5,22 @@ ghost use Rattle.range_map_blaze.specs.Union.{IsUnion};
 
 use crate::lent::lent_union;
 use crate::map::RangeMapBlaze;
-use crate::pointwise::difference;
 use blaze_int::Integer;
 use std::alloc::AllocError;
 
 /// How a union is made, which changes nothing of what it is.
 #[derive(Clone, Copy, Debug)]
-enum Path {
+pub enum Path {
     /// The right map's few entries are painted over the left map.
     Over,
-    /// What the left map has off the right map's keys is painted into the right map: few entries.
+    /// The left map's few entries fill the gaps of the right map.
     Under,
     /// Both maps are gone through in one pass.
     Merge,
 }
 
 /// The path for maps of so many entries.
-fn path_for(left_len: usize, right_len: usize) -> Path {
+pub fn path_for(left_len: usize, right_len: usize) -> Path {
     if right_len == 0 || are_few(right_len, left_len) {
         Path::Over
     } else if left_len == 0 || are_few(left_len, right_len) {
@@ -76,7 +75,7 @@ pub fn union_by_value<T: Integer, V: Eq + Clone>(
 {
     match path_for(left.ranges_len(), right.ranges_len()) {
         Path::Over => painted_over_by(left, right),
-        Path::Under => painted_under(&left, right),
+        Path::Under => painted_under_by(left, right),
         Path::Merge => union(&left, &right),
     }
 }
@@ -137,19 +136,37 @@ fn painted_over_by<T: Integer, V: Eq + Clone>(
     Ok(map)
 }
 
-/// What the left map has off the right map's keys, painted into the right map.
-fn painted_under<T: Integer, V: Eq + Clone>(
+/// The left map's entries filled into the right map, with clones of their values.
+pub fn painted_under<T: Integer, V: Eq + Clone>(
     left: &RangeMapBlaze<T, V>,
     right: RangeMapBlaze<T, V>,
 ) -> Result<RangeMapBlaze<T, V>, AllocError>
     requires { ClonesAreAlike V.is_clone V.eq }
     ensures { IfOk result (λ map. IsUnion V.eq T.low T.high left.now.entries right.entries map.entries) }
 {
-    left.in_hand();
-    right.in_hand();
-    let alone = difference(left, &right)?;
     let mut map = right;
-    alone.in_hand();
-    map.extend_from(alone)?;
+    left.in_hand();
+    map.in_hand();
+    for (start, end, value) in left.table.iter() {
+        let value = value.clone()?;
+        map.fill(start, end, value)?;
+    }
+    Ok(map)
+}
+
+/// The left map's entries filled into the right map, with their own values.
+fn painted_under_by<T: Integer, V: Eq + Clone>(
+    left: RangeMapBlaze<T, V>,
+    right: RangeMapBlaze<T, V>,
+) -> Result<RangeMapBlaze<T, V>, AllocError>
+    requires { ClonesAreAlike V.is_clone V.eq }
+    ensures { IfOk result (λ map. IsUnion V.eq T.low T.high left.entries right.entries map.entries) }
+{
+    let mut map = right;
+    left.in_hand();
+    map.in_hand();
+    for (start, end, value) in left.table {
+        map.fill(start, end, value)?;
+    }
     Ok(map)
 }

@@ -1,0 +1,34 @@
+-- What filling gives: a value is put on those keys of a range that have none.
+use Rattle.std.specs.Prelude.{◌≡◌, ◌⊎◌, ℤ, pos, ◌+ℤ◌, ◌≤ℤ◌, ◌<ℤ◌, int_le, Bool, ◌&&◌, if◌then◌else◌, List, Option, Some, None, IsSome}
+use Rattle.blaze_table.specs.Entries.{Entry, at, SameOption}
+use Rattle.blaze_table.specs.Canonical.{IsRangeMap}
+use Rattle.blaze_table.specs.Gap.{IsClearFrom}
+use Rattle.blaze_table.specs.Painted.{or_else}
+
+-- the content after those keys from l up to h that had no value are given v: what a key had stays
+abbrev pub filled : {V : Type 0} → ℤ → ℤ → V → (ℤ → Option V) → ℤ → Option V
+filled l h v content k = or_else (content k) (if int_le l k && int_le k h then Some v else None)
+
+-- what filling with an entry does to a range map: its content is the filled one
+pub record IsFilled {V : Type 0} (eq : V → V → Bool) (low high : ℤ) (p : Entry V) (old new : List (Entry V)) : Type 0 where
+  pub range_map : IsRangeMap eq low high new
+  pub content : (k : ℤ) → SameOption eq (at new k) (filled p.lo p.hi p.value (at old) k)
+
+-- a range map that has at each key what was there, or what filling gives there
+pub record IsPartlyFilled {V : Type 0} (eq : V → V → Bool) (low high : ℤ) (p : Entry V) (old new : List (Entry V)) : Type 0 where
+  pub range_map : IsRangeMap eq low high new
+  pub content : (k : ℤ) → SameOption eq (at new k) (at old k) ⊎ SameOption eq (at new k) (filled p.lo p.hi p.value (at old) k)
+
+-- each key from a up to b has a value
+abbrev pub IsHeldFrom : {V : Type 0} → (ℤ → Option V) → ℤ → ℤ → Type 0
+IsHeldFrom content a b = (k : ℤ) → a ≤ℤ k → k ≤ℤ b → IsSome (content k)
+
+-- of the keys from l up to h those from a up to b are the first that have no value: all before a have one, none up to b has,
+-- and b is h or the key after b has one
+pub record IsFirstGap {V : Type 0} (content : ℤ → Option V) (l h a b : ℤ) : Type 0 where
+  pub from : l ≤ℤ a
+  pub order : a ≤ℤ b
+  pub to : b ≤ℤ h
+  pub held : (k : ℤ) → l ≤ℤ k → k <ℤ a → IsSome (content k)
+  pub clear : IsClearFrom content a b
+  pub greatest : (b ≡ h) ⊎ IsSome (content (b +ℤ pos 1))
