@@ -6,8 +6,7 @@
 #
 # Calls without a line in a script are not swept by themselves. `symmetric_difference_of`, `intersect_with_ranges`,
 # `subtract_ranges`, `complement` and `from_sorted_disjoint_map` run inside the operators `^`, `&`, `-` and `!`, and are
-# refused there; `union_of` runs inside `|` of two maps of 1024 entries, where each of the first 40 requests is refused and
-# then each 200th. `segments`, `into_range_map_blaze` and carriers are not refused here.
+# refused there; `union_of` runs inside `|` of two maps of like size. `segments`, `into_range_map_blaze` and carriers are not refused here.
 #
 #     tests/refusals.sh          all cases
 #     tests/refusals.sh WORD     those whose call has the word

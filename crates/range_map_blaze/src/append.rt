@@ -5,7 +5,7 @@ ghost use Rattle.range_map_blaze.specs.Extended.{IsExtended, IsPartlyExtended};
 
 use crate::joining::Pair;
 use crate::map::RangeMapBlaze;
-use crate::union::{Path, painted_under, path_for};
+use crate::union::{Path, painted_under, path_for, union};
 use blaze_int::Integer;
 use std::alloc::AllocError;
 
@@ -31,7 +31,7 @@ impl<T: Integer, V: Eq + Clone> RangeMapBlaze<T, V> {
     }
 
     // Paints the entries of another map, ascending.
-    fn paint_entries(&mut self, other: Self) -> Result<(), AllocError>
+    pub(crate) fn paint_entries(&mut self, other: Self) -> Result<(), AllocError>
         requires { ClonesAreAlike V.is_clone V.eq }
         ensures ok { OnOk result (IsExtended V.eq T.low T.high other.entries self.old.entries self.new.entries) }
         ensures err { OnErr result (IsPartlyExtended V.eq T.low T.high other.entries self.old.entries self.new.entries) }
@@ -60,8 +60,9 @@ impl<T: Integer, V: Eq + Clone> RangeMapBlaze<T, V> {
         Ok(())
     }
 
-    /// Paints the entries of another map, ascending, each with a clone of its value: where both have a value, the other's
-    /// wins. Refused memory leaves a first part of them painted, perhaps none. An empty other map takes no memory.
+    /// Puts clones of the entries of another map over this one's: where both have a value, the other's wins. They are painted,
+    /// ascending; where they are not few beside this map's, the union of both maps takes this one's place. Refused memory leaves
+    /// a first part of them painted, perhaps none. An empty other map takes no memory.
     pub fn extend_with(&mut self, other: &Self) -> Result<(), AllocError>
         requires { ClonesAreAlike V.is_clone V.eq }
         ensures ok { OnOk result (IsExtended V.eq T.low T.high other.now.entries self.old.entries self.new.entries) }
@@ -72,10 +73,40 @@ impl<T: Integer, V: Eq + Clone> RangeMapBlaze<T, V> {
         if other.is_empty() {
             return Ok(());
         }
+        match path_for(self.ranges_len(), other.ranges_len()) {
+            Path::Over => self.paint_clones(other),
+            Path::Under | Path::Merge => self.take_union(other),
+        }
+    }
+
+    // Paints clones of the entries of another map, ascending.
+    pub(crate) fn paint_clones(&mut self, other: &Self) -> Result<(), AllocError>
+        requires { ClonesAreAlike V.is_clone V.eq }
+        ensures ok { OnOk result (IsExtended V.eq T.low T.high other.now.entries self.old.entries self.new.entries) }
+        ensures err { OnErr result (IsPartlyExtended V.eq T.low T.high other.now.entries self.old.entries self.new.entries) }
+    {
+        self.in_hand();
         for (start, end, value) in other.table.iter() {
             let value = value.clone()?;
             self.paint_pair(Pair { start, end, value })?;
         }
+        Ok(())
+    }
+
+    // Puts the union with another map in this one's place; but nothing changes where all the other's entries lie inside this
+    // one's with equal values. Refused memory leaves this map unchanged.
+    fn take_union(&mut self, other: &Self) -> Result<(), AllocError>
+        requires { ClonesAreAlike V.is_clone V.eq }
+        ensures ok { OnOk result (IsExtended V.eq T.low T.high other.now.entries self.old.entries self.new.entries) }
+        ensures err { OnErr result (self.new ≡ self.old) }
+    {
+        self.in_hand();
+        other.in_hand();
+        if self.all_inside(other) {
+            return Ok(());
+        }
+        let map = union(self, other)?;
+        *self = map;
         Ok(())
     }
 
@@ -99,8 +130,7 @@ impl<T: Integer, V: Eq + Clone> RangeMapBlaze<T, V> {
         self.extend_with(other)
     }
 
-    /// Takes the entries of another map over: paints them, ascending, with clones of their values, and then empties the
-    /// other map. Refused memory leaves the other map unchanged, and a first part of its entries painted, perhaps none. An
+    /// Takes the entries of another map over, as `extend_with`, and then empties the other map. Refused memory leaves the other map unchanged, and a first part of its entries painted, perhaps none. An
     /// empty other map takes no memory.
     pub fn append(&mut self, other: &mut Self) -> Result<(), AllocError>
         requires { ClonesAreAlike V.is_clone V.eq }

@@ -30,13 +30,10 @@ pub fn path_for(left_len: usize, right_len: usize) -> Path {
     }
 }
 
-/// Whether so few entries take less time to paint into a map of `len` entries than a pass over both.
+/// Whether so few entries take less time to paint into a map of `len` entries than a pass over both: a paint takes about as
+/// long as a pass over sixteen entries.
 fn are_few(few: usize, len: usize) -> bool {
-    if len == 0 {
-        return false;
-    }
-    let (few, len) = (few as u128, len as u128);
-    few * (len.ilog2() as u128 + 1) < 10 * len + few
+    few <= len / 16
 }
 
 /// The values of the right map where it has some, and else those of the left.
@@ -118,7 +115,7 @@ fn painted_over<T: Integer, V: Eq + Clone>(
 {
     let mut map = left;
     right.in_hand();
-    map.extend_with(right)?;
+    map.paint_clones(right)?;
     Ok(map)
 }
 
@@ -132,7 +129,7 @@ fn painted_over_by<T: Integer, V: Eq + Clone>(
 {
     let mut map = left;
     right.in_hand();
-    map.extend_from(right)?;
+    map.paint_entries(right)?;
     Ok(map)
 }
 

@@ -1,7 +1,7 @@
-use Rattle.std.proofs.Common.{[], refl, sym, subst}
+use Rattle.std.proofs.Common.{ap, sym, subst}
 use Rattle.std.proofs.lemmas.Result.{on_err_weaker}
 use Rattle.range_map_blaze.specs.Extended.{IsExtended}
-use Rattle.range_map_blaze.proofs.Paintings.{extended_none}
+use Rattle.range_map_blaze.proofs.Paintings.{extended_none, partly_none}
 use Rattle.range_map_blaze.proofs.map.RangeMapBlaze.extend_from.Goals as goal
 
 pub returns-then-is_empty-clause-ok : goal.returns-then-is_empty-clause-ok
@@ -12,10 +12,4 @@ returns-then-is_empty-clause-ok g c =
 pub returns-in-Under-clause-err : goal.returns-in-Under-clause-err
 returns-in-Under-clause-err g c =
     on_err_weaker c.fill_other.result
-    (λ same. record {
-      done = [];
-      rest = c.args.other.entries;
-      parts = refl;
-      extended = subst (λ s. IsExtended g.V.PartialEq.eq g.T.Integer.low g.T.Integer.high [] c.args.self.now.entries s.entries) (sym same)
-          (extended_none g.V.PartialEq.eq g.met.V.Eq.laws g.T.Integer.low g.T.Integer.high c.args.self.now.entries c.in_hand.ensures);
-    }) c.fill_other.ensures.err
+    (λ same. partly_none g.V.PartialEq.eq g.met.V.Eq.laws g.T.Integer.low g.T.Integer.high _ _ _ c.in_hand.ensures (ap (λ s. s.entries) same)) c.fill_other.ensures.err

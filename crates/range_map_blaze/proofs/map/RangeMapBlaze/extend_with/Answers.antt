@@ -1,7 +1,7 @@
-use Rattle.std.proofs.Common.{[], ◌++◌, ◌∷◌, ◌∙◌, sym, ap, subst, refl, append_assoc}
-use Rattle.blaze_table.specs.Entries.{entry, shown_entry}
+use Rattle.std.proofs.Common.{ap, sym, subst}
+use Rattle.std.proofs.lemmas.Result.{on_err_weaker}
 use Rattle.range_map_blaze.specs.Extended.{IsExtended}
-use Rattle.range_map_blaze.proofs.Paintings.{extended_none, extended_by}
+use Rattle.range_map_blaze.proofs.Paintings.{extended_none, partly_none}
 use Rattle.range_map_blaze.proofs.map.RangeMapBlaze.extend_with.Goals as goal
 
 pub returns-then-is_empty-clause-ok : goal.returns-then-is_empty-clause-ok
@@ -9,15 +9,7 @@ returns-then-is_empty-clause-ok g c =
     subst (λ ps. IsExtended g.V.PartialEq.eq g.T.Integer.low g.T.Integer.high ps c.args.self.now.entries c.args.self.now.entries) (sym (c.is_empty.ensures.0 c.if-is_empty.true))
     (extended_none g.V.PartialEq.eq g.met.V.Eq.laws g.T.Integer.low g.T.Integer.high _ c.in_hand.ensures)
 
-pub loop-start-init : goal.loop-start-init
-loop-start-init g c = ([], sym (c.into_iter-start-iterator.ensures.into_iter_gives ∙ c.iter-start-items.ensures ∙ ap (λ s. s.entries) c.other.view_is), extended_none g.V.PartialEq.eq g.met.V.Eq.laws g.T.Integer.low g.T.Integer.high _ c.in_hand.ensures)
-
-pub loop-start-preserved : goal.loop-start-preserved
-loop-start-preserved g c =
-    let i = c.loop-start.invariant in
-    let e = shown_entry g.T.Integer.rank (λ v. v.now) (c.in-Some.start, c.in-Some.end, c.in-Some.value) in
-    let painted = entry (g.T.Integer.rank c.in-Some.start) (g.T.Integer.rank c.in-Some.end) c.in_ok-value.value in (
-      i.0 ++ e ∷ [],
-      i.1 ∙ ap (λ es. i.0 ++ es) c.in-Some.ensures.steps ∙ sym (append_assoc i.0 (e ∷ []) _),
-      extended_by g.V.PartialEq.eq g.met.V.Eq.laws g.T.Integer.low g.T.Integer.high e painted i.0 c.args.self.now.entries c.loop-start.self.entries c.paint_pair.new.self.entries i.2 c.in_ok-paint_pair.ensures.ok refl refl (g.met.V.Eq.laws.symm _ _ ∙ c.requires _ _ c.in_ok-value.ensures.cases),
-    )
+pub returns-in-Under-clause-err : goal.returns-in-Under-clause-err
+returns-in-Under-clause-err g c =
+    on_err_weaker c.take_union.result
+    (λ same. partly_none g.V.PartialEq.eq g.met.V.Eq.laws g.T.Integer.low g.T.Integer.high _ _ _ c.in_hand.ensures (ap (λ s. s.entries) same)) c.take_union.ensures.err

@@ -1,7 +1,7 @@
 use Rattle.std.proofs.Common.{◌≡◌, ◌++◌, List}
 use Rattle.blaze_table.specs.Entries.{Entry}
 use Rattle.range_map_blaze.specs.Extended.{IsExtended}
-use Rattle.range_map_blaze.proofs.map.RangeMapBlaze.extend_with.Given as goal
+use Rattle.range_map_blaze.proofs.map.RangeMapBlaze.paint_clones.Given as goal
 
 -- the entries that were taken are painted
 abbrev pub invariant-loop-start : goal.invariant-loop-start
