@@ -81,6 +81,13 @@ module _ {V : Type 0} (eq : V → V → Bool) (laws : IsEquivalence eq) where
   nothing_after : (a b c : Option V) → b ≡ None → SameOption eq a c → SameOption eq (or_else a b) c
   nothing_after a b c p s = same_along eq (sym (ap (or_else a) p ∙ or_none a)) refl s
 
+-- what is put behind a list for one choice is put there for another that is the same
+pub puts_same : {V : Type 0} (eq : V → V → Bool) (laws : IsEquivalence eq) (s t : ℤ) (o p : Option V) (old new : List (Entry V)) → SameOption eq o p → PutsChoice eq s t p old new → PutsChoice eq s t o old new
+puts_same eq laws s t None None old new same q = q
+puts_same eq laws s t None (Some w) old new same q = absurd same
+puts_same eq laws s t (Some v) None old new same q = absurd same
+puts_same eq laws s t (Some v) (Some w) old new same q = (q.0, laws.congr v w q.0 same ∙ q.1, q.2)
+
 -- the lesser of two keys, by what the code has in hand
 pub lesser_is : (p q p' q' : Option ℤ) (s : ℤ) → Some s ≡ lesser p q → p ≡ p' → q ≡ q' → lesser p' q' ≡ Some s
 lesser_is p q p' q' s e f g = cc
@@ -135,7 +142,8 @@ module _ {A B V : Type 0} (eq : V → V → Bool) (laws : IsEquivalence eq) (low
     none_under : (k : ℤ) → k <ℤ s → chosen_at choose L R k ≡ None
     none_under k l = ap (λ x. choose x (at R k)) (at_below_from eqa L s k ca from.0 l) ∙ ap (choose None) (at_below_from eqb R s k cb from.1 l) ∙ nothing
 
-    same_here : (k : ℤ) → s ≤ℤ k → k ≤ℤ t → chosen_at choose L R k ≡ chosen_at choose L R s
+    -- what is chosen at s is chosen up to t
+    pub same_here : (k : ℤ) → s ≤ℤ k → k ≤ℤ t → chosen_at choose L R k ≡ chosen_at choose L R s
     same_here k l h = ap (λ x. choose x (at R k)) (steady eqa s t k L ca from.0 to.0 l h) ∙ ap (choose (at L s)) (steady eqb s t k R cb from.1 to.1 l h)
 
     none_after : (k : ℤ) → k ≤ℤ t → chosen_at choose (after t L) (after t R) k ≡ None

@@ -1,7 +1,7 @@
 //! What is left of a stream that is gone through from its start.
-ghost use Rattle.std.specs.Prelude.{◌≡◌, [], IfNone};
-ghost use Rattle.std.specs.Option.{option_map};
-ghost use Rattle.blaze_table.specs.Entries.{at};
+ghost use Rattle.std.specs.Prelude.{◌≡◌, [], IfNone, IfOk};
+ghost use Rattle.std.specs.Option.{option_map, is_some};
+ghost use Rattle.blaze_table.specs.Entries.{at, SameOption};
 ghost use Rattle.blaze_table.specs.Canonical.{IsCanonical};
 ghost use Rattle.blaze_table.specs.Splice.{after};
 ghost use Rattle.blaze_streams.specs.Choosing.{ahead_of};
@@ -11,6 +11,7 @@ use crate::carrier::ValueCarrier;
 use crate::stream::SortedDisjointMap;
 use blaze_int::Integer;
 use blaze_int::compare::{after, before, is_at_most};
+use std::alloc::AllocError;
 use std::marker::Model;
 
 /// The ranges that are left of a stream, with their carriers: what is left of the first, and the stream of the others.
@@ -70,20 +71,14 @@ impl<T: Integer, VC: ValueCarrier, I: SortedDisjointMap<T, VC>> Ahead<T, VC, I> 
         }
     }
 
-    /// The carrier of the range that has a key below which none is left.
-    pub fn here(&self, start: T) -> Option<&VC>
-        requires { IsFrom (T.rank start) self.now }
-        ensures { option_map (λ c. VC.shown c.now) result ≡ at self.now (T.rank start) }
+    /// Whether a range has the key, which is not above the end of the first range.
+    pub fn has(&self, key: T) -> bool
+        requires { Reaches (T.rank key) self.now }
+        ensures { result ≡ is_some (at self.now (T.rank key)) }
     {
         match &self.head {
-            None => None,
-            Some((lo, _, carrier)) => {
-                if is_at_most(*lo, start) {
-                    Some(carrier)
-                } else {
-                    None
-                }
-            }
+            None => false,
+            Some((lo, _, _)) => is_at_most(*lo, key),
         }
     }
 
@@ -117,6 +112,30 @@ impl<T: Integer, VC: ValueCarrier, I: SortedDisjointMap<T, VC>> Ahead<T, VC, I> 
             } else {
                 self.head = Some((lo, hi, carrier));
             }
+        }
+    }
+
+    /// Lets the keys up to `end` go, which is not above the end of the first range, and answers the carrier of the value at
+    /// `end`: the range's own where the range ends there, else another, and refused memory then lets the keys go all the same.
+    pub fn take(&mut self, end: T) -> Result<Option<VC>, AllocError>
+        requires can { VC.can_carry }
+        requires reaches { Reaches (T.rank end) self.old }
+        ensures carrier { IfOk result (λ carrier. SameOption VC.Value.eq (at self.old (T.rank end)) (option_map VC.shown carrier)) }
+        ensures rest { self.new ≡ after (T.rank end) self.old }
+    {
+        let Some((lo, hi, carrier)) = self.head.take() else {
+            return Ok(None);
+        };
+        if is_at_most(hi, end) {
+            self.head = take_first(&mut self.rest);
+            Ok(Some(carrier))
+        } else if is_at_most(lo, end) {
+            let other = carrier.carry();
+            self.head = Some((after(end, hi), hi, carrier));
+            Ok(Some(other?))
+        } else {
+            self.head = Some((lo, hi, carrier));
+            Ok(None)
         }
     }
 }

@@ -23,13 +23,12 @@ fn put_choice<T: Integer, VC: ValueCarrier>(
     out: &mut Vec<(RangeInclusive<T>, VC)>,
     start: T,
     end: T,
-    chosen: Option<&VC>,
+    chosen: Option<VC>,
 ) -> Result<(), AllocError>
-    requires { VC.can_carry }
-    ensures { OnOk result (PutsChoice VC.Value.eq (T.rank start) (T.rank end) (option_map (λ c. VC.shown c.now) chosen.entry) (shown_ranges T.rank VC.shown out.old.items) (shown_ranges T.rank VC.shown out.new.items)) }
+    ensures { OnOk result (PutsChoice VC.Value.eq (T.rank start) (T.rank end) (option_map VC.shown chosen) (shown_ranges T.rank VC.shown out.old.items) (shown_ranges T.rank VC.shown out.new.items)) }
 {
     if let Some(carrier) = chosen {
-        push_joined(out, start, end, carrier.carry()?)?;
+        push_joined(out, start, end, carrier)?;
     }
     Ok(())
 }
@@ -61,10 +60,8 @@ fn choose_next<
     };
     start.in_hand();
     end.in_hand();
-    let chosen = choice.choose(left.here(start), right.here(start));
+    let chosen = choice.take(left, right, end)?;
     put_choice(out, start, end, chosen)?;
-    left.advance(end);
-    right.advance(end);
     Ok(())
 }
 
