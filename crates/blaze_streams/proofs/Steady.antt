@@ -1,5 +1,5 @@
 -- How far a list stays as it is.
-use Rattle.std.proofs.Common.{◌≡◌, ℤ, pos, ◌+ℤ◌, ◌-ℤ◌, ◌≤ℤ◌, ◌<ℤ◌, Bool, cond, List, [], ◌∷◌, Option, Some, None, refl, ◌∙◌, sym, subst, ap, arith, inl, inr, ⊎_elim}
+use Rattle.std.proofs.Common.{◌≡◌, ℤ, pos, ◌+ℤ◌, ◌-ℤ◌, ◌≤ℤ◌, ◌<ℤ◌, Bool, true, cond, List, [], ◌∷◌, Option, Some, None, refl, ◌∙◌, sym, subst, ap, arith, inl, inr, ⊎_elim}
 use Rattle.std.specs.Prelude.{◌⊎◌, int_le}
 use Rattle.std.specs.Option.{is_some}
 use Rattle.std.specs.Cmp.{IsEquivalence}
@@ -88,6 +88,12 @@ module _ {A : Type 0} where
     steady_far s t (e ∷ es) c f p = by_steady s e es
         (λ b q. let u : t ≡ e.hi = same_some t e.hi (sym p ∙ q) in omega (arith, ints, c.0, f))
         (λ b q. let u : t ≡ (e.lo -ℤ pos 1) = same_some t (e.lo -ℤ pos 1) (sym p ∙ q) in omega (arith, ints))
+
+    -- the range that has s has its end
+    pub has_end : (s t : ℤ) (es : List (Entry A)) → IsCanonical eq es → IsFrom s es → steady_to s es ≡ Some t → is_some (at es s) ≡ true → is_some (at es t) ≡ true
+    has_end s t es c f e h =
+        let u : t ≤ℤ t = omega (arith, ints) in
+        ap is_some (steady s t t es c f (subst (AtMost t) (sym e) u) (steady_far s t es c f e) u) ∙ h
 
     pub starts_there : (s : ℤ) (es : List (Entry A)) → IsCanonical eq es → first_key es ≡ Some s → (v : A) × (at es s ≡ Some v)
     starts_there s [] c p = cc

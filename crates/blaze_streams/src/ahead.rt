@@ -1,5 +1,5 @@
 //! What is left of a stream that is gone through from its start.
-ghost use Rattle.std.specs.Prelude.{◌≡◌, [], IfNone, IfOk};
+ghost use Rattle.std.specs.Prelude.{◌≡◌, [], Some, IfSome, IfNone, IfOk};
 ghost use Rattle.std.specs.Option.{option_map, is_some};
 ghost use Rattle.blaze_table.specs.Entries.{at, SameOption};
 ghost use Rattle.blaze_table.specs.Canonical.{IsCanonical};
@@ -47,6 +47,26 @@ fn take_first<T: Integer, VC: ValueCarrier, I: SortedDisjointMap<T, VC>>(
     let (range, carrier) = stream.next()?;
     let (start, end) = range.into_inner();
     Some((start, end, carrier))
+}
+
+/// Takes the ranges up to `end` out of a stream, and the first of what lies above: its first key, its last key and its
+/// carrier.
+fn take_above<T: Integer, VC: ValueCarrier, I: SortedDisjointMap<T, VC>>(
+    stream: &mut I,
+    end: T,
+) -> Option<(T, T, VC)>
+    ensures left { ahead_of T.rank VC.shown result (I.left stream.new) ≡ after (T.rank end) (I.left stream.old) }
+    ensures none { IfNone result (I.left stream.new ≡ []) }
+{
+    while let Some((lo, hi, carrier)) = take_first(stream) {
+        if !is_at_most(hi, end) {
+            if is_at_most(lo, end) {
+                return Some((after(end, hi), hi, carrier));
+            }
+            return Some((lo, hi, carrier));
+        }
+    }
+    None
 }
 
 impl<T: Integer, VC: ValueCarrier, I: SortedDisjointMap<T, VC>> Ahead<T, VC, I> {
@@ -99,18 +119,36 @@ impl<T: Integer, VC: ValueCarrier, I: SortedDisjointMap<T, VC>> Ahead<T, VC, I> 
         }
     }
 
-    /// Lets the keys up to `end` go, which is not above the end of the first range.
+    /// Lets the keys up to `end` go.
     pub fn advance(&mut self, end: T)
-        requires { Reaches (T.rank end) self.old }
         ensures { self.new ≡ after (T.rank end) self.old }
     {
         if let Some((lo, hi, carrier)) = self.head.take() {
             if is_at_most(hi, end) {
-                self.head = take_first(&mut self.rest);
+                self.head = take_above(&mut self.rest, end);
             } else if is_at_most(lo, end) {
                 self.head = Some((after(end, hi), hi, carrier));
             } else {
                 self.head = Some((lo, hi, carrier));
+            }
+        }
+    }
+
+    /// The last key of the range that has a key below which none is left.
+    pub fn end_at(&self, start: T) -> Option<T>
+        requires { IsFrom (T.rank start) self.now }
+        ensures has { is_some (at self.now (T.rank start)) ≡ is_some result }
+        ensures end { IfSome result (λ end. steady_to (T.rank start) self.now ≡ Some (T.rank end)) }
+        ensures reaches { IfSome result (λ end. Reaches (T.rank end) self.now) }
+    {
+        match &self.head {
+            None => None,
+            Some((lo, hi, _)) => {
+                if is_at_most(*lo, start) {
+                    Some(*hi)
+                } else {
+                    None
+                }
             }
         }
     }

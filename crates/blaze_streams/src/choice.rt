@@ -1,10 +1,11 @@
 //! What is chosen from what two streams have at a key.
-ghost use Rattle.std.specs.Prelude.{◌≡◌, Option, None, refl, IfOk};
-ghost use Rattle.std.specs.Option.{option_map};
+ghost use Rattle.std.specs.Prelude.{◌≡◌, ◌&&◌, Bool, true, false, Option, None, refl, IfOk};
+ghost use Rattle.std.specs.Option.{option_map, is_some};
 ghost use Rattle.blaze_table.specs.Chosen.{right_first, exactly_one, left_with_right, left_alone};
 ghost use Rattle.blaze_table.specs.Entries.{at, SameOption};
 ghost use Rattle.blaze_table.specs.Splice.{after};
 ghost use Rattle.blaze_streams.specs.Cursors.{Reaches};
+ghost use Rattle.blaze_streams.specs.Decided.{right_first_decided, left_alone_decided, undecided};
 
 use crate::ahead::Ahead;
 use crate::carrier::ValueCarrier;
@@ -17,7 +18,15 @@ pub trait Choice<VCL: ValueCarrier, VCR: ValueCarrier> {
     // The value that is chosen.
     ghost choice: { Option VCL.Value → Option VCR.Value → Option VCL.Value };
 
-    /// Lets the keys up to `end` go in both streams, and answers the carrier of the value that is chosen at `end`.
+    // Whether the left one does not matter where the right one is there.
+    ghost by_right: { Bool };
+
+    /// Whether the left one does not matter where the right one is there.
+    fn is_by_right(&self) -> bool
+        ensures { result ≡ by_right };
+
+    /// Lets the keys up to `end` go in both streams, and answers the carrier of the value that is chosen at `end`, which is
+    /// above the end of neither's first range, but for a left one that does not matter.
     fn take<T: Integer, L: SortedDisjointMap<T, VCL>, R: SortedDisjointMap<T, VCR>>(
         &self,
         left: &mut Ahead<T, VCL, L>,
@@ -25,7 +34,7 @@ pub trait Choice<VCL: ValueCarrier, VCR: ValueCarrier> {
         end: T,
     ) -> Result<Option<VCL>, AllocError>
         requires can { VCL.can_carry }
-        requires left { Reaches (T.rank end) left.old }
+        requires left { (by_right && is_some (at right.old (T.rank end))) ≡ false → Reaches (T.rank end) left.old }
         requires right { Reaches (T.rank end) right.old }
         ensures carrier { IfOk result (λ carrier. SameOption VCL.Value.eq (choice (at left.old (T.rank end)) (at right.old (T.rank end))) (option_map VCL.shown carrier)) }
         ensures left { left.new ≡ after (T.rank end) left.old }
@@ -33,6 +42,9 @@ pub trait Choice<VCL: ValueCarrier, VCR: ValueCarrier> {
 
     // Nothing is chosen from nothing.
     ghost from_nothing: { choice None None ≡ None };
+
+    // Where the choice is by the right one, the left one does not matter.
+    ghost decided: { (x z : Option VCL.Value) (y : Option VCR.Value) → by_right ≡ true → is_some y ≡ true → choice x y ≡ choice z y };
 }
 
 /// The right one where it is there, else the left.
@@ -40,6 +52,12 @@ pub struct RightFirst;
 
 impl<VC: ValueCarrier> Choice<VC, VC> for RightFirst {
     ghost choice = { right_first };
+
+    ghost by_right = { true };
+
+    fn is_by_right(&self) -> bool {
+        true
+    }
 
     fn take<T: Integer, L: SortedDisjointMap<T, VC>, R: SortedDisjointMap<T, VC>>(
         &self,
@@ -57,6 +75,8 @@ impl<VC: ValueCarrier> Choice<VC, VC> for RightFirst {
     }
 
     ghost from_nothing = { refl };
+
+    ghost decided = { right_first_decided };
 }
 
 /// The one that is there, where exactly one is.
@@ -64,6 +84,12 @@ pub struct ExactlyOne;
 
 impl<VC: ValueCarrier> Choice<VC, VC> for ExactlyOne {
     ghost choice = { exactly_one };
+
+    ghost by_right = { false };
+
+    fn is_by_right(&self) -> bool {
+        false
+    }
 
     fn take<T: Integer, L: SortedDisjointMap<T, VC>, R: SortedDisjointMap<T, VC>>(
         &self,
@@ -85,6 +111,8 @@ impl<VC: ValueCarrier> Choice<VC, VC> for ExactlyOne {
     }
 
     ghost from_nothing = { refl };
+
+    ghost decided = { undecided exactly_one };
 }
 
 /// The left one, where the right is there too.
@@ -93,6 +121,12 @@ pub struct LeftWithRight;
 impl<VCL: ValueCarrier, VCR: ValueCarrier> Choice<VCL, VCR> for LeftWithRight {
     ghost choice = { left_with_right };
 
+    ghost by_right = { false };
+
+    fn is_by_right(&self) -> bool {
+        false
+    }
+
     fn take<T: Integer, L: SortedDisjointMap<T, VCL>, R: SortedDisjointMap<T, VCR>>(
         &self,
         left: &mut Ahead<T, VCL, L>,
@@ -110,6 +144,8 @@ impl<VCL: ValueCarrier, VCR: ValueCarrier> Choice<VCL, VCR> for LeftWithRight {
     }
 
     ghost from_nothing = { refl };
+
+    ghost decided = { undecided left_with_right };
 }
 
 /// The left one, where the right is not there.
@@ -118,6 +154,12 @@ pub struct LeftAlone;
 impl<VCL: ValueCarrier, VCR: ValueCarrier> Choice<VCL, VCR> for LeftAlone {
     ghost choice = { left_alone };
 
+    ghost by_right = { true };
+
+    fn is_by_right(&self) -> bool {
+        true
+    }
+
     fn take<T: Integer, L: SortedDisjointMap<T, VCL>, R: SortedDisjointMap<T, VCR>>(
         &self,
         left: &mut Ahead<T, VCL, L>,
@@ -135,4 +177,6 @@ impl<VCL: ValueCarrier, VCR: ValueCarrier> Choice<VCL, VCR> for LeftAlone {
     }
 
     ghost from_nothing = { refl };
+
+    ghost decided = { left_alone_decided };
 }

@@ -244,9 +244,9 @@ fn a_piece_that_leaves_no_rest_is_not_cloned(rt: HostRuntime) -> Result<(), Fail
     let mut found = union_of(
         alloc,
         left,
-        uncloned_table(alloc, &[(0, 4, 2), (15, 19, 1)])?,
+        uncloned_table(alloc, &[(-1, 4, 2), (15, 19, 1)])?,
     )?;
-    assert_eq!(rt; number(found.next()), Some((0, 4, 2)));
+    assert_eq!(rt; number(found.next()), Some((-1, 4, 2)));
     assert_eq!(rt; number(found.next()), Some((5, 9, 1)));
     assert_eq!(rt; number(found.next()), Some((15, 29, 1)));
     assert_eq!(rt; number(found.next()), None);
