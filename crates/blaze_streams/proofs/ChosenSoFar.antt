@@ -13,8 +13,8 @@ use Rattle.blaze_table.proofs.Runs.{one_per_run}
 use Rattle.blaze_table.proofs.Splices.{or_else, canonical_glue, at_glue, below_glue, below_more, above_after, at-after_over}
 use Rattle.blaze_table.proofs.Unique.{same_along, same_itself, same_trans}
 use Rattle.blaze_streams.specs.Choosing.{IsTaken, PutsValue, IsChoiceMade}
-use Rattle.blaze_streams.specs.Cursors.{first_key, steady_to, IsFrom, lesser}
-use Rattle.blaze_streams.proofs.Steady.{AtMost, same_some, from_first, steady, steady_far, at_below_from, at-after_under}
+use Rattle.blaze_streams.specs.Cursors.{first_key, IsFrom, lesser}
+use Rattle.blaze_streams.proofs.Steady.{same_some, from_first, at_below_from, at-after_under}
 use Rattle.blaze_streams.proofs.Lesser.{at_most_both, at_most_itself, lesser_one, some_lesser}
 
 or_assoc : {V : Type 0} (x y z : Option V) → or_else (or_else x y) z ≡ or_else x (or_else y z)
@@ -131,7 +131,12 @@ module _ {A B V : Type 0} (eq : V → V → Bool) (laws : IsEquivalence eq) (low
     none_after : (k : ℤ) → k ≤ℤ t → chosen_at choose L' R' k ≡ None
     none_after k h =
         rw (taken.left_is, taken.right_is)
-        (ap (λ x. choose x (at (after t R) k)) (at-after_under eqa taken.left_end k L ca (omega (arith, ints, taken.left_far))) ∙ ap (choose None) (at-after_under eqb t k R cb h) ∙ nothing)
+        (ap (λ x. choose x (at (after t R) k)) (at-after_under eqa t k L ca h) ∙ ap (choose None) (at-after_under eqb t k R cb h) ∙ nothing)
+
+    same_over : (k : ℤ) → t <ℤ k → chosen_at choose L' R' k ≡ chosen_at choose L R k
+    same_over k l =
+        rw (taken.left_is, taken.right_is)
+        (ap (λ x. choose x (at (after t R) k)) (at-after_over eqa t k L ca l) ∙ ap (choose (at L k)) (at-after_over eqb t k R cb l))
 
     -- a piece has on the keys from s to t what is chosen at s, and nothing elsewhere
     piece_content : (piece : List (Entry V)) → ((k : ℤ) → k <ℤ s → at piece k ≡ None) → ((k : ℤ) → t <ℤ k → at piece k ≡ None) → ((k : ℤ) → s ≤ℤ k → k ≤ℤ t → SameOption eq (at piece k) (chosen_at choose L R s))
@@ -139,7 +144,7 @@ module _ {A B V : Type 0} (eq : V → V → Bool) (laws : IsEquivalence eq) (low
     piece_content piece under over here k = by_lt_z k s
         (λ l. nothing_before eq laws (at piece k) _ (chosen_at choose L R k) (under k l) (none_after k (omega (arith, ints, taken.order)) ∙ sym (none_under k l)))
         (λ l. by_lt_z t k
-        (λ h. nothing_before eq laws (at piece k) _ (chosen_at choose L R k) (over k h) (taken.rest k h))
+        (λ h. nothing_before eq laws (at piece k) _ (chosen_at choose L R k) (over k h) (same_over k h))
         (λ h. nothing_after eq laws (at piece k) _ (chosen_at choose L R k) (none_after k h) (same_along eq {a = at piece k} refl (sym (taken.same k l h)) (here k l h))))
 
     piece_of : (o : Option V) (out new : List (Entry V)) → low ≤ℤ s → t ≤ℤ high → SameOption eq (chosen_at choose L R s) o → PutsValue eq s t o out new → (piece : List (Entry V)) × (new ≡ glue eq out piece) × IsPiece eq low high choose L L' R R' s t piece
@@ -176,8 +181,8 @@ module _ {A B V : Type 0} (eq : V → V → Bool) (laws : IsEquivalence eq) (low
         record {
           canonical = canonical_glue eq laws (s -ℤ pos 1) out piece c.canonical p.canonical (below_more s (s -ℤ pos 1 +ℤ pos 1) out (omega (arith, ints)) under) p.above;
           keys = are_keys_glue eq low high out piece c.keys p.keys;
-          under = λ r f. let above : t <ℤ r = ⊎_elim
-              (λ e. let far = first_above taken.left_end r L (sym (ap first_key taken.left_is) ∙ e) in omega (arith, ints, taken.left_far))
+          under = λ r f. let above = ⊎_elim
+              (λ e. first_above t r L (sym (ap first_key taken.left_is) ∙ e))
               (λ e. first_above t r R (sym (ap first_key taken.right_is) ∙ e))
               (lesser_one (first_key L') (first_key R') r f) in
               below_more (t +ℤ pos 1) r (glue eq out piece) (omega (arith, ints)) below;

@@ -1,15 +1,14 @@
 -- What is taken of two lists.
-use Rattle.std.proofs.Common.{◌≡◌, ℤ, ◌≤ℤ◌, ◌<ℤ◌, Bool, true, false, List, Option, Some, None, refl, ◌∙◌, sym, ap, arith, ⊎_elim}
+use Rattle.std.proofs.Common.{◌≡◌, ℤ, ◌≤ℤ◌, Bool, true, false, List, Option, Some, refl, ◌∙◌, ap, arith, ⊎_elim}
 use Rattle.std.specs.Option.{is_some}
 use Rattle.std.specs.Prelude.{◌&&◌}
 use Rattle.std.proofs.lemmas.Int.{ints}
 use Rattle.blaze_table.specs.Entries.{Entry, at, SameOption}
 use Rattle.blaze_table.specs.Canonical.{IsCanonical}
 use Rattle.blaze_table.specs.Splice.{after}
-use Rattle.blaze_table.proofs.Splices.{at-after_over}
 use Rattle.blaze_table.proofs.Unique.{same_along}
 use Rattle.blaze_streams.specs.Choosing.{IsTaken}
-use Rattle.blaze_streams.specs.Cursors.{first_key, steady_to, IsFrom, lesser}
+use Rattle.blaze_streams.specs.Cursors.{first_key, steady_to, lesser}
 use Rattle.blaze_streams.proofs.ChosenSoFar.{both_from, chosen_at}
 use Rattle.blaze_streams.proofs.Lesser.{at_most_both, at_most_itself, lesser_one}
 use Rattle.blaze_streams.proofs.Steady.{AtMost, steady, steady_far}
@@ -21,11 +20,8 @@ module _ {A B V : Type 0} (eqa : A → A → Bool) (eqb : B → B → Bool) (eq 
     order = order;
     same = same;
     alike = same_along eq (same t order (omega (arith, ints))) refl alike;
-    left_end = t;
-    left_far = omega (arith, ints);
     left_is = left_is;
     right_is = right_is;
-    rest = λ k l. rw (left_is, right_is) (ap (λ x. choose x (at (after t R) k)) (at-after_over eqa t k L ca l) ∙ ap (choose (at L k)) (at-after_over eqb t k R cb l));
   }
 
   -- up to the last key to which neither list changes

@@ -1,6 +1,6 @@
 -- Two streams gone through together, and what is chosen from them so far: the words of this crate's own functions. No public
 -- clause names them.
-use Rattle.std.specs.Prelude.{◌≡◌, ℤ, ◌≤ℤ◌, ◌<ℤ◌, Bool, true, List, [], ◌∷◌, map, Option, Some, None}
+use Rattle.std.specs.Prelude.{◌≡◌, ℤ, ◌≤ℤ◌, Bool, true, List, [], ◌∷◌, map, Option, Some, None}
 use Rattle.blaze_table.specs.Entries.{Entry, entry, at, shown_entry, SameOption}
 use Rattle.blaze_table.specs.Splice.{glue, after}
 
@@ -18,17 +18,13 @@ abbrev pub all_true : {V : Type 0} → List (Entry V) → List (Entry Bool)
 all_true es = map with_true es
 
 -- what is taken of two lists, on the keys from s, the first that they have, up to `end`: what is chosen at s is chosen at each
--- of these keys, and equal to the value; of the lists is left what they have above, where the left may have lost keys that
--- change nothing of what is chosen
+-- of these keys, and equal to the value; of the lists is left what they have above
 pub record IsTaken {A B V : Type 0} (eq : V → V → Bool) (choose : Option A → Option B → Option V) (s : ℤ) (left left_new : List (Entry A)) (right right_new : List (Entry B)) (end : ℤ) (value : Option V) : Type 0 where
   pub order : s ≤ℤ end
   pub same : (k : ℤ) → s ≤ℤ k → k ≤ℤ end → choose (at left k) (at right k) ≡ choose (at left s) (at right s)
   pub alike : SameOption eq (choose (at left s) (at right s)) value
-  pub left_end : ℤ
-  pub left_far : end ≤ℤ left_end
-  pub left_is : left_new ≡ after left_end left
+  pub left_is : left_new ≡ after end left
   pub right_is : right_new ≡ after end right
-  pub rest : (k : ℤ) → end <ℤ k → choose (at left_new k) (at right_new k) ≡ choose (at left k) (at right k)
 
 -- the list with a value behind it, on the keys from s up to t, where there is one
 abbrev pub PutsValue : {V : Type 0} → (V → V → Bool) → ℤ → ℤ → Option V → List (Entry V) → List (Entry V) → Type 0
