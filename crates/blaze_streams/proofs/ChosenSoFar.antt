@@ -12,9 +12,9 @@ use Rattle.blaze_table.proofs.Painted.{glue-nil}
 use Rattle.blaze_table.proofs.Runs.{one_per_run}
 use Rattle.blaze_table.proofs.Splices.{or_else, canonical_glue, at_glue, below_glue, below_more, above_after, at-after_over}
 use Rattle.blaze_table.proofs.Unique.{same_along, same_itself, same_trans}
-use Rattle.blaze_streams.specs.Choosing.{PutsChoice, IsChoiceMade}
-use Rattle.blaze_streams.specs.Cursors.{first_key, steady_to, IsFrom, lesser}
-use Rattle.blaze_streams.proofs.Steady.{AtMost, same_some, from_first, steady, steady_far, at_below_from, at-after_under}
+use Rattle.blaze_streams.specs.Choosing.{IsTaken, PutsValue, IsChoiceMade}
+use Rattle.blaze_streams.specs.Cursors.{first_key, IsFrom, lesser}
+use Rattle.blaze_streams.proofs.Steady.{same_some, from_first, at_below_from, at-after_under}
 use Rattle.blaze_streams.proofs.Lesser.{at_most_both, at_most_itself, lesser_one, some_lesser}
 
 or_assoc : {V : Type 0} (x y z : Option V) → or_else (or_else x y) z ≡ or_else x (or_else y z)
@@ -53,13 +53,6 @@ module _ {A B : Type 0} where
   pub both_from : (s : ℤ) (L : List (Entry A)) (R : List (Entry B)) → lesser (first_key L) (first_key R) ≡ Some s → IsFrom s L × IsFrom s R
   both_from s L R starts = let m = at_most_both (first_key L) (first_key R) s (at_most_itself _ s starts) in (from_first s L m.0, from_first s R m.1)
 
-  -- neither changes below their first key
-  pub step_order : (eqa : A → A → Bool) (eqb : B → B → Bool) (s t : ℤ) (L : List (Entry A)) (R : List (Entry B)) → IsCanonical eqa L → IsCanonical eqb R
-      → lesser (first_key L) (first_key R) ≡ Some s → lesser (steady_to s L) (steady_to s R) ≡ Some t → s ≤ℤ t
-  step_order eqa eqb s t L R ca cb starts ends =
-      let from = both_from s L R starts in
-      ⊎_elim (λ e. steady_far eqa s t L ca from.0 e) (λ e. steady_far eqb s t R cb from.1 e) (lesser_one (steady_to s L) (steady_to s R) t ends)
-
 module _ {V : Type 0} (eq : V → V → Bool) (laws : IsEquivalence eq) where
   same_or_left : (a b z : Option V) → SameOption eq a b → SameOption eq (or_else a z) (or_else b z)
   unfolding or_else
@@ -72,6 +65,12 @@ module _ {V : Type 0} (eq : V → V → Bool) (laws : IsEquivalence eq) where
   unfolding or_else
   same_or_right None x y s = s
   same_or_right (Some v) x y s = laws.refl v
+
+  same_back : (a b : Option V) → SameOption eq a b → SameOption eq b a
+  same_back None None s = tt
+  same_back None (Some y) s = absurd s
+  same_back (Some x) None s = absurd s
+  same_back (Some x) (Some y) s = laws.symm y x ∙ s
 
   -- nothing before what is the same
   nothing_before : (a b c : Option V) → a ≡ None → b ≡ c → SameOption eq (or_else a b) c
@@ -100,12 +99,12 @@ pub record IsChosenSoFar {A B V : Type 0} (eq : V → V → Bool) (low high : �
   pub content : (k : ℤ) → SameOption eq (or_else (at out k) (chosen_at choose L R k)) (chosen_at choose left right k)
 
 -- what a step puts behind the list, on the keys from s to t
-record IsPiece {A B V : Type 0} (eq : V → V → Bool) (low high : ℤ) (choose : Option A → Option B → Option V) (L : List (Entry A)) (R : List (Entry B)) (s t : ℤ) (piece : List (Entry V)) : Type 0 where
+record IsPiece {A B V : Type 0} (eq : V → V → Bool) (low high : ℤ) (choose : Option A → Option B → Option V) (L L' : List (Entry A)) (R R' : List (Entry B)) (s t : ℤ) (piece : List (Entry V)) : Type 0 where
   pub canonical : IsCanonical eq piece
   pub keys : AreKeys low high piece
   pub above : IsAbove (s -ℤ pos 1) piece
   pub below : IsBelow (t +ℤ pos 1) piece
-  pub content : (k : ℤ) → SameOption eq (or_else (at piece k) (chosen_at choose (after t L) (after t R) k)) (chosen_at choose L R k)
+  pub content : (k : ℤ) → SameOption eq (or_else (at piece k) (chosen_at choose L' R' k)) (chosen_at choose L R k)
 
 module _ {A B V : Type 0} (eq : V → V → Bool) (laws : IsEquivalence eq) (low high : ℤ) (choose : Option A → Option B → Option V) where
   pub chosen_none : (L : List (Entry A)) (R : List (Entry B)) → IsChosenSoFar eq low high choose L R L R []
@@ -125,36 +124,31 @@ module _ {A B V : Type 0} (eq : V → V → Bool) (laws : IsEquivalence eq) (low
         content = λ k. same_along eq (ap (or_else (at out k)) (ap (λ x. choose x (at R k)) (none_there L k n.0) ∙ ap (choose None) (none_there R k n.1) ∙ nothing) ∙ or_none (at out k)) refl (c.content k);
       }
 
-  module _ (eqa : A → A → Bool) (eqb : B → B → Bool) (nothing : choose None None ≡ None) (L : List (Entry A)) (R : List (Entry B)) (s t : ℤ) (ca : IsCanonical eqa L) (cb : IsCanonical eqb R) (starts : lesser (first_key L) (first_key R) ≡ Some s) (ends : lesser (steady_to s L) (steady_to s R) ≡ Some t) where
-    from : IsFrom s L × IsFrom s R
-    from = both_from s L R starts
-
-    to : AtMost t (steady_to s L) × AtMost t (steady_to s R)
-    to = at_most_both (steady_to s L) (steady_to s R) t (at_most_itself _ t ends)
-
+  module _ (eqa : A → A → Bool) (eqb : B → B → Bool) (nothing : choose None None ≡ None) (L L' : List (Entry A)) (R R' : List (Entry B)) (s t : ℤ) (value : Option V) (ca : IsCanonical eqa L) (cb : IsCanonical eqb R) (starts : lesser (first_key L) (first_key R) ≡ Some s) (taken : IsTaken eq choose s L L' R R' t value) where
     none_under : (k : ℤ) → k <ℤ s → chosen_at choose L R k ≡ None
-    none_under k l = ap (λ x. choose x (at R k)) (at_below_from eqa L s k ca from.0 l) ∙ ap (choose None) (at_below_from eqb R s k cb from.1 l) ∙ nothing
+    none_under k l = let from = both_from s L R starts in ap (λ x. choose x (at R k)) (at_below_from eqa L s k ca from.0 l) ∙ ap (choose None) (at_below_from eqb R s k cb from.1 l) ∙ nothing
 
-    same_here : (k : ℤ) → s ≤ℤ k → k ≤ℤ t → chosen_at choose L R k ≡ chosen_at choose L R s
-    same_here k l h = ap (λ x. choose x (at R k)) (steady eqa s t k L ca from.0 to.0 l h) ∙ ap (choose (at L s)) (steady eqb s t k R cb from.1 to.1 l h)
+    none_after : (k : ℤ) → k ≤ℤ t → chosen_at choose L' R' k ≡ None
+    none_after k h =
+        rw (taken.left_is, taken.right_is)
+        (ap (λ x. choose x (at (after t R) k)) (at-after_under eqa t k L ca h) ∙ ap (choose None) (at-after_under eqb t k R cb h) ∙ nothing)
 
-    none_after : (k : ℤ) → k ≤ℤ t → chosen_at choose (after t L) (after t R) k ≡ None
-    none_after k h = ap (λ x. choose x (at (after t R) k)) (at-after_under eqa t k L ca h) ∙ ap (choose None) (at-after_under eqb t k R cb h) ∙ nothing
-
-    same_over : (k : ℤ) → t <ℤ k → chosen_at choose (after t L) (after t R) k ≡ chosen_at choose L R k
-    same_over k l = ap (λ x. choose x (at (after t R) k)) (at-after_over eqa t k L ca l) ∙ ap (choose (at L k)) (at-after_over eqb t k R cb l)
+    same_over : (k : ℤ) → t <ℤ k → chosen_at choose L' R' k ≡ chosen_at choose L R k
+    same_over k l =
+        rw (taken.left_is, taken.right_is)
+        (ap (λ x. choose x (at (after t R) k)) (at-after_over eqa t k L ca l) ∙ ap (choose (at L k)) (at-after_over eqb t k R cb l))
 
     -- a piece has on the keys from s to t what is chosen at s, and nothing elsewhere
     piece_content : (piece : List (Entry V)) → ((k : ℤ) → k <ℤ s → at piece k ≡ None) → ((k : ℤ) → t <ℤ k → at piece k ≡ None) → ((k : ℤ) → s ≤ℤ k → k ≤ℤ t → SameOption eq (at piece k) (chosen_at choose L R s))
-        → (k : ℤ) → SameOption eq (or_else (at piece k) (chosen_at choose (after t L) (after t R) k)) (chosen_at choose L R k)
+        → (k : ℤ) → SameOption eq (or_else (at piece k) (chosen_at choose L' R' k)) (chosen_at choose L R k)
     piece_content piece under over here k = by_lt_z k s
-        (λ l. nothing_before eq laws (at piece k) _ (chosen_at choose L R k) (under k l) (none_after k (omega (arith, ints, step_order eqa eqb s t L R ca cb starts ends)) ∙ sym (none_under k l)))
+        (λ l. nothing_before eq laws (at piece k) _ (chosen_at choose L R k) (under k l) (none_after k (omega (arith, ints, taken.order)) ∙ sym (none_under k l)))
         (λ l. by_lt_z t k
         (λ h. nothing_before eq laws (at piece k) _ (chosen_at choose L R k) (over k h) (same_over k h))
-        (λ h. nothing_after eq laws (at piece k) _ (chosen_at choose L R k) (none_after k h) (same_along eq {a = at piece k} refl (sym (same_here k l h)) (here k l h))))
+        (λ h. nothing_after eq laws (at piece k) _ (chosen_at choose L R k) (none_after k h) (same_along eq {a = at piece k} refl (sym (taken.same k l h)) (here k l h))))
 
-    piece_of : (o : Option V) (out new : List (Entry V)) → low ≤ℤ s → t ≤ℤ high → chosen_at choose L R s ≡ o → PutsChoice eq s t o out new → (piece : List (Entry V)) × (new ≡ glue eq out piece) × IsPiece eq low high choose L R s t piece
-    piece_of None out new f u is p = (
+    piece_of : (o : Option V) (out new : List (Entry V)) → low ≤ℤ s → t ≤ℤ high → SameOption eq (chosen_at choose L R s) o → PutsValue eq s t o out new → (piece : List (Entry V)) × (new ≡ glue eq out piece) × IsPiece eq low high choose L L' R R' s t piece
+    piece_of None out new f u alike p = (
       [],
       p ∙ sym (glue-nil eq laws out),
       record {
@@ -162,34 +156,37 @@ module _ {A B V : Type 0} (eq : V → V → Bool) (laws : IsEquivalence eq) (low
         keys = tt;
         above = tt;
         below = tt;
-        content = piece_content [] (λ k l. refl) (λ k l. refl) (λ k l h. same_along eq {a = None} {b = None} refl (sym is) tt);
+        content = piece_content [] (λ k l. refl) (λ k l. refl) (λ k l h. same_back eq laws _ None alike);
       },
     )
-    piece_of (Some v) out new f u is p =
-        let e = entry s t p.0 in (
+    piece_of (Some v) out new f u alike p =
+        let e = entry s t v in (
           e ∷ [],
-          p.2,
+          p,
           record {
-            canonical = (step_order eqa eqb s t L R ca cb starts ends, tt, tt);
+            canonical = (taken.order, tt, tt);
             keys = (f, u, tt);
             above = omega (arith, ints);
             below = (omega (arith, ints), tt);
             content = piece_content (e ∷ []) (λ k l. at_under e [] k l) (λ k l. at_over e [] k l)
-                (λ k l h. same_along eq {a = Some p.0} {b = Some v} (sym (at_in e [] k l h)) (sym is) (laws.symm p.0 v ∙ p.1));
+                (λ k l h. same_along eq {a = Some v} (sym (at_in e [] k l h)) refl (same_back eq laws _ (Some v) alike));
           },
         )
 
   module _ (eqa : A → A → Bool) (eqb : B → B → Bool) (nothing : choose None None ≡ None) (left L L' : List (Entry A)) (right R R' : List (Entry B)) (out new : List (Entry V)) (s : ℤ) (ca : IsCanonical eqa L) (cb : IsCanonical eqb R) (starts : lesser (first_key L) (first_key R) ≡ Some s) where
-    more_of : (t : ℤ) (piece : List (Entry V)) → s ≤ℤ t → IsChosenSoFar eq low high choose left right L R out → IsPiece eq low high choose L R s t piece → IsChosenSoFar eq low high choose left right (after t L) (after t R) (glue eq out piece)
-    more_of t piece w c p =
+    more_of : (t : ℤ) (value : Option V) (piece : List (Entry V)) → IsTaken eq choose s L L' R R' t value → IsChosenSoFar eq low high choose left right L R out → IsPiece eq low high choose L L' R R' s t piece → IsChosenSoFar eq low high choose left right L' R' (glue eq out piece)
+    more_of t value piece taken c p =
         let under = c.under s starts in
-        let below = below_glue eq (t +ℤ pos 1) out piece (below_more s (t +ℤ pos 1) out (omega (arith, ints)) under) p.below in
+        let below = below_glue eq (t +ℤ pos 1) out piece (below_more s (t +ℤ pos 1) out (omega (arith, ints, taken.order)) under) p.below in
         record {
           canonical = canonical_glue eq laws (s -ℤ pos 1) out piece c.canonical p.canonical (below_more s (s -ℤ pos 1 +ℤ pos 1) out (omega (arith, ints)) under) p.above;
           keys = are_keys_glue eq low high out piece c.keys p.keys;
-          under = λ r f. let above = ⊎_elim (λ e. first_above t r L e) (λ e. first_above t r R e) (lesser_one (first_key (after t L)) (first_key (after t R)) r f) in
+          under = λ r f. let above = ⊎_elim
+              (λ e. first_above t r L (sym (ap first_key taken.left_is) ∙ e))
+              (λ e. first_above t r R (sym (ap first_key taken.right_is) ∙ e))
+              (lesser_one (first_key L') (first_key R') r f) in
               below_more (t +ℤ pos 1) r (glue eq out piece) (omega (arith, ints)) below;
-          content = λ k. let rest = chosen_at choose (after t L) (after t R) k in
+          content = λ k. let rest = chosen_at choose L' R' k in
               same_trans eq laws _ (or_else (or_else (at out k) (at piece k)) rest) _
               (same_or_left eq laws (at (glue eq out piece) k) (or_else (at out k) (at piece k)) rest (at_glue eq laws out piece k c.canonical p.canonical))
               (same_along eq (sym (or_assoc (at out k) (at piece k) rest)) refl
@@ -200,5 +197,5 @@ module _ {A B V : Type 0} (eq : V → V → Bool) (laws : IsEquivalence eq) (low
     -- one step more
     pub chosen_more : IsChosenSoFar eq low high choose left right L R out → IsChoiceMade eq low high choose s L L' R R' out new → IsChosenSoFar eq low high choose left right L' R' new
     chosen_more c m =
-        let p = piece_of eqa eqb nothing L R s m.end ca cb starts m.ends (chosen_at choose L R s) out new m.from m.to refl m.put in
-        rw (m.left_is, m.right_is, p.1) (more_of m.end p.0 (step_order eqa eqb s m.end L R ca cb starts m.ends) c p.2)
+        let p = piece_of eqa eqb nothing L L' R R' s m.end m.value ca cb starts m.taken m.value out new m.from m.to m.taken.alike m.put in
+        rw p.1 (more_of m.end m.value p.0 m.taken c p.2)

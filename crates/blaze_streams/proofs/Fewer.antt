@@ -7,7 +7,6 @@ use Rattle.blaze_table.specs.Splice.{after}
 use Rattle.blaze_table.proofs.Splices.{after_keeps}
 use Rattle.blaze_streams.specs.Choosing.{IsChoiceMade}
 use Rattle.blaze_streams.specs.Cursors.{first_key, lesser}
-use Rattle.blaze_streams.proofs.ChosenSoFar.{step_order}
 use Rattle.blaze_streams.proofs.KeysLeft.{keys_left, all_less}
 use Rattle.blaze_streams.proofs.Lesser.{lesser_one}
 
@@ -25,8 +24,7 @@ module _ {A : Type 0} (eq : A → A → Bool) (t : ℤ) where
 pub step_less : {A B V : Type 0} (eqa : A → A → Bool) (eqb : B → B → Bool) (eq : V → V → Bool) (low high : ℤ) (choose : Option A → Option B → Option V) (s : ℤ) (L L' : List (Entry A)) (R R' : List (Entry B)) (out new : List (Entry V))
     → IsCanonical eqa L → IsCanonical eqb R → lesser (first_key L) (first_key R) ≡ Some s → IsChoiceMade eq low high choose s L L' R R' out new → keys_left L' + keys_left R' < keys_left L + keys_left R
 step_less eqa eqb eq low high choose s L L' R R' out new ca cb starts m =
-    let w = step_order eqa eqb s m.end L R ca cb starts m.ends in
-    rw (m.left_is, m.right_is) (⊎_elim
-    (λ e. omega (arith, less eqa m.end s L ca w e, fewer eqb m.end R cb))
-    (λ e. omega (arith, less eqb m.end s R cb w e, fewer eqa m.end L ca))
+    rw (m.taken.left_is, m.taken.right_is) (⊎_elim
+    (λ e. omega (arith, less eqa m.end s L ca m.taken.order e, fewer eqb m.end R cb))
+    (λ e. omega (arith, less eqb m.end s R cb m.taken.order e, fewer eqa m.end L ca))
     (lesser_one (first_key L) (first_key R) s starts))

@@ -1,6 +1,7 @@
 -- How far a list stays as it is.
-use Rattle.std.proofs.Common.{◌≡◌, ℤ, pos, ◌+ℤ◌, ◌-ℤ◌, ◌≤ℤ◌, ◌<ℤ◌, Bool, cond, List, [], ◌∷◌, Option, Some, None, refl, ◌∙◌, sym, subst, ap, arith, inl, inr, ⊎_elim}
-use Rattle.std.specs.Prelude.{◌⊎◌}
+use Rattle.std.proofs.Common.{◌≡◌, ℤ, pos, ◌+ℤ◌, ◌-ℤ◌, ◌≤ℤ◌, ◌<ℤ◌, Bool, true, cond, List, [], ◌∷◌, Option, Some, None, refl, ◌∙◌, sym, subst, ap, arith, inl, inr, ⊎_elim}
+use Rattle.std.specs.Prelude.{◌⊎◌, int_le}
+use Rattle.std.specs.Option.{is_some}
 use Rattle.std.specs.Cmp.{IsEquivalence}
 use Rattle.std.proofs.lemmas.Int.{ints, by_lt_z}
 use Rattle.blaze_table.specs.Entries.{Entry, at, SameOption}
@@ -48,6 +49,12 @@ module _ {A : Type 0} where
     pub at_first : (e : Entry A) (es : List (Entry A)) (k : ℤ) → IsCanonical eq (e ∷ es) → k <ℤ e.lo → at (e ∷ es) k ≡ None
     at_first e es k c l = at_before eq (e ∷ es) k k c l (omega (arith, ints))
 
+    -- where the first range does not end below the key, the list has the key if that range does not start above it
+    pub has_first : (e : Entry A) (es : List (Entry A)) (k : ℤ) → IsCanonical eq (e ∷ es) → k ≤ℤ e.hi → is_some (at (e ∷ es) k) ≡ int_le e.lo k
+    has_first e es k c h = by_lt_z k e.lo
+        (λ l. ap is_some (at_first e es k c l) ∙ sym (le_false e.lo k l))
+        (λ l. ap is_some (at_in e es k l h) ∙ sym (le_true e.lo k l))
+
     pub at_below_from : (es : List (Entry A)) (s k : ℤ) → IsCanonical eq es → IsFrom s es → k <ℤ s → at es k ≡ None
     at_below_from [] s k c f h = refl
     at_below_from (e ∷ es) s k c f h = at_first e es k c (omega (arith, ints, f))
@@ -81,6 +88,12 @@ module _ {A : Type 0} where
     steady_far s t (e ∷ es) c f p = by_steady s e es
         (λ b q. let u : t ≡ e.hi = same_some t e.hi (sym p ∙ q) in omega (arith, ints, c.0, f))
         (λ b q. let u : t ≡ (e.lo -ℤ pos 1) = same_some t (e.lo -ℤ pos 1) (sym p ∙ q) in omega (arith, ints))
+
+    -- the range that has s has its end
+    pub has_end : (s t : ℤ) (es : List (Entry A)) → IsCanonical eq es → IsFrom s es → steady_to s es ≡ Some t → is_some (at es s) ≡ true → is_some (at es t) ≡ true
+    has_end s t es c f e h =
+        let u : t ≤ℤ t = omega (arith, ints) in
+        ap is_some (steady s t t es c f (subst (AtMost t) (sym e) u) (steady_far s t es c f e) u) ∙ h
 
     pub starts_there : (s : ℤ) (es : List (Entry A)) → IsCanonical eq es → first_key es ≡ Some s → (v : A) × (at es s ≡ Some v)
     starts_there s [] c p = cc

@@ -1,7 +1,13 @@
+ghost use Rattle.std.specs.Prelude.{◌≡◌, nat_eq};
+ghost use Rattle.std.proofs.Common.{rules};
+ghost use Rattle.std.specs.Cmp.Rules.{comparing};
+ghost use Rattle.std.specs.Ordering.{on};
+
 use crate::{
     BothEnds, CanonMapIter, CheckSortedDisjoint, CheckSortedDisjointMap, IntoRangeValuesIter,
-    MapRangesIter, NotSorted, Owned, RangeValuesIter, Segment, ValueCarrier, complement,
-    intersect_with_ranges, segments, subtract_ranges, symmetric_difference_of, union_of,
+    MapRangesIter, NotSorted, Owned, OwnedRangeValuesIter, RangeValuesIter, Segment,
+    SortedDisjointMap, ValueCarrier, complement, intersect_with_ranges, segments, subtract_ranges,
+    symmetric_difference_of, union_of,
 };
 use blaze_table::RangeTable;
 use std::alloc::{AllocError, Global};
@@ -179,6 +185,77 @@ fn a_stream_from_both_ends(rt: HostRuntime) -> Result<(), Fail> {
     let _ = table.paint(4, 6, 'b')?;
     let _ = table.paint(1, 3, 'a')?;
     check_ends(&rt, IntoRangeValuesIter::new(rt.alloc(), table)?);
+    Ok(())
+}
+
+/// A number whose clone is refused.
+#[derive(Drop)]
+struct Uncloned(u32);
+
+impl PartialEq for Uncloned {
+    ghost eq = { on (λ a. a.0) nat_eq };
+
+    ghost laws = { Prim.search (comparing, rules) };
+
+    fn eq(&self, other: &Self) -> bool {
+        self.0 == other.0
+    }
+}
+
+impl Eq for Uncloned {
+    ghost laws = { Prim.search (comparing, rules) };
+}
+
+impl Clone for Uncloned {
+    ghost is_clone = { λ a b. a.0 ≡ b.0 };
+
+    fn clone(&self) -> Result<Self, AllocError> {
+        Err(AllocError)
+    }
+}
+
+/// A table of numbers whose clones are refused, as a stream by value.
+fn uncloned_table(
+    alloc: Global,
+    ranges: &[(i64, i64, u32)],
+) -> Result<OwnedRangeValuesIter<i64, Uncloned>, AllocError> {
+    let mut table = RangeTable::new(alloc);
+    for (lo, hi, number) in ranges {
+        if *lo <= *hi {
+            let _ = table.paint(*lo, *hi, Uncloned(*number))?;
+        }
+    }
+    Ok(OwnedRangeValuesIter::new(table))
+}
+
+/// A range's ends and its number.
+fn number(item: Option<(RangeInclusive<i64>, Owned<Uncloned>)>) -> Option<(i64, i64, u32)> {
+    let (range, value) = item?;
+    let (start, end) = range.into_inner();
+    Some((start, end, value.0.0))
+}
+
+#[test]
+fn a_piece_that_leaves_no_rest_is_not_cloned(rt: HostRuntime) -> Result<(), Fail> {
+    let alloc = rt.alloc();
+    let left = uncloned_table(alloc, &[(0, 9, 1), (20, 29, 1)])?;
+    left.in_hand();
+    assert_eq!(rt; left.least_len(), 2);
+    let mut found = union_of(
+        alloc,
+        left,
+        uncloned_table(alloc, &[(-1, 4, 2), (15, 19, 1)])?,
+    )?;
+    assert_eq!(rt; number(found.next()), Some((-1, 4, 2)));
+    assert_eq!(rt; number(found.next()), Some((5, 9, 1)));
+    assert_eq!(rt; number(found.next()), Some((15, 29, 1)));
+    assert_eq!(rt; number(found.next()), None);
+    let found = union_of(
+        alloc,
+        uncloned_table(alloc, &[(0, 9, 1)])?,
+        uncloned_table(alloc, &[(4, 4, 2)])?,
+    );
+    assert!(rt; found.is_err());
     Ok(())
 }
 

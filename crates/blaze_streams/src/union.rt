@@ -10,8 +10,8 @@ use crate::stream::SortedDisjointMap;
 use blaze_int::Integer;
 use std::alloc::{AllocError, Global};
 
-/// The ranges of two streams, with the right one's value where it has one, and else the left one's. Refused memory drops
-/// both.
+/// The ranges of two streams, with the right one's value where it has one, and else the left one's. A value is cloned
+/// (`carry` at `Owned`) only for a piece that leaves a rest of its range behind. Refused memory drops both.
 pub fn union_of<
     T: Integer,
     VC: ValueCarrier,
@@ -24,7 +24,8 @@ pub fn union_of<
     chosen_of(alloc, left, right, &RightFirst)
 }
 
-/// The keys that exactly one of two streams has, with their values. Refused memory drops both.
+/// The keys that exactly one of two streams has, with their values. A value is cloned (`carry` at `Owned`) only for a
+/// piece that leaves a rest of its range behind. Refused memory drops both.
 pub fn symmetric_difference_of<
     T: Integer,
     VC: ValueCarrier,

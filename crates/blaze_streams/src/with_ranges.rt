@@ -12,7 +12,8 @@ use crate::with_true::WithTrue;
 use blaze_int::Integer;
 use std::alloc::{AllocError, Global};
 
-/// The map on the keys of the set. Refused memory drops both.
+/// The map on the keys of the set. A value is cloned (`carry` at `Owned`) only for a piece that leaves a rest of its range
+/// behind. Refused memory drops both.
 pub fn intersect_with_ranges<
     T: Integer,
     VC: ValueCarrier,
@@ -26,7 +27,8 @@ pub fn intersect_with_ranges<
     Ok(stream)
 }
 
-/// The map off the keys of the set. Refused memory drops both.
+/// The map off the keys of the set. A value is cloned (`carry` at `Owned`) only for a piece that leaves a rest of its range
+/// behind. Refused memory drops both.
 pub fn subtract_ranges<
     T: Integer,
     VC: ValueCarrier,

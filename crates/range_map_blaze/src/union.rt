@@ -6,6 +6,7 @@ ghost use Rattle.range_map_blaze.specs.Union.{IsUnion};
 use crate::lent::lent_union;
 use crate::map::RangeMapBlaze;
 use blaze_int::Integer;
+use blaze_streams::{OwnedRangeValuesIter, union_of};
 use std::alloc::AllocError;
 
 /// How a union is made, which changes nothing of what it is.
@@ -73,8 +74,29 @@ pub fn union_by_value<T: Integer, V: Eq + Clone>(
     match path_for(left.ranges_len(), right.ranges_len()) {
         Path::Over => painted_over_by(left, right),
         Path::Under => painted_under_by(left, right),
-        Path::Merge => union(&left, &right),
+        Path::Merge => merged_by_value(left, right),
     }
+}
+
+/// The same, by one pass over both maps' own values. A value is cloned only for a piece that leaves a rest of its range
+/// behind.
+fn merged_by_value<T: Integer, V: Eq + Clone>(
+    left: RangeMapBlaze<T, V>,
+    right: RangeMapBlaze<T, V>,
+) -> Result<RangeMapBlaze<T, V>, AllocError>
+    requires { ClonesAreAlike V.is_clone V.eq }
+    ensures { IfOk result (λ map. IsUnion V.eq T.low T.high left.entries right.entries map.entries) }
+{
+    left.in_hand();
+    right.in_hand();
+    let alloc = left.allocator();
+    let (left, right) = (
+        OwnedRangeValuesIter::new(left.table),
+        OwnedRangeValuesIter::new(right.table),
+    );
+    let stream = union_of(alloc, left, right)?;
+    let map = RangeMapBlaze::from_sorted_disjoint_map(alloc, stream)?;
+    Ok(map)
 }
 
 /// The same, where the left map may be painted over.
