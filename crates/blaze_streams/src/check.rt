@@ -85,7 +85,7 @@ impl<T: Integer> SortedDisjoint<T> for CheckSortedDisjoint<T> {
     }
 
     fn least_len(&self) -> usize {
-        self.ranges.least_len()
+        self.size_hint().0
     }
 
     ghost ready = { λ _. tt };

@@ -86,7 +86,7 @@ impl<T: Integer, VC: ValueCarrier> SortedDisjointMap<T, VC> for CheckSortedDisjo
     }
 
     fn least_len(&self) -> usize {
-        self.items.least_len()
+        self.size_hint().0
     }
 
     ghost ready = { λ _. tt };

@@ -1,6 +1,7 @@
 //! A map's keys as ranges, by value.
-ghost use Rattle.std.specs.Prelude.{◌≡◌, refl};
-ghost use Rattle.std.specs.Iterator.{item_count};
+ghost use Rattle.std.specs.Prelude.{◌≡◌, refl, None, IfSome};
+ghost use Rattle.std.specs.Iterator.{item_count, UpTo};
+ghost use Rattle.std.specs.Iterator.SizeHint.{IsWithinCount};
 ghost use Rattle.blaze_streams.specs.KeyRanges.{AreKeyRanges};
 ghost use Rattle.blaze_table.specs.RangeSets.{bare_range};
 ghost use Rattle.blaze_table.specs.Whole.{YieldsWholeFirst};
@@ -70,6 +71,15 @@ impl<T: Integer, V: Eq + Drop> Iterator for MapIntoRangesIter<T, V> {
         }
         Some(start..=end)
     }
+
+    /// No bound: how many of the ranges touch is seen only where they come.
+    fn size_hint(&self) -> (usize, Option<usize>)
+        ensures lower { IsWithinCount result.0 (item_count (λ s. s) self.now) }
+        ensures upper { IfSome result.1 (UpTo (item_count (λ s. s) self.now)) }
+        ensures exact { result ≡ (0, None) }
+    {
+        (0, None)
+    }
 }
 
 impl<T: Integer, V: Eq + Drop> FusedIterator for MapIntoRangesIter<T, V> {}
@@ -84,7 +94,7 @@ impl<T: Integer, V: Eq + Drop> SortedDisjoint<T> for MapIntoRangesIter<T, V> {
     }
 
     fn least_len(&self) -> usize {
-        0
+        self.size_hint().0
     }
 
     ghost ready = { λ _. tt };

@@ -15,7 +15,7 @@ impl<'a, T: Integer> SortedDisjoint<T> for RangesIter<'a, T> {
     }
 
     fn least_len(&self) -> usize {
-        self.len()
+        self.size_hint().0
     }
 
     ghost ready = { λ _. tt };
@@ -35,7 +35,7 @@ impl<T: Integer> SortedDisjoint<T> for IntoRangesIter<T> {
     }
 
     fn least_len(&self) -> usize {
-        self.len()
+        self.size_hint().0
     }
 
     ghost ready = { λ _. tt };
