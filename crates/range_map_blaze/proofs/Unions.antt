@@ -1,5 +1,5 @@
 -- A union has few entries: no more than a list that is made by painting the right list's entries over the left list.
-use Rattle.std.proofs.Common.{◌≡◌, ◌+◌, ◌*◌, ◌≤◌, ℤ, ◌≤ℤ◌, Bool, true, false, cond, List, [], ◌∷◌, length, Option, Some, None, refl, ◌∙◌, sym, ap, subst, arith}
+use Rattle.std.proofs.Common.{◌+◌, ◌*◌, ◌≤◌, ℤ, Bool, cond, List, [], ◌∷◌, length, Option, Some, None, refl, ◌∙◌, sym, ap, subst, arith}
 use Rattle.std.specs.Cmp.{IsEquivalence}
 use Rattle.blaze_table.specs.Entries.{Entry, at, holds, SameOption, SameContent}
 use Rattle.blaze_table.specs.Canonical.{IsCanonical, IsRangeMap}

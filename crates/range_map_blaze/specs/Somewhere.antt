@@ -1,5 +1,5 @@
 -- What a call does with a range whose bounds are not known: it takes them to be those of some range of keys, or of none.
-use Rattle.std.specs.Prelude.{◌≡◌, ◌⊎◌, ℤ, Bool, List, [], Option}
+use Rattle.std.specs.Prelude.{◌≡◌, ◌⊎◌, ℤ, Bool, List, []}
 use Rattle.blaze_table.specs.Entries.{Entry, entry}
 use Rattle.blaze_table.specs.Painted.{IsPainted}
 use Rattle.blaze_table.specs.Chosen.{left_with_right, IsChosen}

@@ -1,4 +1,4 @@
-use Rattle.std.proofs.Common.{◌≡◌, ◌∙◌, sym, ap}
+use Rattle.std.proofs.Common.{◌≡◌, ◌∙◌, ap}
 use Rattle.blaze_table.specs.Counted.{CountedEntries}
 use Rattle.range_map_blaze.proofs.Choices.{chosen_as}
 use Rattle.range_map_blaze.proofs.Unions.{union_of}
