@@ -3,7 +3,7 @@ ghost use Rattle.std.proofs.Common.{rules};
 ghost use Rattle.std.specs.Cmp.Rules.{comparing};
 ghost use Rattle.std.specs.Ordering.{on};
 
-use range_map_blaze::{IntoRangeMapBlaze, RangeMapBlaze};
+use range_map_blaze::{Integer, IntoRangeMapBlaze, RangeMapBlaze};
 use std::alloc::{AllocError, Global};
 use std::process::Abort;
 use std::test::Fail;
@@ -169,6 +169,34 @@ fn closures_with_a_state(rt: HostRuntime) -> Result<(), Fail> {
     check_text(&rt, alloc, &map, r#"(0..=3, "a")"#)?;
     map.retain(|key, _| *key % 2 == 0)?;
     check_text(&rt, alloc, &map, r#"(0..=0, "a"), (2..=2, "a")"#)
+}
+
+/// The keys that exactly one of two maps has, by the operators and `range`: over any key type, also one with a lifetime.
+fn exactly_one<T: Integer>(
+    left: &RangeMapBlaze<T, char>,
+    right: &RangeMapBlaze<T, char>,
+) -> Result<(RangeMapBlaze<T, char>, usize), AllocError> {
+    let both = (left & right)?;
+    let all = ((left - right)? | (right ^ &both)?)?;
+    let mut pairs = 0usize;
+    for _ in all.range(T::min_value()..=T::max_value())? {
+        pairs = pairs.saturating_add(1);
+    }
+    Ok((all, pairs))
+}
+
+#[test]
+fn operators_over_any_key_type(rt: HostRuntime) -> Result<(), Fail> {
+    let mut left: RangeMapBlaze<u8, char> = RangeMapBlaze::new(rt.alloc());
+    let _ = left.ranges_insert(0..=9, 'a')?;
+    let mut right = RangeMapBlaze::new(rt.alloc());
+    let _ = right.ranges_insert(5..=14, 'b')?;
+    let (found, pairs) = exactly_one(&left, &right)?;
+    assert_eq!(rt; pairs, 10);
+    assert_eq!(rt; found.range_at(4), Some((0..=4, &'a')));
+    assert_eq!(rt; found.range_at(10), Some((10..=14, &'b')));
+    assert_eq!(rt; found.len(), 10);
+    Ok(())
 }
 
 #[test]
