@@ -1,7 +1,6 @@
 -- What is taken of two lists.
-use Rattle.std.proofs.Common.{◌≡◌, ℤ, ◌≤ℤ◌, Bool, true, false, List, Option, Some, refl, ◌∙◌, ap, arith, ⊎_elim}
+use Rattle.std.proofs.Common.{◌≡◌, ℤ, ◌≤ℤ◌, Bool, true, List, Option, Some, refl, ◌∙◌, ap, arith, ⊎_elim}
 use Rattle.std.specs.Option.{is_some}
-use Rattle.std.specs.Prelude.{◌&&◌}
 use Rattle.std.proofs.lemmas.Int.{ints}
 use Rattle.blaze_table.specs.Entries.{Entry, at, SameOption}
 use Rattle.blaze_table.specs.Canonical.{IsCanonical}
@@ -39,8 +38,3 @@ module _ {A B V : Type 0} (eqa : A → A → Bool) (eqb : B → B → Bool) (eq 
       let from = both_from s L R starts in
       taken_to (steady_far eqb s t R cb from.1 ends)
       (λ k l h. ap (choose (at L k)) (steady eqb s t k R cb from.1 (at_most_itself _ t ends) l h) ∙ decided (at L k) (at L s) (at R s) there)
-
-pub not_both : (a b : Bool) → a ≡ true → b ≡ true → (a && b) ≡ false → ⊥
-not_both true true p q r = cc
-not_both true false p q r = cc
-not_both false b p q r = cc

@@ -2,7 +2,7 @@
 use Rattle.std.specs.Prelude.{◌≡◌, Bool, true, false, Option, Some, None, is_some, refl}
 use Rattle.blaze_table.specs.Chosen.{right_first, left_alone}
 
--- where the choice is by the right one, what the left one is does not matter if the right one is there
+-- where the choice is by the right one, two left ones make no difference if the right one is there
 abbrev pub IsDecided : {A B V : Type 0} → Bool → (Option A → Option B → Option V) → Type 0
 IsDecided {A} {B} by_right choose = (x z : Option A) (y : Option B) → by_right ≡ true → is_some y ≡ true → choose x y ≡ choose z y
 
@@ -14,6 +14,6 @@ pub left_alone_decided : {A B : Type 0} → IsDecided true (left_alone {A = A} {
 left_alone_decided x z None b p = cc
 left_alone_decided x z (Some y) b p = refl
 
--- a choice of which that is not said
+-- a choice that is not by the right one
 pub undecided : {A B V : Type 0} (choose : Option A → Option B → Option V) → IsDecided false choose
 undecided choose x z y b p = cc

@@ -5,7 +5,7 @@ ghost use Rattle.blaze_table.specs.Chosen.{right_first, exactly_one, left_with_r
 ghost use Rattle.blaze_table.specs.Entries.{at, SameOption};
 ghost use Rattle.blaze_table.specs.Splice.{after};
 ghost use Rattle.blaze_streams.specs.Cursors.{Reaches};
-ghost use Rattle.blaze_streams.specs.Decided.{right_first_decided, left_alone_decided, undecided};
+ghost use Rattle.blaze_streams.specs.Decided.{IsDecided, right_first_decided, left_alone_decided, undecided};
 
 use crate::ahead::Ahead;
 use crate::carrier::ValueCarrier;
@@ -44,7 +44,7 @@ pub trait Choice<VCL: ValueCarrier, VCR: ValueCarrier> {
     ghost from_nothing: { choice None None ≡ None };
 
     // Where the choice is by the right one, the left one does not matter.
-    ghost decided: { (x z : Option VCL.Value) (y : Option VCR.Value) → by_right ≡ true → is_some y ≡ true → choice x y ≡ choice z y };
+    ghost decided: { IsDecided by_right choice };
 }
 
 /// The right one where it is there, else the left.

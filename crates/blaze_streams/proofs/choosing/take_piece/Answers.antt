@@ -1,15 +1,17 @@
 use Rattle.std.proofs.Common.{◌∙◌, sym}
 use Rattle.std.specs.Option.{option_map}
-use Rattle.blaze_streams.proofs.Taken.{taken_steady, taken_right, not_both}
+use Rattle.blaze_streams.proofs.Taken.{taken_steady, taken_right}
+use Rattle.blaze_table.proofs.Glued.{and_both}
 use Rattle.blaze_streams.proofs.ChosenSoFar.{both_from}
 use Rattle.blaze_streams.proofs.Steady.{has_end}
 use Rattle.blaze_streams.proofs.choosing.take_piece.Goals as goal
 
 pub take-requires-clause-left : goal.take-requires-clause-left
 take-requires-clause-left g c = λ off.
-    absurd (not_both g.C.Choice.by_right _ (sym c.is_by_right.ensures ∙ c.if-is_by_right.true)
-    (has_end g.VCR.Value.PartialEq.eq (g.T.Integer.rank c.args.start) (g.T.Integer.rank c.in-Some.end) c.args.right.now c.requires.right (both_from (g.T.Integer.rank c.args.start) c.args.left.now c.args.right.now c.requires.starts).1
-    c.in-Some.ensures.end c.in-Some.ensures.has) off)
+    let from = both_from (g.T.Integer.rank c.args.start) c.args.left.now c.args.right.now c.requires.starts in
+    let there = has_end g.VCR.Value.PartialEq.eq (g.T.Integer.rank c.args.start) (g.T.Integer.rank c.in-Some.end) c.args.right.now c.requires.right from.1 c.in-Some.ensures.end c.in-Some.ensures.has in
+    let on = and_both g.C.Choice.by_right _ (sym c.if-is_by_right.true ∙ c.is_by_right.ensures) (sym there) in
+    absurd (cc (sym on ∙ off))
 
 pub returns-in-Some : goal.returns-in-Some
 returns-in-Some g c =
