@@ -25,8 +25,10 @@ mod union;
 pub use blaze_int::{Integer, SafeLength, UIntPlusOne, bounds_of, names_a_key};
 pub use blaze_iters::{IntoIterMap, IntoKeys, IntoValues, IterMap, Keys, Values};
 pub use blaze_streams::{
-    BothEnds, IntoRangeValuesIter, MapIntoRangesIter, MapRangesIter, RangeValuesIter,
-    SortedDisjoint, SortedDisjointMap, ValueCarrier,
+    BothEnds, CanonIter, CanonMapIter, CheckSortedDisjoint, CheckSortedDisjointMap,
+    IntoRangeValuesIter, MapIntoRangesIter, MapRangesIter, NotSorted, Owned, OwnedRangeValuesIter,
+    RangeValuesIter, Segment, SortedDisjoint, SortedDisjointMap, ValueCarrier, complement,
+    intersect_with_ranges, segments, subtract_ranges, symmetric_difference_of, union_of,
 };
 pub use blaze_table::{IntoRangesIter, RangeSetBlaze, RangesIter};
 pub use map::RangeMapBlaze;
