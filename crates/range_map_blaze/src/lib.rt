@@ -2,7 +2,7 @@
 #![tactic(auto)]
 
 mod append;
-mod complement;
+mod complements;
 mod display;
 mod extend;
 mod fill;

@@ -2,7 +2,7 @@ use Rattle.std.proofs.Common.{◌≡◌, ◌++◌, List}
 use Rattle.blaze_table.specs.Complement.{IsComplement}
 use Rattle.blaze_table.specs.Entries.{Entry}
 use Rattle.blaze_table.specs.RangeSets.{bare_ranges, unit_eq}
-use Rattle.range_map_blaze.proofs.complement.unmapped_keys.Given as goal
+use Rattle.range_map_blaze.proofs.complements.unmapped_keys.Given as goal
 
 -- the ranges are those taken from the complement, and the rest is left
 abbrev pub invariant-loop-range : goal.invariant-loop-range

@@ -3,7 +3,7 @@ use Rattle.std.proofs.lemmas.List.{map-append}
 use Rattle.blaze_table.specs.Complement.{IsComplement}
 use Rattle.blaze_table.specs.RangeSets.{bare_range, bare_ranges, unit_eq, IsRangeSet}
 use Rattle.range_map_blaze.proofs.Choices.{complement_of}
-use Rattle.range_map_blaze.proofs.complement.unmapped_keys.Goals as goal
+use Rattle.range_map_blaze.proofs.complements.unmapped_keys.Goals as goal
 
 pub loop-range-init : goal.loop-range-init
 loop-range-init g c = (
