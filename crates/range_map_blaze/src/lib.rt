@@ -21,6 +21,7 @@ mod remove;
 mod retain;
 mod stream;
 mod union;
+mod within;
 
 pub use blaze_int::{Integer, SafeLength, UIntPlusOne, bounds_of, names_a_key};
 pub use blaze_iters::{IntoIterMap, IntoKeys, IntoValues, IterMap, Keys, Values};
