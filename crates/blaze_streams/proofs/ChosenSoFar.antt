@@ -54,7 +54,7 @@ module _ {A B : Type 0} where
   both_from s L R starts = let m = at_most_both (first_key L) (first_key R) s (at_most_itself _ s starts) in (from_first s L m.0, from_first s R m.1)
 
 module _ {V : Type 0} (eq : V → V → Bool) (laws : IsEquivalence eq) where
-  same_or_left : (a b z : Option V) → SameOption eq a b → SameOption eq (or_else a z) (or_else b z)
+  pub same_or_left : (a b z : Option V) → SameOption eq a b → SameOption eq (or_else a z) (or_else b z)
   unfolding or_else
   same_or_left None None z s = same_itself eq laws z
   same_or_left None (Some y) z s = absurd s

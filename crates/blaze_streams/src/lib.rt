@@ -25,6 +25,7 @@ mod range_values;
 mod ranges_stream;
 mod set_ranges;
 mod stream;
+mod transforms;
 mod union;
 mod with_ranges;
 mod with_true;
@@ -45,6 +46,7 @@ pub use owned_range_values::OwnedRangeValuesIter;
 pub use range_values::RangeValuesIter;
 pub use ranges_stream::SortedDisjoint;
 pub use stream::{BothEnds, SortedDisjointMap};
+pub use transforms::transform;
 pub use union::{symmetric_difference_of, union_of};
 pub use with_ranges::{intersect_with_ranges, subtract_ranges};
 
