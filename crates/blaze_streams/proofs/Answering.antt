@@ -1,7 +1,7 @@
 -- What a closure answered so far at the entries of a list, and one answer more.
-use Rattle.std.proofs.Common.{◌≡◌, ℤ, pos, ◌+ℤ◌, ◌-ℤ◌, Bool, true, false, cond, List, [], ◌∷◌, ◌++◌, Option, Some, None, length, map, refl, ◌∙◌, sym, ap, subst, append_assoc, arith}
+use Rattle.std.proofs.Common.{◌≡◌, ℤ, pos, ◌+ℤ◌, ◌-ℤ◌, Bool, true, false, cond, List, [], ◌∷◌, ◌++◌, Option, Some, length, map, refl, ◌∙◌, sym, ap, subst, append_assoc, arith}
 use Rattle.std.specs.List.{FoldsTo, zip}
-use Rattle.std.specs.Fn.{Mut, Called, Takes}
+use Rattle.std.specs.Fn.{Mut}
 use Rattle.std.specs.Cmp.{IsEquivalence}
 use Rattle.std.proofs.lemmas.Fn.{FoldsTo-push}
 use Rattle.std.proofs.lemmas.Int.{ints}
@@ -12,8 +12,8 @@ use Rattle.blaze_table.specs.Splice.{glue, IsBelow}
 use Rattle.blaze_table.proofs.Counted.{are_keys_glue}
 use Rattle.blaze_table.proofs.Runs.{canonical, one_per_run}
 use Rattle.blaze_table.proofs.Splices.{or_else, canonical_glue, at_glue, below_glue, below_more}
-use Rattle.blaze_table.proofs.Unique.{same_along, same_itself, same_trans}
-use Rattle.blaze_streams.specs.Answers.{values, answered, AnswersAt, SomeCallAt, TakesValue, IsCallableAtEach, AnswersInTurn, IsTransformed}
+use Rattle.blaze_table.proofs.Unique.{same_along, same_trans}
+use Rattle.blaze_streams.specs.Answers.{values, answered, AnswersAt, SomeCallAt, TakesValue, IsCallableAtEach, IsTransformed}
 use Rattle.blaze_streams.specs.Cursors.{first_key}
 use Rattle.blaze_streams.proofs.ChosenSoFar.{same_or_left}
 use Rattle.blaze_streams.proofs.Steady.{same_some}
@@ -30,7 +30,6 @@ at_push (e ∷ es) p k = either (holds e k) e.value (at (es ++ p ∷ []) k) (at 
 -- the entries of calls, each with its answer
 abbrev pub asked : {V W : Type 0} → List (Entry V × W) → List (Entry V)
 asked calls = map (λ c. c.0) calls
-
 
 -- an entry with the answer in place of its value
 abbrev pub with_answer : {V W : Type 0} → Entry V × W → Entry W

@@ -6,8 +6,8 @@ ghost use Rattle.std.specs.Ordering.{on};
 use crate::{
     BothEnds, CanonMapIter, CheckSortedDisjoint, CheckSortedDisjointMap, IntoRangeValuesIter,
     MapRangesIter, NotSorted, Owned, OwnedRangeValuesIter, RangeValuesIter, Segment,
-    SortedDisjointMap, ValueCarrier, complement, intersect_with_ranges, segments, subtract_ranges,
-    symmetric_difference_of, union_of,
+    SortedDisjointMap, ValueCarrier, complement, fill, intersect_with_ranges, segments,
+    subtract_ranges, symmetric_difference_of, transform, union_of,
 };
 use blaze_table::RangeTable;
 use std::alloc::{AllocError, Global};
@@ -299,5 +299,37 @@ fn segments_of_lists(rt: HostRuntime) -> Result<(), Fail> {
     check_segment(&rt, &found[5], 10, 14, &[None, Some(0), None]);
     let none: Vec<Vec<(char, char)>> = Vec::new(alloc);
     assert_eq!(rt; segments(alloc, &none)?.len(), 0);
+    Ok(())
+}
+
+#[test]
+fn answers_of_a_closure(rt: HostRuntime) -> Result<(), Fail> {
+    let alloc = rt.alloc();
+    let map = map_of(alloc, &[(1, 3, 'a'), (4, 6, 'b'), (8, 9, 'z')])?;
+    let mut calls = 0_u32;
+    let mut found = transform(alloc, map, |value: Owned<char>| {
+        calls = calls.wrapping_add(1);
+        value.0 < 'c'
+    })?;
+    assert_eq!(rt; found.next(), Some((1..=6, Owned(true))));
+    assert_eq!(rt; found.next(), Some((8..=9, Owned(false))));
+    assert_eq!(rt; found.next(), None);
+    assert_eq!(rt; calls, 3);
+    Ok(())
+}
+
+#[test]
+fn every_key(rt: HostRuntime) -> Result<(), Fail> {
+    let alloc = rt.alloc();
+    let map = CheckSortedDisjointMap::new(vec![in alloc; (1..=3_u8, Owned('r'))]?)?;
+    let mut found = fill(alloc, map)?;
+    assert_eq!(rt; found.next(), Some((0..=0, None)));
+    assert_eq!(rt; found.next(), Some((1..=3, Some(Owned('r')))));
+    assert_eq!(rt; found.next(), Some((4..=255, None)));
+    assert_eq!(rt; found.next(), None);
+    let empty = CheckSortedDisjointMap::<u8, Owned<char>>::new(Vec::new(alloc))?;
+    let mut found = fill(alloc, empty)?;
+    assert_eq!(rt; found.next(), Some((0..=255, None)));
+    assert_eq!(rt; found.next(), None);
     Ok(())
 }

@@ -1,5 +1,4 @@
-use Rattle.std.proofs.Common.{◌∙◌, refl, sym, ap, subst}
-use Rattle.blaze_table.specs.Entries.{Entry}
+use Rattle.std.proofs.Common.{refl, sym, ap, subst}
 use Rattle.blaze_streams.specs.Answers.{IsTransformed}
 use Rattle.blaze_streams.specs.Ranges.{shown_range}
 use Rattle.blaze_streams.proofs.Answering.{answered_none, takes_next, answered_more, answered_all}
