@@ -5,8 +5,8 @@ ghost use Rattle.std.specs.Ordering.{on};
 
 use crate::{
     BothEnds, CanonMapIter, CheckSortedDisjoint, CheckSortedDisjointMap, IntoRangeValuesIter,
-    MapRangesIter, NotSorted, Owned, OwnedRangeValuesIter, RangeValuesIter, Segment,
-    SortedDisjointMap, ValueCarrier, complement, fill, intersect_with_ranges, segments,
+    JoinKind, MapRangesIter, NotSorted, Owned, OwnedRangeValuesIter, RangeValuesIter, Segment,
+    SortedDisjointMap, ValueCarrier, complement, fill, intersect_with_ranges, join_of, segments,
     subtract_ranges, symmetric_difference_of, transform, union_of,
 };
 use blaze_table::RangeTable;
@@ -331,5 +331,63 @@ fn every_key(rt: HostRuntime) -> Result<(), Fail> {
     let mut found = fill(alloc, empty)?;
     assert_eq!(rt; found.next(), Some((0..=255, None)));
     assert_eq!(rt; found.next(), None);
+    Ok(())
+}
+
+/// A list of ranges with references to values that keeps the law, as a stream.
+fn lent<'a>(
+    alloc: Global,
+    items: &'a [(i64, i64, char)],
+) -> Result<CheckSortedDisjointMap<i64, &'a char>, Fail> {
+    let mut list = Vec::new(alloc);
+    for (lo, hi, value) in items {
+        list.push((*lo..=*hi, value))?;
+    }
+    Ok(CheckSortedDisjointMap::new(list)?)
+}
+
+/// The pairs of a join of two lists, joined by a closure that counts its calls, and how many calls there were.
+fn numbered(
+    rt: &impl Abort,
+    alloc: Global,
+    left: &[(i64, i64, char)],
+    right: &[(i64, i64, char)],
+    kind: JoinKind,
+    expected: &[(i64, i64, u32)],
+) -> Result<(), Fail> {
+    let segments = join_of(alloc, lent(alloc, left)?, lent(alloc, right)?, kind)?;
+    let mut calls = 0_u32;
+    let mut found = transform(alloc, segments, |_pair: (Option<&char>, Option<&char>)| {
+        calls = calls.wrapping_add(1);
+        calls
+    })?;
+    for (lo, hi, number) in expected {
+        assert_eq!(rt; found.next(), Some((*lo..=*hi, Owned(*number))));
+    }
+    assert_eq!(rt; found.next(), None);
+    Ok(())
+}
+
+#[test]
+fn segments_of_two(rt: HostRuntime) -> Result<(), Fail> {
+    let alloc = rt.alloc();
+    let a = [(1, 5, 'a')];
+    let b = [(4, 8, 'b')];
+    let mut found = join_of(alloc, lent(alloc, &a)?, lent(alloc, &b)?, JoinKind::Full)?;
+    assert_eq!(rt; found.next(), Some((1..=3, (Some(&'a'), None))));
+    assert_eq!(rt; found.next(), Some((4..=5, (Some(&'a'), Some(&'b')))));
+    assert_eq!(rt; found.next(), Some((6..=8, (None, Some(&'b')))));
+    assert_eq!(rt; found.next(), None);
+    numbered(
+        &rt,
+        alloc,
+        &a,
+        &b,
+        JoinKind::Full,
+        &[(1, 3, 1), (4, 5, 2), (6, 8, 3)],
+    )?;
+    numbered(&rt, alloc, &a, &b, JoinKind::Left, &[(1, 3, 1), (4, 5, 2)])?;
+    numbered(&rt, alloc, &a, &b, JoinKind::Inner, &[(4, 5, 1)])?;
+    numbered(&rt, alloc, &[], &[], JoinKind::Full, &[])?;
     Ok(())
 }
