@@ -11,13 +11,14 @@ use Rattle.blaze_table.specs.Canonical.{IsCanonical, AreKeys}
 use Rattle.blaze_table.specs.Painted.{or_else}
 use Rattle.blaze_table.specs.Splice.{IsBelow, after}
 use Rattle.blaze_table.proofs.Glued.{IsBelow-push}
-use Rattle.blaze_table.proofs.Lookup.{at_in, at_under, at_over}
-use Rattle.blaze_table.proofs.Runs.{one_per_run}
+use Rattle.blaze_table.proofs.Lookup.{IsAbove-from_apart, at_in, at_under, at_over, at_before}
+use Rattle.blaze_table.proofs.Runs.{canonical, one_per_run}
 use Rattle.blaze_table.proofs.Splices.{below_more, at-after_over}
 use Rattle.blaze_streams.specs.declared.joins.JoinKind.{JoinKind}
 use Rattle.blaze_streams.specs.declared.joins.JoinKind.TheVariants.{Inner, Left, Full}
 use Rattle.blaze_streams.specs.Cursors.{first_key, steady_to, lesser}
 use Rattle.blaze_streams.specs.Joins.{is_joined, paired, pair_eq, IsJoinOf, piece_of, IsSegmentPut}
+use Rattle.blaze_streams.specs.JoinAnswers.{AllJoined}
 use Rattle.blaze_streams.proofs.ChosenSoFar.{both_from, none_there, no_first, first_above}
 use Rattle.blaze_streams.proofs.Fewer.{both_less}
 use Rattle.blaze_streams.proofs.FoundSegments.{at_push, or_assoc, or_none, option_same, EndsApart, canonical_push, apart_push}
@@ -44,7 +45,7 @@ same_pair eqa eqb true true x x' y y' v p s = let q : v ≡ (x, y) = cc in subst
 same_pair eqa eqb true false x x' y y' v p s = absurd s
 same_pair eqa eqb false c x x' y y' v p s = cc
 
-pair_laws : {A B : Type 0} (eqa : A → A → Bool) (eqb : B → B → Bool) → IsEquivalence eqa → IsEquivalence eqb → IsEquivalence (pair_eq eqa eqb)
+pub pair_laws : {A B : Type 0} (eqa : A → A → Bool) (eqb : B → B → Bool) → IsEquivalence eqa → IsEquivalence eqb → IsEquivalence (pair_eq eqa eqb)
 pair_laws eqa eqb lawsa lawsb = and_equiv (on_equiv (λ p. p.0) (options_equiv lawsa)) (on_equiv (λ p. p.1) (options_equiv lawsb))
 
 -- right above the last range of a list two contents are the same
@@ -154,3 +155,32 @@ module _ {A B : Type 0} (eqa : A → A → Bool) (eqb : B → B → Bool) (low h
         range_map = record { runs = one_per_run (pair_eq eqa eqb) (pair_laws eqa eqb lawsa lawsb) out h.canonical; keys = h.keys };
         content = λ k. sym (h.content k ∙ ap (or_else (at out k)) (none_if kind (at L k) (at R k) (none_there L k n.0) (none_there R k n.1)) ∙ or_none (at out k));
       }
+
+-- ---- each segment is one that the kind asks for
+
+module _ {A B : Type 0} (eqa : A → A → Bool) (eqb : B → B → Bool) (kind : JoinKind) where
+  is_joined_there : (b : Bool) (p v : Option A × Option B) → b ≡ is_joined kind p.0 p.1 → Some v ≡ cond b (Some p) None → is_joined kind v.0 v.1 ≡ true
+  is_joined_there true p v q e = let is : v ≡ p = cc in ap (λ z. is_joined kind z.0 z.1) is ∙ sym q
+  is_joined_there false p v q e = cc
+
+  joined_each : (es : List (Entry (Option A × Option B))) → IsCanonical (pair_eq eqa eqb) es → ((k : ℤ) (v : Option A × Option B) → at es k ≡ Some v → is_joined kind v.0 v.1 ≡ true) → AllJoined kind es
+  joined_each [] c p = tt
+  joined_each (e ∷ es) c p = (
+    p e.lo e.value (at_in e es e.lo (omega (arith, ints)) (omega (arith, ints, c.0))),
+    joined_each es c.2 (λ k v q. p k v (rest k v q)),
+  )
+    where
+      nothing : (k : ℤ) (v : Option A × Option B) → k ≤ℤ e.hi → at es k ≡ Some v → ⊥
+      nothing k v h q = let is = at_before (pair_eq eqa eqb) es e.hi k c.2 (IsAbove-from_apart (pair_eq eqa eqb) e es c.1) h in cc (sym is ∙ q)
+
+      rest : (k : ℤ) (v : Option A × Option B) → at es k ≡ Some v → at (e ∷ es) k ≡ Some v
+      rest k v q = by_lt_z e.hi k (λ h. at_over e es k h ∙ q) (λ h. absurd (nothing k v h q))
+
+  pub joined_all : (low high : ℤ) (left : List (Entry A)) (right : List (Entry B)) (segments : List (Entry (Option A × Option B))) → IsEquivalence eqa → IsEquivalence eqb → IsJoinOf eqa eqb low high kind left right segments → AllJoined kind segments
+  joined_all low high left right segments lawsa lawsb j =
+      joined_each segments (canonical (pair_eq eqa eqb) (pair_laws eqa eqb lawsa lawsb) segments j.range_map.runs)
+      (λ k v q. is_joined_there (is_joined kind (at left k) (at right k)) (at left k, at right k) v refl (sym q ∙ j.content k))
+
+pub joined_next : {A B : Type 0} (kind : JoinKind) (xs es left : List (Entry (Option A × Option B))) (e : Entry (Option A × Option B)) → AllJoined kind (xs ++ left) → left ≡ e ∷ es → is_joined kind e.value.0 e.value.1 ≡ true
+joined_next kind [] es left e h is = (subst (AllJoined kind) is h).0
+joined_next kind (x ∷ xs) es left e h is = joined_next kind xs es left e h.1 is

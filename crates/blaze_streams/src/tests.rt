@@ -6,8 +6,9 @@ ghost use Rattle.std.specs.Ordering.{on};
 use crate::{
     BothEnds, CanonMapIter, CheckSortedDisjoint, CheckSortedDisjointMap, IntoRangeValuesIter,
     JoinKind, MapRangesIter, NotSorted, Owned, OwnedRangeValuesIter, RangeValuesIter, Segment,
-    SortedDisjointMap, ValueCarrier, complement, fill, intersect_with_ranges, join_of, segments,
-    subtract_ranges, symmetric_difference_of, transform, union_of,
+    SortedDisjointMap, ValueCarrier, complement, fill, full_join_of, inner_join_of,
+    intersect_with_ranges, join_of, left_join_of, segments, subtract_ranges,
+    symmetric_difference_of, transform, union_of,
 };
 use blaze_table::RangeTable;
 use std::alloc::{AllocError, Global};
@@ -389,5 +390,32 @@ fn segments_of_two(rt: HostRuntime) -> Result<(), Fail> {
     numbered(&rt, alloc, &a, &b, JoinKind::Left, &[(1, 3, 1), (4, 5, 2)])?;
     numbered(&rt, alloc, &a, &b, JoinKind::Inner, &[(4, 5, 1)])?;
     numbered(&rt, alloc, &[], &[], JoinKind::Full, &[])?;
+    Ok(())
+}
+
+#[test]
+fn answers_at_segments(rt: HostRuntime) -> Result<(), Fail> {
+    let alloc = rt.alloc();
+    let a = [(1, 5, 'a')];
+    let b = [(4, 8, 'b')];
+    let mut calls = 0_u32;
+    let full = |left: Option<&char>, _right: Option<&char>| {
+        calls = calls.wrapping_add(1);
+        left.is_some()
+    };
+    let mut found = full_join_of(alloc, lent(alloc, &a)?, lent(alloc, &b)?, full)?;
+    assert_eq!(rt; found.next(), Some((1..=5, Owned(true))));
+    assert_eq!(rt; found.next(), Some((6..=8, Owned(false))));
+    assert_eq!(rt; found.next(), None);
+    assert_eq!(rt; calls, 3);
+    let left = |_left: &char, right: Option<&char>| right.is_some();
+    let mut found = left_join_of(alloc, lent(alloc, &a)?, lent(alloc, &b)?, left)?;
+    assert_eq!(rt; found.next(), Some((1..=3, Owned(false))));
+    assert_eq!(rt; found.next(), Some((4..=5, Owned(true))));
+    assert_eq!(rt; found.next(), None);
+    let inner = |left: &char, right: &char| *left < *right;
+    let mut found = inner_join_of(alloc, lent(alloc, &a)?, lent(alloc, &b)?, inner)?;
+    assert_eq!(rt; found.next(), Some((4..=5, Owned(true))));
+    assert_eq!(rt; found.next(), None);
     Ok(())
 }
