@@ -139,7 +139,7 @@ module _ {A : Type 0} where
     next_less Ls Ls' p c n = rw n.left (all_less eq p.lo p.hi Ls c (is_first eq Ls Ls' p c n).full n.starts)
 
 -- with no key left, all segments are found
-pub found_all : (lists Ls : List (List (Entry ℕ))) (out : List (Entry (List (Option ℕ)))) → IsFound nat_eq lists out Ls → first_keys Ls ≡ None → IsSegmentsOf lists out
+pub found_all : (lists Ls : List (List (Entry ℕ))) (out : List (Entry (List (Option ℕ)))) → IsFound nat_eq lists out Ls → first_keys Ls ≡ None → IsSegmentsOf nat_eq lists out
 found_all lists Ls out s f = record {
   runs = one_per_run (row_eq nat_eq) (lists_equiv (options_equiv nat_eq_equiv)) out s.canonical;
   content = λ k. sym (s.content k ∙ ap (or_else (at out k)) (absent (row Ls k) (none_left Ls k f)) ∙ or_none (at out k));

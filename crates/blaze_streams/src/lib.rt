@@ -17,6 +17,7 @@ mod fills;
 mod into_range_values;
 mod join_answers;
 mod joins;
+pub mod laws;
 mod list_segments;
 mod map_into_ranges;
 mod map_ranges;
