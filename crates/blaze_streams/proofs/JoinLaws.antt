@@ -1,14 +1,18 @@
 -- The laws of joins and of what closures answer.
-use Rattle.std.proofs.Common.{◌≡◌, ℤ, Bool, true, false, ◌&&◌, cond, List, [], ◌∷◌, length, map, Option, Some, None, refl, ◌∙◌, ap, arith}
+use Rattle.std.proofs.Common.{◌≡◌, ℤ, ◌≤ℤ◌, Bool, true, false, ◌&&◌, cond, List, [], ◌∷◌, length, map, Option, Some, None, refl, ◌∙◌, sym, subst, ap, arith}
 use Rattle.std.specs.Option.{option_eq, option_map, is_some}
 use Rattle.std.specs.Cmp.{IsEquivalence}
 use Rattle.std.specs.Cmp.Lexicographic.{lists_equiv, options_equiv}
-use Rattle.blaze_table.specs.Entries.{Entry, holds, at, SameOption}
+use Rattle.blaze_table.specs.Entries.{Entry, entry, holds, at, SameOption, SameEntries}
 use Rattle.blaze_table.specs.Canonical.{IsApart, IsCanonical}
+use Rattle.blaze_table.proofs.ListLaws.{canonical_is_unique}
+use Rattle.blaze_table.proofs.Lookup.{IsAbove-from_apart, at_in, at_over, at_before}
+use Rattle.blaze_table.proofs.Unique.{same_itself}
+use Rattle.std.proofs.lemmas.Int.{ints, by_lt_z}
 use Rattle.blaze_table.proofs.Runs.{canonical, one_per_run}
-use Rattle.blaze_streams.specs.declared.joins.JoinKind.TheVariants.{Left, Full}
+use Rattle.blaze_streams.specs.declared.joins.JoinKind.TheVariants.{Inner, Left, Full}
 use Rattle.blaze_streams.specs.Answers.{answered}
-use Rattle.blaze_streams.specs.JoinLaws.{as_row, AnswersKeepKeys, LeftJoinHasLeftKeys, FullJoinIsOfListOfTwo}
+use Rattle.blaze_streams.specs.JoinLaws.{as_row, AnswersKeepKeys, LeftJoinHasLeftKeys, FullJoinIsOfListOfTwo, FullJoinIsInner}
 use Rattle.blaze_streams.specs.Joins.{paired, pair_eq}
 use Rattle.blaze_streams.specs.Segments.{present, row_eq}
 use Rattle.blaze_streams.proofs.Paired.{pair_laws}
@@ -73,3 +77,41 @@ module _ {A : Type 0} (eq : A → A → Bool) where
     runs = one_per_run (row_eq eq) (lists_equiv (options_equiv laws)) (map as_row segments) (canonical_rows segments (canonical (pair_eq eq eq) (pair_laws eq eq laws laws) segments j.range_map.runs));
     content = λ k. at_rows segments k ∙ ap (option_map as_list) (j.content k) ∙ present_pair (at left k) (at right k);
   }
+
+-- ---- canonical lists with the same content are the same
+
+same_value : {V : Type 0} (x y : V) → Some x ≡ Some y → x ≡ y
+same_value x y p = cc
+
+module _ {V : Type 0} (eq : V → V → Bool) where
+  at_rest : (e : Entry V) (es : List (Entry V)) (k : ℤ) → IsCanonical eq (e ∷ es) → k ≤ℤ e.hi → at es k ≡ None
+  at_rest e es k c h = at_before eq es e.hi k c.2 (IsAbove-from_apart eq e es c.1) h
+
+  same_list : (L M : List (Entry V)) → IsCanonical eq L → IsCanonical eq M → SameEntries eq L M → ((k : ℤ) → at L k ≡ at M k) → L ≡ M
+  same_list [] [] c d s p = refl
+  same_list [] (f ∷ fs) c d s p = absurd s
+  same_list (e ∷ es) [] c d s p = absurd s
+  same_list (e ∷ es) (f ∷ fs) c d s p =
+      let value = same_value e.value f.value
+          (sym (at_in e es e.lo (omega (arith, ints)) (omega (arith, ints, c.0))) ∙ p e.lo ∙ at_in f fs e.lo (omega (arith, ints, s.0)) (omega (arith, ints, s.0, s.1, c.0))) in
+      let first : e ≡ f = ap (λ z. entry z e.hi e.value) s.0 ∙ ap (λ z. entry f.lo z e.value) s.1 ∙ ap (λ z. entry f.lo f.hi z) value in
+      let others = same_list es fs c.2 d.2 s.3
+          (λ k. by_lt_z e.hi k
+          (λ h. sym (at_over e es k h) ∙ p k ∙ at_over f fs k (omega (arith, ints, s.1)))
+          (λ h. at_rest e es k c h ∙ sym (at_rest f fs k d (omega (arith, ints, s.1))))) in
+      ap (λ z. z ∷ es) first ∙ ap (λ l. f ∷ l) others
+
+full_is_inner : {A B : Type 0} (x : Option A) (y : Option B) → is_some x ≡ is_some y → paired Full x y ≡ paired Inner x y
+full_is_inner None None p = refl
+full_is_inner None (Some w) p = cc
+full_is_inner (Some v) None p = cc
+full_is_inner (Some v) (Some w) p = refl
+
+pub full_join_is_inner : {A B : Type 0} (eqa : A → A → Bool) (eqb : B → B → Bool) → IsEquivalence eqa → IsEquivalence eqb → (low high : ℤ) → FullJoinIsInner eqa eqb low high
+full_join_is_inner eqa eqb lawsa lawsb low high left right full inner same f i =
+    let eq = pair_eq eqa eqb in
+    let laws = pair_laws eqa eqb lawsa lawsb in
+    let content = λ (k : ℤ). f.content k ∙ full_is_inner (at left k) (at right k) (same k) ∙ sym (i.content k) in
+    same_list eq full inner (canonical eq laws full f.range_map.runs) (canonical eq laws inner i.range_map.runs)
+    (canonical_is_unique eq laws full inner f.range_map.runs i.range_map.runs (λ k. subst (SameOption eq (at full k)) (content k) (same_itself eq laws (at full k))))
+    content

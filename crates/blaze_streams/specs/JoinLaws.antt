@@ -2,7 +2,7 @@
 use Rattle.std.specs.Prelude.{◌≡◌, ℤ, Bool, List, [], ◌∷◌, length, map, Option}
 use Rattle.std.specs.Option.{is_some}
 use Rattle.blaze_table.specs.Entries.{Entry, entry, at, SameOption}
-use Rattle.blaze_streams.specs.declared.joins.JoinKind.TheVariants.{Left, Full}
+use Rattle.blaze_streams.specs.declared.joins.JoinKind.TheVariants.{Inner, Left, Full}
 use Rattle.blaze_streams.specs.Answers.{answered}
 use Rattle.blaze_streams.specs.Joins.{IsJoinOf}
 use Rattle.blaze_streams.specs.Segments.{IsSegmentsOf}
@@ -22,3 +22,8 @@ LeftJoinHasLeftKeys {A} {B} eqa eqb low high = (left : List (Entry A)) (right : 
 -- the segments that a full join of two lists is asked for are the segments of the list of the two
 abbrev pub FullJoinIsOfListOfTwo : {A : Type 0} → (A → A → Bool) → ℤ → ℤ → Type 0
 FullJoinIsOfListOfTwo {A} eq low high = (left right : List (Entry A)) (segments : List (Entry (Option A × Option A))) → IsJoinOf eq eq low high Full left right segments → IsSegmentsOf eq (left ∷ right ∷ []) (map as_row segments)
+
+-- of two lists with the same mapped keys, such as all keys, a full join is asked for the segments that an inner join is asked
+-- for, with the same values
+abbrev pub FullJoinIsInner : {A B : Type 0} → (A → A → Bool) → (B → B → Bool) → ℤ → ℤ → Type 0
+FullJoinIsInner {A} {B} eqa eqb low high = (left : List (Entry A)) (right : List (Entry B)) (full inner : List (Entry (Option A × Option B))) → ((k : ℤ) → is_some (at left k) ≡ is_some (at right k)) → IsJoinOf eqa eqb low high Full left right full → IsJoinOf eqa eqb low high Inner left right inner → full ≡ inner
