@@ -93,12 +93,12 @@ module _ {V : Type 0} (eq : V → V → Bool) where
   same_list (e ∷ es) [] c d s p = absurd s
   same_list (e ∷ es) (f ∷ fs) c d s p =
       let value = same_value e.value f.value
-          (sym (at_in e es e.lo (omega (arith, ints)) (omega (arith, ints, c.0))) ∙ p e.lo ∙ at_in f fs e.lo (omega (arith, ints, s.0)) (omega (arith, ints, s.0, s.1, c.0))) in
+      (sym (at_in e es e.lo (omega (arith, ints)) (omega (arith, ints, c.0))) ∙ p e.lo ∙ at_in f fs e.lo (omega (arith, ints, s.0)) (omega (arith, ints, s.0, s.1, c.0))) in
       let first : e ≡ f = ap (λ z. entry z e.hi e.value) s.0 ∙ ap (λ z. entry f.lo z e.value) s.1 ∙ ap (λ z. entry f.lo f.hi z) value in
       let others = same_list es fs c.2 d.2 s.3
-          (λ k. by_lt_z e.hi k
-          (λ h. sym (at_over e es k h) ∙ p k ∙ at_over f fs k (omega (arith, ints, s.1)))
-          (λ h. at_rest e es k c h ∙ sym (at_rest f fs k d (omega (arith, ints, s.1))))) in
+      (λ k. by_lt_z e.hi k
+      (λ h. sym (at_over e es k h) ∙ p k ∙ at_over f fs k (omega (arith, ints, s.1)))
+      (λ h. at_rest e es k c h ∙ sym (at_rest f fs k d (omega (arith, ints, s.1))))) in
       ap (λ z. z ∷ es) first ∙ ap (λ l. f ∷ l) others
 
 full_is_inner : {A B : Type 0} (x : Option A) (y : Option B) → is_some x ≡ is_some y → paired Full x y ≡ paired Inner x y

@@ -13,8 +13,9 @@ use crate::stream::SortedDisjointMap;
 use blaze_int::Integer;
 use std::alloc::{AllocError, Global};
 
-/// What a closure of two arguments answers at pairs.
-fn answer_either<
+/// What a closure answers at the segments of a full join: one call for each, ascending, with what the two streams have there,
+/// and no other. Touching segments with equal answers are one range. Refused memory drops the segments and the answers.
+pub fn answer_either<
     T: Integer,
     VCL: ValueCarrier,
     VCR: ValueCarrier,
@@ -39,8 +40,9 @@ fn answer_either<
     Ok(CanonMapIter::new(out))
 }
 
-/// What a closure answers at pairs of which the left one is there.
-fn answer_left<
+/// What a closure answers at the segments of a left join: one call for each, ascending, with what the two streams have there,
+/// and no other. Touching segments with equal answers are one range. Refused memory drops the segments and the answers.
+pub fn answer_left<
     T: Integer,
     VCL: ValueCarrier,
     VCR: ValueCarrier,
@@ -67,8 +69,10 @@ fn answer_left<
     Ok(CanonMapIter::new(out))
 }
 
-/// What a closure answers at pairs of which both are there.
-fn answer_both<
+/// What a closure answers at the segments of an inner join: one call for each, ascending, with what the two streams have
+/// there, and no other. Touching segments with equal answers are one range. Refused memory drops the segments and the
+/// answers.
+pub fn answer_both<
     T: Integer,
     VCL: ValueCarrier,
     VCR: ValueCarrier,

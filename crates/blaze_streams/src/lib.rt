@@ -42,7 +42,9 @@ pub use check_map::CheckSortedDisjointMap;
 pub use complements::complement;
 pub use fills::fill;
 pub use into_range_values::IntoRangeValuesIter;
-pub use join_answers::{full_join_of, inner_join_of, left_join_of};
+pub use join_answers::{
+    answer_both, answer_either, answer_left, full_join_of, inner_join_of, left_join_of,
+};
 pub use joins::{JoinKind, join_of};
 pub use list_segments::{Segment, segments};
 pub use map_into_ranges::MapIntoRangesIter;
