@@ -25,6 +25,7 @@ mod range_values;
 mod ranges_stream;
 mod set_ranges;
 mod stream;
+mod sweep;
 mod union;
 mod with_ranges;
 mod with_true;

@@ -1,0 +1,76 @@
+-- A list with all that pairs paint is their canonical list; how long it is.
+use Rattle.std.proofs.Common.{◌≡◌, ◌+◌, ◌-◌, ◌*◌, ◌≤◌, ℤ, ◌≤ℤ◌, ◌<ℤ◌, Bool, true, false, cond, List, [], ◌∷◌, length, Option, Some, None, refl, ◌∙◌, sym, ap, subst, arith}
+use Rattle.std.specs.Cmp.{IsEquivalence}
+use Rattle.std.proofs.lemmas.Int.{ints, by_lt_z}
+use Rattle.blaze_table.specs.Entries.{Entry, at, holds, SameOption}
+use Rattle.blaze_table.specs.Canonical.{IsCanonical, IsRangeMap}
+use Rattle.blaze_table.specs.Painted.{or_else, last_at, painted_in_order}
+use Rattle.blaze_table.specs.Splice.{IsListPainted, IsPaintOf, paint, before, after, glue}
+use Rattle.blaze_table.proofs.Painted.{entries_themselves, is_painted, painted_nowhere, length_as}
+use Rattle.blaze_table.proofs.Runs.{one_per_run}
+use Rattle.blaze_table.proofs.Unique.{same_along, same_itself, same_trans, back, unique}
+use Rattle.blaze_streams.specs.CanonicalOf.{IsCanonicalOf}
+use Rattle.blaze_streams.specs.Swept.{IsSwept}
+use Rattle.blaze_streams.proofs.Lasts.{or_none}
+use Rattle.blaze_streams.proofs.Sweeps.{at_past}
+
+or_or : {V : Type 0} (a b c : Option V) → or_else (or_else a b) c ≡ or_else a (or_else b c)
+or_or None b c = refl
+or_or (Some x) b c = refl
+
+painted_one : {V : Type 0} (b : Bool) (v : V) (o : Option V) → cond b (Some v) o ≡ or_else (cond b (Some v) None) o
+painted_one true v o = refl
+painted_one false v o = refl
+
+-- a list that painting the pairs in order gives, one after another
+record IsPaintedEach {V : Type 0} (eq : V → V → Bool) (ps old new : List (Entry V)) : Type 0 where
+  canonical : IsCanonical eq new
+  content : (k : ℤ) → SameOption eq (at new k) (painted_in_order ps (at old) k)
+  few : length new ≤ length old + 2 * length ps
+  alone : old ≡ [] → length new ≤ 2 * length ps - 1
+
+module _ {V : Type 0} (eq : V → V → Bool) (laws : IsEquivalence eq) where
+  same_in_or : (a x y : Option V) → SameOption eq x y → SameOption eq (or_else a x) (or_else a y)
+  same_in_or None x y s = s
+  same_in_or (Some v) x y s = laws.refl v
+
+  -- one pair is painted
+  one_painted : (p : Entry V) (old : List (Entry V)) → IsCanonical eq old → (cur : List (Entry V)) × IsListPainted eq p old cur
+  one_painted p old c = by_lt_z p.hi p.lo
+      (λ h. (old, painted_nowhere eq laws p old h c))
+      (λ h. (paint eq p.lo p.hi p.value old, is_painted eq laws p old (paint eq p.lo p.hi p.value old) h c (record { above = after p.hi old; like = entries_themselves eq laws (after p.hi old); glued = refl })))
+
+  each_painted : (ps old : List (Entry V)) → IsCanonical eq old → (new : List (Entry V)) × IsPaintedEach eq ps old new
+  each_painted [] old c = (old, record { canonical = c; content = λ k. same_itself eq laws (at old k); few = omega arith; alone = λ e. omega (arith, ap length e) })
+  each_painted (p ∷ ps) old c =
+      let one = one_painted p old c in
+      let rest = each_painted ps one.0 one.1.canonical in
+      (rest.0, record {
+        canonical = rest.1.canonical;
+        content = λ k. same_trans eq laws (at rest.0 k) (or_else (last_at ps k) (at one.0 k)) (painted_in_order (p ∷ ps) (at old) k) (rest.1.content k)
+            (subst (SameOption eq (or_else (last_at ps k) (at one.0 k)))
+            (ap (or_else (last_at ps k)) (painted_one (holds p k) p.value (at old k)) ∙ sym (or_or (last_at ps k) (cond (holds p k) (Some p.value) None) (at old k)))
+            (same_in_or (last_at ps k) (at one.0 k) (cond (holds p k) (Some p.value) (at old k)) (one.1.content k)));
+        few = omega (arith, rest.1.few, one.1.few);
+        alone = λ e. omega (arith, rest.1.few, one.1.alone e);
+      })
+
+  -- the list is the canonical list of the pairs
+  pub canonical_of_swept : (low high a : ℤ) (ps out : List (Entry V)) → IsSwept eq low high (last_at ps) a out → ((k : ℤ) → a ≤ℤ k → last_at ps k ≡ None) → IsCanonicalOf eq low high ps out
+  canonical_of_swept low high a ps out c none =
+      let each = each_painted ps [] tt in
+      let content = λ (k : ℤ). same_along eq {a = at out k} {b = last_at ps k} refl (sym (or_none (last_at ps k)))
+          (by_lt_z k a (c.content k) (λ h. same_along eq {a = None} {b = None} (sym (at_past a k out c.below h)) (sym (none k h)) tt)) in
+      let same = unique eq laws each.0 out each.1.canonical c.canonical
+          (λ k. same_trans eq laws (at each.0 k) (painted_in_order ps (at []) k) (at out k) (each.1.content k) (same_back (at out k) (painted_in_order ps (at []) k) (content k))) in
+      record {
+        range_map = record { runs = one_per_run eq laws out c.canonical; keys = c.keys };
+        content = content;
+        few = omega (arith, length_as eq laws each.0 out same, each.1.alone refl);
+      }
+    where
+      same_back : (x y : Option V) → SameOption eq x y → SameOption eq y x
+      same_back None None h = tt
+      same_back None (Some y) h = h
+      same_back (Some x) None h = h
+      same_back (Some x) (Some y) h = laws.symm y x ∙ h
