@@ -5,4 +5,7 @@ ghost use Rattle.blaze_table.specs.Painted.{ClonesAreAlike};
 ghost use Rattle.blaze_streams.specs.CanonicalOf.{IsCanonicalOf};
 
 mod ascending;
+mod pieces;
 mod push;
+mod starts;
+mod waiting;
