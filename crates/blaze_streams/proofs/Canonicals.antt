@@ -1,17 +1,18 @@
 -- A list with all that pairs paint is their canonical list; how long it is.
-use Rattle.std.proofs.Common.{◌≡◌, ◌+◌, ◌-◌, ◌*◌, ◌≤◌, ℤ, ◌≤ℤ◌, ◌<ℤ◌, Bool, true, false, cond, List, [], ◌∷◌, length, Option, Some, None, refl, ◌∙◌, sym, ap, subst, arith}
+use Rattle.std.proofs.Common.{◌≡◌, ◌+◌, ◌-◌, ◌*◌, ◌≤◌, ℤ, pos, ◌+ℤ◌, ◌-ℤ◌, ◌≤ℤ◌, Bool, true, false, cond, List, [], ◌∷◌, length, Option, Some, None, refl, ◌∙◌, sym, ap, subst, arith}
 use Rattle.std.specs.Cmp.{IsEquivalence}
 use Rattle.std.proofs.lemmas.Int.{ints, by_lt_z}
 use Rattle.blaze_table.specs.Entries.{Entry, at, holds, SameOption}
-use Rattle.blaze_table.specs.Canonical.{IsCanonical, IsRangeMap}
+use Rattle.blaze_table.specs.Canonical.{AreKeys, IsCanonical, IsRangeMap}
 use Rattle.blaze_table.specs.Painted.{or_else, last_at, painted_in_order}
-use Rattle.blaze_table.specs.Splice.{IsListPainted, IsPaintOf, paint, before, after, glue}
+use Rattle.blaze_table.specs.Splice.{IsListPainted, paint, after}
+use Rattle.blaze_table.proofs.Lookup.{IsAbove, IsAbove-from_apart, at_in, at_under, at_over, by_place}
 use Rattle.blaze_table.proofs.Painted.{entries_themselves, is_painted, painted_nowhere, length_as}
-use Rattle.blaze_table.proofs.Runs.{one_per_run}
-use Rattle.blaze_table.proofs.Unique.{same_along, same_itself, same_trans, back, unique}
+use Rattle.blaze_table.proofs.Runs.{canonical, one_per_run}
+use Rattle.blaze_table.proofs.Unique.{same_along, same_itself, same_trans, unique}
 use Rattle.blaze_streams.specs.CanonicalOf.{IsCanonicalOf}
-use Rattle.blaze_streams.specs.Swept.{IsSwept}
-use Rattle.blaze_streams.proofs.Lasts.{or_none}
+use Rattle.blaze_streams.specs.Swept.{AreApart, IsSwept}
+use Rattle.blaze_streams.proofs.Lasts.{or_none, last_below, last_first, last_over}
 use Rattle.blaze_streams.proofs.Sweeps.{at_past}
 
 or_or : {V : Type 0} (a b c : Option V) → or_else (or_else a b) c ≡ or_else a (or_else b c)
@@ -44,25 +45,27 @@ module _ {V : Type 0} (eq : V → V → Bool) (laws : IsEquivalence eq) where
   each_painted [] old c = (old, record { canonical = c; content = λ k. same_itself eq laws (at old k); few = omega arith; alone = λ e. omega (arith, ap length e) })
   each_painted (p ∷ ps) old c =
       let one = one_painted p old c in
-      let rest = each_painted ps one.0 one.1.canonical in
-      (rest.0, record {
-        canonical = rest.1.canonical;
-        content = λ k. same_trans eq laws (at rest.0 k) (or_else (last_at ps k) (at one.0 k)) (painted_in_order (p ∷ ps) (at old) k) (rest.1.content k)
-            (subst (SameOption eq (or_else (last_at ps k) (at one.0 k)))
-            (ap (or_else (last_at ps k)) (painted_one (holds p k) p.value (at old k)) ∙ sym (or_or (last_at ps k) (cond (holds p k) (Some p.value) None) (at old k)))
-            (same_in_or (last_at ps k) (at one.0 k) (cond (holds p k) (Some p.value) (at old k)) (one.1.content k)));
-        few = omega (arith, rest.1.few, one.1.few);
-        alone = λ e. omega (arith, rest.1.few, one.1.alone e);
-      })
+      let rest = each_painted ps one.0 one.1.canonical in (
+        rest.0,
+        record {
+          canonical = rest.1.canonical;
+          content = λ k. same_trans eq laws (at rest.0 k) (or_else (last_at ps k) (at one.0 k)) (painted_in_order (p ∷ ps) (at old) k) (rest.1.content k)
+              (subst (SameOption eq (or_else (last_at ps k) (at one.0 k)))
+              (ap (or_else (last_at ps k)) (painted_one (holds p k) p.value (at old k)) ∙ sym (or_or (last_at ps k) (cond (holds p k) (Some p.value) None) (at old k)))
+              (same_in_or (last_at ps k) (at one.0 k) (cond (holds p k) (Some p.value) (at old k)) (one.1.content k)));
+          few = omega (arith, rest.1.few, one.1.few);
+          alone = λ e. omega (arith, rest.1.few, one.1.alone e);
+        },
+      )
 
   -- the list is the canonical list of the pairs
   pub canonical_of_swept : (low high a : ℤ) (ps out : List (Entry V)) → IsSwept eq low high (last_at ps) a out → ((k : ℤ) → a ≤ℤ k → last_at ps k ≡ None) → IsCanonicalOf eq low high ps out
   canonical_of_swept low high a ps out c none =
       let each = each_painted ps [] tt in
       let content = λ (k : ℤ). same_along eq {a = at out k} {b = last_at ps k} refl (sym (or_none (last_at ps k)))
-          (by_lt_z k a (c.content k) (λ h. same_along eq {a = None} {b = None} (sym (at_past a k out c.below h)) (sym (none k h)) tt)) in
+      (by_lt_z k a (c.content k) (λ h. same_along eq {a = None} {b = None} (sym (at_past a k out c.below h)) (sym (none k h)) tt)) in
       let same = unique eq laws each.0 out each.1.canonical c.canonical
-          (λ k. same_trans eq laws (at each.0 k) (painted_in_order ps (at []) k) (at out k) (each.1.content k) (same_back (at out k) (painted_in_order ps (at []) k) (content k))) in
+      (λ k. same_trans eq laws (at each.0 k) (painted_in_order ps (at []) k) (at out k) (each.1.content k) (same_back (at out k) (painted_in_order ps (at []) k) (content k))) in
       record {
         range_map = record { runs = one_per_run eq laws out c.canonical; keys = c.keys };
         content = content;
@@ -74,3 +77,36 @@ module _ {V : Type 0} (eq : V → V → Bool) (laws : IsEquivalence eq) where
       same_back None (Some y) h = h
       same_back (Some x) None h = h
       same_back (Some x) (Some y) h = laws.symm y x ∙ h
+
+  -- a list that is canonical already is its own canonical list
+  apart_above : (b : ℤ) (es : List (Entry V)) → IsCanonical eq es → IsAbove (b -ℤ pos 1) es → AreApart b es
+  apart_above b [] c a = tt
+  apart_above b (e ∷ es) c a = (omega (arith, ints, a), c.0, apart_above (e.hi +ℤ pos 1) es c.2 (above_more e.hi (e.hi +ℤ pos 1 -ℤ pos 1) es (omega (arith, ints)) (IsAbove-from_apart eq e es c.1)))
+    where
+      above_more : (x y : ℤ) (fs : List (Entry V)) → y ≤ℤ x → IsAbove x fs → IsAbove y fs
+      above_more x y [] l h = tt
+      above_more x y (f ∷ fs) l h = omega (arith, ints, h)
+
+  at_is_last : (b k : ℤ) (es : List (Entry V)) → AreApart b es → at es k ≡ last_at es k
+  at_is_last b k [] a = refl
+  at_is_last b k (e ∷ es) a = by_place e k
+      (λ l u. at_in e es k l u ∙ sym (last_first k e es a.2 l u))
+      (λ l. at_under e es k l ∙ at_is_last (e.hi +ℤ pos 1) k es a.2 ∙ last_below (e.hi +ℤ pos 1) k es a.2 (omega (arith, ints, a.1)) ∙ sym (last_below e.lo k (e ∷ es) (omega (arith, ints), a.1, a.2) l))
+      (λ u. at_over e es k u ∙ at_is_last (e.hi +ℤ pos 1) k es a.2 ∙ sym (last_over k e es u))
+
+  pub canonical_of_itself : (low high : ℤ) (es : List (Entry V)) → IsRangeMap eq low high es → IsCanonicalOf eq low high es es
+  canonical_of_itself low high es r =
+      let c = canonical eq laws es r.runs in
+      record {
+        range_map = r;
+        content = λ k. same_along eq {a = at es k} {b = at es k} refl (at_is_last low k es (apart_above low es c (first_above es c r.keys)) ∙ sym (or_none (last_at es k))) (same_itself eq laws (at es k));
+        few = count es;
+      }
+    where
+      first_above : (fs : List (Entry V)) → IsCanonical eq fs → AreKeys low high fs → IsAbove (low -ℤ pos 1) fs
+      first_above [] c a = tt
+      first_above (f ∷ fs) c a = omega (arith, ints, a.0)
+
+      count : (fs : List (Entry V)) → length fs ≤ 2 * length fs - 1
+      count [] = omega arith
+      count (f ∷ fs) = omega arith

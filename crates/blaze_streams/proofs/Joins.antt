@@ -1,16 +1,14 @@
 -- Pairs that are ascending and disjoint, put behind a list one after another.
-use Rattle.std.proofs.Common.{◌≡◌, ℤ, pos, ◌+ℤ◌, ◌≤ℤ◌, ◌<ℤ◌, Bool, List, [], ◌∷◌, refl, ◌∙◌, sym, subst, arith}
+use Rattle.std.proofs.Common.{◌≡◌, ℤ, pos, ◌+ℤ◌, ◌≤ℤ◌, Bool, List, [], ◌∷◌, refl, ◌∙◌, sym, subst, arith}
 use Rattle.std.specs.Prelude.{Some}
 use Rattle.std.specs.Cmp.{IsEquivalence}
 use Rattle.std.proofs.lemmas.Int.{ints}
-use Rattle.blaze_table.specs.Entries.{Entry, entry, SameOption}
-use Rattle.blaze_table.specs.Canonical.{AreKeys}
+use Rattle.blaze_table.specs.Entries.{Entry, SameOption}
 use Rattle.blaze_table.specs.Painted.{last_at}
 use Rattle.blaze_table.specs.Splice.{glue}
-use Rattle.blaze_table.proofs.Unique.{same_itself}
 use Rattle.blaze_streams.specs.Swept.{AreApart, IsSwept}
 use Rattle.blaze_streams.proofs.Lasts.{last_below, last_first, last_over}
-use Rattle.blaze_streams.proofs.Sweeps.{swept_none, swept_gap, swept_more}
+use Rattle.blaze_streams.proofs.Sweeps.{swept_none, swept_more}
 
 -- what all pairs paint below the key `from` is in the list, and what they paint from there on is painted by the rest
 pub record IsJoined {V : Type 0} (eq : V → V → Bool) (low high : ℤ) (all rest out : List (Entry V)) : Type 0 where

@@ -1,17 +1,17 @@
 -- Pieces put one after another.
-use Rattle.std.proofs.Common.{◌≡◌, ℕ, ◌≤◌, ℤ, pos, ◌+ℤ◌, ◌≤ℤ◌, ◌<ℤ◌, true, List, [], ◌∷◌, Some, refl, ◌∙◌, sym, ap, subst, arith, nat_eq, All}
+use Rattle.std.proofs.Common.{◌≡◌, ℕ, ◌≤◌, ℤ, pos, ◌+ℤ◌, ◌≤ℤ◌, true, List, [], ◌∷◌, Some, refl, ◌∙◌, sym, ap, subst, arith, nat_eq, All}
 use Rattle.std.specs.Prelude.{slice_get}
 use Rattle.std.specs.List.{Contains}
 use Rattle.std.proofs.lemmas.Int.{ints, by_lt_z}
 use Rattle.blaze_table.specs.Entries.{Entry, entry}
 use Rattle.blaze_table.specs.Painted.{last_at}
-use Rattle.blaze_table.specs.Splice.{join, glue}
+use Rattle.blaze_table.specs.Splice.{glue}
 use Rattle.blaze_table.proofs.Splices.{by_join}
 use Rattle.blaze_streams.specs.Swept.{IsBare}
 use Rattle.blaze_streams.specs.Pieces.{IsPiece, ArePieces, IsWaiting}
 use Rattle.blaze_streams.proofs.Waitings.{one_pair, waits_at, top_is, none_is}
 
-same_place : (a b : ℕ) → nat_eq a b ≡ true → a ≡ b
+pub same_place : (a b : ℕ) → nat_eq a b ≡ true → a ≡ b
 same_place a b h = grind arith
 
 module _ {V : Type 0} (ps : List (Entry V)) where

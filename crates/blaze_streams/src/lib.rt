@@ -46,6 +46,7 @@ pub use owned_range_values::OwnedRangeValuesIter;
 pub use range_values::RangeValuesIter;
 pub use ranges_stream::SortedDisjoint;
 pub use stream::{BothEnds, SortedDisjointMap};
+pub use sweep::canonical_of;
 pub use union::{symmetric_difference_of, union_of};
 pub use with_ranges::{intersect_with_ranges, subtract_ranges};
 

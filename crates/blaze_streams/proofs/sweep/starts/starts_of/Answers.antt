@@ -1,8 +1,7 @@
-use Rattle.std.proofs.Common.{◌≡◌, ◌∙◌, sym, length, arith, rules, refl}
+use Rattle.std.proofs.Common.{◌∙◌, sym, length, arith, rules}
 use Rattle.std.proofs.lemmas.List.Sorted.{answers_always}
 use Rattle.blaze_table.specs.Entries.{shown_entry}
 use Rattle.blaze_table.specs.Listed.{listed}
-use Rattle.blaze_streams.specs.Pieces.{AreStarts}
 use Rattle.blaze_streams.proofs.Orders.{at_most, not_at_most}
 use Rattle.blaze_streams.proofs.Starts.{starts_skip, starts_more, starts_sorted, ascends}
 use Rattle.blaze_streams.proofs.Waitings.{pair_at}
