@@ -10,8 +10,8 @@ use crate::sweep::held::{held_of, put_piece};
 use blaze_int::Integer;
 use std::alloc::{AllocError, Global};
 
-/// The canonical list of pairs, of which the pieces are given. A value is moved into the first entry that it has, and cloned
-/// for each other one.
+/// The canonical list of pairs, of which the pieces are given. A value is moved for the first piece of its pair, and cloned for
+/// each other one.
 pub(crate) fn filled<T: Integer, V: Eq + Clone>(
     alloc: Global,
     pairs: Vec<(T, T, V)>,

@@ -24,9 +24,9 @@ mod waiting;
 /// wins, a pair whose last key is below its first paints nothing, and touching entries with equal values are one.
 ///
 /// Pairs that are canonical already are answered as they are, after one pass. Pairs that are ascending and disjoint are joined
-/// in one pass more. All others are sorted by their first keys, in place, and swept from the least key up, with those that reach
-/// the key in a heap whose top is the latest: O(n log n) steps for n pairs. A value is cloned only where its pair has several
-/// entries; else it is moved. Refused memory drops the list.
+/// in one pass more. The first keys of all others are sorted and swept from the least key up, with the pairs that reach the key
+/// in a heap whose top is the latest: O(n log n) steps for n pairs. A value is cloned only where its pair is cut into several
+/// pieces; else it is moved. Refused memory drops the list.
 pub fn canonical_of<T: Integer, V: Eq + Clone>(
     alloc: Global,
     pairs: Vec<(T, T, V)>,
@@ -46,3 +46,6 @@ pub fn canonical_of<T: Integer, V: Eq + Clone>(
     let entries = filled(alloc, pairs, pieces)?;
     Ok(entries)
 }
+
+#[cfg(test)]
+mod tests;
