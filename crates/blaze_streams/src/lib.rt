@@ -30,6 +30,7 @@ mod ranges_stream;
 mod set_ranges;
 mod stream;
 mod transforms;
+mod sweep;
 mod union;
 mod with_ranges;
 mod with_true;
@@ -56,6 +57,7 @@ pub use range_values::RangeValuesIter;
 pub use ranges_stream::SortedDisjoint;
 pub use stream::{BothEnds, SortedDisjointMap};
 pub use transforms::transform;
+pub use sweep::canonical_of;
 pub use union::{symmetric_difference_of, union_of};
 pub use with_ranges::{intersect_with_ranges, subtract_ranges};
 

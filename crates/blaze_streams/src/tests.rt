@@ -191,7 +191,7 @@ fn a_stream_from_both_ends(rt: HostRuntime) -> Result<(), Fail> {
 
 /// A number whose clone is refused.
 #[derive(Drop)]
-struct Uncloned(u32);
+pub(crate) struct Uncloned(pub(crate) u32);
 
 impl PartialEq for Uncloned {
     ghost eq = { on (λ a. a.0) nat_eq };
