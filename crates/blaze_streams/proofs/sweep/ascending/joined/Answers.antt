@@ -4,7 +4,7 @@ use Rattle.std.specs.Vec.Iter.{into_iter_items}
 use Rattle.blaze_table.specs.Entries.{shown_entry}
 use Rattle.blaze_table.specs.Listed.{listed}
 use Rattle.blaze_table.specs.Painted.{last_at}
-use Rattle.blaze_streams.proofs.Joins.{IsJoined, joined_none, joined_more}
+use Rattle.blaze_streams.proofs.JoinedPieces.{IsJoined, joined_none, joined_more}
 use Rattle.blaze_streams.proofs.Canonicals.{canonical_of_swept}
 use Rattle.blaze_streams.proofs.sweep.ascending.joined.Goals as goal
 

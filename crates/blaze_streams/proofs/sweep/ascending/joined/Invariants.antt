@@ -1,6 +1,6 @@
 use Rattle.std.specs.Vec.Iter.{into_iter_items}
 use Rattle.blaze_table.specs.Listed.{listed}
-use Rattle.blaze_streams.proofs.Joins.{IsJoined}
+use Rattle.blaze_streams.proofs.JoinedPieces.{IsJoined}
 use Rattle.blaze_streams.proofs.sweep.ascending.joined.Given as goal
 
 abbrev pub invariant-loop-start : goal.invariant-loop-start

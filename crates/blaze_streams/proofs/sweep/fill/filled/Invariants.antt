@@ -1,7 +1,7 @@
 use Rattle.std.proofs.Common.{pos, ◌+ℤ◌}
 use Rattle.std.specs.Vec.Iter.{into_iter_items}
 use Rattle.blaze_table.specs.Listed.{listed}
-use Rattle.blaze_streams.proofs.Fills.{IsFilled}
+use Rattle.blaze_streams.proofs.Filling.{IsFilled}
 use Rattle.blaze_streams.proofs.sweep.fill.filled.Given as goal
 
 abbrev pub invariant-loop-start : goal.invariant-loop-start
