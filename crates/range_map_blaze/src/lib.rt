@@ -10,6 +10,7 @@ mod insert;
 mod inside;
 mod iter;
 mod joining;
+mod joins;
 mod lent;
 mod lookup;
 mod map;
