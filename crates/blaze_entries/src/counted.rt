@@ -6,7 +6,7 @@ ghost use Rattle.blaze_entries.specs.Answers.{AnswersAt, IsCallableAtEach};
 ghost use Rattle.blaze_entries.specs.Entries.{entry, shown_entry};
 ghost use Rattle.blaze_entries.specs.Counted.{uncounted};
 ghost use Rattle.blaze_entries.specs.Found.{found_in, found_of, range_in, ranks_of};
-ghost use Rattle.blaze_entries.specs.Scanned.{seen_of, unseen, walked, answers, walked_keys};
+ghost use Rattle.blaze_entries.specs.Scanned.{seen_of, unseen, walked, least_by, walked_covered, answers, walked_keys};
 ghost use Rattle.blaze_entries.specs.Starts.{StartsAscend, below, from, last_below, first_from, start_at, with_entry, without, with_end, with_end_value, IsStartMoved, IsFrontReplaced, IsCloneInserted};
 
 use crate::build::tree_of;
@@ -356,6 +356,9 @@ impl<T: Integer, V: Eq> Counted<T, V> {
             ≤ℤ pos (T.SafeLen.number len) }
         ensures plan { seen_of T.rank result.0
             ≡ walked V.eq value.now (T.rank lo) (T.rank hi) (unseen (T.rank hi))
+            (reverse (below (T.rank hi +ℤ pos 2) self.old.entries)) }
+        ensures covered { least_by T.rank result.0.covered
+            ≡ walked_covered V.eq value.now (T.rank lo) (T.rank hi) None
             (reverse (below (T.rank hi +ℤ pos 2) self.old.entries)) }
         ensures len { pos (T.SafeLen.number result.1)
             +ℤ walked_keys (T.rank lo) (T.rank hi)
