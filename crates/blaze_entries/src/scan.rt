@@ -114,7 +114,9 @@ impl<T: Integer> Plan<T> {
             ≡ seen_covered (T.rank lo) (T.rank hi) (least_by T.rank self.covered)
             (found_of T.rank found) }
     {
-        self.past_end(hi, found).past_start(lo, found).past_covered(lo, hi, found)
+        self.past_end(hi, found)
+            .past_start(lo, found)
+            .past_covered(lo, hi, found)
     }
 }
 

@@ -30,6 +30,8 @@ pub mod Parts
 pub mod Splits
 pub mod EditLists
 pub mod Clearing
+pub mod StartsIn
+pub mod FirstOut
 pub mod Growing
 pub mod Placing
 pub mod LooksSay
@@ -39,6 +41,7 @@ pub mod Plans
 pub mod Walked
 pub mod WalkedPlans
 pub mod Outside
+pub mod Covering
 pub mod FewLooks
 pub mod Descents
 pub mod Glued

@@ -51,6 +51,7 @@ pub fn move_rest<T: Integer, V: Eq + Drop>(
     rest: Option<(T, T)>,
 ) -> Result<(), AllocError>
     requires order { T.rank first ≤ℤ T.rank end }
+    requires canonical { IsCanonical V.eq entries.old.entries }
     requires rest { IsRest (T.rank end) entries.old.entries (option_map (ranks_of T.rank) rest) }
     requires above { IfSome rest (λ r. T.rank first <ℤ T.rank r.0) }
     ensures kept { OnOk result
@@ -78,6 +79,7 @@ fn put_new<T: Integer, V: Eq + Clone>(
 ) -> Result<(), AllocError>
     requires order { T.rank lo ≤ℤ T.rank end }
     requires clones { ClonesAreAlike V.is_clone V.eq }
+    requires canonical { IsCanonical V.eq entries.old.entries }
     requires absent { start_at (T.rank lo) entries.old.entries ≡ None }
     requires rest { IsRest (T.rank end) entries.old.entries (option_map (ranks_of T.rank) rest) }
     ensures ok { OnOk result
