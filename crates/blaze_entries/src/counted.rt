@@ -15,7 +15,7 @@ use crate::found::Found;
 use crate::into_iter::IntoIter;
 use crate::nodes::{
     EndValue, insert, move_node, node_at, node_at_or_above, node_at_or_below, node_below, remove,
-    replace, replace_front, set_end, split_off,
+    replace, replace_front, set_end, set_end_cloned, split_off,
 };
 use crate::places::{cloned, found, range_of, value_of};
 use crate::retain::retain;
@@ -387,6 +387,24 @@ impl<T: Integer, V: Clone> Counted<T, V> {
         self.looks = self.looks.after();
         let node = cloned(node_at(&self.tree, start))?;
         Ok(node.value)
+    }
+
+    /// Moves the end of the entry at a start, and answers a clone of its value. A refused clone leaves the end.
+    pub fn set_end_cloned(&mut self, start: T, end: T) -> Result<V, AllocError>
+        requires { IsSome (start_at (T.rank start) self.old.entries) }
+        ensures value { IfOk result
+            (λ value. IfSome (start_at (T.rank start) self.old.entries)
+            (λ e. V.is_clone e.value value)) }
+        ensures ok { OnOk result (self.new
+            ≡ record self.old {
+              entries = with_end (T.rank start) (T.rank end) self.old.entries;
+              looks = self.old.looks + 1;
+            }) }
+        ensures err { OnErr result (self.new ≡ self.old) }
+    {
+        let value = set_end_cloned(&mut self.tree, start, end)?;
+        self.looks = self.looks.after();
+        Ok(value)
     }
 }
 

@@ -10,6 +10,7 @@ pub mod Counted
 pub mod Inside
 pub mod Between
 pub mod Cutting
+pub mod PutInside
 pub mod Holders
 pub mod SeenInside
 pub mod CutEdits

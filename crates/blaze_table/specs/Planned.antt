@@ -6,7 +6,7 @@ use Rattle.std.specs.Ordering.{int_eq}
 use Rattle.blaze_entries.specs.Counted.{CountedEntries}
 use Rattle.blaze_entries.specs.Found.{found_in}
 use Rattle.blaze_entries.specs.Scanned.{Seen}
-use Rattle.blaze_entries.specs.Starts.{below, from, last_below, start_at, without}
+use Rattle.blaze_entries.specs.Starts.{below, from, last_below, start_at, with_entry, without}
 use Rattle.blaze_entries.specs.declared.found.Found.{Found}
 use Rattle.blaze_table.specs.Entries.{Entry, entry, SameEntries}
 use Rattle.blaze_table.specs.Splice.{before, after}
@@ -146,3 +146,10 @@ pub record IsWorked {V : Type 0} (p q : ℕ) (old new : CountedEntries V) : Type
   pub balance : length new.entries + new.taken_out + old.put_in ≡ length old.entries + old.taken_out + new.put_in
   pub taken : old.taken_out ≤ new.taken_out
   pub looks : new.looks + old.taken_out ≤ old.looks + new.taken_out + q
+
+-- an entry from l up to h was put in, with a clone of v
+pub record IsClonePut {V : Type 0} (is_clone : V → V → Type 0) (v : V) (l h : ℤ) (old new : CountedEntries V) : Type 0 where
+  pub value : V
+  pub clone : is_clone v value
+  pub longer : length new.entries ≡ length old.entries + 1
+  pub put : new ≡ record old { entries = with_entry (entry l h value) old.entries; put_in = old.put_in + 1 }

@@ -11,14 +11,15 @@ ghost use Rattle.blaze_table.specs.Planned.{ends_of, joined_start, ends_in, leas
 ghost use Rattle.blaze_table.specs.Splice.{IsPaintOf};
 
 use super::edits::{clear, trim};
+use super::inside::put_inside;
 use super::place::{move_rest, put};
 use blaze_entries::{Counted, Found, Plan};
 use blaze_int::Integer;
-use blaze_int::compare::{is_at_most, is_next};
+use blaze_int::compare::{is_at_most, is_below, is_next};
 use std::alloc::AllocError;
 
 // Puts a value on the keys from lo up to the plan's end, where no entry beside them is to be joined.
-fn paint_from<T: Integer, V: Eq + Clone>(
+fn paint_beside<T: Integer, V: Eq + Clone>(
     entries: &mut Counted<T, V>,
     lo: T,
     value: V,
@@ -47,6 +48,40 @@ fn paint_from<T: Integer, V: Eq + Clone>(
     trim(entries, lo, plan.left);
     clear(entries, lo, plan.end, plan.covered);
     Ok(())
+}
+
+// The same, also where one entry goes on below and above the keys.
+fn paint_from<T: Integer, V: Eq + Clone>(
+    entries: &mut Counted<T, V>,
+    lo: T,
+    value: V,
+    plan: Plan<T>,
+) -> Result<(), AllocError>
+    requires order { T.rank lo ≤ℤ T.rank plan.end }
+    requires clones { ClonesAreAlike V.is_clone V.eq }
+    requires canonical { IsCanonical V.eq entries.old.entries }
+    requires first { option_map (ends_of T.rank) plan.first
+        ≡ option_map range_in (start_at (T.rank lo) entries.old.entries) }
+    requires rest { IsRest
+        (T.rank plan.end) entries.old.entries (option_map (ranks_of T.rank) plan.rest) }
+    requires left { option_map (ends_of T.rank) plan.left
+        ≡ option_map range_in (last_below (T.rank lo) entries.old.entries) }
+    requires covered { least_by T.rank plan.covered
+        ≡ least (ends_in (T.rank lo) (T.rank plan.end) entries.old.entries) }
+    ensures put { OnOk result
+        (IsPutAt V.eq
+        (entry (T.rank lo) (T.rank plan.end) value) entries.old.entries entries.new.entries) }
+    ensures worked { OnOk result (IsWorked 2 1 entries.old entries.new) }
+    ensures err { OnErr result (entries.new.entries ≡ entries.old.entries) }
+{
+    let end = plan.end;
+    let left = plan.left;
+    match left {
+        Some(found) if is_below(end, found.end) => {
+            put_inside(entries, lo, end, value, found.start, found.end)
+        }
+        _ => paint_beside(entries, lo, value, plan),
+    }
 }
 
 // Puts the value of the entry that starts at `first` on all keys up to `end`, where no entry above them is to be joined.

@@ -11,6 +11,7 @@ ghost use Rattle.blaze_table.specs.Table.{IsTable};
 
 mod apply;
 mod edits;
+mod inside;
 mod place;
 mod plan;
 

@@ -1,7 +1,7 @@
 use Rattle.std.proofs.Common.{ap, sym, ◌∙◌}
 use Rattle.blaze_table.specs.Planned.{least}
 use Rattle.blaze_table.proofs.Composed.{put_canonical, put_amid, put_at}
-use Rattle.blaze_table.proofs.splice.apply.paint_from.Goals as goal
+use Rattle.blaze_table.proofs.splice.apply.paint_beside.Goals as goal
 
 pub trim-requires-clause-canonical : goal.trim-requires-clause-canonical
 trim-requires-clause-canonical g c =
