@@ -410,24 +410,7 @@ impl<T: Integer, V: Clone> Counted<T, V> {
 
 impl<T: Integer, V: Clone + Drop> Counted<T, V> {
     /// Puts an entry in that starts at `start`, where none is, ends where the entry at `of` ends and has a clone of its
-    /// value.
-    pub fn insert_clone(&mut self, of: T, start: T) -> Result<(), AllocError>
-        requires present { IsSome (start_at (T.rank of) self.old.entries) }
-        requires absent { start_at (T.rank start) self.old.entries ≡ None }
-        ensures ok { OnOk result
-            (IsCloneInserted V.is_clone (T.rank of)
-            (T.rank start) self.old.entries self.new.entries) }
-        ensures counted { OnOk result (self.new
-            ≡ record self.old { entries = self.new.entries; put_in = self.old.put_in + 1 }) }
-        ensures longer { OnOk result (length self.new.entries ≡ length self.old.entries + 1) }
-        ensures err { OnErr result (self.new ≡ self.old) }
-    {
-        self.insert_clone_uncounted(of, start)?;
-        self.put_in = self.put_in.after();
-        Ok(())
-    }
-
-    /// The same as `insert_clone`, and nothing is counted.
+    /// value. Nothing is counted.
     pub(crate) fn insert_clone_uncounted(&mut self, of: T, start: T) -> Result<(), AllocError>
         requires present { IsSome (start_at (T.rank of) self.old.entries) }
         requires absent { start_at (T.rank start) self.old.entries ≡ None }

@@ -11,11 +11,10 @@ use Rattle.blaze_entries.proofs.Halves.{below_takes, below_none, starts_of_below
 use Rattle.blaze_table.specs.Entries.{Entry, entry}
 use Rattle.blaze_table.specs.Canonical.{IsCanonical}
 use Rattle.blaze_table.specs.Planned.{ends_in, least, IsEndAfter, IsEnd}
-use Rattle.blaze_table.specs.Splice.{after}
 use Rattle.blaze_table.proofs.Lookup.{IsAbove, IsAbove-from_apart}
 use Rattle.blaze_table.proofs.Outside.{StartsFrom, ascend_from, reverse_from}
 use Rattle.blaze_table.proofs.Plans.{above_more}
-use Rattle.blaze_table.proofs.Splices.{by_after, by_bool, lt_true, lt_false, le_true, le_false}
+use Rattle.blaze_table.proofs.Splices.{by_after, lt_true, lt_false, le_true, le_false}
 use Rattle.blaze_table.proofs.StartsIn.{ends_takes, ends_under, ends_over, no_ends}
 
 module _ {V : Type 0} (eq : V → V → Bool) (v : V) (l h : ℤ) where

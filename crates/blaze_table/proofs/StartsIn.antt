@@ -1,20 +1,20 @@
 -- The entries that start in a range, and those of them that end there.
-use Rattle.std.proofs.Common.{◌≡◌, ◌≤◌, ℤ, pos, ◌+ℤ◌, ◌≤ℤ◌, ◌<ℤ◌, Bool, true, false, cond, List, [], ◌∷◌, ◌++◌, length, Option, Some, None, refl, ◌∙◌, sym, ap, arith}
-use Rattle.std.specs.Prelude.{int_lt, int_le}
+use Rattle.std.proofs.Common.{◌≡◌, ◌≤◌, ℤ, pos, ◌+ℤ◌, ◌≤ℤ◌, ◌<ℤ◌, Bool, false, cond, List, [], ◌∷◌, ◌++◌, length, Option, Some, None, refl, ◌∙◌, sym, ap, arith}
+use Rattle.std.specs.Prelude.{int_le}
 use Rattle.std.specs.List.{filter}
-use Rattle.std.specs.Option.{option_map, is_some}
+use Rattle.std.specs.Option.{option_map}
 use Rattle.std.specs.Ordering.{int_eq}
 use Rattle.std.proofs.lemmas.Int.{ints, by_lt_z}
 use Rattle.blaze_entries.specs.Found.{found_in}
 use Rattle.blaze_entries.specs.Starts.{StartsAscend, below, from, start_at, without}
 use Rattle.blaze_entries.proofs.Ascending.{by_order}
 use Rattle.blaze_entries.proofs.Halves.{below_takes, below_skips, from_takes, from_skips, from_all, from_none}
-use Rattle.blaze_table.specs.Entries.{Entry, entry}
+use Rattle.blaze_table.specs.Entries.{Entry}
 use Rattle.blaze_table.specs.Canonical.{IsCanonical}
 use Rattle.blaze_table.specs.Planned.{starts_in, ends_in, least, least_with}
 use Rattle.blaze_table.specs.Splice.{after}
 use Rattle.blaze_table.proofs.Lookup.{IsAbove, IsAbove-from_apart}
-use Rattle.blaze_table.proofs.Splices.{by_after, by_bool, lt_true, lt_false, le_true, le_false}
+use Rattle.blaze_table.proofs.Splices.{by_after, by_bool, le_true, le_false}
 use Rattle.blaze_table.proofs.Splits.{LastAt, from_at, from_not_at, filter_append, more_below}
 
 module _ {V : Type 0} where

@@ -6,7 +6,7 @@ use Rattle.std.specs.Ordering.{int_eq}
 use Rattle.blaze_entries.specs.Counted.{CountedEntries}
 use Rattle.blaze_entries.specs.Found.{found_in}
 use Rattle.blaze_entries.specs.Scanned.{Seen}
-use Rattle.blaze_entries.specs.Starts.{below, from, last_below, start_at, with_entry, without}
+use Rattle.blaze_entries.specs.Starts.{below, from, last_below, start_at, with_entry}
 use Rattle.blaze_entries.specs.declared.found.Found.{Found}
 use Rattle.blaze_table.specs.Entries.{Entry, entry, SameEntries}
 use Rattle.blaze_table.specs.Splice.{before, after}
@@ -95,17 +95,6 @@ pub record IsRestOf {V : Type 0} (z : ℤ) (es : List (Entry V)) (s t : ℤ) : T
 abbrev pub IsRest : {V : Type 0} → ℤ → List (Entry V) → Option (ℤ × ℤ) → Type 0
 IsRest z es None = after z es ≡ from (z +ℤ pos 1) es
 IsRest z es (Some r) = IsRestOf z es r.0 r.1
-
--- an entry starts at n, that ends where the entry at s ended and has an equal value; as before is what starts up to k,
--- between them what did not start at s, and what starts from n on
-pub record IsRestPut {V : Type 0} (eq : V → V → Bool) (k s n : ℤ) (old new : List (Entry V)) : Type 0 where
-  pub of : Entry V
-  pub found : start_at s old ≡ Some of
-  pub value : V
-  pub like : eq of.value value ≡ true
-  pub amid : from (k +ℤ pos 1) (below n new) ≡ from (k +ℤ pos 1) (below n (without s old))
-  pub below : below (k +ℤ pos 1) new ≡ below (k +ℤ pos 1) old
-  pub from : from n new ≡ entry n of.hi value ∷ from n old
 
 -- what lies above z starts above it, with equal values, what starts up to k is as before, and what starts between them is what
 -- ended there

@@ -18,15 +18,15 @@ use blaze_int::Integer;
 use blaze_int::compare::{is_at_most, is_below, is_next};
 use std::alloc::AllocError;
 
-// Puts a value on the keys from lo up to the plan's end, where no entry beside them is to be joined.
-fn paint_beside<T: Integer, V: Eq + Clone>(
+// Puts a value on the keys from lo up to the plan's end, where no entry beside them is to be joined, and none goes on both
+// below and above them.
+fn paint_beside<T: Integer, V: Eq + Drop>(
     entries: &mut Counted<T, V>,
     lo: T,
     value: V,
     plan: Plan<T>,
 ) -> Result<(), AllocError>
     requires order { T.rank lo ≤ℤ T.rank plan.end }
-    requires clones { ClonesAreAlike V.is_clone V.eq }
     requires canonical { IsCanonical V.eq entries.old.entries }
     requires first { option_map (ends_of T.rank) plan.first
         ≡ option_map range_in (start_at (T.rank lo) entries.old.entries) }
@@ -34,6 +34,7 @@ fn paint_beside<T: Integer, V: Eq + Clone>(
         (T.rank plan.end) entries.old.entries (option_map (ranks_of T.rank) plan.rest) }
     requires left { option_map (ends_of T.rank) plan.left
         ≡ option_map range_in (last_below (T.rank lo) entries.old.entries) }
+    requires short { IfSome plan.left (λ f. T.rank f.end ≤ℤ T.rank plan.end) }
     requires covered { least_by T.rank plan.covered
         ≡ least (ends_in (T.rank lo) (T.rank plan.end) entries.old.entries) }
     ensures put { OnOk result
@@ -50,7 +51,7 @@ fn paint_beside<T: Integer, V: Eq + Clone>(
     Ok(())
 }
 
-// The same, also where one entry goes on below and above the keys.
+// Puts a value on the keys from lo up to the plan's end, where no entry beside them is to be joined.
 fn paint_from<T: Integer, V: Eq + Clone>(
     entries: &mut Counted<T, V>,
     lo: T,
