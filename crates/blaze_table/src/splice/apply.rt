@@ -1,4 +1,4 @@
-//! A planned paint made: what is to be put in first, then the edits that can't be refused.
+//! A planned paint made: what may be refused first, then the edits that can't be.
 ghost use Rattle.std.specs.Prelude.{◌≡◌, ◌≤ℤ◌, ◌<ℤ◌, OnOk, OnErr, IfSome, IsSome};
 ghost use Rattle.std.specs.Option.{option_map};
 ghost use Rattle.blaze_entries.specs.Found.{found_of, range_in, ranks_of};

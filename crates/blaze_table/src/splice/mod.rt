@@ -79,8 +79,8 @@ fn paint_planned<T: Integer, V: Eq + Clone>(
 }
 
 /// Puts a value on the keys from lo up to hi, and answers how many keys there are then: the entries that the range touches
-/// are found by single looks, what is to be put in is put in, and only then is anything else edited. Inside an entry with an
-/// equal value nothing changes. Refused memory leaves the entries as they are.
+/// are found by single looks, what is to be put in is put in, and only then is anything edited that can't be taken back.
+/// Inside an entry with an equal value nothing changes. Refused memory leaves the entries as they are.
 pub fn paint_by_splice<T: Integer, V: Eq + Clone>(
     entries: &mut Counted<T, V>,
     len: T::SafeLen,
@@ -107,8 +107,8 @@ pub fn paint_by_splice<T: Integer, V: Eq + Clone>(
 }
 
 /// Puts a value on the keys from lo up to hi, and answers how many keys there are then: the entries that the range touches
-/// are seen in one walk, what is to be put in is put in, and only then is anything else edited. Inside an entry with an equal
-/// value nothing changes. Refused memory leaves the entries as they are.
+/// are seen in one walk, what is to be put in is put in, and only then is anything edited that can't be taken back. Inside an
+/// entry with an equal value nothing changes. Refused memory leaves the entries as they are.
 pub fn paint<T: Integer, V: Eq + Clone>(
     entries: &mut Counted<T, V>,
     len: T::SafeLen,
