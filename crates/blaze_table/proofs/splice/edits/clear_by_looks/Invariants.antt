@@ -1,6 +1,6 @@
 use Rattle.std.proofs.Common.{◌≡◌, ◌≤◌, ◌+◌, pos, ◌+ℤ◌, length}
 use Rattle.blaze_entries.specs.Starts.{below, from}
-use Rattle.blaze_table.proofs.splice.edits.clear.Given as goal
+use Rattle.blaze_table.proofs.splice.edits.clear_by_looks.Given as goal
 
 abbrev pub invariant-loop-ends : goal.invariant-loop-ends
 invariant-loop-ends g l = record {
