@@ -2,8 +2,8 @@
 # Each request for memory of each call in tests/refusals.txt refused in turn, and at last none. A refused call must leave the
 # maps and sets as they were, but for what it was given by value, which is gone; a call that paints pairs may leave a first
 # part of them painted; an iterator by value must end. Without a refusal the call must succeed. One request of a call may be
-# such that the call does without it, with the answer and the state that it has without a refusal: std's sort asks for room
-# when it builds a tree in one go, and sorts in place where it gets none. A call that is to take memory must make a request
+# such that the call does without it, with the answer and the state that it has without a refusal: seen of
+# calls that build a tree in one go. Which request of the toolchain's that is was not traced, so any call may have one. A call that is to take memory must make a request
 # that it can't do without, one that is to take none must make none. The last line is 'N passed, M failed'.
 #
 # Calls without a line in a script are not swept by themselves. `symmetric_difference_of`, `intersect_with_ranges`,
