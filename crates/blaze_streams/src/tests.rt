@@ -5,9 +5,10 @@ ghost use Rattle.std.specs.Ordering.{on};
 
 use crate::{
     BothEnds, CanonMapIter, CheckSortedDisjoint, CheckSortedDisjointMap, IntoRangeValuesIter,
-    MapRangesIter, NotSorted, Owned, OwnedRangeValuesIter, RangeValuesIter, Segment,
-    SortedDisjointMap, ValueCarrier, complement, intersect_with_ranges, segments, subtract_ranges,
-    symmetric_difference_of, union_of,
+    JoinKind, MapRangesIter, NotSorted, Owned, OwnedRangeValuesIter, RangeValuesIter, Segment,
+    SortedDisjointMap, ValueCarrier, complement, fill, full_join_of, inner_join_of,
+    intersect_with_ranges, join_of, left_join_of, segments, subtract_ranges,
+    symmetric_difference_of, transform, union_of,
 };
 use blaze_table::RangeTable;
 use std::alloc::{AllocError, Global};
@@ -190,7 +191,7 @@ fn a_stream_from_both_ends(rt: HostRuntime) -> Result<(), Fail> {
 
 /// A number whose clone is refused.
 #[derive(Drop)]
-struct Uncloned(u32);
+pub(crate) struct Uncloned(pub(crate) u32);
 
 impl PartialEq for Uncloned {
     ghost eq = { on (λ a. a.0) nat_eq };
@@ -299,5 +300,122 @@ fn segments_of_lists(rt: HostRuntime) -> Result<(), Fail> {
     check_segment(&rt, &found[5], 10, 14, &[None, Some(0), None]);
     let none: Vec<Vec<(char, char)>> = Vec::new(alloc);
     assert_eq!(rt; segments(alloc, &none)?.len(), 0);
+    Ok(())
+}
+
+#[test]
+fn answers_of_a_closure(rt: HostRuntime) -> Result<(), Fail> {
+    let alloc = rt.alloc();
+    let map = map_of(alloc, &[(1, 3, 'a'), (4, 6, 'b'), (8, 9, 'z')])?;
+    let mut calls = 0_u32;
+    let mut found = transform(alloc, map, |value: Owned<char>| {
+        calls = calls.wrapping_add(1);
+        value.0 < 'c'
+    })?;
+    assert_eq!(rt; found.next(), Some((1..=6, Owned(true))));
+    assert_eq!(rt; found.next(), Some((8..=9, Owned(false))));
+    assert_eq!(rt; found.next(), None);
+    assert_eq!(rt; calls, 3);
+    Ok(())
+}
+
+#[test]
+fn every_key(rt: HostRuntime) -> Result<(), Fail> {
+    let alloc = rt.alloc();
+    let map = CheckSortedDisjointMap::new(vec![in alloc; (1..=3_u8, Owned('r'))]?)?;
+    let mut found = fill(alloc, map)?;
+    assert_eq!(rt; found.next(), Some((0..=0, None)));
+    assert_eq!(rt; found.next(), Some((1..=3, Some(Owned('r')))));
+    assert_eq!(rt; found.next(), Some((4..=255, None)));
+    assert_eq!(rt; found.next(), None);
+    let empty = CheckSortedDisjointMap::<u8, Owned<char>>::new(Vec::new(alloc))?;
+    let mut found = fill(alloc, empty)?;
+    assert_eq!(rt; found.next(), Some((0..=255, None)));
+    assert_eq!(rt; found.next(), None);
+    Ok(())
+}
+
+/// A list of ranges with references to values that keeps the law, as a stream.
+fn lent<'a>(
+    alloc: Global,
+    items: &'a [(i64, i64, char)],
+) -> Result<CheckSortedDisjointMap<i64, &'a char>, Fail> {
+    let mut list = Vec::new(alloc);
+    for (lo, hi, value) in items {
+        list.push((*lo..=*hi, value))?;
+    }
+    Ok(CheckSortedDisjointMap::new(list)?)
+}
+
+/// The pairs of a join of two lists, joined by a closure that counts its calls, and how many calls there were.
+fn numbered(
+    rt: &impl Abort,
+    alloc: Global,
+    left: &[(i64, i64, char)],
+    right: &[(i64, i64, char)],
+    kind: JoinKind,
+    expected: &[(i64, i64, u32)],
+) -> Result<(), Fail> {
+    let segments = join_of(alloc, lent(alloc, left)?, lent(alloc, right)?, kind)?;
+    let mut calls = 0_u32;
+    let mut found = transform(alloc, segments, |_pair: (Option<&char>, Option<&char>)| {
+        calls = calls.wrapping_add(1);
+        calls
+    })?;
+    for (lo, hi, number) in expected {
+        assert_eq!(rt; found.next(), Some((*lo..=*hi, Owned(*number))));
+    }
+    assert_eq!(rt; found.next(), None);
+    Ok(())
+}
+
+#[test]
+fn segments_of_two(rt: HostRuntime) -> Result<(), Fail> {
+    let alloc = rt.alloc();
+    let a = [(1, 5, 'a')];
+    let b = [(4, 8, 'b')];
+    let mut found = join_of(alloc, lent(alloc, &a)?, lent(alloc, &b)?, JoinKind::Full)?;
+    assert_eq!(rt; found.next(), Some((1..=3, (Some(&'a'), None))));
+    assert_eq!(rt; found.next(), Some((4..=5, (Some(&'a'), Some(&'b')))));
+    assert_eq!(rt; found.next(), Some((6..=8, (None, Some(&'b')))));
+    assert_eq!(rt; found.next(), None);
+    numbered(
+        &rt,
+        alloc,
+        &a,
+        &b,
+        JoinKind::Full,
+        &[(1, 3, 1), (4, 5, 2), (6, 8, 3)],
+    )?;
+    numbered(&rt, alloc, &a, &b, JoinKind::Left, &[(1, 3, 1), (4, 5, 2)])?;
+    numbered(&rt, alloc, &a, &b, JoinKind::Inner, &[(4, 5, 1)])?;
+    numbered(&rt, alloc, &[], &[], JoinKind::Full, &[])?;
+    Ok(())
+}
+
+#[test]
+fn answers_at_segments(rt: HostRuntime) -> Result<(), Fail> {
+    let alloc = rt.alloc();
+    let a = [(1, 5, 'a')];
+    let b = [(4, 8, 'b')];
+    let mut calls = 0_u32;
+    let full = |left: Option<&char>, _right: Option<&char>| {
+        calls = calls.wrapping_add(1);
+        left.is_some()
+    };
+    let mut found = full_join_of(alloc, lent(alloc, &a)?, lent(alloc, &b)?, full)?;
+    assert_eq!(rt; found.next(), Some((1..=5, Owned(true))));
+    assert_eq!(rt; found.next(), Some((6..=8, Owned(false))));
+    assert_eq!(rt; found.next(), None);
+    assert_eq!(rt; calls, 3);
+    let left = |_left: &char, right: Option<&char>| right.is_some();
+    let mut found = left_join_of(alloc, lent(alloc, &a)?, lent(alloc, &b)?, left)?;
+    assert_eq!(rt; found.next(), Some((1..=3, Owned(false))));
+    assert_eq!(rt; found.next(), Some((4..=5, Owned(true))));
+    assert_eq!(rt; found.next(), None);
+    let inner = |left: &char, right: &char| *left < *right;
+    let mut found = inner_join_of(alloc, lent(alloc, &a)?, lent(alloc, &b)?, inner)?;
+    assert_eq!(rt; found.next(), Some((4..=5, Owned(true))));
+    assert_eq!(rt; found.next(), None);
     Ok(())
 }

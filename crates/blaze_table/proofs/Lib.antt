@@ -10,6 +10,7 @@ pub mod Counted
 pub mod Inside
 pub mod Between
 pub mod Cutting
+pub mod PutInside
 pub mod Holders
 pub mod SeenInside
 pub mod CutEdits
@@ -30,6 +31,8 @@ pub mod Parts
 pub mod Splits
 pub mod EditLists
 pub mod Clearing
+pub mod StartsIn
+pub mod FirstOut
 pub mod Growing
 pub mod Placing
 pub mod LooksSay
@@ -39,6 +42,7 @@ pub mod Plans
 pub mod Walked
 pub mod WalkedPlans
 pub mod Outside
+pub mod Covering
 pub mod FewLooks
 pub mod Descents
 pub mod Glued

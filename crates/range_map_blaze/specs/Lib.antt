@@ -2,6 +2,7 @@ pub mod Pairs
 pub mod Printed
 pub mod OneRange
 pub mod Somewhere
+pub mod Within
 pub mod Extended
 pub mod Underway
 pub mod Union

@@ -2,7 +2,7 @@
 #![tactic(auto)]
 
 mod append;
-mod complement;
+mod complements;
 mod display;
 mod extend;
 mod fill;
@@ -10,6 +10,7 @@ mod insert;
 mod inside;
 mod iter;
 mod joining;
+mod joins;
 mod lent;
 mod lookup;
 mod map;
@@ -21,12 +22,15 @@ mod remove;
 mod retain;
 mod stream;
 mod union;
+mod within;
 
 pub use blaze_int::{Integer, SafeLength, UIntPlusOne, bounds_of, names_a_key};
 pub use blaze_iters::{IntoIterMap, IntoKeys, IntoValues, IterMap, Keys, Values};
 pub use blaze_streams::{
-    BothEnds, IntoRangeValuesIter, MapIntoRangesIter, MapRangesIter, RangeValuesIter,
-    SortedDisjoint, SortedDisjointMap, ValueCarrier,
+    BothEnds, CanonIter, CanonMapIter, CheckSortedDisjoint, CheckSortedDisjointMap,
+    IntoRangeValuesIter, MapIntoRangesIter, MapRangesIter, NotSorted, Owned, OwnedRangeValuesIter,
+    RangeValuesIter, Segment, SortedDisjoint, SortedDisjointMap, ValueCarrier, complement,
+    intersect_with_ranges, segments, subtract_ranges, symmetric_difference_of, union_of,
 };
 pub use blaze_table::{IntoRangesIter, RangeSetBlaze, RangesIter};
 pub use map::RangeMapBlaze;
