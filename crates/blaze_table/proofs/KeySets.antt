@@ -3,16 +3,14 @@ use Rattle.std.proofs.Common.{◌≡◌, ℤ, ◌<ℤ◌, int_le, Bool, true, fa
 use Rattle.std.proofs.lemmas.List.{map-append}
 use Rattle.std.proofs.lemmas.Int.{ints, by_lt_z}
 use Rattle.std.specs.Bool.{Decides}
-use Rattle.std.specs.Cmp.{signed_Decides, first_so, second_so}
-use Rattle.std.specs.Cmp.Lexicographic.{pointwise_decides}
-use Rattle.std.specs.Ordering.{int_eq}
 use Rattle.std.specs.Range.{range_inclusive_start, range_inclusive_end}
 use Rattle.std.specs.declared.ops.RangeInclusive.{RangeInclusive}
 use Rattle.blaze_table.specs.Entries.{Entry, entry, at, holds, SameOption, SameEntries}
 use Rattle.blaze_table.specs.Painted.{IsPainted}
-use Rattle.blaze_table.specs.RangeSets.{bare_range, bare_ranges, IsRangeSet, same_range, same_ranges, unit_eq}
-use Rattle.blaze_table.proofs.ListLaws.{canonical_is_unique}
+use Rattle.blaze_table.specs.RangeSets.{bare_range, bare_ranges, IsRangeSet, same_ranges, unit_eq}
 use Rattle.blaze_table.proofs.Lookup.{holds_under, holds_over}
+use Rattle.blaze_table.proofs.Painted.{entries_themselves}
+use Rattle.blaze_table.proofs.SameLists.{same_from_test, test_from_same, content_decides}
 use Rattle.blaze_table.proofs.UnitLaws.{unit_laws}
 
 unit_same : (a b : Option (Unit {0})) → SameOption unit_eq a b → a ≡ b
@@ -55,16 +53,6 @@ module _ {T : Type 0} (rank : T → ℤ) (ranges : List (RangeInclusive T)) (r :
 
 -- ---- the same ranges
 
-range_decides : (e f : Entry (Unit {0})) → Decides (same_range e f) (e ≡ f)
-range_decides e f = (
-  λ h. let p = (signed_Decides e.lo f.lo).0 (first_so (int_eq e.lo f.lo) (int_eq e.hi f.hi) h) in let q = (signed_Decides e.hi f.hi).0 (second_so (int_eq e.lo f.lo) (int_eq e.hi f.hi) h) in λ i. record { lo = p i; hi = q i; value = tt },
-  λ p. rw (ap (λ x. x.lo) p, ap (λ x. x.hi) p) (rw ((signed_Decides f.lo f.lo).1 refl, (signed_Decides f.hi f.hi).1 refl) refl),
-)
-
-module _ (L M : List (Entry (Unit {0}))) (r : Bool) (is : r ≡ same_ranges L M) where
-  pub ranges_decide : Decides r (L ≡ M)
-  ranges_decide = subst (λ b. Decides b (L ≡ M)) (sym is) (pointwise_decides range_decides L M)
-
 entries_same : (L M : List (Entry (Unit {0}))) → SameEntries unit_eq L M → L ≡ M
 entries_same [] [] s = refl
 entries_same [] (f ∷ fs) s = absurd s
@@ -77,9 +65,15 @@ same_of None (Some y) p = absurd cc
 same_of (Some x) None p = absurd cc
 same_of (Some x) (Some y) p = refl
 
--- sets with the same keys have the same ranges
-pub keys_decide : (low high : ℤ) (L M : List (Entry (Unit {0}))) (r : Bool) → r ≡ same_ranges L M → IsRangeSet low high L → IsRangeSet low high M → Decides r ((k : ℤ) → at L k ≡ at M k)
-keys_decide low high L M r is l m = (
-  λ h k. ap (λ es. at es k) ((ranges_decide L M r is).0 h),
-  λ s. (ranges_decide L M r is).1 (entries_same L M (canonical_is_unique unit_eq unit_laws L M l.runs m.runs (λ k. same_of (at L k) (at M k) (s k)))),
-)
+module _ (L M : List (Entry (Unit {0}))) (r : Bool) (is : r ≡ same_ranges L M) where
+  pub ranges_decide : Decides r (L ≡ M)
+  ranges_decide = (
+    λ h. entries_same L M (same_from_test unit_eq L M (sym is ∙ h)),
+    λ p. is ∙ test_from_same unit_eq L M (subst (SameEntries unit_eq L) p (entries_themselves unit_eq unit_laws L)),
+  )
+
+  -- sets with the same keys have the same ranges
+  pub keys_decide : (low high : ℤ) → IsRangeSet low high L → IsRangeSet low high M → Decides r ((k : ℤ) → at L k ≡ at M k)
+  keys_decide low high l m =
+      let content = content_decides unit_eq unit_laws low high L M r is l m in
+      (λ h k. unit_same (at L k) (at M k) (content.0 h k), λ s. content.1 (λ k. same_of (at L k) (at M k) (s k)))

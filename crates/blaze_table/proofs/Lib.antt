@@ -26,6 +26,7 @@ pub mod Keeping
 pub mod PairLaws
 pub mod UnitLaws
 pub mod Texts
+pub mod SameLists
 pub mod KeySets
 pub mod Parts
 pub mod Splits

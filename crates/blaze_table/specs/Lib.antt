@@ -6,6 +6,7 @@ pub mod Laws
 pub mod Painted
 pub mod Chosen
 pub mod Complement
+pub mod Equality
 pub mod Cut
 pub mod Gap
 pub mod Pairs

@@ -5,6 +5,7 @@ mod copy;
 mod count;
 mod cut;
 mod entry_keys;
+mod equality;
 mod gaps;
 mod into_ranges_iter;
 mod keep;
@@ -18,7 +19,7 @@ mod splice;
 mod split;
 mod table;
 
-pub use blaze_entries::{IntoIter, Iter};
+pub use blaze_entries::{Count, IntoIter, Iter};
 pub use entry_keys::keys_in_hand;
 pub use into_ranges_iter::IntoRangesIter;
 pub use range_set::RangeSetBlaze;

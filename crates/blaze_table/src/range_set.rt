@@ -18,7 +18,7 @@ use std::ops::RangeInclusive;
 /// A set of keys, kept as ranges: ascending, and as few as there can be, so that no two touch.
 #[derive(Drop)]
 pub struct RangeSetBlaze<T: Integer> {
-    table: RangeTable<T, ()>,
+    pub(crate) table: RangeTable<T, ()>,
 }
 
 impl<T: Integer> Model for RangeSetBlaze<T> {

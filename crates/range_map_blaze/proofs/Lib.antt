@@ -15,3 +15,6 @@ pub mod Fillings
 pub mod FilledUnder
 pub mod Unpainted
 pub mod Following
+pub mod PairOrder
+pub mod MapOrder
+pub mod Hashes

@@ -7,3 +7,6 @@ pub mod Extended
 pub mod Underway
 pub mod Union
 pub mod Filled
+pub mod Order
+pub mod Hashed
+pub mod OrderLaws

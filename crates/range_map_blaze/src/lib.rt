@@ -4,8 +4,11 @@
 mod append;
 mod complements;
 mod display;
+mod entries_left;
+mod equality;
 mod extend;
 mod fill;
+mod hash;
 mod insert;
 mod inside;
 mod iter;
@@ -15,12 +18,14 @@ mod lent;
 mod lookup;
 mod map;
 mod operators;
+mod order;
 mod pointwise;
 mod range;
 mod ranges;
 mod remove;
 mod retain;
 mod stream;
+mod turns;
 mod union;
 mod within;
 
@@ -35,3 +40,4 @@ pub use blaze_streams::{
 pub use blaze_table::{IntoRangesIter, RangeSetBlaze, RangesIter};
 pub use map::RangeMapBlaze;
 pub use stream::IntoRangeMapBlaze;
+pub use turns::Turns;

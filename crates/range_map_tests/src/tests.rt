@@ -62,7 +62,7 @@ fn deaf(number: u32) -> Labelled {
 }
 
 /// A map of words.
-fn words(
+pub(crate) fn words(
     alloc: Global,
     ranges: &[(i64, i64, &'static str)],
 ) -> Result<RangeMapBlaze<i64, &'static str>, AllocError> {
