@@ -3,4 +3,6 @@
 #![tactic(auto)]
 
 #[cfg(test)]
+mod constructors;
+#[cfg(test)]
 mod tests;
