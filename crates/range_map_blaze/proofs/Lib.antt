@@ -18,3 +18,4 @@ pub mod Following
 pub mod PairOrder
 pub mod MapOrder
 pub mod Hashes
+pub mod LentValues

@@ -4,6 +4,7 @@ pub mod OneRange
 pub mod Somewhere
 pub mod Within
 pub mod Extended
+pub mod Collected
 pub mod Underway
 pub mod Union
 pub mod Filled

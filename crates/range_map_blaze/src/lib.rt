@@ -3,6 +3,7 @@
 
 mod append;
 mod complements;
+mod constructors;
 mod display;
 mod entries_left;
 mod equality;
@@ -15,10 +16,12 @@ mod iter;
 mod joining;
 mod joins;
 mod lent;
+mod lent_pairs;
 mod lookup;
 mod map;
 mod operators;
 mod order;
+mod pair_maps;
 mod pointwise;
 mod range;
 mod ranges;
@@ -33,9 +36,10 @@ pub use blaze_int::{Integer, SafeLength, UIntPlusOne, bounds_of, names_a_key};
 pub use blaze_iters::{IntoIterMap, IntoKeys, IntoValues, IterMap, Keys, Values};
 pub use blaze_streams::{
     BothEnds, CanonIter, CanonMapIter, CheckSortedDisjoint, CheckSortedDisjointMap,
-    IntoRangeValuesIter, MapIntoRangesIter, MapRangesIter, NotSorted, Owned, OwnedRangeValuesIter,
-    RangeValuesIter, Segment, SortedDisjoint, SortedDisjointMap, ValueCarrier, complement,
-    intersect_with_ranges, segments, subtract_ranges, symmetric_difference_of, union_of,
+    IntoRangeValuesIter, JoinKind, MapIntoRangesIter, MapRangesIter, NotSorted, Owned,
+    OwnedRangeValuesIter, RangeValuesIter, Segment, SortedDisjoint, SortedDisjointMap,
+    ValueCarrier, canonical_of, complement, intersect_with_ranges, join_of, segments,
+    subtract_ranges, symmetric_difference_of, transform, union_of,
 };
 pub use blaze_table::{IntoRangesIter, RangeSetBlaze, RangesIter};
 pub use map::RangeMapBlaze;

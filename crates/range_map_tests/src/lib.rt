@@ -5,4 +5,6 @@
 #[cfg(test)]
 mod comparisons;
 #[cfg(test)]
+mod constructors;
+#[cfg(test)]
 mod tests;

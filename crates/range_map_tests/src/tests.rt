@@ -74,7 +74,7 @@ pub(crate) fn words(
 }
 
 /// Asserts what a map prints.
-fn check_text(
+pub fn check_text(
     rt: &impl Abort,
     alloc: Global,
     map: &RangeMapBlaze<i64, &str>,
