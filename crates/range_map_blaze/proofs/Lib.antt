@@ -15,3 +15,4 @@ pub mod Fillings
 pub mod FilledUnder
 pub mod Unpainted
 pub mod Following
+pub mod AllKeys

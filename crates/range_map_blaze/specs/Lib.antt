@@ -7,3 +7,4 @@ pub mod Extended
 pub mod Underway
 pub mod Union
 pub mod Filled
+pub mod GapsFilled

@@ -6,6 +6,7 @@ mod complements;
 mod display;
 mod extend;
 mod fill;
+mod gaps_filled;
 mod insert;
 mod inside;
 mod iter;
