@@ -16,3 +16,4 @@ pub mod FilledUnder
 pub mod Unpainted
 pub mod Following
 pub mod AllKeys
+pub mod JoinedKeys

@@ -8,3 +8,4 @@ pub mod Underway
 pub mod Union
 pub mod Filled
 pub mod GapsFilled
+pub mod MapLaws

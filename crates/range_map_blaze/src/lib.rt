@@ -12,6 +12,7 @@ mod inside;
 mod iter;
 mod joining;
 mod joins;
+pub mod laws;
 mod lent;
 mod lookup;
 mod map;
