@@ -19,3 +19,5 @@ pub mod PairOrder
 pub mod MapOrder
 pub mod Hashes
 pub mod LentValues
+pub mod AllKeys
+pub mod JoinedKeys

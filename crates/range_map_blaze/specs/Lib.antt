@@ -11,3 +11,5 @@ pub mod Filled
 pub mod Order
 pub mod Hashed
 pub mod OrderLaws
+pub mod GapsFilled
+pub mod MapLaws

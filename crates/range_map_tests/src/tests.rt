@@ -3,6 +3,8 @@ ghost use Rattle.std.proofs.Common.{rules};
 ghost use Rattle.std.specs.Cmp.Rules.{comparing};
 ghost use Rattle.std.specs.Ordering.{on};
 
+mod answers;
+
 use range_map_blaze::{Integer, IntoRangeMapBlaze, RangeMapBlaze};
 use std::alloc::{AllocError, Global};
 use std::process::Abort;

@@ -3,6 +3,7 @@ use crate::changes::Change;
 use crate::extends::Extend;
 use crate::fault::Fault;
 use crate::iterate::Iterate;
+use crate::joins::Join;
 use crate::keys::ScriptKey;
 use crate::look_ups::LookUp;
 use crate::makes::Make;
@@ -33,6 +34,7 @@ pub enum Call<T: ScriptKey> {
     Iterate(MapName, Iterate<T>),
     Make(MapName, Make<T>),
     Operate(MapName, Operation),
+    Join(MapName, Join),
     Complement(SetName, Complement),
     Set(SetName, Vec<RangeInclusive<T>>),
     SetLookUp(SetName, SetLookUp<T>),
@@ -77,6 +79,9 @@ impl<T: ScriptKey> Call<T> {
         if let Ok(operation) = Operation::read(words) {
             return Ok(Call::Operate(target, operation));
         }
+        if let Ok(join) = Join::read(words) {
+            return Ok(Call::Join(target, join));
+        }
         Ok(Call::Make(target, Make::read(alloc, target, words)?))
     }
 
@@ -106,6 +111,10 @@ impl<T: ScriptKey> Call<T> {
             }
             Call::Operate(target, operation) => {
                 let map = operation.make(state)?;
+                state.set_map(target, map);
+            }
+            Call::Join(target, join) => {
+                let map = join.make(state)?;
                 state.set_map(target, map);
             }
             Call::Complement(target, complement) => {

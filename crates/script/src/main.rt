@@ -6,6 +6,7 @@ mod changes;
 mod extends;
 mod fault;
 mod iterate;
+mod joins;
 mod keys;
 mod lines;
 mod look_ups;
