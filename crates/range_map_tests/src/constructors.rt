@@ -1,9 +1,27 @@
 //! Maps made by each constructor, and over other key types.
 use crate::tests::check_text;
 use range_map_blaze::{Integer, RangeMapBlaze, UIntPlusOne};
+use std::alloc::{AllocError, Global};
 use std::fmt::Debug;
+use std::ops::RangeInclusive;
 use std::process::Abort;
 use std::test::Fail;
+
+/// The map of lent points with lent values.
+fn of_ref_points<'a>(
+    alloc: Global,
+    pairs: &'a [(i64, &'a &'static str)],
+) -> Result<RangeMapBlaze<i64, &'static str>, AllocError> {
+    RangeMapBlaze::from_ref_points_ref_value(alloc, pairs)
+}
+
+/// The map of lent ranges with lent values.
+fn of_ref_ranges<'a>(
+    alloc: Global,
+    pairs: &'a [(RangeInclusive<i64>, &'a &'static str)],
+) -> Result<RangeMapBlaze<i64, &'static str>, AllocError> {
+    RangeMapBlaze::from_ref_ranges_ref_value(alloc, pairs)
+}
 
 /// Asserts what the entries of a map are.
 fn check_entries<T: Integer, V: Eq + Clone + Debug>(
@@ -42,12 +60,7 @@ fn constructors_paint_in_order(rt: HostRuntime) -> Result<(), Fail> {
         &RangeMapBlaze::from_points_ref_value(alloc, lent)?,
         text,
     )?;
-    check_text(
-        &rt,
-        alloc,
-        &RangeMapBlaze::from_ref_points_ref_value(alloc, &lent)?,
-        text,
-    )?;
+    check_text(&rt, alloc, &of_ref_points(alloc, &lent)?, text)?;
     let text = r#"(-10..=-5, "c"), (1..=2, "a")"#;
     let ranges = vec![in alloc; (2..=2, "b"), (1..=2, "a"), (-10..=-5, "c"), (1..=0, "d")]?;
     let lent = vec![in alloc;
@@ -62,12 +75,7 @@ fn constructors_paint_in_order(rt: HostRuntime) -> Result<(), Fail> {
         &RangeMapBlaze::from_ref_ranges(alloc, &ranges)?,
         text,
     )?;
-    check_text(
-        &rt,
-        alloc,
-        &RangeMapBlaze::from_ref_ranges_ref_value(alloc, &lent)?,
-        text,
-    )?;
+    check_text(&rt, alloc, &of_ref_ranges(alloc, lent.as_slice())?, text)?;
     check_text(
         &rt,
         alloc,
