@@ -15,3 +15,7 @@ pub mod Counting
 pub mod EntryAt
 pub mod Listing
 pub mod Pieces
+pub mod EndKeys
+pub mod Stepped
+pub mod Alike
+pub mod Running

@@ -5,3 +5,4 @@ pub mod Replies
 pub mod Output
 pub mod States
 pub mod Sessions
+pub mod Steps

@@ -8,8 +8,12 @@ mod request;
 mod server;
 mod session;
 mod split;
+mod step;
+mod steps;
 
 pub use server::serve;
+pub use step::{Answer, Refused, Step};
+pub use steps::run;
 
 #[cfg(test)]
 mod tests;
