@@ -1,7 +1,7 @@
 //! Where a list breaks the law of a stream.
 ghost use Rattle.std.specs.Prelude.{◌≡◌, map, option_map, IfSome, IfNone};
 ghost use Rattle.std.specs.Option.{option_copied};
-ghost use Rattle.blaze_table.specs.Entries.{Entry, shown_entry};
+ghost use Rattle.blaze_table.specs.Entries.{Entry};
 ghost use Rattle.blaze_table.specs.Canonical.{IsRangeMap};
 ghost use Rattle.blaze_streams.specs.Breaks.{breaks, IsFirstBreak};
 ghost use Rattle.blaze_table.specs.RangeSets.{bare_range};
@@ -49,24 +49,6 @@ impl<T: Integer, VC: ValueCarrier> Ranged<T> for (RangeInclusive<T>, VC) {
 
     fn same_value(&self, other: &Self) -> bool {
         self.1.value_eq(&other.1)
-    }
-}
-
-impl<T: Integer, V: Eq> Ranged<T> for (T, T, V) {
-    type Value = V;
-
-    ghost entry = { shown_entry T.rank (λ v. v) };
-
-    fn start(&self) -> T {
-        self.0
-    }
-
-    fn end(&self) -> T {
-        self.1
-    }
-
-    fn same_value(&self, other: &Self) -> bool {
-        self.2 == other.2
     }
 }
 

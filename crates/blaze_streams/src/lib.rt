@@ -29,7 +29,6 @@ mod range_values;
 mod ranges_stream;
 mod set_ranges;
 mod stream;
-mod sweep;
 mod transforms;
 mod union;
 mod with_ranges;
@@ -37,6 +36,7 @@ mod with_true;
 
 pub use canon::CanonIter;
 pub use canon_map::CanonMapIter;
+pub use blaze_table::canonical_of;
 pub use carrier::ValueCarrier;
 pub use check::CheckSortedDisjoint;
 pub use check_map::CheckSortedDisjointMap;
@@ -56,10 +56,11 @@ pub use owned_range_values::OwnedRangeValuesIter;
 pub use range_values::RangeValuesIter;
 pub use ranges_stream::SortedDisjoint;
 pub use stream::{BothEnds, SortedDisjointMap};
-pub use sweep::canonical_of;
 pub use transforms::transform;
 pub use union::{symmetric_difference_of, union_of};
 pub use with_ranges::{intersect_with_ranges, subtract_ranges};
 
+#[cfg(test)]
+mod canonical_of_tests;
 #[cfg(test)]
 mod tests;

@@ -47,3 +47,15 @@ pub mod Covering
 pub mod FewLooks
 pub mod Descents
 pub mod Glued
+pub mod Lasts
+pub mod Sweeps
+pub mod Canonicals
+pub mod Held
+pub mod Pieces
+pub mod Pushed
+pub mod Starts
+pub mod Underway
+pub mod Waitings
+pub mod Filling
+pub mod JoinedPieces
+pub mod Orders

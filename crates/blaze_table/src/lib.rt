@@ -17,6 +17,7 @@ mod set_compare;
 mod set_display;
 mod splice;
 mod split;
+mod sweep;
 mod table;
 
 pub use blaze_entries::{Count, IntoIter, Iter};
@@ -24,6 +25,7 @@ pub use entry_keys::keys_in_hand;
 pub use into_ranges_iter::IntoRangesIter;
 pub use range_set::RangeSetBlaze;
 pub use ranges_iter::RangesIter;
+pub use sweep::canonical_of;
 pub use table::RangeTable;
 
 #[cfg(test)]

@@ -11,7 +11,7 @@ use Rattle.blaze_table.specs.Painted.{or_else, last_at, painted_in_order}
 use Rattle.blaze_table.proofs.Painted.{content_as, length_as}
 use Rattle.blaze_table.proofs.Runs.{canonical, one_per_run}
 use Rattle.blaze_table.proofs.Unique.{same_along, same_trans, back}
-use Rattle.blaze_streams.specs.CanonicalOf.{keyed, IsCanonicalOf}
+use Rattle.blaze_table.specs.CanonicalOf.{keyed, IsCanonicalOf}
 use Rattle.range_map_blaze.proofs.Streams.{range_map_as, same-push}
 
 -- the entry with the value itself

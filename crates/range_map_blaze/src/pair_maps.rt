@@ -3,7 +3,7 @@ ghost use Rattle.std.specs.Prelude.{◌≡◌, map, IfOk};
 ghost use Rattle.blaze_table.specs.Entries.{SameEntries, shown_entry};
 ghost use Rattle.blaze_table.specs.Listed.{listed};
 ghost use Rattle.blaze_table.specs.Painted.{ClonesAreAlike};
-ghost use Rattle.blaze_streams.specs.CanonicalOf.{IsCanonicalOf};
+ghost use Rattle.blaze_table.specs.CanonicalOf.{IsCanonicalOf};
 ghost use Rattle.range_map_blaze.specs.Extended.{shown_point};
 
 use crate::map::RangeMapBlaze;

@@ -1,5 +1,5 @@
 use Rattle.std.proofs.Common.{◌∙◌, ap, map, subst}
-use Rattle.blaze_streams.specs.CanonicalOf.{IsCanonicalOf}
+use Rattle.blaze_table.specs.CanonicalOf.{IsCanonicalOf}
 use Rattle.range_map_blaze.specs.Extended.{shown_point}
 use Rattle.range_map_blaze.proofs.map.RangeMapBlaze.from_array.Goals as goal
 
