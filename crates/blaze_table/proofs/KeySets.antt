@@ -7,8 +7,8 @@ use Rattle.std.specs.Range.{range_inclusive_start, range_inclusive_end}
 use Rattle.std.specs.declared.ops.RangeInclusive.{RangeInclusive}
 use Rattle.blaze_table.specs.Entries.{Entry, entry, at, holds, SameOption, SameEntries}
 use Rattle.blaze_table.specs.CanonicalOf.{IsCanonicalOf}
-use Rattle.blaze_table.specs.Painted.{IsPainted, or_else, last_at, painted_in_order}
-use Rattle.blaze_table.specs.RangeSets.{bare_range, bare_ranges, IsRangeSet, IsSetOf, same_range, same_ranges, unit_eq}
+use Rattle.blaze_table.specs.Painted.{or_else, last_at, painted_in_order}
+use Rattle.blaze_table.specs.RangeSets.{IsRangeSet, IsSetOf, same_ranges, unit_eq}
 use Rattle.blaze_table.proofs.ListLaws.{canonical_is_unique}
 use Rattle.blaze_table.proofs.Lookup.{holds_under, holds_over}
 use Rattle.blaze_table.proofs.Painted.{entries_themselves}
