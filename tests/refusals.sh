@@ -173,6 +173,7 @@ sweep_group() {
         for call in "${calls[@]}"; do
             if [[ "$call" != *"$only"* ]]; then continue; fi
             call="${call//' {ranges}'/"$entry_ranges"}"
+            call="${call//' {entries}'/"$entries"}"
             sweep
         done
     done
