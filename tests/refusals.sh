@@ -178,6 +178,7 @@ sweep_group() {
             if [[ "$call" = '? '* ]]; then collects=1; fi
             call="${call:2}"
             call="${call//' {ranges}'/"$entry_ranges"}"
+            call="${call//' {entries}'/"$entries"}"
             sweep
         done
     done

@@ -1,7 +1,9 @@
 //! The call of a line.
 use crate::changes::Change;
+use crate::comparisons::Comparison;
 use crate::extends::Extend;
 use crate::fault::Fault;
+use crate::from_pairs::FromPairs;
 use crate::iterate::Iterate;
 use crate::joins::Join;
 use crate::keys::ScriptKey;
@@ -31,10 +33,12 @@ pub enum Call<T: ScriptKey> {
     Change(MapName, Change<T>),
     Extend(MapName, Extend<T>),
     OtherMap(OtherMap),
+    Compare(Comparison),
     Iterate(MapName, Iterate<T>),
     Make(MapName, Make<T>),
     Operate(MapName, Operation),
     Join(MapName, Join),
+    FromPairs(MapName, FromPairs<T>),
     Complement(SetName, Complement),
     Set(SetName, Vec<RangeInclusive<T>>),
     SetLookUp(SetName, SetLookUp<T>),
@@ -65,6 +69,9 @@ impl<T: ScriptKey> Call<T> {
         if let Ok(other) = OtherMap::read(map, words) {
             return Ok(Call::OtherMap(other));
         }
+        if let Ok(comparison) = Comparison::read(map, words) {
+            return Ok(Call::Compare(comparison));
+        }
         if let Some(change) = unless_bad(Change::read(alloc, words))? {
             return Ok(Call::Change(map, change));
         }
@@ -81,6 +88,9 @@ impl<T: ScriptKey> Call<T> {
         }
         if let Ok(join) = Join::read(words) {
             return Ok(Call::Join(target, join));
+        }
+        if let Some(pairs) = unless_bad(FromPairs::read(alloc, words))? {
+            return Ok(Call::FromPairs(target, pairs));
         }
         Ok(Call::Make(target, Make::read(alloc, target, words)?))
     }
@@ -103,6 +113,7 @@ impl<T: ScriptKey> Call<T> {
             Call::Change(map, change) => return change.make(state.map_mut(map), reply),
             Call::Extend(map, extend) => return extend.make(state.map_mut(map), reply),
             Call::OtherMap(other) => return other.make(state, reply),
+            Call::Compare(comparison) => return comparison.make(state, reply),
             Call::Iterate(map, iterate) => return iterate.make(map, state, reply),
             Call::SetLookUp(set, look_up) => return look_up.make(set, state, reply),
             Call::Make(target, make) => {
@@ -111,6 +122,10 @@ impl<T: ScriptKey> Call<T> {
             }
             Call::Operate(target, operation) => {
                 let map = operation.make(state)?;
+                state.set_map(target, map);
+            }
+            Call::FromPairs(target, pairs) => {
+                let map = pairs.make(state.alloc)?;
                 state.set_map(target, map);
             }
             Call::Join(target, join) => {

@@ -22,6 +22,7 @@ pub enum LookUp<T: ScriptKey> {
     RangesLen,
     List,
     FillGaps,
+    Debug,
 }
 
 impl<T: ScriptKey> LookUp<T> {
@@ -42,6 +43,7 @@ impl<T: ScriptKey> LookUp<T> {
             ["ranges_len"] => Ok(LookUp::RangesLen),
             ["list"] => Ok(LookUp::List),
             ["fill_gaps"] => Ok(LookUp::FillGaps),
+            ["debug"] => Ok(LookUp::Debug),
             _ => Err(Fault::Bad),
         }
     }
@@ -68,6 +70,7 @@ impl<T: ScriptKey> LookUp<T> {
             LookUp::RangesLen => write!(reply, "{}", map.ranges_len())?,
             LookUp::List => write!(reply, "{map}")?,
             LookUp::FillGaps => write!(reply, "{}", map.fill_gaps()?)?,
+            LookUp::Debug => write!(reply, "{map:?}")?,
         }
         Ok(())
     }

@@ -3,8 +3,10 @@
 
 mod calls;
 mod changes;
+mod comparisons;
 mod extends;
 mod fault;
+mod from_pairs;
 mod iterate;
 mod joins;
 mod keys;
