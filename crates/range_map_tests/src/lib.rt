@@ -5,6 +5,4 @@
 #[cfg(test)]
 mod comparisons;
 #[cfg(test)]
-mod constructors;
-#[cfg(test)]
 mod tests;
