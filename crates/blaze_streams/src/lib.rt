@@ -34,9 +34,9 @@ mod union;
 mod with_ranges;
 mod with_true;
 
+pub use blaze_table::canonical_of;
 pub use canon::CanonIter;
 pub use canon_map::CanonMapIter;
-pub use blaze_table::canonical_of;
 pub use carrier::ValueCarrier;
 pub use check::CheckSortedDisjoint;
 pub use check_map::CheckSortedDisjointMap;

@@ -45,9 +45,9 @@ module _ {T V L : Type 0} where
 module _ {T V L : Type 0} (eq : V → V → Bool) (laws : IsEquivalence eq) (rank : T → ℤ) (low high : ℤ) where
   pub running_none : (old : CountedEntries V) → IsRangeMap eq low high old.entries → IsRunning {L = L} eq rank low high [] old old []
   running_none old map = record {
-    stepped = record { range_map = map; content = λ k. same_itself eq laws (at old.entries k); };
+    stepped = record { range_map = map; content = λ k. same_itself eq laws (at old.entries k) };
     answered = tt;
-    counted = λ a. record { puts = omega arith; balance = omega arith; taken = omega arith; looks = omega arith; };
+    counted = λ a. record { puts = omega arith; balance = omega arith; taken = omega arith; looks = omega arith };
     few = λ a e. omega (arith, ap length e);
   }
 

@@ -25,7 +25,7 @@ fn paint<T: Integer, V: Eq + Clone>(
         map.old.entries map.new.entries) }
     ensures changed { IfOk result (λ changed. changed
         ≡ not (mapped_keys T.low T.high (painted (T.rank start) (T.rank end) value (at map.old.entries))
-            == mapped_keys T.low T.high (at map.old.entries))) }
+        == mapped_keys T.low T.high (at map.old.entries))) }
     ensures counted { OnOk result (IsCountedPaint map.old map.new) }
     ensures err { OnErr result (map.new.entries ≡ map.old.entries) }
 {

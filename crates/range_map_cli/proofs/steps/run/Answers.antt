@@ -39,8 +39,8 @@ loop-step-preserved g c =
       i.0 ++ c.in-Some.step ∷ [],
       i.1 ∙ ap (λ ss. i.0 ++ ss) split ∙ sym (append_assoc i.0 (c.in-Some.step ∷ []) _),
       subst (λ given. IsRunning g.V.PartialEq.eq g.T.Integer.rank g.T.Integer.low g.T.Integer.high (i.0 ++ c.in-Some.step ∷ []) c.args.map.now c.take_step.new.map given) (sym c.push_reserved.ensures.items)
-      (running_more g.V.PartialEq.eq g.met.V.Eq.laws g.T.Integer.rank _ _ i.0 c.in-Some.step _ c.loop-step.map c.take_step.new.map _ c.in-Ok-take_step.answer i.2
-      c.in-Ok-take_step.ensures.stepped c.in-Ok-take_step.ensures.answer c.in-Ok-take_step.ensures.counted c.in-Ok-take_step.ensures.alone),
+          (running_more g.V.PartialEq.eq g.met.V.Eq.laws g.T.Integer.rank _ _ i.0 c.in-Some.step _ c.loop-step.map c.take_step.new.map _ c.in-Ok-take_step.answer i.2
+          c.in-Ok-take_step.ensures.stepped c.in-Ok-take_step.ensures.answer c.in-Ok-take_step.ensures.counted c.in-Ok-take_step.ensures.alone),
       omega (arith, c.push_reserved.ensures.len, i.3, length-append i.0 (c.in-Some.step ∷ [])),
       omega (arith, c.push_reserved.ensures.capacity, i.4),
     )
