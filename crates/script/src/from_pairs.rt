@@ -21,7 +21,7 @@ pub enum Form {
 pub enum FromPairs<T: ScriptKey> {
     Points(Form, Vec<(T, String)>),
     Ranges(Form, Vec<(RangeInclusive<T>, String)>),
-    Array([(T, String); 3]),
+    Array(Vec<(T, String)>),
 }
 
 impl<T: ScriptKey> FromPairs<T> {
@@ -35,7 +35,7 @@ impl<T: ScriptKey> FromPairs<T> {
             "from_points_ref_value" | "from_ranges_ref_value" => Form::RefValue,
             "from_ref_points" | "from_ref_ranges" => Form::Ref,
             "from_ref_points_ref_value" | "from_ref_ranges_ref_value" => Form::RefRefValue,
-            "from_array" => return array(alloc, pairs),
+            "from_array" => return Ok(FromPairs::Array(points(alloc, pairs)?)),
             _ => return Err(Fault::Bad),
         };
         match *call {
@@ -54,21 +54,44 @@ impl<T: ScriptKey> FromPairs<T> {
             FromPairs::Ranges(Form::Owned, pairs) => Ok(Map::from_ranges(alloc, pairs)?),
             FromPairs::Points(form, pairs) => Ok(of_lent_points(alloc, form, &pairs)?),
             FromPairs::Ranges(form, pairs) => Ok(of_lent_ranges(alloc, form, &pairs)?),
-            FromPairs::Array(pairs) => Ok(Map::from_array(alloc, pairs)?),
+            FromPairs::Array(pairs) => of_three(alloc, pairs),
         }
     }
 }
 
-/// The three pairs of `from_array`.
-fn array<T: ScriptKey>(alloc: Global, words: &[&str]) -> Result<FromPairs<T>, Fault> {
-    match words {
-        [first, x, second, y, third, z] => Ok(FromPairs::Array([
-            (key(first)?, value(alloc, x)?),
-            (key(second)?, value(alloc, y)?),
-            (key(third)?, value(alloc, z)?),
-        ])),
-        _ => Err(Fault::Bad),
-    }
+/// The map of an array.
+fn of_array<T: ScriptKey>(alloc: Global, pairs: [(T, String); 3]) -> Result<Map<T>, AllocError> {
+    Map::from_array(alloc, pairs)
+}
+
+/// The map of an array of three pairs; other numbers of pairs are bad.
+fn of_three<T: ScriptKey>(alloc: Global, pairs: Vec<(T, String)>) -> Result<Map<T>, Fault> {
+    let mut pairs = pairs.into_iter();
+    let (Some(first), Some(second), Some(third), None) = (
+        pairs.next(),
+        pairs.next(),
+        pairs.next(),
+        pairs.next(),
+    ) else {
+        return Err(Fault::Bad);
+    };
+    Ok(of_array(alloc, [first, second, third])?)
+}
+
+/// The map of lent keys with lent values.
+fn of_ref_points<'a, T: ScriptKey>(
+    alloc: Global,
+    pairs: &'a [(T, &'a String)],
+) -> Result<Map<T>, AllocError> {
+    Map::from_ref_points_ref_value(alloc, pairs)
+}
+
+/// The map of lent ranges with lent values.
+fn of_ref_ranges<'a, T: ScriptKey>(
+    alloc: Global,
+    pairs: &'a [(RangeInclusive<T>, &'a String)],
+) -> Result<Map<T>, AllocError> {
+    Map::from_ref_ranges_ref_value(alloc, pairs)
 }
 
 /// The map of keys with values, of which at least the values are lent.
@@ -85,7 +108,7 @@ fn of_lent_points<T: ScriptKey>(
         lent.push((*key, value))?;
     }
     match form {
-        Form::RefRefValue => Map::from_ref_points_ref_value(alloc, &lent),
+        Form::RefRefValue => of_ref_points(alloc, lent.as_slice()),
         _ => Map::from_points_ref_value(alloc, lent),
     }
 }
@@ -104,7 +127,7 @@ fn of_lent_ranges<T: ScriptKey>(
         lent.push((*range.start()..=*range.end(), value))?;
     }
     match form {
-        Form::RefRefValue => Map::from_ref_ranges_ref_value(alloc, &lent),
+        Form::RefRefValue => of_ref_ranges(alloc, lent.as_slice()),
         _ => Map::from_ranges_ref_value(alloc, lent),
     }
 }
