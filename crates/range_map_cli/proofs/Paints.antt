@@ -127,8 +127,8 @@ module _ {V : Type 0} (eq : V → V → Bool) (laws : IsEquivalence eq) (low hig
   pub append_undoes_split : AppendUndoesSplit eq low high
   append_undoes_split k old below from new r s e =
       canonical_is_unique eq laws new old e.range_map.runs r.runs (λ j.
-          same_trans eq laws (at new j) (or_else (at from j) (at below j)) (at old j)
-          (same_along eq refl (ap (λ o. or_else o (at below j)) (last_is_first eq from j (canonical eq laws from s.from_range_map.runs))) (e.content j))
-          (by_lt_z j k
-          (λ l. below_only (at from j) (at below j) (at old j) (same_along eq refl (from_off k j (at old) l) (s.from_content j)) (same_along eq refl (below_on k j (at old) l) (s.below_content j)))
-          (λ l. above_only (at from j) (at below j) (at old j) (same_along eq refl (from_on k j (at old) l) (s.from_content j)) (same_along eq refl (below_off k j (at old) l) (s.below_content j)))))
+      same_trans eq laws (at new j) (or_else (at from j) (at below j)) (at old j)
+      (same_along eq refl (ap (λ o. or_else o (at below j)) (last_is_first eq from j (canonical eq laws from s.from_range_map.runs))) (e.content j))
+      (by_lt_z j k
+      (λ l. below_only (at from j) (at below j) (at old j) (same_along eq refl (from_off k j (at old) l) (s.from_content j)) (same_along eq refl (below_on k j (at old) l) (s.below_content j)))
+      (λ l. above_only (at from j) (at below j) (at old j) (same_along eq refl (from_on k j (at old) l) (s.from_content j)) (same_along eq refl (below_off k j (at old) l) (s.below_content j)))))

@@ -24,7 +24,7 @@ abbrev pub EqualWhereGetsAre : {T V : Type 0} → (T → ℤ) → (V → V → B
 EqualWhereGetsAre {T} {V} rank eq low high = (L M : List (Entry V))
     → IsRangeMap eq low high L → IsRangeMap eq low high M
     → IsTrue (same_entries eq L M)
-      ↔ ((key : T) → IsKey rank low high key → SameOption eq (at L (rank key)) (at M (rank key)))
+    ↔ ((key : T) → IsKey rank low high key → SameOption eq (at L (rank key)) (at M (rank key)))
 
 -- the order of maps is total, and ties exactly where range maps have the same content
 pub record IsOrderOfMaps {V : Type 0} (eq : V → V → Bool) (value : V → V → Ordering) (low high : ℤ)
@@ -40,7 +40,7 @@ abbrev pub CountsAddUp : {V : Type 0} → (V → V → Bool) → ℤ → ℤ →
 CountsAddUp {V} eq low high = (a b either both : List (Entry V))
     → IsChosen eq low high right_first a b either → IsChosen eq low high left_with_right b a both
     → mapped_keys low high (at either) + mapped_keys low high (at both)
-      ≡ mapped_keys low high (at a) + mapped_keys low high (at b)
+    ≡ mapped_keys low high (at a) + mapped_keys low high (at b)
 
 -- ---- splitting and appending
 
@@ -186,14 +186,14 @@ DisjointUnionCommutes V = (x y : ℤ → Option V) → AreApart x y
 abbrev pub UniversalKeeps : Type 0 → Type 0
 UniversalKeeps V = (u x : ℤ → Option V) (k : ℤ) → IsSome (u k)
     → (left_with_right (x k) (u k) ≡ x k)
-      × (IsSome (x k) → left_with_right (u k) (x k) ≡ u k)
-      × (x k ≡ None → left_with_right (u k) (x k) ≡ None)
+    × (IsSome (x k) → left_with_right (u k) (x k) ≡ u k)
+    × (x k ≡ None → left_with_right (u k) (x k) ≡ None)
 
 -- `a & s` is `a` on the keys of the set, and nothing elsewhere
 abbrev pub SetKeeps : Type 0 → Type 0
 SetKeeps V = (x : ℤ → Option V) (s : ℤ → Option (Unit {0})) (k : ℤ)
     → (IsSome (s k) → left_with_right (x k) (s k) ≡ x k)
-      × (s k ≡ None → left_with_right (x k) (s k) ≡ None)
+    × (s k ≡ None → left_with_right (x k) (s k) ≡ None)
 
 -- `a ^ a` is empty
 abbrev pub XorWithItselfIsEmpty : Type 0 → Type 0
