@@ -1,16 +1,10 @@
 -- The set of ranges swept, and when two lists of ranges have the same keys.
-use Rattle.std.proofs.Common.{◌≡◌, ℤ, ◌<ℤ◌, int_le, Bool, true, false, cond, ◌&&◌, List, [], ◌∷◌, ◌++◌, Option, Some, None, refl, ◌∙◌, sym, ap, subst, arith}
-use Rattle.std.proofs.lemmas.List.{map-append}
-use Rattle.std.proofs.lemmas.Int.{ints, by_lt_z}
+use Rattle.std.proofs.Common.{◌≡◌, ℤ, Bool, true, false, cond, List, [], ◌∷◌, Option, Some, None, refl, ◌∙◌, sym, ap, subst}
 use Rattle.std.specs.Bool.{Decides}
-use Rattle.std.specs.Range.{range_inclusive_start, range_inclusive_end}
-use Rattle.std.specs.declared.ops.RangeInclusive.{RangeInclusive}
-use Rattle.blaze_table.specs.Entries.{Entry, entry, at, holds, SameOption, SameEntries}
+use Rattle.blaze_table.specs.Entries.{Entry, at, holds, SameOption, SameEntries}
 use Rattle.blaze_table.specs.CanonicalOf.{IsCanonicalOf}
 use Rattle.blaze_table.specs.Painted.{or_else, last_at, painted_in_order}
 use Rattle.blaze_table.specs.RangeSets.{IsRangeSet, IsSetOf, same_ranges, unit_eq}
-use Rattle.blaze_table.proofs.ListLaws.{canonical_is_unique}
-use Rattle.blaze_table.proofs.Lookup.{holds_under, holds_over}
 use Rattle.blaze_table.proofs.Painted.{entries_themselves}
 use Rattle.blaze_table.proofs.SameLists.{same_from_test, test_from_same, content_decides}
 use Rattle.blaze_table.proofs.UnitLaws.{unit_laws}

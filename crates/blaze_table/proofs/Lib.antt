@@ -5,6 +5,7 @@ pub mod Fewest
 pub mod Splices
 pub mod Painted
 pub mod ListLaws
+pub mod Shortest
 pub mod Mapped
 pub mod Counted
 pub mod Inside

@@ -1,5 +1,5 @@
 -- When two lists of entries are equal.
-use Rattle.std.proofs.Common.{◌≡◌, ℤ, Bool, true, false, ◌&&◌, List, [], ◌∷◌, refl, ◌∙◌, sym, subst}
+use Rattle.std.proofs.Common.{◌≡◌, ℤ, Bool, true, ◌&&◌, List, [], ◌∷◌, refl, ◌∙◌, sym}
 use Rattle.std.specs.Bool.{Decides}
 use Rattle.std.specs.Cmp.{IsEquivalence, signed_Decides, first_so, second_so}
 use Rattle.std.specs.Ordering.{int_eq}

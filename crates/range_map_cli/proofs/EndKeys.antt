@@ -1,9 +1,9 @@
 -- The least and the greatest key that has a value, and how many have one.
-use Rattle.std.proofs.Common.{◌≡◌, ℕ, zero, suc, ◌+◌, ℤ, pos, ◌+ℤ◌, ◌-ℤ◌, ◌≤ℤ◌, ◌<ℤ◌, Bool, true, cond, List, [], ◌∷◌, Option, Some, None, is_some, refl, ◌∙◌, sym, ap, subst, arith}
+use Rattle.std.proofs.Common.{◌≡◌, ℕ, zero, suc, ◌+◌, ℤ, pos, ◌+ℤ◌, ◌-ℤ◌, ◌≤ℤ◌, ◌<ℤ◌, Bool, cond, List, [], ◌∷◌, Option, Some, None, is_some, refl, ◌∙◌, sym, ap, subst, arith}
 use Rattle.std.proofs.lemmas.Int.{ints, by_lt_z}
-use Rattle.blaze_table.specs.Entries.{Entry, at, holds, SameOption}
+use Rattle.blaze_table.specs.Entries.{Entry, at, SameOption}
 use Rattle.blaze_table.specs.Canonical.{AreKeys}
-use Rattle.blaze_table.specs.Count.{mapped, mapped_keys, nat_of}
+use Rattle.blaze_table.specs.Count.{mapped}
 use Rattle.blaze_table.proofs.Lookup.{at_over, at_under, by_place}
 use Rattle.blaze_table.proofs.PairLists.{nat_of-pos}
 use Rattle.range_map_cli.specs.Steps.{first_of, last_of, first_key, last_key}

@@ -19,3 +19,8 @@ pub mod EndKeys
 pub mod Stepped
 pub mod Alike
 pub mod Running
+pub mod Operators
+pub mod Equals
+pub mod Paints
+pub mod LookUps
+pub mod Calls

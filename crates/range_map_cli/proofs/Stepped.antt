@@ -1,17 +1,17 @@
 -- What a step does, from what the call that takes it does.
-use Rattle.std.proofs.Common.{◌≡◌, ◌↔◌, ℕ, ℤ, pos, ◌≤ℤ◌, ◌<ℤ◌, Bool, true, false, not, eqb, cond, IsTrue, List, [], Option, Some, None, MatchOption, refl, ◌∙◌, sym, ap, subst, arith, ⊎_elim}
+use Rattle.std.proofs.Common.{◌≡◌, ◌↔◌, ℕ, ℤ, pos, ◌≤ℤ◌, Bool, true, false, not, eqb, cond, IsTrue, List, [], Option, Some, None, MatchOption, refl, ◌∙◌, sym, ap, subst, arith, ⊎_elim}
 use Rattle.std.specs.Prelude.{int_le, ◌&&◌}
 use Rattle.std.specs.Cmp.{IsEquivalence}
 use Rattle.std.proofs.lemmas.Bool.{eq-eqb, ne_eqb, cases_eq}
-use Rattle.std.proofs.lemmas.Int.{ints, by_lt_z}
+use Rattle.std.proofs.lemmas.Int.{ints}
 use Rattle.blaze_table.specs.Entries.{Entry, at, SameOption}
 use Rattle.blaze_table.specs.Counted.{CountedEntries}
-use Rattle.blaze_table.specs.Canonical.{AreKeys, IsRangeMap}
+use Rattle.blaze_table.specs.Canonical.{IsRangeMap}
 use Rattle.blaze_table.specs.Complement.{absent, IsComplement}
 use Rattle.blaze_table.specs.Count.{keys_in, mapped_keys}
-use Rattle.blaze_table.proofs.Unique.{same_itself, same_along}
+use Rattle.blaze_table.proofs.Unique.{same_itself}
 use Rattle.range_map_blaze.specs.Pairs.{PopsFirst, PopsLast}
-use Rattle.range_map_cli.specs.Steps.{after, answer, complemented, first_key, last_key, with_value, pair_of, IsStepped, IsWithout, SameAnswer, SamePair}
+use Rattle.range_map_cli.specs.Steps.{answer, complemented, first_key, last_key, with_value, pair_of, IsStepped, IsWithout, SameAnswer, SamePair}
 use Rattle.range_map_cli.specs.declared.step.Step.{Step}
 use Rattle.range_map_cli.specs.declared.step.Answer.{Answer}
 use Rattle.range_map_cli.proofs.EndKeys.{alike_same, at_key, first_key_is, first_none, last_key_is, last_none, mapped_alike}

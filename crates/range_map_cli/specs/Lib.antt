@@ -6,3 +6,4 @@ pub mod Output
 pub mod States
 pub mod Sessions
 pub mod Steps
+pub mod Laws

@@ -1,8 +1,8 @@
 -- What steps mean: functions from contents to contents. A content gives each key, by its rank, its value or none.
-use Rattle.std.specs.Prelude.{◌≡◌, ◌⊎◌, ℕ, zero, suc, ◌-◌, ◌*◌, ◌+◌, ◌≤◌, ◌<◌, ℤ, pos, ◌+ℤ◌, ◌-ℤ◌, int_le, Bool, true, ◌&&◌, not, ◌==◌, if◌then◌else◌, is_some, List, [], ◌∷◌, length, take, Option, Some, None}
+use Rattle.std.specs.Prelude.{◌≡◌, ◌⊎◌, ℕ, zero, suc, ◌*◌, ◌+◌, ◌≤◌, ◌<◌, ℤ, pos, ◌+ℤ◌, ◌-ℤ◌, int_le, Bool, true, ◌&&◌, not, ◌==◌, if◌then◌else◌, is_some, List, [], ◌∷◌, length, take, Option, Some, None}
 use Rattle.blaze_table.specs.Counted.{CountedEntries}
-use Rattle.blaze_table.specs.Entries.{Entry, at, SameContent, SameEntries, SameOption}
-use Rattle.blaze_table.specs.Canonical.{IsAscending, IsDisjoint, IsRangeMap}
+use Rattle.blaze_table.specs.Entries.{Entry, at, SameOption}
+use Rattle.blaze_table.specs.Canonical.{IsRangeMap}
 use Rattle.blaze_table.specs.Chosen.{right_first, exactly_one, left_with_right, left_alone}
 use Rattle.blaze_table.specs.Complement.{absent}
 use Rattle.blaze_table.specs.Count.{nat_of, mapped_keys}
@@ -148,13 +148,6 @@ pub record IsSteppedAll {T V L : Type 0} (eq : V → V → Bool) (rank : T → �
 pub record IsRefusedAt {T V L : Type 0} (eq : V → V → Bool) (rank : T → ℤ) (low high : ℤ) (steps : List (Step T V L)) (at : ℕ) (old new : List (Entry V)) : Type 0 where
   pub within : (at < length steps) ⊎ (at ≡ 0)
   pub stepped : IsSteppedAll eq rank low high (take at steps) old new
-
--- ---- the least list
-
--- No disjoint list with this content has fewer entries, and an ascending one with as many has the same ranges and equal values.
-pub record IsShortest {V : Type 0} (eq : V → V → Bool) (entries : List (Entry V)) : Type 0 where
-  pub fewest : (others : List (Entry V)) → IsDisjoint others → SameContent eq entries others → length entries ≤ length others
-  pub only : (others : List (Entry V)) → IsDisjoint others → IsAscending others → SameContent eq entries others → length others ≡ length entries → SameEntries eq entries others
 
 -- ---- work
 

@@ -3,13 +3,14 @@ ghost use Rattle.std.specs.Prelude.{◌≡◌, ◌≤◌, ◌-◌, ◌*◌, ◌=
 ghost use Rattle.blaze_table.specs.Canonical.{IsRangeMap};
 ghost use Rattle.blaze_table.specs.Count.{mapped_keys};
 ghost use Rattle.blaze_table.specs.Entries.{entry, at};
+ghost use Rattle.blaze_table.specs.Laws.{IsShortest};
 ghost use Rattle.blaze_table.specs.Painted.{painted, IsPainted, ClonesAreAlike};
 ghost use Rattle.blaze_table.specs.Work.{IsCountedCut, IsCountedPaint, PutsAtMost};
 ghost use Rattle.range_map_cli.specs.Steps.{answer, first_key, last_key, with_value, answers, IsCountedRun, IsEdit, IsRefusedAt, IsStepped, IsSteppedAll, IsWithout, SameAnswer, SameAnswers, SamePair};
 
 use crate::step::{Answer, Refused, Step};
 use blaze_int::Integer;
-use blaze_table::laws::lengths_are_mapped;
+use blaze_table::laws::{canonical_is_shortest, lengths_are_mapped};
 use range_map_blaze::RangeMapBlaze;
 use std::alloc::{AllocError, Global};
 
@@ -173,11 +174,13 @@ pub fn run<T: Integer, V: Eq + Clone>(
         (answers T.rank T.low T.high steps.items (at map.old.entries))) }
     ensures refused { IfErr result (λ refused. IsRefusedAt V.eq T.rank T.low T.high steps.items refused.at
         map.old.entries map.new.entries) }
+    ensures shortest { IsShortest V.eq map.new.entries }
     ensures counted { All IsEdit steps.items
         → OnOk result (IsCountedRun (length steps.items) map.old map.new) }
     ensures few { All IsEdit steps.items → map.old.entries ≡ []
         → OnOk result (length map.new.entries ≤ 2 * length steps.items - 1) }
 {
+    canonical_is_shortest::<V>();
     map.in_hand();
     let Ok(mut answers) = Vec::with_capacity(alloc, steps.len()) else {
         return Err(Refused { at: 0 });

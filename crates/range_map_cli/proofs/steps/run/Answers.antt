@@ -1,7 +1,6 @@
-use Rattle.std.proofs.Common.{rules, ◌≡◌, ◌≤◌, ◌<◌, ◌+◌, ◌++◌, ◌∷◌, ◌∙◌, [], ℕ, List, length, take, inl, inr, refl, sym, ap, subst, arith, append-nil, append_assoc}
+use Rattle.std.proofs.Common.{rules, ◌≡◌, ◌++◌, ◌∷◌, ◌∙◌, [], length, inl, inr, refl, sym, ap, subst, arith, append_assoc}
 use Rattle.std.proofs.lemmas.List.{length-append, nil_from_length}
 use Rattle.std.specs.Vec.Iter.{into_iter_items}
-use Rattle.range_map_cli.specs.declared.step.Step.{Step}
 use Rattle.range_map_cli.proofs.Running.{IsRunning, all_done, counted_run, refused_at, running_more, running_none}
 use Rattle.range_map_cli.proofs.steps.run.Goals as goal
 
@@ -72,3 +71,13 @@ returns-clause-few g c =
     let none : into_iter_items c.loop-step.step-iterator ≡ [] = nil_from_length (into_iter_items c.loop-step.step-iterator) (sym c.loop-step.step-iterator.rest.ok.0 ∙ c.in-None.ensures.steps.0) in
     let ran = all_done g.V.PartialEq.eq g.T.Integer.rank g.T.Integer.low g.T.Integer.high i.0 _ c.args.steps.items c.args.map.now c.loop-step.map c.loop-step.answers.items i.1 none i.2 in
     ran.few
+
+-- the list is canonical at each end, so it is the only shortest
+pub returns-in_default-clause-shortest : goal.returns-in_default-clause-shortest
+returns-in_default-clause-shortest g c = c.canonical_is_shortest.ensures _ c.in_hand.ensures.runs
+
+pub returns-in_default-take_step-clause-shortest : goal.returns-in_default-take_step-clause-shortest
+returns-in_default-take_step-clause-shortest g c = rw c.in_default-take_step.ensures.err (c.canonical_is_shortest.ensures _ c.loop-step.invariant.2.stepped.range_map.runs)
+
+pub returns-clause-shortest : goal.returns-clause-shortest
+returns-clause-shortest g c = c.canonical_is_shortest.ensures _ c.loop-step.invariant.2.stepped.range_map.runs

@@ -1,6 +1,5 @@
 use Rattle.range_map_cli.specs.declared.step.Step.TheVariants.{Paint, Insert, Remove, ComplementWith}
 use Rattle.range_map_cli.specs.declared.step.Answer.TheVariants.{Wrote, Old}
-use Rattle.range_map_cli.proofs.Alike.{answer_trans}
 use Rattle.range_map_cli.proofs.Stepped.{answered, complement_is, same_back, stepped}
 use Rattle.range_map_cli.proofs.steps.take_step.Goals as goal
 
