@@ -105,6 +105,8 @@ sweep() {
         none) judge 0 "$requests" "$what: requests" ;;
     esac
     refused=(refused)
+    # (a list of one step tells that it was the first that was refused)
+    if [[ "$call" = "a run "* ]]; then refused+=("refused at 0"); fi
     kept=()
     case "$takes" in
         items)

@@ -11,6 +11,7 @@ use crate::look_ups::LookUp;
 use crate::makes::Make;
 use crate::operators::{Complement, Operation};
 use crate::other_maps::OtherMap;
+use crate::runs::Run;
 use crate::sets::{SetLookUp, ranges};
 use crate::state::{MapName, SetName, State};
 use range_map_blaze::RangeSetBlaze;
@@ -34,6 +35,7 @@ pub enum Call<T: ScriptKey> {
     Extend(MapName, Extend<T>),
     OtherMap(OtherMap),
     Compare(Comparison),
+    Run(MapName, Run<T>),
     Iterate(MapName, Iterate<T>),
     Make(MapName, Make<T>),
     Operate(MapName, Operation),
@@ -78,6 +80,9 @@ impl<T: ScriptKey> Call<T> {
         if let Some(extend) = unless_bad(Extend::read(alloc, words))? {
             return Ok(Call::Extend(map, extend));
         }
+        if let Some(run) = unless_bad(Run::read(alloc, map, words))? {
+            return Ok(Call::Run(map, run));
+        }
         Ok(Call::Iterate(map, Iterate::read(alloc, words)?))
     }
 
@@ -114,6 +119,7 @@ impl<T: ScriptKey> Call<T> {
             Call::Extend(map, extend) => return extend.make(state.map_mut(map), reply),
             Call::OtherMap(other) => return other.make(state, reply),
             Call::Compare(comparison) => return comparison.make(state, reply),
+            Call::Run(map, run) => return run.make(map, state, reply),
             Call::Iterate(map, iterate) => return iterate.make(map, state, reply),
             Call::SetLookUp(set, look_up) => return look_up.make(set, state, reply),
             Call::Make(target, make) => {

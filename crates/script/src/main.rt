@@ -15,6 +15,7 @@ mod look_ups;
 mod makes;
 mod operators;
 mod other_maps;
+mod runs;
 mod script;
 mod sets;
 mod state;
