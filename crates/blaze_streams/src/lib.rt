@@ -21,6 +21,7 @@ pub mod laws;
 mod list_segments;
 mod map_into_ranges;
 mod map_ranges;
+mod multiway;
 mod not_sorted;
 mod owned;
 mod owned_range_values;
@@ -50,6 +51,10 @@ pub use joins::{JoinKind, join_of};
 pub use list_segments::{Segment, segments};
 pub use map_into_ranges::MapIntoRangesIter;
 pub use map_ranges::MapRangesIter;
+pub use multiway::{
+    MultiwayFullJoinMap, MultiwayInnerJoinMap, MultiwayIntersectionMap,
+    MultiwaySymmetricDifferenceMap, MultiwayUnionMap,
+};
 pub use not_sorted::NotSorted;
 pub use owned::Owned;
 pub use owned_range_values::OwnedRangeValuesIter;
@@ -57,7 +62,7 @@ pub use range_values::RangeValuesIter;
 pub use ranges_stream::SortedDisjoint;
 pub use stream::{BothEnds, SortedDisjointMap};
 pub use transforms::transform;
-pub use union::{symmetric_difference_of, union_of};
+pub use union::{intersection_of, symmetric_difference_of, union_of};
 pub use with_ranges::{intersect_with_ranges, subtract_ranges};
 
 #[cfg(test)]
