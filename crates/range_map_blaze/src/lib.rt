@@ -8,7 +8,7 @@ mod display;
 mod entries_left;
 mod equality;
 mod extend;
-mod fill;
+mod fill_unmapped;
 mod gaps_filled;
 mod hash;
 mod insert;
@@ -40,8 +40,9 @@ pub use blaze_streams::{
     BothEnds, CanonIter, CanonMapIter, CheckSortedDisjoint, CheckSortedDisjointMap,
     IntoRangeValuesIter, JoinKind, MapIntoRangesIter, MapRangesIter, NotSorted, Owned,
     OwnedRangeValuesIter, RangeValuesIter, Segment, SortedDisjoint, SortedDisjointMap,
-    ValueCarrier, canonical_of, complement, intersect_with_ranges, join_of, segments,
-    subtract_ranges, symmetric_difference_of, transform, union_of,
+    ValueCarrier, canonical_of, complement, fill, full_join_of, inner_join_of,
+    intersect_with_ranges, join_of, left_join_of, segments, subtract_ranges,
+    symmetric_difference_of, transform, union_of,
 };
 pub use blaze_table::{IntoRangesIter, RangeSetBlaze, RangesIter};
 pub use map::RangeMapBlaze;
