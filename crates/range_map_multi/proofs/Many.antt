@@ -160,13 +160,13 @@ module _ {V : Type 0} (eq : V → V → Bool) (laws : IsEquivalence eq) (low hig
   }
 
   -- the union on the keys that an odd number have
-  on_odd : (x u y : Option V) (b : Bool) → SameOption eq x u → is_some y ≡ b → SameOption eq (left_with_right x y) (cond b u None)
+  on_odd : {B : Type 0} (x u : Option V) (y : Option B) (b : Bool) → SameOption eq x u → is_some y ≡ b → SameOption eq (left_with_right x y) (cond b u None)
   on_odd x u None true s h = let no : ⊥ = cc h in absurd no
   on_odd x u None false s h = tt
   on_odd x u (Some y) true s h = s
   on_odd x u (Some y) false s h = let no : ⊥ = cc h in absurd no
 
-  pub difference_of : (lists : List (List (Entry V))) (union odd new : List (Entry V)) → IsChosenOfMany eq low high last_value lists union → HasOddKeys lists odd
+  pub difference_of : {B : Type 0} (lists : List (List (Entry V))) (union : List (Entry V)) (odd : List (Entry B)) (new : List (Entry V)) → IsChosenOfMany eq low high last_value lists union → HasOddKeys lists odd
       → IsChosen eq low high left_with_right union odd new → IsChosenOfMany eq low high last_of_odd lists new
   difference_of lists union odd new u o c = record {
     range_map = c.range_map;

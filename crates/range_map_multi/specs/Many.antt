@@ -3,7 +3,7 @@
 use Rattle.std.specs.Prelude.{◌≡◌, ℤ, Bool, true, false, not, if◌then◌else◌, List, [], ◌∷◌, Option, Some, None}
 use Rattle.std.specs.Option.{is_some}
 use Rattle.std.specs.List.{list_all}
-use Rattle.blaze_table.specs.Entries.{Entry, at, SameOption}
+use Rattle.blaze_table.specs.Entries.{Entry, entry, at, SameOption}
 use Rattle.blaze_table.specs.Canonical.{IsRangeMap}
 use Rattle.blaze_table.specs.Chosen.{right_first}
 use Rattle.blaze_streams.specs.Segments.{row}
@@ -40,6 +40,11 @@ IsOnly [] list = list ≡ []
 IsOnly (L ∷ []) list = list ≡ L
 IsOnly (L ∷ M ∷ Ls) list = ⊥
 
+-- the ranges of entries, with a value and its opposite in turn
+abbrev pub in_turn : {V : Type 0} → Bool → List (Entry V) → List (Entry Bool)
+in_turn b [] = []
+in_turn b (e ∷ es) = entry e.lo e.hi b ∷ in_turn (not b) es
+
 -- a list with a value at the keys that an odd number of lists have
-abbrev pub HasOddKeys : {V : Type 0} → List (List (Entry V)) → List (Entry V) → Type 0
+abbrev pub HasOddKeys : {A B : Type 0} → List (List (Entry A)) → List (Entry B) → Type 0
 HasOddKeys lists list = (k : ℤ) → is_some (at list k) ≡ has_odd (row lists k)

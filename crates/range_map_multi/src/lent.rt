@@ -5,9 +5,10 @@ ghost use Rattle.blaze_table.specs.Entries.{Entry};
 ghost use Rattle.blaze_table.specs.Painted.{ClonesAreAlike};
 ghost use Rattle.range_map_multi.specs.Many.{last_value, last_of_all, last_of_odd, IsChosenOfMany};
 
-use crate::merges::{merged_intersection, merged_odd_keys, merged_union};
+use crate::merges::{merged_intersection, merged_union};
+use crate::parity::merged_symmetric_difference;
 use blaze_int::Integer;
-use blaze_streams::{RangeValuesIter, intersection_of};
+use blaze_streams::RangeValuesIter;
 use range_map_blaze::RangeMapBlaze;
 use std::alloc::{AllocError, Global};
 
@@ -80,7 +81,7 @@ pub fn lent_intersection<'a, T: Integer, V: Eq + Clone, M: AsMap<T, V>>(
     Ok(new)
 }
 
-/// The value of the last map that has one, where an odd number have one: the union on the keys that an odd number have.
+/// The value of the last map that has one, where an odd number have one.
 pub fn lent_symmetric_difference<'a, T: Integer, V: Eq + Clone, M: AsMap<T, V>>(
     alloc: Global,
     maps: &'a [M],
@@ -89,10 +90,7 @@ pub fn lent_symmetric_difference<'a, T: Integer, V: Eq + Clone, M: AsMap<T, V>>(
     ensures { IfOk result (λ new. IsChosenOfMany V.eq T.low T.high last_of_odd (map M.shown maps.now) new.entries) }
 {
     let streams = streams_of(alloc, maps)?;
-    let union = merged_union(alloc, streams)?;
-    let streams_again = streams_of(alloc, maps)?;
-    let odd = merged_odd_keys(alloc, streams_again)?;
-    let stream = intersection_of(alloc, union, odd)?;
+    let stream = merged_symmetric_difference(alloc, streams)?;
     let new = RangeMapBlaze::from_sorted_disjoint_map(alloc, stream)?;
     Ok(new)
 }

@@ -5,7 +5,15 @@ mod lent;
 mod lists;
 mod maps;
 mod merges;
+mod parity;
+mod streams;
 
 pub mod laws;
 
 pub use maps::{MultiwayRangeMapBlaze, MultiwayRangeMapBlazeRef};
+pub use streams::MultiwaySortedDisjointMap;
+
+#[cfg(test)]
+mod stream_tests;
+#[cfg(test)]
+mod tests;
