@@ -4,7 +4,7 @@ use Rattle.std.specs.List.{All}
 use Rattle.std.proofs.lemmas.List.Elements.{All-cons, All-nil}
 use Rattle.range_map_cli.specs.Laws.{from_front, from_back, given_in_front, given_behind, AreNoneFromNone, EachOnce, TakeAll, Takes}
 
-not_behind : {A P : Type 0} (xs : List A) (x : A) → [] ≡ xs ++ x ∷ [] → P
+pub not_behind : {A P : Type 0} (xs : List A) (x : A) → [] ≡ xs ++ x ∷ [] → P
 not_behind [] x p = absurd cc
 not_behind (y ∷ xs) x p = absurd cc
 

@@ -24,3 +24,4 @@ pub mod Equals
 pub mod Paints
 pub mod LookUps
 pub mod Calls
+pub mod OwnedCalls

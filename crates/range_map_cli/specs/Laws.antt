@@ -1,11 +1,14 @@
 -- The laws of range maps: of `==` and the order, operators, splits, paintings, look-ups and iterators.
-use Rattle.std.specs.Prelude.{◌≡◌, ◌↔◌, ◌+◌, ℤ, pos, ◌+ℤ◌, ◌≤ℤ◌, ◌<ℤ◌, Bool, true, false, IsTrue, List, [], ◌∷◌, ◌++◌, map, Option, Some, None, MatchOption, IsSome, is_some}
+use Rattle.std.specs.Prelude.{◌≡◌, ◌↔◌, ◌+◌, ℤ, pos, ◌+ℤ◌, ◌≤ℤ◌, ◌<ℤ◌, Bool, true, false, IsTrue, List, [], ◌∷◌, ◌++◌, map, Option, Some, None, MatchOption, IsSome, is_some, Result, Ok, Err}
 use Rattle.std.specs.Iterator.{YieldsFirstBy, YieldsLastBy}
 use Rattle.std.specs.List.{All}
 use Rattle.std.specs.Cmp.{IsTotalOrder}
 use Rattle.std.specs.declared.cmp.Ordering.{Ordering}
 use Rattle.std.specs.declared.cmp.Ordering.TheVariants.{Equal}
+use Rattle.std.specs.declared.alloc.AllocError.{AllocError}
 use Rattle.blaze_int.specs.Ranked.{IsKey}
+use Rattle.blaze_iters.specs.Left.{pairs_left}
+use Rattle.blaze_iters.specs.Owned.{GivesFirst, GivesLast, IsLikePair, OwnedLeft}
 use Rattle.blaze_table.specs.Canonical.{IsRangeMap}
 use Rattle.blaze_table.specs.Chosen.{right_first, exactly_one, left_with_right, left_alone, IsChosen}
 use Rattle.blaze_table.specs.Count.{mapped_keys}
@@ -156,6 +159,67 @@ module _ {S A B : Type 0} (view : A → B) (left : S → List B) where
   -- calls in any mix give each item once
   abbrev pub EachOnce : Type 0
   EachOnce = (calls : List (Bool × Option A)) (s t : S) → TakeAll calls s t → IsEachOnce calls s t
+
+-- ---- calls of an iterator by value, from both ends
+
+module _ {V A B : Type 0} (left : OwnedLeft V → List B) (IsGiven : A → B → Type 0) where
+  -- a call of `next` (`true`) or of `next_back` (`false`), which may be refused a clone
+  abbrev pub TakesOwned : Bool → OwnedLeft V → Option (Result A AllocError) → OwnedLeft V → Type 0
+  TakesOwned true s given t = GivesFirst left IsGiven s given t
+  TakesOwned false s given t = GivesLast left IsGiven s given t
+
+  -- calls in any mix, one after another
+  abbrev pub TakeAllOwned : List (Bool × Option (Result A AllocError)) → OwnedLeft V → OwnedLeft V → Type 0
+  TakeAllOwned [] s t = s ≡ t
+  TakeAllOwned (c ∷ calls) s t =
+      (next : OwnedLeft V) × TakesOwned c.0 s c.1 next × TakeAllOwned calls next t
+
+  -- what a call gave is the item, and no item where it gave none or was refused
+  abbrev pub IsItem : Option (Result A AllocError) → Option B → Type 0
+  IsItem None None = Unit {0}
+  IsItem None (Some b) = ⊥
+  IsItem (Some (Ok a)) None = ⊥
+  IsItem (Some (Ok a)) (Some b) = IsGiven a b
+  IsItem (Some (Err e)) None = Unit {0}
+  IsItem (Some (Err e)) (Some b) = ⊥
+
+  -- the items of calls, each from its end
+  abbrev pub AreItems : List (Bool × Option (Result A AllocError)) → List (Bool × Option B) → Type 0
+  AreItems [] [] = Unit {0}
+  AreItems [] (i ∷ items) = ⊥
+  AreItems (c ∷ calls) [] = ⊥
+  AreItems (c ∷ calls) (i ∷ items) = (c.0 ≡ i.0) × IsItem c.1 i.1 × AreItems calls items
+
+  -- the call gave no item
+  abbrev pub HasEnded : Option (Result A AllocError) → Type 0
+  HasEnded None = Unit {0}
+  HasEnded (Some (Ok a)) = ⊥
+  HasEnded (Some (Err e)) = Unit {0}
+
+  -- it was refused no clone
+  abbrev pub IsNotRefused : Option (Result A AllocError) → Type 0
+  IsNotRefused None = Unit {0}
+  IsNotRefused (Some (Ok a)) = Unit {0}
+  IsNotRefused (Some (Err e)) = ⊥
+
+  -- after the first `None` or refusal all answers are `None`
+  abbrev pub AreNoneFromEnd : List (Bool × Option (Result A AllocError)) → Type 0
+  AreNoneFromEnd [] = Unit {0}
+  AreNoneFromEnd (c ∷ calls) = (HasEnded c.1 → All (λ later. later.1 ≡ None) calls) × AreNoneFromEnd calls
+
+  -- Where no call was refused a clone, the items that the calls gave and those that are left are the
+  -- items that there were, each once. Once a call gave none or was refused, all later ones give `None`.
+  pub record IsEachOnceOwned (calls : List (Bool × Option (Result A AllocError))) (s t : OwnedLeft V) : Type 0 where
+    pub items : List (Bool × Option B)
+    pub given : AreItems calls items
+    pub parts : All (λ c. IsNotRefused c.1) calls → left s ≡ from_front items ++ left t ++ from_back items
+    pub for_good : AreNoneFromEnd calls
+
+-- calls in any mix give each pair once, with a value that is equal to the stored one
+abbrev pub EachOnceOwned : {K V : Type 0} → (ℤ → K) → (V → V → Bool) → Type 0
+EachOnceOwned {K} {V} of_rank eq = (calls : List (Bool × Option (Result (K × V) AllocError))) (s t : OwnedLeft V)
+    → TakeAllOwned (pairs_left of_rank (λ es. es)) (IsLikePair eq) calls s t
+    → IsEachOnceOwned (pairs_left of_rank (λ es. es)) (IsLikePair eq) calls s t
 
 -- ---- operators on contents: at each key
 

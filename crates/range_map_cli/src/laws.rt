@@ -2,7 +2,8 @@
 ghost use Rattle.blaze_iters.specs.Left.{pairs_left, shown_pair};
 ghost use Rattle.range_map_blaze.specs.MapLaws.{AnswersAreOnItsKeys};
 ghost use Rattle.range_map_cli.specs.Laws.{EqualWhereGetsAre, IsOrderOfMaps};
-ghost use Rattle.range_map_cli.specs.Laws.{AppendUndoesSplit, CountsAddUp, EachOnce, LookUpsCover};
+ghost use Rattle.range_map_cli.specs.Laws.{AppendUndoesSplit, CountsAddUp, LookUpsCover};
+ghost use Rattle.range_map_cli.specs.Laws.{EachOnce, EachOnceOwned};
 ghost use Rattle.range_map_cli.specs.Laws.{UnionIsAssociative, UnionIsIdempotent, UnionIsPainting};
 ghost use Rattle.range_map_cli.specs.Laws.{DisjointUnionCommutes, EmptyIsUnit, UniversalKeeps};
 ghost use Rattle.range_map_cli.specs.Laws.{PartsHaveItsKeys, SetKeeps, XorWithItselfIsEmpty};
@@ -40,6 +41,12 @@ pub fn look_ups_cover_keys<T: Integer, V: Eq>()
 /// `None` for good.
 pub fn each_pair_once<T: Integer, VC: ValueCarrier + Copy, I: BothEnds<T, VC>>()
     ensures { EachOnce (shown_pair VC.shown) (pairs_left T.of_rank I.left) }
+{}
+
+/// The same of an iterator by value, each pair with a value that is `==` to the stored one, where no
+/// clone is refused; after a refusal it gives `None` for good too.
+pub fn each_owned_pair_once<T: Integer, V: Eq>()
+    ensures { EachOnceOwned T.of_rank V.eq }
 {}
 
 /// `transform_values` keeps the mapped keys, and so `len`.
