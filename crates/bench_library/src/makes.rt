@@ -50,10 +50,7 @@ pub fn make(
             }
             map
         } else {
-            RangeMapBlaze::from_ranges(
-                alloc,
-                pairs.iter().map(|pair| (pair.0..=pair.1, pair.2)),
-            )?
+            RangeMapBlaze::from_ranges(alloc, pairs.iter().map(|pair| (pair.0..=pair.1, pair.2)))?
         };
         sum = checksum(check, sum, &map);
     }

@@ -13,7 +13,7 @@ use Rattle.range_map_cli.specs.Laws.{from_front, from_back, AreItems, AreNoneFro
 use Rattle.range_map_cli.proofs.Calls.{not_behind}
 
 module _ {V A B : Type 0} (left : OwnedLeft V → List B) (IsGiven : A → B → Type 0) (empty : left (unopened []) ≡ [])
-  (first : (s : OwnedLeft V) → HasSeveralFirst s → left s ≡ [] → ⊥) (last : (s : OwnedLeft V) → HasSeveralLast s → left s ≡ [] → ⊥) where
+    (first : (s : OwnedLeft V) → HasSeveralFirst s → left s ≡ [] → ⊥) (last : (s : OwnedLeft V) → HasSeveralLast s → left s ≡ [] → ⊥) where
   abbrev Call : Type 0
   Call = Bool × Option (Result A AllocError)
 

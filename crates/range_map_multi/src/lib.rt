@@ -1,6 +1,7 @@
 //! Operations between any number of maps.
 #![tactic(auto)]
 
+pub mod laws;
 mod lent;
 mod lists;
 mod maps;
@@ -8,12 +9,8 @@ mod merges;
 mod parity;
 mod streams;
 
-pub mod laws;
-
 pub use maps::{MultiwayRangeMapBlaze, MultiwayRangeMapBlazeRef};
 pub use streams::MultiwaySortedDisjointMap;
 
-#[cfg(test)]
-mod stream_tests;
 #[cfg(test)]
 mod tests;

@@ -34,7 +34,8 @@ pub trait MultiwayRangeMapBlazeRef<T: Integer, V: Eq + Clone>: Sized {
         ensures { IfOk result (λ new. IsChosenOfMany V.eq T.low T.high last_of_odd (lists self) new.entries) };
 }
 
-impl<'a, T: Integer, V: Eq + Clone> MultiwayRangeMapBlazeRef<T, V> for Vec<&'a RangeMapBlaze<T, V>> {
+impl<'a, T: Integer, V: Eq + Clone> MultiwayRangeMapBlazeRef<T, V>
+    for Vec<&'a RangeMapBlaze<T, V>> {
     ghost lists = { λ s. map (λ m. m.now.entries) s.items };
 
     fn union(self, alloc: Global) -> Result<RangeMapBlaze<T, V>, AllocError> {
@@ -54,8 +55,7 @@ impl<'a, T: Integer, V: Eq + Clone> MultiwayRangeMapBlazeRef<T, V> for Vec<&'a R
 }
 
 impl<T: Integer, V: Eq + Clone, M: AsMap<T, V>, const N: usize> MultiwayRangeMapBlazeRef<T, V>
-    for [M; N]
-{
+    for [M; N] {
     ghost lists = { λ s. map M.shown s };
 
     fn union(self, alloc: Global) -> Result<RangeMapBlaze<T, V>, AllocError> {

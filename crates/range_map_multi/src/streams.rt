@@ -42,8 +42,7 @@ pub trait MultiwaySortedDisjointMap<T: Integer, VC: ValueCarrier>: Sized {
 }
 
 impl<T: Integer, VC: ValueCarrier, I: SortedDisjointMap<T, VC>> MultiwaySortedDisjointMap<T, VC>
-    for Vec<I>
-{
+    for Vec<I> {
     ghost lists = { λ s. map I.left s.items };
 
     fn union(self, alloc: Global) -> Result<MultiwayUnionMap<T, VC>, AllocError> {

@@ -1,16 +1,25 @@
-//! Rows of operations between many maps.
-use crate::{MultiwayRangeMapBlaze, MultiwayRangeMapBlazeRef};
+//! Worked examples of operations between many maps and many streams.
+use crate::{MultiwayRangeMapBlaze, MultiwayRangeMapBlazeRef, MultiwaySortedDisjointMap};
 use blaze_int::Integer;
+use blaze_streams::RangeValuesIter;
 use range_map_blaze::RangeMapBlaze;
 use std::alloc::Global;
 use std::process::Abort;
 use std::test::Fail;
 
 /// A map of letters.
-pub fn letters(
-    alloc: Global,
-    ranges: &[(i64, i64, char)],
-) -> Result<RangeMapBlaze<i64, char>, Fail> {
+type Letters = RangeMapBlaze<i64, char>;
+
+/// Three maps of a letter each.
+#[derive(Drop)]
+struct Three {
+    z: Letters,
+    a: Letters,
+    b: Letters,
+}
+
+/// A map of letters.
+fn letters(alloc: Global, ranges: &[(i64, i64, char)]) -> Result<Letters, Fail> {
     let mut map = RangeMapBlaze::new(alloc);
     for (start, end, letter) in ranges {
         let _ = map.ranges_insert(*start..=*end, *letter)?;
@@ -18,72 +27,158 @@ pub fn letters(
     Ok(map)
 }
 
+/// Two ranges of z, one of a, two of b.
+fn three(alloc: Global) -> Result<Three, Fail> {
+    let z = letters(alloc, &[(2, 2, 'z'), (6, 200, 'z')])?;
+    let a = letters(alloc, &[(2, 6, 'a')])?;
+    let b = letters(alloc, &[(1, 2, 'b'), (5, 100, 'b')])?;
+    Ok(Three { z, a, b })
+}
+
+/// The three maps, lent.
+fn lent(alloc: Global, maps: &Three) -> Result<Vec<&Letters>, Fail> {
+    let lent = vec![in alloc; &maps.z, &maps.a, &maps.b]?;
+    Ok(lent)
+}
+
+/// The three maps, cloned.
+fn owned(alloc: Global, maps: &Three) -> Result<Vec<Letters>, Fail> {
+    let mut owned = Vec::new(alloc);
+    owned.push(maps.z.clone()?)?;
+    owned.push(maps.a.clone()?)?;
+    owned.push(maps.b.clone()?)?;
+    Ok(owned)
+}
+
+/// The three maps as streams.
+fn streams(alloc: Global, maps: &Three) -> Result<Vec<RangeValuesIter<'_, i64, char>>, Fail> {
+    let (z, a, b) = (
+        maps.z.range_values(),
+        maps.a.range_values(),
+        maps.b.range_values(),
+    );
+    let streams = vec![in alloc; z, a, b]?;
+    Ok(streams)
+}
+
 /// A map of one range.
-fn one_range<T: Integer>(
-    alloc: Global,
-    start: T,
-    end: T,
-) -> Result<RangeMapBlaze<T, char>, Fail> {
+fn one_range<T: Integer>(alloc: Global, start: T, end: T) -> Result<RangeMapBlaze<T, char>, Fail> {
     let mut map = RangeMapBlaze::new(alloc);
     let _ = map.ranges_insert(start..=end, 'a')?;
     Ok(map)
 }
 
 /// Asserts what a map prints.
-pub fn check(
-    rt: &impl Abort,
-    alloc: Global,
-    map: &RangeMapBlaze<i64, char>,
-    text: &str,
-) -> Result<(), Fail> {
+fn check(rt: &impl Abort, alloc: Global, map: &Letters, text: &str) -> Result<(), Fail> {
     let printed = format!(in alloc; "{map}")?;
     assert_eq!(rt; printed.as_str(), text);
     Ok(())
 }
 
 #[test]
-fn many_maps_are_one(rt: HostRuntime) -> Result<(), Fail> {
+fn the_last_map_wins(rt: HostRuntime) -> Result<(), Fail> {
     let alloc = rt.alloc();
-    let z = letters(alloc, &[(2, 2, 'z'), (6, 200, 'z')])?;
-    let a = letters(alloc, &[(2, 6, 'a')])?;
-    let b = letters(alloc, &[(1, 2, 'b'), (5, 100, 'b')])?;
-    let union = "(1..=2, 'b'), (3..=4, 'a'), (5..=100, 'b'), (101..=200, 'z')";
-    let intersection = "(2..=2, 'b'), (6..=6, 'b')";
-    let difference = "(1..=2, 'b'), (3..=4, 'a'), (6..=6, 'b'), (101..=200, 'z')";
-    check(&rt, alloc, &[&z, &a, &b].union(alloc)?, union)?;
-    check(&rt, alloc, &[&z, &a, &b].intersection(alloc)?, intersection)?;
-    check(&rt, alloc, &[&z, &a, &b].symmetric_difference(alloc)?, difference)?;
-    let lent = vec![in alloc; &z, &a, &b]?;
-    check(&rt, alloc, &lent.clone()?.union(alloc)?, union)?;
-    check(&rt, alloc, &lent.clone()?.intersection(alloc)?, intersection)?;
-    check(&rt, alloc, &lent.symmetric_difference(alloc)?, difference)?;
-    let maps = vec![in alloc; z.clone()?, a.clone()?, b.clone()?]?;
-    check(&rt, alloc, &maps.union(alloc)?, union)?;
-    let maps = vec![in alloc; z.clone()?, a.clone()?, b.clone()?]?;
-    check(&rt, alloc, &maps.intersection(alloc)?, intersection)?;
-    let maps = vec![in alloc; z, a, b]?;
-    check(&rt, alloc, &maps.symmetric_difference(alloc)?, difference)?;
+    let maps = three(alloc)?;
+    let text = "(1..=2, 'b'), (3..=4, 'a'), (5..=100, 'b'), (101..=200, 'z')";
+    check(&rt, alloc, &[&maps.z, &maps.a, &maps.b].union(alloc)?, text)?;
+    check(&rt, alloc, &lent(alloc, &maps)?.union(alloc)?, text)?;
+    check(&rt, alloc, &owned(alloc, &maps)?.union(alloc)?, text)?;
+    let stream = streams(alloc, &maps)?.union(alloc)?;
+    check(
+        &rt,
+        alloc,
+        &RangeMapBlaze::from_sorted_disjoint_map(alloc, stream)?,
+        text,
+    )
+}
+
+#[test]
+fn all_maps_have_the_keys(rt: HostRuntime) -> Result<(), Fail> {
+    let alloc = rt.alloc();
+    let maps = three(alloc)?;
+    let text = "(2..=2, 'b'), (6..=6, 'b')";
+    check(
+        &rt,
+        alloc,
+        &[&maps.z, &maps.a, &maps.b].intersection(alloc)?,
+        text,
+    )?;
+    check(&rt, alloc, &lent(alloc, &maps)?.intersection(alloc)?, text)?;
+    check(&rt, alloc, &owned(alloc, &maps)?.intersection(alloc)?, text)?;
+    let stream = streams(alloc, &maps)?.intersection(alloc)?;
+    check(
+        &rt,
+        alloc,
+        &RangeMapBlaze::from_sorted_disjoint_map(alloc, stream)?,
+        text,
+    )
+}
+
+#[test]
+fn an_odd_number_have_the_keys(rt: HostRuntime) -> Result<(), Fail> {
+    let alloc = rt.alloc();
+    let maps = three(alloc)?;
+    let text = "(1..=2, 'b'), (3..=4, 'a'), (6..=6, 'b'), (101..=200, 'z')";
+    check(
+        &rt,
+        alloc,
+        &[&maps.z, &maps.a, &maps.b].symmetric_difference(alloc)?,
+        text,
+    )?;
+    check(
+        &rt,
+        alloc,
+        &lent(alloc, &maps)?.symmetric_difference(alloc)?,
+        text,
+    )?;
+    check(
+        &rt,
+        alloc,
+        &owned(alloc, &maps)?.symmetric_difference(alloc)?,
+        text,
+    )?;
+    let stream = streams(alloc, &maps)?.symmetric_difference(alloc)?;
+    check(
+        &rt,
+        alloc,
+        &RangeMapBlaze::from_sorted_disjoint_map(alloc, stream)?,
+        text,
+    )
+}
+
+#[test]
+fn no_map_and_one(rt: HostRuntime) -> Result<(), Fail> {
+    let alloc = rt.alloc();
+    let none: Vec<Letters> = Vec::new(alloc);
+    check(&rt, alloc, &none.union(alloc)?, "")?;
+    let none: Vec<Letters> = Vec::new(alloc);
+    check(&rt, alloc, &none.symmetric_difference(alloc)?, "")?;
+    let one = letters(alloc, &[(1, 3, 'a')])?;
+    check(&rt, alloc, &[&one].intersection(alloc)?, "(1..=3, 'a')")
+}
+
+/// Asserts that the union of two ranges is the whole key type, as one entry.
+fn check_whole<T: Integer>(
+    rt: &impl Abort,
+    alloc: Global,
+    low: RangeMapBlaze<T, char>,
+    high: RangeMapBlaze<T, char>,
+) -> Result<(), Fail> {
+    let union = [&low, &high].union(alloc)?;
+    assert_eq!(rt; union.ranges_len(), 1);
+    assert!(rt; union.is_universal());
     Ok(())
 }
 
 #[test]
-fn none_one_and_ends_of_types(rt: HostRuntime) -> Result<(), Fail> {
+fn ranges_meet_up_to_the_ends_of_types(rt: HostRuntime) -> Result<(), Fail> {
     let alloc = rt.alloc();
-    let none: Vec<RangeMapBlaze<i64, char>> = Vec::new(alloc);
-    check(&rt, alloc, &none.union(alloc)?, "")?;
-    let none: Vec<RangeMapBlaze<i64, char>> = Vec::new(alloc);
-    check(&rt, alloc, &none.symmetric_difference(alloc)?, "")?;
-    let one = letters(alloc, &[(1, 3, 'a')])?;
-    check(&rt, alloc, &[&one].intersection(alloc)?, "(1..=3, 'a')")?;
-    let low = one_range(alloc, 0u8, 99)?;
-    let high = one_range(alloc, 100u8, 255)?;
-    let bytes = [&low, &high].union(alloc)?;
-    assert_eq!(rt; bytes.ranges_len(), 1);
-    assert!(rt; bytes.is_universal());
+    check_whole(
+        &rt,
+        alloc,
+        one_range(alloc, 0u8, 99)?,
+        one_range(alloc, 100u8, 255)?,
+    )?;
     let low = one_range(alloc, '\0', '\u{D7FF}')?;
-    let high = one_range(alloc, '\u{E000}', '\u{10FFFF}')?;
-    let scalars = [&low, &high].union(alloc)?;
-    assert_eq!(rt; scalars.ranges_len(), 1);
-    assert!(rt; scalars.is_universal());
-    Ok(())
+    check_whole(&rt, alloc, low, one_range(alloc, '\u{E000}', '\u{10FFFF}')?)
 }

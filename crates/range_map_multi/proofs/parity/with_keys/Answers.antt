@@ -19,10 +19,11 @@ loop-item-preserved g c =
     let turn = c.loop-item.turn in
     let step = g.met.I.SortedDisjointMap.gives _ _ _ c.in-Some.ensures.steps in
     let from = c.new.ensures.start ∙ c.start-first.ensures in
-    let to = c.new.ensures.end ∙ c.end-last.ensures in
-    (taken_more (shown_range rank shown) _ _ item _ _ _ c.in_ok-push-2.ensures.items step i.0,
-    taken_more (shown_range rank (λ b. b)) _ _ (c.new.result, turn) _ _ _ c.in_ok-push.ensures.items
-    (turn_more turn _ (shown_range rank shown item) _ _ _ step (λ j. entry (rank (sym from j)) (rank (sym to j)) turn) refl) i.1)
+    let to = c.new.ensures.end ∙ c.end-last.ensures in (
+      taken_more (shown_range rank shown) _ _ item _ _ _ c.in_ok-push-2.ensures.items step i.0,
+      taken_more (shown_range rank (λ b. b)) _ _ (c.new.result, turn) _ _ _ c.in_ok-push.ensures.items
+          (turn_more turn _ (shown_range rank shown item) _ _ _ step (λ j. entry (rank (sym from j)) (rank (sym to j)) turn) refl) i.1,
+    )
 
 pub new-requires-2 : goal.new-requires-2
 new-requires-2 g c =
