@@ -12,7 +12,7 @@ type Letters = RangeMapBlaze<i64, char>;
 
 /// Three maps of a letter each.
 #[derive(Drop)]
-struct Three {
+struct Maps {
     z: Letters,
     a: Letters,
     b: Letters,
@@ -28,21 +28,21 @@ fn letters(alloc: Global, ranges: &[(i64, i64, char)]) -> Result<Letters, Fail> 
 }
 
 /// Two ranges of z, one of a, two of b.
-fn three(alloc: Global) -> Result<Three, Fail> {
+fn three_maps(alloc: Global) -> Result<Maps, Fail> {
     let z = letters(alloc, &[(2, 2, 'z'), (6, 200, 'z')])?;
     let a = letters(alloc, &[(2, 6, 'a')])?;
     let b = letters(alloc, &[(1, 2, 'b'), (5, 100, 'b')])?;
-    Ok(Three { z, a, b })
+    Ok(Maps { z, a, b })
 }
 
 /// The three maps, lent.
-fn lent(alloc: Global, maps: &Three) -> Result<Vec<&Letters>, Fail> {
+fn lent(alloc: Global, maps: &Maps) -> Result<Vec<&Letters>, Fail> {
     let lent = vec![in alloc; &maps.z, &maps.a, &maps.b]?;
     Ok(lent)
 }
 
 /// The three maps, cloned.
-fn owned(alloc: Global, maps: &Three) -> Result<Vec<Letters>, Fail> {
+fn owned(alloc: Global, maps: &Maps) -> Result<Vec<Letters>, Fail> {
     let mut owned = Vec::new(alloc);
     owned.push(maps.z.clone()?)?;
     owned.push(maps.a.clone()?)?;
@@ -51,7 +51,7 @@ fn owned(alloc: Global, maps: &Three) -> Result<Vec<Letters>, Fail> {
 }
 
 /// The three maps as streams.
-fn streams(alloc: Global, maps: &Three) -> Result<Vec<RangeValuesIter<'_, i64, char>>, Fail> {
+fn streams(alloc: Global, maps: &Maps) -> Result<Vec<RangeValuesIter<'_, i64, char>>, Fail> {
     let (z, a, b) = (
         maps.z.range_values(),
         maps.a.range_values(),
@@ -78,7 +78,7 @@ fn check(rt: &impl Abort, alloc: Global, map: &Letters, text: &str) -> Result<()
 #[test]
 fn the_last_map_wins(rt: HostRuntime) -> Result<(), Fail> {
     let alloc = rt.alloc();
-    let maps = three(alloc)?;
+    let maps = three_maps(alloc)?;
     let text = "(1..=2, 'b'), (3..=4, 'a'), (5..=100, 'b'), (101..=200, 'z')";
     check(&rt, alloc, &[&maps.z, &maps.a, &maps.b].union(alloc)?, text)?;
     check(&rt, alloc, &lent(alloc, &maps)?.union(alloc)?, text)?;
@@ -95,7 +95,7 @@ fn the_last_map_wins(rt: HostRuntime) -> Result<(), Fail> {
 #[test]
 fn all_maps_have_the_keys(rt: HostRuntime) -> Result<(), Fail> {
     let alloc = rt.alloc();
-    let maps = three(alloc)?;
+    let maps = three_maps(alloc)?;
     let text = "(2..=2, 'b'), (6..=6, 'b')";
     check(
         &rt,
@@ -117,7 +117,7 @@ fn all_maps_have_the_keys(rt: HostRuntime) -> Result<(), Fail> {
 #[test]
 fn an_odd_number_have_the_keys(rt: HostRuntime) -> Result<(), Fail> {
     let alloc = rt.alloc();
-    let maps = three(alloc)?;
+    let maps = three_maps(alloc)?;
     let text = "(1..=2, 'b'), (3..=4, 'a'), (6..=6, 'b'), (101..=200, 'z')";
     check(
         &rt,
@@ -157,28 +157,16 @@ fn no_map_and_one(rt: HostRuntime) -> Result<(), Fail> {
     check(&rt, alloc, &[&one].intersection(alloc)?, "(1..=3, 'a')")
 }
 
-/// Asserts that the union of two ranges is the whole key type, as one entry.
-fn check_whole<T: Integer>(
-    rt: &impl Abort,
-    alloc: Global,
-    low: RangeMapBlaze<T, char>,
-    high: RangeMapBlaze<T, char>,
-) -> Result<(), Fail> {
-    let union = [&low, &high].union(alloc)?;
-    assert_eq!(rt; union.ranges_len(), 1);
-    assert!(rt; union.is_universal());
-    Ok(())
-}
-
 #[test]
 fn ranges_meet_up_to_the_ends_of_types(rt: HostRuntime) -> Result<(), Fail> {
     let alloc = rt.alloc();
-    check_whole(
-        &rt,
-        alloc,
-        one_range(alloc, 0u8, 99)?,
-        one_range(alloc, 100u8, 255)?,
-    )?;
+    let low = one_range(alloc, 0u8, 99)?;
+    let high = one_range(alloc, 100u8, 255)?;
+    let bytes = [&low, &high].union(alloc)?;
+    assert!(rt; bytes.ranges_len() == 1 && bytes.is_universal());
     let low = one_range(alloc, '\0', '\u{D7FF}')?;
-    check_whole(&rt, alloc, low, one_range(alloc, '\u{E000}', '\u{10FFFF}')?)
+    let high = one_range(alloc, '\u{E000}', '\u{10FFFF}')?;
+    let scalars = [&low, &high].union(alloc)?;
+    assert!(rt; scalars.ranges_len() == 1 && scalars.is_universal());
+    Ok(())
 }
