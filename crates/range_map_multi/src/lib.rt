@@ -11,6 +11,3 @@ mod streams;
 
 pub use maps::{MultiwayRangeMapBlaze, MultiwayRangeMapBlazeRef};
 pub use streams::MultiwaySortedDisjointMap;
-
-#[cfg(test)]
-mod tests;
