@@ -9,6 +9,7 @@ use crate::joins::Join;
 use crate::keys::ScriptKey;
 use crate::look_ups::LookUp;
 use crate::makes::Make;
+use crate::many::Many;
 use crate::operators::{Complement, Operation};
 use crate::other_maps::OtherMap;
 use crate::runs::Run;
@@ -40,6 +41,7 @@ pub enum Call<T: ScriptKey> {
     Make(MapName, Make<T>),
     Operate(MapName, Operation),
     Join(MapName, Join),
+    Many(MapName, Many),
     FromPairs(MapName, FromPairs<T>),
     Complement(SetName, Complement),
     Set(SetName, Vec<RangeInclusive<T>>),
@@ -94,6 +96,9 @@ impl<T: ScriptKey> Call<T> {
         if let Ok(join) = Join::read(words) {
             return Ok(Call::Join(target, join));
         }
+        if let Some(many) = unless_bad(Many::read(alloc, words))? {
+            return Ok(Call::Many(target, many));
+        }
         if let Some(pairs) = unless_bad(FromPairs::read(alloc, words))? {
             return Ok(Call::FromPairs(target, pairs));
         }
@@ -136,6 +141,10 @@ impl<T: ScriptKey> Call<T> {
             }
             Call::Join(target, join) => {
                 let map = join.make(state)?;
+                state.set_map(target, map);
+            }
+            Call::Many(target, many) => {
+                let map = many.make(state)?;
                 state.set_map(target, map);
             }
             Call::Complement(target, complement) => {

@@ -13,6 +13,7 @@ mod keys;
 mod lines;
 mod look_ups;
 mod makes;
+mod many;
 mod operators;
 mod other_maps;
 mod runs;
