@@ -1,4 +1,4 @@
-// The keys that the bounds of a range name.
+//! The keys that the bounds of a range name.
 ghost use Rattle.std.specs.Prelude.{◌≡◌, ◌↔◌, ◌≤ℤ◌, ◌<ℤ◌, ℤ, IsTrue, MatchOption, IfSome};
 ghost use Rattle.std.specs.Range.Bound.{bound_map};
 ghost use Rattle.blaze_int.specs.Bounds.{start_rank, end_rank, IsNamed, AreEndsOf, AreAtRanks};

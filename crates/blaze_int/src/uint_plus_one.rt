@@ -1,4 +1,4 @@
-// The lengths of ranges of keys of 128 bits, which go one past the greatest `u128`.
+//! The lengths of ranges of keys of 128 bits, which go one past the greatest `u128`.
 ghost use Rattle.std.specs.Prelude.{◌^◌};
 ghost use Rattle.std.proofs.Common.{refl};
 

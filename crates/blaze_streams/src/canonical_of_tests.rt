@@ -1,3 +1,4 @@
+//! Pairs painted in order, whose values refuse to be cloned.
 use crate::canonical_of;
 use crate::tests::Uncloned;
 use std::test::Fail;

@@ -1,3 +1,4 @@
+//! Tables: paints, cuts and splits, also where memory or a clone is refused.
 ghost use Rattle.std.specs.Prelude.{◌≡◌, nat_eq};
 ghost use Rattle.std.proofs.Common.{rules};
 ghost use Rattle.std.specs.Cmp.Rules.{comparing};

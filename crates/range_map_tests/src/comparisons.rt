@@ -1,3 +1,4 @@
+//! The order of maps, and how often it looks.
 use crate::tests::words;
 use range_map_blaze::Turns;
 use std::cmp::Ordering;

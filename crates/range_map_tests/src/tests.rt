@@ -1,3 +1,4 @@
+//! Range maps whose values refuse to be cloned, and key types of any kind.
 ghost use Rattle.std.specs.Prelude.{◌≡◌, nat_eq};
 ghost use Rattle.std.proofs.Common.{rules};
 ghost use Rattle.std.specs.Cmp.Rules.{comparing};

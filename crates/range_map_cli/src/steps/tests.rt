@@ -1,3 +1,4 @@
+//! A list of steps and its answers.
 use crate::{Answer, Step, run};
 use range_map_blaze::{RangeMapBlaze, RangeSetBlaze};
 use std::test::Fail;
