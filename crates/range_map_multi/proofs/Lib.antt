@@ -1,3 +1,6 @@
+pub mod AnsweredRows
+pub mod InTurn
 pub mod Many
 pub mod OfTwo
-pub mod InTurn
+pub mod Placed
+pub mod RowSegments

@@ -2,10 +2,14 @@
 #![tactic(auto)]
 
 mod lent;
+mod lent_joins;
 mod lists;
 mod maps;
 mod merges;
 mod parity;
+mod parts;
+mod row_answers;
+mod rows;
 mod streams;
 
 pub mod laws;
