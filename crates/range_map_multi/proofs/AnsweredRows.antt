@@ -1,6 +1,6 @@
 -- What a closure answered so far at the segments of many lists, and one answer more.
-use Rattle.std.proofs.Common.{◌≡◌, ℕ, suc, ◌<◌, ℤ, ◌≤ℤ◌, Bool, true, false, cond, List, [], ◌∷◌, Some, None, refl, ◌∙◌, sym, ap, subst, arith}
-use Rattle.std.specs.Option.{Option, is_some}
+use Rattle.std.proofs.Common.{◌≡◌, ℕ, suc, ◌<◌, ℤ, ◌≤ℤ◌, Bool, true, false, cond, List, [], ◌∷◌, length, Option, Some, None, refl, ◌∙◌, sym, ap, subst, arith}
+use Rattle.std.specs.Option.{is_some}
 use Rattle.std.specs.List.{list_any}
 use Rattle.std.specs.Fn.{Mut}
 use Rattle.std.specs.Cmp.{IsEquivalence}
@@ -15,9 +15,10 @@ use Rattle.blaze_streams.specs.Segments.{row, row_eq}
 use Rattle.blaze_streams.proofs.Answering.{IsAnsweredSoFar, answered_none, takes_next, answered_more, answered_all}
 use Rattle.blaze_streams.proofs.FoundSegments.{next_less}
 use Rattle.blaze_streams.proofs.KeysLeft.{all_keys_left}
-use Rattle.blaze_streams.proofs.Rows.{all_canonical_after}
+use Rattle.blaze_streams.proofs.Rows.{all_canonical_after, is_first}
 use Rattle.range_map_multi.specs.ManyJoins.{IsJoinOfMany, IsCallableAtRows, IsManyJoined}
 use Rattle.range_map_multi.specs.Parts.{AllPlaced, AllRangeMaps, picked}
+use Rattle.range_map_multi.proofs.Many.{row_length}
 use Rattle.range_map_multi.proofs.Placed.{alike, with_row, next_alike}
 use Rattle.range_map_multi.proofs.RowSegments.{kept, AreSegments, AllKeys, next_is, none_is, segments_exist, rows_equiv, asked_segments}
 
@@ -85,6 +86,14 @@ module _ {F X W V : Type 0} (shows : X → List (Option V)) (g : Mut F X W) (eqv
 
       not_here : asks (picked vss p.value) ≡ false → kept asks h.next ≡ kept asks others.0
       not_here t = ap (kept asks) others.1.0 ∙ ap (λ b. cond b (with_row vss p ∷ kept asks others.0) (kept asks others.0)) t
+
+      -- as many places as lists of values
+      pub asked_count : length p.value ≡ length vss
+      asked_count = ap length n.has ∙ row_length Ns p.lo ∙ sym (alike vss Ns h.left h.placed).count
+
+      -- a list has something at the segment
+      pub asked_some : list_any is_some (picked vss p.value) ≡ true
+      asked_some = (is_first eqv h.left (all_after p.hi h.left) (with_row vss p) h.canonical next_left).some
 
       pub asked_less : all_keys_left Ns' < all_keys_left Ns
       asked_less =

@@ -2,5 +2,6 @@ pub mod AnsweredRows
 pub mod InTurn
 pub mod Many
 pub mod OfTwo
+pub mod Pickings
 pub mod Placed
 pub mod RowSegments

@@ -1,18 +1,18 @@
 -- Lists that are gone through by the places of their ranges.
-use Rattle.std.proofs.Common.{◌≡◌, ℕ, ◌+◌, ℤ, pos, ◌+ℤ◌, ◌-ℤ◌, Bool, true, false, cond, nat_eq, suc, List, [], ◌∷◌, ◌++◌, length, map, Option, Some, None, refl, ◌∙◌, sym, ap, option_map, append_assoc, arith}
+use Rattle.std.proofs.Common.{◌≡◌, ℕ, ◌+◌, ℤ, pos, ◌+ℤ◌, ◌-ℤ◌, Bool, true, false, cond, nat_eq, suc, List, [], ◌∷◌, ◌++◌, length, map, Option, Some, None, refl, ◌∙◌, sym, ap, option_map, append_assoc, append-nil, subst, arith}
 use Rattle.std.specs.Prelude.{int_le}
 use Rattle.std.specs.List.{slice_get}
 use Rattle.std.specs.Option.{option_and_then}
 use Rattle.std.proofs.lemmas.List.{length_push}
 use Rattle.blaze_table.specs.Entries.{Entry, entry, at, holds}
-use Rattle.blaze_table.specs.Canonical.{IsCanonical}
+use Rattle.blaze_table.specs.Canonical.{IsCanonical, IsRangeMap}
 use Rattle.blaze_table.specs.Count.{nat_of}
 use Rattle.blaze_table.specs.Splice.{after}
 use Rattle.blaze_streams.specs.Answers.{values}
 use Rattle.blaze_streams.specs.Cursors.{first_key, steady_to, lesser, first_keys, all_steady_to, all_after, IsNextSegment}
 use Rattle.blaze_streams.specs.Segments.{row}
 use Rattle.blaze_streams.proofs.KeysLeft.{keys_left, all_keys_left}
-use Rattle.range_map_multi.specs.Parts.{with_values, in_places, IsPlaced, AllPlaced, with_value, valued, all_valued, picked}
+use Rattle.range_map_multi.specs.Parts.{with_values, in_places, IsPlaced, AllPlaced, with_value, valued, all_valued, picked, AllRangeMaps}
 
 -- ---- other values on the same ranges
 
@@ -47,6 +47,9 @@ module _ {A B : Type 0} (f : A → B) where
   keys_with : (es : List (Entry A)) → keys_left (with_values f es) ≡ keys_left es
   keys_with [] = refl
   keys_with (e ∷ es) = ap (λ n. nat_of ((e.hi -ℤ e.lo) +ℤ pos 1) + n) (keys_with es)
+
+next_differs : (i : ℕ) → nat_eq i (i + 1) ≡ false
+next_differs i = grind arith
 
 module _ {V : Type 0} where
   -- ---- one list
@@ -91,8 +94,12 @@ module _ {V : Type 0} where
   pub placed_all : (vs : List V) (N : List (Entry ℕ)) (L : List (Entry V)) → vs ≡ values L → N ≡ in_places 0 L → IsPlaced vs N L
   placed_all vs N L p q = ap (with_values (slice_get vs)) q ∙ placed_from vs [] L 0 p refl
 
-  next_differs : (i : ℕ) → nat_eq i (i + 1) ≡ false
-  next_differs i = grind arith
+  -- one range more with its place
+  pub place_more : (n n' : ℕ) (e : Entry V) (r : Entry ℕ) (left next : List (Entry V)) → left ≡ e ∷ next → r.lo ≡ e.lo → r.hi ≡ e.hi → r.value ≡ n → n' ≡ n + 1 → in_places n left ≡ r ∷ in_places n' next
+  place_more n n' e r left next l lo hi v m =
+      ap (in_places n) l
+      ∙ ap (λ x. entry x e.hi n ∷ in_places (n + 1) next) (sym lo) ∙ ap (λ x. entry r.lo x n ∷ in_places (n + 1) next) (sym hi)
+      ∙ ap (λ x. entry r.lo r.hi x ∷ in_places (n + 1) next) (sym v) ∙ ap (λ x. r ∷ in_places x next) (sym m)
 
   pub canonical_places : (eq : V → V → Bool) (i : ℕ) (es : List (Entry V)) → IsCanonical eq es → IsCanonical nat_eq (in_places i es)
   canonical_places eq i [] c = tt
@@ -109,9 +116,11 @@ module _ {V : Type 0} where
     pub keys : all_keys_left Ls ≡ all_keys_left Ns
     pub next : (t : ℤ) → AllPlaced vss (all_after t Ns) (all_after t Ls)
     pub valued_are : all_valued vss Ns ≡ Ls
+    pub count : length vss ≡ length Ns
+    pub count_left : length Ls ≡ length Ns
 
   pub alike : (vss : List (List V)) (Ns : List (List (Entry ℕ))) (Ls : List (List (Entry V))) → AllPlaced vss Ns Ls → AreAlike vss Ns Ls
-  alike [] [] [] p = record { firsts = refl; ends = λ s. refl; rows = λ k. refl; keys = refl; next = λ t. tt; valued_are = refl }
+  alike [] [] [] p = record { firsts = refl; ends = λ s. refl; rows = λ k. refl; keys = refl; next = λ t. tt; valued_are = refl; count = refl; count_left = refl }
   alike [] [] (L ∷ Ls) p = absurd p
   alike [] (N ∷ Ns) Ls p = absurd p
   alike (vs ∷ vss) [] Ls p = absurd p
@@ -127,7 +136,48 @@ module _ {V : Type 0} where
         keys = ap (λ n. n + all_keys_left Ls) (sym (keys_with Some L) ∙ ap keys_left is ∙ keys_with get N) ∙ ap (λ n. keys_left N + n) r.keys;
         next = λ t. (after_placed vs N L t p.0, r.next t);
         valued_are = ap (λ l. l ∷ all_valued vss Ns) (valued_placed vs N L p.0) ∙ ap (λ l. L ∷ l) r.valued_are;
+        count = ap suc r.count;
+        count_left = ap suc r.count_left;
       }
+
+  -- ---- lists taken apart one after another
+
+  placed_push : (vss : List (List V)) (Ns : List (List (Entry ℕ))) (Ls : List (List (Entry V))) (vs : List V) (N : List (Entry ℕ)) (L : List (Entry V)) → AllPlaced vss Ns Ls → IsPlaced vs N L → AllPlaced (vss ++ vs ∷ []) (Ns ++ N ∷ []) (Ls ++ L ∷ [])
+  placed_push [] [] [] vs N L a p = (p, tt)
+  placed_push [] [] (M ∷ Ls) vs N L a p = absurd a
+  placed_push [] (M ∷ Ns) Ls vs N L a p = absurd a
+  placed_push (us ∷ vss) [] Ls vs N L a p = absurd a
+  placed_push (us ∷ vss) (M ∷ Ns) [] vs N L a p = absurd a
+  placed_push (us ∷ vss) (M ∷ Ns) (K ∷ Ls) vs N L a p = (a.0, placed_push vss Ns Ls vs N L a.1 p)
+
+  range_maps_push : (eq : V → V → Bool) (low high : ℤ) (Ls : List (List (Entry V))) (L : List (Entry V)) → AllRangeMaps eq low high Ls → IsRangeMap eq low high L → AllRangeMaps eq low high (Ls ++ L ∷ [])
+  range_maps_push eq low high [] L a m = (m, tt)
+  range_maps_push eq low high (K ∷ Ls) L a m = (a.0, range_maps_push eq low high Ls L a.1 m)
+
+  -- the lists before those that are left are taken apart
+  pub record AreTakenApart (eq : V → V → Bool) (low high : ℤ) (all left : List (List (Entry V))) (vss : List (List V)) (Ns : List (List (Entry ℕ))) : Type 0 where
+    pub done : List (List (Entry V))
+    pub whole : all ≡ done ++ left
+    pub placed : AllPlaced vss Ns done
+    pub range_maps : AllRangeMaps eq low high done
+
+  module _ (eq : V → V → Bool) (low high : ℤ) (all : List (List (Entry V))) where
+    pub apart_none : AreTakenApart eq low high all all [] []
+    apart_none = record { done = []; whole = refl; placed = tt; range_maps = tt }
+
+    pub apart_more : (left next : List (List (Entry V))) (L : List (Entry V)) (vss vss' : List (List V)) (vs : List V) (Ns Ns' : List (List (Entry ℕ))) (N : List (Entry ℕ)) → AreTakenApart eq low high all left vss Ns
+        → left ≡ L ∷ next → vss' ≡ vss ++ vs ∷ [] → Ns' ≡ Ns ++ N ∷ [] → IsPlaced vs N L → IsRangeMap eq low high L → AreTakenApart eq low high all next vss' Ns'
+    apart_more left next L vss vss' vs Ns Ns' N a l v n p m = record {
+      done = a.done ++ L ∷ [];
+      whole = a.whole ∙ ap (λ x. a.done ++ x) l ∙ sym (append_assoc a.done (L ∷ []) next);
+      placed = rw (v, n) (placed_push vss Ns a.done vs N L a.placed p);
+      range_maps = range_maps_push eq low high a.done L a.range_maps m;
+    }
+
+    pub apart_all : (left : List (List (Entry V))) (vss : List (List V)) (Ns : List (List (Entry ℕ))) → AreTakenApart eq low high all left vss Ns → left ≡ [] → AllPlaced vss Ns all × AllRangeMaps eq low high all
+    apart_all left vss Ns a e =
+        let is : all ≡ a.done = a.whole ∙ ap (λ x. a.done ++ x) e ∙ append-nil a.done in
+        (subst (AllPlaced vss Ns) (sym is) a.placed, subst (AllRangeMaps eq low high) (sym is) a.range_maps)
 
   -- a segment with the values at its places
   abbrev pub with_row : List (List V) → Entry (List (Option ℕ)) → Entry (List (Option V))

@@ -122,10 +122,6 @@ module _ {A : Type 0} where
     firsts_among s [] k p = none_some None s refl p
     firsts_among s (L ∷ Ls) k p = ⊎_elim (λ e. first_among s L k.0 e) (λ e. firsts_among s Ls k.1 e) (lesser_one (first_key L) (first_keys Ls) s p)
 
-    all_keys_after : (t : ℤ) (Ls : List (List (Entry A))) → AllKeys low high Ls → AllKeys low high (all_after t Ls)
-    all_keys_after t [] k = tt
-    all_keys_after t (L ∷ Ls) k = (are_keys_after low high t L k.0, all_keys_after t Ls k.1)
-
   module _ (eq : A → A → Bool) where
     steady_among : (low high s t : ℤ) (es : List (Entry A)) → IsCanonical eq es → AreKeys low high es → steady_to s es ≡ Some t → t ≤ℤ high
     steady_among low high s t [] c k p = none_some None t refl p
@@ -139,6 +135,10 @@ module _ {A : Type 0} where
     all_steady_among low high s t (L ∷ Ls) c k p = ⊎_elim
         (λ e. steady_among low high s t L c.0 k.0 e) (λ e. all_steady_among low high s t Ls c.1 k.1 e)
         (lesser_one (steady_to s L) (all_steady_to s Ls) t p)
+
+    all_keys_after : (low high t : ℤ) (Ls : List (List (Entry A))) → AllKeys low high Ls → AllKeys low high (all_after t Ls)
+    all_keys_after low high t [] k = tt
+    all_keys_after low high t (L ∷ Ls) k = (are_keys_after eq low high t L k.0, all_keys_after low high t Ls k.1)
 
     keys_segments : (low high : ℤ) (Ls : List (List (Entry A))) (ps : List (Entry (List (Option A)))) → AllCanonical eq Ls → AllKeys low high Ls → AreSegments Ls ps → AreKeys low high ps
     keys_segments low high Ls [] c k a = tt

@@ -10,6 +10,7 @@ mod parity;
 mod parts;
 mod row_answers;
 mod rows;
+mod stream_joins;
 mod streams;
 
 pub mod laws;

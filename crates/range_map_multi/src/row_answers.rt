@@ -65,10 +65,11 @@ fn inner_answers_of_some<
     let mut out = Vec::new(alloc);
     while let Some(segment) = next_segment(alloc, &mut cursors)? {
         fill_row(&mut row, &segment.at, lists)?;
-        if fill_full_row(&mut full, &row)? {
-            let answer = f(&full);
-            push_joined(&mut out, segment.lo, segment.hi, Owned(answer))?;
+        if !fill_full_row(&mut full, &row)? {
+            continue;
         }
+        let answer = f(&full);
+        push_joined(&mut out, segment.lo, segment.hi, Owned(answer))?;
     }
     Ok(CanonMapIter::new(out))
 }
