@@ -135,7 +135,7 @@ module _ {F X W V : Type 0} (shows : X → List (Option V)) (g : Mut F X W) (eqv
   -- ---- no lists, where the join is asked for the row of nothing
 
   module _ (laws : IsEquivalence eqv) (full : low ≤ℤ high) (asked : asks [] ≡ true) where
-    everywhere : Entry (List (Option V))
+    abbrev everywhere : Entry (List (Option V))
     everywhere = entry low high []
 
     join_of_none : IsJoinOfMany eqv low high asks [] (everywhere ∷ [])

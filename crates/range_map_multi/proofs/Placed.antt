@@ -4,6 +4,7 @@ use Rattle.std.specs.Prelude.{int_le}
 use Rattle.std.specs.List.{slice_get}
 use Rattle.std.specs.Option.{option_and_then}
 use Rattle.std.proofs.lemmas.List.{length_push}
+use Rattle.std.proofs.lemmas.Simd.{map-map}
 use Rattle.blaze_table.specs.Entries.{Entry, entry, at, holds}
 use Rattle.blaze_table.specs.Canonical.{IsCanonical, IsRangeMap}
 use Rattle.blaze_table.specs.Count.{nat_of}
@@ -186,3 +187,21 @@ module _ {V : Type 0} where
   -- the first segment by places is the first by values
   pub next_alike : (vss : List (List V)) (Ns Ns' : List (List (Entry ℕ))) (Ls : List (List (Entry V))) (p : Entry (List (Option ℕ))) → AllPlaced vss Ns Ls → IsNextSegment Ns p Ns' → IsNextSegment Ls (with_row vss p) (all_after p.hi Ls)
   next_alike vss Ns Ns' Ls p a n = let r = alike vss Ns Ls a in record { starts = r.firsts ∙ n.starts; ends = r.ends p.lo ∙ n.ends; has = ap (picked vss) n.has ∙ sym (r.rows p.lo); left = refl }
+
+-- ---- lists by another name
+
+module _ {V : Type 0} (vss vss' : List (List V)) (Ns Ns' : List (List (Entry ℕ))) (Ls : List (List (Entry V))) (is : vss' ≡ vss) (ranges : Ns' ≡ Ns) (placed : AllPlaced vss Ns Ls) where
+  pub given_lists : all_valued vss' Ns' ≡ Ls
+  given_lists = ap (λ vs. all_valued vs Ns') is ∙ ap (all_valued vss) ranges ∙ (alike vss Ns Ls placed).valued_are
+
+  pub given_placed : AllPlaced vss' Ns' (all_valued vss' Ns')
+  given_placed = subst (AllPlaced vss' Ns') (sym given_lists) (subst (λ vs. AllPlaced vs Ns' Ls) (sym is) (subst (λ ns. AllPlaced vss ns Ls) (sym ranges) placed))
+
+-- what references to items show is what the items show
+pub lent_shown : {A C V B D : Type 0} (shown : C → V) (now : A → C) (items : B → List A) (owned : D → List C) (lent : List B) (lists : List D) → map (λ v. map now (items v)) lent ≡ map owned lists
+    → map (λ v. map (λ c. shown (now c)) (items v)) lent ≡ map (λ v. map shown (owned v)) lists
+lent_shown shown now items owned lent lists p = sym (through lent) ∙ ap (map (map shown)) p ∙ map-map (map shown) owned lists
+  where
+    through : (vs : List B) → map (map shown) (map (λ v. map now (items v)) vs) ≡ map (λ v. map (λ c. shown (now c)) (items v)) vs
+    through [] = refl
+    through (v ∷ vs) = ap (λ l. l ∷ map (map shown) (map (λ v. map now (items v)) vs)) (map-map shown now (items v)) ∙ ap (λ l. map (λ c. shown (now c)) (items v) ∷ l) (through vs)

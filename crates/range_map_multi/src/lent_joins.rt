@@ -33,8 +33,8 @@ pub fn lent_inner_join<
     ensures { IfOk result (λ new. IsManyJoined (λ a. shown_full_row (λ v. v.now) a.0.now) F.FnMut V.eq T.low T.high (list_all is_some) W.eq f (map M.shown maps.now) new.entries) }
 {
     let streams = streams_of(alloc, maps)?;
-    let (cursors, values) = all_parts_of(alloc, streams)?;
-    let answers = inner_answers::<_, _, ByReference, _, _>(alloc, cursors, &values, f)?;
+    let (mut cursors, values) = all_parts_of(alloc, streams)?;
+    let answers = inner_answers::<_, _, ByReference, _, _>(alloc, &mut cursors, &values, f)?;
     let new = map_of(alloc, answers)?;
     Ok(new)
 }
@@ -52,8 +52,8 @@ pub fn lent_full_join<
     ensures { IfOk result (λ new. IsManyJoined (λ a. shown_row (λ v. v.now) a.0.now) F.FnMut V.eq T.low T.high (list_any is_some) W.eq f (map M.shown maps.now) new.entries) }
 {
     let streams = streams_of(alloc, maps)?;
-    let (cursors, values) = all_parts_of(alloc, streams)?;
-    let answers = full_answers::<_, _, ByReference, _, _>(alloc, cursors, &values, f)?;
+    let (mut cursors, values) = all_parts_of(alloc, streams)?;
+    let answers = full_answers::<_, _, ByReference, _, _>(alloc, &mut cursors, &values, f)?;
     let new = map_of(alloc, answers)?;
     Ok(new)
 }

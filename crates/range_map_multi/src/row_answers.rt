@@ -1,8 +1,7 @@
 //! What a closure answers at the segments of many lists, by their ranges with places and the items at these places. One segment
 //! is found at a time: with n ranges in k lists and s segments it takes O(n + s k) steps, and O(k) memory beside the answer.
-ghost use Rattle.std.specs.Prelude.{[], ◌≡◌, ◌<◌, map, is_some, IfOk};
+ghost use Rattle.std.specs.Prelude.{[], ◌<◌, length, map, is_some, IfOk};
 ghost use Rattle.std.specs.List.{list_all, list_any};
-ghost use Rattle.std.specs.Vec.{vec_len};
 ghost use Rattle.range_map_multi.specs.ManyJoins.{shown_row, shown_full_row, IsCallableAtRows, IsManyJoined};
 ghost use Rattle.range_map_multi.specs.Parts.{AllPlaced, all_valued, AllRangeMaps};
 
@@ -21,18 +20,18 @@ pub fn full_answers<
     F: FnMut(&[Option<A>]) -> W,
 >(
     alloc: Global,
-    mut cursors: Vec<Cursor<T>>,
+    cursors: &mut [Cursor<T>],
     lists: &[Vec<A>],
     mut f: F,
 ) -> Result<CanonMapIter<T, Owned<W>>, AllocError>
-    requires placed { let values = map (λ v. map S.shown v.items) lists.now in AllPlaced values cursors.items (all_valued values cursors.items) }
-    requires range_maps { AllRangeMaps S.Value.eq T.low T.high (all_valued (map (λ v. map S.shown v.items) lists.now) cursors.items) }
-    requires callable { IsCallableAtRows (λ a. shown_row S.shown a.0.now) F.FnMut S.Value.eq T.low T.high (list_any is_some) f (all_valued (map (λ v. map S.shown v.items) lists.now) cursors.items) }
-    ensures { IfOk result (λ new. IsManyJoined (λ a. shown_row S.shown a.0.now) F.FnMut S.Value.eq T.low T.high (list_any is_some) W.eq f (all_valued (map (λ v. map S.shown v.items) lists.now) cursors.items) new) }
+    requires placed { let values = map (λ v. map S.shown v.items) lists.now in AllPlaced values cursors.old (all_valued values cursors.old) }
+    requires range_maps { AllRangeMaps S.Value.eq T.low T.high (all_valued (map (λ v. map S.shown v.items) lists.now) cursors.old) }
+    requires callable { IsCallableAtRows (λ a. shown_row S.shown a.0.now) F.FnMut S.Value.eq T.low T.high (list_any is_some) f (all_valued (map (λ v. map S.shown v.items) lists.now) cursors.old) }
+    ensures { IfOk result (λ new. IsManyJoined (λ a. shown_row S.shown a.0.now) F.FnMut S.Value.eq T.low T.high (list_any is_some) W.eq f (all_valued (map (λ v. map S.shown v.items) lists.now) cursors.old) new) }
 {
     let mut row = Vec::new(alloc);
     let mut out = Vec::new(alloc);
-    while let Some(segment) = next_segment(alloc, &mut cursors)? {
+    while let Some(segment) = next_segment(alloc, cursors)? {
         fill_row(&mut row, &segment.at, lists)?;
         let answer = f(&row);
         push_joined(&mut out, segment.lo, segment.hi, Owned(answer))?;
@@ -50,20 +49,20 @@ fn inner_answers_of_some<
     F: FnMut(&[A]) -> W,
 >(
     alloc: Global,
-    mut cursors: Vec<Cursor<T>>,
+    cursors: &mut [Cursor<T>],
     lists: &[Vec<A>],
     mut f: F,
 ) -> Result<CanonMapIter<T, Owned<W>>, AllocError>
-    requires some { 0 < vec_len cursors }
-    requires placed { let values = map (λ v. map S.shown v.items) lists.now in AllPlaced values cursors.items (all_valued values cursors.items) }
-    requires range_maps { AllRangeMaps S.Value.eq T.low T.high (all_valued (map (λ v. map S.shown v.items) lists.now) cursors.items) }
-    requires callable { IsCallableAtRows (λ a. shown_full_row S.shown a.0.now) F.FnMut S.Value.eq T.low T.high (list_all is_some) f (all_valued (map (λ v. map S.shown v.items) lists.now) cursors.items) }
-    ensures { IfOk result (λ new. IsManyJoined (λ a. shown_full_row S.shown a.0.now) F.FnMut S.Value.eq T.low T.high (list_all is_some) W.eq f (all_valued (map (λ v. map S.shown v.items) lists.now) cursors.items) new) }
+    requires some { 0 < length cursors.old }
+    requires placed { let values = map (λ v. map S.shown v.items) lists.now in AllPlaced values cursors.old (all_valued values cursors.old) }
+    requires range_maps { AllRangeMaps S.Value.eq T.low T.high (all_valued (map (λ v. map S.shown v.items) lists.now) cursors.old) }
+    requires callable { IsCallableAtRows (λ a. shown_full_row S.shown a.0.now) F.FnMut S.Value.eq T.low T.high (list_all is_some) f (all_valued (map (λ v. map S.shown v.items) lists.now) cursors.old) }
+    ensures { IfOk result (λ new. IsManyJoined (λ a. shown_full_row S.shown a.0.now) F.FnMut S.Value.eq T.low T.high (list_all is_some) W.eq f (all_valued (map (λ v. map S.shown v.items) lists.now) cursors.old) new) }
 {
     let mut row = Vec::new(alloc);
     let mut full = Vec::new(alloc);
     let mut out = Vec::new(alloc);
-    while let Some(segment) = next_segment(alloc, &mut cursors)? {
+    while let Some(segment) = next_segment(alloc, cursors)? {
         fill_row(&mut row, &segment.at, lists)?;
         if !fill_full_row(&mut full, &row)? {
             continue;
@@ -81,7 +80,10 @@ fn inner_answers_of_none<
     S: Shows<A>,
     W: Eq + Clone,
     F: FnMut(&[A]) -> W,
->(alloc: Global, mut f: F) -> Result<CanonMapIter<T, Owned<W>>, AllocError>
+>(
+    alloc: Global,
+    mut f: F,
+) -> Result<CanonMapIter<T, Owned<W>>, AllocError>
     requires { IsCallableAtRows (λ a. shown_full_row S.shown a.0.now) F.FnMut S.Value.eq T.low T.high (list_all is_some) f [] }
     ensures { IfOk result (λ new. IsManyJoined (λ a. shown_full_row S.shown a.0.now) F.FnMut S.Value.eq T.low T.high (list_all is_some) W.eq f [] new) }
 {
@@ -105,14 +107,14 @@ pub fn inner_answers<
     F: FnMut(&[A]) -> W,
 >(
     alloc: Global,
-    cursors: Vec<Cursor<T>>,
+    cursors: &mut [Cursor<T>],
     lists: &[Vec<A>],
     f: F,
 ) -> Result<CanonMapIter<T, Owned<W>>, AllocError>
-    requires placed { let values = map (λ v. map S.shown v.items) lists.now in AllPlaced values cursors.items (all_valued values cursors.items) }
-    requires range_maps { AllRangeMaps S.Value.eq T.low T.high (all_valued (map (λ v. map S.shown v.items) lists.now) cursors.items) }
-    requires callable { IsCallableAtRows (λ a. shown_full_row S.shown a.0.now) F.FnMut S.Value.eq T.low T.high (list_all is_some) f (all_valued (map (λ v. map S.shown v.items) lists.now) cursors.items) }
-    ensures { IfOk result (λ new. IsManyJoined (λ a. shown_full_row S.shown a.0.now) F.FnMut S.Value.eq T.low T.high (list_all is_some) W.eq f (all_valued (map (λ v. map S.shown v.items) lists.now) cursors.items) new) }
+    requires placed { let values = map (λ v. map S.shown v.items) lists.now in AllPlaced values cursors.old (all_valued values cursors.old) }
+    requires range_maps { AllRangeMaps S.Value.eq T.low T.high (all_valued (map (λ v. map S.shown v.items) lists.now) cursors.old) }
+    requires callable { IsCallableAtRows (λ a. shown_full_row S.shown a.0.now) F.FnMut S.Value.eq T.low T.high (list_all is_some) f (all_valued (map (λ v. map S.shown v.items) lists.now) cursors.old) }
+    ensures { IfOk result (λ new. IsManyJoined (λ a. shown_full_row S.shown a.0.now) F.FnMut S.Value.eq T.low T.high (list_all is_some) W.eq f (all_valued (map (λ v. map S.shown v.items) lists.now) cursors.old) new) }
 {
     if cursors.is_empty() {
         let new = inner_answers_of_none::<T, A, S, W, F>(alloc, f)?;

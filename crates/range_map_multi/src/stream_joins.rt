@@ -30,9 +30,9 @@ pub fn stream_inner_join<
     requires { IsCallableAtRows (λ a. shown_full_row (λ c. VC.shown c.now) a.0.now) F.FnMut VC.Value.eq T.low T.high (list_all is_some) f (map I.left streams.items) }
     ensures { IfOk result (λ new. IsManyJoined (λ a. shown_full_row (λ c. VC.shown c.now) a.0.now) F.FnMut VC.Value.eq T.low T.high (list_all is_some) W.eq f (map I.left streams.items) new) }
 {
-    let (cursors, carriers) = all_parts_of(alloc, streams)?;
+    let (mut cursors, carriers) = all_parts_of(alloc, streams)?;
     let lent = lent_lists(alloc, &carriers)?;
-    let new = inner_answers::<_, _, ByCarrier, _, _>(alloc, cursors, &lent, f)?;
+    let new = inner_answers::<_, _, ByCarrier, _, _>(alloc, &mut cursors, &lent, f)?;
     Ok(new)
 }
 
@@ -47,8 +47,8 @@ pub fn stream_full_join<
     requires { IsCallableAtRows (λ a. shown_row (λ c. VC.shown c.now) a.0.now) F.FnMut VC.Value.eq T.low T.high (list_any is_some) f (map I.left streams.items) }
     ensures { IfOk result (λ new. IsManyJoined (λ a. shown_row (λ c. VC.shown c.now) a.0.now) F.FnMut VC.Value.eq T.low T.high (list_any is_some) W.eq f (map I.left streams.items) new) }
 {
-    let (cursors, carriers) = all_parts_of(alloc, streams)?;
+    let (mut cursors, carriers) = all_parts_of(alloc, streams)?;
     let lent = lent_lists(alloc, &carriers)?;
-    let new = full_answers::<_, _, ByCarrier, _, _>(alloc, cursors, &lent, f)?;
+    let new = full_answers::<_, _, ByCarrier, _, _>(alloc, &mut cursors, &lent, f)?;
     Ok(new)
 }

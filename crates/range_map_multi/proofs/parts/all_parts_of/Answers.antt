@@ -1,13 +1,16 @@
-use Rattle.std.proofs.Common.{◌≡◌, ◌∙◌, [], ◌∷◌, map, sym, ap, rules}
+use Rattle.std.proofs.Common.{◌≡◌, ◌∙◌, [], ◌∷◌, map, sym, ap, subst, rules}
 use Rattle.std.proofs.lemmas.List.{map-append, nil_from_length}
 use Rattle.std.specs.Vec.Iter.{into_iter_items}
-use Rattle.range_map_multi.proofs.Placed.{apart_none, apart_more, apart_all}
+use Rattle.range_map_multi.proofs.Placed.{AreTakenApart, apart_none, apart_more, apart_all}
 use Rattle.range_map_multi.proofs.parts.all_parts_of.Goals as goal
 
 pub loop-stream-init : goal.loop-stream-init
 loop-stream-init g c =
-    rw (c.new-carriers.ensures.items, c.new-cursors.ensures.items, c.into_iter-stream-iterator.ensures.into_iter_gives)
-    (apart_none g.VC.Value.PartialEq.eq g.T.Integer.low g.T.Integer.high (map g.I.SortedDisjointMap.left c.args.streams.items))
+    let all = map g.I.SortedDisjointMap.left c.args.streams.items in
+    let is : c.args.streams.items ≡ into_iter_items c.into_iter-stream-iterator.result = search rules in
+    rw (c.new-carriers.ensures.items, c.new-cursors.ensures.items)
+    (subst (λ xs. AreTakenApart g.VC.Value.PartialEq.eq g.T.Integer.low g.T.Integer.high all (map g.I.SortedDisjointMap.left xs) [] []) is
+    (apart_none g.VC.Value.PartialEq.eq g.T.Integer.low g.T.Integer.high all))
 
 pub loop-stream-preserved : goal.loop-stream-preserved
 loop-stream-preserved g c =

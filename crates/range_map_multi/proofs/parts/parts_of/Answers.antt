@@ -18,7 +18,7 @@ loop-item-preserved g c =
     let i = c.loop-item.invariant in
     let old = c.loop-item.carriers in
     let step = g.met.I.SortedDisjointMap.gives _ _ _ c.in-Some.ensures.steps in
-    let grown : length c.push-in-loop-item.new.self.items ≡ length old.items + 1 = ap length c.in_ok-push-2.ensures.items ∙ length_push in
+    let grown : length c.push-in-loop-item.new.self.items ≡ length old.items + 1 = ap length c.in_ok-push-2.ensures.items ∙ length_push old.items c.in-Some.item.1 in
     record {
       ranges = taken_more (shown_entry rank (λ p. p)) _ _ _ _ _ _ c.in_ok-push.ensures.items
           (place_more (length old.items) _ (shown_range rank shown c.in-Some.item) _ _ _ step

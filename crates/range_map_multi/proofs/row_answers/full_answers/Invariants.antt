@@ -12,7 +12,7 @@ abbrev pub invariant-loop-out : goal.invariant-loop-out
 invariant-loop-out g l =
     let values = map (λ v. map g.S.Shows.shown v.items) l.lists in
     IsAskedSoFar (λ a. shown_row g.S.Shows.shown a.0.now) g.F.FnMut g.S.Value.PartialEq.eq g.W.PartialEq.eq g.T.Integer.low g.T.Integer.high (list_any is_some) l.initial.f
-    values (all_valued values l.fn.cursors.items) l.cursors.items l.f (shown_ranges g.T.Integer.rank (λ o. o.0) l.out.items)
+    values (all_valued values l.fn.cursors) l.cursors l.f (shown_ranges g.T.Integer.rank (λ o. o.0) l.out.items)
 
 abbrev pub decreases-loop-out : goal.decreases-loop-out
-decreases-loop-out g l = all_keys_left l.cursors.items
+decreases-loop-out g l = all_keys_left l.cursors
