@@ -1,8 +1,8 @@
 -- The rows of what is picked from lists.
-use Rattle.std.proofs.Common.{◌≡◌, ℕ, suc, ◌+◌, ◌<◌, ◌≤◌, ℤ, Bool, true, false, ◌&&◌, List, [], ◌∷◌, ◌++◌, length, map, drop, get_or, Option, Some, None, is_some, refl, ◌∙◌, sym, ap, option_map, drop-cons, add-one, arith}
+use Rattle.std.proofs.Common.{◌≡◌, ℕ, suc, ◌+◌, ◌<◌, ◌≤◌, ℤ, Bool, true, false, nat_eq, ◌&&◌, List, [], ◌∷◌, ◌++◌, length, map, drop, get_or, Option, Some, None, is_some, refl, ◌∙◌, sym, ap, option_map, drop-cons, add-one, arith}
 use Rattle.std.specs.List.{slice_get, list_all, list_any}
 use Rattle.std.specs.Option.{option_and_then}
-use Rattle.std.proofs.lemmas.List.{length-map}
+use Rattle.std.proofs.lemmas.List.{length-map, nil_from_length}
 use Rattle.std.proofs.lemmas.Option.{slice_get-map}
 use Rattle.blaze_table.specs.Entries.{Entry}
 use Rattle.blaze_streams.specs.Carried.{shown_option}
@@ -11,6 +11,9 @@ use Rattle.range_map_multi.specs.ManyJoins.{shown_row, shown_full_row}
 use Rattle.range_map_multi.specs.Parts.{AllPlaced, all_valued, picked}
 use Rattle.range_map_multi.proofs.Many.{row_length}
 use Rattle.range_map_multi.proofs.Placed.{alike}
+
+pub none_from_empty : {A : Type 0} (xs : List A) (b : Bool) → b ≡ nat_eq (length xs) 0 → b ≡ true → xs ≡ []
+none_from_empty xs b p q = nil_from_length xs (grind (arith, p, q))
 
 pub picked_none : {V : Type 0} (vss : List (List V)) → picked vss [] ≡ []
 picked_none [] = refl

@@ -200,7 +200,7 @@ module _ {V : Type 0} (vss vss' : List (List V)) (Ns Ns' : List (List (Entry ℕ
 -- what references to items show is what the items show
 pub lent_shown : {A C V B D : Type 0} (shown : C → V) (now : A → C) (items : B → List A) (owned : D → List C) (lent : List B) (lists : List D) → map (λ v. map now (items v)) lent ≡ map owned lists
     → map (λ v. map (λ c. shown (now c)) (items v)) lent ≡ map (λ v. map shown (owned v)) lists
-lent_shown shown now items owned lent lists p = sym (through lent) ∙ ap (map (map shown)) p ∙ map-map (map shown) owned lists
+lent_shown {B = B} shown now items owned lent lists p = sym (through lent) ∙ ap (map (map shown)) p ∙ map-map (map shown) owned lists
   where
     through : (vs : List B) → map (map shown) (map (λ v. map now (items v)) vs) ≡ map (λ v. map (λ c. shown (now c)) (items v)) vs
     through [] = refl
