@@ -103,11 +103,13 @@ module _ {A : Type 0} where
   next_is Ls p (q ∷ qs) a n =
       let lo : q.lo ≡ p.lo = same_some q.lo p.lo (sym a.0.starts ∙ n.starts) in
       let hi : q.hi ≡ p.hi = same_some q.hi p.hi (sym a.0.ends ∙ ap (λ s. all_steady_to s Ls) lo ∙ n.ends) in
-      let value : q.value ≡ p.value = a.0.has ∙ ap (row Ls) lo ∙ sym n.has in
-      (qs, (
-        ap (λ x. entry x q.hi q.value ∷ qs) lo ∙ ap (λ x. entry p.lo x q.value ∷ qs) hi ∙ ap (λ x. entry p.lo p.hi x ∷ qs) value,
-        subst (λ t. AreSegments (all_after t Ls) qs) hi a.1,
-      ))
+      let value : q.value ≡ p.value = a.0.has ∙ ap (row Ls) lo ∙ sym n.has in (
+        qs,
+        (
+          ap (λ x. entry x q.hi q.value ∷ qs) lo ∙ ap (λ x. entry p.lo x q.value ∷ qs) hi ∙ ap (λ x. entry p.lo p.hi x ∷ qs) value,
+          subst (λ t. AreSegments (all_after t Ls) qs) hi a.1,
+        ),
+      )
 
   pub none_is : (Ls : List (List (Entry A))) (ps : List (Entry (List (Option A)))) → AreSegments Ls ps → first_keys Ls ≡ None → ps ≡ []
   none_is Ls [] a f = refl

@@ -39,7 +39,7 @@ pub trait MultiwayRangeMapBlazeRef<T: Integer, V: Eq + Clone>: Sized {
     /// What a closure answers where all maps have a value: one call for each of the greatest ranges on which no map changes and
     /// all have a value, ascending. A call gets the row of the maps' values, first to last. Touching equal answers are one
     /// entry. Of no maps the closure is called once, with an empty row, and its answer is at every key. With n entries in k maps
-    /// it takes O(n k) steps and O(n + k) memory beside the answer. Refused memory drops the answers.
+    /// it takes O(n k) steps and O(n + k) memory beside the answer. No value is cloned. Refused memory drops the answers.
     fn inner_join<W: Eq + Clone, F: FnMut(&[&V]) -> W>(
         self,
         alloc: Global,
@@ -58,7 +58,8 @@ pub trait MultiwayRangeMapBlazeRef<T: Integer, V: Eq + Clone>: Sized {
         ensures { IfOk result (λ new. IsManyJoined (λ a. shown_row (λ v. v.now) a.0.now) F.FnMut V.eq T.low T.high (list_any is_some) W.eq f (lists self) new.entries) };
 }
 
-impl<'a, T: Integer, V: Eq + Clone> MultiwayRangeMapBlazeRef<T, V> for Vec<&'a RangeMapBlaze<T, V>> {
+impl<'a, T: Integer, V: Eq + Clone> MultiwayRangeMapBlazeRef<T, V>
+    for Vec<&'a RangeMapBlaze<T, V>> {
     ghost lists = { λ s. map (λ m. m.now.entries) s.items };
 
     fn union(self, alloc: Global) -> Result<RangeMapBlaze<T, V>, AllocError> {
@@ -96,8 +97,7 @@ impl<'a, T: Integer, V: Eq + Clone> MultiwayRangeMapBlazeRef<T, V> for Vec<&'a R
 }
 
 impl<T: Integer, V: Eq + Clone, M: AsMap<T, V>, const N: usize> MultiwayRangeMapBlazeRef<T, V>
-    for [M; N]
-{
+    for [M; N] {
     ghost lists = { λ s. map M.shown s };
 
     fn union(self, alloc: Global) -> Result<RangeMapBlaze<T, V>, AllocError> {

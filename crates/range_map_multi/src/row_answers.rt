@@ -12,13 +12,7 @@ use std::alloc::{AllocError, Global};
 
 /// What a closure answers where at least one list has something: one call for each segment, ascending. Refused memory drops
 /// the answers.
-pub fn full_answers<
-    T: Integer,
-    A: Copy,
-    S: Shows<A>,
-    W: Eq + Clone,
-    F: FnMut(&[Option<A>]) -> W,
->(
+pub fn full_answers<T: Integer, A: Copy, S: Shows<A>, W: Eq + Clone, F: FnMut(&[Option<A>]) -> W>(
     alloc: Global,
     cursors: &mut [Cursor<T>],
     lists: &[Vec<A>],
@@ -41,13 +35,7 @@ pub fn full_answers<
 
 /// What a closure answers where all lists have something, of which there is at least one: one call for each such segment,
 /// ascending. Refused memory drops the answers.
-fn inner_answers_of_some<
-    T: Integer,
-    A: Copy,
-    S: Shows<A>,
-    W: Eq + Clone,
-    F: FnMut(&[A]) -> W,
->(
+fn inner_answers_of_some<T: Integer, A: Copy, S: Shows<A>, W: Eq + Clone, F: FnMut(&[A]) -> W>(
     alloc: Global,
     cursors: &mut [Cursor<T>],
     lists: &[Vec<A>],
@@ -74,13 +62,7 @@ fn inner_answers_of_some<
 }
 
 /// What a closure answers at the row of no lists, at every key: one call.
-fn inner_answers_of_none<
-    T: Integer,
-    A: Copy,
-    S: Shows<A>,
-    W: Eq + Clone,
-    F: FnMut(&[A]) -> W,
->(
+fn inner_answers_of_none<T: Integer, A: Copy, S: Shows<A>, W: Eq + Clone, F: FnMut(&[A]) -> W>(
     alloc: Global,
     mut f: F,
 ) -> Result<CanonMapIter<T, Owned<W>>, AllocError>
@@ -99,13 +81,7 @@ fn inner_answers_of_none<
 
 /// What a closure answers where all lists have something: one call for each such segment, ascending. Of no lists the closure
 /// is called once, and its answer is at every key. Refused memory drops the answers.
-pub fn inner_answers<
-    T: Integer,
-    A: Copy,
-    S: Shows<A>,
-    W: Eq + Clone,
-    F: FnMut(&[A]) -> W,
->(
+pub fn inner_answers<T: Integer, A: Copy, S: Shows<A>, W: Eq + Clone, F: FnMut(&[A]) -> W>(
     alloc: Global,
     cursors: &mut [Cursor<T>],
     lists: &[Vec<A>],

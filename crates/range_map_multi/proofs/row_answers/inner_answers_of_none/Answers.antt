@@ -26,10 +26,10 @@ new-requires g c =
     let answer = c.f-answer.result in
     let last = rank c.max_value-last.result in
     let put = c.in_ok-push_joined.ensures.ok
-        ∙ ap (λ l. glue eq (shown_ranges rank (λ o. o.0) l) (entry (rank c.min_value-first.result) last answer ∷ [])) c.new-out.ensures.items
-        ∙ ap (λ l. entry l last answer ∷ []) c.min_value-first.ensures ∙ ap (λ h. entry low h answer ∷ []) c.max_value-last.ensures in
+    ∙ ap (λ l. glue eq (shown_ranges rank (λ o. o.0) l) (entry (rank c.min_value-first.result) last answer ∷ [])) c.new-out.ensures.items
+    ∙ ap (λ l. entry l last answer ∷ []) c.min_value-first.ensures ∙ ap (λ h. entry low h answer ∷ []) c.max_value-last.ensures in
     let joined = none_joined (λ a. shown_full_row shown a.0.now) g.F.FnMut g.S.Value.PartialEq.eq eq low high (list_all is_some) c.args.f g.met.S.Value.Eq.laws full refl g.met.W.Eq.laws _ answer _
-        (record { arguments = _; shown = ap (shown_full_row shown) (c.deref.ensures.value ∙ c.new-row.ensures.items); called = c.f-answer.ensures }) put in
+    (record { arguments = _; shown = ap (shown_full_row shown) (c.deref.ensures.value ∙ c.new-row.ensures.items); called = c.f-answer.ensures }) put in
     joined.answered.range_map
 
 pub returns : goal.returns
@@ -43,8 +43,8 @@ returns g c =
     let answer = c.f-answer.result in
     let last = rank c.max_value-last.result in
     let put = c.in_ok-push_joined.ensures.ok
-        ∙ ap (λ l. glue eq (shown_ranges rank (λ o. o.0) l) (entry (rank c.min_value-first.result) last answer ∷ [])) c.new-out.ensures.items
-        ∙ ap (λ l. entry l last answer ∷ []) c.min_value-first.ensures ∙ ap (λ h. entry low h answer ∷ []) c.max_value-last.ensures in
+    ∙ ap (λ l. glue eq (shown_ranges rank (λ o. o.0) l) (entry (rank c.min_value-first.result) last answer ∷ [])) c.new-out.ensures.items
+    ∙ ap (λ l. entry l last answer ∷ []) c.min_value-first.ensures ∙ ap (λ h. entry low h answer ∷ []) c.max_value-last.ensures in
     let joined = none_joined (λ a. shown_full_row shown a.0.now) g.F.FnMut g.S.Value.PartialEq.eq eq low high (list_all is_some) c.args.f g.met.S.Value.Eq.laws full refl g.met.W.Eq.laws _ answer _
-        (record { arguments = _; shown = ap (shown_full_row shown) (c.deref.ensures.value ∙ c.new-row.ensures.items); called = c.f-answer.ensures }) put in
+    (record { arguments = _; shown = ap (shown_full_row shown) (c.deref.ensures.value ∙ c.new-row.ensures.items); called = c.f-answer.ensures }) put in
     rw c.new.ensures joined
