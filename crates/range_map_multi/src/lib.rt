@@ -1,6 +1,7 @@
 //! Operations between any number of maps.
 #![tactic(auto)]
 
+pub mod laws;
 mod lent;
 mod lent_joins;
 mod lists;
@@ -13,11 +14,11 @@ mod rows;
 mod stream_joins;
 mod streams;
 
-pub mod laws;
-
 pub use maps::{MultiwayRangeMapBlaze, MultiwayRangeMapBlazeRef};
 pub use streams::MultiwaySortedDisjointMap;
 
+#[cfg(test)]
+mod join_tests;
 #[cfg(test)]
 mod stream_tests;
 #[cfg(test)]
