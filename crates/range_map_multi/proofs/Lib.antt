@@ -1,5 +1,6 @@
 pub mod AnsweredRows
 pub mod InTurn
+pub mod JoinsOfTwo
 pub mod Many
 pub mod OfTwo
 pub mod Pickings
