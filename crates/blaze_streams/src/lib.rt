@@ -42,12 +42,18 @@ pub use carrier::ValueCarrier;
 pub use check::CheckSortedDisjoint;
 pub use check_map::CheckSortedDisjointMap;
 pub use complements::complement;
+// For `range_map_multi` alone, which goes through many streams as this crate does through many lists.
+#[doc(hidden)]
+pub use cursor::Cursor;
 pub use fills::fill;
 pub use into_range_values::IntoRangeValuesIter;
 pub use join_answers::{
     answer_both, answer_either, answer_left, full_join_of, inner_join_of, left_join_of,
 };
 pub use joins::{JoinKind, join_of};
+// For `range_map_multi` alone.
+#[doc(hidden)]
+pub use list_segments::next_segment;
 pub use list_segments::{Segment, segments};
 pub use map_into_ranges::MapIntoRangesIter;
 pub use map_ranges::MapRangesIter;
@@ -58,6 +64,9 @@ pub use multiway::{
 pub use not_sorted::NotSorted;
 pub use owned::Owned;
 pub use owned_range_values::OwnedRangeValuesIter;
+// For `range_map_multi` alone.
+#[doc(hidden)]
+pub use push::push_joined;
 pub use range_values::RangeValuesIter;
 pub use ranges_stream::SortedDisjoint;
 pub use stream::{BothEnds, SortedDisjointMap};

@@ -79,8 +79,8 @@ fn segments_left<T: Integer>(
     Ok(found)
 }
 
-/// Takes the first segment off the lists.
-fn next_segment<T: Integer>(
+/// Takes the first segment off the lists, or answers `None` where nothing is left. Refused memory leaves the lists unchanged.
+pub fn next_segment<T: Integer>(
     alloc: Global,
     lists: &mut [Cursor<T>],
 ) -> Result<Option<Segment<T>>, AllocError>

@@ -28,11 +28,11 @@ answers_are_on_its_keys {V = V} shows g eq low high f entries new t =
     same_keys low high entries new (answers_keep_keys V eq entries t.answers new (t.in_turn.count ∙ length-map entries (λ e. e.value)) t.content)
 
 -- no key below the least or above the greatest is mapped
-below_all : {V : Type 0} (low high : ℤ) (es : List (Entry V)) (k : ℤ) → AreKeys low high es → k <ℤ low → at es k ≡ None
+pub below_all : {V : Type 0} (low high : ℤ) (es : List (Entry V)) (k : ℤ) → AreKeys low high es → k <ℤ low → at es k ≡ None
 below_all low high [] k a h = refl
 below_all low high (e ∷ es) k a h = at_under e es k (omega (arith, ints, a.0)) ∙ below_all low high es k a.2 h
 
-above_all : {V : Type 0} (low high : ℤ) (es : List (Entry V)) (k : ℤ) → AreKeys low high es → high <ℤ k → at es k ≡ None
+pub above_all : {V : Type 0} (low high : ℤ) (es : List (Entry V)) (k : ℤ) → AreKeys low high es → high <ℤ k → at es k ≡ None
 above_all low high [] k a h = refl
 above_all low high (e ∷ es) k a h = at_over e es k (omega (arith, ints, a.1)) ∙ above_all low high es k a.2 h
 

@@ -14,7 +14,7 @@ use blaze_table::RangeTable;
 use std::alloc::{AllocError, Global};
 
 /// The map of a stream whose carriers are values: no value is cloned. Refused memory drops the stream.
-fn map_of<T: Integer, W: Eq + Clone>(
+pub fn map_of<T: Integer, W: Eq + Clone>(
     alloc: Global,
     stream: CanonMapIter<T, Owned<W>>,
 ) -> Result<RangeMapBlaze<T, W>, AllocError>

@@ -45,6 +45,9 @@ pub use blaze_streams::{
     symmetric_difference_of, transform, union_of,
 };
 pub use blaze_table::{IntoRangesIter, RangeSetBlaze, RangesIter};
+// For `range_map_multi` alone, whose joins give such streams.
+#[doc(hidden)]
+pub use joins::map_of;
 pub use map::RangeMapBlaze;
 pub use stream::IntoRangeMapBlaze;
 pub use turns::Turns;

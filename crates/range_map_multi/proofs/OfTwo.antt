@@ -23,7 +23,7 @@ module _ {V : Type 0} where
 
 module _ {V : Type 0} (eq : V → V → Bool) (laws : IsEquivalence eq) (low high : ℤ) where
   -- two range maps that have like values of one content
-  one_list : (content : ℤ → Option V) (es fs : List (Entry V)) → IsRangeMap eq low high es → IsRangeMap eq low high fs
+  pub one_list : (content : ℤ → Option V) (es fs : List (Entry V)) → IsRangeMap eq low high es → IsRangeMap eq low high fs
       → ((k : ℤ) → SameOption eq (at es k) (content k)) → ((k : ℤ) → SameOption eq (at fs k) (content k)) → SameEntries eq es fs
   one_list content es fs m n s t = unique eq laws es fs (canonical eq laws es m.runs) (canonical eq laws fs n.runs)
       (λ k. same_trans eq laws (at es k) (content k) (at fs k) (s k) (turned (at fs k) (content k) (t k)))

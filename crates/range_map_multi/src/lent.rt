@@ -39,7 +39,7 @@ impl<'a, T: Integer, V: Eq + Clone> AsMap<T, V> for &'a RangeMapBlaze<T, V> {
 }
 
 /// The entries of each map, as streams.
-fn streams_of<'a, T: Integer, V: Eq + Clone, M: AsMap<T, V>>(
+pub fn streams_of<'a, T: Integer, V: Eq + Clone, M: AsMap<T, V>>(
     alloc: Global,
     maps: &'a [M],
 ) -> Result<Vec<RangeValuesIter<'a, T, V>>, AllocError>

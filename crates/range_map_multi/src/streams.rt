@@ -1,14 +1,17 @@
-//! Operations between any number of streams. With n ranges in k streams each takes O(n log k) steps and O(n) memory.
-ghost use Rattle.std.specs.Prelude.{◌<◌, List, length, map, IfOk};
+//! Operations between any number of streams.
+ghost use Rattle.std.specs.Prelude.{◌<◌, List, length, map, is_some, IfOk};
+ghost use Rattle.std.specs.List.{list_all, list_any};
 ghost use Rattle.blaze_table.specs.Entries.{Entry};
 ghost use Rattle.range_map_multi.specs.Many.{last_value, last_of_all, last_of_odd, IsChosenOfMany};
+ghost use Rattle.range_map_multi.specs.ManyJoins.{shown_row, shown_full_row, IsCallableAtRows, IsManyJoined};
 
 use crate::merges::{merged_intersection, merged_union};
 use crate::parity::merged_symmetric_difference;
+use crate::stream_joins::{stream_full_join, stream_inner_join};
 use blaze_int::Integer;
 use blaze_streams::{
-    MultiwayIntersectionMap, MultiwaySymmetricDifferenceMap, MultiwayUnionMap, SortedDisjointMap,
-    ValueCarrier,
+    MultiwayFullJoinMap, MultiwayInnerJoinMap, MultiwayIntersectionMap,
+    MultiwaySymmetricDifferenceMap, MultiwayUnionMap, SortedDisjointMap, ValueCarrier,
 };
 use std::alloc::{AllocError, Global};
 
@@ -39,6 +42,28 @@ pub trait MultiwaySortedDisjointMap<T: Integer, VC: ValueCarrier>: Sized {
     ) -> Result<MultiwaySymmetricDifferenceMap<T, VC>, AllocError>
         requires { VC.can_carry }
         ensures { IfOk result (λ new. IsChosenOfMany VC.Value.eq T.low T.high last_of_odd (lists self) new) };
+
+    /// What a closure answers where all streams have a value: one call for each of the greatest ranges on which no stream
+    /// changes and all have a value, ascending. A call gets the row of the streams' carriers, first to last. Touching equal
+    /// answers are one range. Of no streams the closure is called once, with an empty row, and its answer is at every key. With n
+    /// ranges in k streams it takes O(n k) steps and O(n + k) memory beside the answer. No value is cloned. Refused memory drops
+    /// the answers too.
+    fn inner_join<W: Eq + Clone, F: FnMut(&[&VC]) -> W>(
+        self,
+        alloc: Global,
+        f: F,
+    ) -> Result<MultiwayInnerJoinMap<T, W>, AllocError>
+        requires { IsCallableAtRows (λ a. shown_full_row (λ c. VC.shown c.now) a.0.now) F.FnMut VC.Value.eq T.low T.high (list_all is_some) f (lists self) }
+        ensures { IfOk result (λ new. IsManyJoined (λ a. shown_full_row (λ c. VC.shown c.now) a.0.now) F.FnMut VC.Value.eq T.low T.high (list_all is_some) W.eq f (lists self) new) };
+
+    /// The same where at least one stream has a value, with `None` for each that has none; of no streams nothing, and no call.
+    fn full_join<W: Eq + Clone, F: FnMut(&[Option<&VC>]) -> W>(
+        self,
+        alloc: Global,
+        f: F,
+    ) -> Result<MultiwayFullJoinMap<T, W>, AllocError>
+        requires { IsCallableAtRows (λ a. shown_row (λ c. VC.shown c.now) a.0.now) F.FnMut VC.Value.eq T.low T.high (list_any is_some) f (lists self) }
+        ensures { IfOk result (λ new. IsManyJoined (λ a. shown_row (λ c. VC.shown c.now) a.0.now) F.FnMut VC.Value.eq T.low T.high (list_any is_some) W.eq f (lists self) new) };
 }
 
 impl<T: Integer, VC: ValueCarrier, I: SortedDisjointMap<T, VC>> MultiwaySortedDisjointMap<T, VC>
@@ -60,6 +85,24 @@ impl<T: Integer, VC: ValueCarrier, I: SortedDisjointMap<T, VC>> MultiwaySortedDi
         alloc: Global,
     ) -> Result<MultiwaySymmetricDifferenceMap<T, VC>, AllocError> {
         let new = merged_symmetric_difference(alloc, self)?;
+        Ok(new)
+    }
+
+    fn inner_join<W: Eq + Clone, F: FnMut(&[&VC]) -> W>(
+        self,
+        alloc: Global,
+        f: F,
+    ) -> Result<MultiwayInnerJoinMap<T, W>, AllocError> {
+        let new = stream_inner_join(alloc, self, f)?;
+        Ok(new)
+    }
+
+    fn full_join<W: Eq + Clone, F: FnMut(&[Option<&VC>]) -> W>(
+        self,
+        alloc: Global,
+        f: F,
+    ) -> Result<MultiwayFullJoinMap<T, W>, AllocError> {
+        let new = stream_full_join(alloc, self, f)?;
         Ok(new)
     }
 }
