@@ -30,7 +30,7 @@ fn checked(
 }
 
 /// A list of ranges with values that keeps the law, as a stream.
-fn map_of(
+pub fn map_of(
     alloc: Global,
     items: &[(i64, i64, char)],
 ) -> Result<CheckSortedDisjointMap<i64, Owned<char>>, Fail> {
