@@ -24,6 +24,7 @@ abbrev pub key_of : {V : Type 0} → Event V → ℤ
 key_of (Starts input e) = e.lo
 key_of (Ends input last) = last
 
+-- this key is one of the type
 abbrev pub HasKey : {V : Type 0} → ℤ → ℤ → Event V → Type 0
 HasKey low high event = (low ≤ℤ key_of event) × (key_of event ≤ℤ high)
 
@@ -48,11 +49,12 @@ module _ {T C V : Type 0} (rank : T → ℤ) (shown : C → V) where
       ∙ ap (λ k. shown_events rank shown out ++ Starts input (shown_range rank shown (range, carrier)) ∷ Ends input (rank k) ∷ events_of input next) e
       ∙ ap (λ es. shown_events rank shown out ++ events_of input es) (sym l) ∙ i
 
--- those of one input
+-- those of one input, which come first of all that are left
 pub all_more : {V : Type 0} (input : ℕ) (out new : List (Event V)) (es : List (Entry V)) (lists : List (List (Entry V))) (all : List (Event V))
     → new ≡ out ++ events_of input es → out ++ all_events input (es ∷ lists) ≡ all → new ++ all_events (input + 1) lists ≡ all
 all_more input out new es lists all n i = ap (λ xs. xs ++ all_events (input + 1) lists) n ∙ append_assoc out (events_of input es) (all_events (input + 1) lists) ∙ i
 
+-- their keys are of the type too
 pub keys_more : {V : Type 0} (eq : V → V → Bool) (low high : ℤ) (input : ℕ) (out new : List (Event V)) (es : List (Entry V))
     → IsRangeMap eq low high es → new ≡ out ++ events_of input es → All (HasKey low high) out → All (HasKey low high) new
 keys_more eq low high input out new es m n keys =
