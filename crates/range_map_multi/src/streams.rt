@@ -1,14 +1,15 @@
 //! Operations between any number of streams. With n ranges in k streams each takes O(n log k) steps and O(n) memory.
 ghost use Rattle.std.specs.Prelude.{◌<◌, List, length, map, IfOk};
 ghost use Rattle.blaze_table.specs.Entries.{Entry};
+ghost use Rattle.blaze_streams.specs.Sweeps.{IsSweep};
 ghost use Rattle.range_map_multi.specs.Many.{last_value, last_of_all, last_of_odd, IsChosenOfMany};
 
 use crate::merges::{merged_intersection, merged_union};
 use crate::parity::merged_symmetric_difference;
 use blaze_int::Integer;
 use blaze_streams::{
-    MultiwayIntersectionMap, MultiwaySymmetricDifferenceMap, MultiwayUnionMap, SortedDisjointMap,
-    ValueCarrier,
+    MultiwayIntersectionMap, MultiwaySweep, MultiwaySymmetricDifferenceMap, MultiwayUnionMap,
+    SortedDisjointMap, ValueCarrier, sweep_of,
 };
 use std::alloc::{AllocError, Global};
 
@@ -39,6 +40,12 @@ pub trait MultiwaySortedDisjointMap<T: Integer, VC: ValueCarrier>: Sized {
     ) -> Result<MultiwaySymmetricDifferenceMap<T, VC>, AllocError>
         requires { VC.can_carry }
         ensures { IfOk result (λ new. IsChosenOfMany VC.Value.eq T.low T.high last_of_odd (lists self) new) };
+
+    /// The events of the streams: for each range of one of them a start and an end, ascending by time. The time of a start is
+    /// twice the rank of its first key, that of an end twice the rank of its last key, plus one, and each event has the place
+    /// of its stream, from 0. With n ranges in k streams it takes O(n log k) steps.
+    fn sweep(self, alloc: Global) -> Result<MultiwaySweep<T, VC>, AllocError>
+        ensures { IfOk result (λ events. IsSweep (lists self) events) };
 }
 
 impl<T: Integer, VC: ValueCarrier, I: SortedDisjointMap<T, VC>> MultiwaySortedDisjointMap<T, VC>
@@ -62,5 +69,10 @@ impl<T: Integer, VC: ValueCarrier, I: SortedDisjointMap<T, VC>> MultiwaySortedDi
     ) -> Result<MultiwaySymmetricDifferenceMap<T, VC>, AllocError> {
         let new = merged_symmetric_difference(alloc, self)?;
         Ok(new)
+    }
+
+    fn sweep(self, alloc: Global) -> Result<MultiwaySweep<T, VC>, AllocError> {
+        let events = sweep_of(alloc, self)?;
+        Ok(events)
     }
 }
