@@ -1,4 +1,4 @@
-use Rattle.std.proofs.Common.{◌∙◌, ◌++◌, true, sym, ap, subst, append-nil}
+use Rattle.std.proofs.Common.{◌∙◌, ◌++◌, true, refl, sym, ap, subst, append-nil}
 use mathlib.Core.Bool.{beq}
 use Rattle.std.specs.Range.{range_inclusive_start, range_inclusive_end}
 use Rattle.blaze_table.specs.Canonical.{IsRangeMap}
@@ -18,11 +18,11 @@ loop-item-preserved g c =
     let item = c.in-Some.item in
     let turn = c.loop-item.turn in
     let step = g.met.I.SortedDisjointMap.gives _ _ _ c.in-Some.ensures.steps in
-    let from = c.new.ensures.start ∙ c.start.ensures in
-    let to = c.new.ensures.end ∙ c.end.ensures in
+    let from = c.new.ensures.start ∙ c.start-first.ensures in
+    let to = c.new.ensures.end ∙ c.end-last.ensures in
     (taken_more (shown_range rank shown) _ _ item _ _ _ c.in_ok-push-2.ensures.items step i.0,
     taken_more (shown_range rank (λ b. b)) _ _ (c.new.result, turn) _ _ _ c.in_ok-push.ensures.items
-    (turn_more turn _ (shown_range rank shown item) _ _ _ step (λ j. entry (rank (sym from j)) (rank (sym to j)) turn) c.not.ensures) i.1)
+    (turn_more turn _ (shown_range rank shown item) _ _ _ step (λ j. entry (rank (sym from j)) (rank (sym to j)) turn) refl) i.1)
 
 pub new-requires-2 : goal.new-requires-2
 new-requires-2 g c =
