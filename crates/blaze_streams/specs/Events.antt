@@ -4,7 +4,7 @@ use Rattle.std.specs.Prelude.{◌≡◌, ℕ, ℤ, ◌⊎◌, refl}
 use Rattle.std.specs.Coded.{Coded, code_by, coded×, coded⊎, coded_ℕ, coded_ℤ}
 use Rattle.blaze_table.specs.Entries.{Entry, entry_code}
 
--- the input at a place starts a range with its value, or ends the range that has a last key
+-- an event of the input at a place: one of its entries starts, or the one with this last key ends
 pub data Event (V : Type 0) : Type 0 where
   Starts : ℕ → Entry V → Event V
   Ends : ℕ → ℤ → Event V

@@ -32,7 +32,7 @@ abbrev pub all_events : {V : Type 0} → ℕ → List (List (Entry V)) → List 
 all_events input [] = []
 all_events input (L ∷ Ls) = events_of input L ++ all_events (input + 1) Ls
 
--- each event of the lists once, ascending by time
+-- each event of the lists once, ascending by time; those of one time come in any order
 pub record IsSweep {V : Type 0} (lists : List (List (Entry V))) (events : List (Event V)) : Type 0 where
   pub permutation : IsPermutation (all_events 0 lists) events
   pub ascending : AscendInTime events

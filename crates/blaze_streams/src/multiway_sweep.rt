@@ -35,7 +35,7 @@ impl<T: Integer, VC: ValueCarrier> Model for MultiwaySweep<T, VC> {
 }
 
 impl<T: Integer, VC: ValueCarrier> MultiwaySweep<T, VC> {
-    /// The events, in order. No memory is taken.
+    /// The events, which are to ascend by time. No memory is taken.
     pub fn new(events: Vec<SweepEvent<T, VC>>) -> Self
         requires { AscendInTime (shown_events T.rank VC.shown events.items) }
         ensures { result ≡ shown_events T.rank VC.shown events.items }

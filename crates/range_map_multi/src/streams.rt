@@ -43,7 +43,7 @@ pub trait MultiwaySortedDisjointMap<T: Integer, VC: ValueCarrier>: Sized {
 
     /// The events of the streams: for each range of one of them a start and an end, ascending by time. The time of a start is
     /// twice the rank of its first key, that of an end twice the rank of its last key, plus one, and each event has the place
-    /// of its stream, from 0. With n ranges in k streams it takes O(n log k) steps.
+    /// of its stream, from 0. Carriers are moved. With n ranges in k streams it takes O(n log k) steps.
     fn sweep(self, alloc: Global) -> Result<MultiwaySweep<T, VC>, AllocError>
         ensures { IfOk result (λ events. IsSweep (lists self) events) };
 }
