@@ -22,6 +22,7 @@ mod list_segments;
 mod map_into_ranges;
 mod map_ranges;
 mod multiway;
+mod multiway_sweep;
 mod not_sorted;
 mod owned;
 mod owned_range_values;
@@ -30,6 +31,8 @@ mod range_values;
 mod ranges_stream;
 mod set_ranges;
 mod stream;
+mod sweep;
+mod sweep_event;
 mod transforms;
 mod union;
 mod with_ranges;
@@ -61,6 +64,7 @@ pub use multiway::{
     MultiwayFullJoinMap, MultiwayInnerJoinMap, MultiwayIntersectionMap,
     MultiwaySymmetricDifferenceMap, MultiwayUnionMap,
 };
+pub use multiway_sweep::MultiwaySweep;
 pub use not_sorted::NotSorted;
 pub use owned::Owned;
 pub use owned_range_values::OwnedRangeValuesIter;
@@ -70,6 +74,8 @@ pub use push::push_joined;
 pub use range_values::RangeValuesIter;
 pub use ranges_stream::SortedDisjoint;
 pub use stream::{BothEnds, SortedDisjointMap};
+pub use sweep::sweep_of;
+pub use sweep_event::SweepEvent;
 pub use transforms::transform;
 pub use union::{intersection_of, symmetric_difference_of, union_of};
 pub use with_ranges::{intersect_with_ranges, subtract_ranges};

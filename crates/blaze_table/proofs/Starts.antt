@@ -71,12 +71,12 @@ from_more : {T : Type 0} (rank : T → ℤ) (b c : ℤ) (ss : List (T × ℕ)) �
 from_more rank b c [] l h = tt
 from_more rank b c (s ∷ ss) l h = (omega (arith, ints, h.0), from_more rank b c ss l h.1)
 
-tail_sorted : {X : Type 0} (lt : X → X → Bool) (x : X) (xs : List X) → IsSortedBy lt (x ∷ xs) → IsSortedBy lt xs
+pub tail_sorted : {X : Type 0} (lt : X → X → Bool) (x : X) (xs : List X) → IsSortedBy lt (x ∷ xs) → IsSortedBy lt xs
 tail_sorted lt x xs up k d l h =
     let q : suc k + 1 ≡ suc (k + 1) = omega arith in
     subst (λ m. lt (slice_index_or (x ∷ xs) m d) (slice_index_or xs k d) ≡ false) q (up (suc k) d (omega arith) (omega arith))
 
-not_less : (a b : ℤ) → is_lt (int_cmp a b) ≡ false → b ≤ℤ a
+pub not_less : (a b : ℤ) → is_lt (int_cmp a b) ≡ false → b ≤ℤ a
 not_less a b h = grind (arith, ints)
 
 module _ {T V : Type 0} (rank : T → ℤ) (low high : ℤ) (ps : List (Entry V)) (are : AreKeys low high ps) (cmp : T → T → Ordering)

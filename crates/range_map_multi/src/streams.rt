@@ -2,6 +2,7 @@
 ghost use Rattle.std.specs.Prelude.{◌<◌, List, length, map, is_some, IfOk};
 ghost use Rattle.std.specs.List.{list_all, list_any};
 ghost use Rattle.blaze_table.specs.Entries.{Entry};
+ghost use Rattle.blaze_streams.specs.Sweeps.{IsSweep};
 ghost use Rattle.range_map_multi.specs.Many.{last_value, last_of_all, last_of_odd, IsChosenOfMany};
 ghost use Rattle.range_map_multi.specs.ManyJoins.{shown_row, shown_full_row, IsCallableAtRows, IsManyJoined};
 
@@ -10,8 +11,8 @@ use crate::parity::merged_symmetric_difference;
 use crate::stream_joins::{stream_full_join, stream_inner_join};
 use blaze_int::Integer;
 use blaze_streams::{
-    MultiwayFullJoinMap, MultiwayInnerJoinMap, MultiwayIntersectionMap,
-    MultiwaySymmetricDifferenceMap, MultiwayUnionMap, SortedDisjointMap, ValueCarrier,
+    MultiwayFullJoinMap, MultiwayInnerJoinMap, MultiwayIntersectionMap, MultiwaySweep,
+    MultiwaySymmetricDifferenceMap, MultiwayUnionMap, SortedDisjointMap, ValueCarrier, sweep_of,
 };
 use std::alloc::{AllocError, Global};
 
@@ -64,6 +65,12 @@ pub trait MultiwaySortedDisjointMap<T: Integer, VC: ValueCarrier>: Sized {
     ) -> Result<MultiwayFullJoinMap<T, W>, AllocError>
         requires { IsCallableAtRows (λ a. shown_row (λ c. VC.shown c.now) a.0.now) F.FnMut VC.Value.eq T.low T.high (list_any is_some) f (lists self) }
         ensures { IfOk result (λ new. IsManyJoined (λ a. shown_row (λ c. VC.shown c.now) a.0.now) F.FnMut VC.Value.eq T.low T.high (list_any is_some) W.eq f (lists self) new) };
+
+    /// The events of the streams: for each range of one of them a start and an end, ascending by time. The time of a start is
+    /// twice the rank of its first key, that of an end twice the rank of its last key, plus one, and each event has the place
+    /// of its stream, from 0. Carriers are moved. With n ranges in k streams it takes O(n log k) steps.
+    fn sweep(self, alloc: Global) -> Result<MultiwaySweep<T, VC>, AllocError>
+        ensures { IfOk result (λ events. IsSweep (lists self) events) };
 }
 
 impl<T: Integer, VC: ValueCarrier, I: SortedDisjointMap<T, VC>> MultiwaySortedDisjointMap<T, VC>
@@ -104,5 +111,10 @@ impl<T: Integer, VC: ValueCarrier, I: SortedDisjointMap<T, VC>> MultiwaySortedDi
     ) -> Result<MultiwayFullJoinMap<T, W>, AllocError> {
         let new = stream_full_join(alloc, self, f)?;
         Ok(new)
+    }
+
+    fn sweep(self, alloc: Global) -> Result<MultiwaySweep<T, VC>, AllocError> {
+        let events = sweep_of(alloc, self)?;
+        Ok(events)
     }
 }
