@@ -38,11 +38,12 @@ pub use blaze_int::{Integer, SafeLength, UIntPlusOne, bounds_of, names_a_key};
 pub use blaze_iters::{IntoIterMap, IntoKeys, IntoValues, IterMap, Keys, Values};
 pub use blaze_streams::{
     BothEnds, CanonIter, CanonMapIter, CheckSortedDisjoint, CheckSortedDisjointMap,
-    IntoRangeValuesIter, JoinKind, MapIntoRangesIter, MapRangesIter, NotSorted, Owned,
-    OwnedRangeValuesIter, RangeValuesIter, Segment, SortedDisjoint, SortedDisjointMap,
-    ValueCarrier, canonical_of, complement, fill, full_join_of, inner_join_of,
-    intersect_with_ranges, join_of, left_join_of, segments, subtract_ranges,
-    symmetric_difference_of, transform, union_of,
+    IntoRangeValuesIter, JoinKind, MapIntoRangesIter, MapRangesIter, MultiwayFullJoinMap,
+    MultiwayInnerJoinMap, MultiwayIntersectionMap, MultiwaySweep, MultiwaySymmetricDifferenceMap,
+    MultiwayUnionMap, NotSorted, Owned, OwnedRangeValuesIter, RangeValuesIter, Segment,
+    SortedDisjoint, SortedDisjointMap, SweepEvent, ValueCarrier, canonical_of, complement, fill,
+    full_join_of, inner_join_of, intersect_with_ranges, intersection_of, join_of, left_join_of,
+    segments, subtract_ranges, sweep_of, symmetric_difference_of, transform, union_of,
 };
 pub use blaze_table::{IntoRangesIter, RangeSetBlaze, RangesIter};
 // For `range_map_multi` alone, whose joins give such streams.

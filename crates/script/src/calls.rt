@@ -9,7 +9,7 @@ use crate::joins::Join;
 use crate::keys::ScriptKey;
 use crate::look_ups::LookUp;
 use crate::makes::Make;
-use crate::many::Many;
+use crate::many::{Many, Sweep};
 use crate::operators::{Complement, Operation};
 use crate::other_maps::OtherMap;
 use crate::runs::Run;
@@ -43,6 +43,7 @@ pub enum Call<T: ScriptKey> {
     Join(MapName, Join),
     Many(MapName, Many),
     FromPairs(MapName, FromPairs<T>),
+    Sweep(Sweep),
     Complement(SetName, Complement),
     Set(SetName, Vec<RangeInclusive<T>>),
     SetLookUp(SetName, SetLookUp<T>),
@@ -57,6 +58,7 @@ impl<T: ScriptKey> Call<T> {
                 Ok(set) => Self::read_set(alloc, set, rest),
                 Err(_) => Self::read_map(alloc, MapName::read(target)?, rest),
             },
+            ["sweep", names @ ..] => Ok(Call::Sweep(Sweep::read(alloc, names)?)),
             [name, rest @ ..] => match SetName::read(name) {
                 Ok(set) => Ok(Call::SetLookUp(set, SetLookUp::read(rest)?)),
                 Err(_) => Self::read_of_map(alloc, MapName::read(name)?, rest),
@@ -127,6 +129,7 @@ impl<T: ScriptKey> Call<T> {
             Call::Run(map, run) => return run.make(map, state, reply),
             Call::Iterate(map, iterate) => return iterate.make(map, state, reply),
             Call::SetLookUp(set, look_up) => return look_up.make(set, state, reply),
+            Call::Sweep(sweep) => return sweep.make(state, reply),
             Call::Make(target, make) => {
                 let map = make.make(state)?;
                 state.set_map(target, map);

@@ -27,7 +27,7 @@ fn first_character(alloc: Global, word: &String) -> Result<String, AllocError> {
 }
 
 /// What a closure answered: an empty word where memory is refused, which is kept in mind.
-fn answer(alloc: Global, made: Result<String, AllocError>, is_refused: &mut bool) -> String {
+pub fn answer(alloc: Global, made: Result<String, AllocError>, is_refused: &mut bool) -> String {
     match made {
         Ok(word) => word,
         Err(_) => {
@@ -38,7 +38,7 @@ fn answer(alloc: Global, made: Result<String, AllocError>, is_refused: &mut bool
 }
 
 /// The map of a closure's answers, unless one of them was refused.
-fn unless_refused<T: ScriptKey>(
+pub fn unless_refused<T: ScriptKey>(
     made: Result<Map<T>, AllocError>,
     is_refused: bool,
 ) -> Result<Map<T>, Fault> {
