@@ -13,6 +13,7 @@ mod choosing;
 mod complements;
 mod cursor;
 mod cursors;
+mod entries;
 mod fills;
 mod into_range_values;
 mod join_answers;
@@ -25,6 +26,7 @@ mod multiway;
 mod not_sorted;
 mod owned;
 mod owned_range_values;
+mod piece_list;
 mod push;
 mod range_values;
 mod ranges_stream;
@@ -42,6 +44,9 @@ pub use carrier::ValueCarrier;
 pub use check::CheckSortedDisjoint;
 pub use check_map::CheckSortedDisjointMap;
 pub use complements::complement;
+pub use entries::{
+    difference_entries, intersection_entries, symmetric_difference_entries, union_entries,
+};
 pub use fills::fill;
 pub use into_range_values::IntoRangeValuesIter;
 pub use join_answers::{
