@@ -31,6 +31,12 @@ abbrev pub PutsValue : {V : Type 0} → (V → V → Bool) → ℤ → ℤ → O
 PutsValue eq s t None old new = new ≡ old
 PutsValue eq s t (Some v) old new = new ≡ glue eq old (entry s t v ∷ [])
 
+-- the list with a value behind it that is equal to this one, on the keys from s up to t, where there is one
+pub record PutsAlike {V : Type 0} (eq : V → V → Bool) (s t : ℤ) (value : Option V) (old new : List (Entry V)) : Type 0 where
+  pub alike : Option V
+  pub same : SameOption eq value alike
+  pub put : PutsValue eq s t alike old new
+
 -- a choice from two lists put behind a list: a value that is equal to what is chosen, on the keys from s, the first that the
 -- two have, up to a key up to which the same is chosen; and what is left of the two
 pub record IsChoiceMade {A B V : Type 0} (eq : V → V → Bool) (low high : ℤ) (choose : Option A → Option B → Option V) (s : ℤ) (left left_new : List (Entry A)) (right right_new : List (Entry B)) (out out_new : List (Entry V)) : Type 0 where

@@ -1,34 +1,35 @@
 //! Two streams gone through together, and what is chosen from them.
-ghost use Rattle.std.specs.Prelude.{◌≡◌, Some, IfOk, OnOk};
+ghost use Rattle.std.specs.Prelude.{◌≡◌, Some, [], IfOk, OnOk};
 ghost use Rattle.std.specs.Option.{option_map};
 ghost use Rattle.blaze_table.specs.Canonical.{IsCanonical};
 ghost use Rattle.blaze_table.specs.Chosen.{IsChosen};
-ghost use Rattle.blaze_streams.specs.Choosing.{IsTaken, PutsValue, IsChoiceMade};
+ghost use Rattle.blaze_table.specs.Listed.{listed};
+ghost use Rattle.blaze_streams.specs.Choosing.{IsTaken, PutsAlike, IsChoiceMade};
 ghost use Rattle.blaze_streams.specs.Cursors.{first_key, steady_to, Reaches, lesser};
-ghost use Rattle.blaze_streams.specs.RangeLists.{shown_ranges};
 
 use crate::ahead::Ahead;
 use crate::canon_map::CanonMapIter;
 use crate::carrier::ValueCarrier;
 use crate::choice::Choice;
 use crate::cursor::lesser_of;
-use crate::push::push_joined;
+use crate::piece_list::PieceList;
 use crate::stream::SortedDisjointMap;
 use blaze_int::Integer;
 use std::alloc::{AllocError, Global};
 use std::ops::RangeInclusive;
 
 /// Puts a value on the keys from `start` up to `end` behind a list, where there is one.
-fn put_value<T: Integer, VC: ValueCarrier>(
-    out: &mut Vec<(RangeInclusive<T>, VC)>,
+fn put_value<T: Integer, VC: ValueCarrier, P: PieceList<T, VC>>(
+    out: &mut P,
     start: T,
     end: T,
     carrier: Option<VC>,
 ) -> Result<(), AllocError>
-    ensures { OnOk result (PutsValue VC.Value.eq (T.rank start) (T.rank end) (option_map VC.shown carrier) (shown_ranges T.rank VC.shown out.old.items) (shown_ranges T.rank VC.shown out.new.items)) }
+    requires { VC.can_carry }
+    ensures { OnOk result (PutsAlike VC.Value.eq (T.rank start) (T.rank end) (option_map VC.shown carrier) (P.entries out.old) (P.entries out.new)) }
 {
     if let Some(carrier) = carrier {
-        push_joined(out, start, end, carrier)?;
+        out.put(start, end, carrier)?;
     }
     Ok(())
 }
@@ -95,18 +96,19 @@ fn choose_next<
     L: SortedDisjointMap<T, VCL>,
     R: SortedDisjointMap<T, VCR>,
     C: Choice<VCL, VCR>,
+    P: PieceList<T, VCL>,
 >(
     start: T,
     left: &mut Ahead<T, VCL, L>,
     right: &mut Ahead<T, VCR, R>,
-    out: &mut Vec<(RangeInclusive<T>, VCL)>,
+    out: &mut P,
     choice: &C,
 ) -> Result<(), AllocError>
     requires can { VCL.can_carry }
     requires left { IsCanonical VCL.Value.eq left.old }
     requires right { IsCanonical VCR.Value.eq right.old }
     requires starts { lesser (first_key left.old) (first_key right.old) ≡ Some (T.rank start) }
-    ensures { OnOk result (IsChoiceMade VCL.Value.eq T.low T.high C.choice (T.rank start) left.old left.new right.old right.new (shown_ranges T.rank VCL.shown out.old.items) (shown_ranges T.rank VCL.shown out.new.items)) }
+    ensures { OnOk result (IsChoiceMade VCL.Value.eq T.low T.high C.choice (T.rank start) left.old left.new right.old right.new (P.entries out.old) (P.entries out.new)) }
 {
     let (end, carrier) = take_piece(start, left, right, choice)?;
     start.in_hand();
@@ -115,7 +117,29 @@ fn choose_next<
     Ok(())
 }
 
-/// What is chosen from two streams, in one pass over both. Refused memory drops both.
+/// Puts what is chosen from two streams into an empty list, in one pass over both. Refused memory drops both streams.
+fn put_chosen<
+    T: Integer,
+    VCL: ValueCarrier,
+    VCR: ValueCarrier,
+    L: SortedDisjointMap<T, VCL>,
+    R: SortedDisjointMap<T, VCR>,
+    C: Choice<VCL, VCR>,
+    P: PieceList<T, VCL>,
+>(left: L, right: R, choice: &C, out: &mut P) -> Result<(), AllocError>
+    requires can { VCL.can_carry }
+    requires empty { P.entries out.old ≡ [] }
+    ensures { OnOk result (IsChosen VCL.Value.eq T.low T.high C.choice (L.left left) (R.left right) (P.entries out.new)) }
+{
+    let mut left = Ahead::new(left);
+    let mut right = Ahead::new(right);
+    while let Some(start) = lesser_of(left.first(), right.first()) {
+        choose_next(start, &mut left, &mut right, out, choice)?;
+    }
+    Ok(())
+}
+
+/// What is chosen from two streams, as a stream. Refused memory drops both.
 pub fn chosen_of<
     T: Integer,
     VCL: ValueCarrier,
@@ -127,11 +151,25 @@ pub fn chosen_of<
     requires { VCL.can_carry }
     ensures { IfOk result (λ stream. IsChosen VCL.Value.eq T.low T.high C.choice (L.left left) (R.left right) stream) }
 {
-    let mut out = Vec::new(alloc);
-    let mut left = Ahead::new(left);
-    let mut right = Ahead::new(right);
-    while let Some(start) = lesser_of(left.first(), right.first()) {
-        choose_next(start, &mut left, &mut right, &mut out, choice)?;
-    }
+    let mut out: Vec<(RangeInclusive<T>, VCL)> = Vec::new(alloc);
+    put_chosen(left, right, choice, &mut out)?;
     Ok(CanonMapIter::new(out))
+}
+
+/// What is chosen from two streams, as a list of entries: first key, last key and value. Room is asked for as many entries as
+/// the left stream has at least. Refused memory drops both.
+pub fn entries_chosen_of<
+    T: Integer,
+    VCL: ValueCarrier,
+    VCR: ValueCarrier,
+    L: SortedDisjointMap<T, VCL>,
+    R: SortedDisjointMap<T, VCR>,
+    C: Choice<VCL, VCR>,
+>(alloc: Global, left: L, right: R, choice: &C) -> Result<Vec<(T, T, VCL::Value)>, AllocError>
+    requires { VCL.can_carry }
+    ensures { IfOk result (λ entries. IsChosen VCL.Value.eq T.low T.high C.choice (L.left left) (R.left right) (listed T.rank entries.items)) }
+{
+    let mut entries: Vec<(T, T, VCL::Value)> = Vec::with_capacity(alloc, left.least_len())?;
+    put_chosen(left, right, choice, &mut entries)?;
+    Ok(entries)
 }

@@ -13,6 +13,7 @@ mod choosing;
 mod complements;
 mod cursor;
 mod cursors;
+mod entries;
 mod fills;
 mod into_range_values;
 mod join_answers;
@@ -26,6 +27,7 @@ mod multiway_sweep;
 mod not_sorted;
 mod owned;
 mod owned_range_values;
+mod piece_list;
 mod push;
 mod range_values;
 mod ranges_stream;
@@ -48,6 +50,9 @@ pub use complements::complement;
 // For `range_map_multi` alone, which goes through many streams as this crate does through many lists.
 #[doc(hidden)]
 pub use cursor::Cursor;
+pub use entries::{
+    difference_entries, intersection_entries, symmetric_difference_entries, union_entries,
+};
 pub use fills::fill;
 pub use into_range_values::IntoRangeValuesIter;
 pub use join_answers::{

@@ -60,3 +60,4 @@ pub mod Waitings
 pub mod Filling
 pub mod JoinedPieces
 pub mod Orders
+pub mod Indexed

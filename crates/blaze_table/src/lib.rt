@@ -25,5 +25,5 @@ pub use entry_keys::keys_in_hand;
 pub use into_ranges_iter::IntoRangesIter;
 pub use range_set::RangeSetBlaze;
 pub use ranges_iter::RangesIter;
-pub use sweep::canonical_of;
+pub use sweep::{canonical_of, push_entry};
 pub use table::RangeTable;

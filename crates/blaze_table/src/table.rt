@@ -13,7 +13,7 @@ ghost use Rattle.blaze_table.specs.Work.{IsCountedPaint, IsCountedCut};
 ghost use Rattle.blaze_table.specs.Retain.{AnswersAt, IsCallableAtEach, IsCallableAtPairs, IsKeyRetained};
 
 use crate::copy::clone_entries;
-use crate::count::count;
+use crate::count::{count, count_list};
 use crate::cut::cut;
 use crate::gaps::gap_round;
 use crate::keep::retain_keys;
@@ -145,8 +145,8 @@ impl<T: Integer, V: Eq + Drop> RangeTable<T, V> {
         requires { IsRangeMap V.eq T.low T.high (listed T.rank entries.items) }
         ensures { IfOk result (λ table. table ≡ uncounted (listed T.rank entries.items)) }
     {
+        let len = count_list(entries.as_slice());
         let entries = Entries::from_sorted(alloc, entries)?;
-        let len = count(&entries);
         Ok(RangeTable { entries, len })
     }
 

@@ -7,9 +7,10 @@ ghost use Rattle.blaze_table.specs.Painted.{ClonesAreAlike};
 use crate::map::RangeMapBlaze;
 use blaze_int::Integer;
 use blaze_streams::{
-    SortedDisjoint, SortedDisjointMap, intersect_with_ranges, subtract_ranges,
-    symmetric_difference_of, union_of,
+    SortedDisjoint, SortedDisjointMap, difference_entries, intersection_entries,
+    symmetric_difference_entries, union_entries,
 };
+use blaze_table::RangeTable;
 use std::alloc::AllocError;
 
 /// The values of the right stream where it has some, and else those of the left.
@@ -24,9 +25,9 @@ pub fn lent_union<
     ensures { IfOk result (λ new. IsChosen V.eq T.low T.high right_first (L.left left) (R.left right) new.entries) }
 {
     let alloc = lent.allocator();
-    let stream = union_of(alloc, left, right)?;
-    let new = RangeMapBlaze::from_sorted_disjoint_map(alloc, stream)?;
-    Ok(new)
+    let entries = union_entries(alloc, left, right)?;
+    let table = RangeTable::from_canonical(alloc, entries)?;
+    Ok(RangeMapBlaze { table })
 }
 
 /// The values on the keys that exactly one of two streams has.
@@ -41,9 +42,9 @@ pub fn lent_symmetric_difference<
     ensures { IfOk result (λ new. IsChosen V.eq T.low T.high exactly_one (L.left left) (R.left right) new.entries) }
 {
     let alloc = lent.allocator();
-    let stream = symmetric_difference_of(alloc, left, right)?;
-    let new = RangeMapBlaze::from_sorted_disjoint_map(alloc, stream)?;
-    Ok(new)
+    let entries = symmetric_difference_entries(alloc, left, right)?;
+    let table = RangeTable::from_canonical(alloc, entries)?;
+    Ok(RangeMapBlaze { table })
 }
 
 /// The values of a stream on the keys of a set.
@@ -58,9 +59,9 @@ pub fn lent_intersection<
     ensures { IfOk result (λ new. IsChosen V.eq T.low T.high left_with_right (M.left map) (S.left set) new.entries) }
 {
     let alloc = lent.allocator();
-    let stream = intersect_with_ranges(alloc, map, set)?;
-    let new = RangeMapBlaze::from_sorted_disjoint_map(alloc, stream)?;
-    Ok(new)
+    let entries = intersection_entries(alloc, map, set)?;
+    let table = RangeTable::from_canonical(alloc, entries)?;
+    Ok(RangeMapBlaze { table })
 }
 
 /// The values of a stream off the keys of a set.
@@ -75,7 +76,7 @@ pub fn lent_difference<
     ensures { IfOk result (λ new. IsChosen V.eq T.low T.high left_alone (M.left map) (S.left set) new.entries) }
 {
     let alloc = lent.allocator();
-    let stream = subtract_ranges(alloc, map, set)?;
-    let new = RangeMapBlaze::from_sorted_disjoint_map(alloc, stream)?;
-    Ok(new)
+    let entries = difference_entries(alloc, map, set)?;
+    let table = RangeTable::from_canonical(alloc, entries)?;
+    Ok(RangeMapBlaze { table })
 }

@@ -6,7 +6,8 @@ ghost use Rattle.range_map_blaze.specs.Union.{IsUnion};
 use crate::lent::lent_union;
 use crate::map::RangeMapBlaze;
 use blaze_int::Integer;
-use blaze_streams::{OwnedRangeValuesIter, union_of};
+use blaze_streams::{OwnedRangeValuesIter, union_entries};
+use blaze_table::RangeTable;
 use std::alloc::AllocError;
 
 /// How a union is made, which changes nothing of what it is.
@@ -94,9 +95,9 @@ fn merged_by_value<T: Integer, V: Eq + Clone>(
         OwnedRangeValuesIter::new(left.table),
         OwnedRangeValuesIter::new(right.table),
     );
-    let stream = union_of(alloc, left, right)?;
-    let map = RangeMapBlaze::from_sorted_disjoint_map(alloc, stream)?;
-    Ok(map)
+    let entries = union_entries(alloc, left, right)?;
+    let table = RangeTable::from_canonical(alloc, entries)?;
+    Ok(RangeMapBlaze { table })
 }
 
 /// The same, where the left map may be painted over.

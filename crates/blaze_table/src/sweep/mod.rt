@@ -21,6 +21,8 @@ mod push;
 mod starts;
 mod waiting;
 
+pub use push::push_entry;
+
 /// The canonical list of pairs painted in order, where there was nothing: of first key, last key and value. The later pair
 /// wins, a pair whose last key is below its first paints nothing, and touching entries with equal values are one.
 ///

@@ -1,5 +1,5 @@
 //! Entries put one after another.
-ghost use Rattle.std.specs.Prelude.{◌≡◌, ◌∷◌, ◌++◌, [], OnOk, MatchBool};
+ghost use Rattle.std.specs.Prelude.{◌≡◌, ◌∷◌, ◌++◌, [], OnOk, OnErr, MatchBool};
 ghost use Rattle.blaze_table.specs.Entries.{entry};
 ghost use Rattle.blaze_table.specs.Listed.{listed};
 ghost use Rattle.blaze_table.specs.Splice.{glue};
@@ -27,14 +27,16 @@ fn lengthen_entry<T: Integer, V: Eq + Clone>(
     true
 }
 
-/// Adds an entry, in one with the last where the two touch with equal values. Refused memory leaves the list unchanged.
-pub(crate) fn push_entry<T: Integer, V: Eq + Clone>(
+/// Adds an entry to a list, in one with the last where the two touch with equal values: of first key, last key and value.
+/// Refused memory leaves the list unchanged.
+pub fn push_entry<T: Integer, V: Eq + Clone>(
     out: &mut Vec<(T, T, V)>,
     lo: T,
     hi: T,
     value: V,
 ) -> Result<(), AllocError>
-    ensures { OnOk result (listed T.rank out.new.items ≡ glue V.eq (listed T.rank out.old.items) (entry (T.rank lo) (T.rank hi) value ∷ [])) }
+    ensures ok { OnOk result (listed T.rank out.new.items ≡ glue V.eq (listed T.rank out.old.items) (entry (T.rank lo) (T.rank hi) value ∷ [])) }
+    ensures err { OnErr result (out.new.items ≡ out.old.items) }
 {
     if !lengthen_entry(out, lo, hi, &value) {
         out.push((lo, hi, value))?;

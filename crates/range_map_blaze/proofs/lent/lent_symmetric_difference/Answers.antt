@@ -1,5 +1,7 @@
-use Rattle.range_map_blaze.proofs.Choices.{chosen_as}
 use Rattle.range_map_blaze.proofs.lent.lent_symmetric_difference.Goals as goal
 
+pub from_canonical-requires : goal.from_canonical-requires
+from_canonical-requires g c = c.in_ok-entries.ensures.range_map
+
 pub returns : goal.returns
-returns g c = chosen_as g.V.PartialEq.eq g.met.V.Eq.laws _ _ _ _ _ _ _ c.in_ok-stream.ensures c.in_ok-new.ensures
+returns g c = rw c.in_ok-table.ensures c.in_ok-entries.ensures

@@ -11,7 +11,7 @@ pub overflow_sub-len : goal.overflow_sub-len
 overflow_sub-len g c =
     let rank = g.T.Integer.rank in
     let some = glue_some g.V.PartialEq.eq (listed rank c.args.entries.now.items) (entry (rank c.args.start) (rank c.args.end) c.in_ok-value.value) in
-    let long = ap length c.in_ok-push_entry.ensures in
+    let long = ap length c.in_ok-push_entry.ensures.ok in
     omega (arith, some, long, c.len.ensures, c.push_entry.new.out.ok.0, length-map c.push_entry.new.out.items (shown_entry rank (λ v. v)))
 
 pub index_mut-requires : goal.index_mut-requires
@@ -28,6 +28,6 @@ returns g c =
     record {
       value = c.in_ok-value.value;
       alike = subst (λ xs. SameOption g.V.PartialEq.eq (Some c.in_ok-value.value) (value_in (listed rank xs) held c.args.place)) c.deref.ensures.value c.in_ok-value.ensures.value;
-      glued = c.in_ok-push_entry.ensures;
+      glued = c.in_ok-push_entry.ensures.ok;
       moved = ap (λ l. slice_set l c.args.place (Moved (c.len.result - 1))) c.in_ok-value.ensures.held ∙ set-set held c.args.place (Moved 0) (Moved (c.len.result - 1)) ∙ ap (λ i. moved_to i held c.args.place) n;
     }

@@ -27,7 +27,7 @@ returns-then-is_at_most-clause-made g c =
     let x = c.in-Some.ensures.some in
     let is = pair_at rank c.args.pairs.now c.in-Some.top pair (in_range rank c.args.pairs.now at c.in-Some.top (waits_at ps at to places i.waits c.in-Some.top x.0)) c.index-pairs-top.is in
     pieces_to ps g.T.Integer.low at to i.order places i.waits (listed rank c.loop-top.pieces.items) i.made c.in-Some.top (shown_entry rank (λ v. v) pair) is x.0 x.1
-    to i.order (omega (arith, ints)) (at_most _ _ (sym c.is_at_most.ensures ∙ c.if-is_at_most.true)) (listed rank c.push_entry.new.out.items) c.in_ok-push_entry.ensures
+    to i.order (omega (arith, ints)) (at_most _ _ (sym c.is_at_most.ensures ∙ c.if-is_at_most.true)) (listed rank c.push_entry.new.out.items) c.in_ok-push_entry.ensures.ok
 
 pub loop-top-preserved-then-is_below : goal.loop-top-preserved-then-is_below
 loop-top-preserved-then-is_below g c =
@@ -70,7 +70,7 @@ loop-top-preserved g c =
       waits = waiting_less ps next to places (waiting_from ps at to places i.waits next l) c.in-Some.top (shown_entry rank (λ v. v) pair) (heap_items c.drop_last.new.places) is (step_past e next step) c.drop_last.ensures.permutation;
       made = subst (λ k. ArePieces ps g.T.Integer.low k (listed rank c.push_entry-in-Some.new.out.items)) (sym step)
           (pieces_to ps g.T.Integer.low at to i.order places i.waits (listed rank c.loop-top.pieces.items) i.made c.in-Some.top (shown_entry rank (λ v. v) pair) is x.0 x.1
-          e h (weaker e to u) (omega (arith, ints)) (listed rank c.push_entry-in-Some.new.out.items) c.in_ok-push_entry-2.ensures);
+          e h (weaker e to u) (omega (arith, ints)) (listed rank c.push_entry-in-Some.new.out.items) c.in_ok-push_entry-2.ensures.ok);
     }
 
 pub returns-clause-waits : goal.returns-clause-waits
