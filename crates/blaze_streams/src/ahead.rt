@@ -35,7 +35,8 @@ impl<T: Integer, VC: ValueCarrier, I: SortedDisjointMap<T, VC>> Model for Ahead<
 
     ghost view = { λ a. ahead_of T.rank VC.shown a.head (I.left a.rest) };
 
-    ghost invariant = { λ a. IfNone a.head (I.left a.rest ≡ []) × IsCanonical VC.Value.eq (ahead_of T.rank VC.shown a.head (I.left a.rest)) };
+    ghost invariant = { λ a. IfNone a.head (I.left a.rest ≡ [])
+        × IsCanonical VC.Value.eq (ahead_of T.rank VC.shown a.head (I.left a.rest)) };
 }
 
 /// Takes the first range out of a stream: its first key, its last key and its carrier.
@@ -56,7 +57,8 @@ fn take_above<T: Integer, VC: ValueCarrier, I: SortedDisjointMap<T, VC>>(
     stream: &mut I,
     end: T,
 ) -> Option<(T, T, VC)>
-    ensures left { ahead_of T.rank VC.shown result (I.left stream.new) ≡ after (T.rank end) (I.left stream.old) }
+    ensures left { ahead_of T.rank VC.shown result (I.left stream.new)
+        ≡ after (T.rank end) (I.left stream.old) }
     ensures none { IfNone result (I.left stream.new ≡ []) }
 {
     while let Some((lo, hi, carrier)) = take_first(stream) {
@@ -159,7 +161,8 @@ impl<T: Integer, VC: ValueCarrier, I: SortedDisjointMap<T, VC>> Ahead<T, VC, I> 
     pub fn take(&mut self, end: T) -> Result<Option<VC>, AllocError>
         requires can { VC.can_carry }
         requires reaches { Reaches (T.rank end) self.old }
-        ensures carrier { IfOk result (λ carrier. SameOption VC.Value.eq (at self.old (T.rank end)) (option_map VC.shown carrier)) }
+        ensures carrier { IfOk result (λ carrier. SameOption VC.Value.eq (at self.old (T.rank end))
+            (option_map VC.shown carrier)) }
         ensures rest { self.new ≡ after (T.rank end) self.old }
     {
         let Some((lo, hi, carrier)) = self.head.take() else {

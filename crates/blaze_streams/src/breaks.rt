@@ -72,7 +72,8 @@ impl<T: Integer> Ranged<T> for RangeInclusive<T> {
 
 // Whether an item breaks the law after the one before it.
 fn is_break<T: Integer, I: Ranged<T>>(before: Option<&I>, item: &I) -> bool
-    ensures law { result ≡ breaks I.Value.eq (option_map I.entry (option_copied before.entry)) (I.entry item.now) }
+    ensures law { result ≡ breaks I.Value.eq (option_map I.entry (option_copied before.entry))
+        (I.entry item.now) }
     ensures keys { IsWithin T.low T.high (I.entry item.now) }
 {
     let start = item.start();

@@ -31,7 +31,8 @@ impl<T: Integer> Model for CanonIter<T> {
 
     ghost view = { λ s. bare_ranges T.rank (into_iter_items s.rest) };
 
-    ghost invariant = { λ s. IsRangeSet T.low T.high (bare_ranges T.rank (into_iter_items s.rest)) };
+    ghost invariant = { λ s. IsRangeSet T.low T.high
+        (bare_ranges T.rank (into_iter_items s.rest)) };
 }
 
 impl<T: Integer> CanonIter<T> {

@@ -35,7 +35,8 @@ impl<T: Integer, VC: ValueCarrier> Model for CanonMapIter<T, VC> {
 
     ghost view = { λ s. shown_ranges T.rank VC.shown (into_iter_items s.rest) };
 
-    ghost invariant = { λ s. IsRangeMap VC.Value.eq T.low T.high (shown_ranges T.rank VC.shown (into_iter_items s.rest)) };
+    ghost invariant = { λ s. IsRangeMap VC.Value.eq T.low T.high
+        (shown_ranges T.rank VC.shown (into_iter_items s.rest)) };
 }
 
 impl<T: Integer, VC: ValueCarrier> CanonMapIter<T, VC> {

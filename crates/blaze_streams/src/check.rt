@@ -41,7 +41,8 @@ impl<T: Integer> CheckSortedDisjoint<T> {
     pub fn new(ranges: Vec<RangeInclusive<T>>) -> Result<Self, NotSorted>
         ensures ok { IfOk result (λ stream. stream ≡ bare_ranges T.rank ranges.items) }
         ensures accepted { IsOk result ↔ IsOnePerRun unit_eq (bare_ranges T.rank ranges.items) }
-        ensures refused { IfErr result (λ error. IsFirstBreak unit_eq (bare_ranges T.rank ranges.items) error.at) }
+        ensures refused { IfErr result
+            (λ error. IsFirstBreak unit_eq (bare_ranges T.rank ranges.items) error.at) }
     {
         match first_break(ranges.as_slice()) {
             Some(at) => Err(NotSorted { at }),

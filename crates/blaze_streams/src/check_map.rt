@@ -41,8 +41,10 @@ impl<T: Integer, VC: ValueCarrier> CheckSortedDisjointMap<T, VC> {
     /// does not start above the end before it, or touches an equal value before it. No memory is taken.
     pub fn new(items: Vec<(RangeInclusive<T>, VC)>) -> Result<Self, NotSorted>
         ensures ok { IfOk result (λ stream. stream ≡ shown_ranges T.rank VC.shown items.items) }
-        ensures accepted { IsOk result ↔ IsOnePerRun VC.Value.eq (shown_ranges T.rank VC.shown items.items) }
-        ensures refused { IfErr result (λ error. IsFirstBreak VC.Value.eq (shown_ranges T.rank VC.shown items.items) error.at) }
+        ensures accepted { IsOk result ↔ IsOnePerRun VC.Value.eq
+            (shown_ranges T.rank VC.shown items.items) }
+        ensures refused { IfErr result (λ error. IsFirstBreak VC.Value.eq
+            (shown_ranges T.rank VC.shown items.items) error.at) }
     {
         match first_break(items.as_slice()) {
             Some(at) => Err(NotSorted { at }),

@@ -5,7 +5,8 @@ ghost use Rattle.blaze_table.specs.Chosen.{right_first, exactly_one, left_with_r
 ghost use Rattle.blaze_table.specs.Entries.{at, SameOption};
 ghost use Rattle.blaze_table.specs.Splice.{after};
 ghost use Rattle.blaze_streams.specs.Cursors.{Reaches};
-ghost use Rattle.blaze_streams.specs.Decided.{IsDecided, right_first_decided, left_alone_decided, undecided};
+ghost use Rattle.blaze_streams.specs.Decided.{IsDecided, right_first_decided, left_alone_decided};
+ghost use Rattle.blaze_streams.specs.Decided.{undecided};
 
 use crate::ahead::Ahead;
 use crate::carrier::ValueCarrier;
@@ -34,9 +35,12 @@ pub trait Choice<VCL: ValueCarrier, VCR: ValueCarrier> {
         end: T,
     ) -> Result<Option<VCL>, AllocError>
         requires can { VCL.can_carry }
-        requires left { (by_right && is_some (at right.old (T.rank end))) ≡ false → Reaches (T.rank end) left.old }
+        requires left { (by_right && is_some (at right.old (T.rank end))) ≡ false
+            → Reaches (T.rank end) left.old }
         requires right { Reaches (T.rank end) right.old }
-        ensures carrier { IfOk result (λ carrier. SameOption VCL.Value.eq (choice (at left.old (T.rank end)) (at right.old (T.rank end))) (option_map VCL.shown carrier)) }
+        ensures carrier { IfOk result (λ carrier. SameOption VCL.Value.eq
+            (choice (at left.old (T.rank end)) (at right.old (T.rank end)))
+            (option_map VCL.shown carrier)) }
         ensures left { left.new ≡ after (T.rank end) left.old }
         ensures right { right.new ≡ after (T.rank end) right.old };
 

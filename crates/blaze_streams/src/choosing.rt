@@ -26,7 +26,8 @@ fn put_value<T: Integer, VC: ValueCarrier, P: PieceList<T, VC>>(
     carrier: Option<VC>,
 ) -> Result<(), AllocError>
     requires { VC.can_carry }
-    ensures { OnOk result (PutsAlike VC.Value.eq (T.rank start) (T.rank end) (option_map VC.shown carrier) (P.entries out.old) (P.entries out.new)) }
+    ensures { OnOk result (PutsAlike VC.Value.eq (T.rank start) (T.rank end)
+        (option_map VC.shown carrier) (P.entries out.old) (P.entries out.new)) }
 {
     if let Some(carrier) = carrier {
         out.put(start, end, carrier)?;
@@ -45,7 +46,8 @@ pub fn steady_end<
     requires left { IsCanonical VCL.Value.eq left.now }
     requires right { IsCanonical VCR.Value.eq right.now }
     requires starts { lesser (first_key left.now) (first_key right.now) ≡ Some (T.rank start) }
-    ensures ends { lesser (steady_to (T.rank start) left.now) (steady_to (T.rank start) right.now) ≡ Some (T.rank result) }
+    ensures ends { lesser (steady_to (T.rank start) left.now) (steady_to (T.rank start) right.now)
+        ≡ Some (T.rank result) }
     ensures left { Reaches (T.rank result) left.now }
     ensures right { Reaches (T.rank result) right.now }
 {
@@ -74,7 +76,8 @@ fn take_piece<
     requires left { IsCanonical VCL.Value.eq left.old }
     requires right { IsCanonical VCR.Value.eq right.old }
     requires starts { lesser (first_key left.old) (first_key right.old) ≡ Some (T.rank start) }
-    ensures { IfOk result (λ taken. IsTaken VCL.Value.eq C.choice (T.rank start) left.old left.new right.old right.new (T.rank taken.0) (option_map VCL.shown taken.1)) }
+    ensures { IfOk result (λ taken. IsTaken VCL.Value.eq C.choice (T.rank start) left.old left.new
+        right.old right.new (T.rank taken.0) (option_map VCL.shown taken.1)) }
 {
     if choice.is_by_right() {
         if let Some(end) = right.end_at(start) {
@@ -108,7 +111,8 @@ fn choose_next<
     requires left { IsCanonical VCL.Value.eq left.old }
     requires right { IsCanonical VCR.Value.eq right.old }
     requires starts { lesser (first_key left.old) (first_key right.old) ≡ Some (T.rank start) }
-    ensures { OnOk result (IsChoiceMade VCL.Value.eq T.low T.high C.choice (T.rank start) left.old left.new right.old right.new (P.entries out.old) (P.entries out.new)) }
+    ensures { OnOk result (IsChoiceMade VCL.Value.eq T.low T.high C.choice (T.rank start) left.old
+        left.new right.old right.new (P.entries out.old) (P.entries out.new)) }
 {
     let (end, carrier) = take_piece(start, left, right, choice)?;
     start.in_hand();
@@ -129,7 +133,8 @@ fn put_chosen<
 >(left: L, right: R, choice: &C, out: &mut P) -> Result<(), AllocError>
     requires can { VCL.can_carry }
     requires empty { P.entries out.old ≡ [] }
-    ensures { OnOk result (IsChosen VCL.Value.eq T.low T.high C.choice (L.left left) (R.left right) (P.entries out.new)) }
+    ensures { OnOk result (IsChosen VCL.Value.eq T.low T.high C.choice (L.left left) (R.left right)
+        (P.entries out.new)) }
 {
     let mut left = Ahead::new(left);
     let mut right = Ahead::new(right);
@@ -149,7 +154,8 @@ pub fn chosen_of<
     C: Choice<VCL, VCR>,
 >(alloc: Global, left: L, right: R, choice: &C) -> Result<CanonMapIter<T, VCL>, AllocError>
     requires { VCL.can_carry }
-    ensures { IfOk result (λ stream. IsChosen VCL.Value.eq T.low T.high C.choice (L.left left) (R.left right) stream) }
+    ensures { IfOk result (λ stream. IsChosen VCL.Value.eq T.low T.high C.choice (L.left left)
+        (R.left right) stream) }
 {
     let mut out: Vec<(RangeInclusive<T>, VCL)> = Vec::new(alloc);
     put_chosen(left, right, choice, &mut out)?;
@@ -167,7 +173,8 @@ pub fn entries_chosen_of<
     C: Choice<VCL, VCR>,
 >(alloc: Global, left: L, right: R, choice: &C) -> Result<Vec<(T, T, VCL::Value)>, AllocError>
     requires { VCL.can_carry }
-    ensures { IfOk result (λ entries. IsChosen VCL.Value.eq T.low T.high C.choice (L.left left) (R.left right) (listed T.rank entries.items)) }
+    ensures { IfOk result (λ entries. IsChosen VCL.Value.eq T.low T.high C.choice (L.left left)
+        (R.left right) (listed T.rank entries.items)) }
 {
     let mut entries: Vec<(T, T, VCL::Value)> = Vec::with_capacity(alloc, left.least_len())?;
     put_chosen(left, right, choice, &mut entries)?;

@@ -17,7 +17,9 @@ fn push_gap<T: Integer>(
     next: Option<T>,
     start: T,
 ) -> Result<(), AllocError>
-    ensures { OnOk result (bare_ranges T.rank gaps.new.items ≡ bare_ranges T.rank gaps.old.items ++ gap_before (rank_or_end T.rank T.high next) (T.rank start)) }
+    ensures { OnOk result (bare_ranges T.rank gaps.new.items
+        ≡ bare_ranges T.rank gaps.old.items ++ gap_before
+        (rank_or_end T.rank T.high next) (T.rank start)) }
 {
     start.in_hand();
     if let Some(first) = next {
@@ -33,7 +35,9 @@ fn push_rest<T: Integer>(
     gaps: &mut Vec<RangeInclusive<T>>,
     next: Option<T>,
 ) -> Result<(), AllocError>
-    ensures { OnOk result (bare_ranges T.rank gaps.new.items ≡ bare_ranges T.rank gaps.old.items ++ gap_before (rank_or_end T.rank T.high next) (T.high +ℤ pos 1)) }
+    ensures { OnOk result (bare_ranges T.rank gaps.new.items
+        ≡ bare_ranges T.rank gaps.old.items ++ gap_before (rank_or_end T.rank T.high next)
+        (T.high +ℤ pos 1)) }
 {
     if let Some(first) = next {
         first.in_hand();

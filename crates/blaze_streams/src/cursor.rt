@@ -4,7 +4,8 @@ ghost use Rattle.std.specs.Option.{option_map};
 ghost use Rattle.blaze_table.specs.Entries.{at};
 ghost use Rattle.blaze_table.specs.Canonical.{IsCanonical};
 ghost use Rattle.blaze_table.specs.Splice.{after};
-ghost use Rattle.blaze_streams.specs.Cursors.{placed, first_key, steady_to, IsFrom, Reaches, lesser};
+ghost use Rattle.blaze_streams.specs.Cursors.{placed, first_key, steady_to, IsFrom, Reaches};
+ghost use Rattle.blaze_streams.specs.Cursors.{lesser};
 
 use blaze_int::Integer;
 use blaze_int::compare::{after, before, is_at_most};
@@ -29,7 +30,8 @@ impl<T: Integer> Model for Cursor<T> {
 
     ghost view = { λ c. placed T.rank (option_to_list c.head ++ c.rest.items) };
 
-    ghost invariant = { λ c. IfNone c.head (c.rest.items ≡ []) × IsCanonical nat_eq (placed T.rank (option_to_list c.head ++ c.rest.items)) };
+    ghost invariant = { λ c. IfNone c.head (c.rest.items ≡ [])
+        × IsCanonical nat_eq (placed T.rank (option_to_list c.head ++ c.rest.items)) };
 }
 
 impl<T: Integer> Cursor<T> {

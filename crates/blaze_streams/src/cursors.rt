@@ -2,7 +2,8 @@
 ghost use Rattle.std.specs.Prelude.{◌≡◌, IfOk, nat_eq};
 ghost use Rattle.std.specs.Option.{option_map};
 ghost use Rattle.blaze_streams.specs.Segments.{row};
-ghost use Rattle.blaze_streams.specs.Cursors.{AllCanonical, first_keys, AllFrom, all_steady_to, AllReach, all_after};
+ghost use Rattle.blaze_streams.specs.Cursors.{AllCanonical, first_keys, AllFrom, all_steady_to};
+ghost use Rattle.blaze_streams.specs.Cursors.{AllReach, all_after};
 
 use crate::cursor::{Cursor, lesser_of};
 use blaze_int::Integer;

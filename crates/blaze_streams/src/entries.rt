@@ -1,6 +1,7 @@
 //! Two streams, or a stream and a set, as one list of entries: first key, last key and value.
 ghost use Rattle.std.specs.Prelude.{IfOk};
-ghost use Rattle.blaze_table.specs.Chosen.{right_first, exactly_one, left_with_right, left_alone, IsChosen};
+ghost use Rattle.blaze_table.specs.Chosen.{right_first, exactly_one, left_with_right, left_alone};
+ghost use Rattle.blaze_table.specs.Chosen.{IsChosen};
 ghost use Rattle.blaze_table.specs.Listed.{listed};
 
 use crate::carrier::ValueCarrier;
@@ -20,7 +21,8 @@ pub fn union_entries<
     R: SortedDisjointMap<T, VC>,
 >(alloc: Global, left: L, right: R) -> Result<Vec<(T, T, VC::Value)>, AllocError>
     requires { VC.can_carry }
-    ensures { IfOk result (λ entries. IsChosen VC.Value.eq T.low T.high right_first (L.left left) (R.left right) (listed T.rank entries.items)) }
+    ensures { IfOk result (λ entries. IsChosen VC.Value.eq T.low T.high right_first (L.left left)
+        (R.left right) (listed T.rank entries.items)) }
 {
     entries_chosen_of(alloc, left, right, &RightFirst)
 }
@@ -33,7 +35,8 @@ pub fn symmetric_difference_entries<
     R: SortedDisjointMap<T, VC>,
 >(alloc: Global, left: L, right: R) -> Result<Vec<(T, T, VC::Value)>, AllocError>
     requires { VC.can_carry }
-    ensures { IfOk result (λ entries. IsChosen VC.Value.eq T.low T.high exactly_one (L.left left) (R.left right) (listed T.rank entries.items)) }
+    ensures { IfOk result (λ entries. IsChosen VC.Value.eq T.low T.high exactly_one (L.left left)
+        (R.left right) (listed T.rank entries.items)) }
 {
     entries_chosen_of(alloc, left, right, &ExactlyOne)
 }
@@ -46,7 +49,8 @@ pub fn intersection_entries<
     S: SortedDisjoint<T>,
 >(alloc: Global, map: M, set: S) -> Result<Vec<(T, T, VC::Value)>, AllocError>
     requires { VC.can_carry }
-    ensures { IfOk result (λ entries. IsChosen VC.Value.eq T.low T.high left_with_right (M.left map) (S.left set) (listed T.rank entries.items)) }
+    ensures { IfOk result (λ entries. IsChosen VC.Value.eq T.low T.high left_with_right (M.left map)
+        (S.left set) (listed T.rank entries.items)) }
 {
     let entries = entries_chosen_of(alloc, map, WithTrue::new(set), &LeftWithRight)?;
     Ok(entries)
@@ -60,7 +64,8 @@ pub fn difference_entries<
     S: SortedDisjoint<T>,
 >(alloc: Global, map: M, set: S) -> Result<Vec<(T, T, VC::Value)>, AllocError>
     requires { VC.can_carry }
-    ensures { IfOk result (λ entries. IsChosen VC.Value.eq T.low T.high left_alone (M.left map) (S.left set) (listed T.rank entries.items)) }
+    ensures { IfOk result (λ entries. IsChosen VC.Value.eq T.low T.high left_alone (M.left map)
+        (S.left set) (listed T.rank entries.items)) }
 {
     let entries = entries_chosen_of(alloc, map, WithTrue::new(set), &LeftAlone)?;
     Ok(entries)

@@ -37,7 +37,8 @@ impl<T: Integer, V: Eq + Drop> Model for IntoRangeValuesIter<T, V> {
 
     ghost view = { λ s. map (shown_entry T.rank rc_value) (into_iter_items s.entries) };
 
-    ghost invariant = { λ s. IsRangeMap V.eq T.low T.high (map (shown_entry T.rank rc_value) (into_iter_items s.entries)) };
+    ghost invariant = { λ s. IsRangeMap V.eq T.low T.high
+        (map (shown_entry T.rank rc_value) (into_iter_items s.entries)) };
 }
 
 // The entries of a table, each value in an `Rc`: first key, last key and value.
@@ -45,7 +46,8 @@ fn shared_entries<T: Integer, V: Eq + Drop>(
     alloc: Global,
     table: RangeTable<T, V>,
 ) -> Result<Vec<(T, T, Rc<V>)>, AllocError>
-    ensures { IfOk result (λ entries. map (shown_entry T.rank rc_value) entries.items ≡ table.entries) }
+    ensures { IfOk result (λ entries. map (shown_entry T.rank rc_value) entries.items
+        ≡ table.entries) }
 {
     let mut entries = Vec::with_capacity(alloc, table.entries())?;
     for (start, end, value) in table {

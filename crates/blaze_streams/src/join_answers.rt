@@ -1,7 +1,8 @@
 //! What a closure answers at the segments of two streams.
 ghost use Rattle.std.specs.Prelude.{IfOk};
 ghost use Rattle.blaze_streams.specs.Answers.{values, IsCallableAtEach, IsTransformed};
-ghost use Rattle.blaze_streams.specs.JoinAnswers.{either, with_left, both, AllJoined, IsCallableAtSegments, IsJoined};
+ghost use Rattle.blaze_streams.specs.JoinAnswers.{either, with_left, both, AllJoined};
+ghost use Rattle.blaze_streams.specs.JoinAnswers.{IsCallableAtSegments, IsJoined};
 ghost use Rattle.blaze_streams.specs.declared.joins.JoinKind.TheVariants.{Inner, Left, Full};
 
 use crate::canon_map::CanonMapIter;
@@ -27,7 +28,8 @@ pub fn answer_either<
     mut f: F,
 ) -> Result<CanonMapIter<T, Owned<W>>, AllocError>
     requires { IsCallableAtEach (either VCL.shown VCR.shown) F.FnMut f (values segments) }
-    ensures { IfOk result (λ new. IsTransformed (either VCL.shown VCR.shown) F.FnMut W.eq T.low T.high f segments new) }
+    ensures { IfOk result (λ new. IsTransformed (either VCL.shown VCR.shown) F.FnMut W.eq T.low
+        T.high f segments new) }
 {
     segments.in_hand();
     let mut out = Vec::new(alloc);
@@ -53,9 +55,11 @@ pub fn answer_left<
     segments: CanonMapIter<T, (Option<VCL>, Option<VCR>)>,
     mut f: F,
 ) -> Result<CanonMapIter<T, Owned<W>>, AllocError>
-    requires callable { IsCallableAtEach (with_left VCL.shown VCR.shown) F.FnMut f (values segments) }
+    requires callable { IsCallableAtEach (with_left VCL.shown VCR.shown) F.FnMut f
+        (values segments) }
     requires joined { AllJoined Left segments }
-    ensures { IfOk result (λ new. IsTransformed (with_left VCL.shown VCR.shown) F.FnMut W.eq T.low T.high f segments new) }
+    ensures { IfOk result (λ new. IsTransformed (with_left VCL.shown VCR.shown) F.FnMut W.eq T.low
+        T.high f segments new) }
 {
     segments.in_hand();
     let mut out = Vec::new(alloc);
@@ -85,7 +89,8 @@ pub fn answer_both<
 ) -> Result<CanonMapIter<T, Owned<W>>, AllocError>
     requires callable { IsCallableAtEach (both VCL.shown VCR.shown) F.FnMut f (values segments) }
     requires joined { AllJoined Inner segments }
-    ensures { IfOk result (λ new. IsTransformed (both VCL.shown VCR.shown) F.FnMut W.eq T.low T.high f segments new) }
+    ensures { IfOk result (λ new. IsTransformed (both VCL.shown VCR.shown) F.FnMut W.eq T.low
+        T.high f segments new) }
 {
     segments.in_hand();
     let mut out = Vec::new(alloc);
@@ -111,8 +116,10 @@ pub fn full_join_of<
     W: Eq + Clone,
     F: FnMut(Option<VCL>, Option<VCR>) -> W,
 >(alloc: Global, left: L, right: R, f: F) -> Result<CanonMapIter<T, Owned<W>>, AllocError>
-    requires { IsCallableAtSegments (either VCL.shown VCR.shown) F.FnMut VCL.Value.eq VCR.Value.eq T.low T.high Full f (L.left left) (R.left right) }
-    ensures { IfOk result (λ new. IsJoined (either VCL.shown VCR.shown) F.FnMut VCL.Value.eq VCR.Value.eq T.low T.high Full W.eq f (L.left left) (R.left right) new) }
+    requires { IsCallableAtSegments (either VCL.shown VCR.shown) F.FnMut VCL.Value.eq VCR.Value.eq
+        T.low T.high Full f (L.left left) (R.left right) }
+    ensures { IfOk result (λ new. IsJoined (either VCL.shown VCR.shown) F.FnMut VCL.Value.eq
+        VCR.Value.eq T.low T.high Full W.eq f (L.left left) (R.left right) new) }
 {
     let segments = join_of(alloc, left, right, JoinKind::Full)?;
     answer_either(alloc, segments, f)
@@ -130,8 +137,10 @@ pub fn left_join_of<
     W: Eq + Clone,
     F: FnMut(VCL, Option<VCR>) -> W,
 >(alloc: Global, left: L, right: R, f: F) -> Result<CanonMapIter<T, Owned<W>>, AllocError>
-    requires { IsCallableAtSegments (with_left VCL.shown VCR.shown) F.FnMut VCL.Value.eq VCR.Value.eq T.low T.high Left f (L.left left) (R.left right) }
-    ensures { IfOk result (λ new. IsJoined (with_left VCL.shown VCR.shown) F.FnMut VCL.Value.eq VCR.Value.eq T.low T.high Left W.eq f (L.left left) (R.left right) new) }
+    requires { IsCallableAtSegments (with_left VCL.shown VCR.shown) F.FnMut VCL.Value.eq
+        VCR.Value.eq T.low T.high Left f (L.left left) (R.left right) }
+    ensures { IfOk result (λ new. IsJoined (with_left VCL.shown VCR.shown) F.FnMut VCL.Value.eq
+        VCR.Value.eq T.low T.high Left W.eq f (L.left left) (R.left right) new) }
 {
     let segments = join_of(alloc, left, right, JoinKind::Left)?;
     answer_left(alloc, segments, f)
@@ -149,8 +158,10 @@ pub fn inner_join_of<
     W: Eq + Clone,
     F: FnMut(VCL, VCR) -> W,
 >(alloc: Global, left: L, right: R, f: F) -> Result<CanonMapIter<T, Owned<W>>, AllocError>
-    requires { IsCallableAtSegments (both VCL.shown VCR.shown) F.FnMut VCL.Value.eq VCR.Value.eq T.low T.high Inner f (L.left left) (R.left right) }
-    ensures { IfOk result (λ new. IsJoined (both VCL.shown VCR.shown) F.FnMut VCL.Value.eq VCR.Value.eq T.low T.high Inner W.eq f (L.left left) (R.left right) new) }
+    requires { IsCallableAtSegments (both VCL.shown VCR.shown) F.FnMut VCL.Value.eq VCR.Value.eq
+        T.low T.high Inner f (L.left left) (R.left right) }
+    ensures { IfOk result (λ new. IsJoined (both VCL.shown VCR.shown) F.FnMut VCL.Value.eq
+        VCR.Value.eq T.low T.high Inner W.eq f (L.left left) (R.left right) new) }
 {
     let segments = join_of(alloc, left, right, JoinKind::Inner)?;
     answer_both(alloc, segments, f)

@@ -48,7 +48,10 @@ fn put_pair<T: Integer, VCL: ValueCarrier + Copy, VCR: ValueCarrier + Copy>(
     right: Option<VCR>,
     kind: JoinKind,
 ) -> Result<(), AllocError>
-    ensures { OnOk result (shown_ranges T.rank (shown_pair VCL.shown VCR.shown) out.new.items ≡ shown_ranges T.rank (shown_pair VCL.shown VCR.shown) out.old.items ++ piece_of (T.rank start) (T.rank end) (paired kind (shown_option VCL.shown left) (shown_option VCR.shown right))) }
+    ensures { OnOk result (shown_ranges T.rank (shown_pair VCL.shown VCR.shown) out.new.items
+        ≡ shown_ranges T.rank (shown_pair VCL.shown VCR.shown) out.old.items ++ piece_of
+        (T.rank start) (T.rank end) (paired kind (shown_option VCL.shown left)
+        (shown_option VCR.shown right))) }
 {
     if is_joined(kind, &left, &right) {
         out.push((start..=end, (left, right)))?;
@@ -73,7 +76,9 @@ fn join_next<
     requires left { IsCanonical VCL.Value.eq left.old }
     requires right { IsCanonical VCR.Value.eq right.old }
     requires starts { lesser (first_key left.old) (first_key right.old) ≡ Some (T.rank start) }
-    ensures { OnOk result (IsSegmentPut T.low T.high kind (T.rank start) left.old left.new right.old right.new (shown_ranges T.rank (shown_pair VCL.shown VCR.shown) out.old.items) (shown_ranges T.rank (shown_pair VCL.shown VCR.shown) out.new.items)) }
+    ensures { OnOk result (IsSegmentPut T.low T.high kind (T.rank start) left.old left.new right.old
+        right.new (shown_ranges T.rank (shown_pair VCL.shown VCR.shown) out.old.items)
+        (shown_ranges T.rank (shown_pair VCL.shown VCR.shown) out.new.items)) }
 {
     let end = steady_end(start, left, right);
     start.in_hand();
@@ -98,7 +103,8 @@ pub fn join_of<
     right: R,
     kind: JoinKind,
 ) -> Result<CanonMapIter<T, (Option<VCL>, Option<VCR>)>, AllocError>
-    ensures { IfOk result (λ segments. IsJoinOf VCL.Value.eq VCR.Value.eq T.low T.high kind (L.left left) (R.left right) segments) }
+    ensures { IfOk result (λ segments. IsJoinOf VCL.Value.eq VCR.Value.eq T.low T.high kind
+        (L.left left) (R.left right) segments) }
 {
     let mut out = Vec::new(alloc);
     let mut left = Ahead::new(left);

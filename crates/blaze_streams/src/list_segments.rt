@@ -1,6 +1,7 @@
 //! Segments of lists of ranges.
 ghost use Rattle.std.specs.Prelude.{◌≡◌, None, IfOk, IfSome, IfNone, nat_eq};
-ghost use Rattle.blaze_streams.specs.Segments.{numbered, all_numbered, AreInOrder, entry_of, entries_of, IsSegmentsOf};
+ghost use Rattle.blaze_streams.specs.Segments.{numbered, all_numbered, AreInOrder, entry_of};
+ghost use Rattle.blaze_streams.specs.Segments.{entries_of, IsSegmentsOf};
 ghost use Rattle.blaze_streams.specs.Cursors.{placed, AllCanonical, first_keys, IsNextSegment};
 
 use crate::cursor::Cursor;
@@ -30,7 +31,8 @@ pub fn segments<T: Integer>(
     lists: &[Vec<(T, T)>],
 ) -> Result<Vec<Segment<T>>, AllocError>
     requires { AreInOrder (all_numbered T.rank lists.now) }
-    ensures { IfOk result (λ found. IsSegmentsOf nat_eq (all_numbered T.rank lists.now) (entries_of T.rank found.items)) }
+    ensures { IfOk result (λ found. IsSegmentsOf nat_eq (all_numbered T.rank lists.now)
+        (entries_of T.rank found.items)) }
 {
     let mut cursors = cursors_of(alloc, lists)?;
     let found = segments_left(alloc, &mut cursors)?;
@@ -85,7 +87,9 @@ pub fn next_segment<T: Integer>(
     lists: &mut [Cursor<T>],
 ) -> Result<Option<Segment<T>>, AllocError>
     ensures none { IfOk result (λ next. IfNone next (first_keys lists.old ≡ None)) }
-    ensures some { IfOk result (λ next. IfSome next (λ segment. IsNextSegment lists.old (entry_of T.rank segment) lists.new)) }
+    ensures some { IfOk result
+        (λ next. IfSome next (λ segment. IsNextSegment lists.old
+        (entry_of T.rank segment) lists.new)) }
 {
     let Some(lo) = first_of(lists) else {
         return Ok(None);

@@ -21,7 +21,8 @@ pub trait PieceList<T: Integer, VC: ValueCarrier> {
     /// where the two touch with equal values. After refused memory nothing is said of the list, which callers then drop.
     fn put(&mut self, lo: T, hi: T, carrier: VC) -> Result<(), AllocError>
         requires { VC.can_carry }
-        ensures { OnOk result (PutsAlike VC.Value.eq (T.rank lo) (T.rank hi) (Some (VC.shown carrier)) (entries self.old) (entries self.new)) };
+        ensures { OnOk result (PutsAlike VC.Value.eq (T.rank lo) (T.rank hi)
+            (Some (VC.shown carrier)) (entries self.old) (entries self.new)) };
 }
 
 /// A list of carriers keeps the carrier that comes.

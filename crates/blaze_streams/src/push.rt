@@ -17,7 +17,10 @@ fn lengthen_last<T: Integer, VC: ValueCarrier>(
     hi: T,
     carrier: &VC,
 ) -> bool
-    ensures { let old = shown_ranges T.rank VC.shown out.old.items in let added = entry (T.rank lo) (T.rank hi) (VC.shown carrier.now) ∷ [] in MatchBool result (shown_ranges T.rank VC.shown out.new.items ≡ glue VC.Value.eq old added) ((out.new.items ≡ out.old.items) × (glue VC.Value.eq old added ≡ old ++ added)) }
+    ensures { let old = shown_ranges T.rank VC.shown out.old.items in let added = entry (T.rank lo)
+        (T.rank hi) (VC.shown carrier.now) ∷ [] in MatchBool result
+        (shown_ranges T.rank VC.shown out.new.items ≡ glue VC.Value.eq old added) ((out.new.items
+        ≡ out.old.items) × (glue VC.Value.eq old added ≡ old ++ added)) }
 {
     let Some(last) = out.last_mut() else {
         return false;
@@ -36,7 +39,9 @@ pub fn push_joined<T: Integer, VC: ValueCarrier>(
     hi: T,
     carrier: VC,
 ) -> Result<(), AllocError>
-    ensures ok { OnOk result (shown_ranges T.rank VC.shown out.new.items ≡ glue VC.Value.eq (shown_ranges T.rank VC.shown out.old.items) (entry (T.rank lo) (T.rank hi) (VC.shown carrier) ∷ [])) }
+    ensures ok { OnOk result (shown_ranges T.rank VC.shown out.new.items
+        ≡ glue VC.Value.eq (shown_ranges T.rank VC.shown out.old.items)
+        (entry (T.rank lo) (T.rank hi) (VC.shown carrier) ∷ [])) }
     ensures err { OnErr result (out.new.items ≡ out.old.items) }
 {
     if !lengthen_last(out, lo, hi, &carrier) {

@@ -73,7 +73,8 @@ impl<'a, T: Integer, V: Eq> Iterator for RangeValuesIter<'a, T, V> {
 }
 
 impl<'a, T: Integer, V: Eq> DoubleEndedIterator for RangeValuesIter<'a, T, V> {
-    ghost next_back_gives = { YieldsWholeLast (λ p. p.0) (shown_range T.rank (λ v. v.now)) (λ s. s) };
+    ghost next_back_gives = { YieldsWholeLast (λ p. p.0)
+        (shown_range T.rank (λ v. v.now)) (λ s. s) };
 
     fn next_back(&mut self) -> Option<(RangeInclusive<T>, &'a V)> {
         let (start, end, value) = self.entries.next_back()?;

@@ -17,7 +17,8 @@ fn put_events<T: Integer, VC: ValueCarrier, I: SortedDisjointMap<T, VC>>(
     stream: I,
 ) -> Result<(), AllocError>
     ensures range_map { IsRangeMap VC.Value.eq T.low T.high (I.left stream) }
-    ensures put { OnOk result (shown_events T.rank VC.shown events.new.items ≡ shown_events T.rank VC.shown events.old.items ++ events_of input (I.left stream)) }
+    ensures put { OnOk result (shown_events T.rank VC.shown events.new.items
+        ≡ shown_events T.rank VC.shown events.old.items ++ events_of input (I.left stream)) }
 {
     stream.in_hand();
     for (range, value) in stream {

@@ -20,7 +20,8 @@ pub fn transform<
     F: FnMut(VC) -> W,
 >(alloc: Global, stream: S, mut f: F) -> Result<CanonMapIter<T, Owned<W>>, AllocError>
     requires { IsCallableAtEach (λ a. VC.shown a.0) F.FnMut f (values (S.left stream)) }
-    ensures { IfOk result (λ new. IsTransformed (λ a. VC.shown a.0) F.FnMut W.eq T.low T.high f (S.left stream) new) }
+    ensures { IfOk result (λ new. IsTransformed (λ a. VC.shown a.0) F.FnMut W.eq T.low T.high f
+        (S.left stream) new) }
 {
     stream.in_hand();
     let mut out = Vec::new(alloc);

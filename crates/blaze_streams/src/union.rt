@@ -19,7 +19,8 @@ pub fn union_of<
     R: SortedDisjointMap<T, VC>,
 >(alloc: Global, left: L, right: R) -> Result<CanonMapIter<T, VC>, AllocError>
     requires { VC.can_carry }
-    ensures { IfOk result (λ stream. IsChosen VC.Value.eq T.low T.high right_first (L.left left) (R.left right) stream) }
+    ensures { IfOk result (λ stream. IsChosen VC.Value.eq T.low T.high right_first (L.left left)
+        (R.left right) stream) }
 {
     chosen_of(alloc, left, right, &RightFirst)
 }
@@ -33,7 +34,8 @@ pub fn symmetric_difference_of<
     R: SortedDisjointMap<T, VC>,
 >(alloc: Global, left: L, right: R) -> Result<CanonMapIter<T, VC>, AllocError>
     requires { VC.can_carry }
-    ensures { IfOk result (λ stream. IsChosen VC.Value.eq T.low T.high exactly_one (L.left left) (R.left right) stream) }
+    ensures { IfOk result (λ stream. IsChosen VC.Value.eq T.low T.high exactly_one (L.left left)
+        (R.left right) stream) }
 {
     chosen_of(alloc, left, right, &ExactlyOne)
 }
@@ -48,7 +50,8 @@ pub fn intersection_of<
     R: SortedDisjointMap<T, VCR>,
 >(alloc: Global, left: L, right: R) -> Result<CanonMapIter<T, VCL>, AllocError>
     requires { VCL.can_carry }
-    ensures { IfOk result (λ stream. IsChosen VCL.Value.eq T.low T.high left_with_right (L.left left) (R.left right) stream) }
+    ensures { IfOk result (λ stream. IsChosen VCL.Value.eq T.low T.high left_with_right
+        (L.left left) (R.left right) stream) }
 {
     chosen_of(alloc, left, right, &LeftWithRight)
 }

@@ -21,7 +21,8 @@ pub fn intersect_with_ranges<
     S: SortedDisjoint<T>,
 >(alloc: Global, map: M, set: S) -> Result<CanonMapIter<T, VC>, AllocError>
     requires { VC.can_carry }
-    ensures { IfOk result (λ stream. IsChosen VC.Value.eq T.low T.high left_with_right (M.left map) (S.left set) stream) }
+    ensures { IfOk result (λ stream. IsChosen VC.Value.eq T.low T.high left_with_right (M.left map)
+        (S.left set) stream) }
 {
     let stream = chosen_of(alloc, map, WithTrue::new(set), &LeftWithRight)?;
     Ok(stream)
@@ -36,7 +37,8 @@ pub fn subtract_ranges<
     S: SortedDisjoint<T>,
 >(alloc: Global, map: M, set: S) -> Result<CanonMapIter<T, VC>, AllocError>
     requires { VC.can_carry }
-    ensures { IfOk result (λ stream. IsChosen VC.Value.eq T.low T.high left_alone (M.left map) (S.left set) stream) }
+    ensures { IfOk result (λ stream. IsChosen VC.Value.eq T.low T.high left_alone (M.left map)
+        (S.left set) stream) }
 {
     let stream = chosen_of(alloc, map, WithTrue::new(set), &LeftAlone)?;
     Ok(stream)

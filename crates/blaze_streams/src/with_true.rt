@@ -32,7 +32,8 @@ impl<T: Integer, S: SortedDisjoint<T>> WithTrue<T, S> {
 impl<T: Integer, S: SortedDisjoint<T>> Iterator for WithTrue<T, S> {
     type Item = (RangeInclusive<T>, bool);
 
-    ghost next_gives = { YieldsFirstBy (shown_range T.rank (λ b. b)) (λ s. all_true (S.left s.ranges)) };
+    ghost next_gives = { YieldsFirstBy (shown_range T.rank (λ b. b))
+        (λ s. all_true (S.left s.ranges)) };
 
     ghost remaining = { item_count (λ s. all_true (S.left s.ranges)) };
 

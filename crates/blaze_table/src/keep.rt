@@ -1,5 +1,6 @@
 //! Keys that a closure keeps, put into a new list one after another.
-ghost use Rattle.std.specs.Prelude.{◌≡◌, ◌+◌, ◌<◌, ◌≤◌, ◌++◌, ◌∷◌, [], true, pos, ◌+ℤ◌, ◌-ℤ◌, ◌≤ℤ◌, vec_len, IfOk, OnOk};
+ghost use Rattle.std.specs.Prelude.{◌≡◌, ◌+◌, ◌<◌, ◌≤◌, ◌++◌, ◌∷◌, [], true, pos, ◌+ℤ◌, ◌-ℤ◌, ◌≤ℤ◌};
+ghost use Rattle.std.specs.Prelude.{vec_len, IfOk, OnOk};
 ghost use Rattle.std.specs.List.{All};
 ghost use Rattle.std.specs.Vec.{vec_capacity};
 ghost use Rattle.blaze_table.specs.Count.{keys_in};
@@ -7,7 +8,8 @@ ghost use Rattle.blaze_table.specs.Entries.{Entry, entry};
 ghost use Rattle.blaze_table.specs.Keeping.{AddsKey, KeepsMore};
 ghost use Rattle.blaze_table.specs.Painted.{ClonesAreAlike};
 ghost use Rattle.blaze_table.specs.Pairs.{pairs_of, pairs_from};
-ghost use Rattle.blaze_table.specs.Retain.{AnswersAtPair, IsCallableAtPairs, IsKeyRetained, TakesPair};
+ghost use Rattle.blaze_table.specs.Retain.{AnswersAtPair, IsCallableAtPairs, IsKeyRetained};
+ghost use Rattle.blaze_table.specs.Retain.{TakesPair};
 ghost use Rattle.blaze_table.specs.Listed.{listed};
 ghost use Rattle.blaze_table.specs.Table.{IsTable};
 
@@ -34,7 +36,9 @@ fn push_key<T: Integer, V: Eq + Clone>(
     value: &V,
 ) -> Result<(), AllocError>
     requires { ClonesAreAlike V.is_clone V.eq }
-    ensures { OnOk result ((clone : V) × (V.eq value.now clone ≡ true) × (listed T.rank out.new.items ≡ listed T.rank out.old.items ++ entry (T.rank key) (T.rank key) clone ∷ [])) }
+    ensures { OnOk result ((clone : V) × (V.eq value.now clone ≡ true)
+        × (listed T.rank out.new.items
+        ≡ listed T.rank out.old.items ++ entry (T.rank key) (T.rank key) clone ∷ [])) }
 {
     let value = value.clone()?;
     out.push((key, key, value))?;
@@ -48,7 +52,8 @@ fn put_key<T: Integer, V: Eq + Clone>(
     value: &V,
 ) -> Result<(), AllocError>
     requires { ClonesAreAlike V.is_clone V.eq }
-    ensures { OnOk result (AddsKey V.eq (T.rank key) value.now (listed T.rank out.old.items) (listed T.rank out.new.items)) }
+    ensures { OnOk result (AddsKey V.eq (T.rank key) value.now (listed T.rank out.old.items)
+        (listed T.rank out.new.items)) }
 {
     match out.pop() {
         None => push_key(out, key, value)?,
@@ -75,9 +80,14 @@ fn keep_key<T: Integer, V: Eq + Clone, F: Fn(&T, &V) -> bool>(
     requires callable { TakesPair F.Fn f.now (T.of_rank (T.rank key), value.now) }
     requires clones { ClonesAreAlike V.is_clone V.eq }
     requires counted { pos 1 ≤ℤ pos (T.SafeLen.number len) }
-    ensures kept { OnOk result (KeepsMore (AnswersAtPair F.Fn) f.now T.rank V.eq T.low T.high (pairs_from T.of_rank (T.rank key) 1 value.now) (T.rank key) (T.rank key +ℤ pos 1) (listed T.rank out.old.items) (listed T.rank out.new.items)) }
-    ensures room { IfOk result (λ left. pos (T.SafeLen.number len) ≤ℤ (pos (T.SafeLen.number left) +ℤ pos 1)) }
-    ensures counted { IfOk result (λ left. pos (T.SafeLen.number left) +ℤ keys_in (listed T.rank out.old.items) +ℤ pos 1 ≡ pos (T.SafeLen.number len) +ℤ keys_in (listed T.rank out.new.items)) }
+    ensures kept { OnOk result (KeepsMore (AnswersAtPair F.Fn) f.now T.rank V.eq T.low T.high
+        (pairs_from T.of_rank (T.rank key) 1 value.now) (T.rank key) (T.rank key +ℤ pos 1)
+        (listed T.rank out.old.items) (listed T.rank out.new.items)) }
+    ensures room { IfOk result (λ left. pos (T.SafeLen.number len) ≤ℤ
+        (pos (T.SafeLen.number left) +ℤ pos 1)) }
+    ensures counted { IfOk result (λ left. pos (T.SafeLen.number left) +ℤ keys_in
+        (listed T.rank out.old.items) +ℤ pos 1
+        ≡ pos (T.SafeLen.number len) +ℤ keys_in (listed T.rank out.new.items)) }
 {
     key.in_hand();
     let stays = f(&key, value);
@@ -97,12 +107,17 @@ fn keep_keys<T: Integer, V: Eq + Clone, F: Fn(&T, &V) -> bool>(
     len: T::SafeLen,
     f: &F,
 ) -> Result<T::SafeLen, AllocError>
-    requires callable { All (TakesPair F.Fn f.now) (pairs_of T.of_rank (entry (T.rank start) (T.rank end) value.now)) }
+    requires callable { All (TakesPair F.Fn f.now)
+        (pairs_of T.of_rank (entry (T.rank start) (T.rank end) value.now)) }
     requires clones { ClonesAreAlike V.is_clone V.eq }
     requires order { T.rank start ≤ℤ T.rank end }
     requires counted { (T.rank end -ℤ T.rank start +ℤ pos 1) ≤ℤ pos (T.SafeLen.number len) }
-    ensures kept { OnOk result (KeepsMore (AnswersAtPair F.Fn) f.now T.rank V.eq T.low T.high (pairs_of T.of_rank (entry (T.rank start) (T.rank end) value.now)) (T.rank start) (T.rank end +ℤ pos 1) (listed T.rank out.old.items) (listed T.rank out.new.items)) }
-    ensures counted { IfOk result (λ left. pos (T.SafeLen.number left) +ℤ keys_in (listed T.rank out.old.items) +ℤ (T.rank end -ℤ T.rank start +ℤ pos 1) ≡ pos (T.SafeLen.number len) +ℤ keys_in (listed T.rank out.new.items)) }
+    ensures kept { OnOk result (KeepsMore (AnswersAtPair F.Fn) f.now T.rank V.eq T.low T.high
+        (pairs_of T.of_rank (entry (T.rank start) (T.rank end) value.now)) (T.rank start)
+        (T.rank end +ℤ pos 1) (listed T.rank out.old.items) (listed T.rank out.new.items)) }
+    ensures counted { IfOk result (λ left. pos (T.SafeLen.number left) +ℤ keys_in
+        (listed T.rank out.old.items) +ℤ (T.rank end -ℤ T.rank start +ℤ pos 1)
+        ≡ pos (T.SafeLen.number len) +ℤ keys_in (listed T.rank out.new.items)) }
 {
     let mut left = len;
     let mut key = start;
@@ -124,8 +139,10 @@ pub fn retain_keys<T: Integer, V: Eq + Clone, F: Fn(&T, &V) -> bool>(
     requires callable { IsCallableAtPairs F.Fn f.now T.of_rank entries.now.entries }
     requires clones { ClonesAreAlike V.is_clone V.eq }
     requires table { IsTable V.eq T.low T.high (T.SafeLen.number len) entries.now.entries }
-    ensures retained { IfOk result (λ kept. IsKeyRetained F.Fn f.now T.rank T.of_rank V.eq T.low T.high entries.now.entries (listed T.rank kept.0.items)) }
-    ensures table { IfOk result (λ kept. IsTable V.eq T.low T.high (T.SafeLen.number kept.1) (listed T.rank kept.0.items)) }
+    ensures retained { IfOk result (λ kept. IsKeyRetained F.Fn f.now T.rank T.of_rank V.eq T.low
+        T.high entries.now.entries (listed T.rank kept.0.items)) }
+    ensures table { IfOk result (λ kept. IsTable V.eq T.low T.high (T.SafeLen.number kept.1)
+        (listed T.rank kept.0.items)) }
 {
     let mut out = Vec::new(entries.allocator());
     let mut left = len;

@@ -60,8 +60,11 @@ impl<T: Integer> RangeSetBlaze<T> {
         alloc: Global,
         iter: I,
     ) -> Result<Self, AllocError>
-        requires { (it : I.IntoIter) → I.into_iter_gives iter it → I.IntoIter.can_next it × IsFinite (I.IntoIter.remaining it) }
-        ensures { IfOk result (λ set. (it : I.IntoIter) × (ranges : List (RangeInclusive T)) × I.into_iter_gives iter it × Drains I.IntoIter.next_gives it ranges × IsSetOf T.low T.high (bare_ranges T.rank ranges) set) }
+        requires { (it : I.IntoIter) → I.into_iter_gives iter it → I.IntoIter.can_next it
+            × IsFinite (I.IntoIter.remaining it) }
+        ensures { IfOk result (λ set. (it : I.IntoIter) × (ranges : List (RangeInclusive T))
+            × I.into_iter_gives iter it × Drains I.IntoIter.next_gives it ranges
+            × IsSetOf T.low T.high (bare_ranges T.rank ranges) set) }
     {
         let mut pairs = Vec::new(alloc);
         for range in iter {
@@ -122,7 +125,8 @@ fn entries_of_ranges<T: Integer>(
     alloc: Global,
     ranges: Vec<RangeInclusive<T>>,
 ) -> Result<Vec<(T, T, ())>, AllocError>
-    ensures { IfOk result (λ entries. map (shown_entry T.rank (λ v. v)) entries.items ≡ bare_ranges T.rank ranges.items) }
+    ensures { IfOk result (λ entries. map (shown_entry T.rank (λ v. v)) entries.items
+        ≡ bare_ranges T.rank ranges.items) }
 {
     let mut entries = Vec::with_capacity(alloc, ranges.len())?;
     for range in ranges {

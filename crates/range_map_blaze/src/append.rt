@@ -16,9 +16,11 @@ impl<T: Integer, V: Eq + Clone> RangeMapBlaze<T, V> {
     /// takes no memory.
     pub fn extend_from(&mut self, other: Self) -> Result<(), AllocError>
         requires { ClonesAreAlike V.is_clone V.eq }
-        ensures ok { OnOk result (IsExtended V.eq T.low T.high other.entries self.old.entries self.new.entries) }
+        ensures ok { OnOk result (IsExtended V.eq T.low T.high other.entries self.old.entries
+            self.new.entries) }
         ensures empty { other.entries ≡ [] → (result ≡ Ok tt) × (self.new ≡ self.old) }
-        ensures err { OnErr result (IsPartlyExtended V.eq T.low T.high other.entries self.old.entries self.new.entries) }
+        ensures err { OnErr result
+            (IsPartlyExtended V.eq T.low T.high other.entries self.old.entries self.new.entries) }
     {
         self.in_hand();
         if other.is_empty() {
@@ -33,8 +35,10 @@ impl<T: Integer, V: Eq + Clone> RangeMapBlaze<T, V> {
     // Paints the entries of another map, ascending.
     pub(crate) fn paint_entries(&mut self, other: Self) -> Result<(), AllocError>
         requires { ClonesAreAlike V.is_clone V.eq }
-        ensures ok { OnOk result (IsExtended V.eq T.low T.high other.entries self.old.entries self.new.entries) }
-        ensures err { OnErr result (IsPartlyExtended V.eq T.low T.high other.entries self.old.entries self.new.entries) }
+        ensures ok { OnOk result (IsExtended V.eq T.low T.high other.entries self.old.entries
+            self.new.entries) }
+        ensures err { OnErr result
+            (IsPartlyExtended V.eq T.low T.high other.entries self.old.entries self.new.entries) }
     {
         self.in_hand();
         for (start, end, value) in other.table {
@@ -47,7 +51,8 @@ impl<T: Integer, V: Eq + Clone> RangeMapBlaze<T, V> {
     // entries lie inside this one's with equal values. Refused memory leaves this map unchanged.
     fn fill_other(&mut self, other: Self) -> Result<(), AllocError>
         requires { ClonesAreAlike V.is_clone V.eq }
-        ensures ok { OnOk result (IsExtended V.eq T.low T.high other.entries self.old.entries self.new.entries) }
+        ensures ok { OnOk result (IsExtended V.eq T.low T.high other.entries self.old.entries
+            self.new.entries) }
         ensures err { OnErr result (self.new ≡ self.old) }
     {
         self.in_hand();
@@ -65,9 +70,12 @@ impl<T: Integer, V: Eq + Clone> RangeMapBlaze<T, V> {
     /// a first part of them painted, perhaps none. An empty other map takes no memory.
     pub fn extend_with(&mut self, other: &Self) -> Result<(), AllocError>
         requires { ClonesAreAlike V.is_clone V.eq }
-        ensures ok { OnOk result (IsExtended V.eq T.low T.high other.now.entries self.old.entries self.new.entries) }
+        ensures ok { OnOk result (IsExtended V.eq T.low T.high other.now.entries self.old.entries
+            self.new.entries) }
         ensures empty { other.now.entries ≡ [] → (result ≡ Ok tt) × (self.new ≡ self.old) }
-        ensures err { OnErr result (IsPartlyExtended V.eq T.low T.high other.now.entries self.old.entries self.new.entries) }
+        ensures err { OnErr result
+            (IsPartlyExtended V.eq T.low T.high other.now.entries self.old.entries
+            self.new.entries) }
     {
         self.in_hand();
         if other.is_empty() {
@@ -82,8 +90,11 @@ impl<T: Integer, V: Eq + Clone> RangeMapBlaze<T, V> {
     // Paints clones of the entries of another map, ascending.
     pub(crate) fn paint_clones(&mut self, other: &Self) -> Result<(), AllocError>
         requires { ClonesAreAlike V.is_clone V.eq }
-        ensures ok { OnOk result (IsExtended V.eq T.low T.high other.now.entries self.old.entries self.new.entries) }
-        ensures err { OnErr result (IsPartlyExtended V.eq T.low T.high other.now.entries self.old.entries self.new.entries) }
+        ensures ok { OnOk result (IsExtended V.eq T.low T.high other.now.entries self.old.entries
+            self.new.entries) }
+        ensures err { OnErr result
+            (IsPartlyExtended V.eq T.low T.high other.now.entries self.old.entries
+            self.new.entries) }
     {
         self.in_hand();
         for (start, end, value) in other.table.iter() {
@@ -97,7 +108,8 @@ impl<T: Integer, V: Eq + Clone> RangeMapBlaze<T, V> {
     // one's with equal values. Refused memory leaves this map unchanged.
     fn take_union(&mut self, other: &Self) -> Result<(), AllocError>
         requires { ClonesAreAlike V.is_clone V.eq }
-        ensures ok { OnOk result (IsExtended V.eq T.low T.high other.now.entries self.old.entries self.new.entries) }
+        ensures ok { OnOk result (IsExtended V.eq T.low T.high other.now.entries self.old.entries
+            self.new.entries) }
         ensures err { OnErr result (self.new ≡ self.old) }
     {
         self.in_hand();
@@ -113,9 +125,11 @@ impl<T: Integer, V: Eq + Clone> RangeMapBlaze<T, V> {
     /// The union of two maps, in the place of the first: as `extend_from`.
     pub fn bitor_assign(&mut self, other: Self) -> Result<(), AllocError>
         requires { ClonesAreAlike V.is_clone V.eq }
-        ensures ok { OnOk result (IsExtended V.eq T.low T.high other.entries self.old.entries self.new.entries) }
+        ensures ok { OnOk result (IsExtended V.eq T.low T.high other.entries self.old.entries
+            self.new.entries) }
         ensures empty { other.entries ≡ [] → (result ≡ Ok tt) × (self.new ≡ self.old) }
-        ensures err { OnErr result (IsPartlyExtended V.eq T.low T.high other.entries self.old.entries self.new.entries) }
+        ensures err { OnErr result
+            (IsPartlyExtended V.eq T.low T.high other.entries self.old.entries self.new.entries) }
     {
         self.extend_from(other)
     }
@@ -123,9 +137,12 @@ impl<T: Integer, V: Eq + Clone> RangeMapBlaze<T, V> {
     /// The union of two maps, in the place of the first: as `extend_with`.
     pub fn bitor_assign_ref(&mut self, other: &Self) -> Result<(), AllocError>
         requires { ClonesAreAlike V.is_clone V.eq }
-        ensures ok { OnOk result (IsExtended V.eq T.low T.high other.now.entries self.old.entries self.new.entries) }
+        ensures ok { OnOk result (IsExtended V.eq T.low T.high other.now.entries self.old.entries
+            self.new.entries) }
         ensures empty { other.now.entries ≡ [] → (result ≡ Ok tt) × (self.new ≡ self.old) }
-        ensures err { OnErr result (IsPartlyExtended V.eq T.low T.high other.now.entries self.old.entries self.new.entries) }
+        ensures err { OnErr result
+            (IsPartlyExtended V.eq T.low T.high other.now.entries self.old.entries
+            self.new.entries) }
     {
         self.extend_with(other)
     }
@@ -134,10 +151,13 @@ impl<T: Integer, V: Eq + Clone> RangeMapBlaze<T, V> {
     /// empty other map takes no memory.
     pub fn append(&mut self, other: &mut Self) -> Result<(), AllocError>
         requires { ClonesAreAlike V.is_clone V.eq }
-        ensures ok { OnOk result (IsExtended V.eq T.low T.high other.old.entries self.old.entries self.new.entries) }
+        ensures ok { OnOk result (IsExtended V.eq T.low T.high other.old.entries self.old.entries
+            self.new.entries) }
         ensures emptied { OnOk result (other.new.entries ≡ []) }
         ensures empty { other.old.entries ≡ [] → (result ≡ Ok tt) × (self.new ≡ self.old) }
-        ensures err { OnErr result (IsPartlyExtended V.eq T.low T.high other.old.entries self.old.entries self.new.entries) }
+        ensures err { OnErr result
+            (IsPartlyExtended V.eq T.low T.high other.old.entries self.old.entries
+            self.new.entries) }
         ensures kept { OnErr result (other.new ≡ other.old) }
     {
         self.extend_with(other)?;

@@ -31,7 +31,8 @@ impl<T: Integer, V: Eq + Clone> RangeMapBlaze<T, V> {
     /// The map of a value on every key of the type. It takes memory.
     pub fn universe_with(alloc: Global, value: &V) -> Result<Self, AllocError>
         requires { ClonesAreAlike V.is_clone V.eq }
-        ensures { IfOk result (λ map. IsComplement {V = V} V.eq T.low T.high value.now [] map.entries) }
+        ensures { IfOk result
+            (λ map. IsComplement {V = V} V.eq T.low T.high value.now [] map.entries) }
     {
         Self::new(alloc).complement_with(value)
     }
@@ -39,7 +40,8 @@ impl<T: Integer, V: Eq + Clone> RangeMapBlaze<T, V> {
     /// The map of a value on every key that has none here, and nothing elsewhere. Refused memory leaves this map unchanged.
     pub fn complement_with(&self, value: &V) -> Result<Self, AllocError>
         requires { ClonesAreAlike V.is_clone V.eq }
-        ensures { IfOk result (λ map. IsComplement V.eq T.low T.high value.now self.now.entries map.entries) }
+        ensures { IfOk result
+            (λ map. IsComplement V.eq T.low T.high value.now self.now.entries map.entries) }
     {
         let alloc = self.allocator();
         let stream = complement(alloc, self.ranges())?;

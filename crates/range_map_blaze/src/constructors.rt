@@ -22,7 +22,8 @@ fn map_of_lent<
     P: LentPair<'a, T, V>,
     I: IntoIterator<Item = P>,
 >(alloc: Global, iter: I) -> Result<RangeMapBlaze<T, V>, AllocError>
-    requires ends { IsFiniteIterable I.into_iter_gives I.IntoIter.can_next I.IntoIter.remaining iter }
+    requires ends { IsFiniteIterable I.into_iter_gives I.IntoIter.can_next
+        I.IntoIter.remaining iter }
     requires clones { ClonesAreAlike V.is_clone V.eq }
     ensures { IfOk result (λ new. CollectsItems I.into_iter_gives I.IntoIter.next_gives
         (λ items list. IsCanonicalOf V.eq T.low T.high (map P.pair items) list) iter new.entries) }
@@ -39,10 +40,12 @@ impl<T: Integer, V: Eq + Clone> RangeMapBlaze<T, V> {
         alloc: Global,
         iter: I,
     ) -> Result<Self, AllocError>
-        requires ends { IsFiniteIterable I.into_iter_gives I.IntoIter.can_next I.IntoIter.remaining iter }
+        requires ends { IsFiniteIterable I.into_iter_gives I.IntoIter.can_next
+            I.IntoIter.remaining iter }
         requires clones { ClonesAreAlike V.is_clone V.eq }
         ensures { IfOk result (λ new. CollectsItems I.into_iter_gives I.IntoIter.next_gives
-            (λ items list. IsCanonicalOf V.eq T.low T.high (map (shown_point T.rank (λ v. v)) items) list) iter new.entries) }
+            (λ items list. IsCanonicalOf V.eq T.low T.high (map (shown_point T.rank (λ v. v)) items)
+            list) iter new.entries) }
     {
         let mut pairs = Vec::new(alloc);
         for (key, value) in iter {
@@ -60,10 +63,12 @@ impl<T: Integer, V: Eq + Clone> RangeMapBlaze<T, V> {
         alloc: Global,
         iter: I,
     ) -> Result<Self, AllocError>
-        requires ends { IsFiniteIterable I.into_iter_gives I.IntoIter.can_next I.IntoIter.remaining iter }
+        requires ends { IsFiniteIterable I.into_iter_gives I.IntoIter.can_next
+            I.IntoIter.remaining iter }
         requires clones { ClonesAreAlike V.is_clone V.eq }
         ensures { IfOk result (λ new. CollectsItems I.into_iter_gives I.IntoIter.next_gives
-            (λ items list. IsCanonicalOf V.eq T.low T.high (map (shown_range T.rank (λ v. v)) items) list) iter new.entries) }
+            (λ items list. IsCanonicalOf V.eq T.low T.high (map (shown_range T.rank (λ v. v)) items)
+            list) iter new.entries) }
     {
         let mut pairs = Vec::new(alloc);
         for (range, value) in iter {
@@ -82,10 +87,12 @@ impl<T: Integer, V: Eq + Clone> RangeMapBlaze<T, V> {
     where
         T: 'a,
         V: 'a,
-        requires ends { IsFiniteIterable I.into_iter_gives I.IntoIter.can_next I.IntoIter.remaining iter }
+        requires ends { IsFiniteIterable I.into_iter_gives I.IntoIter.can_next
+            I.IntoIter.remaining iter }
         requires clones { ClonesAreAlike V.is_clone V.eq }
         ensures { IfOk result (λ new. CollectsItems I.into_iter_gives I.IntoIter.next_gives
-            (λ items list. IsCanonicalOf V.eq T.low T.high (map (shown_point T.rank (λ v. v.now)) items) list) iter new.entries) }
+            (λ items list. IsCanonicalOf V.eq T.low T.high
+            (map (shown_point T.rank (λ v. v.now)) items) list) iter new.entries) }
     {
         map_of_lent(alloc, iter)
     }
@@ -98,10 +105,12 @@ impl<T: Integer, V: Eq + Clone> RangeMapBlaze<T, V> {
     where
         T: 'a,
         V: 'a,
-        requires ends { IsFiniteIterable I.into_iter_gives I.IntoIter.can_next I.IntoIter.remaining iter }
+        requires ends { IsFiniteIterable I.into_iter_gives I.IntoIter.can_next
+            I.IntoIter.remaining iter }
         requires clones { ClonesAreAlike V.is_clone V.eq }
         ensures { IfOk result (λ new. CollectsItems I.into_iter_gives I.IntoIter.next_gives
-            (λ items list. IsCanonicalOf V.eq T.low T.high (map (shown_range T.rank (λ v. v.now)) items) list) iter new.entries) }
+            (λ items list. IsCanonicalOf V.eq T.low T.high
+            (map (shown_range T.rank (λ v. v.now)) items) list) iter new.entries) }
     {
         map_of_lent(alloc, iter)
     }
@@ -114,10 +123,12 @@ impl<T: Integer, V: Eq + Clone> RangeMapBlaze<T, V> {
     where
         T: 'a,
         V: 'a,
-        requires ends { IsFiniteIterable I.into_iter_gives I.IntoIter.can_next I.IntoIter.remaining iter }
+        requires ends { IsFiniteIterable I.into_iter_gives I.IntoIter.can_next
+            I.IntoIter.remaining iter }
         requires clones { ClonesAreAlike V.is_clone V.eq }
         ensures { IfOk result (λ new. CollectsItems I.into_iter_gives I.IntoIter.next_gives
-            (λ items list. IsCanonicalOf V.eq T.low T.high (map (λ p. shown_point T.rank (λ v. v) p.now) items) list) iter new.entries) }
+            (λ items list. IsCanonicalOf V.eq T.low T.high
+            (map (λ p. shown_point T.rank (λ v. v) p.now) items) list) iter new.entries) }
     {
         map_of_lent(alloc, iter)
     }
@@ -130,10 +141,12 @@ impl<T: Integer, V: Eq + Clone> RangeMapBlaze<T, V> {
     where
         T: 'a,
         V: 'a,
-        requires ends { IsFiniteIterable I.into_iter_gives I.IntoIter.can_next I.IntoIter.remaining iter }
+        requires ends { IsFiniteIterable I.into_iter_gives I.IntoIter.can_next
+            I.IntoIter.remaining iter }
         requires clones { ClonesAreAlike V.is_clone V.eq }
         ensures { IfOk result (λ new. CollectsItems I.into_iter_gives I.IntoIter.next_gives
-            (λ items list. IsCanonicalOf V.eq T.low T.high (map (λ p. shown_range T.rank (λ v. v) p.now) items) list) iter new.entries) }
+            (λ items list. IsCanonicalOf V.eq T.low T.high
+            (map (λ p. shown_range T.rank (λ v. v) p.now) items) list) iter new.entries) }
     {
         map_of_lent(alloc, iter)
     }
@@ -146,10 +159,12 @@ impl<T: Integer, V: Eq + Clone> RangeMapBlaze<T, V> {
     where
         T: 'a,
         V: 'a,
-        requires ends { IsFiniteIterable I.into_iter_gives I.IntoIter.can_next I.IntoIter.remaining iter }
+        requires ends { IsFiniteIterable I.into_iter_gives I.IntoIter.can_next
+            I.IntoIter.remaining iter }
         requires clones { ClonesAreAlike V.is_clone V.eq }
         ensures { IfOk result (λ new. CollectsItems I.into_iter_gives I.IntoIter.next_gives
-            (λ items list. IsCanonicalOf V.eq T.low T.high (map (λ p. shown_point T.rank (λ v. v.now) p.now) items) list) iter new.entries) }
+            (λ items list. IsCanonicalOf V.eq T.low T.high
+            (map (λ p. shown_point T.rank (λ v. v.now) p.now) items) list) iter new.entries) }
     {
         map_of_lent(alloc, iter)
     }
@@ -162,10 +177,12 @@ impl<T: Integer, V: Eq + Clone> RangeMapBlaze<T, V> {
     where
         T: 'a,
         V: 'a,
-        requires ends { IsFiniteIterable I.into_iter_gives I.IntoIter.can_next I.IntoIter.remaining iter }
+        requires ends { IsFiniteIterable I.into_iter_gives I.IntoIter.can_next
+            I.IntoIter.remaining iter }
         requires clones { ClonesAreAlike V.is_clone V.eq }
         ensures { IfOk result (λ new. CollectsItems I.into_iter_gives I.IntoIter.next_gives
-            (λ items list. IsCanonicalOf V.eq T.low T.high (map (λ p. shown_range T.rank (λ v. v.now) p.now) items) list) iter new.entries) }
+            (λ items list. IsCanonicalOf V.eq T.low T.high
+            (map (λ p. shown_range T.rank (λ v. v.now) p.now) items) list) iter new.entries) }
     {
         map_of_lent(alloc, iter)
     }
@@ -173,7 +190,8 @@ impl<T: Integer, V: Eq + Clone> RangeMapBlaze<T, V> {
     /// The map of an array of keys with values, in order: the later pair wins.
     pub fn from_array<const N: usize>(alloc: Global, items: [(T, V); N]) -> Result<Self, AllocError>
         requires { ClonesAreAlike V.is_clone V.eq }
-        ensures { IfOk result (λ new. IsCanonicalOf V.eq T.low T.high (map (shown_point T.rank (λ v. v)) items) new.entries) }
+        ensures { IfOk result (λ new. IsCanonicalOf V.eq T.low T.high
+            (map (shown_point T.rank (λ v. v)) items) new.entries) }
     {
         let points = Vec::from_array(alloc, items)?;
         let pairs = pairs_of_points(alloc, points)?;

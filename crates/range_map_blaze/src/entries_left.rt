@@ -32,7 +32,8 @@ impl<'a, T: Integer, V: Eq> Model for EntriesLeft<'a, T, V> {
 
     ghost view = { λ s. ahead_of T.rank (λ v. v.now) s.first s.others };
 
-    ghost invariant = { λ s. IfNone s.first (s.others ≡ []) × IsCanonical V.eq (ahead_of T.rank (λ v. v.now) s.first s.others) };
+    ghost invariant = { λ s. IfNone s.first (s.others ≡ [])
+        × IsCanonical V.eq (ahead_of T.rank (λ v. v.now) s.first s.others) };
 }
 
 // Takes the first entry out: its first key, last key and value.

@@ -1,5 +1,6 @@
 //! A value on those keys of a range that have none, by look-ups within the range.
-ghost use Rattle.std.specs.Prelude.{◌≡◌, ◌⊎◌, ◌≤ℤ◌, ◌+ℤ◌, pos, None, IsSome, MatchOption, OnOk, OnErr};
+ghost use Rattle.std.specs.Prelude.{◌≡◌, ◌⊎◌, ◌≤ℤ◌, ◌+ℤ◌, pos, None, IsSome, MatchOption, OnOk};
+ghost use Rattle.std.specs.Prelude.{OnErr};
 ghost use Rattle.blaze_table.specs.Entries.{Entry, entry, at};
 ghost use Rattle.blaze_table.specs.Gap.{IsClearFrom};
 ghost use Rattle.blaze_table.specs.Painted.{ClonesAreAlike};
@@ -18,7 +19,8 @@ impl<T: Integer, V: Eq> RangeMapBlaze<T, V> {
         ensures from { T.rank key ≤ℤ T.rank result }
         ensures to { T.rank result ≤ℤ T.rank end }
         ensures clear { IsClearFrom (at self.now.entries) (T.rank key) (T.rank result) }
-        ensures greatest { (T.rank result ≡ T.rank end) ⊎ IsSome (at self.now.entries (T.rank result +ℤ pos 1)) }
+        ensures greatest { (T.rank result
+            ≡ T.rank end) ⊎ IsSome (at self.now.entries (T.rank result +ℤ pos 1)) }
     {
         self.in_hand();
         match self.table.next_above(key) {
@@ -38,7 +40,8 @@ impl<T: Integer, V: Eq> RangeMapBlaze<T, V> {
         requires { T.rank start ≤ℤ T.rank end }
         ensures { MatchOption result
             (IsHeldFrom (at self.now.entries) (T.rank start) (T.rank end))
-            (λ gap. IsFirstGap (at self.now.entries) (T.rank start) (T.rank end) (T.rank gap.0) (T.rank gap.1)) }
+            (λ gap. IsFirstGap (at self.now.entries) (T.rank start) (T.rank end)
+            (T.rank gap.0) (T.rank gap.1)) }
     {
         let mut key = start;
         while let Some(found) = self.table.find(key) {
@@ -54,7 +57,8 @@ impl<T: Integer, V: Eq> RangeMapBlaze<T, V> {
     fn gap_above(&self, key: T, end: T) -> Option<(T, T)>
         ensures { MatchOption result
             (IsHeldFrom (at self.now.entries) (T.rank key +ℤ pos 1) (T.rank end))
-            (λ gap. IsFirstGap (at self.now.entries) (T.rank key +ℤ pos 1) (T.rank end) (T.rank gap.0) (T.rank gap.1)) }
+            (λ gap. IsFirstGap (at self.now.entries) (T.rank key +ℤ pos 1) (T.rank end)
+            (T.rank gap.0) (T.rank gap.1)) }
     {
         if is_below(key, end) {
             self.first_gap(after(key, end), end)
@@ -70,8 +74,12 @@ impl<T: Integer, V: Eq + Clone> RangeMapBlaze<T, V> {
     pub(crate) fn fill(&mut self, start: T, end: T, value: V) -> Result<(), AllocError>
         requires order { T.rank start ≤ℤ T.rank end }
         requires clones { ClonesAreAlike V.is_clone V.eq }
-        ensures ok { OnOk result (IsFilled V.eq T.low T.high (entry (T.rank start) (T.rank end) value) self.old.entries self.new.entries) }
-        ensures err { OnErr result (IsPartlyFilled V.eq T.low T.high (entry (T.rank start) (T.rank end) value) self.old.entries self.new.entries) }
+        ensures ok { OnOk result
+            (IsFilled V.eq T.low T.high (entry (T.rank start) (T.rank end) value) self.old.entries
+            self.new.entries) }
+        ensures err { OnErr result
+            (IsPartlyFilled V.eq T.low T.high (entry (T.rank start) (T.rank end) value)
+            self.old.entries self.new.entries) }
     {
         self.in_hand();
         let Some(first) = self.first_gap(start, end) else {

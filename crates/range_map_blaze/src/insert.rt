@@ -17,8 +17,11 @@ impl<T: Integer, V: Eq + Clone> RangeMapBlaze<T, V> {
     /// unchanged.
     pub fn insert(&mut self, key: T, value: V) -> Result<Option<V>, AllocError>
         requires { ClonesAreAlike V.is_clone V.eq }
-        ensures ok { OnOk result (IsPainted V.eq T.low T.high (entry (T.rank key) (T.rank key) value) self.old.entries self.new.entries) }
-        ensures value { IfOk result (λ old. SameOption V.eq (at self.old.entries (T.rank key)) old) }
+        ensures ok { OnOk result
+            (IsPainted V.eq T.low T.high (entry (T.rank key) (T.rank key) value) self.old.entries
+            self.new.entries) }
+        ensures value { IfOk result
+            (λ old. SameOption V.eq (at self.old.entries (T.rank key)) old) }
         ensures inside { IsInside V.eq (T.rank key) (T.rank key) value self.old.entries
             → self.new.entries ≡ self.old.entries }
         ensures counted { OnOk result (IsCountedPaint self.old self.new) }
@@ -47,13 +50,17 @@ impl<T: Integer, V: Eq + Clone> RangeMapBlaze<T, V> {
         ensures ok { R.has_bounds range → OnOk result (IsPainted V.eq T.low T.high
             (entry (start_rank T.rank T.low (R.start_bound range)) (end_rank T.rank T.high (R.end_bound range)) value)
             self.old.entries self.new.entries) }
-        ensures somewhere { OnOk result (IsPaintedSomewhere V.eq T.low T.high value self.old.entries self.new.entries) }
-        ensures changed { IfOk result (λ changed. IsTrue changed ↔ (¬ (keys_in self.new.entries ≡ keys_in self.old.entries))) }
+        ensures somewhere { OnOk result (IsPaintedSomewhere V.eq T.low T.high value self.old.entries
+            self.new.entries) }
+        ensures changed { IfOk result (λ changed. IsTrue changed ↔ (¬ (keys_in self.new.entries
+            ≡ keys_in self.old.entries))) }
         ensures none { R.has_bounds range
-            → end_rank T.rank T.high (R.end_bound range) <ℤ start_rank T.rank T.low (R.start_bound range)
+            → end_rank T.rank T.high (R.end_bound range) <ℤ start_rank T.rank T.low
+            (R.start_bound range)
             → (result ≡ Ok false) × (self.new ≡ self.old) }
         ensures inside { R.has_bounds range
-            → IsInside V.eq (start_rank T.rank T.low (R.start_bound range)) (end_rank T.rank T.high (R.end_bound range)) value self.old.entries
+            → IsInside V.eq (start_rank T.rank T.low (R.start_bound range))
+            (end_rank T.rank T.high (R.end_bound range)) value self.old.entries
             → (result ≡ Ok false) × (self.new.entries ≡ self.old.entries) }
         ensures counted { OnOk result (IsCountedPaint self.old self.new) }
         ensures err { OnErr result (self.new.entries ≡ self.old.entries) }

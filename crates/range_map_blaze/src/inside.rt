@@ -11,7 +11,8 @@ impl<T: Integer, V: Eq> RangeMapBlaze<T, V> {
     // Whether an entry has all keys from start up to end, with an equal value.
     fn has_inside(&self, start: T, end: T, value: &V) -> bool
         requires { T.rank start ≤ℤ T.rank end }
-        ensures { IsTrue result ↔ IsInside V.eq (T.rank start) (T.rank end) value.now self.now.entries }
+        ensures { IsTrue result ↔ IsInside V.eq (T.rank start)
+            (T.rank end) value.now self.now.entries }
     {
         self.in_hand();
         match self.table.find(start) {

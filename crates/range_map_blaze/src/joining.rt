@@ -1,5 +1,6 @@
 //! Successive pairs joined to one before they are painted.
-ghost use Rattle.std.specs.Prelude.{◌≡◌, ◌<ℤ◌, ◌≤ℤ◌, ◌+ℤ◌, pos, int_le, [], ◌∷◌, ◌++◌, List, None, IfSome, IfOk, OnOk, OnErr, option_map};
+ghost use Rattle.std.specs.Prelude.{◌≡◌, ◌<ℤ◌, ◌≤ℤ◌, ◌+ℤ◌, pos, int_le, [], ◌∷◌, ◌++◌, List, None};
+ghost use Rattle.std.specs.Prelude.{IfSome, IfOk, OnOk, OnErr, option_map};
 ghost use Rattle.std.specs.Option.{option_to_list};
 ghost use Rattle.blaze_table.specs.Entries.{Entry};
 ghost use Rattle.blaze_table.specs.Painted.{ClonesAreAlike};
@@ -58,7 +59,8 @@ impl<T: Integer, V: Eq + Clone> RangeMapBlaze<T, V> {
     /// Paints a pair; one without a key paints nothing. Refused memory leaves the map unchanged.
     pub(crate) fn paint_pair(&mut self, pair: Pair<T, V>) -> Result<(), AllocError>
         requires { ClonesAreAlike V.is_clone V.eq }
-        ensures ok { OnOk result (IsExtended V.eq T.low T.high (shown_pair T.rank pair ∷ []) self.old.entries self.new.entries) }
+        ensures ok { OnOk result (IsExtended V.eq T.low T.high (shown_pair T.rank pair ∷ [])
+            self.old.entries self.new.entries) }
         ensures err { OnErr result (self.new.entries ≡ self.old.entries) }
     {
         self.in_hand();
@@ -71,7 +73,9 @@ impl<T: Integer, V: Eq + Clone> RangeMapBlaze<T, V> {
     /// Paints the pending pair, if there is one. Refused memory leaves the map unchanged.
     pub(crate) fn paint_pending(&mut self, pending: Option<Pair<T, V>>) -> Result<(), AllocError>
         requires { ClonesAreAlike V.is_clone V.eq }
-        ensures ok { OnOk result (IsExtended V.eq T.low T.high (option_to_list (option_map (shown_pair T.rank) pending)) self.old.entries self.new.entries) }
+        ensures ok { OnOk result
+            (IsExtended V.eq T.low T.high (option_to_list (option_map (shown_pair T.rank) pending))
+            self.old.entries self.new.entries) }
         ensures err { OnErr result (self.new.entries ≡ self.old.entries) }
     {
         self.in_hand();
@@ -90,8 +94,10 @@ impl<T: Integer, V: Eq + Clone> RangeMapBlaze<T, V> {
     ) -> Result<Option<Pair<T, V>>, AllocError>
         requires { ClonesAreAlike V.is_clone V.eq }
         ensures ok { IfOk result (λ left. (pairs old : List (Entry V))
-            → IsUnderway V.eq T.low T.high pairs old self.old.entries (option_map (shown_pair T.rank) pending)
-            → IsUnderway V.eq T.low T.high (pairs ++ shown_pair T.rank next ∷ []) old self.new.entries (option_map (shown_pair T.rank) left)) }
+            → IsUnderway V.eq T.low T.high pairs old self.old.entries
+            (option_map (shown_pair T.rank) pending)
+            → IsUnderway V.eq T.low T.high (pairs ++ shown_pair T.rank next ∷ []) old
+            self.new.entries (option_map (shown_pair T.rank) left)) }
         ensures ended { T.rank next.end <ℤ T.rank next.start → IfOk result (λ left. left ≡ None) }
         ensures err { OnErr result (self.new.entries ≡ self.old.entries) }
     {

@@ -1,7 +1,8 @@
 //! Maps of what is chosen from streams whose values are lent. The map that they are lent with shows that the keys outlive
 //! the loan, which code that is generic over keys has to know where it calls a function of streams.
 ghost use Rattle.std.specs.Prelude.{IfOk};
-ghost use Rattle.blaze_table.specs.Chosen.{exactly_one, left_alone, left_with_right, right_first, IsChosen};
+ghost use Rattle.blaze_table.specs.Chosen.{exactly_one, left_alone, left_with_right, right_first};
+ghost use Rattle.blaze_table.specs.Chosen.{IsChosen};
 ghost use Rattle.blaze_table.specs.Painted.{ClonesAreAlike};
 
 use crate::map::RangeMapBlaze;
@@ -22,7 +23,8 @@ pub fn lent_union<
     R: SortedDisjointMap<T, &'a V>,
 >(lent: &'a RangeMapBlaze<T, V>, left: L, right: R) -> Result<RangeMapBlaze<T, V>, AllocError>
     requires { ClonesAreAlike V.is_clone V.eq }
-    ensures { IfOk result (λ new. IsChosen V.eq T.low T.high right_first (L.left left) (R.left right) new.entries) }
+    ensures { IfOk result (λ new. IsChosen V.eq T.low T.high right_first (L.left left)
+        (R.left right) new.entries) }
 {
     let alloc = lent.allocator();
     let entries = union_entries(alloc, left, right)?;
@@ -39,7 +41,8 @@ pub fn lent_symmetric_difference<
     R: SortedDisjointMap<T, &'a V>,
 >(lent: &'a RangeMapBlaze<T, V>, left: L, right: R) -> Result<RangeMapBlaze<T, V>, AllocError>
     requires { ClonesAreAlike V.is_clone V.eq }
-    ensures { IfOk result (λ new. IsChosen V.eq T.low T.high exactly_one (L.left left) (R.left right) new.entries) }
+    ensures { IfOk result (λ new. IsChosen V.eq T.low T.high exactly_one (L.left left)
+        (R.left right) new.entries) }
 {
     let alloc = lent.allocator();
     let entries = symmetric_difference_entries(alloc, left, right)?;
@@ -56,7 +59,8 @@ pub fn lent_intersection<
     S: SortedDisjoint<T>,
 >(lent: &'a RangeMapBlaze<T, V>, map: M, set: S) -> Result<RangeMapBlaze<T, V>, AllocError>
     requires { ClonesAreAlike V.is_clone V.eq }
-    ensures { IfOk result (λ new. IsChosen V.eq T.low T.high left_with_right (M.left map) (S.left set) new.entries) }
+    ensures { IfOk result (λ new. IsChosen V.eq T.low T.high left_with_right (M.left map)
+        (S.left set) new.entries) }
 {
     let alloc = lent.allocator();
     let entries = intersection_entries(alloc, map, set)?;
@@ -73,7 +77,8 @@ pub fn lent_difference<
     S: SortedDisjoint<T>,
 >(lent: &'a RangeMapBlaze<T, V>, map: M, set: S) -> Result<RangeMapBlaze<T, V>, AllocError>
     requires { ClonesAreAlike V.is_clone V.eq }
-    ensures { IfOk result (λ new. IsChosen V.eq T.low T.high left_alone (M.left map) (S.left set) new.entries) }
+    ensures { IfOk result (λ new. IsChosen V.eq T.low T.high left_alone (M.left map)
+        (S.left set) new.entries) }
 {
     let alloc = lent.allocator();
     let entries = difference_entries(alloc, map, set)?;

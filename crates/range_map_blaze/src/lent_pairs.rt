@@ -77,7 +77,8 @@ pub(crate) fn lent_pairs_of<'a, T: Integer, V, P: LentPair<'a, T, V>, I: IntoIte
 ) -> Result<Vec<(T, T, &'a V)>, AllocError>
     requires { IsFiniteIterable I.into_iter_gives I.IntoIter.can_next I.IntoIter.remaining iter }
     ensures { IfOk result (λ pairs. CollectsItems I.into_iter_gives I.IntoIter.next_gives
-        (λ items list. map (shown_entry T.rank (λ v. v.now)) list ≡ map P.pair items) iter pairs.items) }
+        (λ items list. map (shown_entry T.rank (λ v. v.now)) list
+        ≡ map P.pair items) iter pairs.items) }
 {
     let mut pairs = Vec::new(alloc);
     for item in iter {

@@ -85,7 +85,8 @@ impl<T: Integer, V: Ord> RangeMapBlaze<T, V> {
     /// included: at most the numbers of both maps' entries plus one, so no look is at a key. No memory is taken.
     pub fn cmp_counted(&self, other: &Self, turns: &mut Turns) -> Ordering
         ensures order { result ≡ pairs_cmp V.cmp self.now.entries other.now.entries }
-        ensures few { turns.new ≤ turns.old + (length self.now.entries + length other.now.entries + 1) }
+        ensures few { turns.new ≤ turns.old +
+            (length self.now.entries + length other.now.entries + 1) }
         ensures last { turns.old < turns.new }
     {
         let mut left = EntriesLeft::new(&self.table);
@@ -124,7 +125,8 @@ impl<T: Integer, V: Ord> Ord for RangeMapBlaze<T, V> {
 impl<T: Integer, V: Ord> PartialOrd for RangeMapBlaze<T, V> {
     ghost partial_cmp = { on (λ m. m.entries) (as_partial_cmp (map_cmp V.cmp)) };
 
-    ghost laws = { po (on_total (λ m. m.entries) (map_cmp_total V.cmp V.total)) (λ m n. equal_maps_tie V.eq V.cmp V.matches_eq m.entries n.entries) };
+    ghost laws = { po (on_total (λ m. m.entries) (map_cmp_total V.cmp V.total))
+        (λ m n. equal_maps_tie V.eq V.cmp V.matches_eq m.entries n.entries) };
 
     /// The order that `cmp` gives.
     fn partial_cmp(&self, other: &Self) -> Option<Ordering>

@@ -17,7 +17,8 @@ pub(crate) fn pairs_of_points<T: Integer, V: Drop>(
     alloc: Global,
     points: Vec<(T, V)>,
 ) -> Result<Vec<(T, T, V)>, AllocError>
-    ensures { IfOk result (λ pairs. listed T.rank pairs.items ≡ map (shown_point T.rank (λ v. v)) points.items) }
+    ensures { IfOk result (λ pairs. listed T.rank pairs.items
+        ≡ map (shown_point T.rank (λ v. v)) points.items) }
 {
     let mut pairs = Vec::new(alloc);
     for (key, value) in points {
@@ -32,7 +33,8 @@ pub(crate) fn map_of_pairs<T: Integer, V: Eq + Clone>(
     pairs: Vec<(T, T, V)>,
 ) -> Result<RangeMapBlaze<T, V>, AllocError>
     requires { ClonesAreAlike V.is_clone V.eq }
-    ensures { IfOk result (λ new. IsCanonicalOf V.eq T.low T.high (listed T.rank pairs.items) new.entries) }
+    ensures { IfOk result (λ new. IsCanonicalOf V.eq T.low T.high
+        (listed T.rank pairs.items) new.entries) }
 {
     let entries = canonical_of(alloc, pairs)?;
     let table = RangeTable::from_canonical(alloc, entries)?;
@@ -45,7 +47,9 @@ fn cloned<T: Integer, V: Eq + Clone>(
     lent: Vec<(T, T, &V)>,
 ) -> Result<Vec<(T, T, V)>, AllocError>
     requires { ClonesAreAlike V.is_clone V.eq }
-    ensures { IfOk result (λ entries. SameEntries V.eq (map (shown_entry T.rank (λ v. v.now)) lent.entry.items) (listed T.rank entries.items)) }
+    ensures { IfOk result
+        (λ entries. SameEntries V.eq (map (shown_entry T.rank (λ v. v.now)) lent.entry.items)
+        (listed T.rank entries.items)) }
 {
     let mut entries = Vec::new(alloc);
     for (start, end, value) in lent {
@@ -60,7 +64,8 @@ pub(crate) fn map_of_lent_pairs<T: Integer, V: Eq + Clone>(
     pairs: Vec<(T, T, &V)>,
 ) -> Result<RangeMapBlaze<T, V>, AllocError>
     requires { ClonesAreAlike V.is_clone V.eq }
-    ensures { IfOk result (λ new. IsCanonicalOf V.eq T.low T.high (map (shown_entry T.rank (λ v. v.now)) pairs.entry.items) new.entries) }
+    ensures { IfOk result (λ new. IsCanonicalOf V.eq T.low T.high
+        (map (shown_entry T.rank (λ v. v.now)) pairs.entry.items) new.entries) }
 {
     let lent = canonical_of(alloc, pairs)?;
     let entries = cloned(alloc, lent)?;

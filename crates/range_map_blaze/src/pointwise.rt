@@ -15,7 +15,8 @@ pub fn intersection<T: Integer, V: Eq + Clone>(
     right: &RangeMapBlaze<T, V>,
 ) -> Result<RangeMapBlaze<T, V>, AllocError>
     requires { ClonesAreAlike V.is_clone V.eq }
-    ensures { IfOk result (λ map. IsChosen V.eq T.low T.high left_with_right right.now.entries left.now.entries map.entries) }
+    ensures { IfOk result (λ map. IsChosen V.eq T.low T.high left_with_right right.now.entries
+        left.now.entries map.entries) }
 {
     let new = lent_intersection(right, right.range_values(), left.ranges())?;
     Ok(new)
@@ -27,7 +28,8 @@ pub fn difference<T: Integer, V: Eq + Clone>(
     right: &RangeMapBlaze<T, V>,
 ) -> Result<RangeMapBlaze<T, V>, AllocError>
     requires { ClonesAreAlike V.is_clone V.eq }
-    ensures { IfOk result (λ map. IsChosen V.eq T.low T.high left_alone left.now.entries right.now.entries map.entries) }
+    ensures { IfOk result (λ map. IsChosen V.eq T.low T.high left_alone left.now.entries
+        right.now.entries map.entries) }
 {
     let new = lent_difference(left, left.range_values(), right.ranges())?;
     Ok(new)
@@ -39,7 +41,8 @@ pub fn symmetric_difference<T: Integer, V: Eq + Clone>(
     right: &RangeMapBlaze<T, V>,
 ) -> Result<RangeMapBlaze<T, V>, AllocError>
     requires { ClonesAreAlike V.is_clone V.eq }
-    ensures { IfOk result (λ map. IsChosen V.eq T.low T.high exactly_one left.now.entries right.now.entries map.entries) }
+    ensures { IfOk result (λ map. IsChosen V.eq T.low T.high exactly_one left.now.entries
+        right.now.entries map.entries) }
 {
     lent_symmetric_difference(left, left.range_values(), right.range_values())
 }
@@ -50,7 +53,8 @@ pub fn intersection_with_set<T: Integer, V: Eq + Clone>(
     set: &RangeSetBlaze<T>,
 ) -> Result<RangeMapBlaze<T, V>, AllocError>
     requires { ClonesAreAlike V.is_clone V.eq }
-    ensures { IfOk result (λ new. IsChosen V.eq T.low T.high left_with_right map.now.entries set.now new.entries) }
+    ensures { IfOk result (λ new. IsChosen V.eq T.low T.high left_with_right map.now.entries
+        set.now new.entries) }
 {
     lent_intersection(map, map.range_values(), set.ranges())
 }
@@ -61,7 +65,8 @@ pub fn difference_with_set<T: Integer, V: Eq + Clone>(
     set: &RangeSetBlaze<T>,
 ) -> Result<RangeMapBlaze<T, V>, AllocError>
     requires { ClonesAreAlike V.is_clone V.eq }
-    ensures { IfOk result (λ new. IsChosen V.eq T.low T.high left_alone map.now.entries set.now new.entries) }
+    ensures { IfOk result (λ new. IsChosen V.eq T.low T.high left_alone map.now.entries
+        set.now new.entries) }
 {
     lent_difference(map, map.range_values(), set.ranges())
 }

@@ -44,7 +44,8 @@ pub fn union<T: Integer, V: Eq + Clone>(
     right: &RangeMapBlaze<T, V>,
 ) -> Result<RangeMapBlaze<T, V>, AllocError>
     requires { ClonesAreAlike V.is_clone V.eq }
-    ensures { IfOk result (λ map. IsUnion V.eq T.low T.high left.now.entries right.now.entries map.entries) }
+    ensures { IfOk result
+        (λ map. IsUnion V.eq T.low T.high left.now.entries right.now.entries map.entries) }
 {
     left.in_hand();
     right.in_hand();
@@ -70,7 +71,8 @@ pub fn union_by_value<T: Integer, V: Eq + Clone>(
     right: RangeMapBlaze<T, V>,
 ) -> Result<RangeMapBlaze<T, V>, AllocError>
     requires { ClonesAreAlike V.is_clone V.eq }
-    ensures { IfOk result (λ map. IsUnion V.eq T.low T.high left.entries right.entries map.entries) }
+    ensures { IfOk result
+        (λ map. IsUnion V.eq T.low T.high left.entries right.entries map.entries) }
 {
     match path_for(left.ranges_len(), right.ranges_len()) {
         Path::Over => painted_over_by(left, right),
@@ -86,7 +88,8 @@ fn merged_by_value<T: Integer, V: Eq + Clone>(
     right: RangeMapBlaze<T, V>,
 ) -> Result<RangeMapBlaze<T, V>, AllocError>
     requires { ClonesAreAlike V.is_clone V.eq }
-    ensures { IfOk result (λ map. IsUnion V.eq T.low T.high left.entries right.entries map.entries) }
+    ensures { IfOk result
+        (λ map. IsUnion V.eq T.low T.high left.entries right.entries map.entries) }
 {
     left.in_hand();
     right.in_hand();
@@ -106,7 +109,8 @@ pub fn union_with<T: Integer, V: Eq + Clone>(
     right: &RangeMapBlaze<T, V>,
 ) -> Result<RangeMapBlaze<T, V>, AllocError>
     requires { ClonesAreAlike V.is_clone V.eq }
-    ensures { IfOk result (λ map. IsUnion V.eq T.low T.high left.entries right.now.entries map.entries) }
+    ensures { IfOk result
+        (λ map. IsUnion V.eq T.low T.high left.entries right.now.entries map.entries) }
 {
     match path_for(left.ranges_len(), right.ranges_len()) {
         Path::Over => painted_over(left, right),
@@ -120,7 +124,8 @@ pub fn union_under<T: Integer, V: Eq + Clone>(
     right: RangeMapBlaze<T, V>,
 ) -> Result<RangeMapBlaze<T, V>, AllocError>
     requires { ClonesAreAlike V.is_clone V.eq }
-    ensures { IfOk result (λ map. IsUnion V.eq T.low T.high left.now.entries right.entries map.entries) }
+    ensures { IfOk result
+        (λ map. IsUnion V.eq T.low T.high left.now.entries right.entries map.entries) }
 {
     match path_for(left.ranges_len(), right.ranges_len()) {
         Path::Under => painted_under(left, right),
@@ -134,7 +139,8 @@ fn painted_over<T: Integer, V: Eq + Clone>(
     right: &RangeMapBlaze<T, V>,
 ) -> Result<RangeMapBlaze<T, V>, AllocError>
     requires { ClonesAreAlike V.is_clone V.eq }
-    ensures { IfOk result (λ map. IsUnion V.eq T.low T.high left.entries right.now.entries map.entries) }
+    ensures { IfOk result
+        (λ map. IsUnion V.eq T.low T.high left.entries right.now.entries map.entries) }
 {
     let mut map = left;
     right.in_hand();
@@ -148,7 +154,8 @@ fn painted_over_by<T: Integer, V: Eq + Clone>(
     right: RangeMapBlaze<T, V>,
 ) -> Result<RangeMapBlaze<T, V>, AllocError>
     requires { ClonesAreAlike V.is_clone V.eq }
-    ensures { IfOk result (λ map. IsUnion V.eq T.low T.high left.entries right.entries map.entries) }
+    ensures { IfOk result
+        (λ map. IsUnion V.eq T.low T.high left.entries right.entries map.entries) }
 {
     let mut map = left;
     right.in_hand();
@@ -162,7 +169,8 @@ pub fn painted_under<T: Integer, V: Eq + Clone>(
     right: RangeMapBlaze<T, V>,
 ) -> Result<RangeMapBlaze<T, V>, AllocError>
     requires { ClonesAreAlike V.is_clone V.eq }
-    ensures { IfOk result (λ map. IsUnion V.eq T.low T.high left.now.entries right.entries map.entries) }
+    ensures { IfOk result
+        (λ map. IsUnion V.eq T.low T.high left.now.entries right.entries map.entries) }
 {
     let mut map = right;
     left.in_hand();
@@ -180,7 +188,8 @@ fn painted_under_by<T: Integer, V: Eq + Clone>(
     right: RangeMapBlaze<T, V>,
 ) -> Result<RangeMapBlaze<T, V>, AllocError>
     requires { ClonesAreAlike V.is_clone V.eq }
-    ensures { IfOk result (λ map. IsUnion V.eq T.low T.high left.entries right.entries map.entries) }
+    ensures { IfOk result
+        (λ map. IsUnion V.eq T.low T.high left.entries right.entries map.entries) }
 {
     let mut map = right;
     left.in_hand();

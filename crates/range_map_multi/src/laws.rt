@@ -1,7 +1,10 @@
 //! The operations between many maps are those between two, where there are two.
 ghost use Rattle.blaze_streams.specs.JoinAnswers.{either, both};
 ghost use Rattle.range_map_multi.specs.ManyJoins.{shown_row, shown_full_row};
-ghost use Rattle.range_map_multi.specs.ManyLaws.{UnionOfTwoIsOr, IntersectionOfTwoIsAnd, SymmetricDifferenceOfTwoIsXor, InnerJoinOfTwoIsInnerJoin, FullJoinOfTwoIsFullJoin};
+ghost use Rattle.range_map_multi.specs.ManyLaws.{UnionOfTwoIsOr, IntersectionOfTwoIsAnd};
+ghost use Rattle.range_map_multi.specs.ManyLaws.{SymmetricDifferenceOfTwoIsXor};
+ghost use Rattle.range_map_multi.specs.ManyLaws.{InnerJoinOfTwoIsInnerJoin};
+ghost use Rattle.range_map_multi.specs.ManyLaws.{FullJoinOfTwoIsFullJoin};
 
 use blaze_int::Integer;
 
@@ -29,7 +32,8 @@ pub fn inner_join_of_two_is_inner_join<
     F: FnMut(&[&V]) -> W,
     G: FnMut(&V, &V) -> W,
 >()
-    ensures { InnerJoinOfTwoIsInnerJoin (λ a. shown_full_row (λ v. v.now) a.0.now) F.FnMut (both (λ v. v.now) (λ v. v.now)) G.FnMut V.eq W.eq T.low T.high }
+    ensures { InnerJoinOfTwoIsInnerJoin (λ a. shown_full_row (λ v. v.now) a.0.now) F.FnMut
+        (both (λ v. v.now) (λ v. v.now)) G.FnMut V.eq W.eq T.low T.high }
 {}
 
 /// The same of `full_join`.
@@ -40,5 +44,6 @@ pub fn full_join_of_two_is_full_join<
     F: FnMut(&[Option<&V>]) -> W,
     G: FnMut(Option<&V>, Option<&V>) -> W,
 >()
-    ensures { FullJoinOfTwoIsFullJoin (λ a. shown_row (λ v. v.now) a.0.now) F.FnMut (either (λ v. v.now) (λ v. v.now)) G.FnMut V.eq W.eq T.low T.high }
+    ensures { FullJoinOfTwoIsFullJoin (λ a. shown_row (λ v. v.now) a.0.now) F.FnMut
+        (either (λ v. v.now) (λ v. v.now)) G.FnMut V.eq W.eq T.low T.high }
 {}

@@ -58,7 +58,8 @@ pub fn lent_union<'a, T: Integer, V: Eq + Clone, M: AsMap<T, V>>(
     maps: &'a [M],
 ) -> Result<RangeMapBlaze<T, V>, AllocError>
     requires { ClonesAreAlike V.is_clone V.eq }
-    ensures { IfOk result (λ new. IsChosenOfMany V.eq T.low T.high last_value (map M.shown maps.now) new.entries) }
+    ensures { IfOk result (λ new. IsChosenOfMany V.eq T.low T.high last_value
+        (map M.shown maps.now) new.entries) }
 {
     let streams = streams_of(alloc, maps)?;
     let stream = merged_union(alloc, streams)?;
@@ -73,7 +74,8 @@ pub fn lent_intersection<'a, T: Integer, V: Eq + Clone, M: AsMap<T, V>>(
 ) -> Result<RangeMapBlaze<T, V>, AllocError>
     requires clones { ClonesAreAlike V.is_clone V.eq }
     requires some { 0 < length maps.now }
-    ensures { IfOk result (λ new. IsChosenOfMany V.eq T.low T.high last_of_all (map M.shown maps.now) new.entries) }
+    ensures { IfOk result (λ new. IsChosenOfMany V.eq T.low T.high last_of_all
+        (map M.shown maps.now) new.entries) }
 {
     let streams = streams_of(alloc, maps)?;
     let stream = merged_intersection(alloc, streams)?;
@@ -87,7 +89,8 @@ pub fn lent_symmetric_difference<'a, T: Integer, V: Eq + Clone, M: AsMap<T, V>>(
     maps: &'a [M],
 ) -> Result<RangeMapBlaze<T, V>, AllocError>
     requires { ClonesAreAlike V.is_clone V.eq }
-    ensures { IfOk result (λ new. IsChosenOfMany V.eq T.low T.high last_of_odd (map M.shown maps.now) new.entries) }
+    ensures { IfOk result (λ new. IsChosenOfMany V.eq T.low T.high last_of_odd
+        (map M.shown maps.now) new.entries) }
 {
     let streams = streams_of(alloc, maps)?;
     let stream = merged_symmetric_difference(alloc, streams)?;

@@ -1,7 +1,8 @@
 //! Joins of many maps that are lent.
 ghost use Rattle.std.specs.Prelude.{map, is_some, IfOk};
 ghost use Rattle.std.specs.List.{list_all, list_any};
-ghost use Rattle.range_map_multi.specs.ManyJoins.{shown_row, shown_full_row, IsCallableAtRows, IsManyJoined};
+ghost use Rattle.range_map_multi.specs.ManyJoins.{shown_row, shown_full_row, IsCallableAtRows};
+ghost use Rattle.range_map_multi.specs.ManyJoins.{IsManyJoined};
 
 use crate::lent::{AsMap, streams_of};
 use crate::parts::all_parts_of;
@@ -29,8 +30,10 @@ pub fn lent_inner_join<
     W: Eq + Clone,
     F: FnMut(&[&V]) -> W,
 >(alloc: Global, maps: &'a [M], f: F) -> Result<RangeMapBlaze<T, W>, AllocError>
-    requires { IsCallableAtRows (λ a. shown_full_row (λ v. v.now) a.0.now) F.FnMut V.eq T.low T.high (list_all is_some) f (map M.shown maps.now) }
-    ensures { IfOk result (λ new. IsManyJoined (λ a. shown_full_row (λ v. v.now) a.0.now) F.FnMut V.eq T.low T.high (list_all is_some) W.eq f (map M.shown maps.now) new.entries) }
+    requires { IsCallableAtRows (λ a. shown_full_row (λ v. v.now) a.0.now) F.FnMut V.eq T.low T.high
+        (list_all is_some) f (map M.shown maps.now) }
+    ensures { IfOk result (λ new. IsManyJoined (λ a. shown_full_row (λ v. v.now) a.0.now) F.FnMut
+        V.eq T.low T.high (list_all is_some) W.eq f (map M.shown maps.now) new.entries) }
 {
     let streams = streams_of(alloc, maps)?;
     let (mut cursors, values) = all_parts_of(alloc, streams)?;
@@ -48,8 +51,10 @@ pub fn lent_full_join<
     W: Eq + Clone,
     F: FnMut(&[Option<&V>]) -> W,
 >(alloc: Global, maps: &'a [M], f: F) -> Result<RangeMapBlaze<T, W>, AllocError>
-    requires { IsCallableAtRows (λ a. shown_row (λ v. v.now) a.0.now) F.FnMut V.eq T.low T.high (list_any is_some) f (map M.shown maps.now) }
-    ensures { IfOk result (λ new. IsManyJoined (λ a. shown_row (λ v. v.now) a.0.now) F.FnMut V.eq T.low T.high (list_any is_some) W.eq f (map M.shown maps.now) new.entries) }
+    requires { IsCallableAtRows (λ a. shown_row (λ v. v.now) a.0.now) F.FnMut V.eq T.low T.high
+        (list_any is_some) f (map M.shown maps.now) }
+    ensures { IfOk result (λ new. IsManyJoined (λ a. shown_row (λ v. v.now) a.0.now) F.FnMut V.eq
+        T.low T.high (list_any is_some) W.eq f (map M.shown maps.now) new.entries) }
 {
     let streams = streams_of(alloc, maps)?;
     let (mut cursors, values) = all_parts_of(alloc, streams)?;

@@ -12,7 +12,8 @@ fn parts_of<T: Integer, VC: ValueCarrier, I: SortedDisjointMap<T, VC>>(
     alloc: Global,
     stream: I,
 ) -> Result<(Cursor<T>, Vec<VC>), AllocError>
-    ensures placed { IfOk result (λ parts. IsPlaced (map VC.shown parts.1.items) parts.0 (I.left stream)) }
+    ensures placed { IfOk result
+        (λ parts. IsPlaced (map VC.shown parts.1.items) parts.0 (I.left stream)) }
     ensures range_map { IfOk result (λ parts. IsRangeMap VC.Value.eq T.low T.high (I.left stream)) }
 {
     stream.in_hand();
@@ -32,8 +33,10 @@ pub fn all_parts_of<T: Integer, VC: ValueCarrier, I: SortedDisjointMap<T, VC>>(
     alloc: Global,
     streams: Vec<I>,
 ) -> Result<(Vec<Cursor<T>>, Vec<Vec<VC>>), AllocError>
-    ensures placed { IfOk result (λ parts. AllPlaced (map (λ v. map VC.shown v.items) parts.1.items) parts.0.items (map I.left streams.items)) }
-    ensures range_maps { IfOk result (λ parts. AllRangeMaps VC.Value.eq T.low T.high (map I.left streams.items)) }
+    ensures placed { IfOk result (λ parts. AllPlaced (map (λ v. map VC.shown v.items) parts.1.items)
+        parts.0.items (map I.left streams.items)) }
+    ensures range_maps { IfOk result (λ parts. AllRangeMaps VC.Value.eq T.low T.high
+        (map I.left streams.items)) }
 {
     let mut cursors = Vec::new(alloc);
     let mut carriers = Vec::new(alloc);
@@ -47,7 +50,8 @@ pub fn all_parts_of<T: Integer, VC: ValueCarrier, I: SortedDisjointMap<T, VC>>(
 
 /// References to the carriers of each list.
 pub fn lent_lists<'a, C>(alloc: Global, lists: &'a [Vec<C>]) -> Result<Vec<Vec<&'a C>>, AllocError>
-    ensures { IfOk result (λ lent. map (λ v. map (λ c. c.now) v.items) lent.items ≡ map (λ v. v.items) lists.now) }
+    ensures { IfOk result (λ lent. map (λ v. map (λ c. c.now) v.items) lent.items
+        ≡ map (λ v. v.items) lists.now) }
 {
     let mut lent = Vec::new(alloc);
     for list in lists {

@@ -2,7 +2,8 @@
 //! is found at a time: with n ranges in k lists and s segments it takes O(n + s k) steps, and O(k) memory beside the answer.
 ghost use Rattle.std.specs.Prelude.{[], ◌<◌, length, map, is_some, IfOk};
 ghost use Rattle.std.specs.List.{list_all, list_any};
-ghost use Rattle.range_map_multi.specs.ManyJoins.{shown_row, shown_full_row, IsCallableAtRows, IsManyJoined};
+ghost use Rattle.range_map_multi.specs.ManyJoins.{shown_row, shown_full_row, IsCallableAtRows};
+ghost use Rattle.range_map_multi.specs.ManyJoins.{IsManyJoined};
 ghost use Rattle.range_map_multi.specs.Parts.{AllPlaced, all_valued, AllRangeMaps};
 
 use crate::rows::{Shows, fill_full_row, fill_row};
@@ -18,10 +19,16 @@ pub fn full_answers<T: Integer, A: Copy, S: Shows<A>, W: Eq + Clone, F: FnMut(&[
     lists: &[Vec<A>],
     mut f: F,
 ) -> Result<CanonMapIter<T, Owned<W>>, AllocError>
-    requires placed { let values = map (λ v. map S.shown v.items) lists.now in AllPlaced values cursors.old (all_valued values cursors.old) }
-    requires range_maps { AllRangeMaps S.Value.eq T.low T.high (all_valued (map (λ v. map S.shown v.items) lists.now) cursors.old) }
-    requires callable { IsCallableAtRows (λ a. shown_row S.shown a.0.now) F.FnMut S.Value.eq T.low T.high (list_any is_some) f (all_valued (map (λ v. map S.shown v.items) lists.now) cursors.old) }
-    ensures { IfOk result (λ new. IsManyJoined (λ a. shown_row S.shown a.0.now) F.FnMut S.Value.eq T.low T.high (list_any is_some) W.eq f (all_valued (map (λ v. map S.shown v.items) lists.now) cursors.old) new) }
+    requires placed { let values = map (λ v. map S.shown v.items) lists.now
+        in AllPlaced values cursors.old (all_valued values cursors.old) }
+    requires range_maps { AllRangeMaps S.Value.eq T.low T.high
+        (all_valued (map (λ v. map S.shown v.items) lists.now) cursors.old) }
+    requires callable { IsCallableAtRows (λ a. shown_row S.shown a.0.now) F.FnMut S.Value.eq T.low
+        T.high (list_any is_some) f
+        (all_valued (map (λ v. map S.shown v.items) lists.now) cursors.old) }
+    ensures { IfOk result (λ new. IsManyJoined (λ a. shown_row S.shown a.0.now) F.FnMut S.Value.eq
+        T.low T.high (list_any is_some) W.eq f
+        (all_valued (map (λ v. map S.shown v.items) lists.now) cursors.old) new) }
 {
     let mut row = Vec::new(alloc);
     let mut out = Vec::new(alloc);
@@ -42,10 +49,16 @@ fn inner_answers_of_some<T: Integer, A: Copy, S: Shows<A>, W: Eq + Clone, F: FnM
     mut f: F,
 ) -> Result<CanonMapIter<T, Owned<W>>, AllocError>
     requires some { 0 < length cursors.old }
-    requires placed { let values = map (λ v. map S.shown v.items) lists.now in AllPlaced values cursors.old (all_valued values cursors.old) }
-    requires range_maps { AllRangeMaps S.Value.eq T.low T.high (all_valued (map (λ v. map S.shown v.items) lists.now) cursors.old) }
-    requires callable { IsCallableAtRows (λ a. shown_full_row S.shown a.0.now) F.FnMut S.Value.eq T.low T.high (list_all is_some) f (all_valued (map (λ v. map S.shown v.items) lists.now) cursors.old) }
-    ensures { IfOk result (λ new. IsManyJoined (λ a. shown_full_row S.shown a.0.now) F.FnMut S.Value.eq T.low T.high (list_all is_some) W.eq f (all_valued (map (λ v. map S.shown v.items) lists.now) cursors.old) new) }
+    requires placed { let values = map (λ v. map S.shown v.items) lists.now
+        in AllPlaced values cursors.old (all_valued values cursors.old) }
+    requires range_maps { AllRangeMaps S.Value.eq T.low T.high
+        (all_valued (map (λ v. map S.shown v.items) lists.now) cursors.old) }
+    requires callable { IsCallableAtRows (λ a. shown_full_row S.shown a.0.now) F.FnMut S.Value.eq
+        T.low T.high (list_all is_some) f
+        (all_valued (map (λ v. map S.shown v.items) lists.now) cursors.old) }
+    ensures { IfOk result (λ new. IsManyJoined (λ a. shown_full_row S.shown a.0.now) F.FnMut
+        S.Value.eq T.low T.high (list_all is_some) W.eq f
+        (all_valued (map (λ v. map S.shown v.items) lists.now) cursors.old) new) }
 {
     let mut row = Vec::new(alloc);
     let mut full = Vec::new(alloc);
@@ -66,8 +79,10 @@ fn inner_answers_of_none<T: Integer, A: Copy, S: Shows<A>, W: Eq + Clone, F: FnM
     alloc: Global,
     mut f: F,
 ) -> Result<CanonMapIter<T, Owned<W>>, AllocError>
-    requires { IsCallableAtRows (λ a. shown_full_row S.shown a.0.now) F.FnMut S.Value.eq T.low T.high (list_all is_some) f [] }
-    ensures { IfOk result (λ new. IsManyJoined (λ a. shown_full_row S.shown a.0.now) F.FnMut S.Value.eq T.low T.high (list_all is_some) W.eq f [] new) }
+    requires { IsCallableAtRows (λ a. shown_full_row S.shown a.0.now) F.FnMut S.Value.eq T.low
+        T.high (list_all is_some) f [] }
+    ensures { IfOk result (λ new. IsManyJoined (λ a. shown_full_row S.shown a.0.now) F.FnMut
+        S.Value.eq T.low T.high (list_all is_some) W.eq f [] new) }
 {
     let row: Vec<A> = Vec::new(alloc);
     let mut out = Vec::new(alloc);
@@ -87,10 +102,16 @@ pub fn inner_answers<T: Integer, A: Copy, S: Shows<A>, W: Eq + Clone, F: FnMut(&
     lists: &[Vec<A>],
     f: F,
 ) -> Result<CanonMapIter<T, Owned<W>>, AllocError>
-    requires placed { let values = map (λ v. map S.shown v.items) lists.now in AllPlaced values cursors.old (all_valued values cursors.old) }
-    requires range_maps { AllRangeMaps S.Value.eq T.low T.high (all_valued (map (λ v. map S.shown v.items) lists.now) cursors.old) }
-    requires callable { IsCallableAtRows (λ a. shown_full_row S.shown a.0.now) F.FnMut S.Value.eq T.low T.high (list_all is_some) f (all_valued (map (λ v. map S.shown v.items) lists.now) cursors.old) }
-    ensures { IfOk result (λ new. IsManyJoined (λ a. shown_full_row S.shown a.0.now) F.FnMut S.Value.eq T.low T.high (list_all is_some) W.eq f (all_valued (map (λ v. map S.shown v.items) lists.now) cursors.old) new) }
+    requires placed { let values = map (λ v. map S.shown v.items) lists.now
+        in AllPlaced values cursors.old (all_valued values cursors.old) }
+    requires range_maps { AllRangeMaps S.Value.eq T.low T.high
+        (all_valued (map (λ v. map S.shown v.items) lists.now) cursors.old) }
+    requires callable { IsCallableAtRows (λ a. shown_full_row S.shown a.0.now) F.FnMut S.Value.eq
+        T.low T.high (list_all is_some) f
+        (all_valued (map (λ v. map S.shown v.items) lists.now) cursors.old) }
+    ensures { IfOk result (λ new. IsManyJoined (λ a. shown_full_row S.shown a.0.now) F.FnMut
+        S.Value.eq T.low T.high (list_all is_some) W.eq f
+        (all_valued (map (λ v. map S.shown v.items) lists.now) cursors.old) new) }
 {
     if cursors.is_empty() {
         let new = inner_answers_of_none::<T, A, S, W, F>(alloc, f)?;

@@ -1,5 +1,6 @@
 //! Rows: what many lists have at a segment, first to last.
-ghost use Rattle.std.specs.Prelude.{◌≡◌, ◌≤◌, length, map, Some, false, is_some, IfOk, OnOk, MatchBool};
+ghost use Rattle.std.specs.Prelude.{◌≡◌, ◌≤◌, length, map, Some, false, is_some, IfOk, OnOk};
+ghost use Rattle.std.specs.Prelude.{MatchBool};
 ghost use Rattle.std.specs.List.{list_all, slice_get};
 ghost use Rattle.std.specs.Option.{option_and_then};
 ghost use Rattle.range_map_multi.specs.Parts.{picked};
@@ -43,7 +44,8 @@ pub fn fill_row<A: Copy>(
 
 /// Makes the row of the items that are there, and answers whether all are.
 pub fn fill_full_row<A: Copy>(row: &mut Vec<A>, found: &[Option<A>]) -> Result<bool, AllocError>
-    ensures { IfOk result (λ all. MatchBool all (map Some row.new.items ≡ found.now) (list_all is_some found.now ≡ false)) }
+    ensures { IfOk result (λ all. MatchBool all (map Some row.new.items
+        ≡ found.now) (list_all is_some found.now ≡ false)) }
 {
     row.clear();
     for item in found {

@@ -1,7 +1,8 @@
 //! Joins of many streams.
 ghost use Rattle.std.specs.Prelude.{map, is_some, IfOk};
 ghost use Rattle.std.specs.List.{list_all, list_any};
-ghost use Rattle.range_map_multi.specs.ManyJoins.{shown_row, shown_full_row, IsCallableAtRows, IsManyJoined};
+ghost use Rattle.range_map_multi.specs.ManyJoins.{shown_row, shown_full_row, IsCallableAtRows};
+ghost use Rattle.range_map_multi.specs.ManyJoins.{IsManyJoined};
 
 use crate::parts::{all_parts_of, lent_lists};
 use crate::row_answers::{full_answers, inner_answers};
@@ -27,8 +28,10 @@ pub fn stream_inner_join<
     W: Eq + Clone,
     F: FnMut(&[&VC]) -> W,
 >(alloc: Global, streams: Vec<I>, f: F) -> Result<CanonMapIter<T, Owned<W>>, AllocError>
-    requires { IsCallableAtRows (λ a. shown_full_row (λ c. VC.shown c.now) a.0.now) F.FnMut VC.Value.eq T.low T.high (list_all is_some) f (map I.left streams.items) }
-    ensures { IfOk result (λ new. IsManyJoined (λ a. shown_full_row (λ c. VC.shown c.now) a.0.now) F.FnMut VC.Value.eq T.low T.high (list_all is_some) W.eq f (map I.left streams.items) new) }
+    requires { IsCallableAtRows (λ a. shown_full_row (λ c. VC.shown c.now) a.0.now) F.FnMut
+        VC.Value.eq T.low T.high (list_all is_some) f (map I.left streams.items) }
+    ensures { IfOk result (λ new. IsManyJoined (λ a. shown_full_row (λ c. VC.shown c.now) a.0.now)
+        F.FnMut VC.Value.eq T.low T.high (list_all is_some) W.eq f (map I.left streams.items) new) }
 {
     let (mut cursors, carriers) = all_parts_of(alloc, streams)?;
     let lent = lent_lists(alloc, &carriers)?;
@@ -44,8 +47,10 @@ pub fn stream_full_join<
     W: Eq + Clone,
     F: FnMut(&[Option<&VC>]) -> W,
 >(alloc: Global, streams: Vec<I>, f: F) -> Result<CanonMapIter<T, Owned<W>>, AllocError>
-    requires { IsCallableAtRows (λ a. shown_row (λ c. VC.shown c.now) a.0.now) F.FnMut VC.Value.eq T.low T.high (list_any is_some) f (map I.left streams.items) }
-    ensures { IfOk result (λ new. IsManyJoined (λ a. shown_row (λ c. VC.shown c.now) a.0.now) F.FnMut VC.Value.eq T.low T.high (list_any is_some) W.eq f (map I.left streams.items) new) }
+    requires { IsCallableAtRows (λ a. shown_row (λ c. VC.shown c.now) a.0.now) F.FnMut VC.Value.eq
+        T.low T.high (list_any is_some) f (map I.left streams.items) }
+    ensures { IfOk result (λ new. IsManyJoined (λ a. shown_row (λ c. VC.shown c.now) a.0.now)
+        F.FnMut VC.Value.eq T.low T.high (list_any is_some) W.eq f (map I.left streams.items) new) }
 {
     let (mut cursors, carriers) = all_parts_of(alloc, streams)?;
     let lent = lent_lists(alloc, &carriers)?;

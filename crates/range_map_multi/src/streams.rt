@@ -4,7 +4,8 @@ ghost use Rattle.std.specs.List.{list_all, list_any};
 ghost use Rattle.blaze_table.specs.Entries.{Entry};
 ghost use Rattle.blaze_streams.specs.Sweeps.{IsSweep};
 ghost use Rattle.range_map_multi.specs.Many.{last_value, last_of_all, last_of_odd, IsChosenOfMany};
-ghost use Rattle.range_map_multi.specs.ManyJoins.{shown_row, shown_full_row, IsCallableAtRows, IsManyJoined};
+ghost use Rattle.range_map_multi.specs.ManyJoins.{shown_row, shown_full_row, IsCallableAtRows};
+ghost use Rattle.range_map_multi.specs.ManyJoins.{IsManyJoined};
 
 use crate::merges::{merged_intersection, merged_union};
 use crate::parity::merged_symmetric_difference;
@@ -26,14 +27,16 @@ pub trait MultiwaySortedDisjointMap<T: Integer, VC: ValueCarrier>: Sized {
     /// streams it takes O(n log k) steps.
     fn union(self, alloc: Global) -> Result<MultiwayUnionMap<T, VC>, AllocError>
         requires { VC.can_carry }
-        ensures { IfOk result (λ new. IsChosenOfMany VC.Value.eq T.low T.high last_value (lists self) new) };
+        ensures { IfOk result (λ new. IsChosenOfMany VC.Value.eq T.low T.high last_value
+            (lists self) new) };
 
     /// Each key that all streams have, with the last stream's value. There is to be at least one stream. With n ranges in k
     /// streams it takes O(n log k) steps.
     fn intersection(self, alloc: Global) -> Result<MultiwayIntersectionMap<T, VC>, AllocError>
         requires can { VC.can_carry }
         requires some { 0 < length (lists self) }
-        ensures { IfOk result (λ new. IsChosenOfMany VC.Value.eq T.low T.high last_of_all (lists self) new) };
+        ensures { IfOk result (λ new. IsChosenOfMany VC.Value.eq T.low T.high last_of_all
+            (lists self) new) };
 
     /// Each key that an odd number of streams have, with the value of the last stream that has it; of no streams nothing. With
     /// n ranges in k streams it takes O(n log k) steps.
@@ -42,7 +45,8 @@ pub trait MultiwaySortedDisjointMap<T: Integer, VC: ValueCarrier>: Sized {
         alloc: Global,
     ) -> Result<MultiwaySymmetricDifferenceMap<T, VC>, AllocError>
         requires { VC.can_carry }
-        ensures { IfOk result (λ new. IsChosenOfMany VC.Value.eq T.low T.high last_of_odd (lists self) new) };
+        ensures { IfOk result (λ new. IsChosenOfMany VC.Value.eq T.low T.high last_of_odd
+            (lists self) new) };
 
     /// What a closure answers where all streams have a value: one call for each of the greatest ranges on which no stream
     /// changes and all have a value, ascending. A call gets the row of the streams' carriers, first to last. Touching equal
@@ -54,8 +58,11 @@ pub trait MultiwaySortedDisjointMap<T: Integer, VC: ValueCarrier>: Sized {
         alloc: Global,
         f: F,
     ) -> Result<MultiwayInnerJoinMap<T, W>, AllocError>
-        requires { IsCallableAtRows (λ a. shown_full_row (λ c. VC.shown c.now) a.0.now) F.FnMut VC.Value.eq T.low T.high (list_all is_some) f (lists self) }
-        ensures { IfOk result (λ new. IsManyJoined (λ a. shown_full_row (λ c. VC.shown c.now) a.0.now) F.FnMut VC.Value.eq T.low T.high (list_all is_some) W.eq f (lists self) new) };
+        requires { IsCallableAtRows (λ a. shown_full_row (λ c. VC.shown c.now) a.0.now) F.FnMut
+            VC.Value.eq T.low T.high (list_all is_some) f (lists self) }
+        ensures { IfOk result
+            (λ new. IsManyJoined (λ a. shown_full_row (λ c. VC.shown c.now) a.0.now) F.FnMut
+            VC.Value.eq T.low T.high (list_all is_some) W.eq f (lists self) new) };
 
     /// The same where at least one stream has a value, with `None` for each that has none; of no streams nothing, and no call.
     fn full_join<W: Eq + Clone, F: FnMut(&[Option<&VC>]) -> W>(
@@ -63,8 +70,10 @@ pub trait MultiwaySortedDisjointMap<T: Integer, VC: ValueCarrier>: Sized {
         alloc: Global,
         f: F,
     ) -> Result<MultiwayFullJoinMap<T, W>, AllocError>
-        requires { IsCallableAtRows (λ a. shown_row (λ c. VC.shown c.now) a.0.now) F.FnMut VC.Value.eq T.low T.high (list_any is_some) f (lists self) }
-        ensures { IfOk result (λ new. IsManyJoined (λ a. shown_row (λ c. VC.shown c.now) a.0.now) F.FnMut VC.Value.eq T.low T.high (list_any is_some) W.eq f (lists self) new) };
+        requires { IsCallableAtRows (λ a. shown_row (λ c. VC.shown c.now) a.0.now) F.FnMut
+            VC.Value.eq T.low T.high (list_any is_some) f (lists self) }
+        ensures { IfOk result (λ new. IsManyJoined (λ a. shown_row (λ c. VC.shown c.now) a.0.now)
+            F.FnMut VC.Value.eq T.low T.high (list_any is_some) W.eq f (lists self) new) };
 
     /// The events of the streams: for each range of one of them a start and an end, ascending by time. The time of a start is
     /// twice the rank of its first key, that of an end twice the rank of its last key, plus one, and each event has the place

@@ -19,8 +19,10 @@ pub(crate) fn filled<T: Integer, V: Eq + Clone>(
 ) -> Result<Vec<(T, T, V)>, AllocError>
     requires clones { ClonesAreAlike V.is_clone V.eq }
     requires keys { AreKeys T.low T.high (listed T.rank pairs.items) }
-    requires made { ArePieces (listed T.rank pairs.items) T.low (T.high +ℤ pos 1) (listed T.rank pieces.items) }
-    ensures { IfOk result (λ entries. IsCanonicalOf V.eq T.low T.high (listed T.rank pairs.items) (listed T.rank entries.items)) }
+    requires made { ArePieces (listed T.rank pairs.items) T.low (T.high +ℤ pos 1)
+        (listed T.rank pieces.items) }
+    ensures { IfOk result (λ entries. IsCanonicalOf V.eq T.low T.high (listed T.rank pairs.items)
+        (listed T.rank entries.items)) }
 {
     let mut held = held_of(alloc, pairs)?;
     let mut entries = Vec::new(alloc);

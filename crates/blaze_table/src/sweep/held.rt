@@ -41,7 +41,8 @@ fn value_at<T: Integer, V: Eq + Clone>(
 ) -> Result<V, AllocError>
     requires clones { ClonesAreAlike V.is_clone V.eq }
     requires there { IsSome (value_in (listed T.rank entries.now) held.old.items place) }
-    ensures value { IfOk result (λ value. SameOption V.eq (Some value) (value_in (listed T.rank entries.now) held.old.items place)) }
+    ensures value { IfOk result (λ value. SameOption V.eq (Some value)
+        (value_in (listed T.rank entries.now) held.old.items place)) }
     ensures held { held.new.items ≡ moved_to 0 held.old.items place }
 {
     match mem::replace(&mut held[place], Held::Moved(0)) {
@@ -64,7 +65,9 @@ pub(crate) fn put_piece<T: Integer, V: Eq + Clone>(
 ) -> Result<(), AllocError>
     requires clones { ClonesAreAlike V.is_clone V.eq }
     requires there { IsSome (value_in (listed T.rank entries.old.items) held.old.items place) }
-    ensures { OnOk result (PutsPiece V.eq (T.rank start) (T.rank end) place (listed T.rank entries.old.items) (listed T.rank entries.new.items) held.old.items held.new.items) }
+    ensures { OnOk result (PutsPiece V.eq (T.rank start) (T.rank end) place
+        (listed T.rank entries.old.items) (listed T.rank entries.new.items)
+        held.old.items held.new.items) }
 {
     let value = value_at(held, entries, place)?;
     push_entry(entries, start, end, value)?;

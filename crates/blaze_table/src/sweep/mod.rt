@@ -35,7 +35,8 @@ pub fn canonical_of<T: Integer, V: Eq + Clone>(
     pairs: Vec<(T, T, V)>,
 ) -> Result<Vec<(T, T, V)>, AllocError>
     requires { ClonesAreAlike V.is_clone V.eq }
-    ensures { IfOk result (λ entries. IsCanonicalOf V.eq T.low T.high (listed T.rank pairs.items) (listed T.rank entries.items)) }
+    ensures { IfOk result (λ entries. IsCanonicalOf V.eq T.low T.high (listed T.rank pairs.items)
+        (listed T.rank entries.items)) }
 {
     if is_canonical(pairs.as_slice()) {
         return Ok(pairs);

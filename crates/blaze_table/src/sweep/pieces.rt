@@ -24,11 +24,15 @@ fn sweep_to<T: Integer, V>(
 ) -> Result<(), AllocError>
     requires order { T.rank from ≤ℤ T.rank to }
     requires heap { IsHeap nat_cmp (heap_items waiting.old) }
-    requires waits { IsWaiting (listed T.rank pairs.now) (T.rank from) (T.rank to) (heap_items waiting.old) }
-    requires made { ArePieces (listed T.rank pairs.now) T.low (T.rank from) (listed T.rank pieces.old.items) }
+    requires waits { IsWaiting (listed T.rank pairs.now) (T.rank from) (T.rank to)
+        (heap_items waiting.old) }
+    requires made { ArePieces (listed T.rank pairs.now) T.low (T.rank from)
+        (listed T.rank pieces.old.items) }
     ensures heap { IsHeap nat_cmp (heap_items waiting.new) }
-    ensures waits { OnOk result (IsWaiting (listed T.rank pairs.now) (T.rank to +ℤ pos 1) (T.rank to) (heap_items waiting.new)) }
-    ensures made { OnOk result (ArePieces (listed T.rank pairs.now) T.low (T.rank to +ℤ pos 1) (listed T.rank pieces.new.items)) }
+    ensures waits { OnOk result (IsWaiting (listed T.rank pairs.now) (T.rank to +ℤ pos 1)
+        (T.rank to) (heap_items waiting.new)) }
+    ensures made { OnOk result (ArePieces (listed T.rank pairs.now) T.low (T.rank to +ℤ pos 1)
+        (listed T.rank pieces.new.items)) }
 {
     let mut at = from;
     while let Some(top) = last_of(waiting) {
@@ -57,12 +61,17 @@ fn advance<T: Integer, V>(
 ) -> Result<(), AllocError>
     requires order { T.rank from ≤ℤ T.rank start }
     requires heap { IsHeap nat_cmp (heap_items waiting.old) }
-    requires waits { IsWaiting (listed T.rank pairs.now) (T.rank from) (T.rank start -ℤ pos 1) (heap_items waiting.old) }
-    requires made { ArePieces (listed T.rank pairs.now) T.low (T.rank from) (listed T.rank pieces.old.items) }
+    requires waits { IsWaiting (listed T.rank pairs.now) (T.rank from) (T.rank start -ℤ pos 1)
+        (heap_items waiting.old) }
+    requires made { ArePieces (listed T.rank pairs.now) T.low (T.rank from)
+        (listed T.rank pieces.old.items) }
     ensures heap { IsHeap nat_cmp (heap_items waiting.new) }
-    ensures waits { OnOk result (IsWaiting (listed T.rank pairs.now) (T.rank start) (T.rank start -ℤ pos 1) (heap_items waiting.new)) }
-    ensures kept { OnOk result (KeepsReaching (listed T.rank pairs.now) (T.rank start) (heap_items waiting.old) (heap_items waiting.new)) }
-    ensures made { OnOk result (ArePieces (listed T.rank pairs.now) T.low (T.rank start) (listed T.rank pieces.new.items)) }
+    ensures waits { OnOk result (IsWaiting (listed T.rank pairs.now) (T.rank start)
+        (T.rank start -ℤ pos 1) (heap_items waiting.new)) }
+    ensures kept { OnOk result (KeepsReaching (listed T.rank pairs.now) (T.rank start)
+        (heap_items waiting.old) (heap_items waiting.new)) }
+    ensures made { OnOk result (ArePieces (listed T.rank pairs.now) T.low (T.rank start)
+        (listed T.rank pieces.new.items)) }
 {
     if is_at_most(start, from) {
         return Ok(());
@@ -78,7 +87,8 @@ pub(crate) fn pieces_of<T: Integer, V>(
     pairs: &[(T, T, V)],
 ) -> Result<Vec<(T, T, usize)>, AllocError>
     requires { AreKeys T.low T.high (listed T.rank pairs.now) }
-    ensures { IfOk result (λ pieces. ArePieces (listed T.rank pairs.now) T.low (T.high +ℤ pos 1) (listed T.rank pieces.items)) }
+    ensures { IfOk result (λ pieces. ArePieces (listed T.rank pairs.now) T.low (T.high +ℤ pos 1)
+        (listed T.rank pieces.items)) }
 {
     let starts = starts_of(alloc, pairs)?;
     let mut waiting = BinaryHeap::new(alloc);

@@ -15,7 +15,10 @@ fn lengthen_entry<T: Integer, V: Eq + Clone>(
     hi: T,
     value: &V,
 ) -> bool
-    ensures { let old = listed T.rank out.old.items in let added = entry (T.rank lo) (T.rank hi) value.now ∷ [] in MatchBool result (listed T.rank out.new.items ≡ glue V.eq old added) ((out.new.items ≡ out.old.items) × (glue V.eq old added ≡ old ++ added)) }
+    ensures { let old = listed T.rank out.old.items in let added = entry (T.rank lo)
+        (T.rank hi) value.now ∷ [] in MatchBool result (listed T.rank out.new.items
+        ≡ glue V.eq old added) ((out.new.items ≡ out.old.items)
+        × (glue V.eq old added ≡ old ++ added)) }
 {
     let Some(last) = out.last_mut() else {
         return false;
@@ -35,7 +38,8 @@ pub fn push_entry<T: Integer, V: Eq + Clone>(
     hi: T,
     value: V,
 ) -> Result<(), AllocError>
-    ensures ok { OnOk result (listed T.rank out.new.items ≡ glue V.eq (listed T.rank out.old.items) (entry (T.rank lo) (T.rank hi) value ∷ [])) }
+    ensures ok { OnOk result (listed T.rank out.new.items
+        ≡ glue V.eq (listed T.rank out.old.items) (entry (T.rank lo) (T.rank hi) value ∷ [])) }
     ensures err { OnErr result (out.new.items ≡ out.old.items) }
 {
     if !lengthen_entry(out, lo, hi, &value) {

@@ -14,7 +14,8 @@ pub(crate) fn starts_of<T: Integer, V>(
     pairs: &[(T, T, V)],
 ) -> Result<Vec<(T, usize)>, AllocError>
     requires { AreKeys T.low T.high (listed T.rank pairs.now) }
-    ensures starts { IfOk result (λ starts. AreStarts T.rank (listed T.rank pairs.now) (length pairs.now) starts.items) }
+    ensures starts { IfOk result (λ starts. AreStarts T.rank (listed T.rank pairs.now)
+        (length pairs.now) starts.items) }
     ensures ascending { IfOk result (λ starts. AreAscending T.rank starts.items) }
 {
     let mut starts = Vec::new(alloc);

@@ -15,7 +15,8 @@ impl<T: Integer, V: Eq + Clone> BitXor for RangeMapBlaze<T, V> {
 
     ghost can_bitxor = { λ _ _. ClonesAreAlike V.is_clone V.eq };
 
-    ghost bitxor_gives = { λ left right result. IfOk result (λ map. IsChosen V.eq T.low T.high exactly_one left.entries right.entries map.entries) };
+    ghost bitxor_gives = { λ left right result. IfOk result
+        (λ map. IsChosen V.eq T.low T.high exactly_one left.entries right.entries map.entries) };
 
     fn bitxor(self, right: RangeMapBlaze<T, V>) -> Result<RangeMapBlaze<T, V>, AllocError> {
         symmetric_difference(&self, &right)
@@ -27,7 +28,9 @@ impl<'b, T: Integer, V: Eq + Clone> BitXor<&'b RangeMapBlaze<T, V>> for RangeMap
 
     ghost can_bitxor = { λ _ _. ClonesAreAlike V.is_clone V.eq };
 
-    ghost bitxor_gives = { λ left right result. IfOk result (λ map. IsChosen V.eq T.low T.high exactly_one left.entries right.now.entries map.entries) };
+    ghost bitxor_gives = { λ left right result. IfOk result
+        (λ map. IsChosen V.eq T.low T.high exactly_one left.entries
+        right.now.entries map.entries) };
 
     fn bitxor(self, right: &'b RangeMapBlaze<T, V>) -> Result<RangeMapBlaze<T, V>, AllocError> {
         symmetric_difference(&self, right)
@@ -39,7 +42,9 @@ impl<'a, T: Integer, V: Eq + Clone> BitXor<RangeMapBlaze<T, V>> for &'a RangeMap
 
     ghost can_bitxor = { λ _ _. ClonesAreAlike V.is_clone V.eq };
 
-    ghost bitxor_gives = { λ left right result. IfOk result (λ map. IsChosen V.eq T.low T.high exactly_one left.now.entries right.entries map.entries) };
+    ghost bitxor_gives = { λ left right result. IfOk result
+        (λ map. IsChosen V.eq T.low T.high exactly_one left.now.entries
+        right.entries map.entries) };
 
     fn bitxor(self, right: RangeMapBlaze<T, V>) -> Result<RangeMapBlaze<T, V>, AllocError> {
         symmetric_difference(self, &right)
@@ -52,7 +57,9 @@ impl<'a, 'b, T: Integer, V: Eq + Clone> BitXor<&'b RangeMapBlaze<T, V>>
 
     ghost can_bitxor = { λ _ _. ClonesAreAlike V.is_clone V.eq };
 
-    ghost bitxor_gives = { λ left right result. IfOk result (λ map. IsChosen V.eq T.low T.high exactly_one left.now.entries right.now.entries map.entries) };
+    ghost bitxor_gives = { λ left right result. IfOk result
+        (λ map. IsChosen V.eq T.low T.high exactly_one left.now.entries
+        right.now.entries map.entries) };
 
     fn bitxor(self, right: &'b RangeMapBlaze<T, V>) -> Result<RangeMapBlaze<T, V>, AllocError> {
         symmetric_difference(self, right)

@@ -13,7 +13,8 @@ use std::ops::Not;
 impl<T: Integer, V: Eq + Drop> Not for RangeMapBlaze<T, V> {
     type Output = Result<RangeSetBlaze<T>, AllocError>;
 
-    ghost not_gives = { λ map result. IfOk result (λ set. IsComplement unit_eq T.low T.high tt map.entries set) };
+    ghost not_gives = { λ map result. IfOk result
+        (λ set. IsComplement unit_eq T.low T.high tt map.entries set) };
 
     fn not(self) -> Result<RangeSetBlaze<T>, AllocError> {
         unmapped_keys(&self)
@@ -23,7 +24,8 @@ impl<T: Integer, V: Eq + Drop> Not for RangeMapBlaze<T, V> {
 impl<'a, T: Integer, V: Eq> Not for &'a RangeMapBlaze<T, V> {
     type Output = Result<RangeSetBlaze<T>, AllocError>;
 
-    ghost not_gives = { λ map result. IfOk result (λ set. IsComplement unit_eq T.low T.high tt map.now.entries set) };
+    ghost not_gives = { λ map result. IfOk result
+        (λ set. IsComplement unit_eq T.low T.high tt map.now.entries set) };
 
     fn not(self) -> Result<RangeSetBlaze<T>, AllocError> {
         unmapped_keys(self)
