@@ -1,6 +1,6 @@
 -- Two streams gone through together, and what is chosen from them so far: the words of this crate's own functions. No public
 -- clause names them.
-use Rattle.std.specs.Prelude.{◌≡◌, ℤ, ◌≤ℤ◌, Bool, true, List, [], ◌∷◌, map, Option, Some, None}
+use Rattle.std.specs.Prelude.{◌≡◌, ℤ, ◌≤ℤ◌, Bool, List, [], ◌∷◌, Option, Some, None}
 use Rattle.blaze_table.specs.Entries.{Entry, entry, at, shown_entry, SameOption}
 use Rattle.blaze_table.specs.Splice.{glue, after}
 
@@ -8,14 +8,6 @@ use Rattle.blaze_table.specs.Splice.{glue, after}
 abbrev pub ahead_of : {T C V : Type 0} → (T → ℤ) → (C → V) → Option (T × T × C) → List (Entry V) → List (Entry V)
 ahead_of rank shown None rest = rest
 ahead_of rank shown (Some p) rest = shown_entry rank shown p ∷ rest
-
--- the entry with the value `true`
-abbrev pub with_true : {V : Type 0} → Entry V → Entry Bool
-with_true e = entry e.lo e.hi true
-
--- the entries, each with the value `true`
-abbrev pub all_true : {V : Type 0} → List (Entry V) → List (Entry Bool)
-all_true es = map with_true es
 
 -- what is taken of two lists, on the keys from s, the first that they have, up to `end`: what is chosen at s is chosen at each
 -- of these keys, and equal to the value; of the lists is left what they have above

@@ -54,6 +54,27 @@ impl<V: Eq + Clone> ValueCarrier for &V {
     }
 }
 
+/// The unit value stands for itself. Nothing takes memory.
+impl ValueCarrier for () {
+    type Value = ();
+
+    ghost shown = { λ u. u };
+
+    ghost can_carry = { ⊤ };
+
+    fn value_eq(&self, other: &Self) -> bool {
+        *self == *other
+    }
+
+    fn into_value(self) -> Result<(), AllocError> {
+        Ok(self)
+    }
+
+    fn carry(&self) -> Result<Self, AllocError> {
+        Ok(*self)
+    }
+}
+
 /// A `bool` stands for itself. Nothing takes memory.
 impl ValueCarrier for bool {
     type Value = bool;

@@ -13,7 +13,6 @@ mod choosing;
 mod complements;
 mod cursor;
 mod cursors;
-mod entries;
 mod fills;
 mod into_range_values;
 mod join_answers;
@@ -38,7 +37,7 @@ mod sweep_event;
 mod transforms;
 mod union;
 mod with_ranges;
-mod with_true;
+mod with_unit;
 
 pub use blaze_table::canonical_of;
 pub use canon::CanonIter;
@@ -46,13 +45,15 @@ pub use canon_map::CanonMapIter;
 pub use carrier::ValueCarrier;
 pub use check::CheckSortedDisjoint;
 pub use check_map::CheckSortedDisjointMap;
+// For `range_map_blaze` alone, whose maps are made of entries that are chosen.
+#[doc(hidden)]
+pub use choice::{Choice, ExactlyOne, LeftAlone, LeftWithRight, RightFirst};
+#[doc(hidden)]
+pub use choosing::entries_chosen_of;
 pub use complements::complement;
 // For `range_map_multi` alone, which goes through many streams as this crate does through many lists.
 #[doc(hidden)]
 pub use cursor::Cursor;
-pub use entries::{
-    difference_entries, intersection_entries, symmetric_difference_entries, union_entries,
-};
 pub use fills::fill;
 pub use into_range_values::IntoRangeValuesIter;
 pub use join_answers::{
@@ -84,3 +85,6 @@ pub use sweep_event::SweepEvent;
 pub use transforms::transform;
 pub use union::{intersection_of, symmetric_difference_of, union_of};
 pub use with_ranges::{intersect_with_ranges, subtract_ranges};
+// For `range_map_blaze` alone, whose operators take a set in so.
+#[doc(hidden)]
+pub use with_unit::WithUnit;

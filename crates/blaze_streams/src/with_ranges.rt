@@ -8,7 +8,7 @@ use crate::choice::{LeftAlone, LeftWithRight};
 use crate::choosing::chosen_of;
 use crate::ranges_stream::SortedDisjoint;
 use crate::stream::SortedDisjointMap;
-use crate::with_true::WithTrue;
+use crate::with_unit::WithUnit;
 use blaze_int::Integer;
 use std::alloc::{AllocError, Global};
 
@@ -24,7 +24,7 @@ pub fn intersect_with_ranges<
     ensures { IfOk result (λ stream. IsChosen VC.Value.eq T.low T.high left_with_right (M.left map)
         (S.left set) stream) }
 {
-    let stream = chosen_of(alloc, map, WithTrue::new(set), &LeftWithRight)?;
+    let stream = chosen_of(alloc, map, WithUnit::new(set), &LeftWithRight)?;
     Ok(stream)
 }
 
@@ -40,6 +40,6 @@ pub fn subtract_ranges<
     ensures { IfOk result (λ stream. IsChosen VC.Value.eq T.low T.high left_alone (M.left map)
         (S.left set) stream) }
 {
-    let stream = chosen_of(alloc, map, WithTrue::new(set), &LeftAlone)?;
+    let stream = chosen_of(alloc, map, WithUnit::new(set), &LeftAlone)?;
     Ok(stream)
 }

@@ -147,8 +147,8 @@ impl<T: Integer, V: Eq + Clone> RangeMapBlaze<T, V> {
         self.extend_with(other)
     }
 
-    /// Takes the entries of another map over, as `extend_with`, and then empties the other map. Refused memory leaves the other map unchanged, and a first part of its entries painted, perhaps none. An
-    /// empty other map takes no memory.
+    /// Takes the entries of another map over, as `extend_with`, and then empties the other map. Refused memory leaves the other
+    /// map unchanged, and a first part of its entries painted, perhaps none. An empty other map takes no memory.
     pub fn append(&mut self, other: &mut Self) -> Result<(), AllocError>
         requires { ClonesAreAlike V.is_clone V.eq }
         ensures ok { OnOk result (IsExtended V.eq T.low T.high other.old.entries self.old.entries

@@ -3,9 +3,10 @@ ghost use Rattle.std.specs.Prelude.{IfOk};
 ghost use Rattle.blaze_table.specs.Chosen.{exactly_one, left_with_right, left_alone, IsChosen};
 ghost use Rattle.blaze_table.specs.Painted.{ClonesAreAlike};
 
-use crate::lent::{lent_difference, lent_intersection, lent_symmetric_difference};
+use crate::lent::lent_chosen;
 use crate::map::RangeMapBlaze;
 use blaze_int::Integer;
+use blaze_streams::{ExactlyOne, LeftAlone, LeftWithRight, WithUnit};
 use blaze_table::RangeSetBlaze;
 use std::alloc::AllocError;
 
@@ -18,7 +19,8 @@ pub fn intersection<T: Integer, V: Eq + Clone>(
     ensures { IfOk result (λ map. IsChosen V.eq T.low T.high left_with_right right.now.entries
         left.now.entries map.entries) }
 {
-    let new = lent_intersection(right, right.range_values(), left.ranges())?;
+    let keys = WithUnit::new(left.ranges());
+    let new = lent_chosen(right, right.range_values(), keys, &LeftWithRight)?;
     Ok(new)
 }
 
@@ -31,7 +33,8 @@ pub fn difference<T: Integer, V: Eq + Clone>(
     ensures { IfOk result (λ map. IsChosen V.eq T.low T.high left_alone left.now.entries
         right.now.entries map.entries) }
 {
-    let new = lent_difference(left, left.range_values(), right.ranges())?;
+    let keys = WithUnit::new(right.ranges());
+    let new = lent_chosen(left, left.range_values(), keys, &LeftAlone)?;
     Ok(new)
 }
 
@@ -44,7 +47,7 @@ pub fn symmetric_difference<T: Integer, V: Eq + Clone>(
     ensures { IfOk result (λ map. IsChosen V.eq T.low T.high exactly_one left.now.entries
         right.now.entries map.entries) }
 {
-    lent_symmetric_difference(left, left.range_values(), right.range_values())
+    lent_chosen(left, left.range_values(), right.range_values(), &ExactlyOne)
 }
 
 /// The values of a map on the keys of a set.
@@ -56,7 +59,9 @@ pub fn intersection_with_set<T: Integer, V: Eq + Clone>(
     ensures { IfOk result (λ new. IsChosen V.eq T.low T.high left_with_right map.now.entries
         set.now new.entries) }
 {
-    lent_intersection(map, map.range_values(), set.ranges())
+    let keys = WithUnit::new(set.ranges());
+    let new = lent_chosen(map, map.range_values(), keys, &LeftWithRight)?;
+    Ok(new)
 }
 
 /// The values of a map off the keys of a set.
@@ -68,5 +73,7 @@ pub fn difference_with_set<T: Integer, V: Eq + Clone>(
     ensures { IfOk result (λ new. IsChosen V.eq T.low T.high left_alone map.now.entries
         set.now new.entries) }
 {
-    lent_difference(map, map.range_values(), set.ranges())
+    let keys = WithUnit::new(set.ranges());
+    let new = lent_chosen(map, map.range_values(), keys, &LeftAlone)?;
+    Ok(new)
 }

@@ -3,10 +3,10 @@ ghost use Rattle.std.specs.Prelude.{IfOk};
 ghost use Rattle.blaze_table.specs.Painted.{ClonesAreAlike};
 ghost use Rattle.range_map_blaze.specs.Union.{IsUnion};
 
-use crate::lent::lent_union;
+use crate::lent::lent_chosen;
 use crate::map::RangeMapBlaze;
 use blaze_int::Integer;
-use blaze_streams::{OwnedRangeValuesIter, union_entries};
+use blaze_streams::{OwnedRangeValuesIter, RightFirst, entries_chosen_of};
 use blaze_table::RangeTable;
 use std::alloc::AllocError;
 
@@ -59,7 +59,8 @@ pub fn union<T: Integer, V: Eq + Clone>(
             Ok(map)
         }
         Path::Merge => {
-            let map = lent_union(left, left.range_values(), right.range_values())?;
+            let map =
+                lent_chosen(left, left.range_values(), right.range_values(), &RightFirst)?;
             Ok(map)
         }
     }
@@ -98,7 +99,7 @@ fn merged_by_value<T: Integer, V: Eq + Clone>(
         OwnedRangeValuesIter::new(left.table),
         OwnedRangeValuesIter::new(right.table),
     );
-    let entries = union_entries(alloc, left, right)?;
+    let entries = entries_chosen_of(alloc, left, right, &RightFirst)?;
     let table = RangeTable::from_canonical(alloc, entries)?;
     Ok(RangeMapBlaze { table })
 }

@@ -1,4 +1,4 @@
-use Rattle.range_map_blaze.proofs.lent.lent_intersection.Goals as goal
+use Rattle.range_map_blaze.proofs.lent.lent_chosen.Goals as goal
 
 pub from_canonical-requires : goal.from_canonical-requires
 from_canonical-requires g c = c.in_ok-entries.ensures.range_map
