@@ -13,14 +13,14 @@ mod choosing;
 mod complements;
 mod cursor;
 mod cursors;
+mod entry_ends;
 mod fills;
 mod into_range_values;
 mod join_answers;
 mod joins;
+mod key_ranges;
 pub mod laws;
 mod list_segments;
-mod map_into_ranges;
-mod map_ranges;
 mod multiway;
 mod multiway_sweep;
 mod not_sorted;
@@ -60,12 +60,11 @@ pub use join_answers::{
     answer_both, answer_either, answer_left, full_join_of, inner_join_of, left_join_of,
 };
 pub use joins::{JoinKind, join_of};
+pub use key_ranges::{KeyRanges, MapIntoRangesIter, MapRangesIter, into_ranges_of, ranges_of};
 // For `range_map_multi` alone.
 #[doc(hidden)]
 pub use list_segments::next_segment;
 pub use list_segments::{Segment, segments};
-pub use map_into_ranges::MapIntoRangesIter;
-pub use map_ranges::MapRangesIter;
 pub use multiway::{
     MultiwayFullJoinMap, MultiwayInnerJoinMap, MultiwayIntersectionMap,
     MultiwaySymmetricDifferenceMap, MultiwayUnionMap,

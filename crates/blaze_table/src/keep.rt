@@ -1,10 +1,8 @@
 //! Keys that a closure keeps, put into a new list one after another.
-ghost use Rattle.std.specs.Prelude.{◌≡◌, ◌+◌, ◌<◌, ◌≤◌, ◌++◌, ◌∷◌, [], true, pos, ◌+ℤ◌, ◌-ℤ◌, ◌≤ℤ◌};
-ghost use Rattle.std.specs.Prelude.{vec_len, IfOk, OnOk};
+ghost use Rattle.std.specs.Prelude.{◌≡◌, pos, ◌+ℤ◌, ◌-ℤ◌, ◌≤ℤ◌, IfOk, OnOk};
 ghost use Rattle.std.specs.List.{All};
-ghost use Rattle.std.specs.Vec.{vec_capacity};
 ghost use Rattle.blaze_table.specs.Count.{keys_in};
-ghost use Rattle.blaze_table.specs.Entries.{Entry, entry};
+ghost use Rattle.blaze_table.specs.Entries.{entry};
 ghost use Rattle.blaze_table.specs.Keeping.{AddsKey, KeepsMore};
 ghost use Rattle.blaze_table.specs.Painted.{ClonesAreAlike};
 ghost use Rattle.blaze_table.specs.Pairs.{pairs_of, pairs_from};
@@ -13,37 +11,11 @@ ghost use Rattle.blaze_table.specs.Retain.{TakesPair};
 ghost use Rattle.blaze_table.specs.Listed.{listed};
 ghost use Rattle.blaze_table.specs.Table.{IsTable};
 
+use crate::sweep::{lengthen_entry, push_entry};
 use blaze_entries::Entries;
-use blaze_int::compare::{after, is_below, is_next};
+use blaze_int::compare::{after, is_below};
 use blaze_int::{Integer, SafeLength};
-use std::alloc::{AllocError, Global};
-
-// Adds an item where there is room.
-fn put<X: Drop>(out: &mut Vec<X>, item: X)
-    requires { vec_len out.old < vec_capacity out.old }
-    ensures { out.new.items ≡ out.old.items ++ item ∷ [] }
-{
-    match out.push(item) {
-        Ok(()) => {}
-        Err(_) => unreachable!(),
-    }
-}
-
-// Adds an entry of one key with a clone of a value.
-fn push_key<T: Integer, V: Eq + Clone>(
-    out: &mut Vec<(T, T, V)>,
-    key: T,
-    value: &V,
-) -> Result<(), AllocError>
-    requires { ClonesAreAlike V.is_clone V.eq }
-    ensures { OnOk result ((clone : V) × (V.eq value.now clone ≡ true)
-        × (listed T.rank out.new.items
-        ≡ listed T.rank out.old.items ++ entry (T.rank key) (T.rank key) clone ∷ [])) }
-{
-    let value = value.clone()?;
-    out.push((key, key, value))?;
-    Ok(())
-}
+use std::alloc::AllocError;
 
 // Adds a key with a clone of a value, in one entry with the last where the two meet with like values.
 fn put_key<T: Integer, V: Eq + Clone>(
@@ -55,16 +27,9 @@ fn put_key<T: Integer, V: Eq + Clone>(
     ensures { OnOk result (AddsKey V.eq (T.rank key) value.now (listed T.rank out.old.items)
         (listed T.rank out.new.items)) }
 {
-    match out.pop() {
-        None => push_key(out, key, value)?,
-        Some(last) => {
-            if is_next(last.1, key) && last.2 == *value {
-                put(out, (last.0, key, last.2));
-            } else {
-                put(out, last);
-                push_key(out, key, value)?;
-            }
-        }
+    if !lengthen_entry(out, key, key, value) {
+        let value = value.clone()?;
+        push_entry(out, key, key, value)?;
     }
     Ok(())
 }

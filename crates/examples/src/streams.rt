@@ -2,9 +2,10 @@
 use crate::fault::Fault;
 use blaze_int::Integer;
 use blaze_streams::{
-    BothEnds, CheckSortedDisjoint, CheckSortedDisjointMap, IntoRangeValuesIter, MapRangesIter,
-    NotSorted, Owned, OwnedRangeValuesIter, RangeValuesIter, SortedDisjointMap, ValueCarrier,
-    intersect_with_ranges, intersection_of, subtract_ranges, symmetric_difference_of, union_of,
+    BothEnds, CheckSortedDisjoint, CheckSortedDisjointMap, IntoRangeValuesIter, NotSorted,
+    Owned, OwnedRangeValuesIter, RangeValuesIter, SortedDisjointMap, ValueCarrier,
+    intersect_with_ranges, intersection_of, ranges_of, subtract_ranges, symmetric_difference_of,
+    union_of,
 };
 use blaze_table::RangeTable;
 use std::alloc::{AllocError, Global};
@@ -150,7 +151,7 @@ pub fn of_tables(rt: &HostRuntime) -> Result<(), AllocError> {
     let _ = map.paint(0, 255, 'a')?;
     let mut last = RangeTable::<u8, char>::new(alloc);
     let _ = last.paint(255, 255, 'b')?;
-    let keys = MapRangesIter::new(&last);
+    let keys = ranges_of(&last);
     show(
         rt,
         "of tables",

@@ -21,6 +21,7 @@ mod push;
 mod starts;
 mod waiting;
 
+pub(crate) use push::lengthen_entry;
 pub use push::push_entry;
 
 /// The canonical list of pairs painted in order, where there was nothing: of first key, last key and value. The later pair

@@ -9,7 +9,7 @@ use blaze_int::compare::is_next;
 use std::alloc::AllocError;
 
 /// Lets the last entry go on up to `hi` where it ends right below `lo` and has an equal value, and answers whether it does.
-fn lengthen_entry<T: Integer, V: Eq + Clone>(
+pub(crate) fn lengthen_entry<T: Integer, V: Eq + Clone>(
     out: &mut Vec<(T, T, V)>,
     lo: T,
     hi: T,
