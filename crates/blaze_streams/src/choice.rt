@@ -1,7 +1,7 @@
 //! What is chosen from what two streams have at a key.
 ghost use Rattle.std.specs.Prelude.{◌≡◌, ◌&&◌, Bool, true, false, Option, None, refl, IfOk};
-ghost use Rattle.std.specs.Option.{option_map, is_some};
-ghost use Rattle.blaze_table.specs.Chosen.{right_first, exactly_one, left_with_right, left_alone};
+ghost use Rattle.std.specs.Option.{option_map, is_some, option_xor};
+ghost use Rattle.blaze_table.specs.Chosen.{right_first, left_with_right, left_alone};
 ghost use Rattle.blaze_table.specs.Entries.{at, SameOption};
 ghost use Rattle.blaze_table.specs.Splice.{after};
 ghost use Rattle.blaze_streams.specs.Cursors.{Reaches};
@@ -87,7 +87,7 @@ impl<VC: ValueCarrier> Choice<VC, VC> for RightFirst {
 pub struct ExactlyOne;
 
 impl<VC: ValueCarrier> Choice<VC, VC> for ExactlyOne {
-    ghost choice = { exactly_one };
+    ghost choice = { option_xor };
 
     ghost by_right = { false };
 
@@ -116,7 +116,7 @@ impl<VC: ValueCarrier> Choice<VC, VC> for ExactlyOne {
 
     ghost from_nothing = { refl };
 
-    ghost decided = { undecided exactly_one };
+    ghost decided = { undecided option_xor };
 }
 
 /// The left one, where the right is there too.

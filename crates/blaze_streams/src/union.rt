@@ -1,6 +1,7 @@
 //! Two streams as one: one over another, the keys of exactly one, the keys of both.
+ghost use Rattle.std.specs.Option.{option_xor};
 ghost use Rattle.std.specs.Prelude.{IfOk};
-ghost use Rattle.blaze_table.specs.Chosen.{right_first, exactly_one, left_with_right, IsChosen};
+ghost use Rattle.blaze_table.specs.Chosen.{right_first, left_with_right, IsChosen};
 
 use crate::canon_map::CanonMapIter;
 use crate::carrier::ValueCarrier;
@@ -34,7 +35,7 @@ pub fn symmetric_difference_of<
     R: SortedDisjointMap<T, VC>,
 >(alloc: Global, left: L, right: R) -> Result<CanonMapIter<T, VC>, AllocError>
     requires { VC.can_carry }
-    ensures { IfOk result (λ stream. IsChosen VC.Value.eq T.low T.high exactly_one (L.left left)
+    ensures { IfOk result (λ stream. IsChosen VC.Value.eq T.low T.high option_xor (L.left left)
         (R.left right) stream) }
 {
     chosen_of(alloc, left, right, &ExactlyOne)

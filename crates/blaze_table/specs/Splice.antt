@@ -2,7 +2,7 @@
 -- `push_entry` name them.
 use Rattle.std.specs.Prelude.{◌≡◌, ℤ, pos, ◌+◌, ◌≤◌, length, ◌+ℤ◌, ◌-ℤ◌, ◌<ℤ◌, ◌++◌, int_lt, int_le, Bool, ◌&&◌, if◌then◌else◌, List, [], ◌∷◌}
 use Rattle.std.specs.Ordering.{int_eq}
-pub use Rattle.blaze_entries.specs.Overlap.{later, earlier, overlap, covered}
+pub use Rattle.blaze_entries.specs.Overlap.{overlap, covered}
 use Rattle.blaze_table.specs.Entries.{Entry, entry, at, SameEntries, SameOption}
 use Rattle.blaze_table.specs.Canonical.{IsCanonical}
 use Rattle.blaze_table.specs.Painted.{painted}

@@ -5,13 +5,13 @@ use Rattle.std.specs.Cmp.{IsEquivalence}
 use Rattle.std.specs.Iterator.{Yields, Drains, ExtendsWithItems}
 use Rattle.std.specs.Result.{IsErr}
 use Rattle.std.specs.declared.result.Result.{Result}
-use Rattle.std.specs.Option.{option_to_list}
+use Rattle.std.specs.Option.{option_to_list, option_or}
 use Rattle.std.proofs.lemmas.Int.{ints, by_lt_z}
 use Rattle.std.proofs.lemmas.List.{length-append, map-append}
 use Rattle.std.proofs.lemmas.Result.{MatchResult-from_err}
 use Rattle.blaze_table.specs.Entries.{Entry, holds, SameOption}
 use Rattle.blaze_table.specs.Canonical.{IsCanonical, IsRangeMap}
-use Rattle.blaze_table.specs.Painted.{IsInside, or_else, last_at}
+use Rattle.blaze_table.specs.Painted.{IsInside, last_at}
 use Rattle.blaze_table.proofs.Unique.{same_itself}
 use Rattle.range_map_blaze.specs.Extended.{AreInside, IsExtended}
 use Rattle.range_map_blaze.specs.Underway.{is_joinable, joined, IsUnderway}
@@ -53,7 +53,7 @@ joined_order l h m n o q = by_lt_z m l
     (λ a. by_lt_z h n (λ b. grind (arith, ints)) (λ b. grind (arith, ints)))
 
 module _ {V : Type 0} (eq : V → V → Bool) where
-  joined_value : (b c : Bool) (v w : V) (o : Option V) → eq v w ≡ true → SameOption eq (cond c (Some v) None) o → SameOption eq (cond (b || c) (Some v) None) (or_else (cond b (Some w) None) o)
+  joined_value : (b c : Bool) (v w : V) (o : Option V) → eq v w ≡ true → SameOption eq (cond c (Some v) None) o → SameOption eq (cond (b || c) (Some v) None) (option_or (cond b (Some w) None) o)
   joined_value true c v w o e s = e
   joined_value false c v w o e s = s
 
@@ -65,7 +65,7 @@ module _ {V : Type 0} (eq : V → V → Bool) where
       let near = both (int_le n.lo (p.hi +ℤ pos 1)) (int_le p.lo (n.hi +ℤ pos 1)) split.0 in
       let inside : holds (joined p n) k ≡ holds n k || holds p k = in_joined p.lo p.hi n.lo n.hi k o q near.0 near.1 in
       subst (λ r. SameOption eq (last_at (joined p n ∷ []) k) r) (sym (last_append others (n ∷ []) k))
-      (subst (λ b. SameOption eq (cond b (Some p.value) None) (or_else (last_at (n ∷ []) k) (last_at others k))) (sym inside)
+      (subst (λ b. SameOption eq (cond b (Some p.value) None) (option_or (last_at (n ∷ []) k) (last_at others k))) (sym inside)
       (joined_value (holds n k) (holds p k) p.value n.value (last_at others k) split.1 s))
 
   module _ (laws : IsEquivalence eq) (low high : ℤ) where

@@ -4,7 +4,7 @@ ghost use Rattle.std.specs.Cmp.{on_total, po};
 ghost use Rattle.std.specs.Ordering.{int_cmp, ordering_then, on, as_partial_cmp};
 ghost use Rattle.std.specs.declared.cmp.Ordering.TheVariants.{Equal};
 ghost use Rattle.blaze_table.specs.Entries.{SameContent, shown_entry};
-ghost use Rattle.blaze_table.specs.Splice.{earlier};
+ghost use Rattle.std.specs.Int.{int_min};
 ghost use Rattle.range_map_blaze.specs.Order.{pairs_cmp, map_cmp, first_cmp, IsComparedOn};
 ghost use Rattle.range_map_blaze.specs.OrderLaws.{equal_maps_tie, map_cmp_total};
 
@@ -17,7 +17,7 @@ use std::cmp::Ordering;
 
 // The smaller of two keys.
 fn earlier_of<T: Integer>(a: T, b: T) -> T
-    ensures { T.rank result ≡ earlier (T.rank a) (T.rank b) }
+    ensures { T.rank result ≡ int_min (T.rank b) (T.rank a) }
 {
     if is_below(a, b) { a } else { b }
 }
@@ -40,8 +40,7 @@ fn compare_starts<T: Integer, V: Ord>(start: T, value: &V, other_start: T, other
 fn compare_first<T: Integer, V: Ord>(left: (T, T, &V), other: (T, T, &V)) -> (Ordering, T)
     ensures order { result.0 ≡ first_cmp V.cmp (shown_entry T.rank (λ v. v.now) left.entry)
         (shown_entry T.rank (λ v. v.now) other.entry) }
-    ensures end { T.rank result.1 ≡ earlier (shown_entry T.rank (λ v. v.now) left.entry).hi
-        (shown_entry T.rank (λ v. v.now) other.entry).hi }
+    ensures end { T.rank result.1 ≡ int_min (shown_entry T.rank (λ v. v.now) other.entry).hi (shown_entry T.rank (λ v. v.now) left.entry).hi }
 {
     let (start, end, value) = left;
     let (other_start, other_end, other_value) = other;

@@ -1,6 +1,7 @@
 //! A map's values chosen by the keys of another map or of a set.
+ghost use Rattle.std.specs.Option.{option_xor};
 ghost use Rattle.std.specs.Prelude.{IfOk};
-ghost use Rattle.blaze_table.specs.Chosen.{exactly_one, left_with_right, left_alone, IsChosen};
+ghost use Rattle.blaze_table.specs.Chosen.{left_with_right, left_alone, IsChosen};
 ghost use Rattle.blaze_table.specs.Painted.{ClonesAreAlike};
 
 use crate::lent::lent_chosen;
@@ -44,7 +45,7 @@ pub fn symmetric_difference<T: Integer, V: Eq + Clone>(
     right: &RangeMapBlaze<T, V>,
 ) -> Result<RangeMapBlaze<T, V>, AllocError>
     requires { ClonesAreAlike V.is_clone V.eq }
-    ensures { IfOk result (λ map. IsChosen V.eq T.low T.high exactly_one left.now.entries
+    ensures { IfOk result (λ map. IsChosen V.eq T.low T.high option_xor left.now.entries
         right.now.entries map.entries) }
 {
     lent_chosen(left, left.range_values(), right.range_values(), &ExactlyOne)

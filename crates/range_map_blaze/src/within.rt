@@ -3,7 +3,7 @@ ghost use Rattle.std.specs.Prelude.{◌≡◌, ◌≤ℤ◌, option_map, IfOk};
 ghost use Rattle.blaze_table.specs.Entries.{shown_entry, SameEntries};
 ghost use Rattle.blaze_table.specs.Listed.{listed};
 ghost use Rattle.blaze_table.specs.Painted.{ClonesAreAlike};
-ghost use Rattle.blaze_table.specs.Splice.{earlier};
+ghost use Rattle.std.specs.Int.{int_min};
 ghost use Rattle.range_map_blaze.specs.Within.{within, following, with_following};
 
 use crate::map::RangeMapBlaze;
@@ -13,7 +13,7 @@ use std::alloc::AllocError;
 
 // The lesser of two keys.
 fn lesser<T: Integer>(a: T, b: T) -> T
-    ensures { T.rank result ≡ earlier (T.rank a) (T.rank b) }
+    ensures { T.rank result ≡ int_min (T.rank b) (T.rank a) }
 {
     if is_below(a, b) { a } else { b }
 }

@@ -1,9 +1,10 @@
 -- The operations between many maps, where there are two.
+use Rattle.std.specs.Option.{option_xor}
 use Rattle.std.proofs.Common.{◌≡◌, ℤ, Bool, List, [], ◌∷◌, Option, Some, None, refl, ◌∙◌, sym, subst}
 use Rattle.std.specs.Cmp.{IsEquivalence}
 use Rattle.blaze_table.specs.Entries.{Entry, at, SameOption, SameEntries}
 use Rattle.blaze_table.specs.Canonical.{IsRangeMap}
-use Rattle.blaze_table.specs.Chosen.{right_first, left_with_right, exactly_one, IsChosen}
+use Rattle.blaze_table.specs.Chosen.{right_first, left_with_right, IsChosen}
 use Rattle.blaze_table.proofs.Runs.{canonical}
 use Rattle.blaze_table.proofs.Unique.{same_trans, unique}
 use Rattle.range_map_multi.specs.Many.{last_value, last_of_all, last_of_odd, IsChosenOfMany}
@@ -15,7 +16,7 @@ module _ {V : Type 0} where
   all_of_two (Some x) None = refl
   all_of_two (Some x) (Some y) = refl
 
-  odd_of_two : (x y : Option V) → last_of_odd (x ∷ y ∷ []) ≡ exactly_one x y
+  odd_of_two : (x y : Option V) → last_of_odd (x ∷ y ∷ []) ≡ option_xor x y
   odd_of_two None None = refl
   odd_of_two None (Some y) = refl
   odd_of_two (Some x) None = refl

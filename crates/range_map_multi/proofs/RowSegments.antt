@@ -1,13 +1,12 @@
 -- The segments of lists, one after another, and those of them that a join is asked for.
 use Rattle.std.proofs.Common.{◌≡◌, ℕ, zero, suc, ◌<◌, ℤ, pos, ◌+ℤ◌, ◌≤ℤ◌, ◌<ℤ◌, Bool, true, false, cond, List, [], ◌∷◌, ◌++◌, Option, Some, None, refl, ◌∙◌, sym, ap, subst, append_assoc, append-nil, arith, ⊎_elim}
-use Rattle.std.specs.Option.{is_some}
+use Rattle.std.specs.Option.{is_some, option_or}
 use Rattle.std.specs.List.{list_any}
 use Rattle.std.specs.Cmp.{IsEquivalence}
 use Rattle.std.specs.Cmp.Lexicographic.{lists_equiv, options_equiv}
 use Rattle.std.proofs.lemmas.Int.{ints}
 use Rattle.blaze_table.specs.Entries.{Entry, entry, at, holds}
 use Rattle.blaze_table.specs.Canonical.{IsApart, IsCanonical, AreKeys}
-use Rattle.blaze_table.specs.Painted.{or_else}
 use Rattle.blaze_table.proofs.Counted.{are_keys_after}
 use Rattle.blaze_table.proofs.Lookup.{IsAbove, IsAbove-from_apart, at_in, at_under, at_over, at_before, by_place}
 use Rattle.blaze_table.proofs.Runs.{canonical, one_per_run}
@@ -198,6 +197,6 @@ module _ {A : Type 0} where
               keys = keys_kept asks low high ps (keys_segments low high lists ps c k a);
             };
             content = λ j l m. at_kept asks (row_eq eq) ps j f.canonical
-                ∙ ap (keeps asks) (sym (f.content j ∙ ap (or_else (at ps j)) (absent (row r.0 j) (none_left r.0 j r.1.1)) ∙ or_none (at ps j)))
+                ∙ ap (keeps asks) (sym (f.content j ∙ ap (option_or (at ps j)) (absent (row r.0 j) (none_left r.0 j r.1.1)) ∙ or_none (at ps j)))
                 ∙ asked_present asks (row lists j) (h j);
           }

@@ -1,9 +1,10 @@
 -- The operations between many maps are those between two, where there are two.
+use Rattle.std.specs.Option.{option_xor}
 use Rattle.std.specs.Prelude.{◌≡◌, ℤ, Bool, List, [], ◌∷◌, Option, is_some}
 use Rattle.std.specs.Fn.{Mut}
 use Rattle.std.specs.List.{list_all, list_any}
 use Rattle.blaze_table.specs.Entries.{Entry, SameEntries}
-use Rattle.blaze_table.specs.Chosen.{right_first, left_with_right, exactly_one, IsChosen}
+use Rattle.blaze_table.specs.Chosen.{right_first, left_with_right, IsChosen}
 use Rattle.blaze_streams.specs.declared.joins.JoinKind.TheVariants.{Inner, Full}
 use Rattle.blaze_streams.specs.JoinAnswers.{IsJoined}
 use Rattle.range_map_multi.specs.Many.{last_value, last_of_all, last_of_odd, IsChosenOfMany}
@@ -23,7 +24,7 @@ module _ {V : Type 0} (eq : V → V → Bool) (low high : ℤ) where
   -- the symmetric difference of two maps has the same ranges as the keys of exactly one of them, with equal values
   abbrev pub SymmetricDifferenceOfTwoIsXor : Type 0
   SymmetricDifferenceOfTwoIsXor = (left right many two : List (Entry V)) → IsChosenOfMany eq low high last_of_odd (left ∷ right ∷ []) many
-      → IsChosen eq low high exactly_one left right two → SameEntries eq many two
+      → IsChosen eq low high option_xor left right two → SameEntries eq many two
 
 -- `shows` is the row of what lists have where the arguments of a call stand for it, `shows'` what two lists have
 module _ {F G X Y V W : Type 0} (shows : X → List (Option V)) (g : Mut F X W) (shows' : Y → Option V × Option V) (g' : Mut G Y W) (eqv : V → V → Bool) (eq : W → W → Bool) (low high : ℤ) where

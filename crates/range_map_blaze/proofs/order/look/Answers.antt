@@ -1,6 +1,7 @@
 use Rattle.std.proofs.Common.{◌≡◌, ◌∙◌, ◌≤ℤ◌, List, sym, ap, subst}
 use Rattle.blaze_table.specs.Entries.{Entry, shown_entry}
-use Rattle.blaze_table.specs.Splice.{after, earlier}
+use Rattle.std.specs.Int.{int_min}
+use Rattle.blaze_table.specs.Splice.{after}
 use Rattle.range_map_blaze.specs.Order.{IsComparedOn}
 use Rattle.range_map_blaze.proofs.PairOrder.{not_Equal, is_Equal, both_at_end, left_at_end, other_at_end, decided_at_first, compared_after, reaches_first, earlier_left, earlier_right}
 use Rattle.range_map_blaze.proofs.order.look.Goals as goal
@@ -54,7 +55,7 @@ returns-else-is_ne-clause-on g c =
     let f : Entry g.row.V.Denot = shown_entry rank (λ v. v.now) c.in-Some-first-2.other_first in
     let tied = sym c.compare_first-order.ensures.order ∙ is_Equal c.compare_first-order.result.0 c.is_ne.result c.is_ne.ensures c.if-is_ne.false in
     let on = compared_after g.V.PartialEq.eq g.V.Ord.cmp L M e f c.in-Some.ensures.first c.in-Some-first-2.ensures.first c.in-Some.ensures.canonical c.in-Some-first-2.ensures.canonical tied in
-    let left : after (earlier e.hi f.hi) L ≡ c.advance.new.self = ap (λ m. after m L) (sym c.compare_first-order.ensures.end) ∙ sym c.advance.ensures in
-    let other : after (earlier e.hi f.hi) M ≡ c.advance-in-Some-first-2.new.self = ap (λ m. after m M) (sym c.compare_first-order.ensures.end) ∙ sym c.advance-in-Some-first-2.ensures in
+    let left : after (int_min f.hi e.hi) L ≡ c.advance.new.self = ap (λ m. after m L) (sym c.compare_first-order.ensures.end) ∙ sym c.advance.ensures in
+    let other : after (int_min f.hi e.hi) M ≡ c.advance-in-Some-first-2.new.self = ap (λ m. after m M) (sym c.compare_first-order.ensures.end) ∙ sym c.advance-in-Some-first-2.ensures in
     subst (λ (l : List (Entry g.row.V.Denot)). IsComparedOn g.V.Ord.cmp L M l c.advance-in-Some-first-2.new.self) left
-    (subst (λ (m : List (Entry g.row.V.Denot)). IsComparedOn g.V.Ord.cmp L M (after (earlier e.hi f.hi) L) m) other on)
+    (subst (λ (m : List (Entry g.row.V.Denot)). IsComparedOn g.V.Ord.cmp L M (after (int_min f.hi e.hi) L) m) other on)
