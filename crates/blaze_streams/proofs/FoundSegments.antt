@@ -14,11 +14,11 @@ use Rattle.blaze_table.proofs.Unique.{same_along}
 use Rattle.blaze_table.proofs.Runs.{one_per_run}
 use Rattle.blaze_table.proofs.Glued.{IsBelow-push}
 use Rattle.blaze_table.proofs.Splices.{below_more}
-use Rattle.blaze_streams.specs.declared.list_segments.Segment.{Segment}
+use Rattle.blaze_streams.specs.declared.segments.list_segments.Segment.{Segment}
 use Rattle.blaze_streams.specs.Segments.{row, present, row_eq, entry_of, entries_of, IsSegmentsOf}
 use Rattle.blaze_streams.specs.Cursors.{AllCanonical, first_keys, all_after, IsNextSegment}
 use Rattle.blaze_streams.proofs.Steady.{changes}
-use Rattle.blaze_streams.proofs.KeysLeft.{all_keys_left, all_less}
+use Rattle.blaze_streams.proofs.LengthsLeft.{all_lengths_left, all_less}
 use Rattle.blaze_streams.proofs.Rows.{AnyStops, IsFirstSegment, is_first, rows_low, rows_under, rows_over, firsts_after, none_left, all_canonical_after}
 
 pub entries_more : {T : Type 0} (rank : T → ℤ) (new old : List (Segment T)) (s : Segment T) → new ≡ old ++ s ∷ [] → entries_of rank new ≡ entries_of rank old ++ entry_of rank s ∷ []
@@ -134,7 +134,7 @@ module _ {A : Type 0} where
       pub found_more : (new : List (Entry (List (Option A)))) (Ls' : List (List (Entry A))) → IsFound lists out Ls → IsNextSegment Ls p Ls' → new ≡ out ++ p ∷ [] → IsFound lists new Ls'
       found_more new Ls' s n e = rw (e, n.left) (found_push s (s.under p.lo n.starts) (is_first eq Ls Ls' p s.left n))
 
-    pub next_less : (Ls Ls' : List (List (Entry A))) (p : Entry (List (Option A))) → AllCanonical eq Ls → IsNextSegment Ls p Ls' → all_keys_left Ls' < all_keys_left Ls
+    pub next_less : (Ls Ls' : List (List (Entry A))) (p : Entry (List (Option A))) → AllCanonical eq Ls → IsNextSegment Ls p Ls' → all_lengths_left Ls' < all_lengths_left Ls
     next_less Ls Ls' p c n = rw n.left (all_less eq p.lo p.hi Ls c (is_first eq Ls Ls' p c n).full n.starts)
 
 -- with no key left, all segments are found

@@ -13,15 +13,15 @@ use Rattle.blaze_table.proofs.Glued.{IsBelow-push}
 use Rattle.blaze_table.proofs.Lookup.{IsAbove-from_apart, at_in, at_under, at_over, at_before}
 use Rattle.blaze_table.proofs.Runs.{canonical, one_per_run}
 use Rattle.blaze_table.proofs.Splices.{below_more, at-after_over}
-use Rattle.blaze_streams.specs.declared.joins.JoinKind.{JoinKind}
-use Rattle.blaze_streams.specs.declared.joins.JoinKind.TheVariants.{Inner, Left, Full}
+use Rattle.blaze_streams.specs.declared.segments.joins.JoinKind.{JoinKind}
+use Rattle.blaze_streams.specs.declared.segments.joins.JoinKind.TheVariants.{Inner, Left, Full}
 use Rattle.blaze_streams.specs.Cursors.{first_key, steady_to, lesser}
 use Rattle.blaze_streams.specs.Joins.{is_joined, paired, pair_eq, IsJoinOf, piece_of, IsSegmentPut}
 use Rattle.blaze_streams.specs.JoinAnswers.{AllJoined}
 use Rattle.blaze_streams.proofs.ChosenSoFar.{both_from, none_there, no_first, first_above}
 use Rattle.blaze_streams.proofs.Fewer.{both_less}
 use Rattle.blaze_streams.proofs.FoundSegments.{at_push, or_assoc, or_none, option_same, EndsApart, canonical_push, apart_push}
-use Rattle.blaze_streams.proofs.KeysLeft.{keys_left}
+use Rattle.blaze_streams.proofs.LengthsLeft.{lengths_left}
 use Rattle.blaze_streams.proofs.Lesser.{at_most_both, at_most_itself, lesser_one}
 use Rattle.blaze_streams.proofs.Steady.{AtMost, at_below_from, at-after_under, steady, steady_far, stops_steady, changes}
 
@@ -143,7 +143,7 @@ module _ {A B : Type 0} (eqa : A → A → Bool) (eqb : B → B → Bool) (low h
     pub paired_more : IsEquivalence eqa → IsEquivalence eqb → IsPairedSoFar left right L R out → IsPairedSoFar left right L' R' new
     paired_more lawsa lawsb h = rw (m.put, m.left_is, m.right_is) (pair_put L R s m.end ca cb starts m.ends lawsa lawsb left right out m.from m.to (pair_at kind L R m.end) refl h)
 
-    pub paired_less : keys_left L' + keys_left R' < keys_left L + keys_left R
+    pub paired_less : lengths_left L' + lengths_left R' < lengths_left L + lengths_left R
     paired_less = rw (m.left_is, m.right_is) (both_less eqa eqb s m.end L R ca cb starts (in_order L R s m.end ca cb starts m.ends))
 
   -- with no key left, all segments are found

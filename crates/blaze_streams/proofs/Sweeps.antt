@@ -16,8 +16,8 @@ use Rattle.blaze_table.proofs.Starts.{tail_sorted, not_less}
 use Rattle.blaze_streams.specs.Events.{Event, Starts, Ends}
 use Rattle.blaze_streams.specs.Ranges.{shown_range}
 use Rattle.blaze_streams.specs.Sweeps.{time, AscendInTime, events_of, all_events, IsSweep, shown_event, shown_events, instant}
-use Rattle.blaze_streams.specs.declared.sweep_event.SweepEvent.{SweepEvent}
-use Rattle.blaze_streams.specs.declared.sweep_event.SweepEvent.TheVariants.{Start, End}
+use Rattle.blaze_streams.specs.declared.events.sweep_event.SweepEvent.{SweepEvent}
+use Rattle.blaze_streams.specs.declared.events.sweep_event.SweepEvent.TheVariants.{Start, End}
 
 -- the key at which an event is
 abbrev pub key_of : {V : Type 0} → Event V → ℤ

@@ -7,8 +7,8 @@ use Rattle.blaze_table.specs.Entries.{Entry}
 use Rattle.blaze_table.specs.Whole.{IsWhole}
 use Rattle.blaze_streams.specs.Events.{Event, Starts, Ends}
 use Rattle.blaze_streams.specs.Ranges.{shown_range}
-use Rattle.blaze_streams.specs.declared.sweep_event.SweepEvent.{SweepEvent}
-use Rattle.blaze_streams.specs.declared.sweep_event.SweepEvent.TheVariants.{Start, End}
+use Rattle.blaze_streams.specs.declared.events.sweep_event.SweepEvent.{SweepEvent}
+use Rattle.blaze_streams.specs.declared.events.sweep_event.SweepEvent.TheVariants.{Start, End}
 
 -- when an event is: a start at twice the rank of its first key, an end at twice the rank of its last key plus one, so that all
 -- starts at a key are before the ends there

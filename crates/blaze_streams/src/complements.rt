@@ -4,8 +4,8 @@ ghost use Rattle.blaze_table.specs.Complement.{IsComplement};
 ghost use Rattle.blaze_table.specs.RangeSets.{bare_ranges, unit_eq};
 ghost use Rattle.blaze_streams.specs.Gaps.{gap_before, rank_or_end};
 
-use crate::canon::CanonIter;
-use crate::ranges_stream::SortedDisjoint;
+use crate::lists::canon::CanonIter;
+use crate::sorted_disjoint::SortedDisjoint;
 use blaze_int::Integer;
 use blaze_int::compare::{before, is_below};
 use std::alloc::{AllocError, Global};

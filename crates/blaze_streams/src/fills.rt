@@ -5,9 +5,9 @@ ghost use Rattle.blaze_streams.specs.Fills.{none_before, IsFilled};
 ghost use Rattle.blaze_streams.specs.Gaps.{rank_or_end};
 ghost use Rattle.blaze_streams.specs.RangeLists.{shown_ranges};
 
-use crate::canon_map::CanonMapIter;
 use crate::carrier::ValueCarrier;
-use crate::stream::SortedDisjointMap;
+use crate::lists::canon_map::CanonMapIter;
+use crate::sorted_disjoint_map::SortedDisjointMap;
 use blaze_int::Integer;
 use blaze_int::compare::{before, is_below};
 use std::alloc::{AllocError, Global};

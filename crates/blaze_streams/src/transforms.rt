@@ -2,11 +2,11 @@
 ghost use Rattle.std.specs.Prelude.{IfOk};
 ghost use Rattle.blaze_streams.specs.Answers.{values, IsCallableAtEach, IsTransformed};
 
-use crate::canon_map::CanonMapIter;
 use crate::carrier::ValueCarrier;
+use crate::lists::canon_map::CanonMapIter;
+use crate::merge::push::push_joined;
 use crate::owned::Owned;
-use crate::push::push_joined;
-use crate::stream::SortedDisjointMap;
+use crate::sorted_disjoint_map::SortedDisjointMap;
 use blaze_int::Integer;
 use std::alloc::{AllocError, Global};
 

@@ -1,4 +1,5 @@
 -- Keys put one after another behind a list: what is kept of the pairs asked at.
+use Rattle.blaze_int.specs.Unsigned.{nat_of}
 use Rattle.std.specs.Option.{option_or}
 use Rattle.std.proofs.Common.{◌≡◌, ℕ, ◌+◌, ℤ, pos, ◌+ℤ◌, ◌-ℤ◌, ◌≤ℤ◌, Bool, true, false, cond, List, [], ◌∷◌, ◌++◌, Option, Some, None, refl, ap, sym, ◌∙◌, subst, arith, append_assoc, append-nil}
 use Rattle.std.specs.Ordering.{int_eq}
@@ -9,7 +10,7 @@ use Rattle.std.proofs.lemmas.List.{length-append}
 use Rattle.blaze_entries.proofs.InTurn.{returns-push, picked-push_true, picked-push_false}
 use Rattle.blaze_table.specs.Entries.{Entry, entry, at, SameOption}
 use Rattle.blaze_table.specs.Canonical.{IsCanonical, AreKeys}
-use Rattle.blaze_table.specs.Count.{keys_in, nat_of}
+use Rattle.blaze_table.specs.Count.{keys_in}
 use Rattle.blaze_table.specs.Keeping.{AddsKey, IsKept, KeepsMore}
 use Rattle.blaze_table.specs.Pairs.{pairs_from, pairs_of, pair_list, value_at}
 use Rattle.blaze_table.specs.Splice.{glue, IsBelow}

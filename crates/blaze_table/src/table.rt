@@ -20,7 +20,7 @@ use crate::copy::clone_entries;
 use crate::count::{count, count_list};
 use crate::cut::cut;
 use crate::gaps::gap_round;
-use crate::keep::retain_keys;
+use crate::retain_keys::retain_keys;
 use crate::search::{entry_above, entry_below, entry_holding};
 use crate::splice::{paint, paint_by_splice};
 use crate::split::split;

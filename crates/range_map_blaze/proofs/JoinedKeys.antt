@@ -1,4 +1,5 @@
 -- The keys of joins of maps, and of maps with what a closure answers at their values.
+use Rattle.blaze_int.specs.Unsigned.{nat_of}
 use Rattle.std.proofs.Common.{◌≡◌, ℕ, zero, suc, ◌+◌, ℤ, pos, ◌+ℤ◌, ◌-ℤ◌, ◌<ℤ◌, Bool, cond, List, [], ◌∷◌, Option, None, refl, ◌∙◌, sym, ap, subst, arith}
 use Rattle.std.specs.Option.{is_some}
 use Rattle.std.specs.Cmp.{IsEquivalence}
@@ -7,7 +8,7 @@ use Rattle.std.proofs.lemmas.Int.{ints, by_lt_z}
 use Rattle.std.proofs.lemmas.List.{length-map}
 use Rattle.blaze_table.specs.Entries.{Entry, at, SameOption}
 use Rattle.blaze_table.specs.Canonical.{AreKeys}
-use Rattle.blaze_table.specs.Count.{mapped, nat_of}
+use Rattle.blaze_table.specs.Count.{mapped}
 use Rattle.blaze_table.proofs.ListLaws.{canonical_is_unique}
 use Rattle.blaze_table.proofs.Lookup.{at_under, at_over}
 use Rattle.blaze_table.proofs.Unique.{same_trans, back}

@@ -1,4 +1,5 @@
 -- How two lists compare from their first entries on.
+use Rattle.blaze_int.specs.Unsigned.{nat_of}
 use Rattle.std.proofs.Common.{◌≡◌, ℕ, suc, ◌+◌, ◌≤◌, ◌<◌, ℤ, pos, ◌+ℤ◌, ◌-ℤ◌, ◌≤ℤ◌, ◌<ℤ◌, Bool, cond, List, [], ◌∷◌, ◌++◌, length, Option, Some, None, true, false, refl, ◌∙◌, sym, ap, subst, arith, append_assoc, inl, inr, ⊎_elim}
 use Rattle.std.specs.Prelude.{◌⊎◌, int_lt}
 use Rattle.std.proofs.lemmas.Int.{ints, by_lt_z}
@@ -9,7 +10,6 @@ use Rattle.std.specs.Ordering.{int_cmp, is_eq, is_ne, ordering_then}
 use Rattle.std.specs.Cmp.{signed_Decides}
 use Rattle.std.specs.Cmp.Lexicographic.{slice_cmp}
 use Rattle.blaze_table.specs.Canonical.{IsCanonical}
-use Rattle.blaze_table.specs.Count.{nat_of}
 use Rattle.blaze_table.specs.Entries.{Entry, entry}
 use Rattle.blaze_table.specs.Pairs.{pairs_from, pair_list}
 use Rattle.std.specs.Int.{int_min}

@@ -1,37 +1,21 @@
 //! A map from integers to values, kept as the shortest ascending list of disjoint ranges.
 #![tactic(auto)]
 
-mod append;
-mod complements;
-mod constructors;
+mod compare;
 mod display;
-mod entries_left;
-mod equality;
-mod extend;
-mod fill_unmapped;
 mod gaps_filled;
-mod hash;
-mod insert;
-mod inside;
 mod iter;
-mod joining;
 mod joins;
 pub mod laws;
-mod lent;
-mod lent_pairs;
 mod lookup;
+mod make;
 mod map;
 mod operators;
-mod order;
-mod pair_maps;
-mod pointwise;
+mod paint;
 mod range;
 mod ranges;
 mod remove;
 mod retain;
-mod stream;
-mod turns;
-mod union;
 mod within;
 
 pub use blaze_int::{Integer, SafeLength, UIntPlusOne, bounds_of, names_a_key};
@@ -46,9 +30,10 @@ pub use blaze_streams::{
     segments, subtract_ranges, sweep_of, symmetric_difference_of, transform, union_of,
 };
 pub use blaze_table::{IntoRangesIter, RangeSetBlaze, RangesIter};
+pub use compare::turns::Turns;
+pub use make::stream::IntoRangeMapBlaze;
+pub use map::RangeMapBlaze;
+
 // For `range_map_multi` alone, whose joins give such streams.
 #[doc(hidden)]
 pub use joins::map_of;
-pub use map::RangeMapBlaze;
-pub use stream::IntoRangeMapBlaze;
-pub use turns::Turns;

@@ -1,4 +1,5 @@
 -- What steps mean: functions from contents to contents. A content gives each key, by its rank, its value or none.
+use Rattle.blaze_int.specs.Unsigned.{nat_of}
 use Rattle.std.specs.Option.{option_xor}
 use Rattle.std.specs.Prelude.{◌≡◌, ◌⊎◌, ℕ, zero, suc, ◌*◌, ◌+◌, ◌≤◌, ◌<◌, ℤ, pos, ◌+ℤ◌, ◌-ℤ◌, int_le, Bool, true, ◌&&◌, not, ◌==◌, if◌then◌else◌, is_some, List, [], ◌∷◌, length, take, Option, Some, None}
 use Rattle.blaze_table.specs.Counted.{CountedEntries}
@@ -6,7 +7,7 @@ use Rattle.blaze_table.specs.Entries.{Entry, at, SameOption}
 use Rattle.blaze_table.specs.Canonical.{IsRangeMap}
 use Rattle.blaze_table.specs.Chosen.{right_first, left_with_right, left_alone}
 use Rattle.blaze_table.specs.Complement.{absent}
-use Rattle.blaze_table.specs.Count.{nat_of, mapped_keys}
+use Rattle.blaze_table.specs.Count.{mapped_keys}
 use Rattle.blaze_table.specs.Cut.{cut_at, below_at, from_at}
 use Rattle.blaze_table.specs.Painted.{painted}
 use Rattle.range_map_cli.specs.declared.step.Step.{Step}

@@ -6,7 +6,7 @@ ghost use Rattle.blaze_table.specs.Cut.{cut_at};
 ghost use Rattle.blaze_table.specs.Painted.{painted};
 ghost use Rattle.range_map_cli.specs.Commands.{asked, Blank};
 ghost use Rattle.range_map_cli.specs.Pieces.{IsPiece};
-ghost use Rattle.range_map_cli.specs.Replies.{after, greatest_key, key_count, least_key};
+ghost use Rattle.range_map_cli.specs.Replies.{after, greatest_key, mapped_count, least_key};
 ghost use Rattle.range_map_cli.specs.Replies.{word_or_dash as shown_word, Replies};
 ghost use Rattle.range_map_cli.specs.States.{content_of, HasWords};
 
@@ -28,8 +28,8 @@ fn paint(
         ≡ painted lo hi word.now (content_of map.old.entries) key) }
     ensures changed { IfOk result
         (λ changed. IsTrue changed ↔
-        (¬ (key_count (painted lo hi word.now (content_of map.old.entries))
-        ≡ key_count (content_of map.old.entries)))) }
+        (¬ (mapped_count (painted lo hi word.now (content_of map.old.entries))
+        ≡ mapped_count (content_of map.old.entries)))) }
 {
     lengths_are_mapped::<String>();
     map.in_hand();

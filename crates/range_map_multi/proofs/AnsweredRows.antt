@@ -14,7 +14,7 @@ use Rattle.blaze_streams.specs.Cursors.{AllCanonical, first_keys, all_after, IsN
 use Rattle.blaze_streams.specs.Segments.{row, row_eq}
 use Rattle.blaze_streams.proofs.Answering.{IsAnsweredSoFar, answered_none, takes_next, answered_more, answered_all}
 use Rattle.blaze_streams.proofs.FoundSegments.{next_less}
-use Rattle.blaze_streams.proofs.KeysLeft.{all_keys_left}
+use Rattle.blaze_streams.proofs.KeysLeft.{all_lengths_left}
 use Rattle.blaze_streams.proofs.Rows.{all_canonical_after, is_first}
 use Rattle.range_map_multi.specs.ManyJoins.{IsJoinOfMany, IsCallableAtRows, IsManyJoined}
 use Rattle.range_map_multi.specs.Parts.{AllPlaced, AllRangeMaps, picked}
@@ -48,7 +48,7 @@ module _ {F X W V : Type 0} (shows : X → List (Option V)) (g : Mut F X W) (eqv
         → ((k : ℤ) → asks (row lists k) ≡ true → list_any is_some (row lists k) ≡ true) → IsAskedSoFar Ns f []
     asked_none laws Ns p m h =
         let c = all_canonical eqv laws low high lists m in
-        let s = segments_exist eqv (suc (all_keys_left lists)) lists c (omega arith) in
+        let s = segments_exist eqv (suc (all_lengths_left lists)) lists c (omega arith) in
         let are = asked_segments eqv laws low high asks lists s.0 c (all_keys eqv laws low high lists m) s.1 h in
         record {
           all = kept asks s.0;
@@ -95,7 +95,7 @@ module _ {F X W V : Type 0} (shows : X → List (Option V)) (g : Mut F X W) (eqv
       pub asked_some : list_any is_some (picked vss p.value) ≡ true
       asked_some = (is_first eqv h.left (all_after p.hi h.left) (with_row vss p) h.canonical next_left).some
 
-      pub asked_less : all_keys_left Ns' < all_keys_left Ns
+      pub asked_less : all_lengths_left Ns' < all_lengths_left Ns
       asked_less =
           let less = next_less eqv h.left (all_after p.hi h.left) (with_row vss p) h.canonical next_left in
           let before = (alike vss Ns h.left h.placed).keys in

@@ -1,4 +1,5 @@
 -- Lists that are gone through by the places of their ranges.
+use Rattle.blaze_int.specs.Unsigned.{nat_of}
 use Rattle.std.proofs.Common.{◌≡◌, ℕ, ◌+◌, ℤ, pos, ◌+ℤ◌, ◌-ℤ◌, Bool, true, false, cond, nat_eq, suc, List, [], ◌∷◌, ◌++◌, length, map, Option, Some, None, refl, ◌∙◌, sym, ap, option_map, append_assoc, append-nil, subst, arith}
 use Rattle.std.specs.Prelude.{int_le}
 use Rattle.std.specs.List.{slice_get}
@@ -7,12 +8,11 @@ use Rattle.std.proofs.lemmas.List.{length_push}
 use Rattle.std.proofs.lemmas.Simd.{map-map}
 use Rattle.blaze_table.specs.Entries.{Entry, entry, at, holds}
 use Rattle.blaze_table.specs.Canonical.{IsCanonical, IsRangeMap}
-use Rattle.blaze_table.specs.Count.{nat_of}
 use Rattle.blaze_table.specs.Splice.{after}
 use Rattle.blaze_streams.specs.Answers.{values}
 use Rattle.blaze_streams.specs.Cursors.{first_key, steady_to, lesser, first_keys, all_steady_to, all_after, IsNextSegment}
 use Rattle.blaze_streams.specs.Segments.{row}
-use Rattle.blaze_streams.proofs.KeysLeft.{keys_left, all_keys_left}
+use Rattle.blaze_streams.proofs.KeysLeft.{keys_left, all_lengths_left}
 use Rattle.range_map_multi.specs.Parts.{with_values, in_places, IsPlaced, AllPlaced, with_value, valued, all_valued, picked, AllRangeMaps}
 
 -- ---- other values on the same ranges
@@ -114,7 +114,7 @@ module _ {V : Type 0} where
     pub firsts : first_keys Ls ≡ first_keys Ns
     pub ends : (s : ℤ) → all_steady_to s Ls ≡ all_steady_to s Ns
     pub rows : (k : ℤ) → row Ls k ≡ picked vss (row Ns k)
-    pub keys : all_keys_left Ls ≡ all_keys_left Ns
+    pub keys : all_lengths_left Ls ≡ all_lengths_left Ns
     pub next : (t : ℤ) → AllPlaced vss (all_after t Ns) (all_after t Ls)
     pub valued_are : all_valued vss Ns ≡ Ls
     pub count : length vss ≡ length Ns
@@ -134,7 +134,7 @@ module _ {V : Type 0} where
         firsts = ap (λ o. lesser o (first_keys Ls)) (sym (first_with Some L) ∙ ap first_key is ∙ first_with get N) ∙ ap (lesser (first_key N)) r.firsts;
         ends = λ s. ap (λ o. lesser o (all_steady_to s Ls)) (sym (steady_with Some s L) ∙ ap (steady_to s) is ∙ steady_with get s N) ∙ ap (lesser (steady_to s N)) (r.ends s);
         rows = λ k. ap (λ o. o ∷ row Ls k) (at_placed vs N L k p.0) ∙ ap (λ l. option_and_then get (at N k) ∷ l) (r.rows k);
-        keys = ap (λ n. n + all_keys_left Ls) (sym (keys_with Some L) ∙ ap keys_left is ∙ keys_with get N) ∙ ap (λ n. keys_left N + n) r.keys;
+        keys = ap (λ n. n + all_lengths_left Ls) (sym (keys_with Some L) ∙ ap keys_left is ∙ keys_with get N) ∙ ap (λ n. keys_left N + n) r.keys;
         next = λ t. (after_placed vs N L t p.0, r.next t);
         valued_are = ap (λ l. l ∷ all_valued vss Ns) (valued_placed vs N L p.0) ∙ ap (λ l. L ∷ l) r.valued_are;
         count = ap suc r.count;

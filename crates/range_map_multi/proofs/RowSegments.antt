@@ -13,7 +13,7 @@ use Rattle.blaze_table.proofs.Runs.{canonical, one_per_run}
 use Rattle.blaze_streams.specs.Cursors.{first_key, steady_to, AllCanonical, first_keys, all_steady_to, all_after, IsNextSegment}
 use Rattle.blaze_streams.specs.Segments.{row, present, row_eq}
 use Rattle.blaze_streams.proofs.FoundSegments.{IsFound, found_none, found_more, next_less, or_none}
-use Rattle.blaze_streams.proofs.KeysLeft.{all_keys_left}
+use Rattle.blaze_streams.proofs.KeysLeft.{all_lengths_left}
 use Rattle.blaze_streams.proofs.Lesser.{lesser_one}
 use Rattle.blaze_streams.proofs.Rows.{steady_none, none_left, all_canonical_after}
 use Rattle.blaze_streams.proofs.Steady.{same_some, stops_steady}
@@ -149,7 +149,7 @@ module _ {A : Type 0} where
       keys_segments low high (all_after p.hi Ls) ps (all_canonical_after eq p.hi Ls c) (all_keys_after low high p.hi Ls k) a.1,
     )
 
-    pub segments_exist : (n : ℕ) (Ls : List (List (Entry A))) → AllCanonical eq Ls → all_keys_left Ls < n → (ps : List (Entry (List (Option A)))) × AreSegments Ls ps
+    pub segments_exist : (n : ℕ) (Ls : List (List (Entry A))) → AllCanonical eq Ls → all_lengths_left Ls < n → (ps : List (Entry (List (Option A)))) × AreSegments Ls ps
     segments_exist zero Ls c l = let no : ⊥ = omega (arith, l) in absurd no
     segments_exist (suc n) Ls c l = by_option (first_keys Ls)
         (λ none. ([], none))

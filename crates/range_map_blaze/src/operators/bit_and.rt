@@ -5,7 +5,7 @@ ghost use Rattle.blaze_table.specs.Chosen.{left_with_right, IsChosen};
 ghost use Rattle.blaze_table.specs.Painted.{ClonesAreAlike};
 
 use crate::map::RangeMapBlaze;
-use crate::pointwise::{intersection, intersection_with_set};
+use crate::operators::pointwise::{intersection, intersection_with_set};
 use blaze_int::Integer;
 use blaze_table::RangeSetBlaze;
 use std::alloc::AllocError;

@@ -5,7 +5,7 @@ ghost use Rattle.blaze_table.specs.Painted.{ClonesAreAlike};
 ghost use Rattle.range_map_blaze.specs.Union.{IsUnion};
 
 use crate::map::RangeMapBlaze;
-use crate::union::{union, union_by_value, union_under, union_with};
+use crate::operators::union::{union, union_by_value, union_under, union_with};
 use blaze_int::Integer;
 use std::alloc::AllocError;
 use std::ops::BitOr;

@@ -6,7 +6,7 @@ ghost use Rattle.blaze_table.specs.Chosen.{IsChosen};
 ghost use Rattle.blaze_table.specs.Painted.{ClonesAreAlike};
 
 use crate::map::RangeMapBlaze;
-use crate::pointwise::symmetric_difference;
+use crate::operators::pointwise::symmetric_difference;
 use blaze_int::Integer;
 use std::alloc::AllocError;
 use std::ops::BitXor;

@@ -3,8 +3,8 @@ ghost use Rattle.std.specs.Prelude.{IfOk};
 ghost use Rattle.blaze_table.specs.Complement.{IsComplement};
 ghost use Rattle.blaze_table.specs.RangeSets.{unit_eq};
 
-use crate::complements::unmapped_keys;
 use crate::map::RangeMapBlaze;
+use crate::operators::complements::unmapped_keys;
 use blaze_int::Integer;
 use blaze_table::RangeSetBlaze;
 use std::alloc::AllocError;

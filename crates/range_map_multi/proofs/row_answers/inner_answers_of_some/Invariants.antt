@@ -2,7 +2,7 @@ use Rattle.std.proofs.Common.{map}
 use Rattle.std.specs.Option.{is_some}
 use Rattle.std.specs.List.{list_all}
 use Rattle.blaze_streams.specs.RangeLists.{shown_ranges}
-use Rattle.blaze_streams.proofs.KeysLeft.{all_keys_left}
+use Rattle.blaze_streams.proofs.KeysLeft.{all_lengths_left}
 use Rattle.range_map_multi.specs.ManyJoins.{shown_full_row}
 use Rattle.range_map_multi.specs.Parts.{all_valued}
 use Rattle.range_map_multi.proofs.AnsweredRows.{IsAskedSoFar}
@@ -15,4 +15,4 @@ invariant-loop-out g l =
     values (all_valued values l.fn.cursors) l.cursors l.f (shown_ranges g.T.Integer.rank (λ o. o.0) l.out.items)
 
 abbrev pub decreases-loop-out : goal.decreases-loop-out
-decreases-loop-out g l = all_keys_left l.cursors
+decreases-loop-out g l = all_lengths_left l.cursors

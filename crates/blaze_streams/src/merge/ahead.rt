@@ -1,0 +1,202 @@
+//! What is left of a stream that is gone through from its start.
+ghost use Rattle.std.specs.Prelude.{◌≡◌, [], Some, IfSome, IfNone, IfOk};
+ghost use Rattle.std.specs.Option.{option_map, is_some};
+ghost use Rattle.blaze_table.specs.Entries.{at, SameOption};
+ghost use Rattle.blaze_table.specs.Canonical.{IsCanonical};
+ghost use Rattle.blaze_table.specs.Splice.{after};
+ghost use Rattle.blaze_streams.specs.Carried.{shown_option};
+ghost use Rattle.blaze_streams.specs.Choosing.{ahead_of};
+ghost use Rattle.blaze_streams.specs.Cursors.{first_key, steady_to, IsFrom, Reaches};
+
+use crate::carrier::ValueCarrier;
+use crate::sorted_disjoint_map::SortedDisjointMap;
+use blaze_int::Integer;
+use blaze_int::compare::{after, before, is_at_most};
+use std::alloc::AllocError;
+use std::marker::Model;
+
+/// The ranges that are left of a stream, with their carriers: what is left of the first, and the stream of the others.
+#[derive(Drop)]
+pub struct Ahead<T: Integer, VC: ValueCarrier, I: SortedDisjointMap<T, VC>> {
+    head: Option<(T, T, VC)>,
+    rest: I,
+}
+
+impl<T: Integer, VC: ValueCarrier, I: SortedDisjointMap<T, VC>> Model for Ahead<T, VC, I> {
+    ghost use Rattle.std.specs.Prelude.{List, [], IfNone, ◌≡◌};
+    ghost use Rattle.std.specs.Coded.{coded_list};
+    ghost use Rattle.blaze_table.specs.Entries.{Entry, entry_code};
+    ghost use Rattle.blaze_table.specs.Canonical.{IsCanonical};
+    ghost use Rattle.blaze_streams.specs.Choosing.{ahead_of};
+
+    ghost Value = { List (Entry VC.Value) };
+
+    ghost coded = { coded_list (entry_code VC.Value.code) };
+
+    ghost view = { λ a. ahead_of T.rank VC.shown a.head (I.left a.rest) };
+
+    ghost invariant = { λ a. IfNone a.head (I.left a.rest ≡ [])
+        × IsCanonical VC.Value.eq (ahead_of T.rank VC.shown a.head (I.left a.rest)) };
+}
+
+/// Takes the first range out of a stream: its first key, its last key and its carrier.
+fn take_first<T: Integer, VC: ValueCarrier, I: SortedDisjointMap<T, VC>>(
+    stream: &mut I,
+) -> Option<(T, T, VC)>
+    ensures left { ahead_of T.rank VC.shown result (I.left stream.new) ≡ I.left stream.old }
+    ensures none { IfNone result (I.left stream.new ≡ []) }
+{
+    let (range, carrier) = stream.next()?;
+    let (start, end) = range.into_inner();
+    Some((start, end, carrier))
+}
+
+/// Takes the ranges up to `end` out of a stream, and the first of what lies above: its first key, its last key and its
+/// carrier.
+fn take_above<T: Integer, VC: ValueCarrier, I: SortedDisjointMap<T, VC>>(
+    stream: &mut I,
+    end: T,
+) -> Option<(T, T, VC)>
+    ensures left { ahead_of T.rank VC.shown result (I.left stream.new)
+        ≡ after (T.rank end) (I.left stream.old) }
+    ensures none { IfNone result (I.left stream.new ≡ []) }
+{
+    while let Some((lo, hi, carrier)) = take_first(stream) {
+        if !is_at_most(hi, end) {
+            if is_at_most(lo, end) {
+                return Some((after(end, hi), hi, carrier));
+            }
+            return Some((lo, hi, carrier));
+        }
+    }
+    None
+}
+
+impl<T: Integer, VC: ValueCarrier, I: SortedDisjointMap<T, VC>> Ahead<T, VC, I> {
+    /// All that is left of a stream.
+    pub fn new(stream: I) -> Self
+        ensures { result ≡ I.left stream }
+    {
+        stream.in_hand();
+        let mut rest = stream;
+        let head = take_first(&mut rest);
+        Ahead { head, rest }
+    }
+
+    /// The first key that is left.
+    pub fn first(&self) -> Option<T>
+        ensures first { option_map T.rank result ≡ first_key self.now }
+        ensures canonical { IsCanonical VC.Value.eq self.now }
+    {
+        match &self.head {
+            None => None,
+            Some((lo, _, _)) => Some(*lo),
+        }
+    }
+
+    /// Whether a range has the key, which is not above the end of the first range.
+    pub fn has(&self, key: T) -> bool
+        requires { Reaches (T.rank key) self.now }
+        ensures { result ≡ is_some (at self.now (T.rank key)) }
+    {
+        match &self.head {
+            None => false,
+            Some((lo, _, _)) => is_at_most(*lo, key),
+        }
+    }
+
+    /// The last key up to which nothing changes, from a key below which none is left.
+    pub fn last(&self, start: T) -> Option<T>
+        requires { IsFrom (T.rank start) self.now }
+        ensures { option_map T.rank result ≡ steady_to (T.rank start) self.now }
+    {
+        match &self.head {
+            None => None,
+            Some((lo, hi, _)) => {
+                if is_at_most(*lo, start) {
+                    Some(*hi)
+                } else {
+                    Some(before(*lo, start))
+                }
+            }
+        }
+    }
+
+    /// Lets the keys up to `end` go.
+    pub fn advance(&mut self, end: T)
+        ensures { self.new ≡ after (T.rank end) self.old }
+    {
+        if let Some((lo, hi, carrier)) = self.head.take() {
+            if is_at_most(hi, end) {
+                self.head = take_above(&mut self.rest, end);
+            } else if is_at_most(lo, end) {
+                self.head = Some((after(end, hi), hi, carrier));
+            } else {
+                self.head = Some((lo, hi, carrier));
+            }
+        }
+    }
+
+    /// The last key of the range that has a key below which none is left.
+    pub fn end_at(&self, start: T) -> Option<T>
+        requires { IsFrom (T.rank start) self.now }
+        ensures has { is_some (at self.now (T.rank start)) ≡ is_some result }
+        ensures end { IfSome result (λ end. steady_to (T.rank start) self.now ≡ Some (T.rank end)) }
+        ensures reaches { IfSome result (λ end. Reaches (T.rank end) self.now) }
+    {
+        match &self.head {
+            None => None,
+            Some((lo, hi, _)) => {
+                if is_at_most(*lo, start) {
+                    Some(*hi)
+                } else {
+                    None
+                }
+            }
+        }
+    }
+
+    /// Lets the keys up to `end` go, which is not above the end of the first range, and answers the carrier of the value at
+    /// `end`: the range's own where the range ends there, else another, and refused memory then lets the keys go all the same.
+    pub fn take(&mut self, end: T) -> Result<Option<VC>, AllocError>
+        requires can { VC.can_carry }
+        requires reaches { Reaches (T.rank end) self.old }
+        ensures carrier { IfOk result (λ carrier. SameOption VC.Value.eq (at self.old (T.rank end))
+            (option_map VC.shown carrier)) }
+        ensures rest { self.new ≡ after (T.rank end) self.old }
+    {
+        let Some((lo, hi, carrier)) = self.head.take() else {
+            return Ok(None);
+        };
+        if is_at_most(hi, end) {
+            self.head = take_first(&mut self.rest);
+            Ok(Some(carrier))
+        } else if is_at_most(lo, end) {
+            let other = carrier.carry();
+            self.head = Some((after(end, hi), hi, carrier));
+            Ok(Some(other?))
+        } else {
+            self.head = Some((lo, hi, carrier));
+            Ok(None)
+        }
+    }
+}
+
+impl<T: Integer, VC: ValueCarrier + Copy, I: SortedDisjointMap<T, VC>> Ahead<T, VC, I> {
+    /// The carrier of the value at a key, which is not above the end of the first range.
+    pub fn here(&self, key: T) -> Option<VC>
+        requires { Reaches (T.rank key) self.now }
+        ensures { shown_option VC.shown result ≡ at self.now (T.rank key) }
+    {
+        match &self.head {
+            None => None,
+            Some((lo, _, carrier)) => {
+                if is_at_most(*lo, key) {
+                    Some(*carrier)
+                } else {
+                    None
+                }
+            }
+        }
+    }
+}
