@@ -1,12 +1,11 @@
 //! The keys of a table, each with its range's value, by value.
-ghost use Rattle.std.specs.Prelude.{◌≡◌, ◌≤◌, ◌≤ℤ◌, [], length, None, IfSome, IfNone, unwrap_or};
+ghost use Rattle.std.specs.Prelude.{◌≡◌, ◌≤◌, [], length, None, IfSome, IfNone, unwrap_or};
 ghost use Rattle.std.specs.Iterator.{YieldsFirstBy, YieldsLastBy, item_count, UpTo};
 ghost use Rattle.std.specs.Iterator.SizeHint.{IsWithinCount};
-ghost use Rattle.blaze_table.specs.Entries.{Entry, shown_entry};
-ghost use Rattle.blaze_table.specs.Canonical.{IsDisjoint};
+ghost use Rattle.blaze_table.specs.Entries.{shown_entry};
 ghost use Rattle.blaze_table.specs.Painted.{ClonesAreAlike};
 ghost use Rattle.blaze_table.specs.Pairs.{pair_list};
-ghost use Rattle.blaze_iters.specs.Left.{RangesLeft, unopened, seen, OpensFirst, OpensLast};
+ghost use Rattle.blaze_iters.specs.Left.{unopened, seen, OpensFirst, OpensLast};
 ghost use Rattle.blaze_iters.specs.Left.{YieldsOpeningFirst, YieldsOpeningLast, pairs_left};
 ghost use Rattle.blaze_iters.specs.Left.{keys_left};
 ghost use Rattle.blaze_iters.specs.Owned.{OwnedLeft, owned_ranges, IsOwned, GivesFirst, GivesLast};

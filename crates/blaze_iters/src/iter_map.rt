@@ -1,8 +1,7 @@
 //! The keys of a stream of ranges, each with its range's value.
-ghost use Rattle.std.specs.Prelude.{◌≡◌, ◌++◌, [], ◌≤ℤ◌, None, IfSome, IfNone};
+ghost use Rattle.std.specs.Prelude.{◌≡◌, [], None, IfSome, IfNone};
 ghost use Rattle.std.specs.Iterator.{item_count, UpTo};
 ghost use Rattle.std.specs.Iterator.SizeHint.{IsWithinCount};
-ghost use Rattle.blaze_table.specs.Entries.{Entry, shown_entry};
 ghost use Rattle.blaze_table.specs.Pairs.{pair_list};
 ghost use Rattle.blaze_iters.specs.Left.{RangesLeft, unopened, seen, AreFull, OpensFirst};
 ghost use Rattle.blaze_iters.specs.Left.{OpensLast, YieldsOpeningFirst, YieldsOpeningLast};

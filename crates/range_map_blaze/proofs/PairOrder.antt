@@ -1,7 +1,7 @@
 -- How two lists compare from their first entries on.
 use Rattle.blaze_int.specs.Unsigned.{nat_of}
-use Rattle.std.proofs.Common.{◌≡◌, ℕ, suc, ◌+◌, ◌≤◌, ◌<◌, ℤ, pos, ◌+ℤ◌, ◌-ℤ◌, ◌≤ℤ◌, ◌<ℤ◌, Bool, cond, List, [], ◌∷◌, ◌++◌, length, Option, Some, None, true, false, refl, ◌∙◌, sym, ap, subst, arith, append_assoc, inl, inr, ⊎_elim}
-use Rattle.std.specs.Prelude.{◌⊎◌, int_lt}
+use Rattle.std.proofs.Common.{◌≡◌, ◌+◌, ◌≤◌, ℤ, pos, ◌+ℤ◌, ◌-ℤ◌, ◌≤ℤ◌, Bool, List, [], ◌∷◌, ◌++◌, length, Some, None, true, false, refl, ◌∙◌, sym, ap, subst, arith, append_assoc, inl, inr, ⊎_elim}
+use Rattle.std.specs.Prelude.{◌⊎◌}
 use Rattle.std.proofs.lemmas.Int.{ints, by_lt_z}
 use Rattle.std.specs.declared.cmp.Ordering.{Ordering}
 use Rattle.std.specs.declared.cmp.Ordering.TheVariants.{Less, Equal, Greater}
@@ -10,8 +10,8 @@ use Rattle.std.specs.Ordering.{int_cmp, is_eq, is_ne, ordering_then}
 use Rattle.std.specs.Cmp.{signed_Decides}
 use Rattle.std.specs.Cmp.Lexicographic.{slice_cmp}
 use Rattle.blaze_table.specs.Canonical.{IsCanonical}
-use Rattle.blaze_table.specs.Entries.{Entry, entry}
-use Rattle.blaze_table.specs.Pairs.{pairs_from, pair_list}
+use Rattle.blaze_table.specs.Entries.{Entry}
+use Rattle.blaze_table.specs.Pairs.{pairs_from}
 use Rattle.std.specs.Int.{int_min}
 use Rattle.blaze_table.specs.Splice.{after}
 use Rattle.blaze_table.proofs.PairLists.{nat_of-pos, nat_of-next, pairs_append}

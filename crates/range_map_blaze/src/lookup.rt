@@ -1,10 +1,10 @@
 //! Look-ups by key.
-ghost use Rattle.std.specs.Prelude.{◌≡◌, ◌↔◌, ◌<ℤ◌, ℤ, Option, Some, None, MatchOption, IfSome};
+ghost use Rattle.std.specs.Prelude.{◌≡◌, ◌↔◌, Option, Some, None, MatchOption, IfSome};
 ghost use Rattle.std.specs.Prelude.{IsSome, IsTrue, option_map, []};
 ghost use Rattle.std.specs.Option.{option_copied};
 ghost use Rattle.std.specs.Range.{range_inclusive_start, range_inclusive_end};
 ghost use Rattle.blaze_streams.specs.Ranges.{shown_range};
-ghost use Rattle.blaze_table.specs.Entries.{Entry, entry, at, entry_at};
+ghost use Rattle.blaze_table.specs.Entries.{entry, at, entry_at};
 ghost use Rattle.blaze_table.specs.Gap.{IsGap};
 ghost use Rattle.blaze_table.specs.Whole.{IsWhole};
 ghost use Rattle.range_map_blaze.specs.Pairs.{IsFirstPair, IsLastPair};

@@ -1,6 +1,6 @@
 //! The map.
 ghost use Rattle.std.specs.Prelude.{◌≡◌, ◌↔◌, ℤ, ◌≤ℤ◌, pos, [], length, IsTrue, IsSome, IfOk};
-ghost use Rattle.blaze_table.specs.Entries.{Entry, at, SameEntries};
+ghost use Rattle.blaze_table.specs.Entries.{at, SameEntries};
 ghost use Rattle.blaze_table.specs.Canonical.{IsRangeMap};
 ghost use Rattle.blaze_table.specs.Count.{keys_in, mapped_keys};
 ghost use Rattle.blaze_table.specs.Laws.{IsShortest};

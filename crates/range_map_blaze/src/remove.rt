@@ -1,6 +1,6 @@
 //! Keys taken out.
 ghost use Rattle.std.specs.Prelude.{◌≡◌, ℤ, [], None, Ok, MatchOption, IfOk, OnOk, OnErr};
-ghost use Rattle.blaze_table.specs.Entries.{Entry, at, SameOption};
+ghost use Rattle.blaze_table.specs.Entries.{at, SameOption};
 ghost use Rattle.blaze_table.specs.Counted.{uncounted};
 ghost use Rattle.blaze_table.specs.Work.{IsCountedCut};
 ghost use Rattle.blaze_table.specs.Cut.{IsCut, IsSplit, IsAmongOthers};

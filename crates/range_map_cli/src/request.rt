@@ -4,7 +4,7 @@ ghost use Rattle.std.specs.Str.Parse.{digits_value};
 ghost use Rattle.std.specs.List.{list_all};
 ghost use Rattle.std.specs.Char.{is_ascii_alphanumeric};
 ghost use Rattle.range_map_cli.specs.Commands.{asked, command_of, command_of_words, number_of};
-ghost use Rattle.range_map_cli.specs.Commands.{is_word, is_digits, words_of};
+ghost use Rattle.range_map_cli.specs.Commands.{is_word, is_digits};
 
 use crate::split::split_once;
 

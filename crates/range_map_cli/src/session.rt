@@ -1,6 +1,6 @@
 //! The steps of a session.
 ghost use Rattle.std.specs.Prelude.{◌≡◌, ◌≢◌, ◌⊎◌, ◌+◌, ◌-◌, ◌^◌, ◌++◌, ◌∷◌, [], min, ℕ, ℤ, List};
-ghost use Rattle.std.specs.Prelude.{Option, Some, None, take, IfOk, OnOk, IfErr, IsErrOf};
+ghost use Rattle.std.specs.Prelude.{Option, Some, None, OnOk, IfErr, IsErrOf};
 ghost use Rattle.std.specs.Prelude.{string_bytes};
 ghost use Rattle.std.specs.Io.KnownBytes.{Appends};
 ghost use Rattle.range_map_cli.specs.Commands.{Blank, Command, command_of};

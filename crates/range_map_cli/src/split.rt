@@ -1,5 +1,5 @@
 //! A text cut at a byte.
-ghost use Rattle.std.specs.Prelude.{◌≡◌, ◌==◌, ◌++◌, ◌∷◌, false, MatchOption};
+ghost use Rattle.std.specs.Prelude.{◌≡◌, ◌++◌, ◌∷◌, MatchOption};
 ghost use Rattle.range_map_cli.specs.Lines.{Lacks};
 
 use memchr::memchr;

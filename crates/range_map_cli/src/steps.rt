@@ -1,7 +1,6 @@
 //! Lists of steps.
 ghost use Rattle.std.specs.Prelude.{◌≡◌, ◌≤◌, ◌-◌, ◌*◌, ◌==◌, not, [], length, All, IfOk, IfErr};
 ghost use Rattle.std.specs.Prelude.{OnOk, OnErr};
-ghost use Rattle.blaze_table.specs.Canonical.{IsRangeMap};
 ghost use Rattle.blaze_table.specs.Count.{mapped_keys};
 ghost use Rattle.blaze_table.specs.Entries.{entry, at};
 ghost use Rattle.blaze_table.specs.Laws.{IsShortest};

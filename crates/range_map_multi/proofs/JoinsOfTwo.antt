@@ -1,5 +1,5 @@
 -- The joins of many maps, where there are two.
-use Rattle.std.proofs.Common.{◌≡◌, ℤ, ◌≤ℤ◌, Bool, List, [], ◌∷◌, map, Option, Some, None, option_map, is_some, refl, ◌∙◌, sym, ap, subst}
+use Rattle.std.proofs.Common.{◌≡◌, ℤ, Bool, List, [], ◌∷◌, map, Option, Some, None, option_map, is_some, refl, ◌∙◌, sym, ap, subst}
 use Rattle.std.specs.Fn.{Mut}
 use Rattle.std.specs.List.{list_all, list_any}
 use Rattle.std.specs.Cmp.{IsEquivalence}

@@ -1,13 +1,13 @@
 -- The operations between many maps, where there are two.
 use Rattle.std.specs.Option.{option_xor}
-use Rattle.std.proofs.Common.{◌≡◌, ℤ, Bool, List, [], ◌∷◌, Option, Some, None, refl, ◌∙◌, sym, subst}
+use Rattle.std.proofs.Common.{◌≡◌, ℤ, Bool, List, [], ◌∷◌, Option, Some, None, refl, ◌∙◌, subst}
 use Rattle.std.specs.Cmp.{IsEquivalence}
 use Rattle.blaze_table.specs.Entries.{Entry, at, SameOption, SameEntries}
 use Rattle.blaze_table.specs.Canonical.{IsRangeMap}
-use Rattle.blaze_table.specs.Chosen.{right_first, left_with_right, IsChosen}
+use Rattle.blaze_table.specs.Chosen.{left_with_right}
 use Rattle.blaze_table.proofs.Runs.{canonical}
 use Rattle.blaze_table.proofs.Unique.{same_trans, unique}
-use Rattle.range_map_multi.specs.Many.{last_value, last_of_all, last_of_odd, IsChosenOfMany}
+use Rattle.range_map_multi.specs.Many.{last_of_all, last_of_odd}
 use Rattle.range_map_multi.specs.ManyLaws.{UnionOfTwoIsOr, IntersectionOfTwoIsAnd, SymmetricDifferenceOfTwoIsXor}
 
 module _ {V : Type 0} where

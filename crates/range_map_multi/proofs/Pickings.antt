@@ -1,8 +1,8 @@
 -- The rows of what is picked from lists.
-use Rattle.std.proofs.Common.{◌≡◌, ℕ, suc, ◌+◌, ◌<◌, ◌≤◌, ℤ, Bool, true, false, nat_eq, ◌&&◌, List, [], ◌∷◌, ◌++◌, length, map, drop, get_or, Option, Some, None, is_some, refl, ◌∙◌, sym, ap, option_map, drop-cons, add-one, arith}
+use Rattle.std.proofs.Common.{◌≡◌, ℕ, suc, ◌+◌, ◌<◌, ◌≤◌, ℤ, Bool, true, false, nat_eq, List, [], ◌∷◌, ◌++◌, length, map, drop, get_or, Option, Some, None, is_some, refl, ◌∙◌, sym, ap, option_map, drop-cons, add-one, arith}
 use Rattle.std.specs.List.{slice_get, list_all, list_any}
 use Rattle.std.specs.Option.{option_and_then}
-use Rattle.std.proofs.lemmas.List.{length-map, nil_from_length}
+use Rattle.std.proofs.lemmas.List.{nil_from_length}
 use Rattle.std.proofs.lemmas.Option.{slice_get-map}
 use Rattle.blaze_table.specs.Entries.{Entry}
 use Rattle.blaze_streams.specs.Carried.{shown_option}

@@ -18,7 +18,6 @@ use Rattle.blaze_streams.proofs.Lesser.{lesser_one}
 use Rattle.blaze_streams.proofs.Rows.{steady_none, none_left, all_canonical_after}
 use Rattle.blaze_streams.proofs.Steady.{same_some, stops_steady}
 use Rattle.range_map_multi.specs.ManyJoins.{asked_row, IsJoinOfMany}
-use Rattle.range_map_multi.specs.Parts.{AllRangeMaps}
 
 by_option : {A P : Type 0} (o : Option A) → (o ≡ None → P) → ((x : A) → o ≡ Some x → P) → P
 by_option None f g = f refl

@@ -1,6 +1,6 @@
 //! Operations between many maps that are lent, as they are or by references. The maps show that the keys outlive the loan,
 //! which code that is generic over keys has to know where it calls a function of streams.
-ghost use Rattle.std.specs.Prelude.{◌≡◌, ◌<◌, List, length, map, refl, IfOk};
+ghost use Rattle.std.specs.Prelude.{◌≡◌, ◌<◌, List, length, map, IfOk};
 ghost use Rattle.blaze_table.specs.Entries.{Entry};
 ghost use Rattle.blaze_table.specs.Painted.{ClonesAreAlike};
 ghost use Rattle.range_map_multi.specs.Many.{last_value, last_of_all, last_of_odd, IsChosenOfMany};

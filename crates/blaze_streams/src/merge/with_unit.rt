@@ -1,5 +1,5 @@
 //! A stream of ranges as a stream of ranges with values.
-ghost use Rattle.std.specs.Prelude.{◌≡◌, length, refl};
+ghost use Rattle.std.specs.Prelude.{◌≡◌, refl};
 ghost use Rattle.std.specs.Iterator.{YieldsFirstBy, item_count};
 ghost use Rattle.blaze_streams.specs.Ranges.{shown_range};
 

@@ -1,6 +1,5 @@
 //! The segments of two streams.
 ghost use Rattle.std.specs.Prelude.{◌≡◌, ◌++◌, Some, IfOk, OnOk};
-ghost use Rattle.std.specs.Option.{option_map};
 ghost use Rattle.blaze_table.specs.Canonical.{IsCanonical};
 ghost use Rattle.blaze_streams.specs.Carried.{shown_option, shown_pair};
 ghost use Rattle.blaze_streams.specs.Cursors.{first_key, lesser};

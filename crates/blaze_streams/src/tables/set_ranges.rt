@@ -1,5 +1,5 @@
 //! A set's ranges as streams.
-ghost use Rattle.std.specs.Prelude.{◌≡◌, length, refl};
+ghost use Rattle.std.specs.Prelude.{length, refl};
 
 use crate::sorted_disjoint::SortedDisjoint;
 use blaze_int::Integer;

@@ -1,6 +1,4 @@
 //! Hashes of maps.
-ghost use Rattle.std.specs.Prelude.{◌≡◌};
-ghost use Rattle.std.specs.List.{fold};
 ghost use Rattle.range_map_blaze.specs.Hashed.{entries_input, equal_entries_input};
 
 use crate::map::RangeMapBlaze;

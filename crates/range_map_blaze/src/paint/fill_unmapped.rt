@@ -1,7 +1,7 @@
 //! A value on those keys of a range that have none, by look-ups within the range.
 ghost use Rattle.std.specs.Prelude.{◌≡◌, ◌⊎◌, ◌≤ℤ◌, ◌+ℤ◌, pos, None, IsSome, MatchOption, OnOk};
 ghost use Rattle.std.specs.Prelude.{OnErr};
-ghost use Rattle.blaze_table.specs.Entries.{Entry, entry, at};
+ghost use Rattle.blaze_table.specs.Entries.{entry, at};
 ghost use Rattle.blaze_table.specs.Gap.{IsClearFrom};
 ghost use Rattle.blaze_table.specs.Painted.{ClonesAreAlike};
 ghost use Rattle.range_map_blaze.specs.Filled.{IsFilled, IsPartlyFilled, IsFirstGap, IsHeldFrom};

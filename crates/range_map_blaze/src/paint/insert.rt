@@ -1,7 +1,7 @@
 //! Values put on keys and ranges.
-ghost use Rattle.std.specs.Prelude.{◌≡◌, ◌↔◌, ◌≤ℤ◌, ◌<ℤ◌, false, Ok, IfOk, OnOk, OnErr, IsTrue};
+ghost use Rattle.std.specs.Prelude.{◌≡◌, ◌↔◌, ◌<ℤ◌, false, Ok, IfOk, OnOk, OnErr, IsTrue};
 ghost use Rattle.blaze_int.specs.Bounds.{start_rank, end_rank};
-ghost use Rattle.blaze_table.specs.Entries.{Entry, entry, at, SameOption};
+ghost use Rattle.blaze_table.specs.Entries.{entry, at, SameOption};
 ghost use Rattle.blaze_table.specs.Count.{keys_in};
 ghost use Rattle.blaze_table.specs.Work.{IsCountedPaint};
 ghost use Rattle.blaze_table.specs.Painted.{IsPainted, IsInside, ClonesAreAlike};

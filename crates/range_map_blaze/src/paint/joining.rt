@@ -1,6 +1,6 @@
 //! Successive pairs joined to one before they are painted.
-ghost use Rattle.std.specs.Prelude.{◌≡◌, ◌<ℤ◌, ◌≤ℤ◌, ◌+ℤ◌, pos, int_le, [], ◌∷◌, ◌++◌, List, None};
-ghost use Rattle.std.specs.Prelude.{IfSome, IfOk, OnOk, OnErr, option_map};
+ghost use Rattle.std.specs.Prelude.{◌≡◌, ◌<ℤ◌, ◌+ℤ◌, pos, int_le, [], ◌∷◌, ◌++◌, List, None};
+ghost use Rattle.std.specs.Prelude.{IfOk, OnOk, OnErr, option_map};
 ghost use Rattle.std.specs.Option.{option_to_list};
 ghost use Rattle.blaze_table.specs.Entries.{Entry};
 ghost use Rattle.blaze_table.specs.Painted.{ClonesAreAlike};

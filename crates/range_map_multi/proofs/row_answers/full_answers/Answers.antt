@@ -1,10 +1,10 @@
-use Rattle.std.proofs.Common.{◌≡◌, ◌≤◌, ◌∙◌, length, map, true, refl, sym, ap, subst, arith}
+use Rattle.std.proofs.Common.{◌∙◌, length, map, ap, arith}
 use Rattle.std.specs.Option.{is_some}
 use Rattle.std.specs.List.{list_any}
 use Rattle.std.proofs.lemmas.List.{length-map}
 use Rattle.blaze_streams.specs.Segments.{entry_of}
-use Rattle.range_map_multi.specs.ManyJoins.{shown_row, IsManyJoined}
-use Rattle.range_map_multi.specs.Parts.{all_valued, picked}
+use Rattle.range_map_multi.specs.ManyJoins.{shown_row}
+use Rattle.range_map_multi.specs.Parts.{picked}
 use Rattle.range_map_multi.proofs.AnsweredRows.{asked_none, asked_all, asked_count, asked_some, asked_less, asked_takes, asked_more}
 use Rattle.range_map_multi.proofs.Pickings.{picked_shown}
 use Rattle.range_map_multi.proofs.row_answers.full_answers.Goals as goal

@@ -5,7 +5,7 @@ use Rattle.std.proofs.lemmas.Int.{ints}
 use Rattle.blaze_table.specs.Entries.{entry}
 use Rattle.blaze_table.specs.Splice.{glue}
 use Rattle.blaze_streams.specs.RangeLists.{shown_ranges}
-use Rattle.range_map_multi.specs.ManyJoins.{shown_full_row, IsManyJoined}
+use Rattle.range_map_multi.specs.ManyJoins.{shown_full_row}
 use Rattle.range_map_multi.proofs.AnsweredRows.{none_takes, none_joined}
 use Rattle.range_map_multi.proofs.row_answers.inner_answers_of_none.Goals as goal
 

@@ -1,4 +1,4 @@
-use Rattle.std.proofs.Common.{◌≡◌, ◌∙◌, ◌++◌, ap, sym}
+use Rattle.std.proofs.Common.{◌≡◌, ◌∙◌, ap, sym}
 use Rattle.std.specs.List.{flat_map, fold}
 use Rattle.range_map_blaze.specs.Hashed.{entry_input}
 use Rattle.range_map_blaze.proofs.Hashes.{fed_entry}

@@ -1,6 +1,6 @@
 //! `c = union a b ..` and kin: operations between any number of lent maps.
+use crate::calls::joins::{answer, unless_refused};
 use crate::fault::Fault;
-use crate::joins::{answer, unless_refused};
 use crate::keys::ScriptKey;
 use crate::state::{Map, MapName, State};
 use range_map_blaze::SweepEvent;

@@ -1,23 +1,37 @@
 //! The call of a line.
-use crate::changes::Change;
-use crate::comparisons::Comparison;
-use crate::extends::Extend;
+use crate::calls::changes::Change;
+use crate::calls::comparisons::Comparison;
+use crate::calls::extends::Extend;
+use crate::calls::from_pairs::FromPairs;
+use crate::calls::iterate::Iterate;
+use crate::calls::joins::Join;
+use crate::calls::look_ups::LookUp;
+use crate::calls::makes::Make;
+use crate::calls::many::{Many, Sweep};
+use crate::calls::operators::{Complement, Operation};
+use crate::calls::other_maps::OtherMap;
+use crate::calls::runs::Run;
+use crate::calls::sets::{SetLookUp, ranges};
 use crate::fault::Fault;
-use crate::from_pairs::FromPairs;
-use crate::iterate::Iterate;
-use crate::joins::Join;
 use crate::keys::ScriptKey;
-use crate::look_ups::LookUp;
-use crate::makes::Make;
-use crate::many::{Many, Sweep};
-use crate::operators::{Complement, Operation};
-use crate::other_maps::OtherMap;
-use crate::runs::Run;
-use crate::sets::{SetLookUp, ranges};
 use crate::state::{MapName, SetName, State};
 use range_map_blaze::RangeSetBlaze;
 use std::alloc::Global;
 use std::ops::RangeInclusive;
+
+pub mod changes;
+pub mod comparisons;
+pub mod extends;
+pub mod from_pairs;
+pub mod iterate;
+pub mod joins;
+pub mod look_ups;
+pub mod makes;
+pub mod many;
+pub mod operators;
+pub mod other_maps;
+pub mod runs;
+pub mod sets;
 
 /// What was read, or `None` where it was bad.
 fn unless_bad<X>(read: Result<X, Fault>) -> Result<Option<X>, Fault> {

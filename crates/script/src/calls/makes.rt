@@ -1,6 +1,6 @@
 //! `c = clone a` and kin: a map made of one map or of a value.
+use crate::calls::joins::first_characters;
 use crate::fault::Fault;
-use crate::joins::first_characters;
 use crate::keys::ScriptKey;
 use crate::state::{Map, MapName, State};
 use crate::words::{key, value};

@@ -1,5 +1,5 @@
 //! `c = from_points K V ..` and kin: maps made of pairs.
-use crate::extends::{points, ranges};
+use crate::calls::extends::{points, ranges};
 use crate::fault::Fault;
 use crate::keys::ScriptKey;
 use crate::state::Map;
