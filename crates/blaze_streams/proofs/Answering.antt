@@ -20,7 +20,6 @@ use Rattle.blaze_streams.proofs.ChosenSoFar.{same_or_left}
 use Rattle.blaze_streams.proofs.Steady.{same_some}
 
 at_push : {V : Type 0} (P : List (Entry V)) (p : Entry V) (k : ℤ) → at (P ++ p ∷ []) k ≡ option_or (at P k) (at (p ∷ []) k)
-unfolding option_or
 at_push [] p k = refl
 at_push (e ∷ es) p k = either (holds e k) e.value (at (es ++ p ∷ []) k) (at es k) (at (p ∷ []) k) (at_push es p k)
   where

@@ -19,16 +19,13 @@ use Rattle.blaze_streams.proofs.Steady.{same_some, from_first, at_below_from, at
 use Rattle.blaze_streams.proofs.Lesser.{at_most_both, at_most_itself, lesser_one, some_lesser}
 
 or_assoc : {V : Type 0} (x y z : Option V) → option_or (option_or x y) z ≡ option_or x (option_or y z)
-unfolding option_or
 or_assoc None y z = refl
 or_assoc (Some v) y z = refl
 
 none_or : {V : Type 0} (x : Option V) → option_or None x ≡ x
-unfolding option_or
 none_or x = refl
 
 or_none : {V : Type 0} (x : Option V) → option_or x None ≡ x
-unfolding option_or
 or_none None = refl
 or_none (Some v) = refl
 
@@ -56,14 +53,12 @@ module _ {A B : Type 0} where
 
 module _ {V : Type 0} (eq : V → V → Bool) (laws : IsEquivalence eq) where
   pub same_or_left : (a b z : Option V) → SameOption eq a b → SameOption eq (option_or a z) (option_or b z)
-  unfolding option_or
   same_or_left None None z s = same_itself eq laws z
   same_or_left None (Some y) z s = absurd s
   same_or_left (Some x) None z s = absurd s
   same_or_left (Some x) (Some y) z s = s
 
   same_or_right : (a x y : Option V) → SameOption eq x y → SameOption eq (option_or a x) (option_or a y)
-  unfolding option_or
   same_or_right None x y s = s
   same_or_right (Some v) x y s = laws.refl v
 

@@ -140,7 +140,6 @@ module _ {V : Type 0} (eq : V → V → Bool) (laws : IsEquivalence eq) (k : ℤ
   int_eq_no a b h = grind (arith, ints)
 
   two : (j : ℤ) → option_or (at (before k es) j) (at (after k es) j) ≡ cut_at k (at es) j
-  unfolding option_or
   two j = by_lt_z j k
       (λ u. rw (at-before_under eq k j es c u, int_eq_no j k (λ e. omega (arith, ints))) (or_last (at es j) (at (after k es) j) (at_before eq (after k es) k j (canonical_after eq k es c) (above_after k es) (omega (arith, ints)))))
       (λ u. rw (at-before_over eq k j es u) (by_lt_z k j
@@ -159,7 +158,6 @@ module _ {V : Type 0} (eq : V → V → Bool) (laws : IsEquivalence eq) (k : ℤ
       here o false p = cc
 
   same_or : (a x y : Option V) → SameOption eq x y → SameOption eq (option_or a x) (option_or a y)
-  unfolding option_or
   same_or None x y s = s
   same_or (Some v) x y s = laws.refl v
 

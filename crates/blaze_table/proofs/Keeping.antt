@@ -27,7 +27,6 @@ pub keys_added : {V : Type 0} (eq : V → V → Bool) (k : ℤ) (v : V) (old new
 keys_added eq k v old new a = ap keys_in a.glued ∙ omega (arith, ints, keys_glue eq old (entry k k a.value ∷ []))
 
 value_at-push : {T V : Type 0} (rank : T → ℤ) (ps : List (T × V)) (p : T × V) (k : ℤ) → value_at rank (ps ++ p ∷ []) k ≡ option_or (value_at rank ps k) (cond (int_eq k (rank p.0)) (Some p.1) None)
-unfolding option_or
 value_at-push rank [] p k = refl
 value_at-push rank (q ∷ ps) p k = first (int_eq k (rank q.0)) (value_at-push rank ps p k)
   where
@@ -76,7 +75,6 @@ module _ {F T V : Type 0} (R : F → T × V → Bool → F → Type 0) (f : F) (
 
   module _ (laws : IsEquivalence eq) where
     same_or : (a b c d : Option V) → SameOption eq a b → SameOption eq c d → SameOption eq (option_or a c) (option_or b d)
-    unfolding option_or
     same_or None None c d s t = t
     same_or None (Some y) c d s t = absurd s
     same_or (Some x) None c d s t = absurd s

@@ -60,7 +60,6 @@ module _ {V : Type 0} (eq : V → V → Bool) (laws : IsEquivalence eq) where
       same_cond false false p x y h = h
 
   same_or_right : (a x y : Option V) → SameOption eq x y → SameOption eq (option_or a x) (option_or a y)
-  unfolding option_or
   same_or_right None x y s = s
   same_or_right (Some v) x y s = laws.refl v
 

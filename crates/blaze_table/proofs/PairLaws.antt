@@ -42,7 +42,6 @@ module _ {K V : Type 0} (rank : K → ℤ) (of_rank : ℤ → K) where
 
   -- what a list of pairs has at a key, by its parts
   value_at-append : (ps qs : List (K × V)) (k : ℤ) → value_at rank (ps ++ qs) k ≡ option_or (value_at rank ps k) (value_at rank qs k)
-  unfolding option_or
   value_at-append [] qs k = refl
   value_at-append (p ∷ ps) qs k = first (int_eq k (rank p.0)) (value_at-append ps qs k)
     where
@@ -103,7 +102,6 @@ module _ {K V : Type 0} (rank : K → ℤ) (of_rank : ℤ → K) where
         further c d (p ∷ ps) l h = omega (arith, ints, h)
 
     same_list : (es : List (Entry V)) (k : ℤ) → IsCanonical eq es → AreKeys low high es → value_at rank (pair_list of_rank es) k ≡ at es k
-    unfolding option_or
     same_list [] k c h = refl
     same_list (e ∷ es) k c h =
         let r = among e c.0 h.0 h.1 in

@@ -201,12 +201,10 @@ module _ {V : Type 0} (eq : V → V → Bool) where
     canonical_glue b (e ∷ f ∷ L) M c d l m = (c.0, apart_glue e f L M c.1, canonical_glue b (f ∷ L) M c.2 d l.1 m)
 
     same_or : (b : Bool) (v : V) (x y z : Option V) → SameOption eq x (option_or y z) → SameOption eq (cond b (Some v) x) (option_or (cond b (Some v) y) z)
-    unfolding option_or
     same_or true v x y z h = laws.refl v
     same_or false v x y z h = h
 
     or_none : (a : Option V) → SameOption eq a (option_or a None)
-    unfolding option_or
     or_none None = tt
     or_none (Some x) = laws.refl x
 
@@ -221,7 +219,6 @@ module _ {V : Type 0} (eq : V → V → Bool) where
         (λ u. same_along eq (sym (at_in j fs k (omega (arith, ints)) u)) (sym (at_over e (f ∷ fs) k h ∙ at_in f fs k (omega (arith, ints)) u)) v))
 
     pub at_glue : (L M : List (Entry V)) (k : ℤ) → IsCanonical eq L → IsCanonical eq M → SameOption eq (at (glue eq L M) k) (option_or (at L k) (at M k))
-    unfolding option_or
     at_glue [] M k c d = same_itself eq laws (at M k)
     at_glue (e ∷ []) [] k c d = or_none (at (e ∷ []) k)
     at_glue (e ∷ []) (f ∷ fs) k c d =
@@ -248,14 +245,12 @@ module _ {V : Type 0} (eq : V → V → Bool) where
       at_left k = at_glue (before l es) (entry l h v ∷ []) k (canonical_before l es c) (w, tt, tt)
 
       pub same_in_or : (a b z : Option V) → SameOption eq a b → SameOption eq (option_or a z) (option_or b z)
-      unfolding option_or
       same_in_or None None z s = same_itself eq laws z
       same_in_or None (Some y) z s = absurd s
       same_in_or (Some x) None z s = absurd s
       same_in_or (Some x) (Some y) z s = s
 
       pub three : (k : ℤ) → option_or (option_or (at (before l es) k) (at (entry l h v ∷ []) k)) (at (after h es) k) ≡ painted l h v (at es) k
-      unfolding option_or
       three k = by_place (entry l h v) k
           (λ a b. rw (at-before_over l k es a, holds_in (entry l h v) k a b) refl)
           (λ a. rw (at-before_under l k es c a, holds_under (entry l h v) k a) (or_last (at es k) (at (after h es) k) (at_before eq (after h es) h k (canonical_after h es c) (above_after h es) (omega (arith, ints)))))

@@ -16,12 +16,10 @@ at_past b k [] h l = refl
 at_past b k (e ∷ es) h l = at_over e es k (omega (arith, ints, h.0)) ∙ at_past b k es h.1 l
 
 or_none : {V : Type 0} (a : Option V) → option_or a None ≡ a
-unfolding option_or
 or_none None = refl
 or_none (Some x) = refl
 
 none_or : {V : Type 0} (a : Option V) → option_or None a ≡ a
-unfolding option_or
 none_or a = refl
 
 module _ {V : Type 0} (eq : V → V → Bool) (laws : IsEquivalence eq) (low high : ℤ) (wanted : ℤ → Option V) where
