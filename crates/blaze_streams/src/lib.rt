@@ -64,8 +64,3 @@ pub use stream::{BothEnds, SortedDisjointMap};
 pub use transforms::transform;
 pub use union::{intersection_of, symmetric_difference_of, union_of};
 pub use with_ranges::{intersect_with_ranges, subtract_ranges};
-
-#[cfg(test)]
-mod canonical_of_tests;
-#[cfg(test)]
-mod tests;

@@ -27,6 +27,3 @@ pub use range_set::RangeSetBlaze;
 pub use ranges_iter::RangesIter;
 pub use sweep::canonical_of;
 pub use table::RangeTable;
-
-#[cfg(test)]
-mod tests;

@@ -193,6 +193,3 @@ pub fn run<T: Integer, V: Eq + Clone>(
     }
     Ok(answers)
 }
-
-#[cfg(test)]
-mod tests;
