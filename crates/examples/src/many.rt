@@ -57,7 +57,10 @@ impl Maps {
 fn by_value(rt: &HostRuntime, maps: &Maps) -> Result<(), AllocError> {
     let alloc = rt.alloc();
     let _ = println!(rt; "{}", maps.owned(alloc)?.union(alloc)?);
-    let _ = println!(rt; "{}", maps.owned(alloc)?.intersection(alloc)?);
+    let owned = maps.owned(alloc)?;
+    if !owned.is_empty() {
+        let _ = println!(rt; "{}", owned.intersection(alloc)?);
+    }
     let _ = println!(rt; "{}", maps.owned(alloc)?.symmetric_difference(alloc)?);
     Ok(())
 }
@@ -78,11 +81,10 @@ fn in_an_array(rt: &HostRuntime, maps: &Maps) -> Result<(), AllocError> {
 fn as_streams(rt: &HostRuntime, maps: &Maps) -> Result<(), AllocError> {
     let alloc = rt.alloc();
     show(rt, "union", maps.streams(alloc)?.union(alloc)?);
-    show(
-        rt,
-        "intersection",
-        maps.streams(alloc)?.intersection(alloc)?,
-    );
+    let streams = maps.streams(alloc)?;
+    if !streams.is_empty() {
+        show(rt, "intersection", streams.intersection(alloc)?);
+    }
     show(
         rt,
         "symmetric_difference",
