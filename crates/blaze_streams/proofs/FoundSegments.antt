@@ -14,7 +14,7 @@ use Rattle.blaze_table.proofs.Unique.{same_along}
 use Rattle.blaze_table.proofs.Runs.{one_per_run}
 use Rattle.blaze_table.proofs.Glued.{IsBelow-push}
 use Rattle.blaze_table.proofs.Splices.{below_more}
-use Rattle.blaze_streams.specs.declared.segments.list_segments.Segment.{Segment}
+use Rattle.blaze_streams.specs.declared.segmenting.list_segments.Segment.{Segment}
 use Rattle.blaze_streams.specs.Segments.{row, present, row_eq, entry_of, entries_of, IsSegmentsOf}
 use Rattle.blaze_streams.specs.Cursors.{AllCanonical, first_keys, all_after, IsNextSegment}
 use Rattle.blaze_streams.proofs.Steady.{changes}

@@ -10,7 +10,7 @@ use Rattle.blaze_table.proofs.Lookup.{IsAbove-from_apart, at_in, at_over, at_bef
 use Rattle.blaze_table.proofs.Unique.{same_itself}
 use Rattle.std.proofs.lemmas.Int.{ints, by_lt_z}
 use Rattle.blaze_table.proofs.Runs.{canonical, one_per_run}
-use Rattle.blaze_streams.specs.declared.segments.joins.JoinKind.TheVariants.{Inner, Left, Full}
+use Rattle.blaze_streams.specs.declared.segmenting.joins.JoinKind.TheVariants.{Inner, Left, Full}
 use Rattle.blaze_streams.specs.Answers.{answered}
 use Rattle.blaze_streams.specs.JoinLaws.{as_row, AnswersKeepKeys, LeftJoinHasLeftKeys, FullJoinIsOfListOfTwo, FullJoinIsInner}
 use Rattle.blaze_streams.specs.Joins.{paired, pair_eq}

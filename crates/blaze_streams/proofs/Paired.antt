@@ -13,8 +13,8 @@ use Rattle.blaze_table.proofs.Glued.{IsBelow-push}
 use Rattle.blaze_table.proofs.Lookup.{IsAbove-from_apart, at_in, at_under, at_over, at_before}
 use Rattle.blaze_table.proofs.Runs.{canonical, one_per_run}
 use Rattle.blaze_table.proofs.Splices.{below_more, at-after_over}
-use Rattle.blaze_streams.specs.declared.segments.joins.JoinKind.{JoinKind}
-use Rattle.blaze_streams.specs.declared.segments.joins.JoinKind.TheVariants.{Inner, Left, Full}
+use Rattle.blaze_streams.specs.declared.segmenting.joins.JoinKind.{JoinKind}
+use Rattle.blaze_streams.specs.declared.segmenting.joins.JoinKind.TheVariants.{Inner, Left, Full}
 use Rattle.blaze_streams.specs.Cursors.{first_key, steady_to, lesser}
 use Rattle.blaze_streams.specs.Joins.{is_joined, paired, pair_eq, IsJoinOf, piece_of, IsSegmentPut}
 use Rattle.blaze_streams.specs.JoinAnswers.{AllJoined}

@@ -10,7 +10,7 @@ mod lists;
 mod merge;
 mod multiway;
 mod owned;
-mod segments;
+mod segmenting;
 mod sorted_disjoint;
 mod sorted_disjoint_map;
 mod tables;
@@ -35,11 +35,11 @@ pub use multiway::{
     MultiwaySymmetricDifferenceMap, MultiwayUnionMap,
 };
 pub use owned::Owned;
-pub use segments::join_answers::{
+pub use segmenting::join_answers::{
     answer_both, answer_either, answer_left, full_join_of, inner_join_of, left_join_of,
 };
-pub use segments::joins::{JoinKind, join_of};
-pub use segments::list_segments::{Segment, segments};
+pub use segmenting::joins::{JoinKind, join_of};
+pub use segmenting::list_segments::{Segment, segments};
 pub use sorted_disjoint::SortedDisjoint;
 pub use sorted_disjoint_map::{BothEnds, SortedDisjointMap};
 pub use tables::into_range_values::IntoRangeValuesIter;
@@ -61,6 +61,6 @@ pub use merge::with_unit::WithUnit;
 #[doc(hidden)]
 pub use merge::push::push_joined;
 #[doc(hidden)]
-pub use segments::cursor::Cursor;
+pub use segmenting::cursor::Cursor;
 #[doc(hidden)]
-pub use segments::list_segments::next_segment;
+pub use segmenting::list_segments::next_segment;

@@ -3,7 +3,7 @@ ghost use Rattle.std.specs.Prelude.{◌≡◌, IfOk};
 ghost use Rattle.blaze_streams.specs.Answers.{values, IsCallableAtEach, IsTransformed};
 ghost use Rattle.blaze_streams.specs.JoinAnswers.{either, both, with_left, IsCallableAtSegments};
 ghost use Rattle.blaze_streams.specs.JoinAnswers.{IsJoined};
-ghost use Rattle.blaze_streams.specs.declared.segments.joins.JoinKind.TheVariants.{Inner, Left, Full};
+ghost use Rattle.blaze_streams.specs.declared.segmenting.joins.JoinKind.TheVariants.{Inner, Left, Full};
 
 use crate::map::RangeMapBlaze;
 use blaze_int::Integer;

@@ -9,8 +9,8 @@ use Rattle.blaze_table.specs.Canonical.{AreKeys, IsRangeMap}
 use Rattle.blaze_table.proofs.ListLaws.{canonical_is_unique}
 use Rattle.blaze_table.proofs.Runs.{canonical, one_per_run}
 use Rattle.blaze_table.proofs.Unique.{same_itself}
-use Rattle.blaze_streams.specs.declared.segments.joins.JoinKind.{JoinKind}
-use Rattle.blaze_streams.specs.declared.segments.joins.JoinKind.TheVariants.{Inner, Full}
+use Rattle.blaze_streams.specs.declared.segmenting.joins.JoinKind.{JoinKind}
+use Rattle.blaze_streams.specs.declared.segmenting.joins.JoinKind.TheVariants.{Inner, Full}
 use Rattle.blaze_streams.specs.Answers.{answered}
 use Rattle.blaze_streams.specs.JoinAnswers.{IsJoined}
 use Rattle.blaze_streams.specs.JoinLaws.{as_row}

@@ -12,7 +12,7 @@ use crate::lists::canon_map::CanonMapIter;
 use crate::merge::ahead::Ahead;
 use crate::merge::choice::Choice;
 use crate::merge::piece_list::PieceList;
-use crate::segments::cursor::lesser_of;
+use crate::segmenting::cursor::lesser_of;
 use crate::sorted_disjoint_map::SortedDisjointMap;
 use blaze_int::Integer;
 use std::alloc::{AllocError, Global};
