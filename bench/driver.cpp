@@ -83,6 +83,9 @@ const Work works[] = {
     {"`a ^ b`, equal sizes", 14, 100'000, 1'000, 200 * thousand, "entry", 1.2},
     {"all keys, 100 an entry", 15, 100'000, 100, 1e7, "key", 2.0},
     {"all keys, 1 an entry", 16, 1'000'000, 1'000, 1e6, "key", 1.0},
+    {"a map of unsorted ranges; plain paints them", 17, 1'000'000, 10, 1e6, "range", 0.25},
+    {"the same, painted one by one", 19, 1'000'000, 10, 1e6, "range", 0},
+    {"a map of sorted ranges; plain copies them", 18, 1'000'000, 100, 1e6, "range", 2.0},
 };
 
 // A text for the program on lines.
@@ -283,6 +286,7 @@ void print_growths(const Times& times) {
     print_growth(times, "insert at 10^6 entries, of that at 10^4", 1, 1'000'000, 1, 1, 10'000, 4);
     print_growth(times, "remove at 10^6 entries, of that at 10^4", 2, 1'000'000, 1, 2, 10'000, 4);
     print_growth(times, "`a \\| b`, b of 100, by value at 10^5, of 100 paints", 11, 100'000, 100, 0, 100'000, 1);
+    print_growth(times, "a map of 10^6 unsorted ranges, of painting them", 17, 1'000'000, 1, 19, 1'000'000, 0.25);
     print_growth(times, "`a \\| b`, b of 100, by value at 10^6, of that at 10^5", 11, 1'000'000, 1, 11, 100'000, 4);
 }
 

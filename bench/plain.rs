@@ -182,6 +182,51 @@ fn walk(size: u64, keys: u64, count: u64) -> u64 {
     sum
 }
 
+/// So many ranges of 1 to 16 keys with values, at random places or one above another.
+fn pairs(is_sorted: bool, size: u64) -> Vec<(i64, i64, u64)> {
+    let mut draw = Draw(2);
+    let mut next = 0;
+    (0..size)
+        .map(|_| {
+            let start = if is_sorted { next } else { draw.key(SPACING * size) };
+            let end = start + draw.key(16);
+            next = end + 1;
+            (start, end, draw.below(4))
+        })
+        .collect()
+}
+
+/// Ranges painted one by one, again and again.
+fn paint_all(check: bool, size: u64, count: u64) -> u64 {
+    let pairs = pairs(false, size);
+    let mut sum = 0;
+    for _ in 0..count {
+        let mut map = Map::default();
+        for (start, end, value) in &pairs {
+            map.paint(*start, *end, *value);
+        }
+        sum = checksum(check, sum, &map);
+    }
+    sum
+}
+
+/// Ranges one above another, joined and copied into the tree by std's bulk build, again and again.
+fn copy_sorted(check: bool, size: u64, count: u64) -> u64 {
+    let pairs = pairs(true, size);
+    let mut sum = 0;
+    for _ in 0..count {
+        let mut joined: Vec<(i64, i64, u64)> = Vec::new();
+        for (start, end, value) in &pairs {
+            match joined.last_mut() {
+                Some(last) if last.1 + 1 == *start && last.2 == *value => last.1 = *end,
+                _ => joined.push((*start, *end, *value)),
+            }
+        }
+        sum = checksum(check, sum, &Map::from_ascending(joined.len(), joined.into_iter()));
+    }
+    sum
+}
+
 /// Does a work and answers a checksum, which is not 0; 0 where there is no such work.
 #[unsafe(no_mangle)]
 pub extern "C" fn plain_run(work: u32, size: u64, count: u64) -> u64 {
@@ -204,6 +249,8 @@ pub extern "C" fn plain_run(work: u32, size: u64, count: u64) -> u64 {
         14 => combine(check, size, size, count, Map::symmetric_difference),
         15 => walk(size, 100, count),
         16 => walk(size, 1, count),
+        17 | 19 => paint_all(check, size, count),
+        18 => copy_sorted(check, size, count),
         _ => return 0,
     };
     sum | 1

@@ -1,10 +1,12 @@
 #!/usr/bin/env bash
 # Each request for memory of each call in tests/refusals.txt refused in turn, and at last none. A refused call must leave the
 # maps and sets as they were, but for what it was given by value, which is gone; a call that paints pairs may leave a first
-# part of them painted; an iterator by value must end. Without a refusal the call must succeed. One request of a call may be
-# such that the call does without it, with the answer and the state that it has without a refusal: seen of
-# calls that build a tree in one go. Which request of the toolchain's that is was not traced, so any call may have one. A call that is to take memory must make a request
-# that it can't do without, one that is to take none must make none. The last line is 'N passed, M failed'.
+# part of them painted; an iterator by value must end. Without a refusal the call must succeed. A call that is to take memory
+# must make a request that it can't do without, one that is to take none must make none.
+#
+# A call that collects pairs, to build a tree in one go or a list, may do without one of its requests: std's `collect` and
+# `extend` ask for the room that the iterator's hint names, and where that is refused for the room of one item. The answer and
+# the state are then those of the call without a refusal. The last line is 'N passed, M failed'.
 #
 # Calls without a line in a script are not swept by themselves. `symmetric_difference_of`, `intersect_with_ranges`,
 # `subtract_ranges`, `complement` and `from_sorted_disjoint_map` run inside the operators `^`, `&`, `-` and `!`, and are
@@ -103,6 +105,8 @@ sweep() {
         none) judge 0 "$requests" "$what: requests" ;;
     esac
     refused=(refused)
+    # (a list of one step tells that it was the first that was refused)
+    if [[ "$call" = "a run "* ]]; then refused+=("refused at 0"); fi
     kept=()
     case "$takes" in
         items)
@@ -128,7 +132,7 @@ sweep() {
         if [ "$status" != 0 ]; then got="status $status"; fi
         if ! is_among "$left" "${kept[@]}"; then got="refused, changed"; fi
         if ! is_among "$answer" "${refused[@]}"; then got="$answer"; fi
-        if [ "$answer" = "$done_answer" ] && [ "$left" = "$done_left" ] && ((spared == 0)); then
+        if ((collects && spared == 0)) && [ "$answer" = "$done_answer" ] && [ "$left" = "$done_left" ]; then
             spared=1
             got="refused, kept"
         fi
@@ -172,7 +176,11 @@ sweep_group() {
         done
         for call in "${calls[@]}"; do
             if [[ "$call" != *"$only"* ]]; then continue; fi
+            collects=0
+            if [[ "$call" = '? '* ]]; then collects=1; fi
+            call="${call:2}"
             call="${call//' {ranges}'/"$entry_ranges"}"
+            call="${call//' {entries}'/"$entries"}"
             sweep
         done
     done
@@ -184,7 +192,7 @@ while IFS= read -r line; do
     case "$line" in
         '#'*) ;;
         '') sweep_group && takes='' calls=() ;;
-        '! '*) calls+=("${line#! }") ;;
+        '! '* | '? '*) calls+=("$line") ;;
         '~ '*) gone+=("${line#\~ }") ;;
         *)
             if [ -n "$takes" ]; then

@@ -3,10 +3,12 @@
 
 mod changes;
 mod draw;
+mod makes;
 mod prepared;
 mod whole;
 
 use crate::changes::{Change, change_maps, clumps, get, pop_first};
+use crate::makes::{Making, make};
 use crate::whole::{Combination, append, combine, split_off, union_by_value, walk};
 use std::alloc::{AllocError, Global};
 
@@ -51,6 +53,9 @@ fn run(alloc: Global, work: u32, size: u64, count: u64) -> Result<Option<u64>, A
         )?,
         15 => walk(alloc, size, 100, count)?,
         16 => walk(alloc, size, 1, count)?,
+        17 => make(alloc, check, Making::Unsorted, size, count)?,
+        18 => make(alloc, check, Making::Sorted, size, count)?,
+        19 => make(alloc, check, Making::OneByOne, size, count)?,
         _ => return Ok(None),
     };
     Ok(Some(sum))

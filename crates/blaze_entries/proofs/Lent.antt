@@ -87,6 +87,33 @@ pub each_held : {V : Type 0} (P : Entry V → Type 0) (o : Option (Entry V)) (m 
 each_held P None m q f = tt
 each_held P (Some e) m q f = f e q
 
+-- what is said of a node's value, and of the value at its start
+pub each_taken : {T V : Type 0} (rank : T → ℤ) (k : T) (P : V → Type 0) (r : Option (EndValue T V)) (o : Option (Entry V)) → option_map (place_at rank k) r ≡ o → IfSome o (λ e. P e.value) ↔ IfSome r (λ n. P n.value)
+each_taken {T} {V} rank k P r o q = by_cases r o q
+  where
+    by_cases : (r : Option (EndValue T V)) (o : Option (Entry V)) → option_map (place_at rank k) r ≡ o → IfSome o (λ e. P e.value) ↔ IfSome r (λ n. P n.value)
+    by_cases None None q = ((λ i. tt), (λ i. tt))
+    by_cases None (Some e) q = cc
+    by_cases (Some n) None q = cc
+    by_cases (Some n) (Some e) q =
+        let same : place_at rank k n ≡ e = cc in
+        ((λ i. subst (λ (x : Entry V). P x.value) (sym same) i), (λ i. subst (λ (x : Entry V). P x.value) same i))
+
+-- the same of a full place
+pub each_full : {V : Type 0} (P : V → Type 0) (o : Option (Entry V)) (m : Option (Entry (Option V))) → m ≡ option_map held o → IfSome m (λ e. IfSome e.value P) → IfSome o (λ e. P e.value)
+each_full {V} P o m q i = by_cases o (subst (λ x. IfSome x (λ e. IfSome e.value P)) q i)
+  where
+    by_cases : (o : Option (Entry V)) → IfSome (option_map held o) (λ e. IfSome e.value P) → IfSome o (λ e. P e.value)
+    by_cases None i = tt
+    by_cases (Some e) i = i
+
+pub all_full : {V : Type 0} (o : Option (Entry V)) (m : Option (Entry (Option V))) → m ≡ option_map held o → IfSome m (λ e. IsSome e.value)
+all_full {V} o m q = subst (λ (x : Option (Entry (Option V))). IfSome x (λ e. IsSome e.value)) (sym q) (by_cases o)
+  where
+    by_cases : (o : Option (Entry V)) → IfSome (option_map held o) (λ e. IsSome e.value)
+    by_cases None = tt
+    by_cases (Some e) = refl
+
 -- an entry put in with a clone of the value of one that was found
 pub clone_inserted : {V : Type 0} (is_clone : V → V → Type 0) (k s z : ℤ) (v : V) (m : Option (Entry (Option V))) (old new : List (Entry V))
     → IsSome (start_at k old) → m ≡ option_map held (start_at k old) → ((e : Entry V) → m ≡ Some (held e) → (z ≡ e.hi) × is_clone e.value v)

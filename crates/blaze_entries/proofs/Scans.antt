@@ -8,7 +8,7 @@ use Rattle.blaze_entries.specs.Entries.{Entry}
 use Rattle.blaze_entries.specs.Found.{found_in, found_of}
 use Rattle.blaze_entries.specs.Places.{held, full, places, place_of, AreFull}
 use Rattle.blaze_entries.specs.Overlap.{later, earlier, shared, overlap}
-use Rattle.blaze_entries.specs.Scanned.{Seen, seen, walked, answers, walked_keys}
+use Rattle.blaze_entries.specs.Scanned.{Seen, seen, walked, seen_covered, walked_covered, answers, walked_keys}
 use Rattle.blaze_entries.specs.declared.found.Found.{Found}
 use Rattle.blaze_entries.specs.declared.nodes.EndValue.{EndValue}
 
@@ -75,6 +75,9 @@ module _ {V : Type 0} (l h : ℤ) where
       pub last_walked : (s : Seen) → walked eq v l h s es ≡ seen l h s f
       last_walked s = ap (walked eq v l h s) parts ∙ ap (λ b. cond b (seen l h s (found_in eq v e)) (walked eq v l h (seen l h s (found_in eq v e)) fs)) here ∙ ap (seen l h s) (sym is)
 
+      pub last_covered : (s : Option (ℤ × Bool)) → walked_covered eq v l h s es ≡ seen_covered l h s f
+      last_covered s = ap (walked_covered eq v l h s) parts ∙ ap (λ b. cond b (seen_covered l h s (found_in eq v e)) (walked_covered eq v l h (seen_covered l h s (found_in eq v e)) fs)) here ∙ ap (seen_covered l h s) (sym is)
+
       pub last_answers : answers l es ≡ 1
       last_answers = ap (answers l) parts ∙ ap (λ b. cond b 1 (answers l fs + 1)) here
 
@@ -91,6 +94,10 @@ module _ {V : Type 0} (l h : ℤ) where
       pub next_walked : (s : Seen) → walked eq v l h s es ≡ walked eq v l h (seen l h s f) fs
       next_walked s = ap (walked eq v l h s) parts ∙ ap (λ b. cond b (seen l h s (found_in eq v e)) (walked eq v l h (seen l h s (found_in eq v e)) fs)) here_not
           ∙ ap (λ t. walked eq v l h (seen l h s t) fs) (sym is)
+
+      pub next_covered : (s : Option (ℤ × Bool)) → walked_covered eq v l h s es ≡ walked_covered eq v l h (seen_covered l h s f) fs
+      next_covered s = ap (walked_covered eq v l h s) parts ∙ ap (λ b. cond b (seen_covered l h s (found_in eq v e)) (walked_covered eq v l h (seen_covered l h s (found_in eq v e)) fs)) here_not
+          ∙ ap (λ t. walked_covered eq v l h (seen_covered l h s t) fs) (sym is)
 
       pub next_answers : answers l es ≡ answers l fs + 1
       next_answers = ap (answers l) parts ∙ ap (λ b. cond b 1 (answers l fs + 1)) here_not

@@ -6,7 +6,7 @@ ghost use Rattle.blaze_entries.specs.Answers.{AnswersAt, IsCallableAtEach};
 ghost use Rattle.blaze_entries.specs.Entries.{entry, shown_entry};
 ghost use Rattle.blaze_entries.specs.Counted.{uncounted};
 ghost use Rattle.blaze_entries.specs.Found.{found_in, found_of, range_in, ranks_of};
-ghost use Rattle.blaze_entries.specs.Scanned.{seen_of, unseen, walked, answers, walked_keys};
+ghost use Rattle.blaze_entries.specs.Scanned.{seen_of, unseen, walked, least_by, walked_covered, answers, walked_keys};
 ghost use Rattle.blaze_entries.specs.Starts.{StartsAscend, below, from, last_below, first_from, start_at, with_entry, without, with_end, with_end_value, IsStartMoved, IsFrontReplaced, IsCloneInserted};
 
 use crate::build::tree_of;
@@ -15,7 +15,7 @@ use crate::found::Found;
 use crate::into_iter::IntoIter;
 use crate::nodes::{
     EndValue, insert, move_node, node_at, node_at_or_above, node_at_or_below, node_below, remove,
-    replace, replace_front, set_end, split_off,
+    replace, replace_front, set_end, set_end_cloned, split_off,
 };
 use crate::places::{cloned, found, range_of, value_of};
 use crate::retain::retain;
@@ -357,6 +357,9 @@ impl<T: Integer, V: Eq> Counted<T, V> {
         ensures plan { seen_of T.rank result.0
             ≡ walked V.eq value.now (T.rank lo) (T.rank hi) (unseen (T.rank hi))
             (reverse (below (T.rank hi +ℤ pos 2) self.old.entries)) }
+        ensures covered { least_by T.rank result.0.covered
+            ≡ walked_covered V.eq value.now (T.rank lo) (T.rank hi) None
+            (reverse (below (T.rank hi +ℤ pos 2) self.old.entries)) }
         ensures len { pos (T.SafeLen.number result.1)
             +ℤ walked_keys (T.rank lo) (T.rank hi)
             (reverse (below (T.rank hi +ℤ pos 2) self.old.entries))
@@ -385,28 +388,29 @@ impl<T: Integer, V: Clone> Counted<T, V> {
         let node = cloned(node_at(&self.tree, start))?;
         Ok(node.value)
     }
+
+    /// Moves the end of the entry at a start, and answers a clone of its value. A refused clone leaves the end.
+    pub fn set_end_cloned(&mut self, start: T, end: T) -> Result<V, AllocError>
+        requires { IsSome (start_at (T.rank start) self.old.entries) }
+        ensures value { IfOk result
+            (λ value. IfSome (start_at (T.rank start) self.old.entries)
+            (λ e. V.is_clone e.value value)) }
+        ensures ok { OnOk result (self.new
+            ≡ record self.old {
+              entries = with_end (T.rank start) (T.rank end) self.old.entries;
+              looks = self.old.looks + 1;
+            }) }
+        ensures err { OnErr result (self.new ≡ self.old) }
+    {
+        let value = set_end_cloned(&mut self.tree, start, end)?;
+        self.looks = self.looks.after();
+        Ok(value)
+    }
 }
 
 impl<T: Integer, V: Clone + Drop> Counted<T, V> {
     /// Puts an entry in that starts at `start`, where none is, ends where the entry at `of` ends and has a clone of its
-    /// value.
-    pub fn insert_clone(&mut self, of: T, start: T) -> Result<(), AllocError>
-        requires present { IsSome (start_at (T.rank of) self.old.entries) }
-        requires absent { start_at (T.rank start) self.old.entries ≡ None }
-        ensures ok { OnOk result
-            (IsCloneInserted V.is_clone (T.rank of)
-            (T.rank start) self.old.entries self.new.entries) }
-        ensures counted { OnOk result (self.new
-            ≡ record self.old { entries = self.new.entries; put_in = self.old.put_in + 1 }) }
-        ensures longer { OnOk result (length self.new.entries ≡ length self.old.entries + 1) }
-        ensures err { OnErr result (self.new ≡ self.old) }
-    {
-        self.insert_clone_uncounted(of, start)?;
-        self.put_in = self.put_in.after();
-        Ok(())
-    }
-
-    /// The same as `insert_clone`, and nothing is counted.
+    /// value. Nothing is counted.
     pub(crate) fn insert_clone_uncounted(&mut self, of: T, start: T) -> Result<(), AllocError>
         requires present { IsSome (start_at (T.rank of) self.old.entries) }
         requires absent { start_at (T.rank start) self.old.entries ≡ None }

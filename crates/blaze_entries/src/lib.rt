@@ -14,6 +14,7 @@ mod places;
 mod retain;
 mod scan;
 
+pub use count::Count;
 pub use counted::Counted;
 pub use entries::Entries;
 pub use found::Found;

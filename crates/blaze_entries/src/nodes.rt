@@ -1,11 +1,12 @@
 //! The tree: from each start to its end and value. Searches, and edits of its nodes.
 ghost use Rattle.std.specs.BTreeMap.{is_at, get};
-ghost use Rattle.std.specs.Prelude.{◌≡◌, ℤ, pos, ◌+ℤ◌, None, IsSome, OnOk, OnErr, IfOk};
+ghost use Rattle.std.specs.Prelude.{◌≡◌, ℤ, pos, ◌+ℤ◌, None, IsSome, IfSome, OnOk, OnErr, IfOk};
 ghost use Rattle.std.specs.Option.{option_map, option_copied};
 ghost use Rattle.blaze_entries.specs.Changed.{changed};
 ghost use Rattle.blaze_entries.specs.Places.{place_of, places, place_lent, place_at};
 ghost use Rattle.blaze_entries.specs.Starts.{StartsAscend, below, from, last_below, first_from, start_at, with_entry, without, with_end, with_end_value, IsStartMoved, IsFrontReplaced};
 
+use crate::places::end_cloned;
 use blaze_int::Integer;
 use std::alloc::AllocError;
 use std::collections::BTreeMap;
@@ -25,6 +26,26 @@ fn change_end<T: Integer, V>(tree: &mut BTreeMap<T, EndValue<T, V>>, start: T, e
 {
     if let Some(node) = tree.get_mut(&start) {
         node.end = end;
+    }
+}
+
+// Moves the end of the node at a start, and answers a clone of its value. A refused clone leaves the node.
+fn change_end_cloned<T: Integer, V: Clone>(
+    tree: &mut BTreeMap<T, EndValue<T, Option<V>>>,
+    start: T,
+    end: T,
+) -> Result<V, AllocError>
+    requires present { IsSome (get T.cmp tree.old start) }
+    requires full { IfSome (get T.cmp tree.old start) (λ n. IsSome n.value) }
+    ensures value { IfOk result (λ value. IfSome (get T.cmp tree.old start)
+        (λ n. IfSome n.value (λ v. V.is_clone v value))) }
+    ensures moved { OnOk result (tree.new.entries
+        ≡ changed (is_at (T.cmp start)) (λ node. record node { end = end }) tree.old.entries) }
+    ensures err { OnErr result (tree.new.entries ≡ tree.old.entries) }
+{
+    match tree.get_mut(&start) {
+        Some(node) => end_cloned(node, end),
+        None => unreachable!(),
     }
 }
 
@@ -135,6 +156,27 @@ pub fn set_end<T: Integer, V>(tree: &mut BTreeMap<T, EndValue<T, V>>, start: T, 
 {
     start.in_hand();
     change_end(tree, start, end);
+}
+
+/// Moves the end of the node at a start, and answers a clone of its value. A refused clone leaves the node.
+pub fn set_end_cloned<T: Integer, V: Clone>(
+    tree: &mut BTreeMap<T, EndValue<T, Option<V>>>,
+    start: T,
+    end: T,
+) -> Result<V, AllocError>
+    requires starts { StartsAscend T.low T.high (places T.rank tree.old.entries) }
+    requires present { IsSome (start_at (T.rank start) (places T.rank tree.old.entries)) }
+    requires full { IfSome (start_at (T.rank start) (places T.rank tree.old.entries))
+        (λ e. IsSome e.value) }
+    ensures value { IfOk result
+        (λ value. IfSome (start_at (T.rank start) (places T.rank tree.old.entries))
+        (λ e. IfSome e.value (λ v. V.is_clone v value))) }
+    ensures moved { OnOk result (places T.rank tree.new.entries
+        ≡ with_end (T.rank start) (T.rank end) (places T.rank tree.old.entries)) }
+    ensures err { OnErr result (tree.new.entries ≡ tree.old.entries) }
+{
+    start.in_hand();
+    change_end_cloned(tree, start, end)
 }
 
 /// Puts a node in place of that at a start, and answers the old one.

@@ -1,5 +1,5 @@
 //! What a node whose place is full shows.
-ghost use Rattle.std.specs.Prelude.{◌≡◌, ℤ, Option, Some, IfSome, IsSome, IfOk};
+ghost use Rattle.std.specs.Prelude.{◌≡◌, ℤ, Option, Some, IfSome, IsSome, IfOk, OnOk, OnErr};
 ghost use Rattle.std.specs.Option.{option_map, option_copied};
 ghost use Rattle.blaze_entries.specs.Entries.{Entry, entry, shown_entry};
 ghost use Rattle.blaze_entries.specs.Found.{found_in, found_of, range_in, ranks_of};
@@ -105,6 +105,26 @@ pub fn cloned<T: Integer, V: Clone>(
             }),
             None => unreachable!(),
         },
+        None => unreachable!(),
+    }
+}
+
+/// Moves a node's end, and answers a clone of its value. A refused clone leaves the node.
+pub fn end_cloned<T: Integer, V: Clone>(
+    node: &mut EndValue<T, Option<V>>,
+    end: T,
+) -> Result<V, AllocError>
+    requires { IsSome node.old.value }
+    ensures value { IfOk result (λ value. IfSome node.old.value (λ v. V.is_clone v value)) }
+    ensures moved { OnOk result (node.new ≡ record node.old { end = end }) }
+    ensures err { OnErr result (node.new ≡ node.old) }
+{
+    match &node.value {
+        Some(value) => {
+            let value = value.clone()?;
+            node.end = end;
+            Ok(value)
+        }
         None => unreachable!(),
     }
 }

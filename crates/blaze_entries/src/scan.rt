@@ -1,9 +1,9 @@
 //! A walk down the tree from above a range, in one search.
-ghost use Rattle.std.specs.Prelude.{◌≡◌, ◌⊎◌, ◌+◌, ◌++◌, ◌∷◌, [], pos, ◌+ℤ◌, ◌≤ℤ◌, ◌<◌, length, reverse, MatchOption, OnSome};
+ghost use Rattle.std.specs.Prelude.{◌≡◌, ◌⊎◌, ◌+◌, ◌++◌, ◌∷◌, [], pos, ◌+ℤ◌, ◌≤ℤ◌, ◌<◌, length, reverse, None, MatchOption, OnSome};
 ghost use Rattle.blaze_entries.specs.Entries.{Entry};
 ghost use Rattle.blaze_entries.specs.Found.{found_in, found_of};
 ghost use Rattle.blaze_entries.specs.Places.{places, entries_of, AreFull, AreHeld};
-ghost use Rattle.blaze_entries.specs.Scanned.{seen_of, unseen, seen_end, seen_start, seen, walked, answers, walked_keys};
+ghost use Rattle.blaze_entries.specs.Scanned.{seen_of, unseen, seen_end, seen_start, seen, walked, least_by, seen_covered, walked_covered, answers, walked_keys};
 ghost use Rattle.blaze_entries.specs.Starts.{below};
 
 use crate::count::Count;
@@ -26,25 +26,31 @@ pub struct Plan<T> {
     pub first: Option<Found<T>>,
     /// The entry with the greatest start below the range.
     pub left: Option<Found<T>>,
+    /// The least start of the entries that the range covers, joined as it is, but for the one that starts where it does, and
+    /// whether there are more of them.
+    pub covered: Option<(T, bool)>,
 }
 
 impl<T: Integer> Plan<T> {
     /// The plan before the first entry.
     pub fn new(hi: T) -> Plan<T>
-        ensures { seen_of T.rank result ≡ unseen (T.rank hi) }
+        ensures seen { seen_of T.rank result ≡ unseen (T.rank hi) }
+        ensures covered { least_by T.rank result.covered ≡ None }
     {
         Plan {
             end: hi,
             rest: None,
             first: None,
             left: None,
+            covered: None,
         }
     }
 
     // The plan after an entry, by its end.
     fn past_end(self, hi: T, found: Found<T>) -> Plan<T>
-        ensures { seen_of T.rank result
+        ensures seen { seen_of T.rank result
             ≡ seen_end (T.rank hi) (seen_of T.rank self) (found_of T.rank found) }
+        ensures covered { result.covered ≡ self.covered }
     {
         if is_below(hi, found.end) {
             if found.is_equal {
@@ -65,8 +71,9 @@ impl<T: Integer> Plan<T> {
 
     // The plan after an entry, by its start.
     fn past_start(self, lo: T, found: Found<T>) -> Plan<T>
-        ensures { seen_of T.rank result
+        ensures seen { seen_of T.rank result
             ≡ seen_start (T.rank lo) (seen_of T.rank self) (found_of T.rank found) }
+        ensures covered { result.covered ≡ self.covered }
     {
         if is_below(found.start, lo) {
             return Plan {
@@ -83,12 +90,33 @@ impl<T: Integer> Plan<T> {
         self
     }
 
+    // The plan after an entry, by whether the range covers it.
+    fn past_covered(self, lo: T, hi: T, found: Found<T>) -> Plan<T>
+        ensures seen { seen_of T.rank result ≡ seen_of T.rank self }
+        ensures covered { least_by T.rank result.covered
+            ≡ seen_covered (T.rank lo) (T.rank hi) (least_by T.rank self.covered)
+            (found_of T.rank found) }
+    {
+        if is_below(lo, found.start) && (found.is_equal || is_at_most(found.end, hi)) {
+            return Plan {
+                covered: Some((found.start, self.covered.is_some())),
+                ..self
+            };
+        }
+        self
+    }
+
     /// The plan after an entry.
     pub fn past(self, lo: T, hi: T, found: Found<T>) -> Plan<T>
-        ensures { seen_of T.rank result
+        ensures seen { seen_of T.rank result
             ≡ seen (T.rank lo) (T.rank hi) (seen_of T.rank self) (found_of T.rank found) }
+        ensures covered { least_by T.rank result.covered
+            ≡ seen_covered (T.rank lo) (T.rank hi) (least_by T.rank self.covered)
+            (found_of T.rank found) }
     {
-        self.past_end(hi, found).past_start(lo, found)
+        self.past_end(hi, found)
+            .past_start(lo, found)
+            .past_covered(lo, hi, found)
     }
 }
 
@@ -127,6 +155,9 @@ pub fn walk<T: Integer, V: Eq>(
         ≤ℤ pos (T.SafeLen.number len) }
     ensures plan { seen_of T.rank result.0
         ≡ walked V.eq value.now (T.rank lo) (T.rank hi) (unseen (T.rank hi))
+        (reverse (below (T.rank top +ℤ pos 1) (entries_of T.rank tree.now.entries))) }
+    ensures covered { least_by T.rank result.0.covered
+        ≡ walked_covered V.eq value.now (T.rank lo) (T.rank hi) None
         (reverse (below (T.rank top +ℤ pos 1) (entries_of T.rank tree.now.entries))) }
     ensures len { pos (T.SafeLen.number result.1)
         +ℤ walked_keys (T.rank lo) (T.rank hi)

@@ -32,16 +32,16 @@ or_none None = refl
 or_none (Some v) = refl
 
 -- a list without a first key has nothing
-none_there : {A : Type 0} (es : List (Entry A)) (k : ℤ) → first_key es ≡ None → at es k ≡ None
+pub none_there : {A : Type 0} (es : List (Entry A)) (k : ℤ) → first_key es ≡ None → at es k ≡ None
 none_there [] k p = refl
 none_there (e ∷ es) k p = cc
 
 -- where two lists have no first key, neither has one
-no_first : (p q : Option ℤ) → lesser p q ≡ None → (p ≡ None) × (q ≡ None)
+pub no_first : (p q : Option ℤ) → lesser p q ≡ None → (p ≡ None) × (q ≡ None)
 no_first None q n = (refl, n)
 no_first (Some a) q n = absurd (some_lesser a q n)
 
-first_above : {A : Type 0} (t s : ℤ) (es : List (Entry A)) → first_key (after t es) ≡ Some s → t <ℤ s
+pub first_above : {A : Type 0} (t s : ℤ) (es : List (Entry A)) → first_key (after t es) ≡ Some s → t <ℤ s
 first_above {A} t s es p = above (after t es) (above_after t es) p
   where
     above : (fs : List (Entry A)) → IsAbove t fs → first_key fs ≡ Some s → t <ℤ s
@@ -54,7 +54,7 @@ module _ {A B : Type 0} where
   both_from s L R starts = let m = at_most_both (first_key L) (first_key R) s (at_most_itself _ s starts) in (from_first s L m.0, from_first s R m.1)
 
 module _ {V : Type 0} (eq : V → V → Bool) (laws : IsEquivalence eq) where
-  same_or_left : (a b z : Option V) → SameOption eq a b → SameOption eq (or_else a z) (or_else b z)
+  pub same_or_left : (a b z : Option V) → SameOption eq a b → SameOption eq (or_else a z) (or_else b z)
   unfolding or_else
   same_or_left None None z s = same_itself eq laws z
   same_or_left None (Some y) z s = absurd s

@@ -21,10 +21,15 @@ module _ {A : Type 0} (eq : A → A → Bool) (t : ℤ) where
       (λ l. rw (after_keeps t e es (omega (arith, ints, c.0)) l) (omega arith))
       (λ l. omega (arith, less e.lo (e ∷ es) c l refl))
 
+-- of two lists, of which at least one has the key s, fewer keys are left above a key from s on
+pub both_less : {A B : Type 0} (eqa : A → A → Bool) (eqb : B → B → Bool) (s t : ℤ) (L : List (Entry A)) (R : List (Entry B))
+    → IsCanonical eqa L → IsCanonical eqb R → lesser (first_key L) (first_key R) ≡ Some s → s ≤ℤ t → keys_left (after t L) + keys_left (after t R) < keys_left L + keys_left R
+both_less eqa eqb s t L R ca cb starts order = ⊎_elim
+    (λ e. omega (arith, less eqa t s L ca order e, fewer eqb t R cb))
+    (λ e. omega (arith, less eqb t s R cb order e, fewer eqa t L ca))
+    (lesser_one (first_key L) (first_key R) s starts)
+
 pub step_less : {A B V : Type 0} (eqa : A → A → Bool) (eqb : B → B → Bool) (eq : V → V → Bool) (low high : ℤ) (choose : Option A → Option B → Option V) (s : ℤ) (L L' : List (Entry A)) (R R' : List (Entry B)) (out new : List (Entry V))
     → IsCanonical eqa L → IsCanonical eqb R → lesser (first_key L) (first_key R) ≡ Some s → IsChoiceMade eq low high choose s L L' R R' out new → keys_left L' + keys_left R' < keys_left L + keys_left R
 step_less eqa eqb eq low high choose s L L' R R' out new ca cb starts m =
-    rw (m.taken.left_is, m.taken.right_is) (⊎_elim
-    (λ e. omega (arith, less eqa m.end s L ca m.taken.order e, fewer eqb m.end R cb))
-    (λ e. omega (arith, less eqb m.end s R cb m.taken.order e, fewer eqa m.end L ca))
-    (lesser_one (first_key L) (first_key R) s starts))
+    rw (m.taken.left_is, m.taken.right_is) (both_less eqa eqb s m.end L R ca cb starts m.taken.order)

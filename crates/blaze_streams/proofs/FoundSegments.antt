@@ -29,7 +29,7 @@ entries_more {T} rank new old s e = ap (entries_of rank) e ∙ pushed old
     pushed [] = refl
     pushed (x ∷ xs) = ap (λ l. entry_of rank x ∷ l) (pushed xs)
 
-at_push : {V : Type 0} (P : List (Entry V)) (p : Entry V) (k : ℤ) → at (P ++ p ∷ []) k ≡ or_else (at P k) (at (p ∷ []) k)
+pub at_push : {V : Type 0} (P : List (Entry V)) (p : Entry V) (k : ℤ) → at (P ++ p ∷ []) k ≡ or_else (at P k) (at (p ∷ []) k)
 at_push [] p k = refl
 at_push (e ∷ es) p k = either (holds e k) e.value (at (es ++ p ∷ []) k) (at es k) (at (p ∷ []) k) (at_push es p k)
   where
@@ -37,15 +37,15 @@ at_push (e ∷ es) p k = either (holds e k) e.value (at (es ++ p ∷ []) k) (at 
     either true v x y z e = refl
     either false v x y z e = e
 
-or_assoc : {V : Type 0} (x y z : Option V) → or_else (or_else x y) z ≡ or_else x (or_else y z)
+pub or_assoc : {V : Type 0} (x y z : Option V) → or_else (or_else x y) z ≡ or_else x (or_else y z)
 or_assoc None y z = refl
 or_assoc (Some v) y z = refl
 
-or_none : {V : Type 0} (x : Option V) → or_else x None ≡ x
+pub or_none : {V : Type 0} (x : Option V) → or_else x None ≡ x
 or_none None = refl
 or_none (Some v) = refl
 
-option_same : {A : Type 0} (eq : A → A → Bool) (x y : Option A) → option_eq eq x y ≡ true → SameOption eq x y
+pub option_same : {A : Type 0} (eq : A → A → Bool) (x y : Option A) → option_eq eq x y ≡ true → SameOption eq x y
 option_same eq None None h = tt
 option_same eq None (Some y) h = cc
 option_same eq (Some x) None h = cc
@@ -58,12 +58,12 @@ EndsApart eq (e ∷ []) content = SameOption eq (Some e.value) (content (e.hi +�
 EndsApart eq (e ∷ f ∷ es) content = EndsApart eq (f ∷ es) content
 
 module _ {V : Type 0} (eq : V → V → Bool) where
-  canonical_push : (out : List (Entry V)) (p : Entry V) (c : ℤ → Option V) → IsCanonical eq out → IsBelow p.lo out → p.lo ≤ℤ p.hi → EndsApart eq out c → c p.lo ≡ Some p.value → IsCanonical eq (out ++ p ∷ [])
+  pub canonical_push : (out : List (Entry V)) (p : Entry V) (c : ℤ → Option V) → IsCanonical eq out → IsBelow p.lo out → p.lo ≤ℤ p.hi → EndsApart eq out c → c p.lo ≡ Some p.value → IsCanonical eq (out ++ p ∷ [])
   canonical_push [] p c o b w a v = (w, tt, tt)
   canonical_push (e ∷ []) p c o b w a v = (o.0, (b.0, λ q. false_from_ne_true (eq e.value p.value) (λ h. a (same_along eq {a = Some e.value} refl (sym v ∙ ap c q) h))), (w, tt, tt))
   canonical_push (e ∷ f ∷ es) p c o b w a v = (o.0, o.1, canonical_push (f ∷ es) p c o.2 b.1 w a v)
 
-  apart_push : (out : List (Entry V)) (p : Entry V) (c : ℤ → Option V) → (SameOption eq (Some p.value) (c (p.hi +ℤ pos 1)) → ⊥) → EndsApart eq (out ++ p ∷ []) c
+  pub apart_push : (out : List (Entry V)) (p : Entry V) (c : ℤ → Option V) → (SameOption eq (Some p.value) (c (p.hi +ℤ pos 1)) → ⊥) → EndsApart eq (out ++ p ∷ []) c
   apart_push [] p c h = h
   apart_push (e ∷ []) p c h = h
   apart_push (e ∷ f ∷ es) p c h = apart_push (f ∷ es) p c h
@@ -139,7 +139,7 @@ module _ {A : Type 0} where
     next_less Ls Ls' p c n = rw n.left (all_less eq p.lo p.hi Ls c (is_first eq Ls Ls' p c n).full n.starts)
 
 -- with no key left, all segments are found
-pub found_all : (lists Ls : List (List (Entry ℕ))) (out : List (Entry (List (Option ℕ)))) → IsFound nat_eq lists out Ls → first_keys Ls ≡ None → IsSegmentsOf lists out
+pub found_all : (lists Ls : List (List (Entry ℕ))) (out : List (Entry (List (Option ℕ)))) → IsFound nat_eq lists out Ls → first_keys Ls ≡ None → IsSegmentsOf nat_eq lists out
 found_all lists Ls out s f = record {
   runs = one_per_run (row_eq nat_eq) (lists_equiv (options_equiv nat_eq_equiv)) out s.canonical;
   content = λ k. sym (s.content k ∙ ap (or_else (at out k)) (absent (row Ls k) (none_left Ls k f)) ∙ or_none (at out k));

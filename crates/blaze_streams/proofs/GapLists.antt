@@ -22,12 +22,12 @@ gap_there n l h i p = ap (λ b. cond b (entry n (l -ℤ pos 1) tt ∷ []) []) (l
 pub no_gap : (n l : ℤ) → l ≤ℤ n → gap_before n l ≡ []
 no_gap n l h = ap (λ b. cond b (entry n (l -ℤ pos 1) tt ∷ []) []) (lt_false n l h)
 
-by_gap : (P : List (Entry (Unit {0})) → Type 0) (n l : ℤ) → (n <ℤ l → P (entry n (l -ℤ pos 1) tt ∷ [])) → (l ≤ℤ n → P []) → P (gap_before n l)
+pub by_gap : (P : List (Entry (Unit {0})) → Type 0) (n l : ℤ) → (n <ℤ l → P (entry n (l -ℤ pos 1) tt ∷ [])) → (l ≤ℤ n → P []) → P (gap_before n l)
 by_gap P n l there nowhere = by_lt_z n l
     (λ h. subst P (sym (gap_there n l (l -ℤ pos 1) (omega (arith, ints)) refl)) (there h))
     (λ h. subst P (sym (no_gap n l h)) (nowhere h))
 
-above_less : {V : Type 0} (a b : ℤ) (es : List (Entry V)) → a ≤ℤ b → IsAbove b es → IsAbove a es
+pub above_less : {V : Type 0} (a b : ℤ) (es : List (Entry V)) → a ≤ℤ b → IsAbove b es → IsAbove a es
 above_less a b [] h i = tt
 above_less a b (e ∷ es) h i = omega (arith, ints)
 
@@ -106,7 +106,7 @@ module _ {V : Type 0} (high n : ℤ) (old new all : List (Entry (Unit {0}))) (le
   gap_last : left ≡ [] → new ≡ old ++ gap_before n (high +ℤ pos 1) → new ≡ all
   gap_last is pushed = pushed ∙ (ap (λ es. old ++ gaps n high es) (sym is) ∙ i)
 
-above_low : {V : Type 0} (low high : ℤ) (es : List (Entry V)) → AreKeys low high es → IsAbove (low -ℤ pos 1) es
+pub above_low : {V : Type 0} (low high : ℤ) (es : List (Entry V)) → AreKeys low high es → IsAbove (low -ℤ pos 1) es
 above_low low high [] k = tt
 above_low low high (e ∷ es) k = omega (arith, ints, k.0)
 

@@ -1,5 +1,5 @@
 -- The segments of lists of ranges: the greatest ranges on which no list changes and at least one is present.
-use Rattle.std.specs.Prelude.{◌≡◌, ℕ, ◌+◌, ℤ, nat_eq, Bool, if◌then◌else◌, List, [], ◌∷◌, map, Option, Some, None}
+use Rattle.std.specs.Prelude.{◌≡◌, ℕ, ◌+◌, ℤ, Bool, if◌then◌else◌, List, [], ◌∷◌, map, Option, Some, None}
 use Rattle.std.specs.Option.{option_eq, is_some}
 use Rattle.std.specs.List.{list_any}
 use Rattle.std.specs.Cmp.Lexicographic.{pointwise}
@@ -44,6 +44,6 @@ abbrev pub entries_of : {T : Type 0} → (T → ℤ) → List (Segment T) → Li
 entries_of rank segments = map (entry_of rank) segments
 
 -- the segments of lists: at each key they have the row of the lists where it is present, and they are one per run of rows
-pub record IsSegmentsOf (lists : List (List (Entry ℕ))) (segments : List (Entry (List (Option ℕ)))) : Type 0 where
-  pub runs : IsOnePerRun (row_eq nat_eq) segments
+pub record IsSegmentsOf {A : Type 0} (eq : A → A → Bool) (lists : List (List (Entry A))) (segments : List (Entry (List (Option A)))) : Type 0 where
+  pub runs : IsOnePerRun (row_eq eq) segments
   pub content : (k : ℤ) → at segments k ≡ present (row lists k)

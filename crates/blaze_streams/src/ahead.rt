@@ -4,6 +4,7 @@ ghost use Rattle.std.specs.Option.{option_map, is_some};
 ghost use Rattle.blaze_table.specs.Entries.{at, SameOption};
 ghost use Rattle.blaze_table.specs.Canonical.{IsCanonical};
 ghost use Rattle.blaze_table.specs.Splice.{after};
+ghost use Rattle.blaze_streams.specs.Carried.{shown_option};
 ghost use Rattle.blaze_streams.specs.Choosing.{ahead_of};
 ghost use Rattle.blaze_streams.specs.Cursors.{first_key, steady_to, IsFrom, Reaches};
 
@@ -174,6 +175,25 @@ impl<T: Integer, VC: ValueCarrier, I: SortedDisjointMap<T, VC>> Ahead<T, VC, I> 
         } else {
             self.head = Some((lo, hi, carrier));
             Ok(None)
+        }
+    }
+}
+
+impl<T: Integer, VC: ValueCarrier + Copy, I: SortedDisjointMap<T, VC>> Ahead<T, VC, I> {
+    /// The carrier of the value at a key, which is not above the end of the first range.
+    pub fn here(&self, key: T) -> Option<VC>
+        requires { Reaches (T.rank key) self.now }
+        ensures { shown_option VC.shown result ≡ at self.now (T.rank key) }
+    {
+        match &self.head {
+            None => None,
+            Some((lo, _, carrier)) => {
+                if is_at_most(*lo, key) {
+                    Some(*carrier)
+                } else {
+                    None
+                }
+            }
         }
     }
 }

@@ -34,7 +34,7 @@ fn put_value<T: Integer, VC: ValueCarrier>(
 }
 
 /// The last key up to which neither of two streams changes, from their first key on.
-fn steady_end<
+pub fn steady_end<
     T: Integer,
     VCL: ValueCarrier,
     VCR: ValueCarrier,

@@ -30,7 +30,7 @@ pub fn segments<T: Integer>(
     lists: &[Vec<(T, T)>],
 ) -> Result<Vec<Segment<T>>, AllocError>
     requires { AreInOrder (all_numbered T.rank lists.now) }
-    ensures { IfOk result (λ found. IsSegmentsOf (all_numbered T.rank lists.now) (entries_of T.rank found.items)) }
+    ensures { IfOk result (λ found. IsSegmentsOf nat_eq (all_numbered T.rank lists.now) (entries_of T.rank found.items)) }
 {
     let mut cursors = cursors_of(alloc, lists)?;
     let found = segments_left(alloc, &mut cursors)?;
@@ -70,7 +70,7 @@ fn segments_left<T: Integer>(
     lists: &mut [Cursor<T>],
 ) -> Result<Vec<Segment<T>>, AllocError>
     requires { AllCanonical nat_eq lists.old }
-    ensures { IfOk result (λ found. IsSegmentsOf lists.old (entries_of T.rank found.items)) }
+    ensures { IfOk result (λ found. IsSegmentsOf nat_eq lists.old (entries_of T.rank found.items)) }
 {
     let mut found = Vec::new(alloc);
     while let Some(segment) = next_segment(alloc, lists)? {

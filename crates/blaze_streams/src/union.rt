@@ -1,10 +1,10 @@
-//! One stream over another.
+//! Two streams as one: one over another, the keys of exactly one, the keys of both.
 ghost use Rattle.std.specs.Prelude.{IfOk};
-ghost use Rattle.blaze_table.specs.Chosen.{right_first, exactly_one, IsChosen};
+ghost use Rattle.blaze_table.specs.Chosen.{right_first, exactly_one, left_with_right, IsChosen};
 
 use crate::canon_map::CanonMapIter;
 use crate::carrier::ValueCarrier;
-use crate::choice::{ExactlyOne, RightFirst};
+use crate::choice::{ExactlyOne, LeftWithRight, RightFirst};
 use crate::choosing::chosen_of;
 use crate::stream::SortedDisjointMap;
 use blaze_int::Integer;
@@ -36,4 +36,19 @@ pub fn symmetric_difference_of<
     ensures { IfOk result (λ stream. IsChosen VC.Value.eq T.low T.high exactly_one (L.left left) (R.left right) stream) }
 {
     chosen_of(alloc, left, right, &ExactlyOne)
+}
+
+/// The left stream's values on the keys that both streams have. A value is cloned (`carry` at `Owned`) only for a piece that
+/// leaves a rest of its range behind. Refused memory drops both.
+pub fn intersection_of<
+    T: Integer,
+    VCL: ValueCarrier,
+    VCR: ValueCarrier,
+    L: SortedDisjointMap<T, VCL>,
+    R: SortedDisjointMap<T, VCR>,
+>(alloc: Global, left: L, right: R) -> Result<CanonMapIter<T, VCL>, AllocError>
+    requires { VCL.can_carry }
+    ensures { IfOk result (λ stream. IsChosen VCL.Value.eq T.low T.high left_with_right (L.left left) (R.left right) stream) }
+{
+    chosen_of(alloc, left, right, &LeftWithRight)
 }

@@ -5,14 +5,14 @@ use Rattle.std.specs.Prelude.{IfSome}
 use Rattle.std.specs.Option.{option_map}
 use Rattle.std.proofs.lemmas.Int.{ints}
 use Rattle.blaze_entries.specs.Found.{range_in}
-use Rattle.blaze_entries.specs.Starts.{StartsAscend, last_below, start_at, without, with_end, IsStartMoved, IsCloneInserted}
+use Rattle.blaze_entries.specs.Starts.{StartsAscend, last_below, start_at, with_entry, without, with_end, IsStartMoved}
 use Rattle.blaze_table.specs.Entries.{Entry, entry, at, entry_at, SameOption}
 use Rattle.blaze_table.specs.Canonical.{IsCanonical}
 use Rattle.blaze_table.specs.Cut.{IsAmongOthers}
 use Rattle.blaze_table.specs.Painted.{ClonesAreAlike}
 use Rattle.blaze_table.specs.Splice.{IsBelow, IsCutOf}
 use Rattle.blaze_table.proofs.Cutting.{cut_whole, cut_end, cut_start, cut_inside, at_cut}
-use Rattle.blaze_table.proofs.Holders.{Holder, there, is_holder, put_inside, taken_out, put_in_place, end_moved}
+use Rattle.blaze_table.proofs.Holders.{Holder, there, is_holder, taken_out, put_in_place, end_moved, put_behind}
 use Rattle.blaze_table.proofs.Lookup.{IsAbove, IsAbove-from_apart, at_over, at_before, entry_in, entry_over}
 use Rattle.blaze_table.proofs.Splices.{below_more}
 use Rattle.blaze_table.proofs.Splits.{no_last_from}
@@ -104,20 +104,20 @@ module _ {V : Type 0} (eq : V → V → Bool) (laws : IsEquivalence eq) (k high 
       m.moved ∙ put_in_place eq b high es s z h p (omega (arith, ints)) (omega (arith, ints)) ∙ ap (λ (x : Entry V). h.front ++ entry n x.hi x.value ∷ h.back) (sym one) ∙ ap (λ x. h.front ++ entry x e.hi e.value ∷ h.back) q in
       parted new (h.front ++ entry (k +ℤ pos 1) e.hi e.value ∷ h.back) new_is (cut_start eq laws k h.front under e h.back (omega (arith, ints)) (omega (arith, ints)))
 
-  pub inside_cut : (is_clone : V → V → Type 0) → ClonesAreAlike is_clone eq → (n y : ℤ) (mid new : List (Entry V)) → s <ℤ k → k <ℤ z → n ≡ k +ℤ pos 1 → y ≡ k -ℤ pos 1
-      → IsCloneInserted is_clone s n es mid → new ≡ with_end s y mid → IsCutOf eq k es new
-  inside_cut is_clone alike n y mid new u w q t i m =
+  pub inside_cut : (is_clone : V → V → Type 0) → ClonesAreAlike is_clone eq → (n y : ℤ) (v w : V) (mid new : List (Entry V)) → s <ℤ k → k <ℤ z → n ≡ k +ℤ pos 1 → y ≡ k -ℤ pos 1
+      → IfSome (start_at s es) (λ f. is_clone f.value v) → is_clone v w → mid ≡ with_end s y es → new ≡ with_entry (entry n z w) mid → IsCutOf eq k es new
+  inside_cut is_clone alike n y v w mid new u t q r i j a m =
       let l = h.lo in
-      let r = h.hi in
-      let one = is_holder eq b high es s z h i.found in
-      let p = entry n i.of.hi i.value in
-      let new_is : new ≡ h.front ++ entry e.lo (k -ℤ pos 1) e.value ∷ entry (k +ℤ pos 1) e.hi i.value ∷ h.back =
-      m ∙ ap (with_end s y) (i.inserted ∙ put_inside eq b high es s z h n (omega (arith, ints)) (omega (arith, ints)) p refl)
-      ∙ end_moved eq b high es s z h y (p ∷ h.back) ∙ ap (λ x. h.front ++ entry e.lo x e.value ∷ p ∷ h.back) t
-      ∙ ap (λ (x : Entry V). h.front ++ entry e.lo (k -ℤ pos 1) e.value ∷ entry n x.hi i.value ∷ h.back) (sym one)
-      ∙ ap (λ x. h.front ++ entry e.lo (k -ℤ pos 1) e.value ∷ entry x e.hi i.value ∷ h.back) q in
-      let like : eq e.value i.value ≡ true = subst (λ (x : Entry V). eq x.value i.value ≡ true) (sym one) (alike i.of.value i.value i.clone) in
-      parted new (h.front ++ entry e.lo (k -ℤ pos 1) e.value ∷ entry (k +ℤ pos 1) e.hi i.value ∷ h.back) new_is (cut_inside eq laws k h.front under e h.back i.value (omega (arith, ints)) (omega (arith, ints)) like)
+      let up = h.hi in
+      let p = entry n z w in
+      let new_is : new ≡ h.front ++ entry e.lo (k -ℤ pos 1) e.value ∷ entry (k +ℤ pos 1) e.hi w ∷ h.back =
+      m ∙ ap (with_entry p) a ∙ put_behind eq b high es s z h y n (omega (arith, ints)) (omega (arith, ints)) p refl
+      ∙ ap (λ x. h.front ++ entry e.lo x e.value ∷ p ∷ h.back) r
+      ∙ ap (λ x. h.front ++ entry e.lo (k -ℤ pos 1) e.value ∷ entry n x w ∷ h.back) (sym h.hi)
+      ∙ ap (λ x. h.front ++ entry e.lo (k -ℤ pos 1) e.value ∷ entry x e.hi w ∷ h.back) q in
+      let like : eq e.value v ≡ true = alike e.value v (subst (λ o. IfSome o (λ f. is_clone f.value v)) (there eq b high es s z h) i) in
+      let both : eq e.value w ≡ true = sym (laws.congr v e.value w (laws.symm v e.value ∙ like)) ∙ alike v w j in
+      parted new (h.front ++ entry e.lo (k -ℤ pos 1) e.value ∷ entry (k +ℤ pos 1) e.hi w ∷ h.back) new_is (cut_inside eq laws k h.front under e h.back w (omega (arith, ints)) (omega (arith, ints)) both)
 
   pub whole_cut : s ≡ k → z ≡ k → (new : List (Entry V)) → new ≡ without s es → IsCutOf eq k es new
   whole_cut u w new n =

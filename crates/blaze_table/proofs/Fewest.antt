@@ -39,7 +39,7 @@ module _ {V : Type 0} (eq : V → V → Bool) (laws : IsEquivalence eq) where
       omega arith
 
   -- no other range has a key of the first
-  at_clear : (e : Entry V) (es : List (Entry V)) (k : ℤ) → IsClear e es → holds e k ≡ true → at es k ≡ None
+  pub at_clear : (e : Entry V) (es : List (Entry V)) (k : ℤ) → IsClear e es → holds e k ≡ true → at es k ≡ None
   at_clear e [] k c h = refl
   at_clear e (f ∷ fs) k c h = skips (holds f k) (c.0 k h) (at_clear e fs k c.1 h)
     where

@@ -138,3 +138,45 @@ module _ {V : Type 0} (eq : V → V → Bool) (b high : ℤ) (es : List (Entry V
 
     pub end_moved : (y : ℤ) (ys : List (Entry V)) → with_end s y (h.front ++ h.of ∷ ys) ≡ h.front ++ entry h.of.lo y h.of.value ∷ ys
     end_moved y ys = ap (λ k. with_end k y (h.front ++ h.of ∷ ys)) (sym h.lo) ∙ end_put h.of.lo y h.of h.front ys refl h.front_starts
+
+    -- the same with another end
+    abbrev pub ending : ℤ → Entry V
+    ending y = entry h.of.lo y h.of.value
+
+    pub ended : (y : ℤ) → with_end s y es ≡ h.front ++ ending y ∷ h.back
+    ended y = ap (with_end s y) h.parts ∙ end_moved y h.back
+
+    pub end_back : (y : ℤ) → with_end s z (with_end s y es) ≡ es
+    end_back y = ap (with_end s z) (ended y) ∙ ap (λ k. with_end k z (h.front ++ ending y ∷ h.back)) (sym h.lo)
+        ∙ end_put h.of.lo z (ending y) h.front h.back refl h.front_starts
+        ∙ ap (λ x. h.front ++ ending x ∷ h.back) (sym h.hi) ∙ sym h.parts
+
+    -- at a key behind its start, which it had
+    module _ (y k : ℤ) (l : s <ℤ k) (u : k ≤ℤ z) where
+      starts_ended : StartsBelow k (h.front ++ ending y ∷ [])
+      starts_ended =
+          let at_lo = h.lo in
+          starts_behind k h.front (ending y) (more_below h.of.lo k h.front (omega (arith, ints)) h.front_starts) (omega (arith, ints))
+
+      pub absent_behind : start_at k (with_end s y es) ≡ None
+      absent_behind =
+          let at_hi = h.hi in
+          ap (start_at k) (ended y ∙ sym (append_assoc h.front (ending y ∷ []) h.back))
+          ∙ none-between k (h.of.hi +ℤ pos 1) high (h.front ++ ending y ∷ []) h.back starts_ended (omega (arith, ints)) h.back_over
+
+      pub put_behind : (p : Entry V) → p.lo ≡ k → with_entry p (with_end s y es) ≡ h.front ++ ending y ∷ p ∷ h.back
+      put_behind p q =
+          let at_hi = h.hi in
+          ap (with_entry p) (ended y ∙ sym (append_assoc h.front (ending y ∷ []) h.back))
+          ∙ with_entry-between p (h.of.hi +ℤ pos 1) high (h.front ++ ending y ∷ []) h.back (subst (λ x. StartsBelow x (h.front ++ ending y ∷ [])) (sym q) starts_ended) (omega (arith, ints)) h.back_over
+          ∙ append_assoc h.front (ending y ∷ []) (p ∷ h.back)
+
+      -- and another behind that
+      pub put_both : (p r : Entry V) → p.lo ≡ k → p.lo <ℤ r.lo → r.lo ≤ℤ z → with_entry r (with_entry p (with_end s y es)) ≡ h.front ++ ending y ∷ p ∷ r ∷ h.back
+      put_both p r q a b =
+          let at_hi = h.hi in
+          let at_lo = h.lo in
+          let first : StartsBelow r.lo (h.front ++ ending y ∷ []) = starts_behind r.lo h.front (ending y) (more_below h.of.lo r.lo h.front (omega (arith, ints)) h.front_starts) (omega (arith, ints)) in
+          ap (with_entry r) (put_behind p q ∙ sym (append_assoc h.front (ending y ∷ []) (p ∷ h.back)) ∙ sym (append_assoc (h.front ++ ending y ∷ []) (p ∷ []) h.back))
+          ∙ with_entry-between r (h.of.hi +ℤ pos 1) high ((h.front ++ ending y ∷ []) ++ p ∷ []) h.back (starts_behind r.lo (h.front ++ ending y ∷ []) p first a) (omega (arith, ints)) h.back_over
+          ∙ append_assoc (h.front ++ ending y ∷ []) (p ∷ []) (r ∷ h.back) ∙ append_assoc h.front (ending y ∷ []) (p ∷ r ∷ h.back)

@@ -1,18 +1,12 @@
--- Ranges painted one after another, and when two lists of ranges have the same keys.
-use Rattle.std.proofs.Common.{◌≡◌, ℤ, ◌<ℤ◌, int_le, Bool, true, false, cond, ◌&&◌, List, [], ◌∷◌, ◌++◌, Option, Some, None, refl, ◌∙◌, sym, ap, subst, arith}
-use Rattle.std.proofs.lemmas.List.{map-append}
-use Rattle.std.proofs.lemmas.Int.{ints, by_lt_z}
+-- The set of ranges swept, and when two lists of ranges have the same keys.
+use Rattle.std.proofs.Common.{◌≡◌, ℤ, Bool, true, false, cond, List, [], ◌∷◌, Option, Some, None, refl, ◌∙◌, sym, ap, subst}
 use Rattle.std.specs.Bool.{Decides}
-use Rattle.std.specs.Cmp.{signed_Decides, first_so, second_so}
-use Rattle.std.specs.Cmp.Lexicographic.{pointwise_decides}
-use Rattle.std.specs.Ordering.{int_eq}
-use Rattle.std.specs.Range.{range_inclusive_start, range_inclusive_end}
-use Rattle.std.specs.declared.ops.RangeInclusive.{RangeInclusive}
-use Rattle.blaze_table.specs.Entries.{Entry, entry, at, holds, SameOption, SameEntries}
-use Rattle.blaze_table.specs.Painted.{IsPainted}
-use Rattle.blaze_table.specs.RangeSets.{bare_range, bare_ranges, IsRangeSet, same_range, same_ranges, unit_eq}
-use Rattle.blaze_table.proofs.ListLaws.{canonical_is_unique}
-use Rattle.blaze_table.proofs.Lookup.{holds_under, holds_over}
+use Rattle.blaze_table.specs.Entries.{Entry, at, holds, SameOption, SameEntries}
+use Rattle.blaze_table.specs.CanonicalOf.{IsCanonicalOf}
+use Rattle.blaze_table.specs.Painted.{or_else, last_at, painted_in_order}
+use Rattle.blaze_table.specs.RangeSets.{IsRangeSet, IsSetOf, same_ranges, unit_eq}
+use Rattle.blaze_table.proofs.Painted.{entries_themselves}
+use Rattle.blaze_table.proofs.SameLists.{same_from_test, test_from_same, content_decides}
 use Rattle.blaze_table.proofs.UnitLaws.{unit_laws}
 
 unit_same : (a b : Option (Unit {0})) → SameOption unit_eq a b → a ≡ b
@@ -21,49 +15,22 @@ unit_same None (Some y) s = absurd s
 unit_same (Some x) None s = absurd s
 unit_same (Some x) (Some y) s = refl
 
--- what a range holds is there, in whichever order the ranges stand
-swap : (b c : Bool) (o : Option (Unit {0})) → cond b (Some tt) (cond c (Some tt) o) ≡ cond c (Some tt) (cond b (Some tt) o)
-swap true true o = refl
-swap true false o = refl
-swap false true o = refl
-swap false false o = refl
+-- of ranges alone the last that has a key and the first that has it say the same
+last_is_at : (es : List (Entry (Unit {0}))) (k : ℤ) → painted_in_order es (at []) k ≡ at es k
+last_is_at [] k = refl
+last_is_at (e ∷ es) k = either (last_at es k) (holds e k) ∙ ap (λ o. cond (holds e k) (Some tt) o) (last_is_at es k)
+  where
+    either : (o : Option (Unit {0})) (b : Bool) → or_else (or_else o (cond b (Some tt) None)) None ≡ cond b (Some tt) (or_else o None)
+    either None true = refl
+    either None false = refl
+    either (Some u) true = refl
+    either (Some u) false = refl
 
-at_more : (es : List (Entry (Unit {0}))) (e : Entry (Unit {0})) (k : ℤ) → at (es ++ e ∷ []) k ≡ cond (holds e k) (Some tt) (at es k)
-at_more [] e k = refl
-at_more (f ∷ fs) e k = ap (λ o. cond (holds f k) (Some tt) o) (at_more fs e k) ∙ swap (holds f k) (holds e k) (at fs k)
-
--- a reversed range holds no key
-holds_none : (e : Entry (Unit {0})) (k : ℤ) → e.hi <ℤ e.lo → holds e k ≡ false
-holds_none e k h = by_lt_z k e.lo (holds_under e k) (λ l. holds_over e k (omega (arith, ints)))
-
-module _ {T : Type 0} (rank : T → ℤ) (ranges : List (RangeInclusive T)) (r : RangeInclusive T) (old : List (Entry (Unit {0}))) (same : (k : ℤ) → at old k ≡ at (bare_ranges rank ranges) k) where
-  with_last : (k : ℤ) → at (bare_ranges rank (ranges ++ r ∷ [])) k ≡ cond (holds (bare_range rank r) k) (Some tt) (at old k)
-  with_last k =
-      ap (λ es. at es k) (map-append (bare_range rank) ranges (r ∷ []))
-      ∙ (at_more (bare_ranges rank ranges) (bare_range rank r) k ∙ ap (λ o. cond (holds (bare_range rank r) k) (Some tt) o) (sym (same k)))
-
-  module _ (start end : T) (p : start ≡ range_inclusive_start r) (q : end ≡ range_inclusive_end r) where
-    -- one range painted
-    pub painted_more : (low high : ℤ) (new : List (Entry (Unit {0}))) → IsPainted unit_eq low high (entry (rank start) (rank end) tt) old new → (k : ℤ) → at new k ≡ at (bare_ranges rank (ranges ++ r ∷ [])) k
-    painted_more low high new i k =
-        let here : T → T → Option (Unit {0}) = λ x y. cond (int_le (rank x) k && int_le k (rank y)) (Some tt) (at old k) in
-        unit_same _ _ (i.content k) ∙ (ap (λ x. here x end) p ∙ (ap (λ y. here (range_inclusive_start r) y) q ∙ sym (with_last k)))
-
-    -- one reversed range left out
-    pub reversed_more : int_le (rank start) (rank end) ≡ false → (k : ℤ) → at old k ≡ at (bare_ranges rank (ranges ++ r ∷ [])) k
-    reversed_more h k = let a = ap rank p in let b = ap rank q in sym (with_last k ∙ ap (λ b. cond b (Some tt) (at old k)) (holds_none (bare_range rank r) k (omega (arith, ints, a, b, h))))
+-- the canonical list of ranges alone is their set
+pub set_of : (low high : ℤ) (ranges set : List (Entry (Unit {0}))) → IsCanonicalOf unit_eq low high ranges set → IsSetOf low high ranges set
+set_of low high ranges set c = record { range_set = c.range_map; same_keys = λ k. unit_same (at set k) (painted_in_order ranges (at []) k) (c.content k) ∙ last_is_at ranges k }
 
 -- ---- the same ranges
-
-range_decides : (e f : Entry (Unit {0})) → Decides (same_range e f) (e ≡ f)
-range_decides e f = (
-  λ h. let p = (signed_Decides e.lo f.lo).0 (first_so (int_eq e.lo f.lo) (int_eq e.hi f.hi) h) in let q = (signed_Decides e.hi f.hi).0 (second_so (int_eq e.lo f.lo) (int_eq e.hi f.hi) h) in λ i. record { lo = p i; hi = q i; value = tt },
-  λ p. rw (ap (λ x. x.lo) p, ap (λ x. x.hi) p) (rw ((signed_Decides f.lo f.lo).1 refl, (signed_Decides f.hi f.hi).1 refl) refl),
-)
-
-module _ (L M : List (Entry (Unit {0}))) (r : Bool) (is : r ≡ same_ranges L M) where
-  pub ranges_decide : Decides r (L ≡ M)
-  ranges_decide = subst (λ b. Decides b (L ≡ M)) (sym is) (pointwise_decides range_decides L M)
 
 entries_same : (L M : List (Entry (Unit {0}))) → SameEntries unit_eq L M → L ≡ M
 entries_same [] [] s = refl
@@ -77,9 +44,15 @@ same_of None (Some y) p = absurd cc
 same_of (Some x) None p = absurd cc
 same_of (Some x) (Some y) p = refl
 
--- sets with the same keys have the same ranges
-pub keys_decide : (low high : ℤ) (L M : List (Entry (Unit {0}))) (r : Bool) → r ≡ same_ranges L M → IsRangeSet low high L → IsRangeSet low high M → Decides r ((k : ℤ) → at L k ≡ at M k)
-keys_decide low high L M r is l m = (
-  λ h k. ap (λ es. at es k) ((ranges_decide L M r is).0 h),
-  λ s. (ranges_decide L M r is).1 (entries_same L M (canonical_is_unique unit_eq unit_laws L M l.runs m.runs (λ k. same_of (at L k) (at M k) (s k)))),
-)
+module _ (L M : List (Entry (Unit {0}))) (r : Bool) (is : r ≡ same_ranges L M) where
+  pub ranges_decide : Decides r (L ≡ M)
+  ranges_decide = (
+    λ h. entries_same L M (same_from_test unit_eq L M (sym is ∙ h)),
+    λ p. is ∙ test_from_same unit_eq L M (subst (SameEntries unit_eq L) p (entries_themselves unit_eq unit_laws L)),
+  )
+
+  -- sets with the same keys have the same ranges
+  pub keys_decide : (low high : ℤ) → IsRangeSet low high L → IsRangeSet low high M → Decides r ((k : ℤ) → at L k ≡ at M k)
+  keys_decide low high l m =
+      let content = content_decides unit_eq unit_laws low high L M r is l m in
+      (λ h k. unit_same (at L k) (at M k) (content.0 h k), λ s. content.1 (λ k. same_of (at L k) (at M k) (s k)))

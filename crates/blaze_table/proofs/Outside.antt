@@ -23,11 +23,11 @@ module _ {V : Type 0} (l h : ℤ) where
   covered_append (x ∷ xs) ys = omega (arith, ints, covered_append xs ys)
 
   -- each starts at the range's first key or above
-  abbrev StartsFrom : List (Entry V) → Type 0
+  abbrev pub StartsFrom : List (Entry V) → Type 0
   StartsFrom [] = Unit {0}
   StartsFrom (e ∷ es) = (l ≤ℤ e.lo) × StartsFrom es
 
-  ascend_from : (b high : ℤ) (es : List (Entry V)) → l ≤ℤ b → StartsAscend b high es → StartsFrom es
+  pub ascend_from : (b high : ℤ) (es : List (Entry V)) → l ≤ℤ b → StartsAscend b high es → StartsFrom es
   ascend_from b high [] w s = tt
   ascend_from b high (e ∷ es) w s = (omega (arith, ints, s.0), ascend_from (e.lo +ℤ pos 1) high es (omega (arith, ints, s.0)) s.2)
 
@@ -35,7 +35,7 @@ module _ {V : Type 0} (l h : ℤ) where
   append_from [] ys x y = y
   append_from (e ∷ xs) ys x y = (x.0, append_from xs ys x.1 y)
 
-  reverse_from : (es : List (Entry V)) → StartsFrom es → StartsFrom (reverse es)
+  pub reverse_from : (es : List (Entry V)) → StartsFrom es → StartsFrom (reverse es)
   reverse_from [] s = tt
   reverse_from (e ∷ es) s = subst StartsFrom (sym (reverse-append (e ∷ []) es)) (append_from (reverse es) (e ∷ []) (reverse_from es s.1) (s.0, tt))
 

@@ -4,20 +4,22 @@ use Rattle.std.specs.Prelude.{IfSome, int_lt, int_le}
 use Rattle.std.specs.Cmp.{IsEquivalence}
 use Rattle.std.specs.Option.{option_map}
 use Rattle.std.proofs.lemmas.Int.{ints, by_lt_z}
-use Rattle.blaze_entries.specs.Found.{found_in, ranks_of}
+use Rattle.blaze_entries.specs.Found.{found_in, range_in, ranks_of}
 use Rattle.blaze_entries.specs.Scanned.{Seen}
 use Rattle.blaze_entries.specs.Starts.{StartsAscend, from, last_below, start_at}
-use Rattle.blaze_entries.proofs.Ascending.{start_none}
+use Rattle.blaze_entries.specs.declared.found.Found.{Found}
+use Rattle.blaze_entries.proofs.Ascending.{by_order, start_none}
 use Rattle.blaze_entries.proofs.Halves.{StartsBelow, from_takes, from_skips}
 use Rattle.blaze_table.specs.Entries.{Entry, entry}
 use Rattle.blaze_table.specs.Canonical.{IsCanonical}
-use Rattle.blaze_table.specs.Planned.{IsUnjoined, IsJoinedTo, IsEnd, rest_of, joined_start, IsPlanOf, IsRestOf, IsRest}
+use Rattle.blaze_table.specs.Planned.{IsUnjoined, IsJoinedTo, IsEnd, rest_of, joined_start, ends_of, IsPlanOf, IsRestOf, IsRest}
 use Rattle.blaze_table.specs.Splice.{after}
 use Rattle.blaze_table.proofs.Lookup.{IsAbove, IsAbove-from_apart}
 use Rattle.blaze_table.proofs.Splices.{by_after, by_bool, after_skips, lt_true, lt_false, le_true, le_false}
-use Rattle.blaze_table.proofs.Splits.{LastAt, last_at, no_last_from, more_below, after_short, after_long, after_none, none_next}
+use Rattle.blaze_table.proofs.Splits.{LastAt, last_at, no_last_from, more_below, append_assoc, after_short, after_long, after_none, none_next}
 use Rattle.blaze_table.proofs.Growing.{last_there, below_last}
 use Rattle.blaze_table.proofs.EditLists.{start_skips, start_below}
+use Rattle.blaze_table.proofs.Holders.{none-between, starts_behind}
 use Rattle.blaze_table.proofs.Placing.{ends_before}
 use Rattle.blaze_table.proofs.Widened.{after_over, started_at}
 
@@ -168,3 +170,42 @@ module _ {V : Type 0} (eq : V → V → Bool) (v : V) (l low high : ℤ) (es : L
         where
           same : (e : Entry V) → l ≡ e.lo → l ≡ e.lo
           same e p = p
+
+-- where the last entry below a range ends in it, that with keys on both sides of the range's end starts in it
+module _ {V : Type 0} (eq : V → V → Bool) (l z low high : ℤ) (w : l ≤ℤ z) (es : List (Entry V)) (s : StartsAscend low high es) (c : IsCanonical eq es) where
+  rest_up : (k t : ℤ) → IsRestOf z es k t → ((e : Entry V) → last_below l es ≡ Some e → e.hi ≤ℤ z) → l ≤ℤ k
+  rest_up k t r short = by_lt_z k l (λ u. absurd (by_last u (last_below l es) refl)) (λ u. u)
+    where
+      none_some : (o : Option (Entry V)) → o ≡ Some r.of → o ≡ None → ⊥
+      none_some o p q = cc
+
+      one : {e : Entry V} (o : Option (Entry V)) → o ≡ Some r.of → o ≡ Some e → r.of ≡ e
+      one o p q = cc
+
+      by_last : k <ℤ l → (o : Option (Entry V)) → last_below l es ≡ o → ⊥
+      by_last u None q = none_some (start_at k es) r.found (start_none k l high es u (no_last_from l low high es s q))
+      by_last u (Some e) q =
+          let i = last_at l low high e es s q in
+          let up = i.starts in
+          let here = last_there l high e es i in
+          let ends = r.ends in
+          let over = r.over in
+          let under = short e q in
+          by_order k e.lo
+          (λ o p t. let before = ends_before eq k e.lo r.of e es c r.found here o in omega (arith, ints))
+          (λ o p t. let same = ap (λ (x : Entry V). x.hi) (one (start_at k es) r.found (ap (λ x. start_at x es) o ∙ here)) in omega (arith, ints))
+          (λ o p t. none_some (start_at k es) r.found (ap (start_at k) (i.parts ∙ sym (append_assoc i.front (e ∷ []) i.back))
+          ∙ none-between k l high (i.front ++ e ∷ []) i.back (starts_behind k i.front e (more_below e.lo k i.front (omega (arith, ints)) i.front_below) o) u i.back_from))
+
+  pub above_rest : {T : Type 0} (rank : T → ℤ) (r : Option (T × T)) (left : Option (Found T)) → IsRest z es (option_map (ranks_of rank) r)
+      → option_map (ends_of rank) left ≡ option_map range_in (last_below l es) → IfSome left (λ f. rank f.end ≤ℤ z) → IfSome r (λ x. l ≤ℤ rank x.0)
+  above_rest rank None left i p q = tt
+  above_rest {T} rank (Some x) left i p q = rest_up (rank x.0) (rank x.1) i (short left (last_below l es) p q)
+    where
+      short : (left : Option (Found T)) (o : Option (Entry V)) → option_map (ends_of rank) left ≡ option_map range_in o → IfSome left (λ f. rank f.end ≤ℤ z) → (e : Entry V) → o ≡ Some e → e.hi ≤ℤ z
+      short None o p q e t = let both : None ≡ Some (range_in e) = p ∙ ap (option_map range_in) t in cc
+      short (Some f) o p q e t =
+          let both : Some (ends_of rank f) ≡ Some (range_in e) = p ∙ ap (option_map range_in) t in
+          let ends : ends_of rank f ≡ range_in e = cc in
+          let same = ap (λ (x : ℤ × ℤ). x.1) ends in
+          omega (arith, ints)

@@ -1,7 +1,7 @@
 -- The laws of canonical lists.
 use Rattle.std.specs.Prelude.{◌≡◌, ◌↔◌, ◌≤◌, ℤ, pos, length, Bool, List}
 use Rattle.blaze_table.specs.Entries.{Entry, at, SameContent, SameEntries}
-use Rattle.blaze_table.specs.Canonical.{IsDisjoint, IsOnePerRun, IsCanonical, IsRangeMap}
+use Rattle.blaze_table.specs.Canonical.{IsAscending, IsDisjoint, IsOnePerRun, IsCanonical, IsRangeMap}
 use Rattle.blaze_table.specs.Count.{keys_in, mapped_keys}
 use Rattle.blaze_table.specs.Pairs.{pair_list, ArePairsOf}
 
@@ -16,6 +16,16 @@ CanonicalIsUnique {V} eq = (L M : List (Entry V)) → IsOnePerRun eq L → IsOne
 -- no disjoint list with the content of a canonical one has fewer entries
 abbrev pub CanonicalIsFewest : {V : Type 0} → (V → V → Bool) → Type 0
 CanonicalIsFewest {V} eq = (L M : List (Entry V)) → IsOnePerRun eq L → IsDisjoint M → SameContent eq L M → length L ≤ length M
+
+-- the only shortest list: no disjoint list with its content has fewer entries, and an ascending disjoint list with that content
+-- and as many entries has the same ranges and equal values, position by position
+pub record IsShortest {V : Type 0} (eq : V → V → Bool) (entries : List (Entry V)) : Type 0 where
+  pub fewest : (others : List (Entry V)) → IsDisjoint others → SameContent eq entries others → length entries ≤ length others
+  pub only : (others : List (Entry V)) → IsDisjoint others → IsAscending others → SameContent eq entries others → length others ≡ length entries → SameEntries eq entries others
+
+-- a canonical list is the only shortest with its content
+abbrev pub CanonicalIsShortest : {V : Type 0} → (V → V → Bool) → Type 0
+CanonicalIsShortest {V} eq = (L : List (Entry V)) → IsOnePerRun eq L → IsShortest eq L
 
 -- the lengths of a range map's ranges add up to the number of keys that have a value
 abbrev pub LengthsAreMapped : {V : Type 0} → (V → V → Bool) → Type 0

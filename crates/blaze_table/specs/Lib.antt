@@ -6,6 +6,7 @@ pub mod Laws
 pub mod Painted
 pub mod Chosen
 pub mod Complement
+pub mod Equality
 pub mod Cut
 pub mod Gap
 pub mod Pairs
@@ -20,3 +21,7 @@ pub mod Whole
 pub mod Planned
 pub mod Work
 pub mod LastBelow
+pub mod Swept
+pub mod CanonicalOf
+pub mod Pieces
+pub mod Held

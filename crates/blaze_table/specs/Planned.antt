@@ -1,11 +1,12 @@
 -- A paint planned by what lies beside its range, and the steps that make it, in the words of the list.
 use Rattle.std.specs.Prelude.{◌≡◌, ℕ, ◌+◌, ◌≤◌, ◌⊎◌, ◌++◌, ◌&&◌, ◌||◌, ℤ, pos, ◌+ℤ◌, ◌≤ℤ◌, ◌<ℤ◌, int_lt, int_le, if◌then◌else◌, Bool, true, false, List, [], ◌∷◌, length, Option, Some, None}
-use Rattle.std.specs.Option.{option_map}
+use Rattle.std.specs.List.{filter}
+use Rattle.std.specs.Option.{option_map, is_some}
 use Rattle.std.specs.Ordering.{int_eq}
 use Rattle.blaze_entries.specs.Counted.{CountedEntries}
 use Rattle.blaze_entries.specs.Found.{found_in}
 use Rattle.blaze_entries.specs.Scanned.{Seen}
-use Rattle.blaze_entries.specs.Starts.{below, from, last_below, start_at}
+use Rattle.blaze_entries.specs.Starts.{below, from, last_below, start_at, with_entry}
 use Rattle.blaze_entries.specs.declared.found.Found.{Found}
 use Rattle.blaze_table.specs.Entries.{Entry, entry, SameEntries}
 use Rattle.blaze_table.specs.Splice.{before, after}
@@ -56,6 +57,24 @@ pub record IsPlanOf {V : Type 0} (eq : V → V → Bool) (l h : ℤ) (v : V) (es
   pub first : s.first ≡ option_map (found_in eq v) (start_at l es)
   pub left : s.left ≡ option_map (found_in eq v) (last_below l es)
 
+-- the entries that start above f, up to z
+abbrev pub starts_in : {V : Type 0} → ℤ → ℤ → List (Entry V) → List (Entry V)
+starts_in f z es = from (f +ℤ pos 1) (below (z +ℤ pos 1) es)
+
+-- the entries that start above f and end up to z
+abbrev pub ends_in : {V : Type 0} → ℤ → ℤ → List (Entry V) → List (Entry V)
+ends_in f z es = filter (λ e. int_le e.hi z) (from (f +ℤ pos 1) es)
+
+-- the start of the first of the entries, and whether there are more
+abbrev pub least : {V : Type 0} → List (Entry V) → Option (ℤ × Bool)
+least [] = None
+least (e ∷ es) = Some (e.lo, is_some (least es))
+
+-- the same with an entry before them that was looked at, if it ends up to z
+abbrev pub least_with : ℤ → Option (ℤ × ℤ × Bool) → Option (ℤ × Bool) → Option (ℤ × Bool)
+least_with z None c = c
+least_with z (Some t) c = if int_le t.1 z then Some (t.0, is_some c) else c
+
 -- ---- the steps
 
 -- the ends of an entry that was looked at
@@ -77,25 +96,19 @@ abbrev pub IsRest : {V : Type 0} → ℤ → List (Entry V) → Option (ℤ × �
 IsRest z es None = after z es ≡ from (z +ℤ pos 1) es
 IsRest z es (Some r) = IsRestOf z es r.0 r.1
 
--- an entry starts at n, that ends where the entry at s ended and has an equal value; what starts up to k is as before, and
--- so is what starts from n on
-pub record IsRestPut {V : Type 0} (eq : V → V → Bool) (k s n : ℤ) (old new : List (Entry V)) : Type 0 where
-  pub of : Entry V
-  pub found : start_at s old ≡ Some of
-  pub value : V
-  pub like : eq of.value value ≡ true
-  pub below : below (k +ℤ pos 1) new ≡ below (k +ℤ pos 1) old
-  pub from : from n new ≡ entry n of.hi value ∷ from n old
-
--- what lies above z starts above it, with equal values, and what starts up to k is as before
+-- what lies above z starts above it, with equal values, what starts up to k is as before, and what starts between them is what
+-- ended there
 pub record IsRestKept {V : Type 0} (eq : V → V → Bool) (k z : ℤ) (old new : List (Entry V)) : Type 0 where
   pub below : below (k +ℤ pos 1) new ≡ below (k +ℤ pos 1) old
+  pub amid : starts_in k z new ≡ ends_in k z old
   pub like : SameEntries eq (after z old) (from (z +ℤ pos 1) new)
 
--- the entry p is there, what lies above its end starts above it, with equal values, and what starts below p is as before
+-- the entry p is there, what lies above its end starts above it, with equal values, what starts below p is as before, and what
+-- starts in it is what ended there
 pub record IsStartPut {V : Type 0} (eq : V → V → Bool) (p : Entry V) (old new : List (Entry V)) : Type 0 where
   pub below : below p.lo new ≡ below p.lo old
   pub here : start_at p.lo new ≡ Some p
+  pub amid : starts_in p.lo p.hi new ≡ ends_in p.lo p.hi old
   pub like : SameEntries eq (after p.hi old) (from (p.hi +ℤ pos 1) new)
 
 -- the entry p stands in the list, between what lies below and above it
@@ -122,3 +135,10 @@ pub record IsWorked {V : Type 0} (p q : ℕ) (old new : CountedEntries V) : Type
   pub balance : length new.entries + new.taken_out + old.put_in ≡ length old.entries + old.taken_out + new.put_in
   pub taken : old.taken_out ≤ new.taken_out
   pub looks : new.looks + old.taken_out ≤ old.looks + new.taken_out + q
+
+-- an entry from l up to h was put in, with a clone of v
+pub record IsClonePut {V : Type 0} (is_clone : V → V → Type 0) (v : V) (l h : ℤ) (old new : CountedEntries V) : Type 0 where
+  pub value : V
+  pub clone : is_clone v value
+  pub longer : length new.entries ≡ length old.entries + 1
+  pub put : new ≡ record old { entries = with_entry (entry l h value) old.entries; put_in = old.put_in + 1 }

@@ -1,12 +1,11 @@
 -- Ranges alone, seen as entries with the unit value, and what the ranges of a set are.
 use Rattle.std.specs.Prelude.{◌≡◌, ℤ, Bool, true, List, map, refl}
-use Rattle.std.specs.Cmp.Lexicographic.{pointwise}
-use Rattle.std.specs.Ordering.{int_eq, on, eq_of_both}
 use Rattle.std.specs.Coded.{Coded, code_by, coded×, coded_ℤ}
 use Rattle.std.specs.declared.ops.RangeInclusive.{RangeInclusive}
 use Rattle.std.specs.Range.{range_inclusive_start, range_inclusive_end}
 use Rattle.blaze_table.specs.Entries.{Entry, at}
 use Rattle.blaze_table.specs.Canonical.{IsRangeMap}
+use Rattle.blaze_table.specs.Equality.{same_entries}
 
 -- a range alone, as an entry with the unit value
 abbrev pub bare_range : {T : Type 0} → (T → ℤ) → RangeInclusive T → Entry (Unit {0})
@@ -33,10 +32,6 @@ pub record IsSetOf (low high : ℤ) (ranges set : List (Entry (Unit {0}))) : Typ
   pub range_set : IsRangeSet low high set
   pub same_keys : (k : ℤ) → at set k ≡ at ranges k
 
--- whether two ranges have the same ends
-abbrev pub same_range : Entry (Unit {0}) → Entry (Unit {0}) → Bool
-same_range = eq_of_both (on (λ e. e.lo) int_eq) (on (λ e. e.hi) int_eq)
-
 -- whether two lists of ranges are the same
 abbrev pub same_ranges : List (Entry (Unit {0})) → List (Entry (Unit {0})) → Bool
-same_ranges = pointwise (eq_of_both (on (λ e. e.lo) int_eq) (on (λ e. e.hi) int_eq))
+same_ranges = same_entries unit_eq

@@ -1,12 +1,13 @@
 //! A key taken out of entries, in place. Each clone and each growth comes before the first edit that can't be taken back.
 ghost use Rattle.std.specs.Prelude.{◌≡◌, Some, None, pos, ◌+ℤ◌, ◌≤ℤ◌, ◌<ℤ◌, Ok, OnOk, OnErr, IfOk};
+ghost use Rattle.blaze_entries.specs.Starts.{start_at};
 ghost use Rattle.blaze_table.specs.Canonical.{IsCanonical};
 ghost use Rattle.blaze_table.specs.Work.{IsCountedCut};
 ghost use Rattle.blaze_table.specs.Cut.{IsAmongOthers};
 ghost use Rattle.blaze_table.specs.Entries.{at, SameOption};
 ghost use Rattle.blaze_table.specs.LastBelow.{IsLastBelow};
 ghost use Rattle.blaze_table.specs.Painted.{ClonesAreAlike};
-ghost use Rattle.blaze_table.specs.Planned.{IsWorked};
+ghost use Rattle.blaze_table.specs.Planned.{IsClonePut, IsWorked};
 ghost use Rattle.blaze_table.specs.Splice.{IsCutOf, IsListCut};
 ghost use Rattle.blaze_table.specs.Table.{IsTable};
 
@@ -14,6 +15,23 @@ use blaze_entries::Counted;
 use blaze_int::compare::{after, before, is_at_most, is_below};
 use blaze_int::{Integer, SafeLength};
 use std::alloc::AllocError;
+
+// Puts an entry in at a start where none is, with a clone of a value.
+fn put_clone<T: Integer, V: Clone>(
+    entries: &mut Counted<T, V>,
+    start: T,
+    end: T,
+    value: &V,
+) -> Result<(), AllocError>
+    requires { start_at (T.rank start) entries.old.entries ≡ None }
+    ensures put { OnOk result
+        (IsClonePut V.is_clone value.now (T.rank start) (T.rank end) entries.old entries.new) }
+    ensures err { OnErr result (entries.new ≡ entries.old) }
+{
+    let value = value.clone()?;
+    entries.insert(start, end, value)?;
+    Ok(())
+}
 
 // Takes a key out of the entry that has keys below and above it.
 fn cut_inside<T: Integer, V: Eq + Clone>(
@@ -35,9 +53,11 @@ fn cut_inside<T: Integer, V: Eq + Clone>(
     ensures err { OnErr result (entries.new.entries ≡ entries.old.entries) }
 {
     entries.in_hand();
-    let value = entries.clone_value(start)?;
-    entries.insert_clone(start, after(key, end))?;
-    entries.set_end(start, before(key, start));
+    let value = entries.set_end_cloned(start, before(key, start))?;
+    if let Err(refused) = put_clone(entries, after(key, end), end, &value) {
+        entries.set_end(start, end);
+        return Err(refused);
+    }
     Ok(value)
 }
 
@@ -59,8 +79,7 @@ fn cut_end<T: Integer, V: Eq + Clone>(
     ensures err { OnErr result (entries.new.entries ≡ entries.old.entries) }
 {
     entries.in_hand();
-    let value = entries.clone_value(start)?;
-    entries.set_end(start, before(key, start));
+    let value = entries.set_end_cloned(start, before(key, start))?;
     Ok(value)
 }
 

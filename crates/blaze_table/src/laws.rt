@@ -1,5 +1,5 @@
 //! The laws of canonical lists, for every value type with a lawful equality.
-ghost use Rattle.blaze_table.specs.Laws.{CanonicalIsUnique, CanonicalIsFewest, LengthsAreMapped, PairsAreContent, StructureIsDefinition};
+ghost use Rattle.blaze_table.specs.Laws.{CanonicalIsUnique, CanonicalIsFewest, CanonicalIsShortest, LengthsAreMapped, PairsAreContent, StructureIsDefinition};
 
 use blaze_int::Integer;
 
@@ -16,6 +16,12 @@ pub fn canonical_is_unique<V: Eq>()
 /// No disjoint list with the content of a canonical list has fewer entries.
 pub fn canonical_is_fewest<V: Eq>()
     ensures { CanonicalIsFewest V.eq }
+{}
+
+/// A canonical list is the only shortest with its content: no disjoint list has fewer entries, and an ascending disjoint list
+/// with as many has the same ranges and equal values.
+pub fn canonical_is_shortest<V: Eq>()
+    ensures { CanonicalIsShortest V.eq }
 {}
 
 /// The lengths of a range map's ranges add up to the number of keys that have a value.

@@ -5,6 +5,7 @@ mod copy;
 mod count;
 mod cut;
 mod entry_keys;
+mod equality;
 mod gaps;
 mod into_ranges_iter;
 mod keep;
@@ -16,14 +17,13 @@ mod set_compare;
 mod set_display;
 mod splice;
 mod split;
+mod sweep;
 mod table;
 
-pub use blaze_entries::{IntoIter, Iter};
+pub use blaze_entries::{Count, IntoIter, Iter};
 pub use entry_keys::keys_in_hand;
 pub use into_ranges_iter::IntoRangesIter;
 pub use range_set::RangeSetBlaze;
 pub use ranges_iter::RangesIter;
+pub use sweep::canonical_of;
 pub use table::RangeTable;
-
-#[cfg(test)]
-mod tests;

@@ -8,9 +8,9 @@ ghost use Rattle.blaze_table.specs.RangeSets.{bare_ranges, IsSetOf, IsRangeSet};
 
 use crate::into_ranges_iter::IntoRangesIter;
 use crate::ranges_iter::RangesIter;
+use crate::sweep::canonical_of;
 use crate::table::RangeTable;
 use blaze_int::Integer;
-use blaze_int::compare::is_at_most;
 use std::alloc::{AllocError, Global};
 use std::marker::Model;
 use std::ops::RangeInclusive;
@@ -18,7 +18,7 @@ use std::ops::RangeInclusive;
 /// A set of keys, kept as ranges: ascending, and as few as there can be, so that no two touch.
 #[derive(Drop)]
 pub struct RangeSetBlaze<T: Integer> {
-    table: RangeTable<T, ()>,
+    pub(crate) table: RangeTable<T, ()>,
 }
 
 impl<T: Integer> Model for RangeSetBlaze<T> {
@@ -54,8 +54,8 @@ impl<T: Integer> RangeSetBlaze<T> {
         Ok(RangeSetBlaze { table })
     }
 
-    /// The set of the keys that at least one of the ranges has. A range whose end is below its start has no key. Refused
-    /// memory drops what came before.
+    /// The set of the keys that at least one of the ranges has. A range whose end is below its start has no key. It takes
+    /// O(n log n) steps for n ranges, and one pass where they ascend and are disjoint. Refused memory drops the ranges.
     pub fn from_ranges<I: IntoIterator<Item = RangeInclusive<T>>>(
         alloc: Global,
         iter: I,
@@ -63,14 +63,13 @@ impl<T: Integer> RangeSetBlaze<T> {
         requires { (it : I.IntoIter) → I.into_iter_gives iter it → I.IntoIter.can_next it × IsFinite (I.IntoIter.remaining it) }
         ensures { IfOk result (λ set. (it : I.IntoIter) × (ranges : List (RangeInclusive T)) × I.into_iter_gives iter it × Drains I.IntoIter.next_gives it ranges × IsSetOf T.low T.high (bare_ranges T.rank ranges) set) }
     {
-        let mut table = RangeTable::new(alloc);
+        let mut pairs = Vec::new(alloc);
         for range in iter {
             let (start, end) = range.into_inner();
-            if is_at_most(start, end) {
-                let _ = table.paint(start, end, ())?;
-            }
+            pairs.push((start, end, ()))?;
         }
-        table.in_hand();
+        let entries = canonical_of(alloc, pairs)?;
+        let table = RangeTable::from_canonical(alloc, entries)?;
         Ok(RangeSetBlaze { table })
     }
 

@@ -8,7 +8,8 @@ use Rattle.blaze_table.proofs.Unique.{same_along, same_itself, same_trans}
 use Rattle.range_map_blaze.specs.Filled.{IsFilled}
 use Rattle.range_map_blaze.specs.Union.{IsUnion}
 use Rattle.range_map_blaze.proofs.PaintedOver.{turned}
-use Rattle.range_map_blaze.proofs.Paintings.{or_alike, or_none, or_or}
+use Rattle.blaze_table.proofs.Lasts.{or_none, or_or}
+use Rattle.range_map_blaze.proofs.Paintings.{or_alike}
 use Rattle.range_map_blaze.proofs.Unions.{union_of}
 
 module _ {V : Type 0} where

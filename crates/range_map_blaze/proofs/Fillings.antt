@@ -10,7 +10,7 @@ use Rattle.blaze_table.specs.Painted.{IsPainted, or_else, painted}
 use Rattle.blaze_table.proofs.Lookup.{by_place, holds_in, holds_under, holds_over}
 use Rattle.blaze_table.proofs.Unique.{same_along, same_itself, same_trans}
 use Rattle.range_map_blaze.specs.Filled.{filled, IsFilled, IsPartlyFilled, IsHeldFrom, IsFirstGap}
-use Rattle.range_map_blaze.proofs.Paintings.{or_none}
+use Rattle.blaze_table.proofs.Lasts.{or_none}
 
 module _ {V : Type 0} where
   module _ (content : ℤ → Option V) (v : V) (l h k : ℤ) where

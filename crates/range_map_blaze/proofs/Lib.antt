@@ -6,7 +6,6 @@ pub mod Streams
 pub mod Choices
 pub mod PaintedOver
 pub mod Valued
-pub mod OneRange
 pub mod Insides
 pub mod Paintings
 pub mod Joinings
@@ -15,3 +14,10 @@ pub mod Gaps
 pub mod Fillings
 pub mod FilledUnder
 pub mod Unpainted
+pub mod Following
+pub mod PairOrder
+pub mod MapOrder
+pub mod Hashes
+pub mod LentValues
+pub mod AllKeys
+pub mod JoinedKeys

@@ -6,6 +6,7 @@ use Rattle.std.proofs.lemmas.Int.{ints}
 use Rattle.std.proofs.lemmas.List.{length-append, map-append}
 use Rattle.blaze_table.specs.Entries.{Entry, at, holds, SameOption}
 use Rattle.blaze_table.specs.Painted.{IsInside, IsPainted, or_else, last_at, painted_in_order}
+use Rattle.blaze_table.proofs.Lasts.{or_none, or_or, painted_one}
 use Rattle.blaze_table.proofs.Unique.{same_itself, same_trans}
 use Rattle.blaze_table.specs.Canonical.{IsCanonical, IsRangeMap}
 use Rattle.blaze_table.proofs.Runs.{canonical}
@@ -13,14 +14,6 @@ use Rattle.range_map_blaze.specs.Extended.{AreInside, IsExtended, IsPartlyExtend
 use Rattle.range_map_blaze.proofs.Insides.{inside_equal, inside_parts}
 
 module _ {V : Type 0} where
-  pub or_none : (a : Option V) → or_else a None ≡ a
-  or_none None = refl
-  or_none (Some x) = refl
-
-  pub or_or : (a b c : Option V) → or_else (or_else a b) c ≡ or_else a (or_else b c)
-  or_or None b c = refl
-  or_or (Some x) b c = refl
-
   -- the last of two lists is that of the second, where it has one
   pub last_append : (ps qs : List (Entry V)) (k : ℤ) → last_at (ps ++ qs) k ≡ or_else (last_at qs k) (last_at ps k)
   last_append [] qs k = sym (or_none (last_at qs k))
@@ -31,10 +24,6 @@ module _ {V : Type 0} where
 
   pub last_nowhere : (p : Entry V) (k : ℤ) → p.hi <ℤ p.lo → last_at (p ∷ []) k ≡ None
   last_nowhere p k w = ap (λ b. cond b (Some p.value) None) (no_key p k w)
-
-  pub painted_one : (b : Bool) (v : V) (o : Option V) → cond b (Some v) o ≡ or_else (cond b (Some v) None) o
-  painted_one true v o = refl
-  painted_one false v o = refl
 
 module _ {V : Type 0} (eq : V → V → Bool) (laws : IsEquivalence eq) where
   pub or_alike : (a b c d : Option V) → SameOption eq a b → SameOption eq c d → SameOption eq (or_else a c) (or_else b d)

@@ -12,7 +12,8 @@ use Rattle.blaze_table.proofs.Runs.{canonical, one_per_run}
 use Rattle.blaze_table.proofs.Unique.{same_itself, same_trans}
 use Rattle.range_map_blaze.specs.Union.{IsUnion}
 use Rattle.range_map_blaze.proofs.PaintedOver.{last_is_first, turned}
-use Rattle.range_map_blaze.proofs.Paintings.{or_alike, or_or, painted_one}
+use Rattle.blaze_table.proofs.Lasts.{or_or, painted_one}
+use Rattle.range_map_blaze.proofs.Paintings.{or_alike}
 
 -- a list with the content after the entries are painted in their order, with at most two entries more for each
 record IsManyPainted {V : Type 0} (eq : V → V → Bool) (ps old new : List (Entry V)) : Type 0 where

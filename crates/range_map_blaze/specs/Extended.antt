@@ -4,9 +4,9 @@ use Rattle.blaze_table.specs.Entries.{Entry, at, SameOption}
 use Rattle.blaze_table.specs.Canonical.{IsRangeMap}
 use Rattle.blaze_table.specs.Painted.{IsInside, painted_in_order}
 
--- a key with a value, as the entry of that key alone
-abbrev pub shown_point : {T V : Type 0} → (T → ℤ) → T × V → Entry V
-shown_point rank p = record { lo = rank p.0; hi = rank p.0; value = p.1 }
+-- a key and what shows its value, as the entry of that key alone
+abbrev pub shown_point : {T R V : Type 0} → (T → ℤ) → (R → V) → T × R → Entry V
+shown_point rank shown p = record { lo = rank p.0; hi = rank p.0; value = shown p.1 }
 
 -- each pair has no key, or lies inside one entry with an equal value
 abbrev pub AreInside : {V : Type 0} → (V → V → Bool) → List (Entry V) → List (Entry V) → Type 0

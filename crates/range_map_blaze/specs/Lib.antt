@@ -2,7 +2,14 @@ pub mod Pairs
 pub mod Printed
 pub mod OneRange
 pub mod Somewhere
+pub mod Within
 pub mod Extended
+pub mod Collected
 pub mod Underway
 pub mod Union
 pub mod Filled
+pub mod Order
+pub mod Hashed
+pub mod OrderLaws
+pub mod GapsFilled
+pub mod MapLaws

@@ -23,3 +23,12 @@ impl<T: Integer, V: Eq + Debug> fmt::Display for RangeMapBlaze<T, V> {
         Ok(())
     }
 }
+
+/// The text that `Display` gives.
+impl<T: Integer, V: Eq + Debug> Debug for RangeMapBlaze<T, V> {
+    ghost debug_output = { λ m. map_text T.debug_output T.of_rank V.debug_output m.entries };
+
+    fn fmt<W: fmt::Write>(&self, f: &mut fmt::Formatter<W>) -> fmt::Result {
+        fmt::Display::fmt(self, f)
+    }
+}

@@ -22,7 +22,7 @@ impl<T: Integer, V: Eq + Clone> RangeMapBlaze<T, V> {
         requires ends { (it : I.IntoIter) → I.into_iter_gives iter it → I.IntoIter.can_next it × IsFinite (I.IntoIter.remaining it) }
         requires clones { ClonesAreAlike V.is_clone V.eq }
         ensures { ExtendsWithItems I.into_iter_gives I.IntoIter.next_gives
-            (λ old items new. IsExtended V.eq T.low T.high (map (shown_point T.rank) items) old new) iter self.old.entries self.new.entries result }
+            (λ old items new. IsExtended V.eq T.low T.high (map (shown_point T.rank (λ v. v)) items) old new) iter self.old.entries self.new.entries result }
     {
         self.in_hand();
         let mut pending = None;

@@ -3,6 +3,7 @@ ghost use Rattle.std.specs.Prelude.{◌≡◌, ◌↔◌, ℤ, ◌≤ℤ◌, pos
 ghost use Rattle.blaze_table.specs.Entries.{Entry, at, SameEntries};
 ghost use Rattle.blaze_table.specs.Canonical.{IsRangeMap};
 ghost use Rattle.blaze_table.specs.Count.{keys_in, mapped_keys};
+ghost use Rattle.blaze_table.specs.Laws.{IsShortest};
 ghost use Rattle.blaze_table.specs.Painted.{ClonesAreAlike};
 
 use blaze_int::Integer;
@@ -10,6 +11,7 @@ use blaze_int::compare::length;
 use blaze_int::length::differ;
 use blaze_streams::RangeValuesIter;
 use blaze_table::RangeTable;
+use blaze_table::laws::canonical_is_shortest;
 use std::alloc::{AllocError, Global};
 use std::marker::Model;
 
@@ -72,16 +74,20 @@ impl<T: Integer, V: Eq> RangeMapBlaze<T, V> {
         !differ(self.len(), length(first, last))
     }
 
-    /// The number of entries.
+    /// The number of entries. They are the only shortest list with the map's content.
     pub fn ranges_len(&self) -> usize
-        ensures { result ≡ length self.now.entries }
+        ensures count { result ≡ length self.now.entries }
+        ensures shortest { IsShortest V.eq self.now.entries }
     {
+        canonical_is_shortest::<V>();
+        self.in_hand();
         self.table.entries()
     }
 
-    /// The number of entries.
+    /// The number of entries, as `ranges_len`.
     pub fn range_values_len(&self) -> usize
-        ensures { result ≡ length self.now.entries }
+        ensures count { result ≡ length self.now.entries }
+        ensures shortest { IsShortest V.eq self.now.entries }
     {
         self.ranges_len()
     }

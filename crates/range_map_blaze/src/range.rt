@@ -9,17 +9,17 @@ ghost use Rattle.blaze_table.specs.Pairs.{pair_list};
 ghost use Rattle.range_map_blaze.specs.OneRange.{one_range};
 ghost use Rattle.range_map_blaze.specs.Somewhere.{IsTakenSomewhere};
 
-use crate::lent::lent_intersection;
 use crate::map::RangeMapBlaze;
 use blaze_int::{Integer, bounds_of};
 use blaze_iters::IntoIterMap;
-use blaze_streams::CanonIter;
+use blaze_table::RangeTable;
 use std::alloc::AllocError;
 use std::ops::RangeBounds;
 
 impl<T: Integer, V: Eq + Clone> RangeMapBlaze<T, V> {
     /// The keys within a range that have a value, ascending, each with a value of its own. The bounds name a key, as
-    /// `names_a_key` tells. Refused memory leaves the map unchanged.
+    /// `names_a_key` tells. It takes a look-up for each entry within the range, and at most two more, however many entries
+    /// the map has. Refused memory leaves the map unchanged.
     pub fn range<R: RangeBounds<T> + Drop>(&self, range: R) -> Result<IntoIterMap<T, V>, AllocError>
         requires named { R.has_bounds range
             → start_rank T.rank T.low (R.start_bound range) ≤ℤ end_rank T.rank T.high (R.end_bound range) }
@@ -48,10 +48,9 @@ impl<T: Integer, V: Eq + Clone> RangeMapBlaze<T, V> {
         requires clones { ClonesAreAlike V.is_clone V.eq }
         ensures { IfOk result (λ map. IsChosen V.eq T.low T.high left_with_right self.now.entries (one_range (T.rank start) (T.rank end)) map.entries) }
     {
-        start.in_hand();
-        end.in_hand();
-        let mut ranges = Vec::new(self.allocator());
-        ranges.push(start..=end)?;
-        lent_intersection(self, self.range_values(), CanonIter::new(ranges))
+        self.in_hand();
+        let entries = self.clones_within(start, end)?;
+        let table = RangeTable::from_canonical(self.allocator(), entries)?;
+        Ok(RangeMapBlaze { table })
     }
 }

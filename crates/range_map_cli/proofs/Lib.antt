@@ -15,3 +15,13 @@ pub mod Counting
 pub mod EntryAt
 pub mod Listing
 pub mod Pieces
+pub mod EndKeys
+pub mod Stepped
+pub mod Alike
+pub mod Running
+pub mod Operators
+pub mod Equals
+pub mod Paints
+pub mod LookUps
+pub mod Calls
+pub mod OwnedCalls

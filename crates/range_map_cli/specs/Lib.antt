@@ -5,3 +5,5 @@ pub mod Replies
 pub mod Output
 pub mod States
 pub mod Sessions
+pub mod Steps
+pub mod Laws

@@ -2,14 +2,19 @@
 #![tactic(auto)]
 
 mod answer;
+pub mod laws;
 mod line;
 mod output;
 mod request;
 mod server;
 mod session;
 mod split;
+mod step;
+mod steps;
 
 pub use server::serve;
+pub use step::{Answer, Refused, Step};
+pub use steps::run;
 
 #[cfg(test)]
 mod tests;

@@ -1,13 +1,17 @@
 //! The call of a line.
 use crate::changes::Change;
+use crate::comparisons::Comparison;
 use crate::extends::Extend;
 use crate::fault::Fault;
+use crate::from_pairs::FromPairs;
 use crate::iterate::Iterate;
+use crate::joins::Join;
 use crate::keys::ScriptKey;
 use crate::look_ups::LookUp;
 use crate::makes::Make;
 use crate::operators::{Complement, Operation};
 use crate::other_maps::OtherMap;
+use crate::runs::Run;
 use crate::sets::{SetLookUp, ranges};
 use crate::state::{MapName, SetName, State};
 use range_map_blaze::RangeSetBlaze;
@@ -30,9 +34,13 @@ pub enum Call<T: ScriptKey> {
     Change(MapName, Change<T>),
     Extend(MapName, Extend<T>),
     OtherMap(OtherMap),
+    Compare(Comparison),
+    Run(MapName, Run<T>),
     Iterate(MapName, Iterate<T>),
     Make(MapName, Make<T>),
     Operate(MapName, Operation),
+    Join(MapName, Join),
+    FromPairs(MapName, FromPairs<T>),
     Complement(SetName, Complement),
     Set(SetName, Vec<RangeInclusive<T>>),
     SetLookUp(SetName, SetLookUp<T>),
@@ -63,11 +71,17 @@ impl<T: ScriptKey> Call<T> {
         if let Ok(other) = OtherMap::read(map, words) {
             return Ok(Call::OtherMap(other));
         }
+        if let Ok(comparison) = Comparison::read(map, words) {
+            return Ok(Call::Compare(comparison));
+        }
         if let Some(change) = unless_bad(Change::read(alloc, words))? {
             return Ok(Call::Change(map, change));
         }
         if let Some(extend) = unless_bad(Extend::read(alloc, words))? {
             return Ok(Call::Extend(map, extend));
+        }
+        if let Some(run) = unless_bad(Run::read(alloc, map, words))? {
+            return Ok(Call::Run(map, run));
         }
         Ok(Call::Iterate(map, Iterate::read(alloc, words)?))
     }
@@ -76,6 +90,12 @@ impl<T: ScriptKey> Call<T> {
     fn read_map(alloc: Global, target: MapName, words: &[&str]) -> Result<Self, Fault> {
         if let Ok(operation) = Operation::read(words) {
             return Ok(Call::Operate(target, operation));
+        }
+        if let Ok(join) = Join::read(words) {
+            return Ok(Call::Join(target, join));
+        }
+        if let Some(pairs) = unless_bad(FromPairs::read(alloc, words))? {
+            return Ok(Call::FromPairs(target, pairs));
         }
         Ok(Call::Make(target, Make::read(alloc, target, words)?))
     }
@@ -98,6 +118,8 @@ impl<T: ScriptKey> Call<T> {
             Call::Change(map, change) => return change.make(state.map_mut(map), reply),
             Call::Extend(map, extend) => return extend.make(state.map_mut(map), reply),
             Call::OtherMap(other) => return other.make(state, reply),
+            Call::Compare(comparison) => return comparison.make(state, reply),
+            Call::Run(map, run) => return run.make(map, state, reply),
             Call::Iterate(map, iterate) => return iterate.make(map, state, reply),
             Call::SetLookUp(set, look_up) => return look_up.make(set, state, reply),
             Call::Make(target, make) => {
@@ -106,6 +128,14 @@ impl<T: ScriptKey> Call<T> {
             }
             Call::Operate(target, operation) => {
                 let map = operation.make(state)?;
+                state.set_map(target, map);
+            }
+            Call::FromPairs(target, pairs) => {
+                let map = pairs.make(state.alloc)?;
+                state.set_map(target, map);
+            }
+            Call::Join(target, join) => {
+                let map = join.make(state)?;
                 state.set_map(target, map);
             }
             Call::Complement(target, complement) => {

@@ -38,7 +38,7 @@ impl<T: ScriptKey> Extend<T> {
 }
 
 /// The pairs that words write: a key, its value, and so on.
-fn points<T: ScriptKey>(alloc: Global, words: &[&str]) -> Result<Vec<(T, String)>, Fault> {
+pub fn points<T: ScriptKey>(alloc: Global, words: &[&str]) -> Result<Vec<(T, String)>, Fault> {
     let mut pairs = Vec::new(alloc);
     for pair in words.chunks(2) {
         let [word, text] = pair else {
@@ -50,7 +50,7 @@ fn points<T: ScriptKey>(alloc: Global, words: &[&str]) -> Result<Vec<(T, String)
 }
 
 /// The pairs that words write: a range, its value, and so on.
-fn ranges<T: ScriptKey>(
+pub fn ranges<T: ScriptKey>(
     alloc: Global,
     words: &[&str],
 ) -> Result<Vec<(RangeInclusive<T>, String)>, Fault> {

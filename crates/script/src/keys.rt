@@ -2,10 +2,11 @@
 use range_map_blaze::{Integer, UIntPlusOne};
 use std::alloc::AllocError;
 use std::fmt::Write;
+use std::hash::Hash;
 use std::str::FromStr;
 
 /// A key type that a script can name.
-pub trait ScriptKey: Integer {
+pub trait ScriptKey: Integer + Hash {
     /// The key that a word writes.
     fn read(word: &str) -> Option<Self>;
 

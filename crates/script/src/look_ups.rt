@@ -21,6 +21,8 @@ pub enum LookUp<T: ScriptKey> {
     IsUniversal,
     RangesLen,
     List,
+    FillGaps,
+    Debug,
 }
 
 impl<T: ScriptKey> LookUp<T> {
@@ -40,6 +42,8 @@ impl<T: ScriptKey> LookUp<T> {
             ["is_universal"] => Ok(LookUp::IsUniversal),
             ["ranges_len"] => Ok(LookUp::RangesLen),
             ["list"] => Ok(LookUp::List),
+            ["fill_gaps"] => Ok(LookUp::FillGaps),
+            ["debug"] => Ok(LookUp::Debug),
             _ => Err(Fault::Bad),
         }
     }
@@ -65,6 +69,8 @@ impl<T: ScriptKey> LookUp<T> {
             LookUp::IsUniversal => write!(reply, "{}", map.is_universal())?,
             LookUp::RangesLen => write!(reply, "{}", map.ranges_len())?,
             LookUp::List => write!(reply, "{map}")?,
+            LookUp::FillGaps => write!(reply, "{}", map.fill_gaps()?)?,
+            LookUp::Debug => write!(reply, "{map:?}")?,
         }
         Ok(())
     }

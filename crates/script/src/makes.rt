@@ -1,5 +1,6 @@
 //! `c = clone a` and kin: a map made of one map or of a value.
 use crate::fault::Fault;
+use crate::joins::first_characters;
 use crate::keys::ScriptKey;
 use crate::state::{Map, MapName, State};
 use crate::words::{key, value};
@@ -12,6 +13,7 @@ pub enum Make<T: ScriptKey> {
     ComplementWith(MapName, String),
     UniverseWith(String),
     SplitOff(MapName, T),
+    TransformValues(MapName),
 }
 
 impl<T: ScriptKey> Make<T> {
@@ -19,6 +21,7 @@ impl<T: ScriptKey> Make<T> {
     pub fn read(alloc: Global, target: MapName, words: &[&str]) -> Result<Self, Fault> {
         match words {
             ["clone", map] => Ok(Make::Clone(MapName::read(map)?)),
+            ["transform_values", map] => Ok(Make::TransformValues(MapName::read(map)?)),
             ["complement_with", map, text] => {
                 Ok(Make::ComplementWith(MapName::read(map)?, value(alloc, text)?))
             }
@@ -40,6 +43,7 @@ impl<T: ScriptKey> Make<T> {
             Make::Clone(map) => Ok(state.map(map).clone()?),
             Make::ComplementWith(map, value) => Ok(state.map(map).complement_with(&value)?),
             Make::UniverseWith(value) => Ok(Map::universe_with(state.alloc, &value)?),
+            Make::TransformValues(map) => first_characters(state.alloc, state.map(map)),
             Make::SplitOff(map, key) => Ok(state.map_mut(map).split_off(key)?),
         }
     }

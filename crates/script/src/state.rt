@@ -2,7 +2,7 @@
 use crate::fault::Fault;
 use crate::keys::ScriptKey;
 use range_map_blaze::{RangeMapBlaze, RangeSetBlaze};
-use std::alloc::Global;
+use std::alloc::{AllocError, Global};
 use std::mem;
 
 /// A map of a script: its values are words.
@@ -111,6 +111,11 @@ impl<T: ScriptKey> State<T> {
             SetName::S => &self.s,
             SetName::T => &self.t,
         }
+    }
+
+    /// A copy of a set.
+    pub fn clone_set(&self, name: SetName) -> Result<RangeSetBlaze<T>, AllocError> {
+        RangeSetBlaze::from_ranges(self.alloc, self.set(name).ranges())
     }
 
     /// A set by value: an empty one is left.

@@ -1,21 +1,55 @@
-//! A planned paint made: what is to be put in first, then the edits that can't be refused.
+//! A planned paint made: what may be refused first, then the edits that can't be.
 ghost use Rattle.std.specs.Prelude.{◌≡◌, ◌≤ℤ◌, ◌<ℤ◌, OnOk, OnErr, IfSome, IsSome};
 ghost use Rattle.std.specs.Option.{option_map};
 ghost use Rattle.blaze_entries.specs.Found.{found_of, range_in, ranks_of};
-ghost use Rattle.blaze_entries.specs.Scanned.{seen_of};
+ghost use Rattle.blaze_entries.specs.Scanned.{seen_of, least_by};
 ghost use Rattle.blaze_entries.specs.Starts.{last_below, start_at};
 ghost use Rattle.blaze_table.specs.Canonical.{IsCanonical};
 ghost use Rattle.blaze_table.specs.Entries.{entry};
 ghost use Rattle.blaze_table.specs.Painted.{ClonesAreAlike};
-ghost use Rattle.blaze_table.specs.Planned.{ends_of, joined_start, IsRest, IsPutAt, IsExtended, IsPlanOf, IsWorked};
+ghost use Rattle.blaze_table.specs.Planned.{ends_of, joined_start, ends_in, least, least_with, IsRest, IsPutAt, IsExtended, IsPlanOf, IsWorked};
 ghost use Rattle.blaze_table.specs.Splice.{IsPaintOf};
 
 use super::edits::{clear, trim};
+use super::inside::put_inside;
 use super::place::{move_rest, put};
 use blaze_entries::{Counted, Found, Plan};
 use blaze_int::Integer;
-use blaze_int::compare::{is_at_most, is_next};
+use blaze_int::compare::{is_at_most, is_below, is_next};
 use std::alloc::AllocError;
+
+// Puts a value on the keys from lo up to the plan's end, where no entry beside them is to be joined, and none goes on both
+// below and above them.
+fn paint_beside<T: Integer, V: Eq + Drop>(
+    entries: &mut Counted<T, V>,
+    lo: T,
+    value: V,
+    plan: Plan<T>,
+) -> Result<(), AllocError>
+    requires order { T.rank lo ≤ℤ T.rank plan.end }
+    requires canonical { IsCanonical V.eq entries.old.entries }
+    requires first { option_map (ends_of T.rank) plan.first
+        ≡ option_map range_in (start_at (T.rank lo) entries.old.entries) }
+    requires rest { IsRest
+        (T.rank plan.end) entries.old.entries (option_map (ranks_of T.rank) plan.rest) }
+    requires left { option_map (ends_of T.rank) plan.left
+        ≡ option_map range_in (last_below (T.rank lo) entries.old.entries) }
+    requires short { IfSome plan.left (λ f. T.rank f.end ≤ℤ T.rank plan.end) }
+    requires covered { least_by T.rank plan.covered
+        ≡ least (ends_in (T.rank lo) (T.rank plan.end) entries.old.entries) }
+    ensures put { OnOk result
+        (IsPutAt V.eq
+        (entry (T.rank lo) (T.rank plan.end) value) entries.old.entries entries.new.entries) }
+    ensures worked { OnOk result (IsWorked 2 1 entries.old entries.new) }
+    ensures err { OnErr result (entries.new.entries ≡ entries.old.entries) }
+{
+    entries.in_hand();
+    put(entries, lo, plan.end, value, plan.first, plan.rest)?;
+    entries.in_hand();
+    trim(entries, lo, plan.left);
+    clear(entries, lo, plan.end, plan.covered);
+    Ok(())
+}
 
 // Puts a value on the keys from lo up to the plan's end, where no entry beside them is to be joined.
 fn paint_from<T: Integer, V: Eq + Clone>(
@@ -33,18 +67,22 @@ fn paint_from<T: Integer, V: Eq + Clone>(
         (T.rank plan.end) entries.old.entries (option_map (ranks_of T.rank) plan.rest) }
     requires left { option_map (ends_of T.rank) plan.left
         ≡ option_map range_in (last_below (T.rank lo) entries.old.entries) }
+    requires covered { least_by T.rank plan.covered
+        ≡ least (ends_in (T.rank lo) (T.rank plan.end) entries.old.entries) }
     ensures put { OnOk result
         (IsPutAt V.eq
         (entry (T.rank lo) (T.rank plan.end) value) entries.old.entries entries.new.entries) }
     ensures worked { OnOk result (IsWorked 2 1 entries.old entries.new) }
     ensures err { OnErr result (entries.new.entries ≡ entries.old.entries) }
 {
-    entries.in_hand();
-    put(entries, lo, plan.end, value, plan.first, plan.rest)?;
-    entries.in_hand();
-    trim(entries, lo, plan.left);
-    clear(entries, lo, plan.end);
-    Ok(())
+    let end = plan.end;
+    let left = plan.left;
+    match left {
+        Some(found) if is_below(end, found.end) => {
+            put_inside(entries, lo, end, value, found.start, found.end)
+        }
+        _ => paint_beside(entries, lo, value, plan),
+    }
 }
 
 // Puts the value of the entry that starts at `first` on all keys up to `end`, where no entry above them is to be joined.
@@ -53,12 +91,15 @@ fn paint_on<T: Integer, V: Eq + Clone>(
     first: T,
     end: T,
     rest: Option<(T, T)>,
+    covered: Option<(T, bool)>,
 ) -> Result<(), AllocError>
     requires order { T.rank first ≤ℤ T.rank end }
     requires canonical { IsCanonical V.eq entries.old.entries }
     requires there { IsSome (start_at (T.rank first) entries.old.entries) }
     requires rest { IsRest (T.rank end) entries.old.entries (option_map (ranks_of T.rank) rest) }
     requires above { IfSome rest (λ r. T.rank first <ℤ T.rank r.0) }
+    requires covered { least_by T.rank covered
+        ≡ least (ends_in (T.rank first) (T.rank end) entries.old.entries) }
     ensures extended { OnOk result
         (IsExtended V.eq (T.rank first) (T.rank end) entries.old.entries entries.new.entries) }
     ensures worked { OnOk result (IsWorked 1 1 entries.old entries.new) }
@@ -66,7 +107,7 @@ fn paint_on<T: Integer, V: Eq + Clone>(
 {
     entries.in_hand();
     move_rest(entries, first, end, rest)?;
-    clear(entries, first, end);
+    clear(entries, first, end, covered);
     entries.set_end(first, end);
     Ok(())
 }
@@ -84,6 +125,22 @@ fn joined<T: Integer>(left: Option<Found<T>>, lo: T) -> Option<T>
     }
 }
 
+// The least start of the entries that a range covers up to `end`, and whether there are more, with the one that starts where
+// the range does.
+fn with_first<T: Integer>(
+    first: Option<Found<T>>,
+    end: T,
+    covered: Option<(T, bool)>,
+) -> Option<(T, bool)>
+    ensures { least_by T.rank result
+        ≡ least_with (T.rank end) (option_map (found_of T.rank) first) (least_by T.rank covered) }
+{
+    match first {
+        Some(found) if is_at_most(found.end, end) => Some((found.start, covered.is_some())),
+        _ => covered,
+    }
+}
+
 /// Puts a value on the keys from lo up to hi, as planned. Refused memory leaves the entries as they are.
 pub fn apply<T: Integer, V: Eq + Clone>(
     entries: &mut Counted<T, V>,
@@ -97,6 +154,8 @@ pub fn apply<T: Integer, V: Eq + Clone>(
     requires canonical { IsCanonical V.eq entries.old.entries }
     requires plan { IsPlanOf V.eq
         (T.rank lo) (T.rank hi) value entries.old.entries (seen_of T.rank plan) }
+    requires covered { least_by T.rank plan.covered
+        ≡ least (ends_in (T.rank lo) (T.rank plan.end) entries.old.entries) }
     ensures painted { OnOk result
         (IsPaintOf V.eq
         (entry (T.rank lo) (T.rank hi) value) entries.old.entries entries.new.entries) }
@@ -107,7 +166,8 @@ pub fn apply<T: Integer, V: Eq + Clone>(
     let _ = hi;
     match joined(plan.left, lo) {
         Some(first) => {
-            paint_on(entries, first, plan.end, plan.rest)?;
+            let covered = with_first(plan.first, plan.end, plan.covered);
+            paint_on(entries, first, plan.end, plan.rest, covered)?;
             Ok(())
         }
         None => {

@@ -2,9 +2,10 @@
 ghost use Rattle.std.specs.Prelude.{◌≡◌, ◌++◌, pos, ◌+ℤ◌, ◌≤ℤ◌};
 ghost use Rattle.std.specs.Option.{option_map};
 ghost use Rattle.blaze_entries.specs.Found.{range_in};
+ghost use Rattle.blaze_entries.specs.Scanned.{least_by};
 ghost use Rattle.blaze_entries.specs.Starts.{below, from, last_below};
 ghost use Rattle.blaze_table.specs.Canonical.{IsCanonical};
-ghost use Rattle.blaze_table.specs.Planned.{ends_of, IsWorked};
+ghost use Rattle.blaze_table.specs.Planned.{ends_of, starts_in, least, IsWorked};
 ghost use Rattle.blaze_table.specs.Splice.{before};
 
 use blaze_entries::{Counted, Found};
@@ -30,8 +31,8 @@ pub fn trim<T: Integer, V: Eq>(entries: &mut Counted<T, V>, lo: T, left: Option<
     }
 }
 
-/// Takes out the entries that start above `first`, up to `end`.
-pub fn clear<T: Integer, V: Eq + Drop>(entries: &mut Counted<T, V>, first: T, end: T)
+// Takes out the entries that start above `first`, up to `end`, each by a look.
+fn clear_by_looks<T: Integer, V: Eq + Drop>(entries: &mut Counted<T, V>, first: T, end: T)
     requires { T.rank first ≤ℤ T.rank end }
     ensures entries { entries.new.entries
         ≡ below (T.rank first +ℤ pos 1) entries.old.entries
@@ -51,4 +52,29 @@ pub fn clear<T: Integer, V: Eq + Drop>(entries: &mut Counted<T, V>, first: T, en
         entries.remove(ends.0);
     }
     entries.in_hand();
+}
+
+/// Takes out the entries that start above `first`, up to `end`, of which the least start is known, and whether there are
+/// more: only for those it looks.
+pub fn clear<T: Integer, V: Eq + Drop>(
+    entries: &mut Counted<T, V>,
+    first: T,
+    end: T,
+    covered: Option<(T, bool)>,
+)
+    requires order { T.rank first ≤ℤ T.rank end }
+    requires covered { least_by T.rank covered
+        ≡ least (starts_in (T.rank first) (T.rank end) entries.old.entries) }
+    ensures entries { entries.new.entries
+        ≡ below (T.rank first +ℤ pos 1) entries.old.entries
+        ++ from (T.rank end +ℤ pos 1) entries.old.entries }
+    ensures worked { IsWorked 0 1 entries.old entries.new }
+{
+    entries.in_hand();
+    if let Some(least) = covered {
+        entries.remove(least.0);
+        if least.1 {
+            clear_by_looks(entries, first, end);
+        }
+    }
 }

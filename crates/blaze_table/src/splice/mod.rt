@@ -1,16 +1,17 @@
 //! A value put on the keys of a range, in place: the entries beside the range are found, then edited.
 ghost use Rattle.std.specs.Prelude.{◌≡◌, ◌+◌, ◌≤◌, length, pos, ◌+ℤ◌, ◌≤ℤ◌, Ok, IfOk, OnOk, OnErr};
-ghost use Rattle.blaze_entries.specs.Scanned.{seen_of};
+ghost use Rattle.blaze_entries.specs.Scanned.{seen_of, least_by};
 ghost use Rattle.blaze_table.specs.Count.{keys_in};
 ghost use Rattle.blaze_table.specs.Work.{IsCountedPaint};
 ghost use Rattle.blaze_table.specs.Entries.{entry};
 ghost use Rattle.blaze_table.specs.Painted.{IsInside, ClonesAreAlike, or_else};
-ghost use Rattle.blaze_table.specs.Planned.{IsPlanOf, IsWorked, reaches};
+ghost use Rattle.blaze_table.specs.Planned.{ends_in, least, IsPlanOf, IsWorked, reaches};
 ghost use Rattle.blaze_table.specs.Splice.{IsListPainted, before, after};
 ghost use Rattle.blaze_table.specs.Table.{IsTable};
 
 mod apply;
 mod edits;
+mod inside;
 mod place;
 mod plan;
 
@@ -48,6 +49,8 @@ fn paint_planned<T: Integer, V: Eq + Clone>(
     requires table { IsTable V.eq T.low T.high (T.SafeLen.number len) entries.old.entries }
     requires plan { IsPlanOf V.eq
         (T.rank lo) (T.rank hi) value entries.old.entries (seen_of T.rank plan) }
+    requires covered { least_by T.rank plan.covered
+        ≡ least (ends_in (T.rank lo) (T.rank plan.end) entries.old.entries) }
     requires outside { pos (T.SafeLen.number outside)
         ≡ keys_in (before (T.rank lo) entries.old.entries)
         +ℤ keys_in (after (T.rank hi) entries.old.entries) }
@@ -76,8 +79,8 @@ fn paint_planned<T: Integer, V: Eq + Clone>(
 }
 
 /// Puts a value on the keys from lo up to hi, and answers how many keys there are then: the entries that the range touches
-/// are found by single looks, what is to be put in is put in, and only then is anything else edited. Inside an entry with an
-/// equal value nothing changes. Refused memory leaves the entries as they are.
+/// are found by single looks, what is to be put in is put in, and only then is anything edited that can't be taken back.
+/// Inside an entry with an equal value nothing changes. Refused memory leaves the entries as they are.
 pub fn paint_by_splice<T: Integer, V: Eq + Clone>(
     entries: &mut Counted<T, V>,
     len: T::SafeLen,
@@ -104,8 +107,8 @@ pub fn paint_by_splice<T: Integer, V: Eq + Clone>(
 }
 
 /// Puts a value on the keys from lo up to hi, and answers how many keys there are then: the entries that the range touches
-/// are seen in one walk, what is to be put in is put in, and only then is anything else edited. Inside an entry with an equal
-/// value nothing changes. Refused memory leaves the entries as they are.
+/// are seen in one walk, what is to be put in is put in, and only then is anything edited that can't be taken back. Inside an
+/// entry with an equal value nothing changes. Refused memory leaves the entries as they are.
 pub fn paint<T: Integer, V: Eq + Clone>(
     entries: &mut Counted<T, V>,
     len: T::SafeLen,

@@ -6,42 +6,12 @@ ghost use Rattle.blaze_entries.specs.Found.{range_in, ranks_of};
 ghost use Rattle.blaze_entries.specs.Starts.{start_at};
 ghost use Rattle.blaze_table.specs.Canonical.{IsCanonical};
 ghost use Rattle.blaze_table.specs.Entries.{entry};
-ghost use Rattle.blaze_table.specs.Painted.{ClonesAreAlike};
-ghost use Rattle.blaze_table.specs.Planned.{ends_of, IsRest, IsRestPut, IsRestKept, IsStartPut, IsWorked};
+ghost use Rattle.blaze_table.specs.Planned.{ends_of, IsRest, IsRestKept, IsStartPut, IsWorked};
 
 use blaze_entries::{Counted, Found};
 use blaze_int::Integer;
 use blaze_int::compare::{after, is_below};
 use std::alloc::AllocError;
-
-// Puts what the entry at `start` has from `next` on at `next`. Where that entry starts below a key it keeps its value, and the
-// new one has a clone; else it moves.
-fn put_rest<T: Integer, V: Eq + Clone>(
-    entries: &mut Counted<T, V>,
-    key: T,
-    start: T,
-    next: T,
-) -> Result<(), AllocError>
-    requires clones { ClonesAreAlike V.is_clone V.eq }
-    requires over { T.rank key <ℤ T.rank next }
-    requires starts { T.rank start <ℤ T.rank next }
-    requires other { T.rank start ≡ T.rank key → ⊥ }
-    requires present { IsSome (start_at (T.rank start) entries.old.entries) }
-    requires absent { start_at (T.rank next) entries.old.entries ≡ None }
-    ensures ok { OnOk result
-        (IsRestPut V.eq (T.rank key) (T.rank start)
-        (T.rank next) entries.old.entries entries.new.entries) }
-    ensures worked { OnOk result (IsWorked 1 0 entries.old entries.new) }
-    ensures err { OnErr result (entries.new ≡ entries.old) }
-{
-    if is_below(start, key) {
-        entries.insert_clone(start, next)?;
-        Ok(())
-    } else {
-        entries.move_start(start, next)?;
-        Ok(())
-    }
-}
 
 /// Moves what an entry that starts above `first` has above `end` to its own start, if there is one.
 pub fn move_rest<T: Integer, V: Eq + Drop>(
@@ -51,6 +21,7 @@ pub fn move_rest<T: Integer, V: Eq + Drop>(
     rest: Option<(T, T)>,
 ) -> Result<(), AllocError>
     requires order { T.rank first ≤ℤ T.rank end }
+    requires canonical { IsCanonical V.eq entries.old.entries }
     requires rest { IsRest (T.rank end) entries.old.entries (option_map (ranks_of T.rank) rest) }
     requires above { IfSome rest (λ r. T.rank first <ℤ T.rank r.0) }
     ensures kept { OnOk result
@@ -69,7 +40,7 @@ pub fn move_rest<T: Integer, V: Eq + Drop>(
 }
 
 // Puts the painted entry in at a start where none is, and what an entry has above its end at its own start.
-fn put_new<T: Integer, V: Eq + Clone>(
+fn put_new<T: Integer, V: Eq + Drop>(
     entries: &mut Counted<T, V>,
     lo: T,
     end: T,
@@ -77,9 +48,10 @@ fn put_new<T: Integer, V: Eq + Clone>(
     rest: Option<(T, T)>,
 ) -> Result<(), AllocError>
     requires order { T.rank lo ≤ℤ T.rank end }
-    requires clones { ClonesAreAlike V.is_clone V.eq }
+    requires canonical { IsCanonical V.eq entries.old.entries }
     requires absent { start_at (T.rank lo) entries.old.entries ≡ None }
     requires rest { IsRest (T.rank end) entries.old.entries (option_map (ranks_of T.rank) rest) }
+    requires above { IfSome rest (λ r. T.rank lo ≤ℤ T.rank r.0) }
     ensures ok { OnOk result
         (IsStartPut V.eq
         (entry (T.rank lo) (T.rank end) value) entries.old.entries entries.new.entries) }
@@ -91,7 +63,7 @@ fn put_new<T: Integer, V: Eq + Clone>(
         None => Ok(()),
         Some(ends) => {
             let next = after(end, ends.1);
-            if let Err(refused) = put_rest(entries, lo, ends.0, next) {
+            if let Err(refused) = entries.move_start(ends.0, next) {
                 entries.remove(lo);
                 return Err(refused);
             }
@@ -139,7 +111,7 @@ fn put_over<T: Integer, V: Eq + Drop>(
 
 /// Puts the painted entry at its start, where `first` says whether one starts there, and what an entry has above its end at
 /// its own start. Refused memory leaves the entries as they are.
-pub fn put<T: Integer, V: Eq + Clone>(
+pub fn put<T: Integer, V: Eq + Drop>(
     entries: &mut Counted<T, V>,
     lo: T,
     end: T,
@@ -148,11 +120,11 @@ pub fn put<T: Integer, V: Eq + Clone>(
     rest: Option<(T, T)>,
 ) -> Result<(), AllocError>
     requires order { T.rank lo ≤ℤ T.rank end }
-    requires clones { ClonesAreAlike V.is_clone V.eq }
     requires canonical { IsCanonical V.eq entries.old.entries }
     requires first { option_map (ends_of T.rank) first
         ≡ option_map range_in (start_at (T.rank lo) entries.old.entries) }
     requires rest { IsRest (T.rank end) entries.old.entries (option_map (ranks_of T.rank) rest) }
+    requires above { IfSome rest (λ r. T.rank lo ≤ℤ T.rank r.0) }
     ensures ok { OnOk result
         (IsStartPut V.eq
         (entry (T.rank lo) (T.rank end) value) entries.old.entries entries.new.entries) }

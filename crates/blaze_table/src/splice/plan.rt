@@ -1,6 +1,6 @@
 //! What a paint has to know of the entries beside its range, found by single looks.
-ghost use Rattle.std.specs.Prelude.{◌≡◌, ◌+◌, pos, ◌+ℤ◌, ◌≤ℤ◌, reverse};
-ghost use Rattle.blaze_entries.specs.Scanned.{seen_of, unseen, walked, answers, walked_keys};
+ghost use Rattle.std.specs.Prelude.{◌≡◌, ◌+◌, pos, ◌+ℤ◌, ◌≤ℤ◌, reverse, None};
+ghost use Rattle.blaze_entries.specs.Scanned.{seen_of, unseen, walked, least_by, walked_covered, answers, walked_keys};
 ghost use Rattle.blaze_entries.specs.Starts.{below};
 
 use blaze_entries::{Counted, Plan, less, next_or_last};
@@ -20,6 +20,9 @@ pub fn plan<T: Integer, V: Eq>(
         (reverse (below (T.rank hi +ℤ pos 2) entries.old.entries)) ≤ℤ pos (T.SafeLen.number len) }
     ensures plan { seen_of T.rank result.0
         ≡ walked V.eq value.now (T.rank lo) (T.rank hi) (unseen (T.rank hi))
+        (reverse (below (T.rank hi +ℤ pos 2) entries.old.entries)) }
+    ensures covered { least_by T.rank result.0.covered
+        ≡ walked_covered V.eq value.now (T.rank lo) (T.rank hi) None
         (reverse (below (T.rank hi +ℤ pos 2) entries.old.entries)) }
     ensures len { pos (T.SafeLen.number result.1)
         +ℤ walked_keys (T.rank lo) (T.rank hi)

@@ -3,7 +3,7 @@ ghost use Rattle.std.specs.Prelude.{IfOk};
 ghost use Rattle.blaze_table.specs.Complement.{IsComplement};
 ghost use Rattle.blaze_table.specs.RangeSets.{unit_eq};
 
-use crate::complement::unmapped_keys;
+use crate::complements::unmapped_keys;
 use crate::map::RangeMapBlaze;
 use blaze_int::Integer;
 use blaze_table::RangeSetBlaze;

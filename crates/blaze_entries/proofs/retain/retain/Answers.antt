@@ -1,4 +1,4 @@
-use Rattle.std.proofs.Common.{◌≡◌, ◌∙◌, pos, ◌+ℤ◌, ◌≤ℤ◌, ◌<ℤ◌, true, false, Some, refl, sym, ap, subst, arith}
+use Rattle.std.proofs.Common.{pos, ◌+ℤ◌, refl, sym, ap, subst, arith}
 use Rattle.std.proofs.lemmas.Int.{ints}
 use Rattle.blaze_entries.specs.Answers.{AnswersAt}
 use Rattle.blaze_entries.specs.Entries.{shown_entry}

@@ -1,12 +1,12 @@
-use Rattle.std.proofs.Common.{◌≡◌, ◌+◌, pos, ◌+ℤ◌, ◌≤ℤ◌, arith, ap, sym, subst, ◌∙◌}
+use Rattle.std.proofs.Common.{◌≡◌, ◌+◌, pos, ◌+ℤ◌, ◌≤ℤ◌, None, arith, ap, sym, subst, ◌∙◌}
 use Rattle.std.proofs.lemmas.Int.{ints}
 use Rattle.std.specs.Prelude.{reverse, map}
 use Rattle.blaze_entries.specs.Places.{places, full, held}
-use Rattle.blaze_entries.specs.Scanned.{seen_of, unseen, walked, answers, walked_keys}
+use Rattle.blaze_entries.specs.Scanned.{seen_of, unseen, walked, least_by, walked_covered, answers, walked_keys}
 use Rattle.blaze_entries.specs.Starts.{below}
 use Rattle.blaze_entries.proofs.Held.{places_ascend, full_of, full_held, below-held}
 use Rattle.blaze_entries.proofs.NodeLists.{places_between}
-use Rattle.blaze_entries.proofs.Scans.{down_from, step_fits, last_keys, next_walked, next_answers, next_keys}
+use Rattle.blaze_entries.proofs.Scans.{down_from, step_fits, last_covered, last_keys, next_walked, next_covered, next_answers, next_keys}
 use Rattle.blaze_entries.proofs.scan.walk.Goals as goal
 
 pub loop-found-init : goal.loop-found-init
@@ -23,8 +23,10 @@ loop-found-init g c =
     let e = full_of (places rank c.range-nodes.result) (below k (full ps)) q in
     record {
       full = full_held (places rank c.range-nodes.result) (below k (full ps)) q;
-      plan = ap (λ s. walked g.V.PartialEq.eq c.args.value.now (rank c.args.lo) (rank c.args.hi) s (reverse (full (places rank c.range-nodes.result)))) c.new-plan.ensures
+      plan = ap (λ s. walked g.V.PartialEq.eq c.args.value.now (rank c.args.lo) (rank c.args.hi) s (reverse (full (places rank c.range-nodes.result)))) c.new-plan.ensures.seen
           ∙ ap (λ es. walked g.V.PartialEq.eq c.args.value.now (rank c.args.lo) (rank c.args.hi) (unseen (rank c.args.hi)) (reverse es)) e;
+      covered = ap (λ s. walked_covered g.V.PartialEq.eq c.args.value.now (rank c.args.lo) (rank c.args.hi) s (reverse (full (places rank c.range-nodes.result)))) c.new-plan.ensures.covered
+          ∙ ap (λ es. walked_covered g.V.PartialEq.eq c.args.value.now (rank c.args.lo) (rank c.args.hi) None (reverse es)) e;
       room = subst (λ es. walked_keys (rank c.args.lo) (rank c.args.hi) (reverse es) ≤ℤ pos (g.T.SafeLen.SafeLength.number c.args.len)) (sym e) c.requires.len;
       left = ap (λ es. pos (g.T.SafeLen.SafeLength.number c.args.len) +ℤ walked_keys (rank c.args.lo) (rank c.args.hi) (reverse es)) (sym e);
       looks = ap (λ es. c.args.looks.now.number + answers (rank c.args.lo) (reverse es)) e;
@@ -35,6 +37,14 @@ less-left-requires g c =
     let rank = g.T.Integer.rank in
     let seen = c.in-Some.ensures.found in
     step_fits (rank c.args.lo) (rank c.args.hi) g.V.PartialEq.eq c.args.value.now _ seen.0 seen.1 _ _ (down_from seen.0 _ _ seen.2) (pos (g.T.SafeLen.SafeLength.number c.loop-found.left)) c.loop-found.invariant.room
+
+pub returns-then-is_below-clause-covered : goal.returns-then-is_below-clause-covered
+returns-then-is_below-clause-covered g c =
+    let rank = g.T.Integer.rank in
+    let seen = c.in-Some.ensures.found in
+    c.past-plan.ensures.covered
+    ∙ sym (last_covered (rank c.args.lo) (rank c.args.hi) g.V.PartialEq.eq c.args.value.now _ seen.0 seen.1 _ _ (down_from seen.0 _ _ seen.2) (sym c.is_below.ensures ∙ c.if-is_below.true) (least_by rank c.loop-found.plan.covered))
+    ∙ c.loop-found.invariant.covered
 
 pub returns-then-is_below-clause-len : goal.returns-then-is_below-clause-len
 returns-then-is_below-clause-len g c =
@@ -57,8 +67,10 @@ loop-found-preserved g c =
     let looks = next_answers l h eq v _ seen.0 seen.1 _ _ down over in
     record {
       full = c.in-Some.ensures.full;
-      plan = ap (λ s. walked eq v l h s (reverse (full (places rank c.next_found.new.nodes)))) c.past-plan.ensures
+      plan = ap (λ s. walked eq v l h s (reverse (full (places rank c.next_found.new.nodes)))) c.past-plan.ensures.seen
           ∙ sym (next_walked l h eq v _ seen.0 seen.1 _ _ down over (seen_of rank c.loop-found.plan)) ∙ c.loop-found.invariant.plan;
+      covered = ap (λ s. walked_covered eq v l h s (reverse (full (places rank c.next_found.new.nodes)))) c.past-plan.ensures.covered
+          ∙ sym (next_covered l h eq v _ seen.0 seen.1 _ _ down over (least_by rank c.loop-found.plan.covered)) ∙ c.loop-found.invariant.covered;
       looks = omega (arith, looks, c.in-Some.ensures.looked, c.loop-found.invariant.looks);
       room = omega (arith, ints, keys, c.less-left.ensures, c.loop-found.invariant.room);
       left = omega (arith, ints, keys, c.less-left.ensures, c.loop-found.invariant.left);

@@ -1,7 +1,7 @@
-use Rattle.std.proofs.Common.{◌≡◌, ◌+◌, pos, ◌+ℤ◌, ◌≤ℤ◌, length}
+use Rattle.std.proofs.Common.{◌≡◌, ◌+◌, pos, ◌+ℤ◌, ◌≤ℤ◌, length, None}
 use Rattle.std.specs.Prelude.{reverse}
 use Rattle.blaze_entries.specs.Places.{places, entries_of, AreFull}
-use Rattle.blaze_entries.specs.Scanned.{seen_of, unseen, walked, answers, walked_keys}
+use Rattle.blaze_entries.specs.Scanned.{seen_of, unseen, walked, least_by, walked_covered, answers, walked_keys}
 use Rattle.blaze_entries.specs.Starts.{below}
 use Rattle.blaze_entries.proofs.scan.walk.Given as goal
 
@@ -11,6 +11,8 @@ invariant-loop-found g l = record {
   full : AreFull (places g.T.Integer.rank l.nodes);
   plan : walked g.V.PartialEq.eq l.value (g.T.Integer.rank l.lo) (g.T.Integer.rank l.hi) (seen_of g.T.Integer.rank l.plan) (reverse (entries_of g.T.Integer.rank l.nodes))
       ≡ walked g.V.PartialEq.eq l.value (g.T.Integer.rank l.lo) (g.T.Integer.rank l.hi) (unseen (g.T.Integer.rank l.hi)) (reverse (below (g.T.Integer.rank l.fn.top +ℤ pos 1) (entries_of g.T.Integer.rank l.fn.tree.entries)));
+  covered : walked_covered g.V.PartialEq.eq l.value (g.T.Integer.rank l.lo) (g.T.Integer.rank l.hi) (least_by g.T.Integer.rank l.plan.covered) (reverse (entries_of g.T.Integer.rank l.nodes))
+      ≡ walked_covered g.V.PartialEq.eq l.value (g.T.Integer.rank l.lo) (g.T.Integer.rank l.hi) None (reverse (below (g.T.Integer.rank l.fn.top +ℤ pos 1) (entries_of g.T.Integer.rank l.fn.tree.entries)));
   looks : l.looks.number + answers (g.T.Integer.rank l.lo) (reverse (entries_of g.T.Integer.rank l.nodes))
       ≡ l.fn.looks.number + answers (g.T.Integer.rank l.lo) (reverse (below (g.T.Integer.rank l.fn.top +ℤ pos 1) (entries_of g.T.Integer.rank l.fn.tree.entries)));
   room : walked_keys (g.T.Integer.rank l.lo) (g.T.Integer.rank l.hi) (reverse (entries_of g.T.Integer.rank l.nodes)) ≤ℤ pos (g.T.SafeLen.SafeLength.number l.left);

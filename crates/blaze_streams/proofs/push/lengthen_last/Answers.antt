@@ -6,7 +6,7 @@ use Rattle.std.specs.Vec.{vec_len, vec_items}
 use Rattle.blaze_table.proofs.Glued.{and_both, and_first, and_second}
 use Rattle.blaze_table.specs.Entries.{entry}
 use Rattle.blaze_streams.specs.Ranges.{shown_range}
-use Rattle.blaze_streams.proofs.Pushed.{has_last, pushed_joined, pushed_apart}
+use Rattle.blaze_table.proofs.Pushed.{has_last, pushed_joined, pushed_apart}
 use Rattle.blaze_streams.proofs.push.lengthen_last.Goals as goal
 use Rattle.blaze_streams.proofs.push.lengthen_last.Goals.{then-not-is_next-via-then-not-is_next, then-not-is_next-via-else-not-is_next+then-not-value_eq}
 

@@ -1,10 +1,21 @@
-use Rattle.std.proofs.Common.{◌≡◌, ◌++◌, ◌+◌, ◌-◌, ◌^◌, ◌∙◌, length, arith, ap, subst, sym, min, codes, decimal, Err, string_bytes}
+use Rattle.std.proofs.Common.{◌≡◌, ◌++◌, [], refl, ◌+◌, ◌-◌, ◌^◌, ◌∙◌, length, arith, ap, subst, sym, min, codes, decimal, Err, string_bytes}
+use Rattle.std.proofs.lemmas.Bool.{eqb-true}
 use Rattle.range_map_cli.specs.declared.End.TheVariants as ends
+use Rattle.range_map_cli.specs.Commands.{Blank, command_of}
 use Rattle.range_map_cli.specs.Output.{no_memory, Prints}
 use Rattle.range_map_cli.specs.Sessions.{Forwards}
+use Rattle.range_map_cli.proofs.Cuts.{empty_list}
+use Rattle.range_map_cli.proofs.Forwarding.{Forwards-none}
 use Rattle.range_map_cli.proofs.Progress.{next_line}
 use Rattle.range_map_cli.proofs.Endings.{one_more, prints_no_memory, prints_bad, closes_reply, behind}
 use Rattle.range_map_cli.proofs.session.end_line.Goals as goal
+
+pub returns-then-is_empty-clause-ok : goal.returns-then-is_empty-clause-ok
+returns-then-is_empty-clause-ok g c = λ held text rest lines at.
+    let session = c.args.session.now in
+    let now = g.W.Write.contents c.args.output.now in
+    let none : session.line ≡ [] = empty_list session.line (eqb-true _ 0 (sym c.if-is_empty.ensures)) in
+    next_line held now text session rest lines at Blank [] (ap command_of none) (λ words. refl) now _ (λ key. refl) (Forwards-none now session.waiting.items) c.saturating_add-session.ensures none
 
 pub returns-in-Ok-put-clause-ok : goal.returns-in-Ok-put-clause-ok
 returns-in-Ok-put-clause-ok g c = λ held text rest lines at.

@@ -1,8 +1,8 @@
-use Rattle.std.proofs.Common.{◌≡◌, ◌+◌, pos, ℤ, ◌+ℤ◌, ◌≤ℤ◌, ap, sym, subst, ◌∙◌}
+use Rattle.std.proofs.Common.{◌≡◌, ◌+◌, pos, ℤ, ◌+ℤ◌, ◌≤ℤ◌, None, ap, sym, subst, ◌∙◌}
 use Rattle.std.specs.Prelude.{reverse}
 use Rattle.blaze_entries.specs.Counted.{CountedEntries}
 use Rattle.blaze_entries.specs.Places.{places, full}
-use Rattle.blaze_entries.specs.Scanned.{seen_of, unseen, walked, answers, walked_keys}
+use Rattle.blaze_entries.specs.Scanned.{seen_of, unseen, walked, least_by, walked_covered, answers, walked_keys}
 use Rattle.blaze_entries.specs.Starts.{below}
 use Rattle.blaze_entries.proofs.Halves.{below_next}
 use Rattle.blaze_entries.proofs.Views.{looked}
@@ -27,6 +27,15 @@ returns-clause-plan g c =
     let es = full (places rank c.self.inside.tree.entries) in
     subst (λ (s : CountedEntries g.row.V.Denot). seen_of rank c.walk.result.0 ≡ walked eq c.args.value.now (rank c.args.lo) (rank c.args.hi) (unseen (rank c.args.hi)) (reverse (below (rank c.args.hi +ℤ pos 2) s.entries))) c.self.view_is
     (c.walk.ensures.plan ∙ ap (λ xs. walked eq c.args.value.now (rank c.args.lo) (rank c.args.hi) (unseen (rank c.args.hi)) (reverse xs))
+    (below_next g.T.Integer.low g.T.Integer.high (rank c.args.hi) (rank c.next_or_last-top.result) es c.self.invariant.ascend c.next_or_last-top.ensures))
+
+pub returns-clause-covered : goal.returns-clause-covered
+returns-clause-covered g c =
+    let rank = g.T.Integer.rank in
+    let eq = g.V.PartialEq.eq in
+    let es = full (places rank c.self.inside.tree.entries) in
+    subst (λ (s : CountedEntries g.row.V.Denot). least_by rank c.walk.result.0.covered ≡ walked_covered eq c.args.value.now (rank c.args.lo) (rank c.args.hi) None (reverse (below (rank c.args.hi +ℤ pos 2) s.entries))) c.self.view_is
+    (c.walk.ensures.covered ∙ ap (λ xs. walked_covered eq c.args.value.now (rank c.args.lo) (rank c.args.hi) None (reverse xs))
     (below_next g.T.Integer.low g.T.Integer.high (rank c.args.hi) (rank c.next_or_last-top.result) es c.self.invariant.ascend c.next_or_last-top.ensures))
 
 pub returns-clause-len : goal.returns-clause-len

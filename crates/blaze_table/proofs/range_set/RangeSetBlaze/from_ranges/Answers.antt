@@ -1,13 +1,19 @@
-use Rattle.std.proofs.Common.{◌∙◌, sym}
-use Rattle.blaze_table.proofs.KeySets.{painted_more, reversed_more}
+use Rattle.std.proofs.Common.{subst}
+use Rattle.blaze_table.specs.Listed.{listed}
+use Rattle.blaze_table.specs.RangeSets.{IsSetOf}
+use Rattle.blaze_table.proofs.KeySets.{set_of}
 use Rattle.blaze_table.proofs.range_set.RangeSetBlaze.from_ranges.Goals as goal
 
-pub loop-range-preserved-then-is_at_most : goal.loop-range-preserved-then-is_at_most
-loop-range-preserved-then-is_at_most g c =
-    painted_more g.T.Integer.rank c.loop-range.yielded c.in-Some.range c.loop-range.table.entries c.loop-range.invariant _ _ c.into_inner-start.ensures.start c.into_inner-start.ensures.end
-    g.T.Integer.low g.T.Integer.high _ c.in_ok-paint.ensures.ok
-
-pub loop-range-preserved : goal.loop-range-preserved
-loop-range-preserved g c =
-    reversed_more g.T.Integer.rank c.loop-range.yielded c.in-Some.range c.loop-range.table.entries c.loop-range.invariant _ _ c.into_inner-start.ensures.start c.into_inner-start.ensures.end
-    (sym c.is_at_most.ensures ∙ c.if-is_at_most.false)
+pub returns : goal.returns
+returns g c =
+    let it = c.into_iter-range-iterator in
+    let rank = g.T.Integer.rank in
+    let low = g.T.Integer.low in
+    let high = g.T.Integer.high in
+    let entries = listed rank c.in_ok-entries.entries.items in (
+      it.result,
+      c.loop-range.yielded,
+      it.ensures.into_iter_gives,
+      (c.next.new.self, (c.loop-range.range-iterator, c.loop-range.yielded_by, c.in-None.ensures.steps)),
+      rw c.in_ok-table.ensures (subst (λ ranges. IsSetOf low high ranges entries) c.loop-range.invariant (set_of low high (listed rank c.loop-range.pairs.items) entries c.in_ok-entries.ensures)),
+    )

@@ -1,10 +1,14 @@
-use Rattle.std.proofs.Common.{length, ap, ◌∙◌, arith}
+use Rattle.std.proofs.Common.{length, ap, sym, ◌∙◌, arith}
 use Rattle.blaze_entries.specs.Counted.{CountedEntries}
 use Rattle.blaze_entries.specs.Starts.{start_at}
+use Rattle.blaze_table.specs.Planned.{least}
 use Rattle.blaze_table.proofs.Composed.{extended}
 use Rattle.blaze_table.proofs.EditLists.{length-with_end}
 use Rattle.blaze_table.proofs.Splits.{some_of}
 use Rattle.blaze_table.proofs.splice.apply.paint_on.Goals as goal
+
+pub clear-requires-clause-covered : goal.clear-requires-clause-covered
+clear-requires-clause-covered g c = c.requires.covered ∙ sym (ap least c.in_ok-move_rest.ensures.kept.amid)
 
 pub returns-clause-extended : goal.returns-clause-extended
 returns-clause-extended g c =

@@ -1,31 +1,25 @@
 use Rattle.std.proofs.Common.{subst, ap, ◌∙◌}
+use Rattle.std.specs.Prelude.{IfSome, ◌≤ℤ◌}
 use Rattle.std.specs.Option.{option_map}
 use Rattle.blaze_entries.specs.Counted.{CountedEntries}
 use Rattle.blaze_entries.specs.Found.{ranks_of}
 use Rattle.blaze_table.specs.Entries.{entry}
 use Rattle.blaze_table.specs.Planned.{IsRest}
-use Rattle.blaze_table.proofs.Placing.{put_there, put_back, new_alone, new_other, new_present, new_absent, new_with_rest}
+use Rattle.blaze_table.proofs.Placing.{put_there, put_back, new_alone, new_present, new_absent, new_with_rest}
 use Rattle.blaze_table.proofs.splice.place.put_new.Goals as goal
 
-pub put_rest-requires-clause-other : goal.put_rest-requires-clause-other
-put_rest-requires-clause-other g c =
+pub move_start-requires-clause-present : goal.move_start-requires-clause-present
+move_start-requires-clause-present g c =
     let rank = g.T.Integer.rank in
     let r = subst (λ o. IsRest (rank c.args.end) c.args.entries.now.entries (option_map (ranks_of rank) o)) c.in-Some.is c.requires.rest in
-    new_other g.V.PartialEq.eq g.met.V.Eq.laws (entry (rank c.args.lo) (rank c.args.end) c.args.value) c.requires.order c.args.entries.now.entries c.insert.new.self.entries c.requires.absent
+    new_present g.V.PartialEq.eq g.met.V.Eq.laws (entry (rank c.args.lo) (rank c.args.end) c.args.value) c.requires.order c.args.entries.now.entries c.insert.new.self.entries c.requires.canonical c.requires.absent
     (ap (λ (s : CountedEntries g.row.V.Denot). s.entries) c.in_ok-insert.ensures.ok) (rank c.in-Some.ends.0) (rank c.in-Some.ends.1) (rank c.after-next.result) c.after-next.ensures r
 
-pub put_rest-requires-clause-present : goal.put_rest-requires-clause-present
-put_rest-requires-clause-present g c =
+pub move_start-requires-clause-absent : goal.move_start-requires-clause-absent
+move_start-requires-clause-absent g c =
     let rank = g.T.Integer.rank in
     let r = subst (λ o. IsRest (rank c.args.end) c.args.entries.now.entries (option_map (ranks_of rank) o)) c.in-Some.is c.requires.rest in
-    new_present g.V.PartialEq.eq g.met.V.Eq.laws (entry (rank c.args.lo) (rank c.args.end) c.args.value) c.requires.order c.args.entries.now.entries c.insert.new.self.entries c.requires.absent
-    (ap (λ (s : CountedEntries g.row.V.Denot). s.entries) c.in_ok-insert.ensures.ok) (rank c.in-Some.ends.0) (rank c.in-Some.ends.1) (rank c.after-next.result) c.after-next.ensures r
-
-pub put_rest-requires-clause-absent : goal.put_rest-requires-clause-absent
-put_rest-requires-clause-absent g c =
-    let rank = g.T.Integer.rank in
-    let r = subst (λ o. IsRest (rank c.args.end) c.args.entries.now.entries (option_map (ranks_of rank) o)) c.in-Some.is c.requires.rest in
-    new_absent g.V.PartialEq.eq g.met.V.Eq.laws (entry (rank c.args.lo) (rank c.args.end) c.args.value) c.requires.order c.args.entries.now.entries c.insert.new.self.entries c.requires.absent
+    new_absent g.V.PartialEq.eq g.met.V.Eq.laws (entry (rank c.args.lo) (rank c.args.end) c.args.value) c.requires.order c.args.entries.now.entries c.insert.new.self.entries c.requires.canonical c.requires.absent
     (ap (λ (s : CountedEntries g.row.V.Denot). s.entries) c.in_ok-insert.ensures.ok) (rank c.in-Some.ends.0) (rank c.in-Some.ends.1) (rank c.after-next.result) c.after-next.ensures r
 
 pub remove-requires : goal.remove-requires
@@ -44,7 +38,7 @@ returns-in-Err-clause-err g c =
 pub returns-in-None-clause-ok : goal.returns-in-None-clause-ok
 returns-in-None-clause-ok g c =
     let rank = g.T.Integer.rank in
-    new_alone g.V.PartialEq.eq g.met.V.Eq.laws (entry (rank c.args.lo) (rank c.args.end) c.args.value) c.requires.order c.args.entries.now.entries c.insert.new.self.entries c.requires.absent
+    new_alone g.V.PartialEq.eq g.met.V.Eq.laws (entry (rank c.args.lo) (rank c.args.end) c.args.value) c.requires.order c.args.entries.now.entries c.insert.new.self.entries c.requires.canonical c.requires.absent
     (ap (λ (s : CountedEntries g.row.V.Denot). s.entries) c.in_ok-insert.ensures.ok)
     (subst (λ o. IsRest (rank c.args.end) c.args.entries.now.entries (option_map (ranks_of rank) o)) c.in-None.is c.requires.rest)
 
@@ -52,5 +46,5 @@ pub returns-in_default-clause-ok : goal.returns-in_default-clause-ok
 returns-in_default-clause-ok g c =
     let rank = g.T.Integer.rank in
     let r = subst (λ o. IsRest (rank c.args.end) c.args.entries.now.entries (option_map (ranks_of rank) o)) c.in-Some.is c.requires.rest in
-    new_with_rest g.V.PartialEq.eq g.met.V.Eq.laws (entry (rank c.args.lo) (rank c.args.end) c.args.value) c.requires.order c.args.entries.now.entries c.insert.new.self.entries c.requires.absent
-    (ap (λ (s : CountedEntries g.row.V.Denot). s.entries) c.in_ok-insert.ensures.ok) (rank c.in-Some.ends.0) (rank c.in-Some.ends.1) (rank c.after-next.result) c.after-next.ensures r c.put_rest.new.entries.entries c.in_default.ensures.ok
+    new_with_rest g.V.PartialEq.eq g.met.V.Eq.laws (entry (rank c.args.lo) (rank c.args.end) c.args.value) c.requires.order c.args.entries.now.entries c.insert.new.self.entries c.requires.canonical c.requires.absent
+    (ap (λ (s : CountedEntries g.row.V.Denot). s.entries) c.in_ok-insert.ensures.ok) (rank c.in-Some.ends.0) (rank c.in-Some.ends.1) (rank c.after-next.result) c.after-next.ensures r c.move_start.new.self.entries (subst (λ o. IfSome o (λ x. rank c.args.lo ≤ℤ rank x.0)) c.in-Some.is c.requires.above) c.in_default.ensures.ok

@@ -8,19 +8,19 @@ loop-key-init g c = underway_begun g.V.PartialEq.eq g.met.V.Eq.laws g.T.Integer.
 
 pub loop-key-preserved : goal.loop-key-preserved
 loop-key-preserved g c =
-    underway_item g.V.PartialEq.eq g.met.V.Eq.laws g.T.Integer.low g.T.Integer.high (shown_point g.T.Integer.rank) c.loop-key.yielded (c.in-Some.key, c.in-Some.value) _ _ _ _
+    underway_item g.V.PartialEq.eq g.met.V.Eq.laws g.T.Integer.low g.T.Integer.high (shown_point g.T.Integer.rank (λ v. v)) c.loop-key.yielded (c.in-Some.key, c.in-Some.value) _ _ _ _
     (c.in_ok-pending.ensures.ok _ _ c.loop-key.invariant) refl refl refl
 
 pub returns-in_err-pending : goal.returns-in_err-pending
 returns-in_err-pending g c =
     let it = c.into_iter-key-iterator in
-    front_painted g.I.IntoIterator.into_iter_gives g.I.IntoIter.Iterator.next_gives (shown_point g.T.Integer.rank) g.V.PartialEq.eq g.T.Integer.low g.T.Integer.high c.args.iter it.result _ c.loop-key.yielded _ _ _ _ c.from_residual.result
+    front_painted g.I.IntoIterator.into_iter_gives g.I.IntoIter.Iterator.next_gives (shown_point g.T.Integer.rank (λ v. v)) g.V.PartialEq.eq g.T.Integer.low g.T.Integer.high c.args.iter it.result _ c.loop-key.yielded _ _ _ _ c.from_residual.result
     it.ensures.into_iter_gives c.loop-key.yielded_by c.loop-key.invariant c.in_err-pending.ensures.err c.from_residual.ensures.0
 
 pub returns-in_err-paint_pending : goal.returns-in_err-paint_pending
 returns-in_err-paint_pending g c =
     let it = c.into_iter-key-iterator in
-    front_painted g.I.IntoIterator.into_iter_gives g.I.IntoIter.Iterator.next_gives (shown_point g.T.Integer.rank) g.V.PartialEq.eq g.T.Integer.low g.T.Integer.high c.args.iter it.result _ c.loop-key.yielded _ _ _ _ c.from_residual-in_err-paint_pending.result
+    front_painted g.I.IntoIterator.into_iter_gives g.I.IntoIter.Iterator.next_gives (shown_point g.T.Integer.rank (λ v. v)) g.V.PartialEq.eq g.T.Integer.low g.T.Integer.high c.args.iter it.result _ c.loop-key.yielded _ _ _ _ c.from_residual-in_err-paint_pending.result
     it.ensures.into_iter_gives c.loop-key.yielded_by c.loop-key.invariant c.in_err-paint_pending.ensures.err c.from_residual-in_err-paint_pending.ensures.0
 
 pub returns : goal.returns

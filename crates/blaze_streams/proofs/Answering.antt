@@ -1,0 +1,139 @@
+-- What a closure answered so far at the entries of a list, and one answer more.
+use Rattle.std.proofs.Common.{◌≡◌, ℤ, pos, ◌+ℤ◌, ◌-ℤ◌, Bool, true, false, cond, List, [], ◌∷◌, ◌++◌, Option, Some, length, map, refl, ◌∙◌, sym, ap, subst, append_assoc, arith}
+use Rattle.std.specs.List.{FoldsTo, zip}
+use Rattle.std.specs.Fn.{Mut}
+use Rattle.std.specs.Cmp.{IsEquivalence}
+use Rattle.std.proofs.lemmas.Fn.{FoldsTo-push}
+use Rattle.std.proofs.lemmas.Int.{ints}
+use Rattle.std.proofs.lemmas.List.{map-append, append-nil}
+use Rattle.blaze_table.specs.Entries.{Entry, entry, at, holds, SameOption}
+use Rattle.blaze_table.specs.Canonical.{IsCanonical, IsRangeMap, AreKeys}
+use Rattle.blaze_table.specs.Splice.{glue, IsBelow}
+use Rattle.blaze_table.proofs.Counted.{are_keys_glue}
+use Rattle.blaze_table.proofs.Runs.{canonical, one_per_run}
+use Rattle.blaze_table.proofs.Splices.{or_else, canonical_glue, at_glue, below_glue, below_more}
+use Rattle.blaze_table.proofs.Unique.{same_along, same_trans}
+use Rattle.blaze_streams.specs.Answers.{values, answered, AnswersAt, SomeCallAt, TakesValue, IsCallableAtEach, IsTransformed}
+use Rattle.blaze_streams.specs.Cursors.{first_key}
+use Rattle.blaze_streams.proofs.ChosenSoFar.{same_or_left}
+use Rattle.blaze_streams.proofs.Steady.{same_some}
+
+at_push : {V : Type 0} (P : List (Entry V)) (p : Entry V) (k : ℤ) → at (P ++ p ∷ []) k ≡ or_else (at P k) (at (p ∷ []) k)
+unfolding or_else
+at_push [] p k = refl
+at_push (e ∷ es) p k = either (holds e k) e.value (at (es ++ p ∷ []) k) (at es k) (at (p ∷ []) k) (at_push es p k)
+  where
+    either : {V : Type 0} (b : Bool) (v : V) (x y z : Option V) → x ≡ or_else y z → cond b (Some v) x ≡ or_else (cond b (Some v) y) z
+    either true v x y z e = refl
+    either false v x y z e = e
+
+-- the entries of calls, each with its answer
+abbrev pub asked : {V W : Type 0} → List (Entry V × W) → List (Entry V)
+asked calls = map (λ c. c.0) calls
+
+-- an entry with the answer in place of its value
+abbrev pub with_answer : {V W : Type 0} → Entry V × W → Entry W
+with_answer c = entry c.0.lo c.0.hi c.1
+
+module _ {F A V W : Type 0} (shows : A → V) (g : Mut F A W) where
+  -- the calls, one after another
+  abbrev pub CallOf : F → Entry V × W → F → Type 0
+  CallOf j c k = AnswersAt shows g j c.0.value c.1 k
+
+  some_calls : (calls : List (Entry V × W)) (f f' : F) → FoldsTo CallOf f calls f' → FoldsTo (SomeCallAt shows g) f (values (asked calls)) f'
+  some_calls [] f f' h = h
+  some_calls (c ∷ cs) f f' h = (h.0, (c.1, h.1), some_calls cs h.0 f' h.2)
+
+  in_turn : (calls : List (Entry V × W)) (f f' : F) → FoldsTo CallOf f calls f' → FoldsTo (λ j c k. AnswersAt shows g j c.0 c.1 k) f (zip (values (asked calls)) (map (λ c. c.1) calls)) f'
+  in_turn [] f f' h = h
+  in_turn (c ∷ cs) f f' h = (h.0, h.1, in_turn cs h.0 f' h.2)
+
+  many : (calls : List (Entry V × W)) → length (map (λ c. c.1) calls) ≡ length (values (asked calls))
+  many [] = refl
+  many (c ∷ cs) = omega (arith, many cs)
+
+  made : (calls : List (Entry V × W)) → answered (asked calls) (map (λ c. c.1) calls) ≡ map with_answer calls
+  made [] = refl
+  made (c ∷ cs) = ap (λ l. with_answer c ∷ l) (made cs)
+
+  values_append : (xs ys : List (Entry V)) → values (xs ++ ys) ≡ values xs ++ values ys
+  values_append xs ys = map-append (λ e. e.value) xs ys
+
+  module _ (eqv : V → V → Bool) (eq : W → W → Bool) (low high : ℤ) (f : F) (all : List (Entry V)) where
+    -- the closure was asked at the entries before `left`, and the list has its answers
+    pub record IsAnsweredSoFar (left : List (Entry V)) (f' : F) (out : List (Entry W)) : Type 0 where
+      pub calls : List (Entry V × W)
+      pub whole : all ≡ asked calls ++ left
+      pub turns : FoldsTo CallOf f calls f'
+      pub left_is : IsCanonical eqv left
+      pub left_keys : AreKeys low high left
+      pub canonical : IsCanonical eq out
+      pub keys : AreKeys low high out
+      pub under : (s : ℤ) → first_key left ≡ Some s → IsBelow s out
+      pub content : (k : ℤ) → SameOption eq (at out k) (at (map with_answer calls) k)
+
+    pub answered_none : (laws_v : IsEquivalence eqv) → IsRangeMap eqv low high all → IsAnsweredSoFar all f []
+    answered_none laws_v r = record {
+      calls = [];
+      whole = refl;
+      turns = refl;
+      left_is = canonical eqv laws_v all r.runs;
+      left_keys = r.keys;
+      canonical = tt;
+      keys = tt;
+      under = λ s h. tt;
+      content = λ k. tt;
+    }
+
+    -- the closure may be called at the next entry
+    pub takes_next : IsCallableAtEach shows g f (values all) → (left others : List (Entry V)) (e : Entry V) (f' : F) (out : List (Entry W)) → IsAnsweredSoFar left f' out → left ≡ e ∷ others → TakesValue shows g f' e.value
+    takes_next may left others e f' out h is =
+        may.at (values (asked h.calls)) (values others) e.value f'
+        (ap values (h.whole ∙ ap (λ l. asked h.calls ++ l) is) ∙ values_append (asked h.calls) (e ∷ others))
+        (some_calls h.calls f f' h.turns)
+
+    module _ (laws : IsEquivalence eq) where
+      under_more : (e : Entry V) (w : W) (out : List (Entry W)) (others : List (Entry V)) (s : ℤ) → IsCanonical eqv (e ∷ others) → IsBelow e.lo out → first_key others ≡ Some s → IsBelow s (glue eq out (entry e.lo e.hi w ∷ []))
+      under_more e w out [] s c b p = cc
+      under_more e w out (d ∷ ds) s c b p =
+          let u : d.lo ≡ s = same_some d.lo s p in
+          below_glue eq s out (entry e.lo e.hi w ∷ []) (below_more e.lo s out (omega (arith, ints, c.0, c.1.0)) b) (omega (arith, ints, c.1.0), tt)
+
+      -- one answer more
+      pub answered_more : (left others : List (Entry V)) (e : Entry V) (f' f'' : F) (out new : List (Entry W)) (w : W) (lo hi : ℤ)
+          → IsAnsweredSoFar left f' out → left ≡ e ∷ others → AnswersAt shows g f' e.value w f'' → lo ≡ e.lo → hi ≡ e.hi → new ≡ glue eq out (entry lo hi w ∷ []) → IsAnsweredSoFar others f'' new
+      answered_more left others e f' f'' out new w lo hi h is answer starts ends put =
+          let pushed = put ∙ ap (λ z. glue eq out (entry z hi w ∷ [])) starts ∙ ap (λ z. glue eq out (entry e.lo z w ∷ [])) ends in
+          let c = subst (IsCanonical eqv) is h.left_is in
+          let keys = subst (AreKeys low high) is h.left_keys in
+          let below = h.under e.lo (ap first_key is) in
+          let piece : List (Entry W) = entry e.lo e.hi w ∷ [] in
+          record {
+            calls = h.calls ++ (e, w) ∷ [];
+            whole = h.whole ∙ ap (λ l. asked h.calls ++ l) is ∙ sym (append_assoc (asked h.calls) (e ∷ []) others) ∙ ap (λ l. l ++ others) (sym (map-append (λ c. c.0) h.calls ((e, w) ∷ [])));
+            turns = FoldsTo-push CallOf f h.calls f' (e, w) f'' h.turns answer;
+            left_is = c.2;
+            left_keys = keys.2;
+            canonical = rw pushed (canonical_glue eq laws (e.lo -ℤ pos 1) out piece h.canonical (c.0, tt, tt) (below_more e.lo (e.lo -ℤ pos 1 +ℤ pos 1) out (omega (arith, ints)) below) (omega (arith, ints)));
+            keys = rw pushed (are_keys_glue eq low high out piece h.keys (keys.0, keys.1, tt));
+            under = λ s p. rw pushed (under_more e w out others s c below p);
+            content = λ k. rw (pushed, map-append with_answer h.calls ((e, w) ∷ []), at_push (map with_answer h.calls) (entry e.lo e.hi w) k)
+                (same_trans eq laws _ (or_else (at out k) (at piece k)) _
+                (at_glue eq laws out piece k h.canonical (c.0, tt, tt))
+                (same_or_left eq laws (at out k) (at (map with_answer h.calls) k) (at piece k) (h.content k)));
+          }
+
+      -- with no entry left, all are answered
+      pub answered_all : (left : List (Entry V)) (f' : F) (out : List (Entry W)) → IsAnsweredSoFar left f' out → left ≡ [] → IsTransformed shows g eq low high f all out
+      answered_all left f' out h is =
+          let entries : all ≡ asked h.calls = h.whole ∙ ap (λ l. asked h.calls ++ l) is ∙ append-nil (asked h.calls) in
+          record {
+            answers = map (λ c. c.1) h.calls;
+            in_turn = record {
+              last = f';
+              count = many h.calls ∙ ap (λ l. length (values l)) (sym entries);
+              calls = subst (λ l. FoldsTo (λ j c k. AnswersAt shows g j c.0 c.1 k) f (zip (values l) (map (λ c. c.1) h.calls)) f') (sym entries) (in_turn h.calls f f' h.turns);
+            };
+            range_map = record { runs = one_per_run eq laws out h.canonical; keys = h.keys };
+            content = λ k. same_along eq refl (ap (λ l. at l k) (sym (made h.calls) ∙ ap (λ l. answered l (map (λ c. c.1) h.calls)) (sym entries))) (h.content k);
+          }

@@ -1,0 +1,186 @@
+-- The segments of two lists that were found so far, and one more.
+use Rattle.std.proofs.Common.{◌≡◌, ◌+◌, ◌<◌, ℤ, pos, ◌+ℤ◌, ◌≤ℤ◌, ◌<ℤ◌, Bool, true, false, ◌&&◌, cond, List, [], ◌∷◌, ◌++◌, Option, Some, None, refl, ◌∙◌, sym, ap, subst, arith, ⊎_elim}
+use Rattle.std.specs.Option.{option_eq}
+use Rattle.std.specs.Cmp.{IsEquivalence, first_so, second_so}
+use Rattle.std.specs.Cmp.Lexicographic.{options_equiv}
+use Rattle.std.proofs.lemmas.Cmp.{and_equiv, on_equiv}
+use Rattle.std.proofs.lemmas.Int.{ints, by_lt_z}
+use Rattle.std.proofs.lemmas.List.{append-nil}
+use Rattle.blaze_table.specs.Entries.{Entry, entry, at, SameOption}
+use Rattle.blaze_table.specs.Canonical.{IsCanonical, AreKeys}
+use Rattle.blaze_table.specs.Painted.{or_else}
+use Rattle.blaze_table.specs.Splice.{IsBelow, after}
+use Rattle.blaze_table.proofs.Glued.{IsBelow-push}
+use Rattle.blaze_table.proofs.Lookup.{IsAbove-from_apart, at_in, at_under, at_over, at_before}
+use Rattle.blaze_table.proofs.Runs.{canonical, one_per_run}
+use Rattle.blaze_table.proofs.Splices.{below_more, at-after_over}
+use Rattle.blaze_streams.specs.declared.joins.JoinKind.{JoinKind}
+use Rattle.blaze_streams.specs.declared.joins.JoinKind.TheVariants.{Inner, Left, Full}
+use Rattle.blaze_streams.specs.Cursors.{first_key, steady_to, lesser}
+use Rattle.blaze_streams.specs.Joins.{is_joined, paired, pair_eq, IsJoinOf, piece_of, IsSegmentPut}
+use Rattle.blaze_streams.specs.JoinAnswers.{AllJoined}
+use Rattle.blaze_streams.proofs.ChosenSoFar.{both_from, none_there, no_first, first_above}
+use Rattle.blaze_streams.proofs.Fewer.{both_less}
+use Rattle.blaze_streams.proofs.FoundSegments.{at_push, or_assoc, or_none, option_same, EndsApart, canonical_push, apart_push}
+use Rattle.blaze_streams.proofs.KeysLeft.{keys_left}
+use Rattle.blaze_streams.proofs.Lesser.{at_most_both, at_most_itself, lesser_one}
+use Rattle.blaze_streams.proofs.Steady.{AtMost, at_below_from, at-after_under, steady, steady_far, stops_steady, changes}
+
+-- what a join is asked for at a key
+abbrev pub pair_at : {A B : Type 0} → JoinKind → List (Entry A) → List (Entry B) → ℤ → Option (Option A × Option B)
+pair_at kind L R k = paired kind (at L k) (at R k)
+
+-- a join is not asked for nothing
+from_nothing : {A B : Type 0} (kind : JoinKind) → paired {A = A} {B = B} kind None None ≡ None
+from_nothing Inner = refl
+from_nothing Left = refl
+from_nothing Full = refl
+
+none_if : {A B : Type 0} (kind : JoinKind) (x : Option A) (y : Option B) → x ≡ None → y ≡ None → paired kind x y ≡ None
+none_if kind x y p q = ap (λ z. paired kind z y) p ∙ ap (paired kind None) q ∙ from_nothing kind
+
+-- two lists that have the same pair have the same
+same_pair : {A B : Type 0} (eqa : A → A → Bool) (eqb : B → B → Bool) (b c : Bool) (x x' : Option A) (y y' : Option B) (v : Option A × Option B) → cond b (Some (x, y)) None ≡ Some v → SameOption (pair_eq eqa eqb) (Some v) (cond c (Some (x', y')) None) → (option_eq eqa x x' && option_eq eqb y y') ≡ true
+same_pair eqa eqb true true x x' y y' v p s = let q : v ≡ (x, y) = cc in subst (λ z. pair_eq eqa eqb z (x', y') ≡ true) q s
+same_pair eqa eqb true false x x' y y' v p s = absurd s
+same_pair eqa eqb false c x x' y y' v p s = cc
+
+pub pair_laws : {A B : Type 0} (eqa : A → A → Bool) (eqb : B → B → Bool) → IsEquivalence eqa → IsEquivalence eqb → IsEquivalence (pair_eq eqa eqb)
+pair_laws eqa eqb lawsa lawsb = and_equiv (on_equiv (λ p. p.0) (options_equiv lawsa)) (on_equiv (λ p. p.1) (options_equiv lawsb))
+
+-- right above the last range of a list two contents are the same
+apart_along : {V : Type 0} (eq : V → V → Bool) (out : List (Entry V)) (c d : ℤ → Option V) → ((k : ℤ) → d k ≡ c k) → EndsApart eq out c → EndsApart eq out d
+apart_along eq [] c d p a = tt
+apart_along eq (e ∷ []) c d p a = λ s. a (subst (SameOption eq (Some e.value)) (p (e.hi +ℤ pos 1)) s)
+apart_along eq (e ∷ f ∷ es) c d p a = apart_along eq (f ∷ es) c d p a
+
+module _ {A B : Type 0} (eqa : A → A → Bool) (eqb : B → B → Bool) (low high : ℤ) (kind : JoinKind) where
+  -- the list has the segments of two lists, of which L and R are left
+  pub record IsPairedSoFar (left : List (Entry A)) (right : List (Entry B)) (L : List (Entry A)) (R : List (Entry B)) (out : List (Entry (Option A × Option B))) : Type 0 where
+    pub canonical : IsCanonical (pair_eq eqa eqb) out
+    pub keys : AreKeys low high out
+    pub under : (s : ℤ) → lesser (first_key L) (first_key R) ≡ Some s → IsBelow s out
+    pub content : (k : ℤ) → pair_at kind left right k ≡ or_else (at out k) (pair_at kind L R k)
+    pub apart : EndsApart (pair_eq eqa eqb) out (pair_at kind L R)
+
+  pub paired_none : (L : List (Entry A)) (R : List (Entry B)) → IsPairedSoFar L R L R []
+  paired_none L R = record { canonical = tt; keys = tt; under = λ s f. tt; content = λ k. refl; apart = tt }
+
+  module _ (L : List (Entry A)) (R : List (Entry B)) (s t : ℤ) (ca : IsCanonical eqa L) (cb : IsCanonical eqb R) (starts : lesser (first_key L) (first_key R) ≡ Some s) (ends : lesser (steady_to s L) (steady_to s R) ≡ Some t) where
+    pub in_order : s ≤ℤ t
+    in_order = let from = both_from s L R starts in
+        ⊎_elim (λ e. steady_far eqa s t L ca from.0 e) (λ e. steady_far eqb s t R cb from.1 e) (lesser_one (steady_to s L) (steady_to s R) t ends)
+
+    same_from : (k : ℤ) → s ≤ℤ k → k ≤ℤ t → pair_at kind L R k ≡ pair_at kind L R s
+    same_from k l h =
+        let from = both_from s L R starts in
+        let to : AtMost t (steady_to s L) × AtMost t (steady_to s R) = at_most_both (steady_to s L) (steady_to s R) t (at_most_itself _ t ends) in
+        ap (λ x. paired kind x (at R k)) (steady eqa s t k L ca from.0 to.0 l h) ∙ ap (paired kind (at L s)) (steady eqb s t k R cb from.1 to.1 l h)
+
+    none_under : (k : ℤ) → k <ℤ s → pair_at kind L R k ≡ None
+    none_under k l = let from = both_from s L R starts in none_if kind (at L k) (at R k) (at_below_from eqa L s k ca from.0 l) (at_below_from eqb R s k cb from.1 l)
+
+    none_after : (k : ℤ) → k ≤ℤ t → pair_at kind (after t L) (after t R) k ≡ None
+    none_after k h = none_if kind (at (after t L) k) (at (after t R) k) (at-after_under eqa t k L ca h) (at-after_under eqb t k R cb h)
+
+    same_over : (k : ℤ) → t <ℤ k → pair_at kind (after t L) (after t R) k ≡ pair_at kind L R k
+    same_over k l = ap (λ x. paired kind x (at (after t R) k)) (at-after_over eqa t k L ca l) ∙ ap (paired kind (at L k)) (at-after_over eqb t k R cb l)
+
+    first_left : (r : ℤ) → lesser (first_key (after t L)) (first_key (after t R)) ≡ Some r → t <ℤ r
+    first_left r f = ⊎_elim (λ e. first_above t r L e) (λ e. first_above t r R e) (lesser_one (first_key (after t L)) (first_key (after t R)) r f)
+
+    -- right above t one of the two changes
+    next_changes : (lawsa : IsEquivalence eqa) (lawsb : IsEquivalence eqb) (v : Option A × Option B) → pair_at kind L R t ≡ Some v → SameOption (pair_eq eqa eqb) (Some v) (pair_at kind (after t L) (after t R) (t +ℤ pos 1)) → ⊥
+    next_changes lawsa lawsb v p h =
+        let k = t +ℤ pos 1 in
+        let same = same_pair eqa eqb (is_joined kind (at L t) (at R t)) (is_joined kind (at L k) (at R k)) (at L t) (at L k) (at R t) (at R k) v p (subst (SameOption (pair_eq eqa eqb) (Some v)) (same_over k (omega (arith, ints))) h) in
+        ⊎_elim
+        (λ e. changes eqa lawsa L t ca (stops_steady s t L e) (option_same eqa (at L t) (at L k) (first_so (option_eq eqa (at L t) (at L k)) (option_eq eqb (at R t) (at R k)) same)))
+        (λ e. changes eqb lawsb R t cb (stops_steady s t R e) (option_same eqb (at R t) (at R k) (second_so (option_eq eqa (at L t) (at L k)) (option_eq eqb (at R t) (at R k)) same)))
+        (lesser_one (steady_to s L) (steady_to s R) t ends)
+
+    -- what a segment takes off
+    next_pair : (p : Option (Option A × Option B)) → pair_at kind L R t ≡ p → (k : ℤ) → pair_at kind L R k ≡ or_else (at (piece_of s t p) k) (pair_at kind (after t L) (after t R) k)
+    next_pair None e k = by_lt_z t k
+        (λ h. sym (same_over k h))
+        (λ h. by_lt_z k s
+        (λ l. none_under k l ∙ sym (none_after k h))
+        (λ l. same_from k l h ∙ sym (same_from t in_order (omega (arith, ints))) ∙ e ∙ sym (none_after k h)))
+    next_pair (Some v) e k =
+        let f = entry s t v in
+        let rest = pair_at kind (after t L) (after t R) k in
+        by_lt_z t k
+        (λ h. sym (same_over k h) ∙ ap (λ z. or_else z rest) (sym (at_over f [] k h)))
+        (λ h. by_lt_z k s
+        (λ l. none_under k l ∙ sym (none_after k h) ∙ ap (λ z. or_else z rest) (sym (at_under f [] k l)))
+        (λ l. same_from k l h ∙ sym (same_from t in_order (omega (arith, ints))) ∙ e ∙ ap (λ z. or_else z rest) (sym (at_in f [] k l h))))
+
+    module _ (lawsa : IsEquivalence eqa) (lawsb : IsEquivalence eqb) (left : List (Entry A)) (right : List (Entry B)) (out : List (Entry (Option A × Option B))) (from : low ≤ℤ s) (to : t ≤ℤ high) where
+      pair_put : (p : Option (Option A × Option B)) → pair_at kind L R t ≡ p → IsPairedSoFar left right L R out → IsPairedSoFar left right (after t L) (after t R) (out ++ piece_of s t p)
+      pair_put None e h = rw (append-nil out) (record {
+        canonical = h.canonical;
+        keys = h.keys;
+        under = λ r f. below_more s r out (omega (arith, ints, in_order, first_left r f)) (h.under s starts);
+        content = λ k. h.content k ∙ ap (or_else (at out k)) (next_pair None e k);
+        apart = apart_along (pair_eq eqa eqb) out (pair_at kind L R) (pair_at kind (after t L) (after t R)) (λ k. sym (next_pair None e k)) h.apart;
+      })
+      pair_put (Some v) e h =
+          let f = entry s t v in
+          let below = h.under s starts in
+          record {
+            canonical = canonical_push (pair_eq eqa eqb) out f (pair_at kind L R) h.canonical below in_order h.apart (sym (same_from t in_order (omega (arith, ints))) ∙ e);
+            keys = keys_push out h.keys;
+            under = λ r g. IsBelow-push r out f (below_more s r out (omega (arith, ints, in_order, first_left r g)) below) (first_left r g);
+            content = λ k. h.content k ∙ ap (or_else (at out k)) (next_pair (Some v) e k) ∙ sym (or_assoc (at out k) (at (f ∷ []) k) (pair_at kind (after t L) (after t R) k)) ∙ ap (λ z. or_else z (pair_at kind (after t L) (after t R) k)) (sym (at_push out f k));
+            apart = apart_push (pair_eq eqa eqb) out f (pair_at kind (after t L) (after t R)) (next_changes lawsa lawsb v e);
+          }
+        where
+          keys_push : (xs : List (Entry (Option A × Option B))) → AreKeys low high xs → AreKeys low high (xs ++ entry s t v ∷ [])
+          keys_push [] k = (from, to, tt)
+          keys_push (x ∷ xs) k = (k.0, k.1, keys_push xs k.2)
+
+  module _ (left L L' : List (Entry A)) (right R R' : List (Entry B)) (out new : List (Entry (Option A × Option B))) (s : ℤ) (ca : IsCanonical eqa L) (cb : IsCanonical eqb R) (starts : lesser (first_key L) (first_key R) ≡ Some s) (m : IsSegmentPut low high kind s L L' R R' out new) where
+    -- one segment more
+    pub paired_more : IsEquivalence eqa → IsEquivalence eqb → IsPairedSoFar left right L R out → IsPairedSoFar left right L' R' new
+    paired_more lawsa lawsb h = rw (m.put, m.left_is, m.right_is) (pair_put L R s m.end ca cb starts m.ends lawsa lawsb left right out m.from m.to (pair_at kind L R m.end) refl h)
+
+    pub paired_less : keys_left L' + keys_left R' < keys_left L + keys_left R
+    paired_less = rw (m.left_is, m.right_is) (both_less eqa eqb s m.end L R ca cb starts (in_order L R s m.end ca cb starts m.ends))
+
+  -- with no key left, all segments are found
+  pub paired_all : IsEquivalence eqa → IsEquivalence eqb → (left L : List (Entry A)) (right R : List (Entry B)) (out : List (Entry (Option A × Option B))) → IsPairedSoFar left right L R out → lesser (first_key L) (first_key R) ≡ None → IsJoinOf eqa eqb low high kind left right out
+  paired_all lawsa lawsb left L right R out h f =
+      let n = no_first (first_key L) (first_key R) f in
+      record {
+        range_map = record { runs = one_per_run (pair_eq eqa eqb) (pair_laws eqa eqb lawsa lawsb) out h.canonical; keys = h.keys };
+        content = λ k. sym (h.content k ∙ ap (or_else (at out k)) (none_if kind (at L k) (at R k) (none_there L k n.0) (none_there R k n.1)) ∙ or_none (at out k));
+      }
+
+-- ---- each segment is one that the kind asks for
+
+module _ {A B : Type 0} (eqa : A → A → Bool) (eqb : B → B → Bool) (kind : JoinKind) where
+  is_joined_there : (b : Bool) (p v : Option A × Option B) → b ≡ is_joined kind p.0 p.1 → Some v ≡ cond b (Some p) None → is_joined kind v.0 v.1 ≡ true
+  is_joined_there true p v q e = let is : v ≡ p = cc in ap (λ z. is_joined kind z.0 z.1) is ∙ sym q
+  is_joined_there false p v q e = cc
+
+  joined_each : (es : List (Entry (Option A × Option B))) → IsCanonical (pair_eq eqa eqb) es → ((k : ℤ) (v : Option A × Option B) → at es k ≡ Some v → is_joined kind v.0 v.1 ≡ true) → AllJoined kind es
+  joined_each [] c p = tt
+  joined_each (e ∷ es) c p = (
+    p e.lo e.value (at_in e es e.lo (omega (arith, ints)) (omega (arith, ints, c.0))),
+    joined_each es c.2 (λ k v q. p k v (rest k v q)),
+  )
+    where
+      nothing : (k : ℤ) (v : Option A × Option B) → k ≤ℤ e.hi → at es k ≡ Some v → ⊥
+      nothing k v h q = let is = at_before (pair_eq eqa eqb) es e.hi k c.2 (IsAbove-from_apart (pair_eq eqa eqb) e es c.1) h in cc (sym is ∙ q)
+
+      rest : (k : ℤ) (v : Option A × Option B) → at es k ≡ Some v → at (e ∷ es) k ≡ Some v
+      rest k v q = by_lt_z e.hi k (λ h. at_over e es k h ∙ q) (λ h. absurd (nothing k v h q))
+
+  pub joined_all : (low high : ℤ) (left : List (Entry A)) (right : List (Entry B)) (segments : List (Entry (Option A × Option B))) → IsEquivalence eqa → IsEquivalence eqb → IsJoinOf eqa eqb low high kind left right segments → AllJoined kind segments
+  joined_all low high left right segments lawsa lawsb j =
+      joined_each segments (canonical (pair_eq eqa eqb) (pair_laws eqa eqb lawsa lawsb) segments j.range_map.runs)
+      (λ k v q. is_joined_there (is_joined kind (at left k) (at right k)) (at left k, at right k) v refl (sym q ∙ j.content k))
+
+pub joined_next : {A B : Type 0} (kind : JoinKind) (xs es left : List (Entry (Option A × Option B))) (e : Entry (Option A × Option B)) → AllJoined kind (xs ++ left) → left ≡ e ∷ es → is_joined kind e.value.0 e.value.1 ≡ true
+joined_next kind [] es left e h is = (subst (AllJoined kind) is h).0
+joined_next kind (x ∷ xs) es left e h is = joined_next kind xs es left e h.1 is

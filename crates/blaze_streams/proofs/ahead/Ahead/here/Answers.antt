@@ -1,0 +1,15 @@
+use Rattle.std.proofs.Common.{◌∙◌, sym, ap, subst, arith, ◌<ℤ◌}
+use Rattle.std.proofs.lemmas.Int.{ints}
+use Rattle.blaze_table.specs.Entries.{at}
+use Rattle.blaze_table.specs.Canonical.{IsCanonical}
+use Rattle.blaze_streams.specs.Choosing.{ahead_of}
+use Rattle.blaze_streams.proofs.Steady.{at_first}
+use Rattle.blaze_streams.proofs.ahead.Ahead.here.Goals as goal
+
+pub returns-else-is_at_most : goal.returns-else-is_at_most
+returns-else-is_at_most g c =
+    let rank = g.T.Integer.rank in
+    let eq = g.VC.Value.PartialEq.eq in
+    let less : rank c.args.key <ℤ rank c.in-Some.lo = grind (arith, ints, c.is_at_most.ensures, c.if-is_at_most.false) in
+    let is = ap (λ h. ahead_of rank g.VC.ValueCarrier.shown h (g.I.SortedDisjointMap.left c.self.inside.rest)) c.in-Some.is in
+    sym (ap (λ l. at l (rank c.args.key)) (sym c.self.view_is ∙ is) ∙ at_first eq _ _ (rank c.args.key) (subst (IsCanonical eq) is c.self.invariant.1) less)

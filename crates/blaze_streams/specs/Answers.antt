@@ -1,0 +1,47 @@
+-- What a closure answers at values, one call for each, and where it may be called.
+use Rattle.std.specs.Prelude.{◌≡◌, ℤ, Bool, List, ◌∷◌, ◌++◌, length, map}
+use Rattle.std.specs.Fn.{Mut, Called, Takes}
+use Rattle.std.specs.List.{FoldsTo, zip}
+use Rattle.blaze_table.specs.Entries.{Entry, entry, at, SameOption}
+use Rattle.blaze_table.specs.Canonical.{IsRangeMap}
+
+-- the values of entries, in order
+abbrev pub values : {V : Type 0} → List (Entry V) → List V
+values es = map (λ e. e.value) es
+
+-- the entries, each with an answer in place of its value
+abbrev pub answered : {V W : Type 0} → List (Entry V) → List W → List (Entry W)
+answered es answers = map (λ c. entry c.0.lo c.0.hi c.1) (zip es answers)
+
+-- `shows` is the value that the arguments of a call stand for
+module _ {F A V W : Type 0} (shows : A → V) (g : Mut F A W) where
+  -- a call of f with arguments that stand for v may answer w, and leave f as f'
+  pub record AnswersAt (f : F) (v : V) (w : W) (f' : F) : Type 0 where
+    pub arguments : A
+    pub shown : shows arguments ≡ v
+    pub called : Called g f arguments w f'
+
+  -- f may be called with arguments that stand for v
+  abbrev pub TakesValue : F → V → Type 0
+  TakesValue f v = (arguments : A) → shows arguments ≡ v → Takes g f arguments
+
+  -- a call of f at v may leave f'
+  abbrev pub SomeCallAt : F → V → F → Type 0
+  SomeCallAt f v f' = (w : W) × AnswersAt f v w f'
+
+  -- f may be called at each value in turn, in the state that the calls at those before leave
+  pub record IsCallableAtEach (f : F) (vs : List V) : Type 0 where
+    pub at : (before after : List V) (v : V) (f' : F) → vs ≡ before ++ v ∷ after → FoldsTo SomeCallAt f before f' → TakesValue f' v
+
+  -- what f answers at the values: one answer for each, in order, each in the state that the calls before leave
+  pub record AnswersInTurn (f : F) (vs : List V) (answers : List W) : Type 0 where
+    pub last : F
+    pub count : length answers ≡ length vs
+    pub calls : FoldsTo (λ j c k. AnswersAt j c.0 c.1 k) f (zip vs answers) last
+
+  -- a range map that has at each key of an entry what f answers at that entry, and nothing at all other keys
+  pub record IsTransformed (eq : W → W → Bool) (low high : ℤ) (f : F) (entries : List (Entry V)) (new : List (Entry W)) : Type 0 where
+    pub answers : List W
+    pub in_turn : AnswersInTurn f (values entries) answers
+    pub range_map : IsRangeMap eq low high new
+    pub content : (k : ℤ) → SameOption eq (at new k) (at (answered entries answers) k)

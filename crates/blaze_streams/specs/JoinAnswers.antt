@@ -1,0 +1,38 @@
+-- What a closure answers at the segments of two lists.
+use Rattle.std.specs.Prelude.{◌≡◌, ℤ, Bool, true, List, [], ◌∷◌, Option, Some}
+use Rattle.std.specs.Fn.{Mut}
+use Rattle.blaze_table.specs.Entries.{Entry}
+use Rattle.blaze_streams.specs.declared.joins.JoinKind.{JoinKind}
+use Rattle.blaze_streams.specs.Carried.{shown_option}
+use Rattle.blaze_streams.specs.Answers.{values, IsCallableAtEach, IsTransformed}
+use Rattle.blaze_streams.specs.Joins.{is_joined, IsJoinOf}
+
+-- what two lists have where the two arguments of a call stand for it
+abbrev pub either : {C D A B : Type 0} → (C → A) → (D → B) → Option C × (Option D × Unit {0}) → Option A × Option B
+either left right a = (shown_option left a.0, shown_option right a.1.0)
+
+-- the same where the left one is there
+abbrev pub with_left : {C D A B : Type 0} → (C → A) → (D → B) → C × (Option D × Unit {0}) → Option A × Option B
+with_left left right a = (Some (left a.0), shown_option right a.1.0)
+
+-- the same where both are there
+abbrev pub both : {C D A B : Type 0} → (C → A) → (D → B) → C × (D × Unit {0}) → Option A × Option B
+both left right a = (Some (left a.0), Some (right a.1.0))
+
+-- a join of the kind is asked for each of the segments
+abbrev pub AllJoined : {A B : Type 0} → JoinKind → List (Entry (Option A × Option B)) → Type 0
+AllJoined kind [] = Unit {0}
+AllJoined kind (e ∷ es) = (is_joined kind e.value.0 e.value.1 ≡ true) × AllJoined kind es
+
+-- `shows` is what two lists have where the arguments of a call stand for it
+module _ {F X W A B : Type 0} (shows : X → Option A × Option B) (g : Mut F X W) (eqa : A → A → Bool) (eqb : B → B → Bool) (low high : ℤ) (kind : JoinKind) where
+  -- f may be called at each segment that the join is asked for in turn, in the state that the calls at those before leave
+  pub record IsCallableAtSegments (f : F) (left : List (Entry A)) (right : List (Entry B)) : Type 0 where
+    pub at : (segments : List (Entry (Option A × Option B))) → IsJoinOf eqa eqb low high kind left right segments → IsCallableAtEach shows g f (values segments)
+
+  -- a range map that has at each key of a segment that the join is asked for what f answers there, and nothing at all other
+  -- keys: one call for each of these segments, in order
+  pub record IsJoined (eq : W → W → Bool) (f : F) (left : List (Entry A)) (right : List (Entry B)) (new : List (Entry W)) : Type 0 where
+    pub segments : List (Entry (Option A × Option B))
+    pub are_segments : IsJoinOf eqa eqb low high kind left right segments
+    pub answered : IsTransformed shows g eq low high f segments new

@@ -1,0 +1,47 @@
+-- The segments of two lists: the greatest ranges on which neither changes and at least one is present, and those of them that
+-- a join is asked for.
+use Rattle.std.specs.Prelude.{◌≡◌, ℤ, ◌≤ℤ◌, Bool, ◌&&◌, ◌||◌, if◌then◌else◌, List, [], ◌∷◌, ◌++◌, Option, Some, None}
+use Rattle.std.specs.Option.{option_eq, is_some}
+use Rattle.blaze_table.specs.Entries.{Entry, entry, at}
+use Rattle.blaze_table.specs.Canonical.{IsRangeMap}
+use Rattle.blaze_table.specs.Splice.{after}
+use Rattle.blaze_streams.specs.declared.joins.JoinKind.{JoinKind}
+use Rattle.blaze_streams.specs.declared.joins.JoinKind.TheVariants.{Inner, Left, Full}
+use Rattle.blaze_streams.specs.Cursors.{steady_to, lesser}
+
+-- whether a join of the kind is asked for what two lists have at a key
+abbrev pub is_joined : {A B : Type 0} → JoinKind → Option A → Option B → Bool
+is_joined Inner x y = is_some x && is_some y
+is_joined Left x y = is_some x
+is_joined Full x y = is_some x || is_some y
+
+-- what two lists have at a key, where a join of the kind is asked for it
+abbrev pub paired : {A B : Type 0} → JoinKind → Option A → Option B → Option (Option A × Option B)
+paired kind x y = if is_joined kind x y then Some (x, y) else None
+
+-- two lists have the same at two keys
+abbrev pub pair_eq : {A B : Type 0} → (A → A → Bool) → (B → B → Bool) → Option A × Option B → Option A × Option B → Bool
+pair_eq eqa eqb p q = option_eq eqa p.0 q.0 && option_eq eqb p.1 q.1
+
+-- the segments of two lists that a join of the kind is asked for: at each key they have what the two lists have there, where
+-- the kind asks for it, and they are one per run of that
+pub record IsJoinOf {A B : Type 0} (eqa : A → A → Bool) (eqb : B → B → Bool) (low high : ℤ) (kind : JoinKind) (left : List (Entry A)) (right : List (Entry B)) (segments : List (Entry (Option A × Option B))) : Type 0 where
+  pub range_map : IsRangeMap (pair_eq eqa eqb) low high segments
+  pub content : (k : ℤ) → at segments k ≡ paired kind (at left k) (at right k)
+
+-- ---- one step of a walk over two lists
+
+-- a value on the keys from s up to t, where there is one
+abbrev pub piece_of : {V : Type 0} → ℤ → ℤ → Option V → List (Entry V)
+piece_of s t None = []
+piece_of s t (Some v) = entry s t v ∷ []
+
+-- the first segment of two lists, which starts at s, put behind a list where the kind asks for it; and what is left of the two
+pub record IsSegmentPut {A B : Type 0} (low high : ℤ) (kind : JoinKind) (s : ℤ) (left left_new : List (Entry A)) (right right_new : List (Entry B)) (out out_new : List (Entry (Option A × Option B))) : Type 0 where
+  pub end : ℤ
+  pub from : low ≤ℤ s
+  pub to : end ≤ℤ high
+  pub ends : lesser (steady_to s left) (steady_to s right) ≡ Some end
+  pub left_is : left_new ≡ after end left
+  pub right_is : right_new ≡ after end right
+  pub put : out_new ≡ out ++ piece_of s end (paired kind (at left end) (at right end))

@@ -1,0 +1,68 @@
+//! A stream's values at every key.
+ghost use Rattle.std.specs.Prelude.{◌≡◌, pos, ◌+ℤ◌, ◌++◌, IfOk, OnOk};
+ghost use Rattle.blaze_streams.specs.Carried.{shown_option};
+ghost use Rattle.blaze_streams.specs.Fills.{none_before, IsFilled};
+ghost use Rattle.blaze_streams.specs.Gaps.{rank_or_end};
+ghost use Rattle.blaze_streams.specs.RangeLists.{shown_ranges};
+
+use crate::canon_map::CanonMapIter;
+use crate::carrier::ValueCarrier;
+use crate::stream::SortedDisjointMap;
+use blaze_int::Integer;
+use blaze_int::compare::{before, is_below};
+use std::alloc::{AllocError, Global};
+use std::ops::RangeInclusive;
+
+// Adds the keys from `next` on that lie below a range's start, as one range without a value. Where `next` is none there are
+// no more keys.
+fn push_none<T: Integer, VC: ValueCarrier>(
+    out: &mut Vec<(RangeInclusive<T>, Option<VC>)>,
+    next: Option<T>,
+    start: T,
+) -> Result<(), AllocError>
+    ensures { OnOk result (shown_ranges T.rank (shown_option VC.shown) out.new.items ≡ shown_ranges T.rank (shown_option VC.shown) out.old.items ++ none_before (rank_or_end T.rank T.high next) (T.rank start)) }
+{
+    start.in_hand();
+    if let Some(first) = next {
+        if is_below(first, start) {
+            out.push((first..=before(start, first), None))?;
+        }
+    }
+    Ok(())
+}
+
+// Adds the keys from `next` on, as one range without a value. Where `next` is none there are no more keys.
+fn push_last<T: Integer, VC: ValueCarrier>(
+    out: &mut Vec<(RangeInclusive<T>, Option<VC>)>,
+    next: Option<T>,
+) -> Result<(), AllocError>
+    ensures { OnOk result (shown_ranges T.rank (shown_option VC.shown) out.new.items ≡ shown_ranges T.rank (shown_option VC.shown) out.old.items ++ none_before (rank_or_end T.rank T.high next) (T.high +ℤ pos 1)) }
+{
+    if let Some(first) = next {
+        first.in_hand();
+        out.push((first..=T::max_value(), None))?;
+    }
+    Ok(())
+}
+
+/// Every key of the type: `Some` of the stream's value where it has the key, and `None` elsewhere. The carriers are the
+/// stream's own. Refused memory drops the stream.
+pub fn fill<T: Integer, VC: ValueCarrier, S: SortedDisjointMap<T, VC>>(
+    alloc: Global,
+    stream: S,
+) -> Result<CanonMapIter<T, Option<VC>>, AllocError>
+    ensures { IfOk result (λ new. IsFilled VC.Value.eq T.low T.high (S.left stream) new) }
+{
+    stream.in_hand();
+    let mut out = Vec::new(alloc);
+    let mut next = Some(T::min_value());
+    for item in stream {
+        let (range, carrier) = item;
+        let (start, end) = range.into_inner();
+        push_none(&mut out, next, start)?;
+        out.push((start..=end, Some(carrier)))?;
+        next = end.checked_add_one();
+    }
+    push_last(&mut out, next)?;
+    Ok(CanonMapIter::new(out))
+}

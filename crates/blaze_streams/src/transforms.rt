@@ -1,0 +1,34 @@
+//! A stream with what a closure answers at its values.
+ghost use Rattle.std.specs.Prelude.{IfOk};
+ghost use Rattle.blaze_streams.specs.Answers.{values, IsCallableAtEach, IsTransformed};
+
+use crate::canon_map::CanonMapIter;
+use crate::carrier::ValueCarrier;
+use crate::owned::Owned;
+use crate::push::push_joined;
+use crate::stream::SortedDisjointMap;
+use blaze_int::Integer;
+use std::alloc::{AllocError, Global};
+
+/// The ranges of a stream, each with what a closure answers at its value: one call for each range, ascending, and no other.
+/// Touching ranges with equal answers are one. Refused memory drops the stream and the answers.
+pub fn transform<
+    T: Integer,
+    VC: ValueCarrier,
+    S: SortedDisjointMap<T, VC>,
+    W: Eq + Clone,
+    F: FnMut(VC) -> W,
+>(alloc: Global, stream: S, mut f: F) -> Result<CanonMapIter<T, Owned<W>>, AllocError>
+    requires { IsCallableAtEach (λ a. VC.shown a.0) F.FnMut f (values (S.left stream)) }
+    ensures { IfOk result (λ new. IsTransformed (λ a. VC.shown a.0) F.FnMut W.eq T.low T.high f (S.left stream) new) }
+{
+    stream.in_hand();
+    let mut out = Vec::new(alloc);
+    for item in stream {
+        let (range, carrier) = item;
+        let (start, end) = range.into_inner();
+        let answer = f(carrier);
+        push_joined(&mut out, start, end, Owned(answer))?;
+    }
+    Ok(CanonMapIter::new(out))
+}

@@ -1,0 +1,36 @@
+-- Lists made from the least key up: the words of this crate's own functions. No public clause names them.
+use Rattle.std.specs.Prelude.{◌≡◌, ℤ, pos, ◌+ℤ◌, ◌≤ℤ◌, ◌<ℤ◌, Bool, List, [], ◌∷◌, Option, Some, None}
+use Rattle.blaze_table.specs.Entries.{Entry, at, SameOption}
+use Rattle.blaze_table.specs.Canonical.{IsApart, IsCanonical, AreKeys}
+use Rattle.blaze_table.specs.Splice.{IsBelow}
+
+-- no key from a up to below b has a value
+abbrev pub IsBare : {V : Type 0} → (ℤ → Option V) → ℤ → ℤ → Type 0
+IsBare wanted a b = (k : ℤ) → a ≤ℤ k → k <ℤ b → wanted k ≡ None
+
+-- the list has the wanted content below the key a, and nothing else
+pub record IsSwept {V : Type 0} (eq : V → V → Bool) (low high : ℤ) (wanted : ℤ → Option V) (a : ℤ) (out : List (Entry V)) : Type 0 where
+  pub canonical : IsCanonical eq out
+  pub keys : AreKeys low high out
+  pub below : IsBelow a out
+  pub content : (k : ℤ) → k <ℤ a → SameOption eq (at out k) (wanted k)
+
+-- each entry has a key, and starts above the end of the one before; the first one at b or above
+abbrev pub AreApart : {V : Type 0} → ℤ → List (Entry V) → Type 0
+AreApart b [] = Unit {0}
+AreApart b (e ∷ es) = (b ≤ℤ e.lo) × (e.lo ≤ℤ e.hi) × AreApart (e.hi +ℤ pos 1) es
+
+-- the key after the last one, and the least key where there is no last one
+abbrev pub first_from : {T : Type 0} → (T → ℤ) → ℤ → Option T → ℤ
+first_from rank low None = low
+first_from rank low (Some end) = rank end +ℤ pos 1
+
+-- the entry has a key, its ends are keys, and it is apart from the one before it, where there is one
+abbrev pub Continues : {V : Type 0} → (V → V → Bool) → ℤ → ℤ → Option (Entry V) → Entry V → Type 0
+Continues eq low high None e = (low ≤ℤ e.lo) × (e.lo ≤ℤ e.hi) × (e.hi ≤ℤ high)
+Continues eq low high (Some d) e = (low ≤ℤ e.lo) × (e.lo ≤ℤ e.hi) × (e.hi ≤ℤ high) × IsApart eq d (e ∷ [])
+
+-- the list is canonical among the keys, and apart from the entry before it, where there is one
+abbrev pub IsCanonicalAfter : {V : Type 0} → (V → V → Bool) → ℤ → ℤ → Option (Entry V) → List (Entry V) → Type 0
+IsCanonicalAfter eq low high None es = IsCanonical eq es × AreKeys low high es
+IsCanonicalAfter eq low high (Some d) es = IsCanonical eq es × AreKeys low high es × IsApart eq d es

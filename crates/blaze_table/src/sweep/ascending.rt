@@ -1,0 +1,54 @@
+//! Pairs that are ascending and disjoint already.
+ghost use Rattle.std.specs.Prelude.{◌≡◌, true, ◌≤ℤ◌, IfOk};
+ghost use Rattle.blaze_table.specs.Listed.{listed};
+ghost use Rattle.blaze_table.specs.CanonicalOf.{IsCanonicalOf};
+ghost use Rattle.blaze_table.specs.Swept.{AreApart, first_from};
+
+use crate::sweep::push::push_entry;
+use blaze_int::Integer;
+use blaze_int::compare::{is_at_most, is_below};
+use std::alloc::{AllocError, Global};
+
+/// Whether a pair has a key and starts above the end of the one before it.
+fn follows<T: Integer, V>(last: Option<T>, pair: &(T, T, V)) -> bool
+    ensures { result ≡ true → (first_from T.rank T.low last ≤ℤ T.rank pair.now.0) × (T.rank pair.now.0 ≤ℤ T.rank pair.now.1) }
+{
+    pair.0.in_hand();
+    match last {
+        Some(end) => is_below(end, pair.0) && is_at_most(pair.0, pair.1),
+        None => is_at_most(pair.0, pair.1),
+    }
+}
+
+/// Whether each pair has a key and starts above the end of the one before it.
+pub(crate) fn is_ascending<T: Integer, V>(pairs: &[(T, T, V)]) -> bool
+    ensures { result ≡ true → AreApart T.low (listed T.rank pairs.now) }
+{
+    let mut last = None;
+    let mut rest = pairs;
+    while let Some((pair, others)) = rest.split_first() {
+        if !follows(last, pair) {
+            return false;
+        }
+        last = Some(pair.1);
+        rest = others;
+    }
+    true
+}
+
+/// The list of pairs that are ascending and disjoint, where touching ones with equal values are joined. Each value is moved.
+pub(crate) fn joined<T: Integer, V: Eq + Clone>(
+    alloc: Global,
+    pairs: Vec<(T, T, V)>,
+) -> Result<Vec<(T, T, V)>, AllocError>
+    requires { AreApart T.low (listed T.rank pairs.items) }
+    ensures { IfOk result (λ entries. IsCanonicalOf V.eq T.low T.high (listed T.rank pairs.items) (listed T.rank entries.items)) }
+{
+    let mut entries = Vec::new(alloc);
+    for (start, end, value) in pairs {
+        start.in_hand();
+        end.in_hand();
+        push_entry(&mut entries, start, end, value)?;
+    }
+    Ok(entries)
+}

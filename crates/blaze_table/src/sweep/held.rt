@@ -1,0 +1,73 @@
+//! The values of pairs, moved out one after another.
+ghost use Rattle.std.specs.Prelude.{◌≡◌, Some, IfOk, IsSome, OnOk, map};
+ghost use Rattle.blaze_table.specs.Entries.{SameOption};
+ghost use Rattle.blaze_table.specs.Listed.{listed};
+ghost use Rattle.blaze_table.specs.Painted.{ClonesAreAlike};
+ghost use Rattle.blaze_table.specs.Held.{value_in, kept_value, PutsPiece, moved_to};
+
+use crate::sweep::push::push_entry;
+use blaze_int::Integer;
+use std::alloc::{AllocError, Global};
+use std::mem;
+
+/// Where the value of a pair is.
+#[derive(Drop)]
+pub(crate) enum Held<V> {
+    /// It was not moved.
+    Kept(V),
+    /// It was moved, and the entry at this place has it, or an equal one.
+    Moved(usize),
+}
+
+/// The values of pairs.
+pub(crate) fn held_of<T: Integer, V: Eq + Clone>(
+    alloc: Global,
+    pairs: Vec<(T, T, V)>,
+) -> Result<Vec<Held<V>>, AllocError>
+    ensures { IfOk result (λ held. held.items ≡ map kept_value pairs.items) }
+{
+    let mut held = Vec::new(alloc);
+    for pair in pairs {
+        held.push(Held::Kept(pair.2))?;
+    }
+    Ok(held)
+}
+
+/// The value at a place: moved out, or, where it was moved already, a clone of that of the entry that has it.
+fn value_at<T: Integer, V: Eq + Clone>(
+    held: &mut Vec<Held<V>>,
+    entries: &[(T, T, V)],
+    place: usize,
+) -> Result<V, AllocError>
+    requires clones { ClonesAreAlike V.is_clone V.eq }
+    requires there { IsSome (value_in (listed T.rank entries.now) held.old.items place) }
+    ensures value { IfOk result (λ value. SameOption V.eq (Some value) (value_in (listed T.rank entries.now) held.old.items place)) }
+    ensures held { held.new.items ≡ moved_to 0 held.old.items place }
+{
+    match mem::replace(&mut held[place], Held::Moved(0)) {
+        Held::Kept(value) => Ok(value),
+        Held::Moved(at) => {
+            let value = entries[at].2.clone()?;
+            Ok(value)
+        }
+    }
+}
+
+/// Adds the value at a place on the keys from `start` up to `end`, in one entry with the last where the two touch with equal
+/// values.
+pub(crate) fn put_piece<T: Integer, V: Eq + Clone>(
+    held: &mut Vec<Held<V>>,
+    entries: &mut Vec<(T, T, V)>,
+    start: T,
+    end: T,
+    place: usize,
+) -> Result<(), AllocError>
+    requires clones { ClonesAreAlike V.is_clone V.eq }
+    requires there { IsSome (value_in (listed T.rank entries.old.items) held.old.items place) }
+    ensures { OnOk result (PutsPiece V.eq (T.rank start) (T.rank end) place (listed T.rank entries.old.items) (listed T.rank entries.new.items) held.old.items held.new.items) }
+{
+    let value = value_at(held, entries, place)?;
+    push_entry(entries, start, end, value)?;
+    held[place] = Held::Moved(entries.len() - 1);
+    Ok(())
+}

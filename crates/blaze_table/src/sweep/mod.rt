@@ -1,0 +1,49 @@
+//! The canonical list of pairs painted in order.
+ghost use Rattle.std.specs.Prelude.{IfOk};
+ghost use Rattle.blaze_table.specs.Listed.{listed};
+ghost use Rattle.blaze_table.specs.Painted.{ClonesAreAlike};
+ghost use Rattle.blaze_table.specs.CanonicalOf.{IsCanonicalOf};
+
+use crate::entry_keys::keys_in_hand;
+use crate::sweep::ascending::{is_ascending, joined};
+use crate::sweep::canonical::is_canonical;
+use crate::sweep::fill::filled;
+use crate::sweep::pieces::pieces_of;
+use blaze_int::Integer;
+use std::alloc::{AllocError, Global};
+
+mod ascending;
+mod canonical;
+mod fill;
+mod held;
+mod pieces;
+mod push;
+mod starts;
+mod waiting;
+
+/// The canonical list of pairs painted in order, where there was nothing: of first key, last key and value. The later pair
+/// wins, a pair whose last key is below its first paints nothing, and touching entries with equal values are one.
+///
+/// Pairs that are canonical already are answered as they are, after one pass. Pairs that are ascending and disjoint are joined
+/// in one pass more. The first keys of all others are sorted and swept from the least key up, with the pairs that reach the key
+/// in a heap whose top is the latest: O(n log n) steps for n pairs. A value is cloned only where its pair is cut into several
+/// pieces; else it is moved. Refused memory drops the list.
+pub fn canonical_of<T: Integer, V: Eq + Clone>(
+    alloc: Global,
+    pairs: Vec<(T, T, V)>,
+) -> Result<Vec<(T, T, V)>, AllocError>
+    requires { ClonesAreAlike V.is_clone V.eq }
+    ensures { IfOk result (λ entries. IsCanonicalOf V.eq T.low T.high (listed T.rank pairs.items) (listed T.rank entries.items)) }
+{
+    if is_canonical(pairs.as_slice()) {
+        return Ok(pairs);
+    }
+    if is_ascending(pairs.as_slice()) {
+        let entries = joined(alloc, pairs)?;
+        return Ok(entries);
+    }
+    keys_in_hand(pairs.as_slice());
+    let pieces = pieces_of(alloc, pairs.as_slice())?;
+    let entries = filled(alloc, pairs, pieces)?;
+    Ok(entries)
+}

@@ -1,0 +1,43 @@
+//! Entries put one after another.
+ghost use Rattle.std.specs.Prelude.{◌≡◌, ◌∷◌, ◌++◌, [], OnOk, MatchBool};
+ghost use Rattle.blaze_table.specs.Entries.{entry};
+ghost use Rattle.blaze_table.specs.Listed.{listed};
+ghost use Rattle.blaze_table.specs.Splice.{glue};
+
+use blaze_int::Integer;
+use blaze_int::compare::is_next;
+use std::alloc::AllocError;
+
+/// Lets the last entry go on up to `hi` where it ends right below `lo` and has an equal value, and answers whether it does.
+fn lengthen_entry<T: Integer, V: Eq + Clone>(
+    out: &mut Vec<(T, T, V)>,
+    lo: T,
+    hi: T,
+    value: &V,
+) -> bool
+    ensures { let old = listed T.rank out.old.items in let added = entry (T.rank lo) (T.rank hi) value.now ∷ [] in MatchBool result (listed T.rank out.new.items ≡ glue V.eq old added) ((out.new.items ≡ out.old.items) × (glue V.eq old added ≡ old ++ added)) }
+{
+    let Some(last) = out.last_mut() else {
+        return false;
+    };
+    if !is_next(last.1, lo) || last.2 != *value {
+        return false;
+    }
+    last.1 = hi;
+    true
+}
+
+/// Adds an entry, in one with the last where the two touch with equal values. Refused memory leaves the list unchanged.
+pub(crate) fn push_entry<T: Integer, V: Eq + Clone>(
+    out: &mut Vec<(T, T, V)>,
+    lo: T,
+    hi: T,
+    value: V,
+) -> Result<(), AllocError>
+    ensures { OnOk result (listed T.rank out.new.items ≡ glue V.eq (listed T.rank out.old.items) (entry (T.rank lo) (T.rank hi) value ∷ [])) }
+{
+    if !lengthen_entry(out, lo, hi, &value) {
+        out.push((lo, hi, value))?;
+    }
+    Ok(())
+}

@@ -1,0 +1,64 @@
+//! Worked examples of what no line of a script says: tables, sets and streams, values that refuse to be cloned, closures with a
+//! state. Each line of the output is the answer of a call, or an entry of what it made.
+#![tactic(auto)]
+
+mod answers;
+mod fault;
+mod labelled;
+mod many;
+mod map_answers;
+mod maps;
+mod moved;
+mod refused;
+mod sets;
+mod streams;
+mod tables;
+
+use crate::fault::Fault;
+use std::process::ExitCode;
+
+/// Makes all calls.
+fn run(rt: &HostRuntime) -> Result<(), Fault> {
+    tables::paints(rt)?;
+    tables::neighbours(rt)?;
+    tables::kept(rt)?;
+    tables::canonical_lists(rt)?;
+    refused::clones(rt)?;
+    sets::ends(rt)?;
+    sets::complements(rt)?;
+    streams::checked_lists(rt)?;
+    streams::carriers(rt)?;
+    streams::of_two(rt)?;
+    streams::with_sets(rt)?;
+    streams::of_tables(rt)?;
+    streams::from_both_ends(rt)?;
+    answers::transformed(rt)?;
+    answers::filled(rt)?;
+    answers::joined(rt)?;
+    answers::answered(rt)?;
+    answers::of_lists(rt)?;
+    many::operations(rt)?;
+    moved::merged(rt)?;
+    moved::painted(rt)?;
+    labelled::coarse(rt)?;
+    labelled::refused_append(rt)?;
+    labelled::refused_pairs(rt)?;
+    maps::loops(rt)?;
+    maps::kept(rt)?;
+    maps::any_key_type(rt)?;
+    maps::of_streams(rt)?;
+    maps::orders(rt)?;
+    map_answers::joins(rt)?;
+    map_answers::empty_joins(rt)?;
+    map_answers::other_values(rt)?;
+    map_answers::first_seen(rt)?;
+    map_answers::filled(rt)?;
+    Ok(())
+}
+
+fn main(rt: HostRuntime) -> ExitCode {
+    match run(&rt) {
+        Ok(()) => ExitCode::SUCCESS,
+        Err(_) => ExitCode::FAILURE,
+    }
+}

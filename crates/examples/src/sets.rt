@@ -1,0 +1,56 @@
+//! Sets: ranges from both ends, complements.
+use crate::fault::Fault;
+use blaze_streams::{CheckSortedDisjoint, complement};
+use blaze_table::RangeSetBlaze;
+use std::alloc::AllocError;
+use std::ops::RangeInclusive;
+
+/// The ranges of a set from both ends, lent and by value.
+pub fn ends(rt: &HostRuntime) -> Result<(), AllocError> {
+    let given = vec![in rt.alloc(); 8..=9, 1i64..=2i64, 4..=6]?;
+    let set = RangeSetBlaze::from_ranges(rt.alloc(), given)?;
+    let mut ranges = set.ranges();
+    let _ = println!(rt; "ranges: {:?}", ranges.size_hint());
+    let _ = println!(rt; "{:?} {:?}", ranges.next_back(), ranges.next());
+    let _ = println!(rt;
+        "{} left: {:?} {:?}",
+        ranges.len(),
+        ranges.next_back(),
+        ranges.next()
+    );
+    let mut taken = set.into_ranges();
+    let _ = println!(rt; "into_ranges: {:?}", taken.size_hint());
+    let _ = println!(rt; "{:?} {:?}", taken.next(), taken.next_back());
+    let _ = println!(rt; "{:?} {:?}", taken.next(), taken.next_back());
+    canonical_ranges(rt)
+}
+
+/// A set of a canonical list.
+fn canonical_ranges(rt: &HostRuntime) -> Result<(), AllocError> {
+    let ranges = vec![in rt.alloc(); 1i64..=2i64, 4..=5]?;
+    let set = RangeSetBlaze::from_canonical(rt.alloc(), ranges)?;
+    let _ = println!(rt;
+        "{set}: {} ranges, {} {}",
+        set.ranges_len(),
+        set.contains(5),
+        set.contains(3)
+    );
+    Ok(())
+}
+
+/// Prints the keys that a set lacks.
+fn lacking(rt: &HostRuntime, ranges: Vec<RangeInclusive<u8>>) -> Result<(), Fault> {
+    let set = CheckSortedDisjoint::new(ranges)?;
+    let _ = println!(rt; "complement");
+    for range in complement(rt.alloc(), set)? {
+        let _ = println!(rt; "{range:?}");
+    }
+    Ok(())
+}
+
+/// The keys that sets lack.
+pub fn complements(rt: &HostRuntime) -> Result<(), Fault> {
+    lacking(rt, vec![in rt.alloc(); 10..=25, 30..=40]?)?;
+    lacking(rt, Vec::new(rt.alloc()))?;
+    lacking(rt, vec![in rt.alloc(); 0..=255]?)
+}

@@ -1,0 +1,59 @@
+-- The keys of joins of maps, and of maps with what a closure answers at their values.
+use Rattle.std.proofs.Common.{◌≡◌, ℕ, zero, suc, ◌+◌, ℤ, pos, ◌+ℤ◌, ◌-ℤ◌, ◌<ℤ◌, Bool, cond, List, [], ◌∷◌, Option, None, refl, ◌∙◌, sym, ap, subst, arith}
+use Rattle.std.specs.Option.{is_some}
+use Rattle.std.specs.Cmp.{IsEquivalence}
+use Rattle.std.specs.Fn.{Mut}
+use Rattle.std.proofs.lemmas.Int.{ints, by_lt_z}
+use Rattle.std.proofs.lemmas.List.{length-map}
+use Rattle.blaze_table.specs.Entries.{Entry, at, SameOption}
+use Rattle.blaze_table.specs.Canonical.{AreKeys}
+use Rattle.blaze_table.specs.Count.{mapped, nat_of}
+use Rattle.blaze_table.proofs.ListLaws.{canonical_is_unique}
+use Rattle.blaze_table.proofs.Lookup.{at_under, at_over}
+use Rattle.blaze_table.proofs.Unique.{same_trans, back}
+use Rattle.blaze_streams.specs.Answers.{answered}
+use Rattle.blaze_streams.proofs.JoinLaws.{answers_keep_keys, left_join_has_left_keys, full_join_is_inner}
+use Rattle.range_map_blaze.specs.MapLaws.{AnswersAreOnItsKeys, FullJoinIsInnerJoin, HaveSameKeys, IsUniversalMap, LeftJoinIsOnTheLeftKeys}
+
+same_mapped : {V W : Type 0} (c : ℤ → Option V) (d : ℤ → Option W) → ((k : ℤ) → is_some (d k) ≡ is_some (c k)) → (a : ℤ) (n : ℕ) → mapped d a n ≡ mapped c a n
+unfolding mapped
+same_mapped c d p a zero = refl
+same_mapped c d p a (suc n) = ap (λ b. cond b 1 0 + mapped d (a +ℤ pos 1) n) (p a) ∙ ap (λ m. cond (is_some (c a)) 1 0 + m) (same_mapped c d p (a +ℤ pos 1) n)
+
+same_keys : {V W : Type 0} (low high : ℤ) (entries : List (Entry V)) (new : List (Entry W)) → ((k : ℤ) → is_some (at new k) ≡ is_some (at entries k)) → HaveSameKeys low high entries new
+same_keys low high entries new p = record { keys = p; count = same_mapped (at entries) (at new) p low (nat_of (high -ℤ low +ℤ pos 1)) }
+
+pub answers_are_on_its_keys : {F A V W : Type 0} (shows : A → V) (g : Mut F A W) (eq : W → W → Bool) (low high : ℤ) → AnswersAreOnItsKeys shows g eq low high
+answers_are_on_its_keys {V = V} shows g eq low high f entries new t =
+    same_keys low high entries new (answers_keep_keys V eq entries t.answers new (t.in_turn.count ∙ length-map entries (λ e. e.value)) t.content)
+
+-- no key below the least or above the greatest is mapped
+below_all : {V : Type 0} (low high : ℤ) (es : List (Entry V)) (k : ℤ) → AreKeys low high es → k <ℤ low → at es k ≡ None
+below_all low high [] k a h = refl
+below_all low high (e ∷ es) k a h = at_under e es k (omega (arith, ints, a.0)) ∙ below_all low high es k a.2 h
+
+above_all : {V : Type 0} (low high : ℤ) (es : List (Entry V)) (k : ℤ) → AreKeys low high es → high <ℤ k → at es k ≡ None
+above_all low high [] k a h = refl
+above_all low high (e ∷ es) k a h = at_over e es k (omega (arith, ints, a.1)) ∙ above_all low high es k a.2 h
+
+same_universal : {A B : Type 0} (eqa : A → A → Bool) (eqb : B → B → Bool) (low high : ℤ) (left : List (Entry A)) (right : List (Entry B)) → IsUniversalMap eqa low high left → IsUniversalMap eqb low high right → (k : ℤ) → is_some (at left k) ≡ is_some (at right k)
+same_universal eqa eqb low high left right l r k = by_lt_z k low
+    (λ h. ap is_some (below_all low high left k l.range_map.keys h) ∙ sym (ap is_some (below_all low high right k r.range_map.keys h)))
+    (λ h. by_lt_z high k
+    (λ u. ap is_some (above_all low high left k l.range_map.keys u) ∙ sym (ap is_some (above_all low high right k r.range_map.keys u)))
+    (λ u. l.universal k h u ∙ sym (r.universal k h u)))
+
+module _ {F X W A B : Type 0} (shows : X → Option A × Option B) (g : Mut F X W) (eqa : A → A → Bool) (eqb : B → B → Bool) (eq : W → W → Bool) (low high : ℤ) where
+  pub left_join_is_on_the_left_keys : LeftJoinIsOnTheLeftKeys shows g eqa eqb eq low high
+  left_join_is_on_the_left_keys f left right new j =
+      let on = answers_are_on_its_keys shows g eq low high f j.segments new j.answered in
+      same_keys low high left new (λ k. on.keys k ∙ left_join_has_left_keys eqa eqb low high left right j.segments j.are_segments k)
+
+  pub full_join_is_inner_join : {G Y : Type 0} (shows' : Y → Option A × Option B) (g' : Mut G Y W) → IsEquivalence eqa → IsEquivalence eqb → IsEquivalence eq → FullJoinIsInnerJoin shows g eqa eqb eq low high shows' g'
+  full_join_is_inner_join shows' g' lawsa lawsb laws f f' left right full inner l r j i answers =
+      let segments : j.segments ≡ i.segments = full_join_is_inner eqa eqb lawsa lawsb low high left right j.segments i.segments (same_universal eqa eqb low high left right l r) j.are_segments i.are_segments in
+      let made : answered j.segments j.answered.answers ≡ answered i.segments i.answered.answers = ap (λ s. answered s j.answered.answers) segments ∙ ap (answered i.segments) answers in
+      canonical_is_unique eq laws full inner j.answered.range_map.runs i.answered.range_map.runs
+      (λ k. same_trans eq laws (at full k) (at (answered i.segments i.answered.answers) k) (at inner k)
+      (subst (λ es. SameOption eq (at full k) (at es k)) made (j.answered.content k))
+      (back eq laws inner (answered i.segments i.answered.answers) i.answered.content k))

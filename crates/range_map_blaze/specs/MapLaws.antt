@@ -1,0 +1,38 @@
+-- The laws of joins of maps, and of maps with what a closure answers at their values.
+use Rattle.std.specs.Prelude.{◌≡◌, ℤ, ◌≤ℤ◌, Bool, List, Option, IsSome}
+use Rattle.std.specs.Option.{is_some}
+use Rattle.std.specs.Fn.{Mut}
+use Rattle.blaze_table.specs.Entries.{Entry, at, SameEntries}
+use Rattle.blaze_table.specs.Canonical.{IsRangeMap}
+use Rattle.blaze_table.specs.Count.{mapped_keys}
+use Rattle.blaze_streams.specs.declared.joins.JoinKind.TheVariants.{Inner, Left, Full}
+use Rattle.blaze_streams.specs.Answers.{IsTransformed}
+use Rattle.blaze_streams.specs.JoinAnswers.{IsJoined}
+
+-- two lists map the same keys, and so as many
+pub record HaveSameKeys {V W : Type 0} (low high : ℤ) (entries : List (Entry V)) (new : List (Entry W)) : Type 0 where
+  pub keys : (k : ℤ) → is_some (at new k) ≡ is_some (at entries k)
+  pub count : mapped_keys low high (at new) ≡ mapped_keys low high (at entries)
+
+-- a range map that has a value at every key
+pub record IsUniversalMap {V : Type 0} (eq : V → V → Bool) (low high : ℤ) (entries : List (Entry V)) : Type 0 where
+  pub range_map : IsRangeMap eq low high entries
+  pub universal : (k : ℤ) → low ≤ℤ k → k ≤ℤ high → IsSome (at entries k)
+
+-- what a closure answers at the values of a list is on the list's keys
+abbrev pub AnswersAreOnItsKeys : {F A V W : Type 0} → (A → V) → Mut F A W → (W → W → Bool) → ℤ → ℤ → Type 0
+AnswersAreOnItsKeys {F} {A} {V} {W} shows g eq low high = (f : F) (entries : List (Entry V)) (new : List (Entry W)) → IsTransformed shows g eq low high f entries new → HaveSameKeys low high entries new
+
+-- `shows` is what two lists have where the arguments of a call stand for it
+module _ {F X W A B : Type 0} (shows : X → Option A × Option B) (g : Mut F X W) (eqa : A → A → Bool) (eqb : B → B → Bool) (eq : W → W → Bool) (low high : ℤ) where
+  -- what a closure answers in a left join is on the left list's keys
+  abbrev pub LeftJoinIsOnTheLeftKeys : Type 0
+  LeftJoinIsOnTheLeftKeys = (f : F) (left : List (Entry A)) (right : List (Entry B)) (new : List (Entry W)) → IsJoined shows g eqa eqb low high Left eq f left right new → HaveSameKeys low high left new
+
+  -- of two maps of every key, a full join and an inner join whose closures answer the same have the same ranges, with equal
+  -- values
+  abbrev pub FullJoinIsInnerJoin : {G Y : Type 0} → (Y → Option A × Option B) → Mut G Y W → Type 0
+  FullJoinIsInnerJoin {G} {Y} shows' g' = (f : F) (f' : G) (left : List (Entry A)) (right : List (Entry B)) (full inner : List (Entry W))
+      → IsUniversalMap eqa low high left → IsUniversalMap eqb low high right
+      → (of_full : IsJoined shows g eqa eqb low high Full eq f left right full) → (of_inner : IsJoined shows' g' eqa eqb low high Inner eq f' left right inner)
+      → of_full.answered.answers ≡ of_inner.answered.answers → SameEntries eq full inner

@@ -1,0 +1,177 @@
+//! Joins of two maps, and a map with other values: what a closure answers, once for each segment or entry.
+ghost use Rattle.std.specs.Prelude.{◌≡◌, IfOk};
+ghost use Rattle.blaze_streams.specs.Answers.{values, IsCallableAtEach, IsTransformed};
+ghost use Rattle.blaze_streams.specs.JoinAnswers.{either, both, with_left, IsCallableAtSegments, IsJoined};
+ghost use Rattle.blaze_streams.specs.declared.joins.JoinKind.TheVariants.{Inner, Left, Full};
+
+use crate::map::RangeMapBlaze;
+use blaze_int::Integer;
+use blaze_streams::{
+    CanonMapIter, JoinKind, Owned, RangeValuesIter, SortedDisjointMap, answer_both, answer_either,
+    answer_left, join_of, transform,
+};
+use blaze_table::RangeTable;
+use std::alloc::{AllocError, Global};
+
+/// The map of a stream whose carriers are values: no value is cloned. Refused memory drops the stream.
+fn map_of<T: Integer, W: Eq + Clone>(
+    alloc: Global,
+    stream: CanonMapIter<T, Owned<W>>,
+) -> Result<RangeMapBlaze<T, W>, AllocError>
+    ensures { IfOk result (λ map. map.entries ≡ stream) }
+{
+    stream.in_hand();
+    let mut entries = Vec::new(alloc);
+    for item in stream {
+        let (range, Owned(value)) = item;
+        let (start, end) = range.into_inner();
+        entries.push((start, end, value))?;
+    }
+    let table = RangeTable::from_canonical(alloc, entries)?;
+    Ok(RangeMapBlaze { table })
+}
+
+/// A closure's answers at the values of a table, as a stream.
+fn transformed<T: Integer, V: Eq + Clone, W: Eq + Clone, F: FnMut(&V) -> W>(
+    alloc: Global,
+    table: &RangeTable<T, V>,
+    f: F,
+) -> Result<CanonMapIter<T, Owned<W>>, AllocError>
+    requires { IsCallableAtEach (λ a. a.0.now) F.FnMut f (values table.now.entries) }
+    ensures { IfOk result (λ new. IsTransformed (λ a. a.0.now) F.FnMut W.eq T.low T.high f table.now.entries new) }
+{
+    transform(alloc, RangeValuesIter::new(table), f)
+}
+
+/// A closure's answers where both tables have a value, as a stream.
+fn inner_joined<T: Integer, V: Eq + Clone, V2: Eq + Clone, W: Eq + Clone, F: FnMut(&V, &V2) -> W>(
+    alloc: Global,
+    table: &RangeTable<T, V>,
+    other: &RangeTable<T, V2>,
+    f: F,
+) -> Result<CanonMapIter<T, Owned<W>>, AllocError>
+    requires { IsCallableAtSegments (both (λ v. v.now) (λ v. v.now)) F.FnMut V.eq V2.eq T.low T.high Inner f table.now.entries other.now.entries }
+    ensures { IfOk result (λ new. IsJoined (both (λ v. v.now) (λ v. v.now)) F.FnMut V.eq V2.eq T.low T.high Inner W.eq f table.now.entries other.now.entries new) }
+{
+    let segments = join_of(
+        alloc,
+        RangeValuesIter::new(table),
+        RangeValuesIter::new(other),
+        JoinKind::Inner,
+    )?;
+    answer_both(alloc, segments, f)
+}
+
+/// A closure's answers where the first table has a value, as a stream.
+fn left_joined<
+    T: Integer,
+    V: Eq + Clone,
+    V2: Eq + Clone,
+    W: Eq + Clone,
+    F: FnMut(&V, Option<&V2>) -> W,
+>(
+    alloc: Global,
+    table: &RangeTable<T, V>,
+    other: &RangeTable<T, V2>,
+    f: F,
+) -> Result<CanonMapIter<T, Owned<W>>, AllocError>
+    requires { IsCallableAtSegments (with_left (λ v. v.now) (λ v. v.now)) F.FnMut V.eq V2.eq T.low T.high Left f table.now.entries other.now.entries }
+    ensures { IfOk result (λ new. IsJoined (with_left (λ v. v.now) (λ v. v.now)) F.FnMut V.eq V2.eq T.low T.high Left W.eq f table.now.entries other.now.entries new) }
+{
+    let segments = join_of(
+        alloc,
+        RangeValuesIter::new(table),
+        RangeValuesIter::new(other),
+        JoinKind::Left,
+    )?;
+    answer_left(alloc, segments, f)
+}
+
+/// A closure's answers where at least one table has a value, as a stream.
+fn full_joined<
+    T: Integer,
+    V: Eq + Clone,
+    V2: Eq + Clone,
+    W: Eq + Clone,
+    F: FnMut(Option<&V>, Option<&V2>) -> W,
+>(
+    alloc: Global,
+    table: &RangeTable<T, V>,
+    other: &RangeTable<T, V2>,
+    f: F,
+) -> Result<CanonMapIter<T, Owned<W>>, AllocError>
+    requires { IsCallableAtSegments (either (λ v. v.now) (λ v. v.now)) F.FnMut V.eq V2.eq T.low T.high Full f table.now.entries other.now.entries }
+    ensures { IfOk result (λ new. IsJoined (either (λ v. v.now) (λ v. v.now)) F.FnMut V.eq V2.eq T.low T.high Full W.eq f table.now.entries other.now.entries new) }
+{
+    let segments = join_of(
+        alloc,
+        RangeValuesIter::new(table),
+        RangeValuesIter::new(other),
+        JoinKind::Full,
+    )?;
+    answer_either(alloc, segments, f)
+}
+
+impl<T: Integer, V: Eq + Clone> RangeMapBlaze<T, V> {
+    /// The keys of the map, each with what a closure answers at its entry's value: one call for each entry, ascending. Touching
+    /// entries with equal answers are one. Refused memory leaves the map unchanged and drops the answers.
+    pub fn transform_values<W: Eq + Clone, F: FnMut(&V) -> W>(
+        &self,
+        f: F,
+    ) -> Result<RangeMapBlaze<T, W>, AllocError>
+        requires { IsCallableAtEach (λ a. a.0.now) F.FnMut f (values self.now.entries) }
+        ensures { IfOk result (λ map. IsTransformed (λ a. a.0.now) F.FnMut W.eq T.low T.high f self.now.entries map.entries) }
+    {
+        let alloc = self.allocator();
+        let stream = transformed(alloc, &self.table, f)?;
+        let map = map_of(alloc, stream)?;
+        Ok(map)
+    }
+
+    /// What a closure answers where both maps have a value: one call for each of the greatest ranges on which neither changes
+    /// and both are there, ascending. Touching equal answers are one entry. Refused memory leaves both maps unchanged and drops
+    /// the answers.
+    pub fn inner_join<V2: Eq + Clone, W: Eq + Clone, F: FnMut(&V, &V2) -> W>(
+        &self,
+        other: &RangeMapBlaze<T, V2>,
+        f: F,
+    ) -> Result<RangeMapBlaze<T, W>, AllocError>
+        requires { IsCallableAtSegments (both (λ v. v.now) (λ v. v.now)) F.FnMut V.eq V2.eq T.low T.high Inner f self.now.entries other.now.entries }
+        ensures { IfOk result (λ map. IsJoined (both (λ v. v.now) (λ v. v.now)) F.FnMut V.eq V2.eq T.low T.high Inner W.eq f self.now.entries other.now.entries map.entries) }
+    {
+        let alloc = self.allocator();
+        let stream = inner_joined(alloc, &self.table, &other.table, f)?;
+        let map = map_of(alloc, stream)?;
+        Ok(map)
+    }
+
+    /// The same where this map has a value, with the other's where it has one.
+    pub fn left_join<V2: Eq + Clone, W: Eq + Clone, F: FnMut(&V, Option<&V2>) -> W>(
+        &self,
+        other: &RangeMapBlaze<T, V2>,
+        f: F,
+    ) -> Result<RangeMapBlaze<T, W>, AllocError>
+        requires { IsCallableAtSegments (with_left (λ v. v.now) (λ v. v.now)) F.FnMut V.eq V2.eq T.low T.high Left f self.now.entries other.now.entries }
+        ensures { IfOk result (λ map. IsJoined (with_left (λ v. v.now) (λ v. v.now)) F.FnMut V.eq V2.eq T.low T.high Left W.eq f self.now.entries other.now.entries map.entries) }
+    {
+        let alloc = self.allocator();
+        let stream = left_joined(alloc, &self.table, &other.table, f)?;
+        let map = map_of(alloc, stream)?;
+        Ok(map)
+    }
+
+    /// The same where at least one map has a value.
+    pub fn full_join<V2: Eq + Clone, W: Eq + Clone, F: FnMut(Option<&V>, Option<&V2>) -> W>(
+        &self,
+        other: &RangeMapBlaze<T, V2>,
+        f: F,
+    ) -> Result<RangeMapBlaze<T, W>, AllocError>
+        requires { IsCallableAtSegments (either (λ v. v.now) (λ v. v.now)) F.FnMut V.eq V2.eq T.low T.high Full f self.now.entries other.now.entries }
+        ensures { IfOk result (λ map. IsJoined (either (λ v. v.now) (λ v. v.now)) F.FnMut V.eq V2.eq T.low T.high Full W.eq f self.now.entries other.now.entries map.entries) }
+    {
+        let alloc = self.allocator();
+        let stream = full_joined(alloc, &self.table, &other.table, f)?;
+        let map = map_of(alloc, stream)?;
+        Ok(map)
+    }
+}

@@ -1,0 +1,58 @@
+//! Steps on a map, and what they answer.
+use blaze_int::Integer;
+use range_map_blaze::{RangeMapBlaze, RangeSetBlaze};
+
+/// A call that changes a map. `run` says what each does.
+#[derive(Drop)]
+pub enum Step<T: Integer, V: Eq> {
+    /// Puts a value on the keys from one to another; where the first is above the last it changes nothing.
+    Paint(T, T, V),
+    /// Puts a value on a key.
+    Insert(T, V),
+    /// Takes a key out.
+    Remove(T),
+    /// Takes the least key out.
+    PopFirst,
+    /// Takes the greatest key out.
+    PopLast,
+    /// Takes all keys out.
+    Clear,
+    /// Keeps the keys below one.
+    KeepBelow(T),
+    /// Keeps the keys from one on.
+    KeepFrom(T),
+    /// Puts another map's values over the map.
+    Or(RangeMapBlaze<T, V>),
+    /// Keeps the keys that another map has too, with its values.
+    And(RangeMapBlaze<T, V>),
+    /// Takes out the keys that another map has.
+    Minus(RangeMapBlaze<T, V>),
+    /// Keeps the keys that exactly one of the map and another has.
+    Xor(RangeMapBlaze<T, V>),
+    /// Keeps the keys of a set.
+    AndSet(RangeSetBlaze<T>),
+    /// Takes out the keys of a set.
+    MinusSet(RangeSetBlaze<T>),
+    /// Puts a value on the keys that have none, and takes out the others.
+    ComplementWith(V),
+}
+
+/// What a step answers.
+#[derive(Clone, Copy, Debug, Drop, PartialEq, Eq)]
+pub enum Answer<T, V> {
+    /// Of a paint: whether the number of keys changed.
+    Wrote(bool),
+    /// Of an insertion or a removal: the value that the key had.
+    Old(Option<V>),
+    /// Of a pop: the key that was taken out, with the value that it had.
+    Popped(Option<(T, V)>),
+    /// Of every other step.
+    Done,
+}
+
+/// Memory was refused in a step.
+#[derive(Clone, Copy, Debug, PartialEq, Eq)]
+pub struct Refused {
+    /// How many steps were done before it.
+    pub at: usize,
+}

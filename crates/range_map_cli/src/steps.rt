@@ -1,0 +1,195 @@
+//! Lists of steps.
+ghost use Rattle.std.specs.Prelude.{◌≡◌, ◌≤◌, ◌-◌, ◌*◌, ◌==◌, not, [], length, All, IfOk, IfErr, OnOk, OnErr};
+ghost use Rattle.blaze_table.specs.Canonical.{IsRangeMap};
+ghost use Rattle.blaze_table.specs.Count.{mapped_keys};
+ghost use Rattle.blaze_table.specs.Entries.{entry, at};
+ghost use Rattle.blaze_table.specs.Laws.{IsShortest};
+ghost use Rattle.blaze_table.specs.Painted.{painted, IsPainted, ClonesAreAlike};
+ghost use Rattle.blaze_table.specs.Work.{IsCountedCut, IsCountedPaint, PutsAtMost};
+ghost use Rattle.range_map_cli.specs.Steps.{answer, first_key, last_key, with_value, answers, IsCountedRun, IsEdit, IsRefusedAt, IsStepped, IsSteppedAll, IsWithout, SameAnswer, SameAnswers, SamePair};
+
+use crate::step::{Answer, Refused, Step};
+use blaze_int::Integer;
+use blaze_table::laws::{canonical_is_shortest, lengths_are_mapped};
+use range_map_blaze::RangeMapBlaze;
+use std::alloc::{AllocError, Global};
+
+/// Puts a value on the keys from `start` up to `end`, and answers whether the number of keys changed.
+fn paint<T: Integer, V: Eq + Clone>(
+    map: &mut RangeMapBlaze<T, V>,
+    start: T,
+    end: T,
+    value: V,
+) -> Result<bool, AllocError>
+    requires { ClonesAreAlike V.is_clone V.eq }
+    ensures ok { OnOk result (IsPainted V.eq T.low T.high (entry (T.rank start) (T.rank end) value)
+        map.old.entries map.new.entries) }
+    ensures changed { IfOk result (λ changed. changed
+        ≡ not (mapped_keys T.low T.high (painted (T.rank start) (T.rank end) value (at map.old.entries))
+        == mapped_keys T.low T.high (at map.old.entries))) }
+    ensures counted { OnOk result (IsCountedPaint map.old map.new) }
+    ensures err { OnErr result (map.new.entries ≡ map.old.entries) }
+{
+    lengths_are_mapped::<V>();
+    map.in_hand();
+    let changed = map.ranges_insert(start..=end, value)?;
+    Ok(changed)
+}
+
+/// Takes the least key out.
+fn pop_first<T: Integer, V: Eq + Clone>(
+    map: &mut RangeMapBlaze<T, V>,
+) -> Result<Option<(T, V)>, AllocError>
+    requires { ClonesAreAlike V.is_clone V.eq }
+    ensures ok { OnOk result (IsWithout V.eq T.low T.high (first_key T.low T.high (at map.old.entries))
+        map.old.entries map.new.entries) }
+    ensures pair { IfOk result (λ pair. SamePair T.rank V.eq pair
+        (with_value (at map.old.entries) (first_key T.low T.high (at map.old.entries)))) }
+    ensures counted { OnOk result (IsCountedCut map.old map.new) }
+    ensures err { OnErr result (map.new.entries ≡ map.old.entries) }
+{
+    map.in_hand();
+    let popped = map.pop_first()?;
+    Ok(popped)
+}
+
+/// Takes the greatest key out.
+fn pop_last<T: Integer, V: Eq + Clone>(
+    map: &mut RangeMapBlaze<T, V>,
+) -> Result<Option<(T, V)>, AllocError>
+    requires { ClonesAreAlike V.is_clone V.eq }
+    ensures ok { OnOk result (IsWithout V.eq T.low T.high (last_key T.low T.high (at map.old.entries))
+        map.old.entries map.new.entries) }
+    ensures pair { IfOk result (λ pair. SamePair T.rank V.eq pair
+        (with_value (at map.old.entries) (last_key T.low T.high (at map.old.entries)))) }
+    ensures counted { OnOk result (IsCountedCut map.old map.new) }
+    ensures err { OnErr result (map.new.entries ≡ map.old.entries) }
+{
+    map.in_hand();
+    let popped = map.pop_last()?;
+    Ok(popped)
+}
+
+/// Does a step. Refused memory leaves the map unchanged.
+fn take_step<T: Integer, V: Eq + Clone>(
+    map: &mut RangeMapBlaze<T, V>,
+    step: Step<T, V>,
+) -> Result<Answer<T, V>, AllocError>
+    requires { ClonesAreAlike V.is_clone V.eq }
+    ensures stepped { OnOk result (IsStepped V.eq T.rank T.low T.high step
+        map.old.entries map.new.entries) }
+    ensures answer { IfOk result (λ given. SameAnswer T.rank V.eq given
+        (answer T.rank T.low T.high step (at map.old.entries))) }
+    ensures counted { IsEdit step → OnOk result (PutsAtMost 2 map.old map.new) }
+    ensures alone { IsEdit step → map.old.entries ≡ [] → OnOk result (length map.new.entries ≤ 1) }
+    ensures err { OnErr result (map.new.entries ≡ map.old.entries) }
+{
+    match step {
+        Step::Paint(start, end, value) => {
+            let changed = paint(map, start, end, value)?;
+            Ok(Answer::Wrote(changed))
+        }
+        Step::Insert(key, value) => {
+            let old = map.insert(key, value)?;
+            Ok(Answer::Old(old))
+        }
+        Step::Remove(key) => {
+            let old = map.remove(key)?;
+            Ok(Answer::Old(old))
+        }
+        Step::PopFirst => {
+            let popped = pop_first(map)?;
+            Ok(Answer::Popped(popped))
+        }
+        Step::PopLast => {
+            let popped = pop_last(map)?;
+            Ok(Answer::Popped(popped))
+        }
+        Step::Clear => {
+            map.clear();
+            map.in_hand();
+            Ok(Answer::Done)
+        }
+        Step::KeepBelow(key) => {
+            let _ = map.split_off(key)?;
+            Ok(Answer::Done)
+        }
+        Step::KeepFrom(key) => {
+            let from = map.split_off(key)?;
+            *map = from;
+            Ok(Answer::Done)
+        }
+        Step::Or(other) => {
+            let new = (&*map | &other)?;
+            *map = new;
+            Ok(Answer::Done)
+        }
+        Step::And(other) => {
+            let new = (&*map & &other)?;
+            *map = new;
+            Ok(Answer::Done)
+        }
+        Step::Minus(other) => {
+            let new = (&*map - &other)?;
+            *map = new;
+            Ok(Answer::Done)
+        }
+        Step::Xor(other) => {
+            let new = (&*map ^ &other)?;
+            *map = new;
+            Ok(Answer::Done)
+        }
+        Step::AndSet(keys) => {
+            let new = (&*map & &keys)?;
+            *map = new;
+            Ok(Answer::Done)
+        }
+        Step::MinusSet(keys) => {
+            let new = (&*map - &keys)?;
+            *map = new;
+            Ok(Answer::Done)
+        }
+        Step::ComplementWith(value) => {
+            let new = map.complement_with(&value)?;
+            *map = new;
+            Ok(Answer::Done)
+        }
+    }
+}
+
+/// Does steps, one after another, and answers what each answers.
+///
+/// The map has then the content that the steps mean, and its list of entries is the only shortest with it. Room for all answers
+/// is asked first. Refused memory leaves the map as the steps before the refused one leave it, and drops the others and the
+/// answers.
+pub fn run<T: Integer, V: Eq + Clone>(
+    alloc: Global,
+    map: &mut RangeMapBlaze<T, V>,
+    steps: Vec<Step<T, V>>,
+) -> Result<Vec<Answer<T, V>>, Refused>
+    requires { ClonesAreAlike V.is_clone V.eq }
+    ensures stepped { OnOk result (IsSteppedAll V.eq T.rank T.low T.high steps.items
+        map.old.entries map.new.entries) }
+    ensures answers { IfOk result (λ given. SameAnswers T.rank V.eq given.items
+        (answers T.rank T.low T.high steps.items (at map.old.entries))) }
+    ensures refused { IfErr result (λ refused. IsRefusedAt V.eq T.rank T.low T.high steps.items refused.at
+        map.old.entries map.new.entries) }
+    ensures shortest { IsShortest V.eq map.new.entries }
+    ensures counted { All IsEdit steps.items
+        → OnOk result (IsCountedRun (length steps.items) map.old map.new) }
+    ensures few { All IsEdit steps.items → map.old.entries ≡ []
+        → OnOk result (length map.new.entries ≤ 2 * length steps.items - 1) }
+{
+    canonical_is_shortest::<V>();
+    map.in_hand();
+    let Ok(mut answers) = Vec::with_capacity(alloc, steps.len()) else {
+        return Err(Refused { at: 0 });
+    };
+    for step in steps {
+        let Ok(answer) = take_step(map, step) else {
+            return Err(Refused { at: answers.len() });
+        };
+        answers.push_reserved(answer);
+    }
+    Ok(answers)
+}

@@ -1,0 +1,3 @@
+pub mod Many
+pub mod OfTwo
+pub mod InTurn

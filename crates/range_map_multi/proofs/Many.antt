@@ -1,0 +1,185 @@
+-- What is chosen from many lists, by halves.
+use Rattle.std.proofs.Common.{◌≡◌, ◌<◌, ℕ, ℤ, Bool, true, false, not, cond, ◌&&◌, suc, List, [], ◌∷◌, ◌++◌, length, map, take, drop, append_assoc, Option, Some, None, is_some, refl, arith, ◌∙◌, sym, ap, subst}
+use Rattle.std.specs.List.{list_all}
+use Rattle.std.specs.Cmp.{IsEquivalence}
+use Rattle.std.proofs.lemmas.List.{map-append, take-append-drop}
+use Rattle.std.proofs.lemmas.List.Folds.{list_all-append}
+use Rattle.blaze_table.specs.Entries.{Entry, at, SameOption, SameEntries}
+use Rattle.blaze_table.specs.Canonical.{IsRangeMap}
+use Rattle.blaze_table.specs.Chosen.{right_first, left_with_right, exactly_one, IsChosen}
+use Rattle.blaze_table.proofs.Painted.{content_as}
+use Rattle.blaze_table.proofs.Unique.{same_itself, same_trans, back}
+use Rattle.blaze_streams.specs.Segments.{row}
+use Rattle.range_map_blaze.proofs.Streams.{range_map_as}
+use Rattle.range_map_multi.specs.Many.{last_value, last_of_all, has_odd, last_of_odd, IsChosenOfMany, IsOnly, HasOddKeys}
+
+-- ---- lists
+
+-- one item more taken from what is left
+pub taken_more : {A B : Type 0} (f : A → B) (out new : List A) (item : A) (left next all : List B) → new ≡ out ++ item ∷ [] → left ≡ f item ∷ next → map f out ++ left ≡ all → map f new ++ next ≡ all
+taken_more f out new item left next all n l i =
+    ap (λ xs. map f xs ++ next) n ∙ ap (λ es. es ++ next) (map-append f out (item ∷ [])) ∙ append_assoc (map f out) (f item ∷ []) next
+    ∙ ap (λ es. map f out ++ es) (sym l) ∙ i
+
+-- the two halves are all
+pub halves : {A B : Type 0} (f : A → B) (xs first second : List A) (n : ℕ) → first ≡ take n xs → second ≡ drop n xs → map f first ++ map f second ≡ map f xs
+halves f xs first second n a b = sym (map-append f first second) ∙ ap (map f) (ap (λ ys. ys ++ second) a ∙ ap (λ ys. take n xs ++ ys) b ∙ take-append-drop n xs)
+
+-- exactly one of two
+abbrev one_of : Bool → Bool → Bool
+one_of a b = cond a (not b) b
+
+one_not : (a b : Bool) → not (one_of a b) ≡ one_of (not a) b
+one_not true true = refl
+one_not true false = refl
+one_not false true = refl
+one_not false false = refl
+
+-- ---- rows of two parts
+
+pub row_append : {A : Type 0} (Ls Ms : List (List (Entry A))) (k : ℤ) → row (Ls ++ Ms) k ≡ row Ls k ++ row Ms k
+row_append [] Ms k = refl
+row_append (L ∷ Ls) Ms k = ap (λ r. at L k ∷ r) (row_append Ls Ms k)
+
+pub row_length : {A : Type 0} (Ls : List (List (Entry A))) (k : ℤ) → length (row Ls k) ≡ length Ls
+row_length [] k = refl
+row_length (L ∷ Ls) k = ap suc (row_length Ls k)
+
+module _ {V : Type 0} where
+  first_none : (y : Option V) → right_first None y ≡ y
+  first_none None = refl
+  first_none (Some y) = refl
+
+  first_assoc : (x y z : Option V) → right_first x (right_first y z) ≡ right_first (right_first x y) z
+  first_assoc x y None = refl
+  first_assoc x y (Some z) = refl
+
+  pub last_append : (xs ys : List (Option V)) → last_value (xs ++ ys) ≡ right_first (last_value xs) (last_value ys)
+  last_append [] ys = sym (first_none (last_value ys))
+  last_append (x ∷ xs) ys = ap (right_first x) (last_append xs ys) ∙ first_assoc x (last_value xs) (last_value ys)
+
+  -- where all of a row that is not empty have a value, there is a last
+  first_some : (x y : Option V) → is_some x ≡ true → is_some (right_first x y) ≡ true
+  first_some x None h = h
+  first_some x (Some y) h = refl
+
+  has_last : (xs : List (Option V)) → 0 < length xs → list_all is_some xs ≡ true → is_some (last_value xs) ≡ true
+  has_last [] l h = let no : ⊥ = omega (arith, l) in absurd no
+  has_last (None ∷ xs) l h = let no : ⊥ = cc h in absurd no
+  has_last (Some x ∷ xs) l h = first_some (Some x) (last_value xs) refl
+
+  with_both : (a b : Bool) (x y : Option V) → (a ≡ true → is_some x ≡ true) → (b ≡ true → is_some y ≡ true)
+      → cond (a && b) (right_first x y) None ≡ left_with_right (cond b y None) (cond a x None)
+  with_both false b x y f g = refl
+  with_both true b None y f g = let no : ⊥ = cc (f refl) in absurd no
+  with_both true false (Some x) y f g = refl
+  with_both true true (Some x) None f g = let no : ⊥ = cc (g refl) in absurd no
+  with_both true true (Some x) (Some y) f g = refl
+
+  pub all_append : (xs ys : List (Option V)) → 0 < length xs → 0 < length ys → last_of_all (xs ++ ys) ≡ left_with_right (last_of_all ys) (last_of_all xs)
+  all_append xs ys l m =
+      ap (λ b. cond b (last_value (xs ++ ys)) None) (list_all-append is_some xs ys)
+      ∙ ap (λ o. cond (list_all is_some xs && list_all is_some ys) o None) (last_append xs ys)
+      ∙ with_both (list_all is_some xs) (list_all is_some ys) (last_value xs) (last_value ys) (has_last xs l) (has_last ys m)
+
+  -- ---- the keys that an odd number have
+
+  odd_append : (xs ys : List (Option V)) → has_odd (xs ++ ys) ≡ one_of (has_odd xs) (has_odd ys)
+  odd_append [] ys = refl
+  odd_append (None ∷ xs) ys = odd_append xs ys
+  odd_append (Some x ∷ xs) ys = ap not (odd_append xs ys) ∙ one_not (has_odd xs) (has_odd ys)
+
+  one_there : (x y : Option V) → is_some (exactly_one x y) ≡ one_of (is_some x) (is_some y)
+  one_there None y = refl
+  one_there (Some x) None = refl
+  one_there (Some x) (Some y) = refl
+
+  same_there : (eq : V → V → Bool) (x y : Option V) → SameOption eq x y → is_some x ≡ is_some y
+  same_there eq None None s = refl
+  same_there eq None (Some y) s = absurd s
+  same_there eq (Some x) None s = absurd s
+  same_there eq (Some x) (Some y) s = refl
+
+  pub odd_only : (lists : List (List (Entry V))) (list : List (Entry V)) → IsOnly lists list → HasOddKeys lists list
+  odd_only [] list o k = ap (λ l. is_some (at l k)) o
+  odd_only (L ∷ []) list o k = ap (λ l. is_some (at l k)) o ∙ odd_one (at L k)
+    where
+      odd_one : (x : Option V) → is_some x ≡ has_odd (x ∷ [])
+      odd_one None = refl
+      odd_one (Some x) = refl
+  odd_only (L ∷ M ∷ Ls) list o k = absurd o
+
+  pub odd_both : (eq : V → V → Bool) (low high : ℤ) (Ls Ms : List (List (Entry V))) (left right new : List (Entry V)) → HasOddKeys Ls left → HasOddKeys Ms right → IsChosen eq low high exactly_one left right new → HasOddKeys (Ls ++ Ms) new
+  odd_both eq low high Ls Ms left right new l r c k =
+      same_there eq (at new k) (exactly_one (at left k) (at right k)) (c.content k) ∙ one_there (at left k) (at right k)
+      ∙ ap (λ b. one_of b (is_some (at right k))) (l k) ∙ ap (one_of (has_odd (row Ls k))) (r k)
+      ∙ sym (odd_append (row Ls k) (row Ms k)) ∙ ap has_odd (sym (row_append Ls Ms k))
+
+-- ---- what is chosen from two parts
+
+module _ {V : Type 0} (eq : V → V → Bool) (laws : IsEquivalence eq) (low high : ℤ) where
+  pub of_only : (choose : List (Option V) → Option V) → choose [] ≡ None → ((x : Option V) → choose (x ∷ []) ≡ x)
+      → (lists : List (List (Entry V))) (list : List (Entry V)) → IsOnly lists list → IsRangeMap eq low high list → IsChosenOfMany eq low high choose lists list
+  of_only choose none one [] list o m = record {
+    range_map = m;
+    content = λ k. subst (SameOption eq (at list k)) (ap (λ l. at l k) o ∙ sym none) (same_itself eq laws (at list k));
+  }
+  of_only choose none one (L ∷ []) list o m = record {
+    range_map = m;
+    content = λ k. subst (SameOption eq (at list k)) (ap (λ l. at l k) o ∙ sym (one (at L k))) (same_itself eq laws (at list k));
+  }
+  of_only choose none one (L ∷ M ∷ Ls) list o m = absurd o
+
+  right_alike : (x x' y y' : Option V) → SameOption eq x x' → SameOption eq y y' → SameOption eq (right_first x y) (right_first x' y')
+  right_alike x x' None None s t = s
+  right_alike x x' None (Some y') s t = absurd t
+  right_alike x x' (Some y) None s t = absurd t
+  right_alike x x' (Some y) (Some y') s t = t
+
+  with_alike : (x x' y y' : Option V) → SameOption eq x x' → SameOption eq y y' → SameOption eq (left_with_right x y) (left_with_right x' y')
+  with_alike x x' None None s t = tt
+  with_alike x x' None (Some y') s t = absurd t
+  with_alike x x' (Some y) None s t = absurd t
+  with_alike x x' (Some y) (Some y') s t = s
+
+  pub union_both : (Ls Ms : List (List (Entry V))) (left right new : List (Entry V)) → IsChosenOfMany eq low high last_value Ls left → IsChosenOfMany eq low high last_value Ms right
+      → IsChosen eq low high right_first left right new → IsChosenOfMany eq low high last_value (Ls ++ Ms) new
+  union_both Ls Ms left right new l r c = record {
+    range_map = c.range_map;
+    content = λ k. subst (SameOption eq (at new k)) (sym (ap last_value (row_append Ls Ms k) ∙ last_append (row Ls k) (row Ms k)))
+        (same_trans eq laws (at new k) (right_first (at left k) (at right k)) _ (c.content k) (right_alike (at left k) (last_value (row Ls k)) (at right k) (last_value (row Ms k)) (l.content k) (r.content k)));
+  }
+
+  pub intersection_both : (Ls Ms : List (List (Entry V))) (left right new : List (Entry V)) → 0 < length Ls → 0 < length Ms → IsChosenOfMany eq low high last_of_all Ls left → IsChosenOfMany eq low high last_of_all Ms right
+      → IsChosen eq low high left_with_right right left new → IsChosenOfMany eq low high last_of_all (Ls ++ Ms) new
+  intersection_both Ls Ms left right new a b l r c = record {
+    range_map = c.range_map;
+    content = λ k. subst (SameOption eq (at new k)) (sym (ap last_of_all (row_append Ls Ms k)
+        ∙ all_append (row Ls k) (row Ms k) (subst (λ n. 0 < n) (sym (row_length Ls k)) a) (subst (λ n. 0 < n) (sym (row_length Ms k)) b)))
+        (same_trans eq laws (at new k) (left_with_right (at right k) (at left k)) _ (c.content k) (with_alike (at right k) (last_of_all (row Ms k)) (at left k) (last_of_all (row Ls k)) (r.content k) (l.content k)));
+  }
+
+  -- the union on the keys that an odd number have
+  on_odd : {B : Type 0} (x u : Option V) (y : Option B) (b : Bool) → SameOption eq x u → is_some y ≡ b → SameOption eq (left_with_right x y) (cond b u None)
+  on_odd x u None true s h = let no : ⊥ = cc h in absurd no
+  on_odd x u None false s h = tt
+  on_odd x u (Some y) true s h = s
+  on_odd x u (Some y) false s h = let no : ⊥ = cc h in absurd no
+
+  pub difference_of : {B : Type 0} (lists : List (List (Entry V))) (union : List (Entry V)) (odd : List (Entry B)) (new : List (Entry V)) → IsChosenOfMany eq low high last_value lists union → HasOddKeys lists odd
+      → IsChosen eq low high left_with_right union odd new → IsChosenOfMany eq low high last_of_odd lists new
+  difference_of lists union odd new u o c = record {
+    range_map = c.range_map;
+    content = λ k. same_trans eq laws (at new k) (left_with_right (at union k) (at odd k)) _ (c.content k) (on_odd (at union k) (last_value (row lists k)) (at odd k) (has_odd (row lists k)) (u.content k) (o k));
+  }
+
+  -- a list that is like a chosen one
+  pub many_as : (choose : List (Option V) → Option V) (lists : List (List (Entry V))) (es fs : List (Entry V)) → IsChosenOfMany eq low high choose lists es → SameEntries eq es fs → IsChosenOfMany eq low high choose lists fs
+  many_as choose lists es fs c s = record {
+    range_map = range_map_as eq laws low high es fs s c.range_map;
+    content = λ k. same_trans eq laws (at fs k) (at es k) (choose (row lists k)) (back eq laws es fs (content_as eq laws es fs s) k) (c.content k);
+  }
+
+  pub all_one : (x : Option V) → last_of_all (x ∷ []) ≡ x
+  all_one None = refl
+  all_one (Some x) = refl

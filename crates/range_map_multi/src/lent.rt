@@ -1,0 +1,96 @@
+//! Operations between many maps that are lent, as they are or by references. The maps show that the keys outlive the loan,
+//! which code that is generic over keys has to know where it calls a function of streams.
+ghost use Rattle.std.specs.Prelude.{◌≡◌, ◌<◌, List, length, map, refl, IfOk};
+ghost use Rattle.blaze_table.specs.Entries.{Entry};
+ghost use Rattle.blaze_table.specs.Painted.{ClonesAreAlike};
+ghost use Rattle.range_map_multi.specs.Many.{last_value, last_of_all, last_of_odd, IsChosenOfMany};
+
+use crate::merges::{merged_intersection, merged_union};
+use crate::parity::merged_symmetric_difference;
+use blaze_int::Integer;
+use blaze_streams::RangeValuesIter;
+use range_map_blaze::RangeMapBlaze;
+use std::alloc::{AllocError, Global};
+
+/// A map, or a reference to one.
+pub trait AsMap<T: Integer, V: Eq + Clone>: Drop {
+    // The entries of the map.
+    ghost shown: { Self → List (Entry V) };
+
+    /// The map.
+    fn as_map(&self) -> &RangeMapBlaze<T, V>
+        ensures { result.now.entries ≡ shown self.now };
+}
+
+impl<T: Integer, V: Eq + Clone> AsMap<T, V> for RangeMapBlaze<T, V> {
+    ghost shown = { λ m. m.entries };
+
+    fn as_map(&self) -> &RangeMapBlaze<T, V> {
+        self
+    }
+}
+
+impl<'a, T: Integer, V: Eq + Clone> AsMap<T, V> for &'a RangeMapBlaze<T, V> {
+    ghost shown = { λ m. m.now.entries };
+
+    fn as_map(&self) -> &RangeMapBlaze<T, V> {
+        self
+    }
+}
+
+/// The entries of each map, as streams.
+fn streams_of<'a, T: Integer, V: Eq + Clone, M: AsMap<T, V>>(
+    alloc: Global,
+    maps: &'a [M],
+) -> Result<Vec<RangeValuesIter<'a, T, V>>, AllocError>
+    ensures { IfOk result (λ streams. streams.items ≡ map M.shown maps.now) }
+{
+    let mut streams = Vec::new(alloc);
+    for lent in maps {
+        streams.push(lent.as_map().range_values())?;
+    }
+    Ok(streams)
+}
+
+/// The value of the last map that has one.
+pub fn lent_union<'a, T: Integer, V: Eq + Clone, M: AsMap<T, V>>(
+    alloc: Global,
+    maps: &'a [M],
+) -> Result<RangeMapBlaze<T, V>, AllocError>
+    requires { ClonesAreAlike V.is_clone V.eq }
+    ensures { IfOk result (λ new. IsChosenOfMany V.eq T.low T.high last_value (map M.shown maps.now) new.entries) }
+{
+    let streams = streams_of(alloc, maps)?;
+    let stream = merged_union(alloc, streams)?;
+    let new = RangeMapBlaze::from_sorted_disjoint_map(alloc, stream)?;
+    Ok(new)
+}
+
+/// The value of the last map, where all have one.
+pub fn lent_intersection<'a, T: Integer, V: Eq + Clone, M: AsMap<T, V>>(
+    alloc: Global,
+    maps: &'a [M],
+) -> Result<RangeMapBlaze<T, V>, AllocError>
+    requires clones { ClonesAreAlike V.is_clone V.eq }
+    requires some { 0 < length maps.now }
+    ensures { IfOk result (λ new. IsChosenOfMany V.eq T.low T.high last_of_all (map M.shown maps.now) new.entries) }
+{
+    let streams = streams_of(alloc, maps)?;
+    let stream = merged_intersection(alloc, streams)?;
+    let new = RangeMapBlaze::from_sorted_disjoint_map(alloc, stream)?;
+    Ok(new)
+}
+
+/// The value of the last map that has one, where an odd number have one.
+pub fn lent_symmetric_difference<'a, T: Integer, V: Eq + Clone, M: AsMap<T, V>>(
+    alloc: Global,
+    maps: &'a [M],
+) -> Result<RangeMapBlaze<T, V>, AllocError>
+    requires { ClonesAreAlike V.is_clone V.eq }
+    ensures { IfOk result (λ new. IsChosenOfMany V.eq T.low T.high last_of_odd (map M.shown maps.now) new.entries) }
+{
+    let streams = streams_of(alloc, maps)?;
+    let stream = merged_symmetric_difference(alloc, streams)?;
+    let new = RangeMapBlaze::from_sorted_disjoint_map(alloc, stream)?;
+    Ok(new)
+}
