@@ -14,7 +14,7 @@ use Rattle.blaze_streams.specs.Cursors.{AllCanonical, first_keys, all_after, IsN
 use Rattle.blaze_streams.specs.Segments.{row, row_eq}
 use Rattle.blaze_streams.proofs.Answering.{IsAnsweredSoFar, answered_none, takes_next, answered_more, answered_all}
 use Rattle.blaze_streams.proofs.FoundSegments.{next_less}
-use Rattle.blaze_streams.proofs.KeysLeft.{all_lengths_left}
+use Rattle.blaze_streams.proofs.LengthsLeft.{all_lengths_left}
 use Rattle.blaze_streams.proofs.Rows.{all_canonical_after, is_first}
 use Rattle.range_map_multi.specs.ManyJoins.{IsJoinOfMany, IsCallableAtRows, IsManyJoined}
 use Rattle.range_map_multi.specs.Parts.{AllPlaced, AllRangeMaps, picked}

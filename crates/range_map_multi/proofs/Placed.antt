@@ -12,7 +12,7 @@ use Rattle.blaze_table.specs.Splice.{after}
 use Rattle.blaze_streams.specs.Answers.{values}
 use Rattle.blaze_streams.specs.Cursors.{first_key, steady_to, lesser, first_keys, all_steady_to, all_after, IsNextSegment}
 use Rattle.blaze_streams.specs.Segments.{row}
-use Rattle.blaze_streams.proofs.KeysLeft.{keys_left, all_lengths_left}
+use Rattle.blaze_streams.proofs.LengthsLeft.{lengths_left, all_lengths_left}
 use Rattle.range_map_multi.specs.Parts.{with_values, in_places, IsPlaced, AllPlaced, with_value, valued, all_valued, picked, AllRangeMaps}
 
 -- ---- other values on the same ranges
@@ -45,9 +45,9 @@ module _ {A B : Type 0} (f : A → B) where
   steady_with s [] = refl
   steady_with s (e ∷ es) = refl
 
-  keys_with : (es : List (Entry A)) → keys_left (with_values f es) ≡ keys_left es
-  keys_with [] = refl
-  keys_with (e ∷ es) = ap (λ n. nat_of ((e.hi -ℤ e.lo) +ℤ pos 1) + n) (keys_with es)
+  lengths_with : (es : List (Entry A)) → lengths_left (with_values f es) ≡ lengths_left es
+  lengths_with [] = refl
+  lengths_with (e ∷ es) = ap (λ n. nat_of ((e.hi -ℤ e.lo) +ℤ pos 1) + n) (lengths_with es)
 
 next_differs : (i : ℕ) → nat_eq i (i + 1) ≡ false
 next_differs i = grind arith
@@ -134,7 +134,7 @@ module _ {V : Type 0} where
         firsts = ap (λ o. lesser o (first_keys Ls)) (sym (first_with Some L) ∙ ap first_key is ∙ first_with get N) ∙ ap (lesser (first_key N)) r.firsts;
         ends = λ s. ap (λ o. lesser o (all_steady_to s Ls)) (sym (steady_with Some s L) ∙ ap (steady_to s) is ∙ steady_with get s N) ∙ ap (lesser (steady_to s N)) (r.ends s);
         rows = λ k. ap (λ o. o ∷ row Ls k) (at_placed vs N L k p.0) ∙ ap (λ l. option_and_then get (at N k) ∷ l) (r.rows k);
-        keys = ap (λ n. n + all_lengths_left Ls) (sym (keys_with Some L) ∙ ap keys_left is ∙ keys_with get N) ∙ ap (λ n. keys_left N + n) r.keys;
+        keys = ap (λ n. n + all_lengths_left Ls) (sym (lengths_with Some L) ∙ ap lengths_left is ∙ lengths_with get N) ∙ ap (λ n. lengths_left N + n) r.keys;
         next = λ t. (after_placed vs N L t p.0, r.next t);
         valued_are = ap (λ l. l ∷ all_valued vss Ns) (valued_placed vs N L p.0) ∙ ap (λ l. L ∷ l) r.valued_are;
         count = ap suc r.count;

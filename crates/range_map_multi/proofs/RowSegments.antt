@@ -13,7 +13,7 @@ use Rattle.blaze_table.proofs.Runs.{canonical, one_per_run}
 use Rattle.blaze_streams.specs.Cursors.{first_key, steady_to, AllCanonical, first_keys, all_steady_to, all_after, IsNextSegment}
 use Rattle.blaze_streams.specs.Segments.{row, present, row_eq}
 use Rattle.blaze_streams.proofs.FoundSegments.{IsFound, found_none, found_more, next_less, or_none}
-use Rattle.blaze_streams.proofs.KeysLeft.{all_lengths_left}
+use Rattle.blaze_streams.proofs.LengthsLeft.{all_lengths_left}
 use Rattle.blaze_streams.proofs.Lesser.{lesser_one}
 use Rattle.blaze_streams.proofs.Rows.{steady_none, none_left, all_canonical_after}
 use Rattle.blaze_streams.proofs.Steady.{same_some, stops_steady}

@@ -2,7 +2,7 @@ use Rattle.std.proofs.Common.{map}
 use Rattle.std.specs.Option.{is_some}
 use Rattle.std.specs.List.{list_all}
 use Rattle.blaze_streams.specs.RangeLists.{shown_ranges}
-use Rattle.blaze_streams.proofs.KeysLeft.{all_lengths_left}
+use Rattle.blaze_streams.proofs.LengthsLeft.{all_lengths_left}
 use Rattle.range_map_multi.specs.ManyJoins.{shown_full_row}
 use Rattle.range_map_multi.specs.Parts.{all_valued}
 use Rattle.range_map_multi.proofs.AnsweredRows.{IsAskedSoFar}
