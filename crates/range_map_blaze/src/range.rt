@@ -27,7 +27,8 @@ impl<T: Integer, V: Eq + Clone> RangeMapBlaze<T, V> {
         requires clones { ClonesAreAlike V.is_clone V.eq }
         ensures within { R.has_bounds range → IfOk result (λ iter. (es : List (Entry V))
             × IsChosen V.eq T.low T.high left_with_right self.now.entries
-            (one_range (start_rank T.rank T.low (R.start_bound range)) (end_rank T.rank T.high (R.end_bound range))) es
+            (one_range (start_rank T.rank T.low (R.start_bound range))
+            (end_rank T.rank T.high (R.end_bound range))) es
             × (iter ≡ unopened es)
             × (pairs_left T.of_rank (λ es. es) iter ≡ pair_list T.of_rank es)) }
         ensures somewhere { IfOk result (λ iter. (es : List (Entry V))

@@ -40,7 +40,8 @@ fn compare_starts<T: Integer, V: Ord>(start: T, value: &V, other_start: T, other
 fn compare_first<T: Integer, V: Ord>(left: (T, T, &V), other: (T, T, &V)) -> (Ordering, T)
     ensures order { result.0 ≡ first_cmp V.cmp (shown_entry T.rank (λ v. v.now) left.entry)
         (shown_entry T.rank (λ v. v.now) other.entry) }
-    ensures end { T.rank result.1 ≡ int_min (shown_entry T.rank (λ v. v.now) other.entry).hi (shown_entry T.rank (λ v. v.now) left.entry).hi }
+    ensures end { T.rank result.1 ≡ int_min (shown_entry T.rank (λ v. v.now) other.entry).hi
+        (shown_entry T.rank (λ v. v.now) left.entry).hi }
 {
     let (start, end, value) = left;
     let (other_start, other_end, other_value) = other;

@@ -48,7 +48,8 @@ impl<T: Integer, V: Eq + Clone> RangeMapBlaze<T, V> {
     ) -> Result<bool, AllocError>
         requires { ClonesAreAlike V.is_clone V.eq }
         ensures ok { R.has_bounds range → OnOk result (IsPainted V.eq T.low T.high
-            (entry (start_rank T.rank T.low (R.start_bound range)) (end_rank T.rank T.high (R.end_bound range)) value)
+            (entry (start_rank T.rank T.low (R.start_bound range))
+            (end_rank T.rank T.high (R.end_bound range)) value)
             self.old.entries self.new.entries) }
         ensures somewhere { OnOk result (IsPaintedSomewhere V.eq T.low T.high value self.old.entries
             self.new.entries) }
