@@ -159,17 +159,20 @@ fn print_sweep<T: ScriptKey>(
     for map in maps {
         streams.push(map.range_values())?;
     }
-    let mut lead = "";
+    let mut is_first = true;
     for event in streams.sweep(alloc)? {
+        if !is_first {
+            reply.push_str("; ")?;
+        }
+        is_first = false;
         match event {
             SweepEvent::Start {
                 range,
                 input,
                 value,
-            } => write!(reply, "{lead}Start({range:?}, {input}, {value:?})")?,
-            SweepEvent::End { last, input } => write!(reply, "{lead}End({last:?}, {input})")?,
+            } => write!(reply, "Start({range:?}, {input}, {value:?})")?,
+            SweepEvent::End { last, input } => write!(reply, "End({last:?}, {input})")?,
         }
-        lead = "; ";
     }
     Ok(())
 }
