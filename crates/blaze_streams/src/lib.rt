@@ -3,6 +3,7 @@
 
 mod carrier;
 mod complements;
+mod cursor;
 mod events;
 mod fills;
 pub mod laws;
@@ -59,8 +60,10 @@ pub use merge::chosen::entries_chosen_of;
 pub use merge::with_unit::WithUnit;
 // For `range_map_multi` alone, which goes through many streams as this crate does through many lists.
 #[doc(hidden)]
+pub use cursor::Cursor;
+#[doc(hidden)]
 pub use merge::push::push_joined;
 #[doc(hidden)]
-pub use segmenting::cursor::Cursor;
+pub use segmenting::cursors::PlaceCursor;
 #[doc(hidden)]
 pub use segmenting::list_segments::next_segment;

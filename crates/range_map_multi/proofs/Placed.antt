@@ -7,7 +7,7 @@ use Rattle.std.specs.Option.{option_and_then}
 use Rattle.std.proofs.lemmas.List.{length_push}
 use Rattle.std.proofs.lemmas.Simd.{map-map}
 use Rattle.blaze_table.specs.Entries.{Entry, entry, at, holds}
-use Rattle.blaze_table.specs.Canonical.{IsCanonical, IsRangeMap}
+use Rattle.blaze_table.specs.Canonical.{AreKeys, IsCanonical, IsRangeMap}
 use Rattle.blaze_table.specs.Splice.{after}
 use Rattle.blaze_streams.specs.Answers.{values}
 use Rattle.blaze_streams.specs.Cursors.{first_key, steady_to, lesser, first_keys, all_steady_to, all_after, IsNextSegment}
@@ -106,6 +106,10 @@ module _ {V : Type 0} where
   canonical_places eq i [] c = tt
   canonical_places eq i (e ∷ []) c = (c.0, tt, tt)
   canonical_places eq i (e ∷ f ∷ fs) c = (c.0, (c.1.0, λ q. next_differs i), canonical_places eq (i + 1) (f ∷ fs) c.2)
+
+  pub keys_places : (low high : ℤ) (i : ℕ) (es : List (Entry V)) → AreKeys low high es → AreKeys low high (in_places i es)
+  keys_places low high i [] k = tt
+  keys_places low high i (e ∷ es) k = (k.0, k.1, keys_places low high (i + 1) es k.2)
 
   -- ---- many lists
 

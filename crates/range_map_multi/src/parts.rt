@@ -4,14 +4,14 @@ ghost use Rattle.blaze_table.specs.Canonical.{IsRangeMap};
 ghost use Rattle.range_map_multi.specs.Parts.{IsPlaced, AllPlaced, AllRangeMaps};
 
 use blaze_int::Integer;
-use blaze_streams::{Cursor, SortedDisjointMap, ValueCarrier};
+use blaze_streams::{CanonMapIter, Cursor, PlaceCursor, SortedDisjointMap, ValueCarrier};
 use std::alloc::{AllocError, Global};
 
 /// The ranges of a stream with their places, and its carriers. Refused memory drops the stream.
 fn parts_of<T: Integer, VC: ValueCarrier, I: SortedDisjointMap<T, VC>>(
     alloc: Global,
     stream: I,
-) -> Result<(Cursor<T>, Vec<VC>), AllocError>
+) -> Result<(PlaceCursor<T>, Vec<VC>), AllocError>
     ensures placed { IfOk result
         (λ parts. IsPlaced (map VC.shown parts.1.items) parts.0 (I.left stream)) }
     ensures range_map { IfOk result (λ parts. IsRangeMap VC.Value.eq T.low T.high (I.left stream)) }
@@ -21,10 +21,10 @@ fn parts_of<T: Integer, VC: ValueCarrier, I: SortedDisjointMap<T, VC>>(
     let mut carriers = Vec::new(alloc);
     for item in stream {
         let (range, carrier) = item;
-        let (start, end) = range.into_inner();
-        ranges.push((start, end, carriers.len()))?;
+        ranges.push((range, carriers.len()))?;
         carriers.push(carrier)?;
     }
+    let ranges = CanonMapIter::new(ranges);
     Ok((Cursor::new(ranges), carriers))
 }
 
@@ -32,7 +32,7 @@ fn parts_of<T: Integer, VC: ValueCarrier, I: SortedDisjointMap<T, VC>>(
 pub fn all_parts_of<T: Integer, VC: ValueCarrier, I: SortedDisjointMap<T, VC>>(
     alloc: Global,
     streams: Vec<I>,
-) -> Result<(Vec<Cursor<T>>, Vec<Vec<VC>>), AllocError>
+) -> Result<(Vec<PlaceCursor<T>>, Vec<Vec<VC>>), AllocError>
     ensures placed { IfOk result (λ parts. AllPlaced (map (λ v. map VC.shown v.items) parts.1.items)
         parts.0.items (map I.left streams.items)) }
     ensures range_maps { IfOk result (λ parts. AllRangeMaps VC.Value.eq T.low T.high

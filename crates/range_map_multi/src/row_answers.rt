@@ -8,14 +8,14 @@ ghost use Rattle.range_map_multi.specs.Parts.{AllPlaced, all_valued, AllRangeMap
 
 use crate::rows::{Shows, fill_full_row, fill_row};
 use blaze_int::Integer;
-use blaze_streams::{CanonMapIter, Cursor, Owned, next_segment, push_joined};
+use blaze_streams::{CanonMapIter, Owned, PlaceCursor, next_segment, push_joined};
 use std::alloc::{AllocError, Global};
 
 /// What a closure answers where at least one list has something: one call for each segment, ascending. Refused memory drops
 /// the answers.
 pub fn full_answers<T: Integer, A: Copy, S: Shows<A>, W: Eq + Clone, F: FnMut(&[Option<A>]) -> W>(
     alloc: Global,
-    cursors: &mut [Cursor<T>],
+    cursors: &mut [PlaceCursor<T>],
     lists: &[Vec<A>],
     mut f: F,
 ) -> Result<CanonMapIter<T, Owned<W>>, AllocError>
@@ -44,7 +44,7 @@ pub fn full_answers<T: Integer, A: Copy, S: Shows<A>, W: Eq + Clone, F: FnMut(&[
 /// ascending. Refused memory drops the answers.
 fn inner_answers_of_some<T: Integer, A: Copy, S: Shows<A>, W: Eq + Clone, F: FnMut(&[A]) -> W>(
     alloc: Global,
-    cursors: &mut [Cursor<T>],
+    cursors: &mut [PlaceCursor<T>],
     lists: &[Vec<A>],
     mut f: F,
 ) -> Result<CanonMapIter<T, Owned<W>>, AllocError>
@@ -98,7 +98,7 @@ fn inner_answers_of_none<T: Integer, A: Copy, S: Shows<A>, W: Eq + Clone, F: FnM
 /// is called once, and its answer is at every key. Refused memory drops the answers.
 pub fn inner_answers<T: Integer, A: Copy, S: Shows<A>, W: Eq + Clone, F: FnMut(&[A]) -> W>(
     alloc: Global,
-    cursors: &mut [Cursor<T>],
+    cursors: &mut [PlaceCursor<T>],
     lists: &[Vec<A>],
     f: F,
 ) -> Result<CanonMapIter<T, Owned<W>>, AllocError>

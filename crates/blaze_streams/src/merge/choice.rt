@@ -9,7 +9,7 @@ ghost use Rattle.blaze_streams.specs.Decided.{IsDecided, right_first_decided, le
 ghost use Rattle.blaze_streams.specs.Decided.{undecided};
 
 use crate::carrier::ValueCarrier;
-use crate::merge::ahead::Ahead;
+use crate::cursor::Cursor;
 use crate::sorted_disjoint_map::SortedDisjointMap;
 use blaze_int::Integer;
 use std::alloc::AllocError;
@@ -30,8 +30,8 @@ pub trait Choice<VCL: ValueCarrier, VCR: ValueCarrier> {
     /// above the end of neither's first range, but for a left one that does not matter.
     fn take<T: Integer, L: SortedDisjointMap<T, VCL>, R: SortedDisjointMap<T, VCR>>(
         &self,
-        left: &mut Ahead<T, VCL, L>,
-        right: &mut Ahead<T, VCR, R>,
+        left: &mut Cursor<T, VCL, L>,
+        right: &mut Cursor<T, VCR, R>,
         end: T,
     ) -> Result<Option<VCL>, AllocError>
         requires can { VCL.can_carry }
@@ -65,8 +65,8 @@ impl<VC: ValueCarrier> Choice<VC, VC> for RightFirst {
 
     fn take<T: Integer, L: SortedDisjointMap<T, VC>, R: SortedDisjointMap<T, VC>>(
         &self,
-        left: &mut Ahead<T, VC, L>,
-        right: &mut Ahead<T, VC, R>,
+        left: &mut Cursor<T, VC, L>,
+        right: &mut Cursor<T, VC, R>,
         end: T,
     ) -> Result<Option<VC>, AllocError> {
         if right.has(end) {
@@ -97,8 +97,8 @@ impl<VC: ValueCarrier> Choice<VC, VC> for ExactlyOne {
 
     fn take<T: Integer, L: SortedDisjointMap<T, VC>, R: SortedDisjointMap<T, VC>>(
         &self,
-        left: &mut Ahead<T, VC, L>,
-        right: &mut Ahead<T, VC, R>,
+        left: &mut Cursor<T, VC, L>,
+        right: &mut Cursor<T, VC, R>,
         end: T,
     ) -> Result<Option<VC>, AllocError> {
         if !right.has(end) {
@@ -133,8 +133,8 @@ impl<VCL: ValueCarrier, VCR: ValueCarrier> Choice<VCL, VCR> for LeftWithRight {
 
     fn take<T: Integer, L: SortedDisjointMap<T, VCL>, R: SortedDisjointMap<T, VCR>>(
         &self,
-        left: &mut Ahead<T, VCL, L>,
-        right: &mut Ahead<T, VCR, R>,
+        left: &mut Cursor<T, VCL, L>,
+        right: &mut Cursor<T, VCR, R>,
         end: T,
     ) -> Result<Option<VCL>, AllocError> {
         let is_there = right.has(end);
@@ -166,8 +166,8 @@ impl<VCL: ValueCarrier, VCR: ValueCarrier> Choice<VCL, VCR> for LeftAlone {
 
     fn take<T: Integer, L: SortedDisjointMap<T, VCL>, R: SortedDisjointMap<T, VCR>>(
         &self,
-        left: &mut Ahead<T, VCL, L>,
-        right: &mut Ahead<T, VCR, R>,
+        left: &mut Cursor<T, VCL, L>,
+        right: &mut Cursor<T, VCR, R>,
         end: T,
     ) -> Result<Option<VCL>, AllocError> {
         let is_there = right.has(end);

@@ -8,11 +8,11 @@ ghost use Rattle.blaze_streams.specs.Choosing.{IsTaken, PutsAlike, IsChoiceMade}
 ghost use Rattle.blaze_streams.specs.Cursors.{first_key, steady_to, Reaches, lesser};
 
 use crate::carrier::ValueCarrier;
+use crate::cursor::Cursor;
 use crate::lists::canon_map::CanonMapIter;
-use crate::merge::ahead::Ahead;
 use crate::merge::choice::Choice;
 use crate::merge::piece_list::PieceList;
-use crate::segmenting::cursor::lesser_of;
+use crate::segmenting::cursors::lesser_of;
 use crate::sorted_disjoint_map::SortedDisjointMap;
 use blaze_int::Integer;
 use std::alloc::{AllocError, Global};
@@ -42,7 +42,7 @@ pub fn steady_end<
     VCR: ValueCarrier,
     L: SortedDisjointMap<T, VCL>,
     R: SortedDisjointMap<T, VCR>,
->(start: T, left: &Ahead<T, VCL, L>, right: &Ahead<T, VCR, R>) -> T
+>(start: T, left: &Cursor<T, VCL, L>, right: &Cursor<T, VCR, R>) -> T
     requires left { IsCanonical VCL.Value.eq left.now }
     requires right { IsCanonical VCR.Value.eq right.now }
     requires starts { lesser (first_key left.now) (first_key right.now) ≡ Some (T.rank start) }
@@ -68,8 +68,8 @@ fn take_piece<
     C: Choice<VCL, VCR>,
 >(
     start: T,
-    left: &mut Ahead<T, VCL, L>,
-    right: &mut Ahead<T, VCR, R>,
+    left: &mut Cursor<T, VCL, L>,
+    right: &mut Cursor<T, VCR, R>,
     choice: &C,
 ) -> Result<(T, Option<VCL>), AllocError>
     requires can { VCL.can_carry }
@@ -102,8 +102,8 @@ fn choose_next<
     P: PieceList<T, VCL>,
 >(
     start: T,
-    left: &mut Ahead<T, VCL, L>,
-    right: &mut Ahead<T, VCR, R>,
+    left: &mut Cursor<T, VCL, L>,
+    right: &mut Cursor<T, VCR, R>,
     out: &mut P,
     choice: &C,
 ) -> Result<(), AllocError>
@@ -136,8 +136,8 @@ fn put_chosen<
     ensures { OnOk result (IsChosen VCL.Value.eq T.low T.high C.choice (L.left left) (R.left right)
         (P.entries out.new)) }
 {
-    let mut left = Ahead::new(left);
-    let mut right = Ahead::new(right);
+    let mut left = Cursor::new(left);
+    let mut right = Cursor::new(right);
     while let Some(start) = lesser_of(left.first(), right.first()) {
         choose_next(start, &mut left, &mut right, out, choice)?;
     }

@@ -1,5 +1,4 @@
 //! Two streams gone through together, and what is chosen from them.
-pub mod ahead;
 pub mod choice;
 pub mod chosen;
 pub mod piece_list;

@@ -7,10 +7,10 @@ ghost use Rattle.blaze_streams.specs.Joins.{is_joined, paired, piece_of, IsJoinO
 ghost use Rattle.blaze_streams.specs.RangeLists.{shown_ranges};
 
 use crate::carrier::ValueCarrier;
+use crate::cursor::Cursor;
 use crate::lists::canon_map::CanonMapIter;
-use crate::merge::ahead::Ahead;
 use crate::merge::chosen::steady_end;
-use crate::segmenting::cursor::lesser_of;
+use crate::segmenting::cursors::lesser_of;
 use crate::sorted_disjoint_map::SortedDisjointMap;
 use blaze_int::Integer;
 use std::alloc::{AllocError, Global};
@@ -67,8 +67,8 @@ fn join_next<
     R: SortedDisjointMap<T, VCR>,
 >(
     start: T,
-    left: &mut Ahead<T, VCL, L>,
-    right: &mut Ahead<T, VCR, R>,
+    left: &mut Cursor<T, VCL, L>,
+    right: &mut Cursor<T, VCR, R>,
     out: &mut Vec<(RangeInclusive<T>, (Option<VCL>, Option<VCR>))>,
     kind: JoinKind,
 ) -> Result<(), AllocError>
@@ -106,8 +106,8 @@ pub fn join_of<
         (L.left left) (R.left right) segments) }
 {
     let mut out = Vec::new(alloc);
-    let mut left = Ahead::new(left);
-    let mut right = Ahead::new(right);
+    let mut left = Cursor::new(left);
+    let mut right = Cursor::new(right);
     while let Some(start) = lesser_of(left.first(), right.first()) {
         join_next(start, &mut left, &mut right, &mut out, kind)?;
     }

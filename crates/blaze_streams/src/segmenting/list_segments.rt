@@ -2,10 +2,12 @@
 ghost use Rattle.std.specs.Prelude.{◌≡◌, None, IfOk, IfSome, IfNone, nat_eq};
 ghost use Rattle.blaze_streams.specs.Segments.{numbered, all_numbered, AreInOrder, entry_of};
 ghost use Rattle.blaze_streams.specs.Segments.{entries_of, IsSegmentsOf};
-ghost use Rattle.blaze_streams.specs.Cursors.{placed, AllCanonical, first_keys, IsNextSegment};
+ghost use Rattle.blaze_streams.specs.Cursors.{AllCanonical, first_keys, IsNextSegment};
+ghost use Rattle.blaze_table.specs.Canonical.{IsCanonical};
 
-use crate::segmenting::cursor::Cursor;
-use crate::segmenting::cursors::{advance_all, first_of, last_of, row_at};
+use crate::cursor::Cursor;
+use crate::lists::canon_map::CanonMapIter;
+use crate::segmenting::cursors::{PlaceCursor, advance_all, first_of, last_of, row_at};
 use blaze_int::Integer;
 use std::alloc::{AllocError, Global};
 
@@ -43,7 +45,7 @@ pub fn segments<T: Integer>(
 fn cursors_of<T: Integer>(
     alloc: Global,
     lists: &[Vec<(T, T)>],
-) -> Result<Vec<Cursor<T>>, AllocError>
+) -> Result<Vec<PlaceCursor<T>>, AllocError>
     requires { AllCanonical nat_eq (all_numbered T.rank lists.now) }
     ensures { IfOk result (λ cursors. cursors.items ≡ all_numbered T.rank lists.now) }
 {
@@ -55,21 +57,27 @@ fn cursors_of<T: Integer>(
 }
 
 /// The ranges, each with its place.
-fn places_of<T: Integer>(alloc: Global, ranges: &[(T, T)]) -> Result<Vec<(T, T, usize)>, AllocError>
-    ensures { IfOk result (λ found. placed T.rank found.items ≡ numbered T.rank 0 ranges.now) }
+fn places_of<T: Integer>(
+    alloc: Global,
+    ranges: &[(T, T)],
+) -> Result<CanonMapIter<T, usize>, AllocError>
+    requires { IsCanonical nat_eq (numbered T.rank 0 ranges.now) }
+    ensures { IfOk result (λ places. places ≡ numbered T.rank 0 ranges.now) }
 {
     let mut found = Vec::new(alloc);
     for i in 0..ranges.len() {
-        let (lo, hi) = ranges[i];
-        found.push((lo, hi, i))?;
+        let range = ranges[i];
+        range.0.in_hand();
+        range.1.in_hand();
+        found.push((range.0..=range.1, i))?;
     }
-    Ok(found)
+    Ok(CanonMapIter::new(found))
 }
 
 /// The segments of what is left of the lists.
 fn segments_left<T: Integer>(
     alloc: Global,
-    lists: &mut [Cursor<T>],
+    lists: &mut [PlaceCursor<T>],
 ) -> Result<Vec<Segment<T>>, AllocError>
     requires { AllCanonical nat_eq lists.old }
     ensures { IfOk result (λ found. IsSegmentsOf nat_eq lists.old (entries_of T.rank found.items)) }
@@ -84,7 +92,7 @@ fn segments_left<T: Integer>(
 /// Takes the first segment off the lists, or answers `None` where nothing is left. Refused memory leaves the lists unchanged.
 pub fn next_segment<T: Integer>(
     alloc: Global,
-    lists: &mut [Cursor<T>],
+    lists: &mut [PlaceCursor<T>],
 ) -> Result<Option<Segment<T>>, AllocError>
     ensures none { IfOk result (λ next. IfNone next (first_keys lists.old ≡ None)) }
     ensures some { IfOk result

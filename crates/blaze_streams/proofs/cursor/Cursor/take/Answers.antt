@@ -5,7 +5,7 @@ use Rattle.blaze_table.specs.Canonical.{IsCanonical}
 use Rattle.blaze_table.proofs.Unique.{same_none}
 use Rattle.blaze_streams.specs.Choosing.{ahead_of}
 use Rattle.blaze_streams.proofs.Steady.{at_first}
-use Rattle.blaze_streams.proofs.merge.ahead.Ahead.take.Goals as goal
+use Rattle.blaze_streams.proofs.cursor.Cursor.take.Goals as goal
 
 pub returns-else-is_at_most-2-clause-carrier : goal.returns-else-is_at_most-2-clause-carrier
 returns-else-is_at_most-2-clause-carrier g c =

@@ -17,12 +17,12 @@ use std::marker::Model;
 
 /// The ranges that are left of a stream, with their carriers: what is left of the first, and the stream of the others.
 #[derive(Drop)]
-pub struct Ahead<T: Integer, VC: ValueCarrier, I: SortedDisjointMap<T, VC>> {
+pub struct Cursor<T: Integer, VC: ValueCarrier, I: SortedDisjointMap<T, VC>> {
     head: Option<(T, T, VC)>,
     rest: I,
 }
 
-impl<T: Integer, VC: ValueCarrier, I: SortedDisjointMap<T, VC>> Model for Ahead<T, VC, I> {
+impl<T: Integer, VC: ValueCarrier, I: SortedDisjointMap<T, VC>> Model for Cursor<T, VC, I> {
     ghost use Rattle.std.specs.Prelude.{List, [], IfNone, ◌≡◌};
     ghost use Rattle.std.specs.Coded.{coded_list};
     ghost use Rattle.blaze_table.specs.Entries.{Entry, entry_code};
@@ -72,7 +72,7 @@ fn take_above<T: Integer, VC: ValueCarrier, I: SortedDisjointMap<T, VC>>(
     None
 }
 
-impl<T: Integer, VC: ValueCarrier, I: SortedDisjointMap<T, VC>> Ahead<T, VC, I> {
+impl<T: Integer, VC: ValueCarrier, I: SortedDisjointMap<T, VC>> Cursor<T, VC, I> {
     /// All that is left of a stream.
     pub fn new(stream: I) -> Self
         ensures { result ≡ I.left stream }
@@ -80,7 +80,7 @@ impl<T: Integer, VC: ValueCarrier, I: SortedDisjointMap<T, VC>> Ahead<T, VC, I> 
         stream.in_hand();
         let mut rest = stream;
         let head = take_first(&mut rest);
-        Ahead { head, rest }
+        Cursor { head, rest }
     }
 
     /// The first key that is left.
@@ -182,7 +182,7 @@ impl<T: Integer, VC: ValueCarrier, I: SortedDisjointMap<T, VC>> Ahead<T, VC, I> 
     }
 }
 
-impl<T: Integer, VC: ValueCarrier + Copy, I: SortedDisjointMap<T, VC>> Ahead<T, VC, I> {
+impl<T: Integer, VC: ValueCarrier + Copy, I: SortedDisjointMap<T, VC>> Cursor<T, VC, I> {
     /// The carrier of the value at a key, which is not above the end of the first range.
     pub fn here(&self, key: T) -> Option<VC>
         requires { Reaches (T.rank key) self.now }

@@ -5,7 +5,7 @@ use Rattle.blaze_table.specs.Canonical.{IsCanonical}
 use Rattle.blaze_streams.specs.Choosing.{ahead_of}
 use Rattle.blaze_streams.specs.Cursors.{Reaches}
 use Rattle.blaze_streams.proofs.Steady.{has_first}
-use Rattle.blaze_streams.proofs.merge.ahead.Ahead.has.Goals as goal
+use Rattle.blaze_streams.proofs.cursor.Cursor.has.Goals as goal
 
 pub returns-in-Some : goal.returns-in-Some
 returns-in-Some g c =

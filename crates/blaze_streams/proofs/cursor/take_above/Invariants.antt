@@ -1,6 +1,6 @@
 use Rattle.std.proofs.Common.{◌≡◌, length}
 use Rattle.blaze_table.specs.Splice.{after}
-use Rattle.blaze_streams.proofs.merge.ahead.take_above.Given as goal
+use Rattle.blaze_streams.proofs.cursor.take_above.Given as goal
 
 -- the same lies above
 abbrev pub invariant-loop-lo : goal.invariant-loop-lo

@@ -5,7 +5,7 @@ use Rattle.blaze_table.specs.Entries.{at}
 use Rattle.blaze_table.specs.Canonical.{IsCanonical}
 use Rattle.blaze_streams.specs.Choosing.{ahead_of}
 use Rattle.blaze_streams.proofs.Steady.{at_first}
-use Rattle.blaze_streams.proofs.merge.ahead.Ahead.end_at.Goals as goal
+use Rattle.blaze_streams.proofs.cursor.Cursor.end_at.Goals as goal
 
 pub returns-else-is_at_most-clause-has : goal.returns-else-is_at_most-clause-has
 returns-else-is_at_most-clause-has g c =

@@ -2,7 +2,7 @@ use Rattle.std.proofs.Common.{◌∙◌, sym, ap, subst}
 use Rattle.blaze_table.specs.Canonical.{IsCanonical}
 use Rattle.blaze_table.proofs.Splices.{canonical_after}
 use Rattle.blaze_streams.specs.Choosing.{ahead_of}
-use Rattle.blaze_streams.proofs.merge.ahead.Ahead.advance.Goals as goal
+use Rattle.blaze_streams.proofs.cursor.Cursor.advance.Goals as goal
 
 pub invariant_of-self : goal.invariant_of-self
 invariant_of-self g c =

@@ -4,7 +4,7 @@ use Rattle.blaze_table.specs.Entries.{at}
 use Rattle.blaze_table.specs.Canonical.{IsCanonical}
 use Rattle.blaze_streams.specs.Choosing.{ahead_of}
 use Rattle.blaze_streams.proofs.Steady.{at_first}
-use Rattle.blaze_streams.proofs.merge.ahead.Ahead.here.Goals as goal
+use Rattle.blaze_streams.proofs.cursor.Cursor.here.Goals as goal
 
 pub returns-else-is_at_most : goal.returns-else-is_at_most
 returns-else-is_at_most g c =
