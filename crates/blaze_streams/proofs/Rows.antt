@@ -11,7 +11,7 @@ use Rattle.blaze_table.proofs.Splices.{above_after, canonical_after, at-after_ov
 use Rattle.blaze_streams.specs.Carried.{shown_option}
 use Rattle.blaze_streams.specs.Segments.{row}
 use Rattle.blaze_streams.specs.Cursors.{first_key, steady_to, AllCanonical, first_keys, AllFrom, all_steady_to, AllReach, all_after, IsNextSegment}
-use Rattle.blaze_streams.proofs.Steady.{AtMost, Stops, same_some, steady, reaches, from_first, stops_steady, steady_far, starts_there, at_below_from, at-after_under}
+use Rattle.blaze_streams.proofs.Steady.{AtMost, Stops, same_some, steady, from_first, stops_steady, steady_far, starts_there, at_below_from, at-after_under}
 use Rattle.blaze_streams.proofs.Lesser.{at_most_both, at_most_itself, lesser_one, some_lesser}
 
 -- the first range of a list ends at t, or starts right above it
