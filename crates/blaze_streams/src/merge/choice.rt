@@ -1,5 +1,5 @@
 //! What is chosen from what two streams have at a key.
-ghost use Rattle.std.specs.Prelude.{◌≡◌, ◌&&◌, Bool, true, false, Option, None, refl, IfOk};
+ghost use Rattle.std.specs.Prelude.{◌≡◌, ◌≤◌, ◌+◌, ◌&&◌, Bool, true, false, Option, None, refl, IfOk};
 ghost use Rattle.std.specs.Option.{option_map, is_some, option_xor};
 ghost use Rattle.blaze_table.specs.Chosen.{right_first, left_with_right, left_alone};
 ghost use Rattle.blaze_table.specs.Entries.{at, SameOption};
@@ -25,6 +25,10 @@ pub trait Choice<VCL: ValueCarrier, VCR: ValueCarrier> {
     /// Whether the left one does not matter where the right one is there.
     fn is_by_right(&self) -> bool
         ensures { result ≡ by_right };
+
+    /// For how many entries room is asked at first, where the streams have so many ranges at least.
+    fn room(&self, left: usize, right: usize) -> usize
+        ensures { result ≤ left + right };
 
     /// Lets the keys up to `end` go in both streams, and answers the carrier of the value that is chosen at `end`, which is
     /// above the end of neither's first range, but for a left one that does not matter.
@@ -63,6 +67,10 @@ impl<VC: ValueCarrier> Choice<VC, VC> for RightFirst {
         true
     }
 
+    fn room(&self, left: usize, right: usize) -> usize {
+        left.max(right)
+    }
+
     fn take<T: Integer, L: SortedDisjointMap<T, VC>, R: SortedDisjointMap<T, VC>>(
         &self,
         left: &mut Cursor<T, VC, L>,
@@ -93,6 +101,10 @@ impl<VC: ValueCarrier> Choice<VC, VC> for ExactlyOne {
 
     fn is_by_right(&self) -> bool {
         false
+    }
+
+    fn room(&self, left: usize, right: usize) -> usize {
+        left.max(right)
     }
 
     fn take<T: Integer, L: SortedDisjointMap<T, VC>, R: SortedDisjointMap<T, VC>>(
@@ -131,6 +143,10 @@ impl<VCL: ValueCarrier, VCR: ValueCarrier> Choice<VCL, VCR> for LeftWithRight {
         false
     }
 
+    fn room(&self, left: usize, right: usize) -> usize {
+        if right == 0 { 0 } else { left }
+    }
+
     fn take<T: Integer, L: SortedDisjointMap<T, VCL>, R: SortedDisjointMap<T, VCR>>(
         &self,
         left: &mut Cursor<T, VCL, L>,
@@ -162,6 +178,10 @@ impl<VCL: ValueCarrier, VCR: ValueCarrier> Choice<VCL, VCR> for LeftAlone {
 
     fn is_by_right(&self) -> bool {
         true
+    }
+
+    fn room(&self, left: usize, _right: usize) -> usize {
+        left
     }
 
     fn take<T: Integer, L: SortedDisjointMap<T, VCL>, R: SortedDisjointMap<T, VCR>>(

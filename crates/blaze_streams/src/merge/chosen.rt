@@ -162,8 +162,8 @@ pub fn chosen_of<
     Ok(CanonMapIter::new(out))
 }
 
-/// What is chosen from two streams, as a list of entries: first key, last key and value. Room is asked for as many entries as
-/// the left stream has at least. Refused memory drops both.
+/// What is chosen from two streams, as a list of entries: first key, last key and value. Room is asked for once, for as many
+/// as the choice says of the least lengths. Refused memory drops both.
 pub fn entries_chosen_of<
     T: Integer,
     VCL: ValueCarrier,
@@ -176,7 +176,8 @@ pub fn entries_chosen_of<
     ensures { IfOk result (λ entries. IsChosen VCL.Value.eq T.low T.high C.choice (L.left left)
         (R.left right) (listed T.rank entries.items)) }
 {
-    let mut entries: Vec<(T, T, VCL::Value)> = Vec::with_capacity(alloc, left.least_len())?;
+    let room = choice.room(left.least_len(), right.least_len());
+    let mut entries: Vec<(T, T, VCL::Value)> = Vec::with_capacity(alloc, room)?;
     put_chosen(left, right, choice, &mut entries)?;
     Ok(entries)
 }
