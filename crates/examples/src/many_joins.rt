@@ -1,7 +1,7 @@
 //! Joins of many maps and streams, and sweeps over streams.
 use crate::fault::Fault;
 use crate::streams::letters;
-use blaze_streams::sweep_of;
+use blaze_streams::{RangeValuesIter, sweep_of};
 use range_map_blaze::RangeMapBlaze;
 use range_map_multi::{MultiwayRangeMapBlazeRef, MultiwaySortedDisjointMap};
 use std::alloc::{AllocError, Global};
@@ -64,16 +64,30 @@ fn of_two_and_none(rt: &HostRuntime) -> Result<(), AllocError> {
     Ok(())
 }
 
+/// The streams of maps.
+fn streams_of<'a>(
+    alloc: Global,
+    maps: &'a [Numbers],
+) -> Result<Vec<RangeValuesIter<'a, u8, u32>>, AllocError> {
+    let mut streams = Vec::new(alloc);
+    for map in maps {
+        streams.push(map.range_values())?;
+    }
+    Ok(streams)
+}
+
 /// Joins of streams.
 pub fn of_streams(rt: &HostRuntime) -> Result<(), AllocError> {
     let alloc = rt.alloc();
-    let ones = numbers(alloc, &[(0, 9, 1)])?;
-    let tens = numbers(alloc, &[(5, 14, 10)])?;
-    let streams = vec![in alloc; ones.range_values(), tens.range_values()]?;
+    let maps = [
+        numbers(alloc, &[(0, 9, 1)])?,
+        numbers(alloc, &[(5, 14, 10)])?,
+    ];
+    let streams = streams_of(alloc, &maps)?;
     for (range, count) in streams.inner_join(alloc, |row| row.len())? {
         let _ = println!(rt; "{range:?} {count:?}");
     }
-    let streams = vec![in alloc; ones.range_values(), tens.range_values()]?;
+    let streams = streams_of(alloc, &maps)?;
     for (range, is_there) in streams.full_join(
         alloc,
         |row| row.iter().all(|value| value.is_some()),
