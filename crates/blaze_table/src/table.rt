@@ -68,7 +68,6 @@ impl<T: Integer, V: Eq> RangeTable<T, V> {
         ensures lengths { pos (T.SafeLen.number result) ≡ keys_in self.now.entries }
         ensures mapped { T.SafeLen.number result ≡ mapped_keys T.low T.high (at self.now.entries) }
     {
-        let _ = &self.entries;
         self.len
     }
 
@@ -176,7 +175,6 @@ impl<T: Integer, V: Eq + Drop> RangeTable<T, V> {
         ensures kept { IsFiltered (AnswersAt T.rank F.FnMut) f self.old.entries self.new.entries }
         ensures uncounted { self.new ≡ record self.old { entries = self.new.entries } }
     {
-        let _ = &self.entries;
         self.entries.retain(f);
         let len = count(&self.entries);
         self.len = len;
@@ -190,7 +188,6 @@ impl<T: Integer, V: Eq + Clone> RangeTable<T, V> {
         ensures same { IfOk result (λ copy. SameEntries V.eq self.now.entries copy.entries) }
         ensures uncounted { IfOk result (λ copy. copy ≡ uncounted copy.entries) }
     {
-        let _ = &self.entries;
         let copy = clone_entries(&self.entries)?;
         let entries = Entries::from_sorted(self.entries.allocator(), copy)?;
         Ok(RangeTable {
@@ -215,7 +212,6 @@ impl<T: Integer, V: Eq + Clone> RangeTable<T, V> {
         ensures counted { OnOk result (IsCountedPaint self.old self.new) }
         ensures err { OnErr result (self.new.entries ≡ self.old.entries) }
     {
-        let _ = &self.entries;
         let old_len = self.len;
         let new_len = paint(&mut self.entries.counted, old_len, lo, hi, value)?;
         self.len = new_len;
@@ -235,7 +231,6 @@ impl<T: Integer, V: Eq + Clone> RangeTable<T, V> {
         ensures counted { OnOk result (IsCountedPaint self.old self.new) }
         ensures err { OnErr result (self.new.entries ≡ self.old.entries) }
     {
-        let _ = &self.entries;
         let old_len = self.len;
         let new_len = paint_by_splice(&mut self.entries.counted, old_len, lo, hi, value)?;
         self.len = new_len;
@@ -256,7 +251,6 @@ impl<T: Integer, V: Eq + Clone> RangeTable<T, V> {
         ensures refused { OnErr result (IsAmongOthers (T.rank key) self.old.entries) }
         ensures err { OnErr result (self.new.entries ≡ self.old.entries) }
     {
-        let _ = &self.entries;
         let old_len = self.len;
         let (value, len) = cut(&mut self.entries.counted, old_len, key)?;
         self.len = len;
@@ -275,7 +269,6 @@ impl<T: Integer, V: Eq + Clone> RangeTable<T, V> {
             ≡ record self.old { entries = self.new.entries }) }
         ensures err { OnErr result (self.new ≡ self.old) }
     {
-        let _ = &self.entries;
         let (kept, len) = retain_keys(&self.entries, self.len, &f)?;
         self.entries.set_sorted(kept)?;
         self.len = len;
@@ -291,7 +284,6 @@ impl<T: Integer, V: Eq + Clone> RangeTable<T, V> {
             ≡ record self.old { entries = self.new.entries }) × (from ≡ uncounted from.entries)) }
         ensures err { OnErr result (self.new ≡ self.old) }
     {
-        let _ = &self.entries;
         let old_len = self.len;
         let (entries, below_len, from_len) = split(&mut self.entries, key, old_len)?;
         self.len = below_len;
