@@ -54,7 +54,7 @@ pub mod Canonicals
 pub mod Held
 pub mod Pieces
 pub mod Pushed
-pub mod Starts
+pub mod Placed
 pub mod Underway
 pub mod Waitings
 pub mod Filling
