@@ -207,7 +207,7 @@ impl<T: Integer, V: Drop> Counted<T, V> {
         replace(&mut self.tree, start, EndValue { end, value });
     }
 
-    /// Puts an entry in, at a start where none is.
+    /// Puts an entry in, at a start where none is. Refused memory leaves the entries.
     pub fn insert(&mut self, start: T, end: T, value: V) -> Result<(), AllocError>
         requires { start_at (T.rank start) self.old.entries ≡ None }
         ensures ok { OnOk result (self.new
@@ -269,7 +269,7 @@ impl<T: Integer, V: Drop> Counted<T, V> {
         value_of(remove(&mut self.tree, start))
     }
 
-    /// Moves the entry at a start to another start, where none is, with its end and value.
+    /// Moves the entry at a start to another start, where none is, with its end and value. Refused memory leaves it.
     pub fn move_start(&mut self, from: T, to: T) -> Result<(), AllocError>
         requires present { IsSome (start_at (T.rank from) self.old.entries) }
         requires absent { start_at (T.rank to) self.old.entries ≡ None }
@@ -296,7 +296,7 @@ impl<T: Integer, V: Drop> Counted<T, V> {
     }
 
     /// Replaces the front of the entry at a start: it has another end and value, and what it had is an entry from another
-    /// start on, where none is.
+    /// start on, where none is. Refused memory leaves the entries.
     pub fn replace_front(&mut self, start: T, end: T, value: V, to: T) -> Result<(), AllocError>
         requires present { IsSome (start_at (T.rank start) self.old.entries) }
         requires absent { start_at (T.rank to) self.old.entries ≡ None }
@@ -382,7 +382,7 @@ impl<T: Integer, V: Eq> Counted<T, V> {
 }
 
 impl<T: Integer, V: Clone> Counted<T, V> {
-    /// A clone of the value of the entry at a start.
+    /// A clone of the value of the entry at a start. Refused memory leaves the entries.
     pub fn clone_value(&mut self, start: T) -> Result<V, AllocError>
         requires { IsSome (start_at (T.rank start) self.old.entries) }
         ensures value { IfOk result

@@ -7,10 +7,10 @@ use Rattle.std.proofs.lemmas.Int.{ints}
 use Rattle.std.proofs.lemmas.List.{map-append}
 use Rattle.blaze_table.specs.Entries.{Entry, entry, at}
 use Rattle.blaze_table.specs.Canonical.{IsApart, IsCanonical, AreKeys, IsRangeMap}
-use Rattle.blaze_table.proofs.Lookup.{IsAbove, IsAbove-from_apart, at_in, at_under, at_over, at_before, by_place}
+use Rattle.blaze_table.proofs.Lookup.{IsAbove, IsAbove-from_apart, at_in, at_under, at_over, at_before, by_place, above_low, above_rest}
 use Rattle.blaze_table.proofs.Runs.{canonical, one_per_run}
 use Rattle.blaze_streams.specs.Fills.{with_none, none_before, filled, IsFilled}
-use Rattle.blaze_streams.proofs.GapLists.{by_gap, above_low}
+use Rattle.blaze_streams.proofs.GapLists.{by_gap}
 
 module _ {V : Type 0} (eq : V → V → Bool) (high : ℤ) where
   -- what a gap and the list after it are, by whether the gap has keys
@@ -21,11 +21,8 @@ module _ {V : Type 0} (eq : V → V → Bool) (high : ℤ) where
   some_of : Entry V → Entry (Option V)
   some_of e = entry e.lo e.hi (Some e.value)
 
-  rest_above : (b : ℤ) (e : Entry V) (es : List (Entry V)) → IsCanonical eq (e ∷ es) → b ≡ e.hi → IsAbove b es
-  rest_above b e es c p = subst (λ z. IsAbove z es) (sym p) (IsAbove-from_apart eq e es c.1)
-
   rest : (e : Entry V) (es : List (Entry V)) → IsCanonical eq (e ∷ es) → IsAbove (e.hi +ℤ pos 1 -ℤ pos 1) es
-  rest e es c = rest_above (e.hi +ℤ pos 1 -ℤ pos 1) e es c (omega (arith, ints))
+  rest e es c = above_rest eq (e.hi +ℤ pos 1 -ℤ pos 1) e es (omega (arith, ints)) c
 
   above_filled : (n : ℤ) (es : List (Entry V)) → IsAbove (n -ℤ pos 1) es → IsAbove (n -ℤ pos 1) (filled n high es)
   above_filled n [] a = by_none (IsAbove (n -ℤ pos 1)) n (high +ℤ pos 1) (λ h. omega (arith, ints)) (λ h. tt)

@@ -36,9 +36,7 @@ pub use multiway::{
     MultiwaySymmetricDifferenceMap, MultiwayUnionMap,
 };
 pub use owned::Owned;
-pub use segmenting::join_answers::{
-    answer_both, answer_either, answer_left, full_join_of, inner_join_of, left_join_of,
-};
+pub use segmenting::join_answers::{full_join_of, inner_join_of, left_join_of};
 pub use segmenting::joins::{JoinKind, join_of};
 pub use segmenting::list_segments::{Segment, segments};
 pub use sorted_disjoint::SortedDisjoint;

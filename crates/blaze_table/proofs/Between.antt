@@ -2,13 +2,14 @@
 use Rattle.std.proofs.Common.{◌≡◌, ℤ, pos, ◌+ℤ◌, ◌-ℤ◌, ◌≤ℤ◌, ◌<ℤ◌, Bool, cond, List, [], ◌∷◌, ◌++◌, Option, Some, None, refl, ◌∙◌, sym, ap, subst, arith, inl, inr}
 use Rattle.std.specs.Prelude.{int_lt, IsSome, ◌⊎◌, find}
 use Rattle.std.proofs.lemmas.Int.{ints, by_lt_z}
+use Rattle.blaze_int.proofs.Tests.{lt_true, lt_false}
 use Rattle.blaze_entries.specs.Starts.{StartsAscend, last_below}
 use Rattle.blaze_table.specs.Entries.{Entry, at}
 use Rattle.blaze_table.specs.Canonical.{IsCanonical}
 use Rattle.blaze_table.specs.Gap.{IsGap, IsClearFrom}
 use Rattle.blaze_table.specs.Splice.{IsBelow}
 use Rattle.blaze_table.proofs.Lookup.{at_in, at_under, at_over}
-use Rattle.blaze_table.proofs.NextEntries.{lt_yes, lt_no, last, front_ends}
+use Rattle.blaze_table.proofs.NextEntries.{last, front_ends}
 use Rattle.blaze_table.proofs.Splits.{LastAt, no_last_from, canonical_part}
 
 none_some : {X : Type 0} (o : Option X) → o ≡ None → IsSome o → ⊥
@@ -74,7 +75,7 @@ module _ {V : Type 0} (eq : V → V → Bool) where
     there = λ e p. cc;
   }
   above_gap k b high (e ∷ es) c a n = by_lt_z k e.lo
-      (λ l. subst (IsAboveGap k (e ∷ es)) (sym (ap (λ t. cond t (Some e) (find (λ x. int_lt k x.lo) es)) (lt_yes k e.lo l)))
+      (λ l. subst (IsAboveGap k (e ∷ es)) (sym (ap (λ t. cond t (Some e) (find (λ x. int_lt k x.lo) es)) (lt_true k e.lo l)))
       (record {
         none = λ p. cc;
         clear = λ f p j m u. let same : e ≡ f = cc in at_none j e.lo high (e ∷ es) (subst (λ (x : Entry V). j <ℤ x.lo) (sym same) u) (omega (arith, ints), a.1, a.2);
@@ -84,7 +85,7 @@ module _ {V : Type 0} (eq : V → V → Bool) where
       (λ l.
       let u = ends_before k e es n l in
       let i = above_gap k (e.lo +ℤ pos 1) high es c.2 a.2 (sym (at_over e es k u) ∙ n) in
-      subst (IsAboveGap k (e ∷ es)) (sym (ap (λ t. cond t (Some e) (find (λ x. int_lt k x.lo) es)) (lt_no k e.lo l)))
+      subst (IsAboveGap k (e ∷ es)) (sym (ap (λ t. cond t (Some e) (find (λ x. int_lt k x.lo) es)) (lt_false k e.lo l)))
       (record {
         none = λ p j m. at_over e es j (omega (arith, ints)) ∙ i.none p j m;
         clear = λ f p j m v. at_over e es j (omega (arith, ints)) ∙ i.clear f p j m v;

@@ -4,18 +4,19 @@ use Rattle.std.proofs.Common.{◌≡◌, ℕ, suc, ◌+◌, ◌-◌, ◌*◌, �
 use Rattle.std.specs.Prelude.{int_le, ◌⊎◌}
 use Rattle.std.specs.Cmp.{IsEquivalence}
 use Rattle.std.proofs.lemmas.Int.{ints, by_lt_z}
+use Rattle.blaze_int.proofs.Tests.{le_true, le_false}
+use Rattle.blaze_entries.proofs.Alike.{same_along, same_itself, same_trans, same_or_right, same_back, or_none, or_assoc}
 use Rattle.blaze_table.specs.Entries.{Entry, at, holds, SameOption}
 use Rattle.blaze_table.specs.Canonical.{AreKeys, IsCanonical, IsRangeMap}
 use Rattle.blaze_table.specs.Painted.{last_at, painted_in_order}
 use Rattle.blaze_table.specs.Splice.{IsListPainted, paint, after}
-use Rattle.blaze_table.proofs.Lookup.{IsAbove, IsAbove-from_apart, at_in, at_under, at_over, by_place}
+use Rattle.blaze_table.proofs.Lookup.{IsAbove, IsAbove-from_apart, at_in, at_under, at_over, by_place, above_by}
 use Rattle.blaze_table.proofs.Painted.{entries_themselves, is_painted, painted_nowhere, length_as}
 use Rattle.blaze_table.proofs.Runs.{canonical, one_per_run}
-use Rattle.blaze_table.proofs.Splices.{le_true, le_false}
-use Rattle.blaze_table.proofs.Unique.{same_along, same_itself, same_trans, unique}
+use Rattle.blaze_table.proofs.Unique.{unique}
 use Rattle.blaze_table.specs.CanonicalOf.{keyed, IsCanonicalOf}
 use Rattle.blaze_table.specs.Swept.{AreApart, IsSwept, IsCanonicalAfter}
-use Rattle.blaze_table.proofs.Lasts.{or_none, or_or, painted_one, last_below, last_first, last_over}
+use Rattle.blaze_table.proofs.Lasts.{painted_one, last_below, last_first, last_over}
 use Rattle.blaze_table.proofs.Sweeps.{at_past}
 
 -- whether the pair has a key, as a number
@@ -44,10 +45,6 @@ record IsPaintedEach {V : Type 0} (eq : V → V → Bool) (ps old new : List (En
   alone : old ≡ [] → length new ≤ 2 * keyed ps - 1
 
 module _ {V : Type 0} (eq : V → V → Bool) (laws : IsEquivalence eq) where
-  same_in_or : (a x y : Option V) → SameOption eq x y → SameOption eq (option_or a x) (option_or a y)
-  same_in_or None x y s = s
-  same_in_or (Some v) x y s = laws.refl v
-
   -- one pair is painted
   one_painted : (p : Entry V) (old : List (Entry V)) → IsCanonical eq old → (cur : List (Entry V)) × IsPaintedOne eq p old cur
   one_painted p old c = by_lt_z p.hi p.lo
@@ -64,8 +61,8 @@ module _ {V : Type 0} (eq : V → V → Bool) (laws : IsEquivalence eq) where
           canonical = rest.1.canonical;
           content = λ k. same_trans eq laws (at rest.0 k) (option_or (last_at ps k) (at one.0 k)) (painted_in_order (p ∷ ps) (at old) k) (rest.1.content k)
               (subst (SameOption eq (option_or (last_at ps k) (at one.0 k)))
-              (ap (option_or (last_at ps k)) (painted_one (holds p k) p.value (at old k)) ∙ sym (or_or (last_at ps k) (cond (holds p k) (Some p.value) None) (at old k)))
-              (same_in_or (last_at ps k) (at one.0 k) (cond (holds p k) (Some p.value) (at old k)) (one.1.list.content k)));
+              (ap (option_or (last_at ps k)) (painted_one (holds p k) p.value (at old k)) ∙ sym (or_assoc (last_at ps k) (cond (holds p k) (Some p.value) None) (at old k)))
+              (same_or_right eq laws (last_at ps k) (at one.0 k) (cond (holds p k) (Some p.value) (at old k)) (one.1.list.content k)));
           few = ⊎_elim
               (λ (n : (one.0 ≡ old) × (is_keyed p ≡ 0)). let same = ap length n.0 in omega (arith, rest.1.few, same, n.1))
               (λ (n : is_keyed p ≡ 1). omega (arith, rest.1.few, one.1.list.few, n))
@@ -84,27 +81,17 @@ module _ {V : Type 0} (eq : V → V → Bool) (laws : IsEquivalence eq) where
       let content = λ (k : ℤ). same_along eq {a = at out k} {b = last_at ps k} refl (sym (or_none (last_at ps k)))
       (by_lt_z k a (c.content k) (λ h. same_along eq {a = None} {b = None} (sym (at_past a k out c.below h)) (sym (none k h)) tt)) in
       let same = unique eq laws each.0 out each.1.canonical c.canonical
-      (λ k. same_trans eq laws (at each.0 k) (painted_in_order ps (at []) k) (at out k) (each.1.content k) (same_back (at out k) (painted_in_order ps (at []) k) (content k))) in
+      (λ k. same_trans eq laws (at each.0 k) (painted_in_order ps (at []) k) (at out k) (each.1.content k) (same_back eq laws (at out k) (painted_in_order ps (at []) k) (content k))) in
       record {
         range_map = record { runs = one_per_run eq laws out c.canonical; keys = c.keys };
         content = content;
         few = omega (arith, length_as eq laws each.0 out same, each.1.alone refl);
       }
-    where
-      same_back : (x y : Option V) → SameOption eq x y → SameOption eq y x
-      same_back None None h = tt
-      same_back None (Some y) h = h
-      same_back (Some x) None h = h
-      same_back (Some x) (Some y) h = laws.symm y x ∙ h
 
   -- a list that is canonical already is its own canonical list
   apart_above : (b : ℤ) (es : List (Entry V)) → IsCanonical eq es → IsAbove (b -ℤ pos 1) es → AreApart b es
   apart_above b [] c a = tt
-  apart_above b (e ∷ es) c a = (omega (arith, ints, a), c.0, apart_above (e.hi +ℤ pos 1) es c.2 (above_more e.hi (e.hi +ℤ pos 1 -ℤ pos 1) es (omega (arith, ints)) (IsAbove-from_apart eq e es c.1)))
-    where
-      above_more : (x y : ℤ) (fs : List (Entry V)) → y ≤ℤ x → IsAbove x fs → IsAbove y fs
-      above_more x y [] l h = tt
-      above_more x y (f ∷ fs) l h = omega (arith, ints, h)
+  apart_above b (e ∷ es) c a = (omega (arith, ints, a), c.0, apart_above (e.hi +ℤ pos 1) es c.2 (above_by e.hi (e.hi +ℤ pos 1 -ℤ pos 1) es (omega (arith, ints)) (IsAbove-from_apart eq e es c.1)))
 
   at_is_last : (b k : ℤ) (es : List (Entry V)) → AreApart b es → at es k ≡ last_at es k
   at_is_last b k [] a = refl

@@ -3,11 +3,12 @@ use Rattle.std.proofs.Common.{◌≡◌, ℤ, pos, ◌+ℤ◌, ◌≤ℤ◌, ◌
 use Rattle.std.specs.Prelude.{IsSome, int_lt, int_le}
 use Rattle.std.specs.Option.{option_map}
 use Rattle.std.proofs.lemmas.Int.{ints, by_lt_z}
+use Rattle.blaze_int.proofs.Tests.{lt_true, lt_false, le_true, le_false}
 use Rattle.blaze_entries.specs.Found.{range_in}
 use Rattle.blaze_entries.specs.Starts.{StartsAscend, below, from, first_from, start_at, without}
 use Rattle.blaze_entries.proofs.Halves.{starts_from, from_all}
+use Rattle.blaze_entries.proofs.Alike.{none_from_map}
 use Rattle.blaze_table.specs.Entries.{Entry}
-use Rattle.blaze_table.proofs.Splices.{lt_true, lt_false, le_true, le_false}
 use Rattle.blaze_table.proofs.Splits.{halves, first_there, no_first}
 use Rattle.blaze_table.proofs.EditLists.{below_without, from_without}
 
@@ -39,10 +40,6 @@ module _ {V : Type 0} where
   started s t None p = cc
   started s t (Some e) p = let q : (s, t) ≡ range_in e = cc in (e, (refl, sym (ap (λ (x : ℤ × ℤ). x.0) q)))
 
-  pub none_started : (o : Option (Entry V)) → None ≡ option_map range_in o → o ≡ None
-  none_started None p = refl
-  none_started (Some e) p = cc
-
   module _ (f k z low high : ℤ) (l : f ≤ℤ z) (at : k ≡ f +ℤ pos 1) (cur was args : List (Entry V)) (h : StartsAscend low high cur) (same : cur ≡ was) where
     parted : from (f +ℤ pos 1) cur ≡ from (z +ℤ pos 1) cur → below (f +ℤ pos 1) was ≡ below (f +ℤ pos 1) args → from (z +ℤ pos 1) was ≡ from (z +ℤ pos 1) args → cur ≡ below (f +ℤ pos 1) args ++ from (z +ℤ pos 1) args
     parted p a b = halves (f +ℤ pos 1) low high cur h ∙ ap (λ t. below (f +ℤ pos 1) cur ++ t) p
@@ -65,7 +62,7 @@ module _ {V : Type 0} where
     pub ended : None ≡ option_map range_in (first_from k was)
         → below (f +ℤ pos 1) was ≡ below (f +ℤ pos 1) args → from (z +ℤ pos 1) was ≡ from (z +ℤ pos 1) args → cur ≡ below (f +ℤ pos 1) args ++ from (z +ℤ pos 1) args
     ended p a b =
-        let none = no_first (f +ℤ pos 1) cur (ap (first_from (f +ℤ pos 1)) same ∙ ap (λ x. first_from x was) (sym at) ∙ none_started (first_from k was) p) in
+        let none = no_first (f +ℤ pos 1) cur (ap (first_from (f +ℤ pos 1)) same ∙ ap (λ x. first_from x was) (sym at) ∙ none_from_map range_in (first_from k was) p) in
         let mid = from_from (f +ℤ pos 1) (z +ℤ pos 1) cur (omega (arith, ints)) in
         parted (none ∙ sym (ap (from (z +ℤ pos 1)) none) ∙ mid) a b
 

@@ -2,14 +2,16 @@
 use Rattle.std.proofs.Common.{◌≡◌, ℤ, pos, ◌+ℤ◌, ◌≤ℤ◌, Bool, List, [], ◌∷◌, ◌++◌, Some, refl, ◌∙◌, sym, subst, ap, arith}
 use Rattle.std.specs.Prelude.{int_lt, int_le}
 use Rattle.std.proofs.lemmas.Int.{ints, by_lt_z}
+use Rattle.std.proofs.lemmas.List.{append_assoc}
+use Rattle.std.proofs.lemmas.List.Elements.{filter-append}
 use Rattle.blaze_entries.specs.Starts.{StartsAscend, below, from, start_at, with_end}
-use Rattle.blaze_entries.proofs.Halves.{StartsBelow, below_takes, from_skips, below_all, below_none, from_none}
+use Rattle.blaze_entries.proofs.Halves.{StartsBelow, below_takes, from_skips, below_all, below_none, from_none, more_below}
 use Rattle.blaze_table.specs.Entries.{Entry, entry}
 use Rattle.blaze_table.specs.Canonical.{IsCanonical}
 use Rattle.blaze_table.specs.Planned.{starts_in, ends_in, IsRestKept, IsStartPut, IsPutAt, IsExtended}
 use Rattle.blaze_table.specs.Splice.{before}
 use Rattle.blaze_table.proofs.Splices.{by_before, before_ends, before_keeps, before_cuts}
-use Rattle.blaze_table.proofs.Splits.{starts_below, halves, from_at, filter_append, append_assoc, more_below}
+use Rattle.blaze_table.proofs.Splits.{starts_below, halves, from_at}
 use Rattle.blaze_table.proofs.EditLists.{end_put}
 use Rattle.blaze_table.proofs.Clearing.{below_from, from_from}
 use Rattle.blaze_table.proofs.StartsIn.{amid_same}
@@ -53,7 +55,7 @@ module _ {V : Type 0} (eq : V → V → Bool) where
       put_amid c3 q =
           let front = before l (below l c2) in
           let front_below = more_below l (l +ℤ pos 1) front (omega (arith, ints)) (starts_before l (below l c2) put_canonical) in
-          amid_same (l +ℤ pos 1) (z +ℤ pos 1) c3 c2 (ap (from (l +ℤ pos 1)) q ∙ filter_append (λ x. int_le (l +ℤ pos 1) x.lo) front (from l c2)
+          amid_same (l +ℤ pos 1) (z +ℤ pos 1) c3 c2 (ap (from (l +ℤ pos 1)) q ∙ filter-append (λ x. int_le (l +ℤ pos 1) x.lo) front (from l c2)
           ∙ ap (λ x. x ++ from (l +ℤ pos 1) (from l c2)) (from_none (l +ℤ pos 1) front front_below) ∙ from_from l (l +ℤ pos 1) c2 (omega (arith, ints))) ∙ r.amid
 
       pub put_at : StartsAscend low high c2 → (c3 c4 : List (Entry V)) → c3 ≡ before l (below l c2) ++ from l c2 → c4 ≡ below (l +ℤ pos 1) c3 ++ from (z +ℤ pos 1) c3 → IsPutAt eq p es c4
@@ -63,11 +65,11 @@ module _ {V : Type 0} (eq : V → V → Bool) where
           let front_below = starts_before l (below l es) (canonical_below l low high es s c) in
           let third : c3 ≡ front ++ p ∷ from (l +ℤ pos 1) c2 = q ∙ ap (λ x. before l x ++ from l c2) r.below ∙ ap (λ x. front ++ x) (from_at l low high p c2 s2 r.here).1 in
           let low_part : below (l +ℤ pos 1) c3 ≡ front ++ p ∷ [] =
-          ap (below (l +ℤ pos 1)) third ∙ filter_append (λ x. int_lt x.lo (l +ℤ pos 1)) front (p ∷ from (l +ℤ pos 1) c2)
+          ap (below (l +ℤ pos 1)) third ∙ filter-append (λ x. int_lt x.lo (l +ℤ pos 1)) front (p ∷ from (l +ℤ pos 1) c2)
           ∙ ap (λ x. x ++ below (l +ℤ pos 1) (p ∷ from (l +ℤ pos 1) c2)) (below_all (l +ℤ pos 1) front (more_below l (l +ℤ pos 1) front (omega (arith, ints)) front_below))
           ∙ ap (λ x. front ++ x) (below_takes (l +ℤ pos 1) p (from (l +ℤ pos 1) c2) (omega (arith, ints)) ∙ ap (λ x. p ∷ x) (below_from (l +ℤ pos 1) (l +ℤ pos 1) c2 (omega (arith, ints)))) in
           let high_part : from (z +ℤ pos 1) c3 ≡ above =
-          ap (from (z +ℤ pos 1)) third ∙ filter_append (λ x. int_le (z +ℤ pos 1) x.lo) front (p ∷ from (l +ℤ pos 1) c2)
+          ap (from (z +ℤ pos 1)) third ∙ filter-append (λ x. int_le (z +ℤ pos 1) x.lo) front (p ∷ from (l +ℤ pos 1) c2)
           ∙ ap (λ x. x ++ from (z +ℤ pos 1) (p ∷ from (l +ℤ pos 1) c2)) (from_none (z +ℤ pos 1) front (more_below l (z +ℤ pos 1) front (omega (arith, ints)) front_below))
           ∙ from_skips (z +ℤ pos 1) p (from (l +ℤ pos 1) c2) (omega (arith, ints)) ∙ from_from (l +ℤ pos 1) (z +ℤ pos 1) c2 (omega (arith, ints)) in
           record {
@@ -84,7 +86,7 @@ module _ {V : Type 0} (eq : V → V → Bool) where
         let here = i.0 in
         let above = from (z +ℤ pos 1) c1 in
         let whole : below (f +ℤ pos 1) es ≡ below f es ++ e ∷ [] =
-        ap (below (f +ℤ pos 1)) (halves f low high es s) ∙ filter_append (λ x. int_lt x.lo (f +ℤ pos 1)) (below f es) (from f es)
+        ap (below (f +ℤ pos 1)) (halves f low high es s) ∙ filter-append (λ x. int_lt x.lo (f +ℤ pos 1)) (below f es) (from f es)
         ∙ ap (λ x. x ++ below (f +ℤ pos 1) (from f es)) (below_all (f +ℤ pos 1) (below f es) (more_below f (f +ℤ pos 1) (below f es) (omega (arith, ints)) (starts_below f es)))
         ∙ ap (λ x. below f es ++ below (f +ℤ pos 1) x) i.1
         ∙ ap (λ x. below f es ++ x) (below_takes (f +ℤ pos 1) e (from (f +ℤ pos 1) es) (omega (arith, ints)) ∙ ap (λ x. e ∷ x) (below_from (f +ℤ pos 1) (f +ℤ pos 1) es (omega (arith, ints)))) in

@@ -7,7 +7,7 @@ use Rattle.blaze_table.specs.Canonical.{IsApart, IsCanonical, AreKeys}
 use Rattle.blaze_table.specs.Count.{keys_in}
 use Rattle.blaze_table.specs.Splice.{before, after, glue, IsPaintOf, overlap, covered}
 use Rattle.blaze_table.specs.Table.{IsTable}
-use Rattle.blaze_table.proofs.Lookup.{IsAbove, IsAbove-from_apart}
+use Rattle.blaze_table.proofs.Lookup.{IsAbove, IsAbove-from_apart, above_by}
 use Rattle.blaze_table.proofs.Splices.{by_before, by_after, by_join, canonical_paint}
 
 module _ {V : Type 0} where
@@ -54,10 +54,6 @@ module _ {V : Type 0} (eq : V → V → Bool) where
   pub before_none : (l : ℤ) (es : List (Entry V)) → IsCanonical eq es → IsAbove (l -ℤ pos 1) es → before l es ≡ []
   before_none l [] c a = refl
   before_none l (e ∷ es) c a = by_before l e es (λ h p. absurd (omega (arith, ints, c.0))) (λ h m p. absurd (omega (arith, ints))) (λ h m p. p)
-
-  pub above_by : (b c : ℤ) (es : List (Entry V)) → c ≤ℤ b → IsAbove b es → IsAbove c es
-  above_by b c [] l a = tt
-  above_by b c (e ∷ es) l a = omega (arith, ints)
 
   pub keys_glue : (L M : List (Entry V)) → keys_in (glue eq L M) ≡ keys_in L +ℤ keys_in M
   keys_glue [] M = omega (arith, ints)

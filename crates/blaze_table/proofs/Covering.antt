@@ -4,6 +4,7 @@ use Rattle.std.specs.Prelude.{int_lt, int_le, reverse}
 use Rattle.std.specs.Option.{is_some}
 use Rattle.std.proofs.lemmas.Int.{ints, by_lt_z}
 use Rattle.std.proofs.lemmas.List.{reverse-append}
+use Rattle.blaze_int.proofs.Tests.{lt_true, lt_false, le_true, le_false}
 use Rattle.blaze_entries.specs.Found.{found_in}
 use Rattle.blaze_entries.specs.Scanned.{seen_covered, walked_covered}
 use Rattle.blaze_entries.specs.Starts.{StartsAscend, below}
@@ -11,10 +12,9 @@ use Rattle.blaze_entries.proofs.Halves.{below_takes, below_none, starts_of_below
 use Rattle.blaze_table.specs.Entries.{Entry, entry}
 use Rattle.blaze_table.specs.Canonical.{IsCanonical}
 use Rattle.blaze_table.specs.Planned.{ends_in, least, IsEndAfter, IsEnd}
-use Rattle.blaze_table.proofs.Lookup.{IsAbove, IsAbove-from_apart}
+use Rattle.blaze_table.proofs.Lookup.{IsAbove, IsAbove-from_apart, above_by}
 use Rattle.blaze_table.proofs.Outside.{StartsFrom, ascend_from, reverse_from}
-use Rattle.blaze_table.proofs.Plans.{above_more}
-use Rattle.blaze_table.proofs.Splices.{by_after, lt_true, lt_false, le_true, le_false}
+use Rattle.blaze_table.proofs.Splices.{by_after}
 use Rattle.blaze_table.proofs.StartsIn.{ends_takes, ends_under, ends_over, no_ends}
 
 module _ {V : Type 0} (eq : V → V → Bool) (v : V) (l h : ℤ) where
@@ -82,7 +82,7 @@ module _ {V : Type 0} (eq : V → V → Bool) (v : V) (l h : ℤ) where
     first_alone u = ap gathered (below_takes (h +ℤ pos 2) e es u ∙ ap (λ t. e ∷ t) none_behind)
 
     no_more : z ≤ℤ e.hi → ends_in l z es ≡ []
-    no_more u = no_ends eq l z es (above_more eq z e.hi es u (IsAbove-from_apart eq e es c.1)) c.2
+    no_more u = no_ends eq l z es (above_by e.hi z es u (IsAbove-from_apart eq e es c.1)) c.2
 
     -- it is not joined with the range
     apart : z ≡ h → eq e.value v ≡ false → e.lo <ℤ (h +ℤ pos 2) → gathered (below (h +ℤ pos 2) (e ∷ es)) ≡ least (ends_in l z (e ∷ es))

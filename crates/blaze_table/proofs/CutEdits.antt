@@ -6,6 +6,7 @@ use Rattle.std.specs.Option.{option_map}
 use Rattle.std.proofs.lemmas.Int.{ints}
 use Rattle.blaze_entries.specs.Found.{range_in}
 use Rattle.blaze_entries.specs.Starts.{StartsAscend, last_below, start_at, with_entry, without, with_end, IsStartMoved}
+use Rattle.blaze_entries.proofs.Alike.{same_along, none_from_map}
 use Rattle.blaze_table.specs.Entries.{Entry, entry, at, entry_at, SameOption}
 use Rattle.blaze_table.specs.Canonical.{IsCanonical}
 use Rattle.blaze_table.specs.Cut.{IsAmongOthers}
@@ -16,7 +17,6 @@ use Rattle.blaze_table.proofs.Holders.{Holder, there, is_holder, taken_out, put_
 use Rattle.blaze_table.proofs.Lookup.{IsAbove, IsAbove-from_apart, at_over, at_before, entry_in, entry_over}
 use Rattle.blaze_table.proofs.Splices.{below_more}
 use Rattle.blaze_table.proofs.Splits.{no_last_from}
-use Rattle.blaze_table.proofs.Unique.{same_along}
 
 module _ {V : Type 0} where
   -- the entry at a key behind others
@@ -127,12 +127,8 @@ module _ {V : Type 0} (eq : V → V → Bool) (laws : IsEquivalence eq) (k high 
 
 -- no entry starts up to the key
 pub nothing_below : {V : Type 0} (eq : V → V → Bool) (k low high : ℤ) (es : List (Entry V)) → StartsAscend low high es → IsCanonical eq es → None ≡ option_map range_in (last_below (k +ℤ pos 1) es) → at es k ≡ None
-nothing_below {V} eq k low high es a c p = at_before eq es k k c (above_from es (no_last_from (k +ℤ pos 1) low high es a (no_look (last_below (k +ℤ pos 1) es) p))) (omega (arith, ints))
+nothing_below {V} eq k low high es a c p = at_before eq es k k c (above_from es (no_last_from (k +ℤ pos 1) low high es a (none_from_map range_in (last_below (k +ℤ pos 1) es) p))) (omega (arith, ints))
   where
-    no_look : (o : Option (Entry V)) → None ≡ option_map range_in o → o ≡ None
-    no_look None p = refl
-    no_look (Some e) p = cc
-
     above_from : (ys : List (Entry V)) → StartsAscend (k +ℤ pos 1) high ys → IsAbove k ys
     above_from [] a = tt
     above_from (y ∷ ys) a = omega (arith, ints, a.0)

@@ -5,43 +5,35 @@ use Rattle.std.specs.Cmp.{IsEquivalence}
 use Rattle.std.specs.Ordering.{int_eq}
 use Rattle.std.specs.Prelude.{◌&&◌}
 use Rattle.std.proofs.lemmas.Int.{ints, by_lt_z}
+use Rattle.std.proofs.lemmas.Bool.{and_left}
+use Rattle.std.proofs.lemmas.List.{append-nil}
+use Rattle.blaze_int.proofs.Tests.{eq_true}
+use Rattle.blaze_entries.proofs.Alike.{same_along, same_trans, same_or_right}
 use Rattle.blaze_table.specs.Entries.{Entry, at, SameEntries, SameOption, entry}
 use Rattle.blaze_table.specs.Canonical.{IsCanonical, AreKeys}
 use Rattle.blaze_table.specs.Count.{keys_in}
 use Rattle.blaze_table.specs.Splice.{before, after, glue, IsBelow, IsCutOf, covered, IsListCut}
 use Rattle.blaze_table.specs.Cut.{cut_at}
 use Rattle.blaze_table.specs.Table.{IsTable}
-use Rattle.blaze_table.proofs.Lookup.{IsAbove, IsAbove-from_apart, at_in, at_over, at_before, by_place}
-use Rattle.blaze_table.proofs.Unique.{same_along, same_trans, back}
-use Rattle.blaze_table.proofs.Splices.{before_keeps, before_cuts, before_ends, after_skips, after_cuts, by_after, canonical_glue, canonical_before, canonical_after, at_glue, above_after, below_before, at-before_under, at-before_over, at-after_over}
+use Rattle.blaze_table.proofs.Lookup.{IsAbove, IsAbove-from_apart, at_in, at_over, at_before, by_place, above_by}
+use Rattle.blaze_table.proofs.Unique.{back}
+use Rattle.blaze_table.proofs.Splices.{before_keeps, before_cuts, before_ends, after_skips, after_cuts, by_after, canonical_glue, canonical_before, canonical_after, at_glue, above_after, below_before, at-before_under, at-before_over, at-after_over, below_more}
 use Rattle.blaze_table.proofs.Painted.{before_past, after_past, entries_themselves, canonical_as, above_as, content_as}
 use Rattle.blaze_table.proofs.Counted.{keys_apart, covered_none, overlap_whole, overlap_none, overlap_most, keys_glue, are_keys_glue, are_keys_before, are_keys_after, are_keys_as, same_keys_in}
-
-append_none : {X : Type 0} (xs : List X) → xs ++ [] ≡ xs
-append_none [] = refl
-append_none (x ∷ xs) = ap (λ l. x ∷ l) (append_none xs)
 
 module _ {V : Type 0} (eq : V → V → Bool) where
   after_all : (k : ℤ) (es : List (Entry V)) → IsCanonical eq es → IsAbove k es → after k es ≡ es
   after_all k [] c a = refl
   after_all k (e ∷ es) c a = by_after k e es (λ h p. absurd (omega (arith, ints, c.0))) (λ h l p. absurd (omega (arith, ints))) (λ h l p. p)
 
-  above_by : (b c : ℤ) (es : List (Entry V)) → c ≤ℤ b → IsAbove b es → IsAbove c es
-  above_by b c [] l a = tt
-  above_by b c (e ∷ es) l a = omega (arith, ints)
-
   -- lists that do not touch are glued end to end
   glue_apart : (k : ℤ) (L M : List (Entry V)) → IsBelow k L → IsAbove k M → glue eq L M ≡ L ++ M
   glue_apart k [] M l m = refl
   glue_apart k (e ∷ []) [] l m = refl
-  glue_apart k (e ∷ []) (f ∷ fs) l m = ap (λ b. cond b (entry e.lo f.hi e.value ∷ fs) (e ∷ f ∷ fs)) (not_next _ (eq e.value f.value) (apart_false f.lo (e.hi +ℤ pos 1) (omega (arith, ints, l.0))))
+  glue_apart k (e ∷ []) (f ∷ fs) l m = ap (λ b. cond b (entry e.lo f.hi e.value ∷ fs) (e ∷ f ∷ fs)) (and_left _ (eq e.value f.value) (apart_false f.lo (e.hi +ℤ pos 1) (omega (arith, ints, l.0))))
     where
       apart_false : (a b : ℤ) → b <ℤ a → int_eq a b ≡ false
       apart_false a b h = grind (arith, ints)
-
-      not_next : (a b : Bool) → a ≡ false → (a && b) ≡ false
-      not_next true b p = cc
-      not_next false b p = refl
   glue_apart k (e ∷ f ∷ L) M l m = ap (λ xs. e ∷ xs) (glue_apart k (f ∷ L) M l.1 m)
 
   -- nothing is at the key
@@ -67,7 +59,7 @@ module _ {V : Type 0} (eq : V → V → Bool) where
       pub cut_whole : IsCanonical eq C → IsAbove e.hi C → e.lo ≡ k → e.hi ≡ k → IsCutOf eq k (A ++ e ∷ C) (A ++ C)
       cut_whole c a l h =
           let above_is : after k (A ++ e ∷ C) ≡ C = after_past k k A (e ∷ C) (omega (arith, ints)) b ∙ after_skips k e C (omega (arith, ints)) ∙ after_all k C c (above_by e.hi k C (omega (arith, ints)) a) in
-          let below_is : before k (A ++ e ∷ C) ≡ A = before_past k A (e ∷ C) b ∙ ap (λ l. A ++ l) (before_ends k e C (omega (arith, ints)) (omega (arith, ints))) ∙ append_none A in
+          let below_is : before k (A ++ e ∷ C) ≡ A = before_past k A (e ∷ C) b ∙ ap (λ l. A ++ l) (before_ends k e C (omega (arith, ints)) (omega (arith, ints))) ∙ append-nil A in
           record {
             above = C;
             like = subst (λ l. SameEntries eq l C) (sym above_is) (entries_themselves eq laws C);
@@ -92,7 +84,7 @@ module _ {V : Type 0} (eq : V → V → Bool) where
       cut_start l h =
           let M = entry (k +ℤ pos 1) e.hi e.value ∷ C in
           let above_is : after k (A ++ e ∷ C) ≡ M = after_past k k A (e ∷ C) (omega (arith, ints)) b ∙ after_cuts k e C h (omega (arith, ints)) in
-          let below_is : before k (A ++ e ∷ C) ≡ A = before_past k A (e ∷ C) b ∙ ap (λ l. A ++ l) (before_ends k e C (omega (arith, ints)) (omega (arith, ints))) ∙ append_none A in
+          let below_is : before k (A ++ e ∷ C) ≡ A = before_past k A (e ∷ C) b ∙ ap (λ l. A ++ l) (before_ends k e C (omega (arith, ints)) (omega (arith, ints))) ∙ append-nil A in
           record {
             above = M;
             like = subst (λ l. SameEntries eq l M) (sym above_is) (entries_themselves eq laws M);
@@ -129,10 +121,6 @@ module _ {V : Type 0} (eq : V → V → Bool) (laws : IsEquivalence eq) (k : ℤ
   new_is : new ≡ glue eq (before k es) r.above
   new_is = r.joined ∙ sym (glue_apart eq k (before k es) r.above (below_before k es) over)
 
-  below_more : (b d : ℤ) (xs : List (Entry V)) → b ≤ℤ d → IsBelow b xs → IsBelow d xs
-  below_more b d [] l h = tt
-  below_more b d (e ∷ xs) l h = (omega (arith, ints, h.0), below_more b d xs l h.1)
-
   pub cut_canonical : IsCanonical eq new
   cut_canonical = subst (IsCanonical eq) (sym new_is) (canonical_glue eq laws k (before k es) r.above (canonical_before eq k es c) above_is (below_more k (k +ℤ pos 1) (before k es) (omega (arith, ints)) (below_before k es)) over)
 
@@ -144,29 +132,22 @@ module _ {V : Type 0} (eq : V → V → Bool) (laws : IsEquivalence eq) (k : ℤ
       (λ u. rw (at-before_under eq k j es c u, int_eq_no j k (λ e. omega (arith, ints))) (or_last (at es j) (at (after k es) j) (at_before eq (after k es) k j (canonical_after eq k es c) (above_after k es) (omega (arith, ints)))))
       (λ u. rw (at-before_over eq k j es u) (by_lt_z k j
       (λ w. rw (int_eq_no j k (λ e. omega (arith, ints))) (at-after_over eq k j es c w))
-      (λ w. at_before eq (after k es) k j (canonical_after eq k es c) (above_after k es) w ∙ here (at es j) (int_eq j k) (int_eq_yes j k (omega (arith, ints))))))
+      (λ w. at_before eq (after k es) k j (canonical_after eq k es c) (above_after k es) w ∙ here (at es j) (int_eq j k) (eq_true j k (omega (arith, ints))))))
     where
       or_last : (a b : Option V) → b ≡ None → option_or a b ≡ a
       or_last None b p = p
       or_last (Some x) b p = refl
 
-      int_eq_yes : (a b : ℤ) → a ≡ b → int_eq a b ≡ true
-      int_eq_yes a b h = grind (arith, ints)
-
       here : (o : Option V) (b : Bool) → b ≡ true → None ≡ cond b None o
       here o true p = refl
       here o false p = cc
-
-  same_or : (a x y : Option V) → SameOption eq x y → SameOption eq (option_or a x) (option_or a y)
-  same_or None x y s = s
-  same_or (Some v) x y s = laws.refl v
 
   pub cut_content : (j : ℤ) → SameOption eq (at new j) (cut_at k (at es) j)
   cut_content j =
       same_along eq (sym (ap (λ xs. at xs j) new_is)) refl
       (same_trans eq laws (at (glue eq (before k es) r.above) j) (option_or (at (before k es) j) (at r.above j)) (cut_at k (at es) j)
       (at_glue eq laws (before k es) r.above j (canonical_before eq k es c) above_is)
-      (same_along eq refl (two j) (same_or (at (before k es) j) (at r.above j) (at (after k es) j) (back eq laws (after k es) r.above (content_as eq laws (after k es) r.above r.like) j))))
+      (same_along eq refl (two j) (same_or_right eq laws (at (before k es) j) (at r.above j) (at (after k es) j) (back eq laws (after k es) r.above (content_as eq laws (after k es) r.above r.like) j))))
 
   pub cut_is : IsListCut eq k es new
   cut_is = record { canonical = cut_canonical; content = cut_content }
@@ -185,7 +166,7 @@ module _ {V : Type 0} (eq : V → V → Bool) (k : ℤ) where
   pub covered_one : (es : List (Entry V)) → IsCanonical eq es → (v : V) → SameOption eq (at es k) (Some v) → covered k k es ≡ pos 1
   covered_one [] c v s = absurd s
   covered_one (e ∷ es) c v s = by_place e k
-      (λ l h. omega (arith, ints, overlap_whole k k e l (omega (arith, ints)) h, covered_none eq k k es c.2 (above_by eq e.hi k es h (IsAbove-from_apart eq e es c.1))))
+      (λ l h. omega (arith, ints, overlap_whole k k e l (omega (arith, ints)) h, covered_none eq k k es c.2 (above_by e.hi k es h (IsAbove-from_apart eq e es c.1))))
       (λ l. absurd (same_along eq (at_before eq (e ∷ es) k k c l (omega (arith, ints))) refl s))
       (λ h. omega (arith, ints, overlap_none k k e c.0 h, covered_one es c.2 v (same_along eq (at_over e es k h) refl s)))
 

@@ -3,20 +3,16 @@ use Rattle.std.proofs.Common.{◌≡◌, ℤ, pos, ◌+ℤ◌, ◌≤ℤ◌, ◌
 use Rattle.std.specs.Prelude.{IsSome, int_lt, int_le}
 use Rattle.std.specs.Ordering.{int_eq}
 use Rattle.std.proofs.lemmas.Int.{ints}
+use Rattle.blaze_int.proofs.Tests.{eq_true}
 use Rattle.blaze_entries.specs.Starts.{below, from, start_at, with_entry, without, with_end, with_end_value}
 use Rattle.blaze_entries.proofs.Ascending.{by_order}
 use Rattle.blaze_entries.proofs.Halves.{StartsBelow, below_takes, below_skips, from_takes, from_skips}
+use Rattle.blaze_entries.proofs.Moves.{absent_next}
 use Rattle.blaze_table.specs.Entries.{Entry, entry}
-
-itself : (k : ℤ) → int_eq k k ≡ true
-itself k = by_order k k (λ o q r. absurd (omega (arith, ints))) (λ o q r. r) (λ o q r. absurd (omega (arith, ints)))
 
 module _ {V : Type 0} where
   none_some : (e : Entry V) → Some e ≡ None → ⊥
   none_some e p = cc
-
-  absent_later : (k : ℤ) (e : Entry V) (es : List (Entry V)) → int_eq k e.lo ≡ false → start_at k (e ∷ es) ≡ None → start_at k es ≡ None
-  absent_later k e es r n = sym (ap (λ t. cond t (Some e) (start_at k es)) r) ∙ n
 
   both_parts : (b : Bool) (e : Entry V) {xs ys : List (Entry V)} → xs ≡ ys → cond b (e ∷ xs) xs ≡ cond b (e ∷ ys) ys
   both_parts b e p = ap (λ t. cond b (e ∷ t) t) p
@@ -44,12 +40,12 @@ module _ {V : Type 0} where
   from_with p (f ∷ fs) n = by_order p.lo f.lo
       (λ o q r. rw q (from_takes p.lo p (f ∷ fs) (omega (arith, ints))))
       (λ o q r. absurd (none_some f (sym (ap (λ t. cond t (Some f) (start_at p.lo fs)) r) ∙ n)))
-      (λ o q r. rw q (from_skips p.lo f (with_entry p fs) o ∙ from_with p fs (absent_later p.lo f fs r n) ∙ ap (λ t. p ∷ t) (sym (from_skips p.lo f fs o))))
+      (λ o q r. rw q (from_skips p.lo f (with_entry p fs) o ∙ from_with p fs (absent_next p.lo f fs r n) ∙ ap (λ t. p ∷ t) (sym (from_skips p.lo f fs o))))
 
   pub start_with : (p : Entry V) (es : List (Entry V)) → start_at p.lo (with_entry p es) ≡ Some p
-  start_with p [] = rw (itself p.lo) refl
+  start_with p [] = rw (eq_true p.lo p.lo refl) refl
   start_with p (f ∷ fs) = by_order p.lo f.lo
-      (λ o q r. rw (q, itself p.lo) refl)
+      (λ o q r. rw (q, eq_true p.lo p.lo refl) refl)
       (λ o q r. rw (q, r) (ap (λ x. Some (entry x p.hi p.value)) (sym o)))
       (λ o q r. rw (q, r) (start_with p fs))
 
@@ -61,11 +57,11 @@ module _ {V : Type 0} where
       (λ o q r. rw q (ap (λ t. cond (int_eq k f.lo) (Some f) t) (start_beside k p fs n)))
 
   pub without_with : (p : Entry V) (es : List (Entry V)) → start_at p.lo es ≡ None → without p.lo (with_entry p es) ≡ es
-  without_with p [] n = rw (itself p.lo) refl
+  without_with p [] n = rw (eq_true p.lo p.lo refl) refl
   without_with p (f ∷ fs) n = by_order p.lo f.lo
-      (λ o q r. rw (q, itself p.lo) refl)
+      (λ o q r. rw (q, eq_true p.lo p.lo refl) refl)
       (λ o q r. absurd (none_some f (sym (ap (λ t. cond t (Some f) (start_at p.lo fs)) r) ∙ n)))
-      (λ o q r. rw (q, r) (ap (λ t. f ∷ t) (without_with p fs (absent_later p.lo f fs r n))))
+      (λ o q r. rw (q, r) (ap (λ t. f ∷ t) (without_with p fs (absent_next p.lo f fs r n))))
 
   -- an entry taken out
   pub start_beside_without : (k s : ℤ) (es : List (Entry V)) → (k ≡ s → ⊥) → start_at k (without s es) ≡ start_at k es
@@ -133,12 +129,6 @@ module _ {V : Type 0} where
       (λ o q r. rw (below_takes (k +ℤ pos 1) f fs (omega (arith, ints))) (rw r refl))
       (λ o q r. rw (below_takes (k +ℤ pos 1) f fs (omega (arith, ints))) (rw r (start_below k fs)))
 
-  -- the lengths
-  pub length-with_end_value : (k z : ℤ) (v : V) (es : List (Entry V)) → length (with_end_value k z v es) ≡ length es
-  length-with_end_value k z v [] = refl
-  length-with_end_value k z v (e ∷ es) = elim (int_eq k e.lo) as (λ t. length (cond t (entry e.lo z v ∷ es) (e ∷ with_end_value k z v es)) ≡ length (e ∷ es)) [
-    | true ↦ refl
-    | false ↦ omega (arith, length-with_end_value k z v es)
   ]
 
   pub length-with_end : (k z : ℤ) (es : List (Entry V)) → length (with_end k z es) ≡ length es

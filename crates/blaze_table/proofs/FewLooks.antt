@@ -3,6 +3,8 @@ use Rattle.std.proofs.Common.{◌≡◌, ◌+◌, ◌≤◌, ℤ, pos, ◌+ℤ�
 use Rattle.std.specs.Prelude.{reverse, Result, Ok, Err, OnOk}
 use Rattle.std.proofs.lemmas.Int.{ints, by_lt_z}
 use Rattle.std.proofs.lemmas.List.{reverse-append}
+use Rattle.std.proofs.lemmas.List.Elements.{filter-append}
+use Rattle.blaze_int.proofs.Tests.{lt_true, lt_false}
 use Rattle.blaze_entries.specs.Counted.{CountedEntries}
 use Rattle.blaze_entries.specs.Scanned.{answers}
 use Rattle.blaze_entries.specs.Starts.{StartsAscend, below, from}
@@ -12,10 +14,9 @@ use Rattle.blaze_table.specs.Canonical.{IsCanonical}
 use Rattle.blaze_table.specs.Work.{IsCountedPaint}
 use Rattle.blaze_table.specs.Planned.{IsWorked}
 use Rattle.blaze_table.specs.Splice.{before, after}
-use Rattle.blaze_table.proofs.Lookup.{IsAbove-from_apart}
-use Rattle.blaze_table.proofs.Plans.{above_more, from_above}
-use Rattle.blaze_table.proofs.Splices.{by_before, by_after, lt_true, lt_false}
-use Rattle.blaze_table.proofs.Splits.{filter_append}
+use Rattle.blaze_table.proofs.Lookup.{IsAbove-from_apart, above_by}
+use Rattle.blaze_table.proofs.Plans.{from_above}
+use Rattle.blaze_table.proofs.Splices.{by_before, by_after}
 
 module _ {V : Type 0} where
   -- what a walk looks at: the entries that start in the range or right above it, and one more
@@ -29,7 +30,7 @@ module _ {V : Type 0} where
   from_reverse l [] = refl
   from_reverse l (e ∷ es) =
       let turned : length (from l (reverse (e ∷ es))) ≡ length (from l (reverse es)) + length (from l (e ∷ [])) =
-      ap (λ xs. length (from l xs)) (reverse-append (e ∷ []) es) ∙ ap length (filter_append _ (reverse es) (e ∷ [])) ∙ length-append (from l (reverse es)) (from l (e ∷ [])) in
+      ap (λ xs. length (from l xs)) (reverse-append (e ∷ []) es) ∙ ap length (filter-append _ (reverse es) (e ∷ [])) ∙ length-append (from l (reverse es)) (from l (e ∷ [])) in
       let later = from_reverse l es in
       by_lt_z e.lo l
       (λ u.
@@ -64,7 +65,7 @@ module _ {V : Type 0} (eq : V → V → Bool) where
   after_starts : (h : ℤ) (es : List (Entry V)) → IsCanonical eq es → length (after h es) ≤ length (from (h +ℤ pos 1) es) + 1
   after_starts h [] c = omega arith
   after_starts h (e ∷ es) c =
-      let over : h ≤ℤ e.hi → from (h +ℤ pos 1) es ≡ es = λ u. from_above eq h es (above_more eq h e.hi es u (IsAbove-from_apart eq e es c.1)) c.2 in
+      let over : h ≤ℤ e.hi → from (h +ℤ pos 1) es ≡ es = λ u. from_above eq h es (above_by e.hi h es u (IsAbove-from_apart eq e es c.1)) c.2 in
       by_after h e es
       (λ u p. rw (p, from_skips (h +ℤ pos 1) e es (omega (arith, ints, c.0))) (omega (arith, after_starts h es c.2)))
       (λ u m p. rw (p, from_skips (h +ℤ pos 1) e es (omega (arith, ints)), over (omega (arith, ints))) (omega arith))

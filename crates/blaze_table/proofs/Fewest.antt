@@ -3,10 +3,11 @@ use Rattle.std.proofs.Common.{◌≡◌, ℕ, ◌+◌, ◌≤◌, ℤ, pos, ◌+
 use Rattle.std.specs.Prelude.{IsSome, int_lt}
 use Rattle.std.proofs.lemmas.Int.{ints, by_lt_z}
 use Rattle.std.specs.Cmp.{IsEquivalence}
+use Rattle.blaze_entries.proofs.Alike.{same_along, same_trans, some_of_same}
 use Rattle.blaze_table.specs.Entries.{Entry, holds, at, SameOption, SameContent}
 use Rattle.blaze_table.specs.Canonical.{IsCanonical, IsRunEnd, HasEnd, IsClear, IsDisjoint}
-use Rattle.blaze_table.proofs.Lookup.{IsAbove, IsAbove-from_apart, at_in, at_under, at_over, by_place, holds_in}
-use Rattle.blaze_table.proofs.Unique.{same_along, same_trans, back}
+use Rattle.blaze_table.proofs.Lookup.{IsAbove, IsAbove-from_apart, at_in, at_under, at_over, by_place, holds_in, at_clear}
+use Rattle.blaze_table.proofs.Unique.{back}
 use Rattle.blaze_table.proofs.Runs.{ends_are, end_along, none_is_not}
 
 module _ {V : Type 0} (eq : V → V → Bool) (laws : IsEquivalence eq) where
@@ -38,15 +39,6 @@ module _ {V : Type 0} (eq : V → V → Bool) (laws : IsEquivalence eq) where
       let j = count_drop b e.hi ds (s e.hi (inl refl)) (omega (arith, ints, c.0)) in
       omega arith
 
-  -- no other range has a key of the first
-  pub at_clear : (e : Entry V) (es : List (Entry V)) (k : ℤ) → IsClear e es → holds e k ≡ true → at es k ≡ None
-  at_clear e [] k c h = refl
-  at_clear e (f ∷ fs) k c h = skips (holds f k) (c.0 k h) (at_clear e fs k c.1 h)
-    where
-      skips : (b : Bool) → (b ≡ true → ⊥) → at fs k ≡ None → cond b (Some f.value) (at fs k) ≡ None
-      skips true n p = absurd (n refl)
-      skips false n p = p
-
   -- where a run ends, an entry of a disjoint list ends
   end_in : (ds : List (Entry V)) (k : ℤ) → IsDisjoint ds → IsRunEnd eq (at ds) k → HasEnd ds k
   end_in [] k d r = absurd (none_is_not eq laws None refl r.0)
@@ -66,15 +58,10 @@ module _ {V : Type 0} (eq : V → V → Bool) (laws : IsEquivalence eq) where
 
   run_end_same : (L M : List (Entry V)) (k : ℤ) → SameContent eq L M → IsRunEnd eq (at L) k → IsRunEnd eq (at M) k
   run_end_same L M k s r = (
-    some_same (at L k) (at M k) (s k) r.0,
+    some_of_same eq (at L k) (at M k) (s k) r.0,
     λ q.
         r.1 (same_trans eq laws (at L k) (at M k) (at L (k +ℤ pos 1)) (s k) (same_trans eq laws (at M k) (at M (k +ℤ pos 1)) (at L (k +ℤ pos 1)) q (back eq laws L M s (k +ℤ pos 1)))),
   )
-    where
-      some_same : (a b : Option V) → SameOption eq a b → IsSome a → IsSome b
-      some_same None b q h = absurd (none_is_not eq laws None refl h)
-      some_same (Some x) None q h = absurd q
-      some_same (Some x) (Some y) q h = refl
 
   -- a disjoint list with the same content has at least as many entries
   pub fewest : (C D : List (Entry V)) → IsCanonical eq C → IsDisjoint D → SameContent eq C D → length C ≤ length D

@@ -3,11 +3,11 @@ use Rattle.std.proofs.Common.{◌≡◌, ℕ, zero, suc, ◌-◌, ℤ, pos, ◌+
 use Rattle.std.specs.Prelude.{slice_get, IsSome}
 use Rattle.std.specs.Cmp.{IsEquivalence}
 use Rattle.std.proofs.lemmas.Int.{ints, by_lt_z}
+use Rattle.blaze_int.proofs.Tests.{by_bool}
+use Rattle.blaze_entries.proofs.Alike.{same_trans}
 use Rattle.blaze_table.specs.Entries.{Entry, entry, SameOption}
 use Rattle.blaze_table.specs.Painted.{last_at}
 use Rattle.blaze_table.specs.Splice.{glue}
-use Rattle.blaze_table.proofs.Splices.{by_bool}
-use Rattle.blaze_table.proofs.Unique.{same_trans}
 use Rattle.blaze_table.specs.declared.sweep.held.Held.{Held}
 use Rattle.blaze_table.specs.declared.sweep.held.Held.TheVariants.{Kept, Moved}
 use Rattle.blaze_table.specs.Held.{kept_value, held_value, value_in, PutsPiece}

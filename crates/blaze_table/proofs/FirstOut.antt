@@ -3,19 +3,20 @@ use Rattle.std.proofs.Common.{◌≡◌, ℤ, pos, ◌+ℤ◌, ◌≤ℤ◌, ◌
 use Rattle.std.specs.Prelude.{IsSome, int_le}
 use Rattle.std.specs.Option.{is_some}
 use Rattle.std.proofs.lemmas.Int.{ints}
+use Rattle.std.proofs.lemmas.List.Elements.{filter-append}
 use Rattle.blaze_entries.specs.Starts.{StartsAscend, below, from, first_entry, start_at, without}
-use Rattle.blaze_entries.proofs.Halves.{StartsBelow, from_all, starts_from}
+use Rattle.blaze_entries.proofs.Halves.{StartsBelow, from_all, starts_from, more_below}
 use Rattle.blaze_table.specs.Entries.{Entry}
 use Rattle.blaze_table.specs.Planned.{starts_in, least}
 use Rattle.blaze_table.proofs.EditLists.{below_without, from_without}
 use Rattle.blaze_table.proofs.Holders.{without-between}
-use Rattle.blaze_table.proofs.Splits.{filter_append, starts_below, more_below, halves, first_there}
+use Rattle.blaze_table.proofs.Splits.{starts_below, halves, first_there}
 use Rattle.blaze_table.proofs.StartsIn.{from_below}
 
 module _ {V : Type 0} (f z low high : ℤ) (w : f ≤ℤ z) (es : List (Entry V)) (s : StartsAscend low high es) where
   upper : from (f +ℤ pos 1) es ≡ starts_in f z es ++ from (z +ℤ pos 1) es
   upper = ap (from (f +ℤ pos 1)) (halves (z +ℤ pos 1) low high es s)
-      ∙ filter_append (λ x. int_le (f +ℤ pos 1) x.lo) (below (z +ℤ pos 1) es) (from (z +ℤ pos 1) es)
+      ∙ filter-append (λ x. int_le (f +ℤ pos 1) x.lo) (below (z +ℤ pos 1) es) (from (z +ℤ pos 1) es)
       ∙ ap (λ t. starts_in f z es ++ t) (from_all (f +ℤ pos 1) (z +ℤ pos 1) high (from (z +ℤ pos 1) es) (omega (arith, ints)) (starts_from (z +ℤ pos 1) low high es s))
 
   parts : (xs : List (Entry V)) → starts_in f z es ≡ xs → es ≡ below (f +ℤ pos 1) es ++ (xs ++ from (z +ℤ pos 1) es)

@@ -9,14 +9,6 @@ pub and_both : (a b : Bool) → true ≡ a → true ≡ b → (a && b) ≡ true
 and_both true b p q = sym q
 and_both false b p q = sym p
 
-pub and_first : (a b : Bool) → a ≡ false → (a && b) ≡ false
-and_first true b p = cc
-and_first false b p = refl
-
-pub and_second : (a b : Bool) → b ≡ false → (a && b) ≡ false
-and_second true b p = p
-and_second false b p = refl
-
 module _ {V : Type 0} (eq : V → V → Bool) where
   -- a list is glued at its last entry
   pub glue-last : (xs : List (Entry V)) (e : Entry V) (M : List (Entry V)) → glue eq (xs ++ e ∷ []) M ≡ xs ++ join eq e M

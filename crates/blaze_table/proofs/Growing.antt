@@ -4,16 +4,19 @@ use Rattle.std.specs.Prelude.{int_lt, int_le}
 use Rattle.std.specs.Option.{option_map}
 use Rattle.std.proofs.lemmas.Int.{ints}
 use Rattle.std.proofs.Common.{subst}
+use Rattle.std.proofs.lemmas.List.{append_assoc}
+use Rattle.std.proofs.lemmas.List.Elements.{filter-append}
 use Rattle.blaze_entries.specs.Found.{range_in}
 use Rattle.blaze_entries.specs.Starts.{StartsAscend, below, from, last_below, start_at, with_end}
 use Rattle.blaze_entries.proofs.Ascending.{by_order}
-use Rattle.blaze_entries.proofs.Halves.{StartsBelow, below_takes, below_all, below_none, from_skips, from_none, from_all}
+use Rattle.blaze_entries.proofs.Halves.{StartsBelow, below_takes, below_all, below_none, from_skips, from_none, from_all, more_below}
+use Rattle.blaze_entries.proofs.Alike.{none_from_map}
 use Rattle.blaze_table.specs.Entries.{Entry, entry}
 use Rattle.blaze_table.specs.Canonical.{IsCanonical}
 use Rattle.blaze_table.specs.Splice.{before, IsBelow}
 use Rattle.blaze_table.proofs.Splices.{before_cuts, before_keeps, below_more}
 use Rattle.blaze_table.proofs.Painted.{before_past}
-use Rattle.blaze_table.proofs.Splits.{LastAt, last_at, no_last, halves, filter_append, append_assoc, more_below, ends_below}
+use Rattle.blaze_table.proofs.Splits.{LastAt, last_at, no_last, halves, ends_below}
 use Rattle.blaze_table.proofs.EditLists.{end_put}
 
 module _ {V : Type 0} where
@@ -26,13 +29,13 @@ module _ {V : Type 0} where
 
   module _ (k high : ℤ) (e : Entry V) (es : List (Entry V)) (r : LastAt k high e es) where
     pub below_last : below k es ≡ r.front ++ e ∷ []
-    below_last = ap (below k) r.parts ∙ filter_append (λ x. int_lt x.lo k) r.front (e ∷ r.back)
+    below_last = ap (below k) r.parts ∙ filter-append (λ x. int_lt x.lo k) r.front (e ∷ r.back)
         ∙ ap (λ l. l ++ below k (e ∷ r.back)) (below_all k r.front (more_below e.lo k r.front (omega (arith, ints, r.starts)) r.front_below))
         ∙ ap (λ l. r.front ++ l) (below_takes k e r.back r.starts)
         ∙ ap (λ l. r.front ++ e ∷ l) (below_none k k high r.back (omega (arith, ints)) r.back_from)
 
     pub from_last : from k es ≡ r.back
-    from_last = ap (from k) r.parts ∙ filter_append (λ x. int_le k x.lo) r.front (e ∷ r.back)
+    from_last = ap (from k) r.parts ∙ filter-append (λ x. int_le k x.lo) r.front (e ∷ r.back)
         ∙ ap (λ l. l ++ from k (e ∷ r.back)) (from_none k r.front (more_below e.lo k r.front (omega (arith, ints, r.starts)) r.front_below))
         ∙ from_skips k e r.back r.starts
         ∙ from_all k k high r.back (omega (arith, ints)) r.back_from
@@ -54,13 +57,9 @@ module _ {V : Type 0} (eq : V → V → Bool) (k low high : ℤ) (es : List (Ent
       let q : range_in e ≡ (l, z) = cc in
       record { found = e; is = refl; lo = ap (λ (t : ℤ × ℤ). t.0) q; hi = ap (λ (t : ℤ × ℤ). t.1) q }
 
-  pub ends_none : (o : Option (Entry V)) → None ≡ option_map range_in o → o ≡ None
-  ends_none None p = refl
-  ends_none (Some e) p = cc
-
   pub trim_none : None ≡ option_map range_in (last_below k es) → es ≡ before k (below k es) ++ from k es
   trim_none p =
-      let none = no_last k low high es s (ends_none (last_below k es) p) in
+      let none = no_last k low high es s (none_from_map range_in (last_below k es) p) in
       halves k low high es s ∙ ap (λ t. t ++ from k es) (none ∙ sym (ap (before k) none))
 
   module _ (l z : ℤ) (p : Some (l, z) ≡ option_map range_in (last_below k es)) where

@@ -3,17 +3,18 @@ use Rattle.std.proofs.Common.{◌≡◌, Bool, ℤ, pos, ◌+ℤ◌, ◌≤ℤ�
 use Rattle.std.specs.Prelude.{IsSome}
 use Rattle.std.specs.Option.{option_map}
 use Rattle.std.proofs.lemmas.Int.{ints}
+use Rattle.std.proofs.lemmas.List.{append_assoc}
 use Rattle.blaze_entries.specs.Found.{range_in}
 use Rattle.blaze_entries.specs.Starts.{StartsAscend, last_below, start_at, with_entry, without, with_end}
 use Rattle.blaze_entries.proofs.Ascending.{by_order, start_none}
-use Rattle.blaze_entries.proofs.Halves.{StartsBelow}
+use Rattle.blaze_entries.proofs.Halves.{StartsBelow, more_below}
 use Rattle.blaze_table.specs.Canonical.{IsApart, IsCanonical}
 use Rattle.blaze_table.specs.Entries.{Entry, entry}
 use Rattle.blaze_table.specs.LastBelow.{IsLastBelow}
 use Rattle.blaze_table.specs.Splice.{IsBelow}
 use Rattle.blaze_table.proofs.EditLists.{start_skips, end_put}
 use Rattle.blaze_table.proofs.Growing.{found_there}
-use Rattle.blaze_table.proofs.Splits.{last_at, canonical_part, ends_below, more_below, append_assoc}
+use Rattle.blaze_table.proofs.Splits.{last_at, canonical_part, ends_below}
 
 module _ {V : Type 0} where
   -- an entry put in behind those that start below it

@@ -3,12 +3,12 @@ use Rattle.std.proofs.Common.{ℤ, ◌≤ℤ◌, ◌<ℤ◌, Bool, true, ◌≡�
 use Rattle.std.specs.Prelude.{◌↔◌}
 use Rattle.std.specs.Cmp.{IsEquivalence}
 use Rattle.std.proofs.lemmas.Int.{ints}
+use Rattle.blaze_entries.proofs.Alike.{same_along, same_itself}
 use Rattle.blaze_table.specs.Entries.{Entry, at, entry_at, SameOption}
 use Rattle.blaze_table.specs.Canonical.{IsCanonical}
 use Rattle.blaze_table.specs.Painted.{IsInside}
 use Rattle.blaze_table.specs.Splice.{IsListPainted}
 use Rattle.blaze_table.proofs.Lookup.{IsAbove, IsAbove-from_apart, at_in, at_over, by_place, holds_in, holds_under, holds_over, entry_in, entry_under, entry_over}
-use Rattle.blaze_table.proofs.Unique.{same_along, same_itself}
 
 module _ {V : Type 0} (eq : V → V → Bool) (l h : ℤ) (v : V) where
   pub inside_above : (b : ℤ) (es : List (Entry V)) → IsCanonical eq es → IsAbove b es → IsInside eq l h v es → b <ℤ l

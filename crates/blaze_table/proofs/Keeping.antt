@@ -7,7 +7,9 @@ use Rattle.std.specs.Cmp.{IsEquivalence}
 use Rattle.std.specs.List.{items_where_true}
 use Rattle.std.proofs.lemmas.Int.{ints, by_lt_z}
 use Rattle.std.proofs.lemmas.List.{length-append}
+use Rattle.blaze_int.proofs.Naturals.{nat_of-pos}
 use Rattle.blaze_entries.proofs.InTurn.{returns-push, picked-push_true, picked-push_false}
+use Rattle.blaze_entries.proofs.Alike.{same_along, same_trans, same_or}
 use Rattle.blaze_table.specs.Entries.{Entry, entry, at, SameOption}
 use Rattle.blaze_table.specs.Canonical.{IsCanonical, AreKeys}
 use Rattle.blaze_table.specs.Count.{keys_in}
@@ -16,11 +18,10 @@ use Rattle.blaze_table.specs.Pairs.{pairs_from, pairs_of, pair_list, value_at}
 use Rattle.blaze_table.specs.Splice.{glue, IsBelow}
 use Rattle.blaze_table.specs.Table.{IsTable}
 use Rattle.blaze_table.proofs.Counted.{keys_glue, are_keys_glue, some_keys}
-use Rattle.blaze_table.proofs.Lookup.{IsAbove, IsAbove-from_apart, at_in, at_under, at_over}
-use Rattle.blaze_table.proofs.PairLists.{nat_of-pos, pairs_append, pair_list-push}
+use Rattle.blaze_table.proofs.Lookup.{IsAbove, IsAbove-from_apart, at_in, at_under, at_over, above_low}
+use Rattle.blaze_table.proofs.PairLists.{pairs_append, pair_list-push}
 use Rattle.blaze_table.proofs.Splices.{canonical_glue, at_glue, below_glue, below_more}
 use Rattle.blaze_table.proofs.Splits.{canonical_part}
-use Rattle.blaze_table.proofs.Unique.{same_along, same_trans}
 
 -- the count of a list with one key more
 pub keys_added : {V : Type 0} (eq : V → V → Bool) (k : ℤ) (v : V) (old new : List (Entry V)) → AddsKey eq k v old new → keys_in new ≡ keys_in old +ℤ pos 1
@@ -74,12 +75,6 @@ module _ {F T V : Type 0} (R : F → T × V → Bool → F → Type 0) (f : F) (
   }
 
   module _ (laws : IsEquivalence eq) where
-    same_or : (a b c d : Option V) → SameOption eq a b → SameOption eq c d → SameOption eq (option_or a c) (option_or b d)
-    same_or None None c d s t = t
-    same_or None (Some y) c d s t = absurd s
-    same_or (Some x) None c d s t = absurd s
-    same_or (Some x) (Some y) c d s t = s
-
     one_key : (k j : ℤ) (v w : V) → eq v w ≡ true → SameOption eq (at (entry k k w ∷ []) j) (cond (int_eq j k) (Some v) None)
     one_key k j v w e = by_lt_z j k
         (λ l. same_along eq (sym (at_under (entry k k w) [] j l)) (none_there (omega (arith, ints))) tt)
@@ -99,7 +94,7 @@ module _ {F T V : Type 0} (R : F → T × V → Bool → F → Type 0) (f : F) (
         let one = entry k k a.value ∷ [] in
         let canonical = canonical_glue eq laws (k -ℤ pos 1) es one h.canonical (omega (arith, ints), tt, tt) (below_more k (k -ℤ pos 1 +ℤ pos 1) es (omega (arith, ints)) h.below) (omega (arith, ints)) in
         let like : (j : ℤ) → SameOption eq (at (glue eq es one) j) (option_or (value_at rank (items_where_true h.answers pairs) j) (cond (int_eq j k) (Some p.1) None)) = λ j.
-        same_trans eq laws _ _ _ (at_glue eq laws es one j h.canonical (omega (arith, ints), tt, tt)) (same_or (at es j) _ (at one j) _ (h.content j) (one_key k j p.1 a.value a.like)) in
+        same_trans eq laws _ _ _ (at_glue eq laws es one j h.canonical (omega (arith, ints), tt, tt)) (same_or eq (at es j) _ (at one j) _ (h.content j) (one_key k j p.1 a.value a.like)) in
         let value : (j : ℤ) → value_at rank (items_where_true (h.answers ++ true ∷ []) (pairs ++ p ∷ [])) j ≡ option_or (value_at rank (items_where_true h.answers pairs) j) (cond (int_eq j k) (Some p.1) None) = λ j.
         ap (λ ps. value_at rank ps j) (picked-push_true h.answers pairs p h.long) ∙ value_at-push rank (items_where_true h.answers pairs) p j ∙ ap (λ z. option_or (value_at rank (items_where_true h.answers pairs) j) (cond (int_eq j z) (Some p.1) None)) is in
         record {
@@ -142,13 +137,9 @@ module _ {F T V : Type 0} (R : F → T × V → Bool → F → Type 0) (f : F) (
     parts = refl;
     end = low;
     kept = kept_none low;
-    above = from_low all a;
+    above = above_low low high all a;
     counted = omega (arith, ints);
   }
-    where
-      from_low : (es : List (Entry V)) → AreKeys low high es → IsAbove (low -ℤ pos 1) es
-      from_low [] k = tt
-      from_low (d ∷ es) k = omega (arith, ints, k.0)
 
   module _ (of_rank : ℤ → T) (all : List (Entry V)) (e : Entry V) (rest : List (Entry V)) (len : ℤ) (es : List (Entry V)) (h : IsReached of_rank all (e ∷ rest) len es) (c : IsCanonical eq all) where
     here : IsCanonical eq (e ∷ rest)

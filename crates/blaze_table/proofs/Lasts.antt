@@ -3,20 +3,13 @@ use Rattle.std.specs.Option.{option_or}
 use Rattle.std.proofs.Common.{◌≡◌, ℕ, zero, suc, ◌<◌, ℤ, pos, ◌+ℤ◌, ◌≤ℤ◌, ◌<ℤ◌, Bool, true, false, cond, List, [], ◌∷◌, Option, Some, None, refl, ◌∙◌, ap, arith}
 use Rattle.std.specs.Prelude.{slice_get}
 use Rattle.std.proofs.lemmas.Int.{ints}
+use Rattle.blaze_entries.proofs.Alike.{or_none}
 use Rattle.blaze_table.specs.Entries.{Entry, holds}
 use Rattle.blaze_table.specs.Painted.{last_at}
 use Rattle.blaze_table.proofs.Lookup.{holds_in, holds_under, holds_over}
 use Rattle.blaze_table.specs.Swept.{AreApart}
 
 module _ {V : Type 0} where
-  pub or_none : (a : Option V) → option_or a None ≡ a
-  or_none None = refl
-  or_none (Some x) = refl
-
-  pub or_or : (a b c : Option V) → option_or (option_or a b) c ≡ option_or a (option_or b c)
-  or_or None b c = refl
-  or_or (Some x) b c = refl
-
   pub painted_one : (b : Bool) (v : V) (o : Option V) → cond b (Some v) o ≡ option_or (cond b (Some v) None) o
   painted_one true v o = refl
   painted_one false v o = refl

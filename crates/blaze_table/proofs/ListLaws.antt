@@ -8,11 +8,11 @@ use Rattle.blaze_table.specs.Canonical.{IsCanonical, AreKeys}
 use Rattle.blaze_table.specs.Count.{keys_in, mapped, mapped_keys}
 use Rattle.blaze_table.specs.Laws.{CanonicalIsUnique, CanonicalIsFewest, LengthsAreMapped}
 use Rattle.blaze_table.specs.Splice.{IsBelow}
-use Rattle.blaze_table.proofs.Lookup.{IsAbove}
+use Rattle.blaze_table.proofs.Lookup.{IsAbove, above_low}
 use Rattle.blaze_table.proofs.Unique.{unique}
 use Rattle.blaze_table.proofs.Runs.{canonical}
 use Rattle.blaze_table.proofs.Fewest.{fewest}
-use Rattle.blaze_table.proofs.Mapped.{keys_mapped}
+use Rattle.blaze_table.proofs.Mapped.{keys_mapped, none_mapped}
 
 nat_of-between : (low high : ℤ) → low ≤ℤ (high +ℤ pos 1) → low +ℤ pos (nat_of (high -ℤ low +ℤ pos 1)) ≡ high +ℤ pos 1
 nat_of-between low high h = by_sign (high -ℤ low +ℤ pos 1) refl
@@ -22,9 +22,6 @@ nat_of-between low high h = by_sign (high -ℤ low +ℤ pos 1) refl
     by_sign (negsuc n) p = absurd (omega (arith, ints))
 
 module _ {V : Type 0} (eq : V → V → Bool) where
-  above_low : (low high : ℤ) (es : List (Entry V)) → AreKeys low high es → IsAbove (low -ℤ pos 1) es
-  above_low low high [] k = tt
-  above_low low high (e ∷ es) k = omega (arith, ints, k.0)
 
   below_high : (low high b : ℤ) (es : List (Entry V)) → b ≡ high +ℤ pos 1 → AreKeys low high es → IsBelow b es
   below_high low high b [] p k = tt
@@ -33,14 +30,9 @@ module _ {V : Type 0} (eq : V → V → Bool) where
   some_between : (low high : ℤ) (e : Entry V) (es : List (Entry V)) → IsCanonical eq (e ∷ es) → AreKeys low high (e ∷ es) → low ≤ℤ (high +ℤ pos 1)
   some_between low high e es c k = omega (arith, ints, c.0, k.0, k.1)
 
-  nothing_mapped : (a : ℤ) (n : ℕ) → pos (mapped (at {V = V} []) a n) ≡ pos 0
-  unfolding mapped
-  nothing_mapped a zero = refl
-  nothing_mapped a (suc n) = omega (arith, ints, nothing_mapped (a +ℤ pos 1) n)
-
   -- the lengths add up to the number of mapped keys
   pub lengths_mapped : (low high : ℤ) (es : List (Entry V)) → IsCanonical eq es → AreKeys low high es → keys_in es ≡ pos (mapped_keys low high (at es))
-  lengths_mapped low high [] c k = sym (nothing_mapped low (nat_of (high -ℤ low +ℤ pos 1)))
+  lengths_mapped low high [] c k = sym (none_mapped eq low (nat_of (high -ℤ low +ℤ pos 1)))
   lengths_mapped low high (e ∷ es) c k =
       let n = nat_of (high -ℤ low +ℤ pos 1) in
       let ends = nat_of-between low high (some_between low high e es c k) in

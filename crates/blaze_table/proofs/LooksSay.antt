@@ -1,4 +1,4 @@
--- What tests and looks say.
+-- What looks say.
 use Rattle.std.proofs.Common.{◌≡◌, ℤ, pos, ◌+ℤ◌, ◌≤ℤ◌, ◌<ℤ◌, Bool, true, false, List, Option, Some, None, refl, ◌∙◌, sym, subst, ap, arith, inl, inr}
 use Rattle.std.specs.Prelude.{int_lt, int_le}
 use Rattle.std.specs.Option.{option_map}
@@ -9,18 +9,6 @@ use Rattle.blaze_table.specs.Entries.{Entry, entry}
 use Rattle.blaze_table.specs.Canonical.{IsCanonical}
 use Rattle.blaze_table.specs.Planned.{IsUnjoined, IsEndAfter, IsEnd}
 use Rattle.blaze_table.proofs.Splits.{last_at, after_short, after_long, after_none}
-
-pub lt_holds : (a b : ℤ) → int_lt a b ≡ true → a <ℤ b
-lt_holds a b h = grind (arith, ints)
-
-pub lt_fails : (a b : ℤ) → int_lt a b ≡ false → b ≤ℤ a
-lt_fails a b h = grind (arith, ints)
-
-pub le_holds : (a b : ℤ) → int_le a b ≡ true → a ≤ℤ b
-le_holds a b h = grind (arith, ints)
-
-pub le_fails : (a b : ℤ) → int_le a b ≡ false → b <ℤ a
-le_fails a b h = grind (arith, ints)
 
 module _ {V : Type 0} (eq : V → V → Bool) (v : V) where
   -- an entry that was looked at

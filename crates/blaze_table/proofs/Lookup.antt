@@ -1,8 +1,9 @@
 -- What a list of entries has at a key.
-use Rattle.std.proofs.Common.{◌≡◌, ℤ, ◌≤ℤ◌, ◌<ℤ◌, Bool, true, false, List, [], ◌∷◌, Some, None, refl, ◌∙◌, arith, cond, option_map}
+use Rattle.std.proofs.Common.{◌≡◌, ℤ, pos, ◌-ℤ◌, ◌≤ℤ◌, ◌<ℤ◌, Bool, true, false, List, [], ◌∷◌, ◌++◌, Some, None, refl, ◌∙◌, arith, cond, option_map}
+use Rattle.std.specs.Option.{option_or}
 use Rattle.std.proofs.lemmas.Int.{ints, by_lt_z}
 use Rattle.blaze_table.specs.Entries.{Entry, holds, at, entry_at}
-use Rattle.blaze_table.specs.Canonical.{IsApart, IsCanonical}
+use Rattle.blaze_table.specs.Canonical.{IsApart, IsCanonical, IsClear, AreKeys}
 
 -- the first range begins above b
 abbrev pub IsAbove : {V : Type 0} → ℤ → List (Entry V) → Type 0
@@ -13,6 +14,18 @@ pub IsAbove-from_apart : {V : Type 0} (eq : V → V → Bool) (e : Entry V) (es 
 IsAbove-from_apart eq e [] a = tt
 IsAbove-from_apart eq e (f ∷ fs) a = a.0
 
+pub above_by : {V : Type 0} (b c : ℤ) (es : List (Entry V)) → c ≤ℤ b → IsAbove b es → IsAbove c es
+above_by b c [] l a = tt
+above_by b c (e ∷ es) l a = omega (arith, ints, l, a)
+
+-- the rest of a canonical list
+pub above_rest : {V : Type 0} (eq : V → V → Bool) (b : ℤ) (e : Entry V) (es : List (Entry V)) → b ≤ℤ e.hi → IsCanonical eq (e ∷ es) → IsAbove b es
+above_rest eq b e es l c = above_by e.hi b es l (IsAbove-from_apart eq e es c.1)
+
+pub above_low : {V : Type 0} (low high : ℤ) (es : List (Entry V)) → AreKeys low high es → IsAbove (low -ℤ pos 1) es
+above_low low high [] k = tt
+above_low low high (e ∷ es) k = omega (arith, ints, k.0)
+
 -- at a key of the first range
 pub at_in : {V : Type 0} (e : Entry V) (es : List (Entry V)) (k : ℤ) → e.lo ≤ℤ k → k ≤ℤ e.hi → at (e ∷ es) k ≡ Some e.value
 at_in e es k l h = grind (arith, ints)
@@ -22,6 +35,15 @@ at_under e es k l = grind (arith, ints)
 
 pub at_over : {V : Type 0} (e : Entry V) (es : List (Entry V)) (k : ℤ) → e.hi <ℤ k → at (e ∷ es) k ≡ at es k
 at_over e es k l = grind (arith, ints)
+
+-- of two lists, that of the first that has a value
+pub at_append : {V : Type 0} (xs ys : List (Entry V)) (k : ℤ) → at (xs ++ ys) k ≡ option_or (at xs k) (at ys k)
+at_append [] ys k = refl
+at_append {V} (x ∷ xs) ys k = either (holds x k) (at_append xs ys k)
+  where
+    either : (b : Bool) → at (xs ++ ys) k ≡ option_or (at xs k) (at ys k) → cond b (Some x.value) (at (xs ++ ys) k) ≡ option_or (cond b (Some x.value) (at xs k)) (at ys k)
+    either true p = refl
+    either false p = p
 
 -- the same of entries
 pub entry_in : {V : Type 0} (e : Entry V) (es : List (Entry V)) (k : ℤ) → e.lo ≤ℤ k → k ≤ℤ e.hi → entry_at (e ∷ es) k ≡ Some e
@@ -42,8 +64,20 @@ value-entry_at {V} (e ∷ es) k = either (holds e k) (value-entry_at es k)
     either true p = refl
     either false p = p
 
+-- no other range has a key of the first
+pub at_clear : {V : Type 0} (e : Entry V) (es : List (Entry V)) (k : ℤ) → IsClear e es → holds e k ≡ true → at es k ≡ None
+at_clear e [] k c h = refl
+at_clear e (f ∷ fs) k c h = skips (holds f k) (c.0 k h) (at_clear e fs k c.1 h)
+  where
+    skips : (b : Bool) → (b ≡ true → ⊥) → at fs k ≡ None → cond b (Some f.value) (at fs k) ≡ None
+    skips true n p = absurd (n refl)
+    skips false n p = p
+
 pub holds_in : {V : Type 0} (e : Entry V) (k : ℤ) → e.lo ≤ℤ k → k ≤ℤ e.hi → holds e k ≡ true
 holds_in e k l h = grind (arith, ints)
+
+pub holds_ends : {V : Type 0} (e : Entry V) (k : ℤ) → holds e k ≡ true → (e.lo ≤ℤ k) × (k ≤ℤ e.hi)
+holds_ends e k h = (grind (arith, ints), grind (arith, ints))
 
 pub holds_under : {V : Type 0} (e : Entry V) (k : ℤ) → k <ℤ e.lo → holds e k ≡ false
 holds_under e k l = grind (arith, ints)

@@ -6,23 +6,19 @@ use Rattle.blaze_table.specs.Entries.{Entry, at, entry}
 use Rattle.blaze_table.specs.Canonical.{IsCanonical}
 use Rattle.blaze_table.specs.Count.{keys_in, mapped}
 use Rattle.blaze_table.specs.Splice.{IsBelow}
-use Rattle.blaze_table.proofs.Lookup.{IsAbove, IsAbove-from_apart, at_in, at_over, at_before}
+use Rattle.blaze_table.proofs.Lookup.{IsAbove, IsAbove-from_apart, at_in, at_over, at_before, above_by}
 
-abbrev one_if : {V : Type 0} → Option V → ℕ
+abbrev pub one_if : {V : Type 0} → Option V → ℕ
 one_if o = cond (is_some o) 1 0
 
 module _ {V : Type 0} (eq : V → V → Bool) where
-  none_mapped : (a : ℤ) (n : ℕ) → pos (mapped (at {V = V} []) a n) ≡ pos 0
+  pub none_mapped : (a : ℤ) (n : ℕ) → pos (mapped (at {V = V} []) a n) ≡ pos 0
   unfolding mapped
   none_mapped a zero = refl
   none_mapped a (suc n) = omega (arith, ints, none_mapped (a +ℤ pos 1) n)
 
   below_on : (b c : ℤ) (es : List (Entry V)) → b ≡ c → IsBelow b es → IsBelow c es
   below_on b c es p h = subst (λ x. IsBelow x es) p h
-
-  above_on : (b c : ℤ) (es : List (Entry V)) → c ≤ℤ b → IsAbove b es → IsAbove c es
-  above_on b c [] l h = tt
-  above_on b c (e ∷ es) l h = omega (arith, ints)
 
   apart_from : (e : Entry V) (a : ℤ) (es : List (Entry V)) → Rattle.blaze_table.specs.Canonical.IsApart eq e es → Rattle.blaze_table.specs.Canonical.IsApart eq (entry a e.hi e.value) es
   apart_from e a [] h = tt
@@ -53,7 +49,7 @@ module _ {V : Type 0} (eq : V → V → Bool) where
       let here = ap one_if (at_in e es a (omega (arith, ints)) (omega (arith, ints))) in
       omega (arith, ints, here, i, same, f))
       (λ h.
-      let i = keys_mapped n (a +ℤ pos 1) es c.2 (above_on e.hi (a +ℤ pos 1 -ℤ pos 1) es (omega (arith, ints)) (IsAbove-from_apart eq e es c.1)) (below_on (a +ℤ pos (suc n)) (a +ℤ pos 1 +ℤ pos n) es (omega (arith, ints)) b.1) in
+      let i = keys_mapped n (a +ℤ pos 1) es c.2 (above_by e.hi (a +ℤ pos 1 -ℤ pos 1) es (omega (arith, ints)) (IsAbove-from_apart eq e es c.1)) (below_on (a +ℤ pos (suc n)) (a +ℤ pos 1 +ℤ pos n) es (omega (arith, ints)) b.1) in
       let same = same_mapped (at (e ∷ es)) (at es) (a +ℤ pos 1) n (λ k m. at_over e es k (omega (arith, ints))) in
       let here = ap one_if (at_in e es a (omega (arith, ints)) (omega (arith, ints, c.0))) in
       omega (arith, ints, here, i, same, f, c.0)))

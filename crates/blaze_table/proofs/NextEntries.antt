@@ -4,21 +4,17 @@ use Rattle.std.specs.Prelude.{int_lt, int_le, find, reverse}
 use Rattle.std.specs.List.{filter, last_or}
 use Rattle.std.specs.Option.{option_or}
 use Rattle.std.proofs.lemmas.Int.{ints}
-use Rattle.std.proofs.lemmas.List.{reverse-append}
+use Rattle.std.proofs.lemmas.List.{reverse-append, append-nil}
 use Rattle.std.proofs.lemmas.List.Folds.{find-append}
+use Rattle.std.proofs.lemmas.List.Elements.{filter-append}
+use Rattle.blaze_int.proofs.Tests.{lt_true, lt_false}
 use Rattle.blaze_entries.specs.Starts.{StartsAscend, below, first_entry, last_below, first_from}
 use Rattle.blaze_entries.proofs.Halves.{below_all, below_none}
 use Rattle.blaze_table.specs.Entries.{Entry, entry_at}
 use Rattle.blaze_table.specs.Canonical.{IsCanonical}
 use Rattle.blaze_table.specs.Splice.{IsBelow}
 use Rattle.blaze_table.proofs.Lookup.{entry_in, entry_under, entry_over}
-use Rattle.blaze_table.proofs.Splits.{LastAt, append_none, last_at, no_last_from, filter_append, ends_below, canonical_part}
-
-pub lt_yes : (a b : ℤ) → a <ℤ b → int_lt a b ≡ true
-lt_yes a b p = grind (arith, ints)
-
-pub lt_no : (a b : ℤ) → b ≤ℤ a → int_lt a b ≡ false
-lt_no a b p = grind (arith, ints)
+use Rattle.blaze_table.proofs.Splits.{LastAt, last_at, no_last_from, ends_below, canonical_part}
 
 takes : {X : Type 0} (b : Bool) (x y : X) → b ≡ true → cond b x y ≡ x
 takes true x y p = refl
@@ -46,7 +42,7 @@ module _ {V : Type 0} where
   -- none starts above the greatest key
   pub above_none : (k b high : ℤ) (es : List (Entry V)) → high ≤ℤ k → StartsAscend b high es → find (λ e. int_lt k e.lo) es ≡ None
   above_none k b high [] l h = refl
-  above_none k b high (e ∷ es) l h = passes (int_lt k e.lo) (Some e) (find (λ x. int_lt k x.lo) es) (lt_no k e.lo (omega (arith, ints, h.1))) ∙ above_none k (e.lo +ℤ pos 1) high es l h.2
+  above_none k b high (e ∷ es) l h = passes (int_lt k e.lo) (Some e) (find (λ x. int_lt k x.lo) es) (lt_false k e.lo (omega (arith, ints, h.1))) ∙ above_none k (e.lo +ℤ pos 1) high es l h.2
 
   -- ---- at a key
 
@@ -90,7 +86,7 @@ module _ {V : Type 0} (eq : V → V → Bool) (k : ℤ) where
   none_below b high [] l c a = refl
   none_below b high (e ∷ es) l c a =
       one_more e es ∙ ap (λ o. option_or o (cond (int_lt e.hi k) (Some e) None)) (none_below (e.lo +ℤ pos 1) high es (omega (arith, ints, a.0)) c.2 a.2)
-      ∙ passes (int_lt e.hi k) (Some e) None (lt_no e.hi k (omega (arith, ints, a.0, c.0)))
+      ∙ passes (int_lt e.hi k) (Some e) None (lt_false e.hi k (omega (arith, ints, a.0, c.0)))
 
   last_some : (x : Entry V) (xs : List (Entry V)) (o : Option (Entry V)) → option_or (last_or (Some x) xs) o ≡ last_or (Some x) xs
   last_some x [] o = refl
@@ -101,7 +97,7 @@ module _ {V : Type 0} (eq : V → V → Bool) (k : ℤ) where
   all_below d [] l h = refl
   all_below d (e ∷ es) l h =
       one_more e es ∙ ap (λ o. option_or o (cond (int_lt e.hi k) (Some e) None)) (all_below d es l h.1)
-      ∙ ap (option_or (last_or None es)) (takes (int_lt e.hi k) (Some e) None (lt_yes e.hi k (omega (arith, ints, h.0)))) ∙ before es
+      ∙ ap (option_or (last_or None es)) (takes (int_lt e.hi k) (Some e) None (lt_true e.hi k (omega (arith, ints, h.0)))) ∙ before es
     where
       before : (xs : List (Entry V)) → option_or (last_or None xs) (Some e) ≡ last_or (Some e) xs
       before [] = refl
@@ -124,19 +120,19 @@ module _ {V : Type 0} (eq : V → V → Bool) (k : ℤ) where
 
       -- the last entry that starts up to the key ends below it
       pub below_here : e.hi <ℤ k → Some e ≡ find (λ x. int_lt x.hi k) (reverse es)
-      below_here h = sym (apart ∙ ap (λ o. option_or o (find (λ x. int_lt x.hi k) (reverse parts.front))) (takes (int_lt e.hi k) (Some e) None (lt_yes e.hi k h)))
+      below_here h = sym (apart ∙ ap (λ o. option_or o (find (λ x. int_lt x.hi k) (reverse parts.front))) (takes (int_lt e.hi k) (Some e) None (lt_true e.hi k h)))
 
       -- it does not: the one before it does
       pub below_before : k ≤ℤ e.hi → last_below e.lo es ≡ find (λ x. int_lt x.hi k) (reverse es)
       below_before h =
           ap (last_or None) front_is
-          ∙ sym (apart ∙ ap (λ o. option_or o (find (λ x. int_lt x.hi k) (reverse parts.front))) (passes (int_lt e.hi k) (Some e) None (lt_no e.hi k h))
+          ∙ sym (apart ∙ ap (λ o. option_or o (find (λ x. int_lt x.hi k) (reverse parts.front))) (passes (int_lt e.hi k) (Some e) None (lt_false e.hi k h))
           ∙ all_below e.lo parts.front (omega (arith, ints, parts.starts)) (front_ends eq k b high es c a e is))
         where
           front_is : below e.lo es ≡ parts.front
           front_is =
-              ap (below e.lo) parts.parts ∙ filter_append (λ x. int_lt x.lo e.lo) parts.front (e ∷ parts.back)
+              ap (below e.lo) parts.parts ∙ filter-append (λ x. int_lt x.lo e.lo) parts.front (e ∷ parts.back)
               ∙ ap (λ l. l ++ below e.lo (e ∷ parts.back)) (below_all e.lo parts.front parts.front_below)
-              ∙ ap (λ l. parts.front ++ l) (passes (int_lt e.lo e.lo) (e ∷ below e.lo parts.back) (below e.lo parts.back) (lt_no e.lo e.lo (omega (arith, ints)))
+              ∙ ap (λ l. parts.front ++ l) (passes (int_lt e.lo e.lo) (e ∷ below e.lo parts.back) (below e.lo parts.back) (lt_false e.lo e.lo (omega (arith, ints)))
               ∙ below_none e.lo (k +ℤ pos 1) high parts.back (omega (arith, ints, parts.starts)) parts.back_from)
-              ∙ append_none parts.front
+              ∙ append-nil parts.front

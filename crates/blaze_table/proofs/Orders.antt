@@ -1,21 +1,9 @@
--- What tests of whole numbers say, steps of one, and what a sort leaves.
+-- Steps of one, and what a sort leaves.
 use Rattle.std.proofs.Common.{◌≡◌, suc, ◌+◌, ℤ, pos, ◌+ℤ◌, ◌≤ℤ◌, ◌<ℤ◌, Bool, true, false, List, ◌∷◌, subst, arith}
 use Rattle.std.specs.Prelude.{int_le, int_lt, slice_index_or}
 use Rattle.std.specs.List.Sorted.{IsSortedBy}
 use Rattle.std.specs.Ordering.{is_lt, int_cmp}
 use Rattle.std.proofs.lemmas.Int.{ints}
-
-pub at_most : (a b : ℤ) → int_le a b ≡ true → a ≤ℤ b
-at_most a b h = grind (arith, ints)
-
-pub not_at_most : (a b : ℤ) → int_le a b ≡ false → b <ℤ a
-not_at_most a b h = grind (arith, ints)
-
-pub below : (a b : ℤ) → int_lt a b ≡ true → a <ℤ b
-below a b h = grind (arith, ints)
-
-pub not_below : (a b : ℤ) → int_lt a b ≡ false → b ≤ℤ a
-not_below a b h = grind (arith, ints)
 
 pub step_up : (a e n : ℤ) → a ≤ℤ e → n ≡ e +ℤ pos 1 → a ≤ℤ n
 step_up a e n h q = omega (arith, ints)

@@ -3,6 +3,7 @@ use Rattle.std.proofs.Common.{◌≡◌, ℕ, ℤ, pos, ◌+ℤ◌, ◌≤ℤ◌
 use Rattle.std.specs.Prelude.{int_lt, reverse}
 use Rattle.std.proofs.lemmas.Int.{ints, by_lt_z}
 use Rattle.std.proofs.lemmas.List.{reverse-append}
+use Rattle.blaze_int.proofs.Tests.{lt_false}
 use Rattle.blaze_entries.specs.Scanned.{walked_keys}
 use Rattle.blaze_entries.specs.Starts.{StartsAscend, below, from}
 use Rattle.blaze_entries.proofs.Halves.{starts_from, starts_of_below}
@@ -14,7 +15,7 @@ use Rattle.blaze_table.specs.Table.{IsTable}
 use Rattle.blaze_table.proofs.Composed.{canonical_below}
 use Rattle.blaze_table.proofs.Counted.{overlap_none, covered_none, keys_apart, some_keys}
 use Rattle.blaze_table.proofs.Lookup.{IsAbove}
-use Rattle.blaze_table.proofs.Splices.{lt_false, canonical_before, canonical_after}
+use Rattle.blaze_table.proofs.Splices.{canonical_before, canonical_after}
 use Rattle.blaze_table.proofs.Splits.{halves, canonical_part}
 
 module _ {V : Type 0} (l h : ℤ) where

@@ -6,13 +6,13 @@ use Rattle.std.specs.Ordering.{int_eq}
 use Rattle.std.specs.Cmp.{IsEquivalence}
 use Rattle.std.proofs.lemmas.Int.{ints, by_lt_z}
 use Rattle.std.proofs.lemmas.List.{length-append}
+use Rattle.blaze_int.proofs.Naturals.{nat_of-pos}
 use Rattle.blaze_table.specs.Entries.{Entry, at}
 use Rattle.blaze_table.specs.Canonical.{IsCanonical, AreKeys}
 use Rattle.blaze_table.specs.Count.{keys_in}
 use Rattle.blaze_table.specs.Laws.{PairsAreContent}
 use Rattle.blaze_table.specs.Pairs.{pairs_from, pairs_of, pair_list, value_at, IsAscendingPairs}
-use Rattle.blaze_table.proofs.Lookup.{IsAbove, IsAbove-from_apart, at_in, at_under, at_over, by_place}
-use Rattle.blaze_table.proofs.PairLists.{nat_of-pos}
+use Rattle.blaze_table.proofs.Lookup.{IsAbove, IsAbove-from_apart, at_in, at_under, at_over, by_place, above_low}
 use Rattle.blaze_table.proofs.Runs.{canonical}
 
 -- the n numbers from a on are the ranks of keys
@@ -119,8 +119,4 @@ module _ {K V : Type 0} (rank : K → ℤ) (of_rank : ℤ → K) where
     pub pairs_are_content : IsEquivalence eq → PairsAreContent rank of_rank eq low high
     pairs_are_content laws es m =
         let c = canonical eq laws es m.runs in
-        (record { ascending = (ascending_list es (low -ℤ pos 1) c m.keys (from_low es m.keys)).1; same = λ k. same_list es k c m.keys }, long_list es c)
-      where
-        from_low : (es : List (Entry V)) → AreKeys low high es → IsAbove (low -ℤ pos 1) es
-        from_low [] k = tt
-        from_low (d ∷ es) k = omega (arith, ints, k.0)
+        (record { ascending = (ascending_list es (low -ℤ pos 1) c m.keys (above_low low high es m.keys)).1; same = λ k. same_list es k c m.keys }, long_list es c)

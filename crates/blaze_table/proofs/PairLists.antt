@@ -2,12 +2,9 @@
 use Rattle.blaze_int.specs.Unsigned.{nat_of}
 use Rattle.std.proofs.Common.{◌≡◌, ℕ, zero, suc, ◌+◌, ℤ, pos, negsuc, ◌+ℤ◌, ◌-ℤ◌, ◌≤ℤ◌, ◌<ℤ◌, List, [], ◌∷◌, ◌++◌, refl, ap, sym, ◌∙◌, arith, append_assoc, append-nil}
 use Rattle.std.proofs.lemmas.Int.{ints}
+use Rattle.blaze_int.proofs.Naturals.{nat_of-pos}
 use Rattle.blaze_table.specs.Entries.{Entry}
 use Rattle.blaze_table.specs.Pairs.{pairs_from, pairs_of, pair_list}
-
-pub nat_of-pos : (z : ℤ) → pos 0 ≤ℤ z → pos (nat_of z) ≡ z
-nat_of-pos (pos n) h = refl
-nat_of-pos (negsuc n) h = absurd (omega (arith, ints))
 
 pub nat_of-next : (z : ℤ) → pos 0 ≤ℤ z → nat_of (z +ℤ pos 1) ≡ suc (nat_of z)
 nat_of-next z h =

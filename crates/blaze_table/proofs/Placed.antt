@@ -10,14 +10,14 @@ use Rattle.std.proofs.lemmas.List.{map-append}
 use Rattle.std.proofs.lemmas.List.Elements.{All-nil, All-push, All-head, All-tail, All-weaker, Contains-append_left, Contains-push}
 use Rattle.std.proofs.lemmas.List.Sorted.{All-permutation, Contains-permutation, IsPermutation-map}
 use Rattle.std.proofs.lemmas.Option.{get_or_from_slice_get, slice_get_within}
+use Rattle.blaze_int.proofs.Tests.{by_bool}
 use Rattle.blaze_table.specs.Canonical.{AreKeys}
 use Rattle.blaze_table.specs.Entries.{Entry, entry, holds}
 use Rattle.blaze_table.specs.Painted.{last_at}
 use Rattle.blaze_table.specs.Pieces.{IsPlaced, places_of, ArePlacedBelow, ArePlaced, HasKey, EndsAreKeys, AreAscending, IsPiece}
 use Rattle.blaze_table.proofs.Lasts.{last_none, last_is}
-use Rattle.blaze_table.proofs.Lookup.{holds_in}
+use Rattle.blaze_table.proofs.Lookup.{holds_in, holds_ends}
 use Rattle.blaze_table.proofs.Orders.{tail_sorted, not_less}
-use Rattle.blaze_table.proofs.Splices.{by_bool}
 
 -- ---- items of lists
 
@@ -128,9 +128,6 @@ module _ {T V : Type 0} (rank : T → ℤ) (low high : ℤ) (cmp : T → T → O
       ascends xs (All-tail (EndsAreKeys rank low high) x xs keys) (All-tail (λ (p : T × T × ℕ × V). rank p.0 ≤ℤ rank p.1) x xs have) (tail_sorted (λ (x y : T × T × ℕ × V). is_lt (cmp x.0 y.0)) x xs up) i j p q (omega arith) r s
 
 -- ---- what the placed pairs paint
-
-holds_ends : {V : Type 0} (e : Entry V) (k : ℤ) → holds e k ≡ true → (e.lo ≤ℤ k) × (k ≤ℤ e.hi)
-holds_ends e k h = (grind (arith, ints), grind (arith, ints))
 
 -- a pair with the place, at its index
 record IsFound {T V : Type 0} (placed : List (T × T × ℕ × V)) (place : ℕ) : Type 0 where

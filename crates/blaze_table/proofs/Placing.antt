@@ -6,6 +6,7 @@ use Rattle.std.specs.Cmp.{IsEquivalence}
 use Rattle.std.proofs.lemmas.Int.{ints, by_lt_z}
 use Rattle.blaze_entries.specs.Starts.{below, from, start_at, with_entry, without, with_end_value, IsStartMoved, IsFrontReplaced}
 use Rattle.blaze_entries.proofs.Ascending.{by_order}
+use Rattle.blaze_entries.proofs.Alike.{one_value}
 use Rattle.blaze_table.specs.Entries.{Entry, entry, SameEntries}
 use Rattle.blaze_table.specs.Canonical.{IsCanonical}
 use Rattle.blaze_table.specs.Planned.{starts_in, ends_in, IsRestOf, IsRestKept, IsStartPut}
@@ -17,9 +18,6 @@ use Rattle.blaze_table.proofs.Painted.{entries_themselves}
 use Rattle.blaze_table.proofs.StartsIn.{amid_same, from_out, all_end, others_end, over_later}
 
 module _ {V : Type 0} where
-  one_found : {a b : Entry V} (o : Option (Entry V)) → o ≡ Some a → o ≡ Some b → a ≡ b
-  one_found o p q = cc
-
   is_there : {a : Entry V} (o : Option (Entry V)) → o ≡ Some a → IsSome o
   is_there o p = subst (λ x. IsSome x) (sym p) refl
 
@@ -66,7 +64,7 @@ module _ {V : Type 0} (eq : V → V → Bool) where
       other h = by_order l f.lo (λ o q r. r) (λ o q r. absurd (omega (arith, ints))) (λ o q r. r)
 
       first : int_eq s f.lo ≡ true → f ≡ e
-      first r = one_found (start_at s (f ∷ fs)) (ap (λ t. cond t (Some f) (start_at s fs)) r) p
+      first r = one_value (start_at s (f ∷ fs)) (ap (λ t. cond t (Some f) (start_at s fs)) r) p
 
 module _ {V : Type 0} (eq : V → V → Bool) (laws : IsEquivalence eq) where
   -- what an entry has from n on starts there; what starts up to k is as before, and so is what starts from n on, and between
@@ -94,7 +92,7 @@ module _ {V : Type 0} (eq : V → V → Bool) (laws : IsEquivalence eq) where
       (of : Entry V) (found : start_at s c ≡ Some of) (starts : from n new ≡ entry n of.hi of.value ∷ from n c) where
     rest_like : SameEntries eq (after z old) (from (z +ℤ pos 1) new)
     rest_like =
-        let one : r.of ≡ of = one_found (start_at s old) r.found (sym same ∙ found) in
+        let one : r.of ≡ of = one_value (start_at s old) r.found (sym same ∙ found) in
         let made : from (z +ℤ pos 1) new ≡ entry (z +ℤ pos 1) of.hi of.value ∷ from (z +ℤ pos 1) old =
         ap (λ x. from x new) (sym up) ∙ starts ∙ ap (λ x. entry x of.hi of.value ∷ from x c) up ∙ ap (λ x. entry (z +ℤ pos 1) of.hi of.value ∷ x) over in
         subst (λ (x : List (Entry V)). SameEntries eq x (from (z +ℤ pos 1) new)) (sym (r.rest ∙ ap (λ (x : Entry V). entry (z +ℤ pos 1) x.hi x.value ∷ from (z +ℤ pos 1) old) one ∙ sym made))

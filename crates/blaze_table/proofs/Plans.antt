@@ -4,19 +4,21 @@ use Rattle.std.specs.Prelude.{IfSome, int_lt, int_le}
 use Rattle.std.specs.Cmp.{IsEquivalence}
 use Rattle.std.specs.Option.{option_map}
 use Rattle.std.proofs.lemmas.Int.{ints, by_lt_z}
+use Rattle.std.proofs.lemmas.List.{append_assoc}
+use Rattle.blaze_int.proofs.Tests.{by_bool, lt_true, lt_false, le_true, le_false, lt_holds, not_both}
 use Rattle.blaze_entries.specs.Found.{found_in, range_in, ranks_of}
 use Rattle.blaze_entries.specs.Scanned.{Seen}
 use Rattle.blaze_entries.specs.Starts.{StartsAscend, from, last_below, start_at}
 use Rattle.blaze_entries.specs.declared.found.Found.{Found}
 use Rattle.blaze_entries.proofs.Ascending.{by_order, start_none}
-use Rattle.blaze_entries.proofs.Halves.{StartsBelow, from_takes, from_skips}
+use Rattle.blaze_entries.proofs.Halves.{StartsBelow, from_takes, from_skips, more_below}
 use Rattle.blaze_table.specs.Entries.{Entry, entry}
 use Rattle.blaze_table.specs.Canonical.{IsCanonical}
 use Rattle.blaze_table.specs.Planned.{IsUnjoined, IsJoinedTo, IsEnd, rest_of, joined_start, ends_of, IsPlanOf, IsRestOf, IsRest}
 use Rattle.blaze_table.specs.Splice.{after}
-use Rattle.blaze_table.proofs.Lookup.{IsAbove, IsAbove-from_apart}
-use Rattle.blaze_table.proofs.Splices.{by_after, by_bool, after_skips, lt_true, lt_false, le_true, le_false}
-use Rattle.blaze_table.proofs.Splits.{LastAt, last_at, no_last_from, more_below, append_assoc, after_short, after_long, after_none, none_next}
+use Rattle.blaze_table.proofs.Lookup.{IsAbove, IsAbove-from_apart, above_by}
+use Rattle.blaze_table.proofs.Splices.{by_after, after_skips}
+use Rattle.blaze_table.proofs.Splits.{LastAt, last_at, no_last_from, after_short, after_long, after_none, none_next}
 use Rattle.blaze_table.proofs.Growing.{last_there, below_last}
 use Rattle.blaze_table.proofs.EditLists.{start_skips, start_below}
 use Rattle.blaze_table.proofs.Holders.{none-between, starts_behind}
@@ -24,21 +26,17 @@ use Rattle.blaze_table.proofs.Placing.{ends_before}
 use Rattle.blaze_table.proofs.Widened.{after_over, started_at}
 
 module _ {V : Type 0} (eq : V → V → Bool) where
-  pub above_more : (a b : ℤ) (es : List (Entry V)) → a ≤ℤ b → IsAbove b es → IsAbove a es
-  above_more a b [] l h = tt
-  above_more a b (e ∷ es) l h = omega (arith, ints, h)
-
   -- all that lies above z starts above it
   pub from_above : (z : ℤ) (es : List (Entry V)) → IsAbove z es → IsCanonical eq es → from (z +ℤ pos 1) es ≡ es
   from_above z [] a c = refl
   from_above z (e ∷ es) a c =
       from_takes (z +ℤ pos 1) e es (omega (arith, ints, a))
-      ∙ ap (λ t. e ∷ t) (from_above z es (above_more z e.hi es (omega (arith, ints, a, c.0)) (IsAbove-from_apart eq e es c.1)) c.2)
+      ∙ ap (λ t. e ∷ t) (from_above z es (above_by e.hi z es (omega (arith, ints, a, c.0)) (IsAbove-from_apart eq e es c.1)) c.2)
 
   -- where an entry ends at z, what lies above it starts above it
   ended_at : (z : ℤ) (e : Entry V) (es : List (Entry V)) → IsCanonical eq (e ∷ es) → e.hi ≡ z → after z (e ∷ es) ≡ from (z +ℤ pos 1) (e ∷ es)
   ended_at z e es c q =
-      let a = above_more z e.hi es (omega (arith, ints)) (IsAbove-from_apart eq e es c.1) in
+      let a = above_by e.hi z es (omega (arith, ints)) (IsAbove-from_apart eq e es c.1) in
       after_skips z e es (omega (arith, ints)) ∙ after_over eq z es a c.2
       ∙ sym (from_skips (z +ℤ pos 1) e es (omega (arith, ints, c.0)) ∙ from_above z es a c.2)
 
@@ -53,9 +51,6 @@ module _ {V : Type 0} (eq : V → V → Bool) where
       last_key x xs w = let same : x ≡ n = cc in ap (λ (y : Entry V). y.hi) same ∙ q
 
 module _ {V : Type 0} (eq : V → V → Bool) (laws : IsEquivalence eq) (l h : ℤ) (v : V) (w : l ≤ℤ h) (low high : ℤ) (es : List (Entry V)) (s : StartsAscend low high es) (c : IsCanonical eq es) where
-  true_false : (b : Bool) → b ≡ true → b ≡ false → ⊥
-  true_false b p q = cc
-
   -- the rest, by the last entry that starts up to h
   module _ (z : ℤ) (up : h ≤ℤ z) (end : IsEnd eq h v es z) where
     no_rest : after h es ≡ from (h +ℤ pos 1) es → after z es ≡ from (z +ℤ pos 1) es
@@ -70,7 +65,7 @@ module _ {V : Type 0} (eq : V → V → Bool) (laws : IsEquivalence eq) (l h : �
 
       equal_rest : eq e.value v ≡ true → after z es ≡ from (z +ℤ pos 1) es
       equal_rest q = elim end [
-        | inl j ↦ absurd (true_false (eq e.value v) q (subst (IsUnjoined eq h v) (after_long eq h high e es i c over) j.1 refl))
+        | inl j ↦ absurd (not_both (eq e.value v) q (subst (IsUnjoined eq h v) (after_long eq h high e es i c over) j.1 refl))
         | inr j ↦ after_end eq h z j.next j.others es up c j.first j.ends
       ]
 
@@ -92,7 +87,7 @@ module _ {V : Type 0} (eq : V → V → Bool) (laws : IsEquivalence eq) (l h : �
           unlike j =
               let both : j.next ∷ j.others ≡ entry (h +ℤ pos 1) e.hi e.value ∷ from (h +ℤ pos 1) es = sym j.first ∙ after_long eq h high e es i c over in
               let same : j.next ≡ entry (h +ℤ pos 1) e.hi e.value = cc in
-              true_false (eq e.value v) (subst (λ (x : Entry V). eq x.value v ≡ true) same j.like) q
+              not_both (eq e.value v) (subst (λ (x : Entry V). eq x.value v ≡ true) same j.like) q
 
     rest_from : (o : Option (Entry V)) → last_below (h +ℤ pos 1) es ≡ o → IsRest z es (rest_of h (option_map (found_in eq v) o))
     rest_from None q = no_rest (after_none eq h low high es s c q)
@@ -122,16 +117,13 @@ module _ {V : Type 0} (eq : V → V → Bool) (laws : IsEquivalence eq) (l h : �
           let there = last_there l high t.of es i in
           let here = last_there (h +ℤ pos 1) high e es j in
           by_lt_z f ends.0 (λ x. x) (λ x. by_lt_z ends.0 f
-          (λ y. let n = ends_before eq e.lo t.of.lo e t.of es c here there (omega (arith, ints)) in absurd (omega (arith, ints, lt_is h e.hi k.0)))
-          (λ y. absurd (true_false (eq e.value v) (ap (λ (x : Entry V). eq x.value v) (one (omega (arith, ints)) there here) ∙ t.like) k.1)))
+          (λ y. let n = ends_before eq e.lo t.of.lo e t.of es c here there (omega (arith, ints)) in absurd (omega (arith, ints, lt_holds h e.hi k.0)))
+          (λ y. absurd (not_both (eq e.value v) (ap (λ (x : Entry V). eq x.value v) (one (omega (arith, ints)) there here) ∙ t.like) k.1)))
         where
           seen : (m n : Bool) (x : ℤ × ℤ) → Some ends ≡ cond m (cond n None (Some x)) None → (m ≡ true) × (n ≡ false) × (x ≡ ends)
           seen true true x u = cc
           seen true false x u = (refl, refl, cc)
           seen false n x u = cc
-
-          lt_is : (a b : ℤ) → int_lt a b ≡ true → a <ℤ b
-          lt_is a b q = grind (arith, ints)
 
           one : {d : Entry V} → d.lo ≡ e.lo → start_at d.lo es ≡ Some d → start_at e.lo es ≡ Some e → e ≡ d
           one {d} n p q = same (start_at e.lo es) q (ap (λ x. start_at x es) (sym n) ∙ p)

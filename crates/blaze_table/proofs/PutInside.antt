@@ -3,6 +3,7 @@ use Rattle.std.proofs.Common.{◌≡◌, ℤ, pos, ◌+ℤ◌, ◌-ℤ◌, ◌�
 use Rattle.std.specs.Prelude.{IfSome}
 use Rattle.std.specs.Cmp.{IsEquivalence}
 use Rattle.std.proofs.lemmas.Int.{ints}
+use Rattle.std.proofs.lemmas.List.{append_assoc}
 use Rattle.blaze_entries.specs.Starts.{start_at, with_entry, with_end}
 use Rattle.blaze_table.specs.Entries.{Entry, entry, SameEntries}
 use Rattle.blaze_table.specs.Painted.{ClonesAreAlike}
@@ -12,7 +13,6 @@ use Rattle.blaze_table.proofs.EditLists.{start_beside}
 use Rattle.blaze_table.proofs.Holders.{Holder, there, ending, put_both}
 use Rattle.blaze_table.proofs.Painted.{before_past, after_past, entries_themselves}
 use Rattle.blaze_table.proofs.Splices.{before_cuts, after_cuts, below_more}
-use Rattle.blaze_table.proofs.Splits.{append_assoc}
 
 module _ {V : Type 0} where
   -- the second start is none of the first list, nor the first entry's

@@ -9,8 +9,7 @@ use Rattle.blaze_table.specs.Painted.{IsPainted}
 use Rattle.blaze_table.specs.Cut.{IsCut, IsSplit}
 use Rattle.blaze_table.specs.Splice.{IsListPainted, IsListCut, IsListSplit}
 use Rattle.blaze_table.specs.Table.{IsTable}
-use Rattle.blaze_table.proofs.Counted.{above_by}
-use Rattle.blaze_table.proofs.Lookup.{IsAbove, IsAbove-from_apart}
+use Rattle.blaze_table.proofs.Lookup.{IsAbove, IsAbove-from_apart, above_by}
 use Rattle.blaze_table.proofs.Runs.{one_per_run}
 
 module _ {V : Type 0} (eq : V → V → Bool) (laws : IsEquivalence eq) (low high : ℤ) (n : ℕ) where
@@ -38,7 +37,7 @@ ascends eq b low high [] u c k = tt
 ascends eq b low high (e ∷ es) u c k = (
   omega (arith, ints, u),
   omega (arith, ints, c.0, k.1),
-  ascends eq (e.lo +ℤ pos 1) low high es (above_by eq e.hi (e.lo +ℤ pos 1 -ℤ pos 1) es (omega (arith, ints, c.0)) (IsAbove-from_apart eq e es c.1)) c.2 k.2,
+  ascends eq (e.lo +ℤ pos 1) low high es (above_by e.hi (e.lo +ℤ pos 1 -ℤ pos 1) es (omega (arith, ints, c.0)) (IsAbove-from_apart eq e es c.1)) c.2 k.2,
 )
 
 pub starts_ascend : {V : Type 0} (eq : V → V → Bool) (low high : ℤ) (es : List (Entry V)) → IsCanonical eq es → AreKeys low high es → StartsAscend low high es

@@ -3,10 +3,15 @@ use Rattle.std.proofs.Common.{◌≡◌, ℤ, pos, ◌+ℤ◌, ◌-ℤ◌, ◌�
 use Rattle.std.specs.Prelude.{◌⊎◌, ◌↔◌, IsSome}
 use Rattle.std.proofs.lemmas.Int.{ints, by_lt_z}
 use Rattle.std.specs.Cmp.{IsEquivalence}
+use Rattle.blaze_entries.proofs.Alike.{same_along}
 use Rattle.blaze_table.specs.Entries.{Entry, holds, at, SameOption}
 use Rattle.blaze_table.specs.Canonical.{IsApart, IsCanonical, IsRunStart, IsRunEnd, HasStart, HasEnd, IsClear, IsDisjoint, IsAscending, IsOnePerRun}
 use Rattle.blaze_table.proofs.Lookup.{IsAbove, IsAbove-from_apart, at_in, at_over, by_place, at_before, holds_in, holds_under, holds_over}
-use Rattle.blaze_table.proofs.Unique.{same_along, breaks}
+use Rattle.blaze_table.proofs.Unique.{breaks}
+
+-- of two ranges that follow one another the first ends below the second
+pub in_order : {V : Type 0} (e f : Entry V) (fs : List (Entry V)) → IsDisjoint (e ∷ f ∷ fs) → IsAscending (e ∷ f ∷ fs) → e.hi <ℤ f.lo
+in_order e f fs d a = by_lt_z e.hi f.lo (λ l. l) (λ l. absurd (d.1.0 f.lo (holds_in e f.lo (omega (arith, ints, a.0)) l) (holds_in f f.lo (omega (arith, ints)) d.2.0)))
 
 module _ {V : Type 0} (eq : V → V → Bool) (laws : IsEquivalence eq) where
   -- the same two options, at another place
@@ -123,9 +128,6 @@ module _ {V : Type 0} (eq : V → V → Bool) (laws : IsEquivalence eq) where
   -- every range ends above b
   abbrev AllEndAbove : ℤ → List (Entry V) → Type 0
   AllEndAbove b es = (k : ℤ) → HasEnd es k → b <ℤ k
-
-  pub in_order : (e f : Entry V) (fs : List (Entry V)) → IsDisjoint (e ∷ f ∷ fs) → IsAscending (e ∷ f ∷ fs) → e.hi <ℤ f.lo
-  in_order e f fs d a = by_lt_z e.hi f.lo (λ l. l) (λ l. absurd (d.1.0 f.lo (holds_in e f.lo (omega (arith, ints, a.0)) l) (holds_in f f.lo (omega (arith, ints)) d.2.0)))
 
   ends_above : (e : Entry V) (es : List (Entry V)) → IsDisjoint (e ∷ es) → IsAscending (e ∷ es) → AllEndAbove e.hi es
   ends_above e [] d a k h = absurd h

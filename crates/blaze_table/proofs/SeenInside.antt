@@ -4,6 +4,8 @@ use Rattle.std.specs.Prelude.{◌↔◌, int_le}
 use Rattle.std.specs.List.{last_or}
 use Rattle.std.specs.Option.{option_map, option_or}
 use Rattle.std.proofs.lemmas.Int.{ints, by_lt_z}
+use Rattle.std.proofs.lemmas.Bool.{and_parts, and_from}
+use Rattle.blaze_int.proofs.Tests.{le_true, le_false, le_holds, not_both}
 use Rattle.blaze_entries.specs.Found.{found_in}
 use Rattle.blaze_entries.specs.Scanned.{Seen}
 use Rattle.blaze_entries.specs.Starts.{StartsAscend, below, last_below, start_at}
@@ -16,10 +18,9 @@ use Rattle.blaze_table.specs.Splice.{before, after, IsBelow}
 use Rattle.blaze_table.proofs.Clearing.{below_below}
 use Rattle.blaze_table.proofs.Growing.{last_there}
 use Rattle.blaze_table.proofs.Inside.{inside_above}
-use Rattle.blaze_table.proofs.LooksSay.{le_holds}
-use Rattle.blaze_table.proofs.Lookup.{IsAbove-from_apart}
-use Rattle.blaze_table.proofs.Plans.{first_is, not_below, above_more}
-use Rattle.blaze_table.proofs.Splices.{by_after, before_keeps, after_skips, le_true, le_false}
+use Rattle.blaze_table.proofs.Lookup.{IsAbove-from_apart, above_by}
+use Rattle.blaze_table.proofs.Plans.{first_is, not_below}
+use Rattle.blaze_table.proofs.Splices.{by_after, before_keeps, after_skips}
 use Rattle.blaze_table.proofs.Splits.{last_at, no_last, no_last_from, ends_below}
 use Rattle.blaze_table.proofs.Walked.{same_below}
 use Rattle.blaze_table.proofs.Widened.{after_over}
@@ -29,7 +30,7 @@ module _ {V : Type 0} (eq : V → V → Bool) (v : V) (l h : ℤ) (w : l ≤ℤ 
   pub inside_short : (es : List (Entry V)) → IsCanonical eq es → IsInside eq l h v es → length es ≤ length (before l es) + length (after h es) + 1
   inside_short [] c i = absurd i
   inside_short (e ∷ es) c (inl p) = by_after h e es
-      (λ u q. rw (q, after_over eq h es (above_more eq h e.hi es p.1 (IsAbove-from_apart eq e es c.1)) c.2) (omega arith))
+      (λ u q. rw (q, after_over eq h es (above_by e.hi h es p.1 (IsAbove-from_apart eq e es c.1)) c.2) (omega arith))
       (λ u m q. rw q (omega arith))
       (λ u m q. rw q (omega arith))
   inside_short (e ∷ es) c (inr p) =
@@ -52,15 +53,6 @@ module _ {V : Type 0} (eq : V → V → Bool) (v : V) (l h : ℤ) (w : l ≤ℤ 
   part_inside high (x ∷ xs) e ys a b s (inr p) = part_inside high xs e ys a b.1 s p
 
   module _ (low high : ℤ) (es : List (Entry V)) (s : StartsAscend low high es) (c : IsCanonical eq es) where
-    both : (a b : Bool) → (a && b) ≡ true → (a ≡ true) × (b ≡ true)
-    both true b q = (refl, q)
-    both false b q = cc
-
-    together : (a b : Bool) → a ≡ true → b ≡ true → (a && b) ≡ true
-    together true true p q = refl
-    together true false p q = q
-    together false b p q = p
-
     -- by the last entry that starts up to the range's first key
     inside_last : (o : Option (Entry V)) → last_below (l +ℤ pos 1) es ≡ o → (reaches h (option_map (found_in eq v) o) ≡ true) ↔ IsInside eq l h v es
     inside_last None q = ((λ r. cc), (λ i. absurd (not_inside (l +ℤ pos 1) high es (omega (arith, ints)) (no_last_from (l +ℤ pos 1) low high es s q) i)))
@@ -68,11 +60,11 @@ module _ {V : Type 0} (eq : V → V → Bool) (v : V) (l h : ℤ) (w : l ≤ℤ 
         let i = last_at (l +ℤ pos 1) low high e es s q in
         let up = i.starts in (
           (λ r.
-              let t = both (eq e.value v) (int_le h e.hi) r in
+              let t = and_parts (eq e.value v) (int_le h e.hi) r in
               subst (IsInside eq l h v) (sym i.parts) (inside_part i.front e i.back (omega (arith, ints)) (le_holds h e.hi t.1) t.0)),
           (λ j.
               let t = part_inside high i.front e i.back (omega (arith, ints)) (ends_below eq i.front e i.back (subst (IsCanonical eq) i.parts c)) i.back_from (subst (IsInside eq l h v) i.parts j) in
-              together (eq e.value v) (int_le h e.hi) t.1 (le_true h e.hi t.0)),
+              and_from (eq e.value v) (int_le h e.hi) t.1 (le_true h e.hi t.0)),
         )
 
     -- it starts there, or is the last below
@@ -104,7 +96,4 @@ module _ {V : Type 0} (eq : V → V → Bool) (v : V) (l h : ℤ) (w : l ≤ℤ 
         ((λ t. last.0 (ap (reaches h) holder ∙ t)), (λ i. sym (ap (reaches h) holder) ∙ last.1 i))
 
     pub not_reached : (p : Seen) → IsPlanOf eq l h v es p → reaches h (option_or p.first p.left) ≡ false → IsInside eq l h v es → ⊥
-    not_reached p r n i = true_false (reaches h (option_or p.first p.left)) ((inside_seen p r).1 i) n
-      where
-        true_false : (b : Bool) → b ≡ true → b ≡ false → ⊥
-        true_false b p q = cc
+    not_reached p r n i = not_both (reaches h (option_or p.first p.left)) ((inside_seen p r).1 i) n

@@ -3,13 +3,14 @@ use Rattle.std.proofs.Common.{◌≡◌, ◌+◌, ◌≤◌, ℤ, pos, ◌+ℤ�
 use Rattle.std.specs.Prelude.{◌⊎◌}
 use Rattle.std.proofs.lemmas.Int.{ints, by_lt_z}
 use Rattle.std.specs.Cmp.{IsEquivalence}
+use Rattle.blaze_entries.proofs.Alike.{same_along, same_itself, same_trans, none_of_same}
 use Rattle.blaze_table.specs.Entries.{Entry, entry, holds, at, SameOption, SameContent}
 use Rattle.blaze_table.specs.Canonical.{IsCanonical, IsClear, IsDisjoint, IsAscending}
 use Rattle.blaze_table.specs.Laws.{CanonicalIsShortest}
-use Rattle.blaze_table.proofs.Fewest.{at_clear, fewest}
-use Rattle.blaze_table.proofs.Lookup.{at_in, at_under, at_over, by_place, holds_in}
+use Rattle.blaze_table.proofs.Fewest.{fewest}
+use Rattle.blaze_table.proofs.Lookup.{at_in, at_under, at_over, by_place, holds_in, at_clear}
 use Rattle.blaze_table.proofs.Runs.{canonical, in_order}
-use Rattle.blaze_table.proofs.Unique.{same_along, same_itself, same_trans, unique}
+use Rattle.blaze_table.proofs.Unique.{unique}
 
 module _ {V : Type 0} where
   -- where a list has nothing, its first entry has no key, and its rest has nothing
@@ -43,11 +44,6 @@ module _ {V : Type 0} (eq : V → V → Bool) (laws : IsEquivalence eq) where
     content : SameContent eq entries others
     fewer : length others + 1 ≡ length entries
 
-  same_none : (a b : Option V) → a ≡ None → SameOption eq a b → b ≡ None
-  same_none None None p s = refl
-  same_none None (Some y) p s = absurd s
-  same_none (Some x) b p s = absurd cc
-
   -- two entries that touch with equal values make one
   joined : (e f : Entry V) (fs : List (Entry V)) → IsDisjoint (e ∷ f ∷ fs) → f.lo ≡ e.hi +ℤ pos 1 → eq e.value f.value ≡ true → IsShorter (e ∷ f ∷ fs)
   joined e f fs d touch alike = record {
@@ -68,8 +64,8 @@ module _ {V : Type 0} (eq : V → V → Bool) (laws : IsEquivalence eq) where
 
       outside : (k : ℤ) → holds (entry e.lo f.hi e.value) k ≡ true → at fs k ≡ None
       outside k h = ⊎_elim
-          (λ (p : holds e k ≡ true). at_clear eq laws e fs k d.1.1 p)
-          (λ (p : holds f k ≡ true). at_clear eq laws f fs k d.2.1 p)
+          (λ (p : holds e k ≡ true). at_clear e fs k d.1.1 p)
+          (λ (p : holds f k ≡ true). at_clear f fs k d.2.1 p)
           (in_either k h)
 
       content : SameContent eq (e ∷ f ∷ fs) (entry e.lo f.hi e.value ∷ fs)
@@ -84,7 +80,7 @@ module _ {V : Type 0} (eq : V → V → Bool) (laws : IsEquivalence eq) where
   behind : (e : Entry V) (es : List (Entry V)) → IsDisjoint (e ∷ es) → IsShorter es → IsShorter (e ∷ es)
   behind e es d s = record {
     others = e ∷ s.others;
-    disjoint = (d.0, clear_of e s.others (λ k h. same_none (at es k) (at s.others k) (at_clear eq laws e es k d.1 h) (s.content k)), s.disjoint);
+    disjoint = (d.0, clear_of e s.others (λ k h. none_of_same eq (at es k) (at s.others k) (s.content k) (at_clear e es k d.1 h)), s.disjoint);
     content = λ k. same_cond (holds e k) (at es k) (at s.others k) (s.content k);
     fewer = omega (arith, s.fewer);
   }
@@ -98,7 +94,7 @@ module _ {V : Type 0} (eq : V → V → Bool) (laws : IsEquivalence eq) where
   canonical_or_shorter [] d a = inl tt
   canonical_or_shorter (e ∷ []) d a = inl (d.0, tt, tt)
   canonical_or_shorter (e ∷ f ∷ fs) d a =
-      let o = in_order eq laws e f fs d a in
+      let o = in_order e f fs d a in
       let rest = canonical_or_shorter (f ∷ fs) d.2 a.1 in
       by_lt_z (e.hi +ℤ pos 1) f.lo
       (λ l. later rest (o, λ p. absurd (omega (arith, ints, p, l))))

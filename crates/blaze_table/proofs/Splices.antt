@@ -5,32 +5,14 @@ use Rattle.std.specs.Prelude.{int_lt, int_le, ◌&&◌}
 use Rattle.std.specs.Ordering.{int_eq}
 use Rattle.std.proofs.lemmas.Int.{ints, by_lt_z}
 use Rattle.std.specs.Cmp.{IsEquivalence}
+use Rattle.std.proofs.lemmas.Bool.{and_parts}
+use Rattle.blaze_int.proofs.Tests.{by_bool, lt_true, lt_false, le_true, le_false, eq_holds, eq_true, and_fails}
+use Rattle.blaze_entries.proofs.Alike.{same_along, same_itself, same_trans}
 use Rattle.blaze_table.specs.Entries.{Entry, holds, at, SameOption, entry}
 use Rattle.blaze_table.specs.Canonical.{IsApart, IsCanonical}
 use Rattle.blaze_table.specs.Splice.{before, after, is_joinable, join, glue, paint, IsBelow}
 use Rattle.blaze_table.specs.Painted.{painted}
 use Rattle.blaze_table.proofs.Lookup.{IsAbove, at_in, at_under, at_over, by_place, at_before, holds_in, holds_under, holds_over}
-use Rattle.blaze_table.proofs.Unique.{same_along, same_itself, same_trans}
-
--- the first test that holds
-pub by_bool : {P : Type 0} (b : Bool) → (b ≡ true → P) → (b ≡ false → P) → P
-by_bool true t f = t refl
-by_bool false t f = f refl
-
-pub lt_true : (a b : ℤ) → a <ℤ b → int_lt a b ≡ true
-lt_true a b h = grind (arith, ints)
-
-pub lt_false : (a b : ℤ) → b ≤ℤ a → int_lt a b ≡ false
-lt_false a b h = grind (arith, ints)
-
-pub le_true : (a b : ℤ) → a ≤ℤ b → int_le a b ≡ true
-le_true a b h = grind (arith, ints)
-
-pub le_false : (a b : ℤ) → b <ℤ a → int_le a b ≡ false
-le_false a b h = grind (arith, ints)
-
-eq_true : (a b : ℤ) → int_eq a b ≡ true → a ≡ b
-eq_true a b h = grind (arith, ints)
 
 module _ {V : Type 0} where
   -- `before`, by where its entry stands
@@ -152,23 +134,12 @@ module _ {V : Type 0} (eq : V → V → Bool) where
       (λ h m p. rw p refl)
 
   -- `join`, by whether the two meet with like values
-  and_true : (a b : Bool) → (a && b) ≡ true → (a ≡ true) × (b ≡ true)
-  and_true true b p = (refl, p)
-  and_true false b p = cc
-
-  and_false : (a b : Bool) → (a && b) ≡ false → a ≡ true → b ≡ false
-  and_false true b p q = p
-  and_false false b p q = cc
-
-  int_eq_true : (a b : ℤ) → a ≡ b → int_eq a b ≡ true
-  int_eq_true a b p = grind (arith, ints)
-
   pub by_join : {P : Type 0} (e f : Entry V) (fs : List (Entry V))
       → (f.lo ≡ e.hi +ℤ pos 1 → eq e.value f.value ≡ true → join eq e (f ∷ fs) ≡ entry e.lo f.hi e.value ∷ fs → P)
       → ((f.lo ≡ e.hi +ℤ pos 1 → eq e.value f.value ≡ false) → join eq e (f ∷ fs) ≡ e ∷ f ∷ fs → P) → P
   by_join e f fs met not_met = by_bool (is_joinable eq e f)
-      (λ p. let t = and_true _ _ p in met (eq_true f.lo (e.hi +ℤ pos 1) t.0) t.1 (ap (λ b. cond b (entry e.lo f.hi e.value ∷ fs) (e ∷ f ∷ fs)) p))
-      (λ p. not_met (λ q. and_false _ _ p (int_eq_true f.lo (e.hi +ℤ pos 1) q)) (ap (λ b. cond b (entry e.lo f.hi e.value ∷ fs) (e ∷ f ∷ fs)) p))
+      (λ p. let t = and_parts _ _ p in met (eq_holds f.lo (e.hi +ℤ pos 1) t.0) t.1 (ap (λ b. cond b (entry e.lo f.hi e.value ∷ fs) (e ∷ f ∷ fs)) p))
+      (λ p. not_met (λ q. and_fails _ _ p (eq_true f.lo (e.hi +ℤ pos 1) q)) (ap (λ b. cond b (entry e.lo f.hi e.value ∷ fs) (e ∷ f ∷ fs)) p))
 
   pub length-glue : (L M : List (Entry V)) → length (glue eq L M) ≤ length L + length M
   length-glue [] M = omega arith
@@ -243,12 +214,6 @@ module _ {V : Type 0} (eq : V → V → Bool) where
 
       pub at_left : (k : ℤ) → SameOption eq (at left k) (option_or (at (before l es) k) (at (entry l h v ∷ []) k))
       at_left k = at_glue (before l es) (entry l h v ∷ []) k (canonical_before l es c) (w, tt, tt)
-
-      pub same_in_or : (a b z : Option V) → SameOption eq a b → SameOption eq (option_or a z) (option_or b z)
-      same_in_or None None z s = same_itself eq laws z
-      same_in_or None (Some y) z s = absurd s
-      same_in_or (Some x) None z s = absurd s
-      same_in_or (Some x) (Some y) z s = s
 
       pub three : (k : ℤ) → option_or (option_or (at (before l es) k) (at (entry l h v ∷ []) k)) (at (after h es) k) ≡ painted l h v (at es) k
       three k = by_place (entry l h v) k

@@ -4,10 +4,13 @@ use Rattle.std.specs.Cmp.{IsEquivalence}
 use Rattle.std.specs.Prelude.{Result, Ok, Err, IfOk, OnOk, IsSome, int_lt, int_le}
 use Rattle.std.specs.Option.{option_map}
 use Rattle.std.proofs.lemmas.Int.{ints}
+use Rattle.std.proofs.lemmas.List.{append-nil, append_assoc}
+use Rattle.std.proofs.lemmas.List.Elements.{filter-append}
 use Rattle.blaze_entries.specs.Counted.{CountedEntries, uncounted}
 use Rattle.blaze_entries.specs.Found.{range_in}
 use Rattle.blaze_entries.specs.Starts.{StartsAscend, below, from, last_below, start_at, with_entry, without, with_end, IsCloneInserted}
-use Rattle.blaze_entries.proofs.Halves.{StartsBelow, below_all, below_none, below_skips, from_all, from_none, from_takes}
+use Rattle.blaze_entries.proofs.Halves.{StartsBelow, below_all, below_none, below_skips, from_all, from_none, from_takes, more_below}
+use Rattle.blaze_entries.proofs.Alike.{none_from_map}
 use Rattle.blaze_table.specs.Entries.{Entry, entry}
 use Rattle.blaze_table.specs.Canonical.{IsCanonical}
 use Rattle.blaze_table.specs.Painted.{ClonesAreAlike}
@@ -16,15 +19,15 @@ use Rattle.blaze_table.proofs.Holders.{Holder, is_holder, put_inside, starts_beh
 use Rattle.blaze_table.proofs.Lookup.{IsAbove}
 use Rattle.blaze_table.proofs.Placing.{put_back, put_there}
 use Rattle.blaze_table.proofs.Splices.{below_more}
-use Rattle.blaze_table.proofs.Splits.{append_none, append_assoc, filter_append, more_below, no_last, no_last_from}
+use Rattle.blaze_table.proofs.Splits.{no_last, no_last_from}
 use Rattle.blaze_table.proofs.Splitting.{split_here, split_between}
 
 module _ {V : Type 0} where
   below_front : (k : ℤ) (xs ys : List (Entry V)) → StartsBelow k xs → below k ys ≡ [] → below k (xs ++ ys) ≡ xs
-  below_front k xs ys u n = filter_append (λ e. int_lt e.lo k) xs ys ∙ ap (λ l. l ++ below k ys) (below_all k xs u) ∙ ap (λ l. xs ++ l) n ∙ append_none xs
+  below_front k xs ys u n = filter-append (λ e. int_lt e.lo k) xs ys ∙ ap (λ l. l ++ below k ys) (below_all k xs u) ∙ ap (λ l. xs ++ l) n ∙ append-nil xs
 
   from_back : (k : ℤ) (xs ys : List (Entry V)) → StartsBelow k xs → from k ys ≡ ys → from k (xs ++ ys) ≡ ys
-  from_back k xs ys u n = filter_append (λ e. int_le k e.lo) xs ys ∙ ap (λ l. l ++ from k ys) (from_none k xs u) ∙ n
+  from_back k xs ys u n = filter-append (λ e. int_le k e.lo) xs ys ∙ ap (λ l. l ++ from k ys) (from_none k xs u) ∙ n
 
   above_from : (k j high : ℤ) (es : List (Entry V)) → j <ℤ k → StartsAscend k high es → IsAbove j es
   above_from k j high [] l a = tt
@@ -85,15 +88,11 @@ module _ {V : Type 0} (eq : V → V → Bool) (laws : IsEquivalence eq) (k high 
   -- no entry starts below the key
   pub split_above : (low : ℤ) → StartsAscend low high es → IsCanonical eq es → None ≡ option_map range_in (last_below k es) → IsSplitOf eq k es (below k es) (from k es)
   split_above low a c p =
-      let none : last_below k es ≡ None = no_look (last_below k es) p in
+      let none : last_below k es ≡ None = none_from_map range_in (last_below k es) p in
       let starts = no_last_from k low high es a none in
       subst (λ x. IsSplitOf eq k es x (from k es)) (sym (no_last k low high es a none))
       (subst (λ x. IsSplitOf eq k es [] x) (sym (from_all k k high es (omega (arith, ints)) starts))
       (split_between eq laws k [] tt es c (above_from k (k -ℤ pos 1) high es (omega (arith, ints)) starts)))
-    where
-      no_look : (o : Option (Entry V)) → None ≡ option_map range_in o → o ≡ None
-      no_look None p = refl
-      no_look (Some e) p = cc
 
   -- what a plain split answers
   pub if_split : {E : Type 0} (r : Result (CountedEntries V) E) (old new : CountedEntries V) → old.entries ≡ es → IsSplitOf eq k es (below k es) (from k es)

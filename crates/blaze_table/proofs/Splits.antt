@@ -3,34 +3,19 @@ use Rattle.std.proofs.Common.{◌≡◌, ℤ, pos, ◌+ℤ◌, ◌≤ℤ◌, ◌
 use Rattle.std.specs.Prelude.{IsSome, int_le}
 use Rattle.std.specs.List.{filter, last_or}
 use Rattle.std.proofs.lemmas.Int.{ints, by_lt_z}
+use Rattle.std.proofs.lemmas.List.Elements.{filter-append}
 use Rattle.blaze_entries.specs.Starts.{StartsAscend, below, from, first_entry, last_below, first_from, start_at}
-use Rattle.blaze_entries.proofs.Ascending.{by_order, start_none}
-use Rattle.blaze_entries.proofs.Halves.{StartsBelow, below_takes, below_skips, from_takes, from_skips, below_none, from_all, from_none}
+use Rattle.blaze_entries.proofs.Ascending.{by_order, start_none, first_none}
+use Rattle.blaze_entries.proofs.Halves.{StartsBelow, below_takes, below_skips, from_takes, from_skips, below_none, from_all, from_none, more_below}
 use Rattle.blaze_table.specs.Entries.{Entry, entry}
 use Rattle.blaze_table.specs.Canonical.{IsApart, IsCanonical}
 use Rattle.blaze_table.specs.Splice.{after, IsBelow}
 use Rattle.blaze_table.proofs.Splices.{after_skips, after_cuts, after_keeps}
 use Rattle.blaze_table.proofs.Painted.{after_past}
 
-pub append_none : {X : Type 0} (xs : List X) → xs ++ [] ≡ xs
-append_none [] = refl
-append_none (x ∷ xs) = ap (λ l. x ∷ l) (append_none xs)
-
 pub some_of : {X : Type 0} (o : Option X) → IsSome o → (x : X) × (o ≡ Some x)
 some_of None h = cc
 some_of (Some x) h = (x, refl)
-
-pub filter_append : {X : Type 0} (p : X → Bool) (xs ys : List X) → filter p (xs ++ ys) ≡ filter p xs ++ filter p ys
-filter_append p [] ys = refl
-filter_append {X} p (x ∷ xs) ys =
-    elim (p x) as (λ b. cond b (x ∷ filter p (xs ++ ys)) (filter p (xs ++ ys)) ≡ cond b (x ∷ filter p xs) (filter p xs) ++ filter p ys) [
-      | true ↦ ap (λ l. x ∷ l) (filter_append p xs ys)
-      | false ↦ filter_append p xs ys
-    ]
-
-pub append_assoc : {X : Type 0} (xs ys zs : List X) → (xs ++ ys) ++ zs ≡ xs ++ (ys ++ zs)
-append_assoc [] ys zs = refl
-append_assoc (x ∷ xs) ys zs = ap (λ l. x ∷ l) (append_assoc xs ys zs)
 
 module _ {V : Type 0} where
   pub starts_below : (k : ℤ) (es : List (Entry V)) → StartsBelow k (below k es)
@@ -38,10 +23,6 @@ module _ {V : Type 0} where
   starts_below k (e ∷ es) = by_lt_z e.lo k
       (λ l. rw (below_takes k e es l) (l, starts_below k es))
       (λ l. rw (below_skips k e es l) (starts_below k es))
-
-  pub more_below : (k j : ℤ) (es : List (Entry V)) → k ≤ℤ j → StartsBelow k es → StartsBelow j es
-  more_below k j [] l h = tt
-  more_below k j (e ∷ es) l h = (omega (arith, ints, h.0), more_below k j es l h.1)
 
   -- the two parts are the whole
   pub halves : (k b high : ℤ) (es : List (Entry V)) → StartsAscend b high es → es ≡ below k es ++ from k es
@@ -146,11 +127,7 @@ module _ {V : Type 0} where
       some_same p = cc
 
   pub no_first : (k : ℤ) (es : List (Entry V)) → first_from k es ≡ None → from k es ≡ []
-  no_first k es n = none_in (from k es) n
-    where
-      none_in : (xs : List (Entry V)) → first_entry xs ≡ None → xs ≡ []
-      none_in [] n = refl
-      none_in (x ∷ xs) n = cc
+  no_first k es n = first_none (from k es) n
 
   -- the entries from k on, by whether one starts there
   pub from_at : (k b high : ℤ) (e : Entry V) (es : List (Entry V)) → StartsAscend b high es → start_at k es ≡ Some e → (e.lo ≡ k) × (from k es ≡ e ∷ from (k +ℤ pos 1) es)
@@ -210,7 +187,7 @@ module _ {V : Type 0} (eq : V → V → Bool) where
     rest_canonical = canonical_part r.front (e ∷ r.back) parted
 
     pub back_is : from (k +ℤ pos 1) es ≡ r.back
-    back_is = ap (from (k +ℤ pos 1)) r.parts ∙ filter_append (λ x. int_le (k +ℤ pos 1) x.lo) r.front (e ∷ r.back)
+    back_is = ap (from (k +ℤ pos 1)) r.parts ∙ filter-append (λ x. int_le (k +ℤ pos 1) x.lo) r.front (e ∷ r.back)
         ∙ ap (λ l. l ++ from (k +ℤ pos 1) (e ∷ r.back)) (from_none (k +ℤ pos 1) r.front (more_below e.lo (k +ℤ pos 1) r.front (omega (arith, ints, r.starts)) r.front_below))
         ∙ from_skips (k +ℤ pos 1) e r.back r.starts ∙ from_all (k +ℤ pos 1) (k +ℤ pos 1) high r.back (omega (arith, ints)) r.back_from
 

@@ -3,6 +3,9 @@ use Rattle.std.proofs.Common.{◌≡◌, ℕ, ℤ, pos, ◌+ℤ◌, ◌-ℤ◌, 
 use Rattle.std.specs.Prelude.{int_le}
 use Rattle.std.specs.Cmp.{IsEquivalence}
 use Rattle.std.proofs.lemmas.Int.{ints, by_lt_z}
+use Rattle.std.proofs.lemmas.List.{append-nil}
+use Rattle.blaze_int.proofs.Tests.{lt_true, lt_false, le_true, le_false}
+use Rattle.blaze_entries.proofs.Alike.{same_along, same_itself}
 use Rattle.blaze_table.specs.Entries.{Entry, at, SameEntries, entry}
 use Rattle.blaze_table.specs.Canonical.{IsCanonical, AreKeys}
 use Rattle.blaze_table.specs.Count.{keys_in}
@@ -10,8 +13,8 @@ use Rattle.blaze_table.specs.Splice.{before, after, IsBelow, IsSplitOf, IsListSp
 use Rattle.blaze_table.specs.Cut.{below_at, from_at}
 use Rattle.blaze_table.specs.Table.{IsTable}
 use Rattle.blaze_table.proofs.Lookup.{IsAbove, IsAbove-from_apart, at_before}
-use Rattle.blaze_table.proofs.Unique.{same_along, same_itself, back}
-use Rattle.blaze_table.proofs.Splices.{by_before, by_after, before_cuts, after_skips, after_cuts, canonical_before, canonical_after, above_after, at-before_under, at-before_over, at-after_over, lt_true, lt_false}
+use Rattle.blaze_table.proofs.Unique.{back}
+use Rattle.blaze_table.proofs.Splices.{by_before, by_after, before_cuts, after_skips, after_cuts, canonical_before, canonical_after, above_after, at-before_under, at-before_over, at-after_over}
 use Rattle.blaze_table.proofs.Painted.{canonical_as, content_as, before_past, entries_themselves}
 use Rattle.blaze_table.proofs.Counted.{before_none, are_keys_before, are_keys_after, are_keys_as, same_keys_in}
 
@@ -38,12 +41,6 @@ module _ {V : Type 0} (eq : V → V → Bool) where
       (λ m n q. rw (p, q) (omega (arith, ints))))
 
   module _ (laws : IsEquivalence eq) (k : ℤ) (es below from : List (Entry V)) (c : IsCanonical eq es) (r : IsSplitOf eq k es below from) where
-    le_true : (a b : ℤ) → a ≤ℤ b → int_le a b ≡ true
-    le_true a b h = grind (arith, ints)
-
-    le_false : (a b : ℤ) → b <ℤ a → int_le a b ≡ false
-    le_false a b h = grind (arith, ints)
-
     rest : List (Entry V)
     rest = after (k -ℤ pos 1) es
 
@@ -89,10 +86,6 @@ module _ {V : Type 0} (eq : V → V → Bool) (laws : IsEquivalence eq) (k : ℤ
   after_below [] X b = refl
   after_below (e ∷ A) X b = after_skips (k -ℤ pos 1) e (A ++ X) (omega (arith, ints, b.0)) ∙ after_below A X b.1
 
-  append_none : {X : Type 0} (xs : List X) → xs ++ [] ≡ xs
-  append_none [] = refl
-  append_none (x ∷ xs) = ap (λ l. x ∷ l) (append_none xs)
-
   after_all : (es : List (Entry V)) → IsCanonical eq es → IsAbove (k -ℤ pos 1) es → after (k -ℤ pos 1) es ≡ es
   after_all [] c a = refl
   after_all (e ∷ es) c a = by_after (k -ℤ pos 1) e es (λ h p. absurd (omega (arith, ints, c.0))) (λ h l p. absurd (omega (arith, ints))) (λ h l p. p)
@@ -108,6 +101,6 @@ module _ {V : Type 0} (eq : V → V → Bool) (laws : IsEquivalence eq) (k : ℤ
     -- the key lies between entries
     pub split_between : (C : List (Entry V)) → IsCanonical eq C → IsAbove (k -ℤ pos 1) C → IsSplitOf eq k (A ++ C) A C
     split_between C c a = record {
-      below_is = sym (before_past k A C b ∙ ap (λ xs. A ++ xs) (before_none eq k C c a) ∙ append_none A);
+      below_is = sym (before_past k A C b ∙ ap (λ xs. A ++ xs) (before_none eq k C c a) ∙ append-nil A);
       like = subst (λ xs. SameEntries eq xs C) (sym (after_below A C b ∙ after_all C c a)) (entries_themselves eq laws C);
     }

@@ -5,17 +5,19 @@ use Rattle.std.specs.List.{filter}
 use Rattle.std.specs.Option.{option_map}
 use Rattle.std.specs.Ordering.{int_eq}
 use Rattle.std.proofs.lemmas.Int.{ints, by_lt_z}
+use Rattle.std.proofs.lemmas.List.Elements.{filter-append}
+use Rattle.blaze_int.proofs.Tests.{by_bool, le_true, le_false}
 use Rattle.blaze_entries.specs.Found.{found_in}
 use Rattle.blaze_entries.specs.Starts.{StartsAscend, below, from, start_at, without}
 use Rattle.blaze_entries.proofs.Ascending.{by_order}
-use Rattle.blaze_entries.proofs.Halves.{below_takes, below_skips, from_takes, from_skips, from_all, from_none}
+use Rattle.blaze_entries.proofs.Halves.{below_takes, below_skips, from_takes, from_skips, from_all, from_none, more_below}
 use Rattle.blaze_table.specs.Entries.{Entry}
 use Rattle.blaze_table.specs.Canonical.{IsCanonical}
 use Rattle.blaze_table.specs.Planned.{starts_in, ends_in, least, least_with}
 use Rattle.blaze_table.specs.Splice.{after}
-use Rattle.blaze_table.proofs.Lookup.{IsAbove, IsAbove-from_apart}
-use Rattle.blaze_table.proofs.Splices.{by_after, by_bool, le_true, le_false}
-use Rattle.blaze_table.proofs.Splits.{LastAt, from_at, from_not_at, filter_append, more_below}
+use Rattle.blaze_table.proofs.Lookup.{IsAbove, IsAbove-from_apart, above_by, above_rest}
+use Rattle.blaze_table.proofs.Splices.{by_after}
+use Rattle.blaze_table.proofs.Splits.{LastAt, from_at, from_not_at}
 
 module _ {V : Type 0} where
   -- the two parts of a part
@@ -88,21 +90,14 @@ module _ {V : Type 0} (eq : V → V → Bool) where
       later : int_eq l f.lo ≡ false → start_at l fs ≡ Some g
       later r = sym (ap (λ t. cond t (Some f) (start_at l fs)) r) ∙ p
 
-  more_above : (a b : ℤ) (es : List (Entry V)) → a ≤ℤ b → IsAbove b es → IsAbove a es
-  more_above a b [] l h = tt
-  more_above a b (e ∷ es) l h = omega (arith, ints, h)
-
-  next_above : (z : ℤ) (e : Entry V) (es : List (Entry V)) → z ≤ℤ e.hi → IsCanonical eq (e ∷ es) → IsAbove z es
-  next_above z e es u c = more_above z e.hi es u (IsAbove-from_apart eq e es c.1)
-
   -- all start above z
   pub no_starts : (f z : ℤ) (es : List (Entry V)) → IsAbove z es → IsCanonical eq es → starts_in f z es ≡ []
   no_starts f z [] a c = refl
-  no_starts f z (e ∷ es) a c = starts_over f z e es a ∙ no_starts f z es (next_above z e es (omega (arith, ints, a, c.0)) c) c.2
+  no_starts f z (e ∷ es) a c = starts_over f z e es a ∙ no_starts f z es (above_rest eq z e es (omega (arith, ints, a, c.0)) c) c.2
 
   pub no_ends : (f z : ℤ) (es : List (Entry V)) → IsAbove z es → IsCanonical eq es → ends_in f z es ≡ []
   no_ends f z [] a c = refl
-  no_ends f z (e ∷ es) a c = ends_over f z e es (omega (arith, ints, a, c.0)) ∙ no_ends f z es (next_above z e es (omega (arith, ints, a, c.0)) c) c.2
+  no_ends f z (e ∷ es) a c = ends_over f z e es (omega (arith, ints, a, c.0)) ∙ no_ends f z es (above_rest eq z e es (omega (arith, ints, a, c.0)) c) c.2
 
   -- no entry has keys on both sides of the end of z
   pub all_end : (f z : ℤ) (es : List (Entry V)) → IsCanonical eq es → after z es ≡ from (z +ℤ pos 1) es → starts_in f z es ≡ ends_in f z es
@@ -129,8 +124,8 @@ module _ {V : Type 0} (eq : V → V → Bool) where
       (λ o q r.
       let same : e.hi ≡ of.hi = first (sym (ap (λ t. cond t (Some e) (start_at s es)) r) ∙ p) in
       ap (λ t. starts_in f z (cond t es (e ∷ without s es))) r
-      ∙ no_starts f z es (next_above z e es (omega (arith, ints)) c) c.2
-      ∙ sym (ends_over f z e es (omega (arith, ints)) ∙ no_ends f z es (next_above z e es (omega (arith, ints)) c) c.2))
+      ∙ no_starts f z es (above_rest eq z e es (omega (arith, ints)) c) c.2
+      ∙ sym (ends_over f z e es (omega (arith, ints)) ∙ no_ends f z es (above_rest eq z e es (omega (arith, ints)) c) c.2))
       (λ o q r.
       let t = over_later e.hi s of es (IsAbove-from_apart eq e es c.1) c.2 (later r) in
       let rest = others_end f z s of es c.2 (later r) u w in
@@ -151,7 +146,7 @@ module _ {V : Type 0} (eq : V → V → Bool) (v : V) (l low high : ℤ) (e : En
   same_from = up_to (e.lo +ℤ pos 1) (omega (arith, ints)) (omega (arith, ints, i.starts)) ∙ sym (up_to l i.starts (omega (arith, ints)))
     where
       up_to : (j : ℤ) → e.lo <ℤ j → j ≤ℤ l → from j es ≡ i.back
-      up_to j u w = ap (from j) i.parts ∙ filter_append (λ x. int_le j x.lo) i.front (e ∷ i.back)
+      up_to j u w = ap (from j) i.parts ∙ filter-append (λ x. int_le j x.lo) i.front (e ∷ i.back)
           ∙ ap (λ t. t ++ from j (e ∷ i.back)) (from_none j i.front (more_below e.lo j i.front (omega (arith, ints)) i.front_below))
           ∙ from_skips j e i.back u ∙ from_all j l high i.back w i.back_from
 

@@ -3,24 +3,17 @@ use Rattle.std.specs.Option.{option_or}
 use Rattle.std.proofs.Common.{◌≡◌, ℤ, pos, ◌+ℤ◌, ◌-ℤ◌, ◌≤ℤ◌, ◌<ℤ◌, Bool, List, [], ◌∷◌, Option, Some, None, refl, ◌∙◌, sym, ap, subst, arith}
 use Rattle.std.specs.Cmp.{IsEquivalence}
 use Rattle.std.proofs.lemmas.Int.{ints, by_lt_z}
+use Rattle.blaze_entries.proofs.Alike.{same_along, same_trans, or_none, none_or}
 use Rattle.blaze_table.specs.Entries.{Entry, entry, at, SameOption}
 use Rattle.blaze_table.specs.Splice.{glue, IsBelow}
 use Rattle.blaze_table.proofs.Counted.{are_keys_glue}
 use Rattle.blaze_table.proofs.Lookup.{at_in, at_under, at_over}
 use Rattle.blaze_table.proofs.Splices.{canonical_glue, at_glue, below_glue, below_more}
-use Rattle.blaze_table.proofs.Unique.{same_along, same_trans}
 use Rattle.blaze_table.specs.Swept.{IsBare, IsSwept}
 
 pub at_past : {V : Type 0} (b k : ℤ) (es : List (Entry V)) → IsBelow b es → b ≤ℤ k → at es k ≡ None
 at_past b k [] h l = refl
 at_past b k (e ∷ es) h l = at_over e es k (omega (arith, ints, h.0)) ∙ at_past b k es h.1 l
-
-or_none : {V : Type 0} (a : Option V) → option_or a None ≡ a
-or_none None = refl
-or_none (Some x) = refl
-
-none_or : {V : Type 0} (a : Option V) → option_or None a ≡ a
-none_or a = refl
 
 module _ {V : Type 0} (eq : V → V → Bool) (laws : IsEquivalence eq) (low high : ℤ) (wanted : ℤ → Option V) where
   -- nothing lies below the key

@@ -2,17 +2,10 @@
 use Rattle.std.proofs.Common.{◌≡◌, pos, ◌+ℤ◌, ◌-ℤ◌, ◌≤ℤ◌, Bool, true, List, [], ◌∷◌, Option, Some, None, refl, ◌∙◌, sym, subst, arith}
 use Rattle.std.proofs.lemmas.Int.{ints, by_lt_z}
 use Rattle.std.specs.Cmp.{IsEquivalence}
+use Rattle.blaze_entries.proofs.Alike.{same_along, same_back}
 use Rattle.blaze_table.specs.Entries.{Entry, at, SameOption, SameContent, SameEntries}
 use Rattle.blaze_table.specs.Canonical.{IsCanonical}
 use Rattle.blaze_table.proofs.Lookup.{IsAbove-from_apart, at_in, at_over, at_before}
-
--- a fact on two options, carried along two equations
--- none is the same as none
-pub same_none : {V : Type 0} (eq : V → V → Bool) (x : Option V) → x ≡ None → SameOption eq x None
-same_none eq x p = subst (λ o. SameOption eq o None) (sym p) tt
-
-pub same_along : {V : Type 0} (eq : V → V → Bool) {a b c d : Option V} → a ≡ c → b ≡ d → SameOption eq a b → SameOption eq c d
-same_along eq {b = b} {c = c} p q s = subst (λ y. SameOption eq c y) q (subst (λ x. SameOption eq x b) p s)
 
 module _ {V : Type 0} (eq : V → V → Bool) where
   -- what begins first in one list begins no later in the other
@@ -22,25 +15,8 @@ module _ {V : Type 0} (eq : V → V → Bool) where
       (λ h. h)
 
   module _ (laws : IsEquivalence eq) where
-    pub same_itself : (a : Option V) → SameOption eq a a
-    same_itself None = tt
-    same_itself (Some x) = laws.refl x
-
-    pub same_trans : (a b c : Option V) → SameOption eq a b → SameOption eq b c → SameOption eq a c
-    same_trans None None c p q = q
-    same_trans None (Some y) c p q = absurd p
-    same_trans (Some x) None c p q = absurd p
-    same_trans (Some x) (Some y) None p q = absurd q
-    same_trans (Some x) (Some y) (Some z) p q = laws.congr x y z p ∙ q
-
     pub back : (L M : List (Entry V)) → SameContent eq L M → SameContent eq M L
-    back L M s k = same_back (at L k) (at M k) (s k)
-      where
-        same_back : (a b : Option V) → SameOption eq a b → SameOption eq b a
-        same_back None None h = tt
-        same_back None (Some y) h = h
-        same_back (Some x) None h = h
-        same_back (Some x) (Some y) h = laws.symm y x ∙ h
+    back L M s k = same_back eq laws (at L k) (at M k) (s k)
 
     -- the values where both begin
     values : (e f : Entry V) (es fs : List (Entry V)) → IsCanonical eq (e ∷ es) → IsCanonical eq (f ∷ fs) → e.lo ≡ f.lo → SameContent eq (e ∷ es) (f ∷ fs) → eq e.value f.value ≡ true

@@ -4,16 +4,17 @@ use Rattle.std.specs.Prelude.{int_lt, int_le, reverse}
 use Rattle.std.specs.List.{last_or}
 use Rattle.std.specs.Option.{option_map}
 use Rattle.std.proofs.lemmas.Int.{ints, by_lt_z}
-use Rattle.std.proofs.lemmas.List.{reverse-append}
+use Rattle.std.proofs.lemmas.List.{reverse-append, append-nil}
+use Rattle.std.proofs.lemmas.List.Elements.{filter-append}
+use Rattle.blaze_int.proofs.Tests.{by_bool, lt_true, lt_false, le_true, le_false}
 use Rattle.blaze_entries.specs.Found.{found_in}
 use Rattle.blaze_entries.specs.Scanned.{Seen, seen, seen_end, seen_start, walked}
 use Rattle.blaze_entries.specs.Starts.{StartsAscend, below, last_below, start_at}
 use Rattle.blaze_entries.proofs.Ascending.{start_none}
-use Rattle.blaze_entries.proofs.Halves.{below_all, below_none, below_skips, below_takes}
+use Rattle.blaze_entries.proofs.Halves.{below_all, below_none, below_skips, below_takes, more_below}
 use Rattle.blaze_table.specs.Entries.{Entry}
 use Rattle.blaze_table.specs.Canonical.{IsCanonical}
-use Rattle.blaze_table.proofs.Splices.{by_bool, lt_true, lt_false, le_true, le_false}
-use Rattle.blaze_table.proofs.Splits.{LastAt, last_at, no_last, no_last_from, filter_append, append_none, starts_below, more_below}
+use Rattle.blaze_table.proofs.Splits.{LastAt, last_at, no_last, no_last_from, starts_below}
 use Rattle.blaze_table.proofs.Clearing.{below_below}
 use Rattle.blaze_table.proofs.Growing.{last_there, below_last}
 use Rattle.blaze_table.proofs.Placing.{ends_before}
@@ -25,9 +26,9 @@ module _ {V : Type 0} where
   below_step k high e es i = below_last k high e es i ∙ ap (λ t. t ++ e ∷ []) (sym front)
     where
       front : below e.lo es ≡ i.front
-      front = ap (below e.lo) i.parts ∙ filter_append (λ x. int_lt x.lo e.lo) i.front (e ∷ i.back)
+      front = ap (below e.lo) i.parts ∙ filter-append (λ x. int_lt x.lo e.lo) i.front (e ∷ i.back)
           ∙ ap (λ t. t ++ below e.lo (e ∷ i.back)) (below_all e.lo i.front i.front_below)
-          ∙ ap (λ t. i.front ++ t) (below_skips e.lo e i.back (omega (arith, ints)) ∙ below_none e.lo k high i.back (omega (arith, ints, i.starts)) i.back_from) ∙ append_none i.front
+          ∙ ap (λ t. i.front ++ t) (below_skips e.lo e i.back (omega (arith, ints)) ∙ below_none e.lo k high i.back (omega (arith, ints, i.starts)) i.back_from) ∙ append-nil i.front
 
   pub down_step : (k high : ℤ) (e : Entry V) (es : List (Entry V)) → LastAt k high e es → reverse (below k es) ≡ e ∷ reverse (below e.lo es)
   down_step k high e es i = ap reverse (below_step k high e es i) ∙ reverse-append (below e.lo es) (e ∷ [])
@@ -53,7 +54,7 @@ module _ {V : Type 0} (eq : V → V → Bool) (v : V) (l h low high : ℤ) (es :
   module _ (k : ℤ) (e : Entry V) (i : LastAt k high e es) where
     -- nothing starts between the last entry below k and k
     pub same_below : (j : ℤ) → e.lo <ℤ j → j ≤ℤ k → below j es ≡ below k es
-    same_below j u w = sym (below_below j k es w) ∙ ap (below j) (below_step k high e es i) ∙ filter_append (λ x. int_lt x.lo j) (below e.lo es) (e ∷ [])
+    same_below j u w = sym (below_below j k es w) ∙ ap (below j) (below_step k high e es i) ∙ filter-append (λ x. int_lt x.lo j) (below e.lo es) (e ∷ [])
         ∙ ap (λ t. t ++ below j (e ∷ [])) (below_all j (below e.lo es) (more_below e.lo j (below e.lo es) (omega (arith, ints)) (starts_below e.lo es)))
         ∙ ap (λ t. below e.lo es ++ t) (below_takes j e [] u) ∙ sym (below_step k high e es i)
 

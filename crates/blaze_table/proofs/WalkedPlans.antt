@@ -5,16 +5,17 @@ use Rattle.std.specs.Ordering.{int_eq}
 use Rattle.std.specs.Option.{option_map}
 use Rattle.std.proofs.lemmas.Int.{ints, by_lt_z}
 use Rattle.std.proofs.lemmas.List.{reverse-append}
+use Rattle.std.proofs.lemmas.List.Elements.{filter-append}
+use Rattle.blaze_int.proofs.Tests.{by_bool, lt_true, lt_false, le_true, le_false}
 use Rattle.blaze_entries.specs.Found.{found_in}
 use Rattle.blaze_entries.specs.Scanned.{Seen, unseen, seen, seen_start, walked}
 use Rattle.blaze_entries.specs.Starts.{StartsAscend, below, from, last_below, start_at}
 use Rattle.blaze_entries.proofs.Ascending.{by_order}
-use Rattle.blaze_entries.proofs.Halves.{below_all, below_takes, below_skips, starts_from}
+use Rattle.blaze_entries.proofs.Halves.{below_all, below_takes, below_skips, starts_from, more_below}
 use Rattle.blaze_table.specs.Entries.{Entry}
 use Rattle.blaze_table.specs.Canonical.{IsCanonical}
 use Rattle.blaze_table.specs.Planned.{IsUnjoined, IsEndAfter, IsEnd, rest_of, IsPlanOf}
-use Rattle.blaze_table.proofs.Splices.{by_bool, lt_true, lt_false, le_true, le_false}
-use Rattle.blaze_table.proofs.Splits.{last_at, halves, canonical_part, from_at, from_not_at, filter_append, starts_below, more_below}
+use Rattle.blaze_table.proofs.Splits.{last_at, halves, canonical_part, from_at, from_not_at, starts_below}
 use Rattle.blaze_table.proofs.Clearing.{below_from}
 use Rattle.blaze_table.proofs.Growing.{last_there}
 use Rattle.blaze_table.proofs.LooksSay.{long_end, long_unequal, short_end, no_end}
@@ -43,7 +44,7 @@ module _ {V : Type 0} (eq : V → V → Bool) (v : V) (l h low high : ℤ) (w : 
   below_at k e q =
       let i = from_at k low high e es s q in
       let here = i.0 in
-      ap (below (k +ℤ pos 1)) (halves k low high es s) ∙ filter_append (λ x. int_lt x.lo (k +ℤ pos 1)) (below k es) (from k es)
+      ap (below (k +ℤ pos 1)) (halves k low high es s) ∙ filter-append (λ x. int_lt x.lo (k +ℤ pos 1)) (below k es) (from k es)
       ∙ ap (λ x. x ++ below (k +ℤ pos 1) (from k es)) (below_all (k +ℤ pos 1) (below k es) (more_below k (k +ℤ pos 1) (below k es) (omega (arith, ints)) (starts_below k es)))
       ∙ ap (λ x. below k es ++ below (k +ℤ pos 1) x) i.1
       ∙ ap (λ x. below k es ++ x) (below_takes (k +ℤ pos 1) e (from (k +ℤ pos 1) es) (omega (arith, ints)) ∙ ap (λ x. e ∷ x) (below_from (k +ℤ pos 1) (k +ℤ pos 1) es (omega (arith, ints))))

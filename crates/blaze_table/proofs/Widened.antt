@@ -5,6 +5,11 @@ use Rattle.std.specs.Ordering.{int_eq}
 use Rattle.std.specs.Option.{option_map}
 use Rattle.std.specs.Cmp.{IsEquivalence}
 use Rattle.std.proofs.lemmas.Int.{ints, by_lt_z}
+use Rattle.std.proofs.lemmas.Bool.{and_parts}
+use Rattle.std.proofs.lemmas.List.{append-nil, append_assoc}
+use Rattle.std.proofs.lemmas.List.Elements.{filter-append}
+use Rattle.blaze_int.proofs.Tests.{le_holds, eq_holds, le_true, eq_true}
+use Rattle.blaze_entries.proofs.Alike.{one_value}
 use Rattle.blaze_table.specs.Entries.{Entry, entry, SameEntries}
 use Rattle.blaze_table.specs.Canonical.{IsApart, IsCanonical}
 use Rattle.blaze_table.specs.Splice.{before, after, join, glue, IsPaintOf}
@@ -15,15 +20,11 @@ use Rattle.blaze_entries.specs.Found.{found_in}
 use Rattle.blaze_entries.specs.Starts.{StartsAscend, below, last_below, start_at}
 use Rattle.blaze_entries.proofs.Halves.{below_all, below_none, below_skips}
 use Rattle.blaze_table.specs.Planned.{IsEnd, IsUnjoined, joined_start}
-use Rattle.blaze_table.proofs.Splits.{LastAt, filter_append, append_none, last_at, no_last_from, ends_below, canonical_part, append_assoc}
+use Rattle.blaze_table.proofs.Splits.{LastAt, last_at, no_last_from, ends_below, canonical_part}
 use Rattle.blaze_table.proofs.Growing.{last_there}
+use Rattle.blaze_table.proofs.Glued.{glue-last}
 
 module _ {V : Type 0} (eq : V → V → Bool) where
-  -- a list glued behind a list's last entry
-  pub glue_last : (xs : List (Entry V)) (m : Entry V) (M : List (Entry V)) → glue eq (xs ++ m ∷ []) M ≡ xs ++ join eq m M
-  glue_last [] m M = refl
-  glue_last (x ∷ []) m M = refl
-  glue_last (x ∷ y ∷ xs) m M = ap (λ t. x ∷ t) (glue_last (y ∷ xs) m M)
 
   pub after_over : (k : ℤ) (es : List (Entry V)) → IsAbove k es → IsCanonical eq es → after k es ≡ es
   after_over k [] a c = refl
@@ -60,22 +61,9 @@ module _ {V : Type 0} (eq : V → V → Bool) (laws : IsEquivalence eq) (l h : �
     pub near : l ≤ℤ (of.hi +ℤ pos 1)
     pub like : eq of.value v ≡ true
 
-  one_found : {a b : Entry V} (o : Option (Entry V)) → o ≡ Some a → o ≡ Some b → a ≡ b
-  one_found o p q = cc
-
   reaches : (a b : Bool) → (a || b) ≡ true → (a ≡ true) ⊎ (b ≡ true)
   reaches true b q = inl refl
   reaches false b q = inr q
-
-  both : (a b : Bool) → (a && b) ≡ true → (a ≡ true) × (b ≡ true)
-  both true b q = (refl, q)
-  both false b q = cc
-
-  le_is : (a b : ℤ) → int_le a b ≡ true → a ≤ℤ b
-  le_is a b q = grind (arith, ints)
-
-  eq_is : (a b : ℤ) → int_eq a b ≡ true → a ≡ b
-  eq_is a b q = grind (arith, ints)
 
   passed : (b : Bool) (x y : ℤ) → Some x ≡ cond b (Some y) None → (b ≡ true) × (y ≡ x)
   passed true x y q = (refl, cc)
@@ -92,15 +80,15 @@ module _ {V : Type 0} (eq : V → V → Bool) (laws : IsEquivalence eq) (l h : �
       by_last None i q = cc
       by_last (Some e) i q =
           let t = passed (eq e.value v && (int_le l e.hi || int_eq l (e.hi +ℤ pos 1))) l1 e.lo q in
-          let u = both (eq e.value v) (int_le l e.hi || int_eq l (e.hi +ℤ pos 1)) t.0 in
+          let u = and_parts (eq e.value v) (int_le l e.hi || int_eq l (e.hi +ℤ pos 1)) t.0 in
           record {
             of = e;
             is = i;
             lo = t.1;
             like = u.0;
             near = elim (reaches (int_le l e.hi) (int_eq l (e.hi +ℤ pos 1)) u.1) [
-              | inl r ↦ let k = le_is l e.hi r in omega (arith, ints)
-              | inr r ↦ let k = eq_is l (e.hi +ℤ pos 1) r in omega (arith, ints)
+              | inl r ↦ let k = le_holds l e.hi r in omega (arith, ints)
+              | inr r ↦ let k = eq_holds l (e.hi +ℤ pos 1) r in omega (arith, ints)
             ];
           }
 
@@ -119,9 +107,9 @@ module _ {V : Type 0} (eq : V → V → Bool) (laws : IsEquivalence eq) (l h : �
       subst (λ o. IsSome o) (sym (ap (λ x. start_at x es) (sym t.lo) ∙ last_there l high t.of es i)) refl
 
   below_front : (e : Entry V) (i : LastAt l high e es) → below e.lo es ≡ i.front
-  below_front e i = ap (below e.lo) i.parts ∙ filter_append (λ x. int_lt x.lo e.lo) i.front (e ∷ i.back)
+  below_front e i = ap (below e.lo) i.parts ∙ filter-append (λ x. int_lt x.lo e.lo) i.front (e ∷ i.back)
       ∙ ap (λ t. t ++ below e.lo (e ∷ i.back)) (below_all e.lo i.front i.front_below)
-      ∙ ap (λ t. i.front ++ t) (below_skips e.lo e i.back (omega (arith, ints)) ∙ below_none e.lo l high i.back (omega (arith, ints, i.starts)) i.back_from) ∙ append_none i.front
+      ∙ ap (λ t. i.front ++ t) (below_skips e.lo e i.back (omega (arith, ints)) ∙ below_none e.lo l high i.back (omega (arith, ints, i.starts)) i.back_from) ∙ append-nil i.front
 
   nothing_before : (ys : List (Entry V)) → StartsAscend l high ys → IsCanonical eq ys → before l ys ≡ []
   nothing_before [] b k = refl
@@ -145,9 +133,9 @@ module _ {V : Type 0} (eq : V → V → Bool) (laws : IsEquivalence eq) (l h : �
 
     left_joined : l ≤ℤ (e.hi +ℤ pos 1) → eq e.value v ≡ true → glue eq (before l es) (p ∷ []) ≡ i.front ++ entry e.lo h e.value ∷ []
     left_joined n a = by_lt_z e.hi l
-        (λ u. ap (λ x. glue eq x (p ∷ [])) (left_short u) ∙ glue_last eq i.front e (p ∷ []) ∙ ap (λ x. i.front ++ x) (by_join eq e p []
+        (λ u. ap (λ x. glue eq x (p ∷ [])) (left_short u) ∙ glue-last eq i.front e (p ∷ []) ∙ ap (λ x. i.front ++ x) (by_join eq e p []
         (λ t k r. r) (λ k r. absurd (true_false (sym a ∙ k (omega (arith, ints)))))))
-        (λ u. ap (λ x. glue eq x (p ∷ [])) (left_long u) ∙ glue_last eq i.front (entry e.lo (l -ℤ pos 1) e.value) (p ∷ []) ∙ ap (λ x. i.front ++ x) (by_join eq (entry e.lo (l -ℤ pos 1) e.value) p []
+        (λ u. ap (λ x. glue eq x (p ∷ [])) (left_long u) ∙ glue-last eq i.front (entry e.lo (l -ℤ pos 1) e.value) (p ∷ []) ∙ ap (λ x. i.front ++ x) (by_join eq (entry e.lo (l -ℤ pos 1) e.value) p []
         (λ t k r. r) (λ k r. absurd (true_false (sym a ∙ k (omega (arith, ints)))))))
       where
         true_false : true ≡ false → ⊥
@@ -155,20 +143,14 @@ module _ {V : Type 0} (eq : V → V → Bool) (laws : IsEquivalence eq) (l h : �
 
     left_alone : (eq e.value v ≡ true → l ≤ℤ (e.hi +ℤ pos 1) → ⊥) → glue eq (before l es) (p ∷ []) ≡ before l es ++ p ∷ []
     left_alone n = by_lt_z e.hi l
-        (λ u. ap (λ x. glue eq x (p ∷ [])) (left_short u) ∙ glue_last eq i.front e (p ∷ []) ∙ ap (λ x. i.front ++ x) (by_join eq e p []
+        (λ u. ap (λ x. glue eq x (p ∷ [])) (left_short u) ∙ glue-last eq i.front e (p ∷ []) ∙ ap (λ x. i.front ++ x) (by_join eq e p []
         (λ t k r. absurd (n k (omega (arith, ints)))) (λ k r. r)) ∙ sym (append_assoc i.front (e ∷ []) (p ∷ [])) ∙ ap (λ x. x ++ p ∷ []) (sym (left_short u)))
-        (λ u. ap (λ x. glue eq x (p ∷ [])) (left_long u) ∙ glue_last eq i.front (entry e.lo (l -ℤ pos 1) e.value) (p ∷ []) ∙ ap (λ x. i.front ++ x) (by_join eq (entry e.lo (l -ℤ pos 1) e.value) p []
+        (λ u. ap (λ x. glue eq x (p ∷ [])) (left_long u) ∙ glue-last eq i.front (entry e.lo (l -ℤ pos 1) e.value) (p ∷ []) ∙ ap (λ x. i.front ++ x) (by_join eq (entry e.lo (l -ℤ pos 1) e.value) p []
         (λ t k r. absurd (n k (omega (arith, ints)))) (λ k r. r)) ∙ sym (append_assoc i.front (entry e.lo (l -ℤ pos 1) e.value ∷ []) (p ∷ [])) ∙ ap (λ x. x ++ p ∷ []) (sym (left_long u)))
 
   left_apart : None ≡ joined_start l (option_map (found_in eq v) (last_below l es)) → glue eq (before l es) (p ∷ []) ≡ before l es ++ p ∷ []
   left_apart q = by_last (last_below l es) refl q
     where
-      le_so : (a b : ℤ) → a ≤ℤ b → int_le a b ≡ true
-      le_so a b q = grind (arith, ints)
-
-      eq_so : (a b : ℤ) → a ≡ b → int_eq a b ≡ true
-      eq_so a b q = grind (arith, ints)
-
       against : (a x y : Bool) → (a && (x || y)) ≡ false → a ≡ true → (x ≡ true) ⊎ (y ≡ true) → ⊥
       against true true y q k r = cc
       against true false true q k r = cc
@@ -177,7 +159,7 @@ module _ {V : Type 0} (eq : V → V → Bool) (laws : IsEquivalence eq) (l h : �
       against false x y q k r = cc
 
       near : (e : Entry V) → l ≤ℤ (e.hi +ℤ pos 1) → (int_le l e.hi ≡ true) ⊎ (int_eq l (e.hi +ℤ pos 1) ≡ true)
-      near e u = by_lt_z e.hi l (λ k. inr (eq_so l (e.hi +ℤ pos 1) (omega (arith, ints)))) (λ k. inl (le_so l e.hi k))
+      near e u = by_lt_z e.hi l (λ k. inr (eq_true l (e.hi +ℤ pos 1) (omega (arith, ints)))) (λ k. inl (le_true l e.hi k))
 
       by_last : (o : Option (Entry V)) → last_below l es ≡ o → None ≡ joined_start l (option_map (found_in eq v) o) → glue eq (before l es) (p ∷ []) ≡ before l es ++ p ∷ []
       by_last None i q =
@@ -213,10 +195,10 @@ module _ {V : Type 0} (eq : V → V → Bool) (laws : IsEquivalence eq) (l h : �
         false_true q = cc
 
     unjoined : (xs : List (Entry V)) (f : ℤ) (u : V) (xa bs : List (Entry V)) → eq u v ≡ true → SameEntries eq xa bs → IsUnjoined eq h v xa → glue eq (xs ++ entry f h u ∷ []) bs ≡ xs ++ entry f h u ∷ bs
-    unjoined xs f u [] [] q t n = glue_last eq xs (entry f h u) []
+    unjoined xs f u [] [] q t n = glue-last eq xs (entry f h u) []
     unjoined xs f u [] (b ∷ bs) q t n = absurd t
     unjoined xs f u (a ∷ xa) [] q t n = absurd t
-    unjoined xs f u (a ∷ xa) (b ∷ bs) q t n = glue_last eq xs (entry f h u) (b ∷ bs) ∙ ap (λ y. xs ++ y) (by_join eq (entry f h u) b bs
+    unjoined xs f u (a ∷ xa) (b ∷ bs) q t n = glue-last eq xs (entry f h u) (b ∷ bs) ∙ ap (λ y. xs ++ y) (by_join eq (entry f h u) b bs
         (λ touch alike r. absurd (not_alike a.value b.value u t.2 q (n (omega (arith, ints, t.0))) alike))
         (λ m r. r))
 
@@ -234,7 +216,7 @@ module _ {V : Type 0} (eq : V → V → Bool) (laws : IsEquivalence eq) (l h : �
           record {
             rest = e.next ∷ above;
             same = subst (λ (t : List (Entry V)). SameEntries eq t (e.next ∷ above)) (sym e.first) (refl, refl, laws.refl e.next.value, subst (λ (t : List (Entry V)). SameEntries eq t above) others like);
-            glued = glue_last eq xs (entry f h u) (e.next ∷ above) ∙ ap (λ y. xs ++ y) (by_join eq (entry f h u) e.next above
+            glued = glue-last eq xs (entry f h u) (e.next ∷ above) ∙ ap (λ y. xs ++ y) (by_join eq (entry f h u) e.next above
                 (λ touch alike r. r ∙ ap (λ x. entry f x u ∷ above) finish)
                 (λ n r. absurd (false_true (sym (n start) ∙ (laws.congr u v e.next.value q ∙ laws.symm v e.next.value ∙ e.like)))));
           }
@@ -254,7 +236,7 @@ module _ {V : Type 0} (eq : V → V → Bool) (laws : IsEquivalence eq) (l h : �
         let t = started_at l1 q in
         let e = t.of in
         let i = last_at l low high e es s t.is in
-        let same : e ≡ of = one_found (start_at l1 es) (ap (λ x. start_at x es) (sym t.lo) ∙ last_there l high e es i) found in
+        let same : e ≡ of = one_value (start_at l1 es) (ap (λ x. start_at x es) (sym t.lo) ∙ last_there l high e es i) found in
         let up = i.starts in
         let near = t.near in
         let g = right i.front e.lo e.value t.like in

@@ -4,24 +4,11 @@ use Rattle.std.specs.List.{slice_get}
 use Rattle.std.proofs.lemmas.Int.{ints, by_lt_z}
 use Rattle.blaze_table.specs.Entries.{Entry, holds, at}
 use Rattle.blaze_table.specs.Canonical.{IsDisjoint, IsAscending}
+use Rattle.blaze_table.proofs.Lookup.{holds_in, at_in, at_under, at_over}
+use Rattle.blaze_table.proofs.Runs.{in_order}
 use Rattle.range_map_blaze.specs.Pairs.{IsFirstPair, IsLastPair}
 
 module _ {V : Type 0} where
-  at_in : (e : Entry V) (es : List (Entry V)) (k : ℤ) → e.lo ≤ℤ k → k ≤ℤ e.hi → at (e ∷ es) k ≡ Some e.value
-  at_in e es k l h = grind (arith, ints)
-
-  at_under : (e : Entry V) (es : List (Entry V)) (k : ℤ) → k <ℤ e.lo → at (e ∷ es) k ≡ at es k
-  at_under e es k l = grind (arith, ints)
-
-  at_over : (e : Entry V) (es : List (Entry V)) (k : ℤ) → e.hi <ℤ k → at (e ∷ es) k ≡ at es k
-  at_over e es k l = grind (arith, ints)
-
-  holds_in : (e : Entry V) (k : ℤ) → e.lo ≤ℤ k → k ≤ℤ e.hi → holds e k ≡ true
-  holds_in e k l h = grind (arith, ints)
-
-  apart : (e f : Entry V) (fs : List (Entry V)) → IsDisjoint (e ∷ f ∷ fs) → IsAscending (e ∷ f ∷ fs) → e.hi <ℤ f.lo
-  apart e f fs d a = by_lt_z e.hi f.lo (λ l. l) (λ l. absurd (d.1.0 f.lo (holds_in e f.lo (omega (arith, ints, a.0)) l) (holds_in f f.lo (omega (arith, ints)) d.2.0)))
-
   nothing_under : (e : Entry V) (es : List (Entry V)) (j : ℤ) → IsAscending (e ∷ es) → j <ℤ e.lo → at (e ∷ es) j ≡ None
   nothing_under e [] j a l = at_under e [] j l
   nothing_under e (f ∷ fs) j a l = at_under e (f ∷ fs) j l ∙ nothing_under f fs j a.1 (omega (arith, ints, a.0))
@@ -39,7 +26,7 @@ module _ {V : Type 0} where
       (d.0, record { here = at_in e [] e.hi d.0 (omega (arith, ints)); none_above = λ j u. at_over e [] j u })
   last_from e (f ∷ fs) l d a p =
       let rest = last_from f fs l d.2 a.1 p in
-      let gap = apart e f fs d a in (
+      let gap = in_order e f fs d a in (
         omega (arith, ints, a.0, rest.0),
         record {
           here = at_over e (f ∷ fs) l.hi (omega (arith, ints, rest.0)) ∙ rest.1.here;

@@ -2,25 +2,14 @@
 use Rattle.std.specs.Option.{option_or}
 use Rattle.std.proofs.Common.{◌≡◌, ℤ, Bool, true, false, cond, List, [], ◌∷◌, ◌++◌, Some, None, refl, ◌∙◌, sym, ap}
 use Rattle.std.specs.Cmp.{IsEquivalence}
+use Rattle.blaze_entries.proofs.Alike.{same_along, same_itself, same_trans, same_or, or_none, or_assoc}
 use Rattle.blaze_table.specs.Entries.{Entry, entry, at, holds, SameOption}
 use Rattle.blaze_table.specs.Canonical.{IsRangeMap}
-use Rattle.blaze_table.proofs.Unique.{same_along, same_itself, same_trans}
+use Rattle.blaze_table.proofs.Lookup.{at_append}
 use Rattle.range_map_blaze.specs.Filled.{IsFilled}
 use Rattle.range_map_blaze.specs.Union.{IsUnion}
 use Rattle.range_map_blaze.proofs.PaintedOver.{turned}
-use Rattle.blaze_table.proofs.Lasts.{or_none, or_or}
-use Rattle.range_map_blaze.proofs.Paintings.{or_alike}
 use Rattle.range_map_blaze.proofs.Unions.{union_of}
-
-module _ {V : Type 0} where
-  -- the first of two lists that has a value
-  at_append : (xs ys : List (Entry V)) (k : ℤ) → at (xs ++ ys) k ≡ option_or (at xs k) (at ys k)
-  at_append [] ys k = refl
-  at_append (x ∷ xs) ys k = either (holds x k) (at_append xs ys k)
-    where
-      either : (b : Bool) → at (xs ++ ys) k ≡ option_or (at xs k) (at ys k) → cond b (Some x.value) (at (xs ++ ys) k) ≡ option_or (cond b (Some x.value) (at xs k)) (at ys k)
-      either true p = refl
-      either false p = p
 
 -- the entries of a list fill the gaps of another
 pub record IsUnder {V : Type 0} (eq : V → V → Bool) (low high : ℤ) (right done new : List (Entry V)) : Type 0 where
@@ -35,9 +24,9 @@ module _ {V : Type 0} (eq : V → V → Bool) (laws : IsEquivalence eq) (low hig
   pub under_more : (e : Entry V) (w : V) (done cur new : List (Entry V)) → IsUnder eq low high right done cur → IsFilled eq low high (entry e.lo e.hi w) cur new → eq e.value w ≡ true → IsUnder eq low high right (done ++ e ∷ []) new
   under_more e w done cur new u f like = record {
     range_map = f.range_map;
-    content = λ k. same_along eq {a = at new k} refl (or_or (at right k) (at done k) (at (e ∷ []) k) ∙ ap (option_or (at right k)) (sym (at_append done (e ∷ []) k)))
+    content = λ k. same_along eq {a = at new k} refl (or_assoc (at right k) (at done k) (at (e ∷ []) k) ∙ ap (option_or (at right k)) (sym (at_append done (e ∷ []) k)))
         (same_trans eq laws (at new k) _ _ (f.content k)
-        (or_alike eq laws (at cur k) (option_or (at right k) (at done k)) (cond (holds e k) (Some w) None) (at (e ∷ []) k) (u.content k) (either (holds e k))));
+        (same_or eq laws (at cur k) (option_or (at right k) (at done k)) (cond (holds e k) (Some w) None) (at (e ∷ []) k) (u.content k) (either (holds e k))));
   }
     where
       either : (b : Bool) → SameOption eq (cond b (Some w) None) (cond b (Some e.value) None)

@@ -4,14 +4,13 @@ use Rattle.std.proofs.Common.{◌≡◌, ℤ, pos, ◌+ℤ◌, ◌-ℤ◌, ◌�
 use Rattle.std.specs.Prelude.{IsSome}
 use Rattle.std.specs.Cmp.{IsEquivalence}
 use Rattle.std.proofs.lemmas.Int.{ints, by_lt_z}
+use Rattle.blaze_entries.proofs.Alike.{same_along, same_itself, same_trans, some_of_same, none_of_same, or_none}
 use Rattle.blaze_table.specs.Entries.{Entry, entry, at, holds, SameOption}
 use Rattle.blaze_table.specs.Canonical.{IsRangeMap}
 use Rattle.blaze_table.specs.Gap.{IsClearFrom}
 use Rattle.blaze_table.specs.Painted.{IsPainted, painted}
 use Rattle.blaze_table.proofs.Lookup.{by_place, holds_in, holds_under, holds_over}
-use Rattle.blaze_table.proofs.Unique.{same_along, same_itself, same_trans}
 use Rattle.range_map_blaze.specs.Filled.{filled, IsFilled, IsPartlyFilled, IsHeldFrom, IsFirstGap}
-use Rattle.blaze_table.proofs.Lasts.{or_none}
 
 module _ {V : Type 0} where
   module _ (content : ℤ → Option V) (v : V) (l h k : ℤ) where
@@ -51,16 +50,6 @@ pub record IsFilling {V : Type 0} (eq : V → V → Bool) (low high l h : ℤ) (
   pub clear : IsClearFrom (at cur) a b
 
 module _ {V : Type 0} (eq : V → V → Bool) (laws : IsEquivalence eq) where
-  same_some : (a b : Option V) → SameOption eq a b → IsSome a → IsSome b
-  same_some None b s t = cc
-  same_some (Some x) None s t = absurd s
-  same_some (Some x) (Some y) s t = refl
-
-  none_same : (a b : Option V) → SameOption eq a b → a ≡ None → b ≡ None
-  none_same None None s p = refl
-  none_same None (Some y) s p = absurd s
-  none_same (Some x) b s p = cc
-
   none_back : (a b : Option V) → SameOption eq a b → b ≡ None → a ≡ None
   none_back None b s p = refl
   none_back (Some x) None s p = absurd s
@@ -71,7 +60,7 @@ module _ {V : Type 0} (eq : V → V → Bool) (laws : IsEquivalence eq) where
       → IsClearFrom cur a b → IsHeldFrom cur (b +ℤ pos 1) n → ((k : ℤ) → SameOption eq (new k) (painted a b w cur k)) → eq v w ≡ true → (k : ℤ) → SameOption eq (new k) (filled l n v old k)
   filled_more old cur new v w l a b n o p q before clear held one like k = by_place (entry a b w) k
       (λ x y.
-      let none : old k ≡ None = sym (filled_over old v l (a -ℤ pos 1) k (omega (arith, ints))) ∙ none_same (cur k) _ (before k) (clear k x y) in
+      let none : old k ≡ None = sym (filled_over old v l (a -ℤ pos 1) k (omega (arith, ints))) ∙ none_of_same eq (cur k) _ (before k) (clear k x y) in
       same_along eq {a = new k} refl (sym (filled_in old v l n k (omega (arith, ints)) (omega (arith, ints)) ∙ ap (λ o. option_or o (Some v)) none))
       (with_clone (new k) (same_along eq {a = new k} refl (ap (λ t. cond t (Some w) (cur k)) (holds_in (entry a b w) k x y)) (one k))))
       (λ x.
@@ -82,7 +71,7 @@ module _ {V : Type 0} (eq : V → V → Bool) (laws : IsEquivalence eq) where
       by_lt_z n k
       (λ z. same_along eq {a = new k} refl (sym (filled_over old v l n k z)) stays)
       (λ z.
-      let some : IsSome (old k) = same_some (cur k) (old k) (same_along eq {a = cur k} refl (filled_over old v l (a -ℤ pos 1) k (omega (arith, ints))) (before k)) (held k (omega (arith, ints)) z) in
+      let some : IsSome (old k) = some_of_same eq (cur k) (old k) (same_along eq {a = cur k} refl (filled_over old v l (a -ℤ pos 1) k (omega (arith, ints))) (before k)) (held k (omega (arith, ints)) z) in
       same_along eq {a = new k} refl (sym (filled_in old v l n k (omega (arith, ints)) z ∙ or_some (old k) (Some v) some)) stays))
     where
       with_clone : (x : Option V) → SameOption eq x (Some w) → SameOption eq x (Some v)

@@ -4,6 +4,8 @@ use Rattle.std.specs.Prelude.{find, int_lt}
 use Rattle.std.specs.Cmp.{IsEquivalence}
 use Rattle.std.proofs.lemmas.Int.{ints, by_lt_z}
 use Rattle.std.proofs.lemmas.List.{map-append}
+use Rattle.blaze_int.proofs.Tests.{lt_true, lt_false}
+use Rattle.blaze_entries.proofs.Alike.{same_itself}
 use Rattle.blaze_table.specs.Canonical.{IsCanonical, IsRangeMap}
 use Rattle.blaze_table.specs.Chosen.{left_with_right, IsChosen}
 use Rattle.blaze_table.specs.Entries.{Entry, entry, at, entry_at, shown_entry, SameEntries, SameOption}
@@ -11,11 +13,10 @@ use Rattle.blaze_table.specs.Listed.{listed}
 use Rattle.std.specs.Int.{int_min}
 use Rattle.blaze_table.specs.Splice.{before, after}
 use Rattle.blaze_table.proofs.Clones.{IsCopied}
-use Rattle.blaze_table.proofs.Counted.{above_by, before_none, are_keys_before, are_keys_after}
-use Rattle.blaze_table.proofs.Lookup.{IsAbove, IsAbove-from_apart, at_before, at_in, at_under, at_over, by_place, entry_in, entry_over, value-entry_at}
+use Rattle.blaze_table.proofs.Counted.{before_none, are_keys_before, are_keys_after}
+use Rattle.blaze_table.proofs.Lookup.{IsAbove, IsAbove-from_apart, at_before, at_in, at_under, at_over, by_place, entry_in, entry_over, value-entry_at, above_by}
 use Rattle.blaze_table.proofs.Runs.{canonical, one_per_run}
-use Rattle.blaze_table.proofs.Splices.{after_skips, after_keeps, before_keeps, before_cuts, by_after, canonical_after, canonical_before, above_after, at-after_over, at-before_over, at-before_under, lt_true, lt_false}
-use Rattle.blaze_table.proofs.Unique.{same_itself}
+use Rattle.blaze_table.proofs.Splices.{after_skips, after_keeps, before_keeps, before_cuts, by_after, canonical_after, canonical_before, above_after, at-after_over, at-before_over, at-before_under}
 use Rattle.range_map_blaze.proofs.Choices.{chosen_as}
 use Rattle.range_map_blaze.proofs.Gaps.{entry_has}
 use Rattle.range_map_blaze.specs.OneRange.{one_range}
@@ -86,8 +87,8 @@ module _ {V : Type 0} (eq : V → V → Bool) where
   cut_first h e es c l = by_earlier e.hi h
       (λ u p. rw (p, before_keeps (h +ℤ pos 1) e es (omega (arith, ints)), starting_all e.hi es (IsAbove-from_apart eq e es c.1)) refl)
       (λ u p.
-      let over = above_by eq e.hi h es (omega (arith, ints)) (IsAbove-from_apart eq e es c.1) in
-      let none = before_none eq (h +ℤ pos 1) es c.2 (above_by eq h (h +ℤ pos 1 -ℤ pos 1) es (omega (arith, ints)) over) in
+      let over = above_by e.hi h es (omega (arith, ints)) (IsAbove-from_apart eq e es c.1) in
+      let none = before_none eq (h +ℤ pos 1) es c.2 (above_by h (h +ℤ pos 1 -ℤ pos 1) es (omega (arith, ints)) over) in
       before_cuts (h +ℤ pos 1) e es (omega (arith, ints)) (omega (arith, ints))
       ∙ ap (λ x. entry e.lo x e.value ∷ []) (omega (arith, ints))
       ∙ ap (λ t. entry e.lo h e.value ∷ t) (sym (ap (before (h +ℤ pos 1)) (starting_all h es over) ∙ none))

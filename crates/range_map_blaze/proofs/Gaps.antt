@@ -4,11 +4,11 @@ use Rattle.std.proofs.Common.{◌≡◌, ◌<◌, ℤ, pos, ◌-ℤ◌, ◌≤�
 use Rattle.std.specs.Prelude.{IsSome, find, int_lt}
 use Rattle.std.specs.Cmp.{IsEquivalence}
 use Rattle.std.proofs.lemmas.Int.{ints, by_lt_z}
+use Rattle.blaze_int.proofs.Naturals.{nat_of-pos}
 use Rattle.blaze_table.specs.Entries.{Entry, at, entry_at, holds}
 use Rattle.blaze_table.specs.Canonical.{IsRangeMap}
 use Rattle.blaze_table.proofs.Between.{IsAboveGap, above_gap}
 use Rattle.blaze_table.proofs.Lookup.{by_place, entry_in, entry_under, entry_over, holds_in}
-use Rattle.blaze_table.proofs.PairLists.{nat_of-pos}
 use Rattle.blaze_table.proofs.RangeMaps.{starts_ascend}
 use Rattle.blaze_table.proofs.Runs.{canonical}
 use Rattle.range_map_blaze.specs.Filled.{IsHeldFrom}

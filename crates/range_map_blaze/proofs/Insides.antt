@@ -2,6 +2,7 @@
 use Rattle.std.proofs.Common.{◌≡◌, ℤ, pos, ◌+ℤ◌, ◌-ℤ◌, ◌≤ℤ◌, ◌⊎◌, Bool, true, List, [], ◌∷◌, ◌++◌, Some, refl, ◌∙◌, subst, arith, inl, inr}
 use Rattle.std.specs.Cmp.{IsEquivalence}
 use Rattle.std.proofs.lemmas.Int.{ints, by_lt_z}
+use Rattle.blaze_entries.proofs.Alike.{same_along}
 use Rattle.blaze_table.specs.Entries.{Entry, at, SameOption}
 use Rattle.blaze_table.specs.Canonical.{IsCanonical, IsRangeMap}
 use Rattle.blaze_table.specs.Painted.{IsInside}
@@ -9,7 +10,7 @@ use Rattle.blaze_table.proofs.Inside.{inside_at}
 use Rattle.blaze_table.proofs.Lookup.{at_before, at_in, at_over}
 use Rattle.blaze_table.proofs.Runs.{canonical}
 use Rattle.blaze_table.proofs.Splits.{canonical_part}
-use Rattle.blaze_table.proofs.Unique.{breaks, same_along}
+use Rattle.blaze_table.proofs.Unique.{breaks}
 use Rattle.range_map_blaze.specs.Extended.{AreInside}
 
 module _ {V : Type 0} (eq : V → V → Bool) where

@@ -9,10 +9,12 @@ use Rattle.std.specs.Option.{option_to_list, option_or}
 use Rattle.std.proofs.lemmas.Int.{ints, by_lt_z}
 use Rattle.std.proofs.lemmas.List.{length-append, map-append}
 use Rattle.std.proofs.lemmas.Result.{MatchResult-from_err}
+use Rattle.std.proofs.lemmas.Bool.{and_parts}
+use Rattle.blaze_int.proofs.Tests.{le_holds}
+use Rattle.blaze_entries.proofs.Alike.{same_itself}
 use Rattle.blaze_table.specs.Entries.{Entry, holds, SameOption}
 use Rattle.blaze_table.specs.Canonical.{IsCanonical, IsRangeMap}
 use Rattle.blaze_table.specs.Painted.{IsInside, last_at}
-use Rattle.blaze_table.proofs.Unique.{same_itself}
 use Rattle.range_map_blaze.specs.Extended.{AreInside, IsExtended}
 use Rattle.range_map_blaze.specs.Underway.{are_one_pair, joined, IsUnderway}
 use Rattle.range_map_blaze.proofs.Insides.{inside_both, inside_parts}
@@ -24,19 +26,12 @@ reversed a b t p q = grind (arith, ints, p, q)
 pub ordered : (a b : ℤ) (t : Bool) → t ≡ int_lt a b → t ≡ false → b ≤ℤ a
 ordered a b t p q = grind (arith, ints, p, q)
 
-both : (a b : Bool) → (a && b) ≡ true → (a ≡ true) × (b ≡ true)
-both true b p = (refl, p)
-both false b p = absurd (cc)
-
 -- the key is in the joined range where it is in one of the two
 in_joined : (l h m n k : ℤ) → l ≤ℤ h → m ≤ℤ n → int_le m (h +ℤ pos 1) ≡ true → int_le l (n +ℤ pos 1) ≡ true
     → (int_le (cond (int_lt m l) m l) k && int_le k (cond (int_lt h n) n h)) ≡ (int_le m k && int_le k n) || (int_le l k && int_le k h)
 in_joined l h m n k o q s t = by_lt_z m l
     (λ a. by_lt_z h n (λ b. grind (arith, ints)) (λ b. grind (arith, ints)))
     (λ a. by_lt_z h n (λ b. grind (arith, ints)) (λ b. grind (arith, ints)))
-
-at_most : (a b : ℤ) → int_le a b ≡ true → a ≤ℤ b
-at_most a b p = grind (arith, ints)
 
 -- a key of the joined range is in one of the two
 in_parts : (l h m n k : ℤ) → l ≤ℤ h → m ≤ℤ n → int_le m (h +ℤ pos 1) ≡ true → int_le l (n +ℤ pos 1) ≡ true
@@ -61,8 +56,8 @@ module _ {V : Type 0} (eq : V → V → Bool) where
   last_joined : (p n : Entry V) (others : List (Entry V)) (k : ℤ) → p.lo ≤ℤ p.hi → n.lo ≤ℤ n.hi → are_one_pair eq p n ≡ true
       → SameOption eq (last_at (p ∷ []) k) (last_at others k) → SameOption eq (last_at (joined p n ∷ []) k) (last_at (others ++ n ∷ []) k)
   last_joined p n others k o q j s =
-      let split = both (int_le n.lo (p.hi +ℤ pos 1) && int_le p.lo (n.hi +ℤ pos 1)) (eq p.value n.value) j in
-      let near = both (int_le n.lo (p.hi +ℤ pos 1)) (int_le p.lo (n.hi +ℤ pos 1)) split.0 in
+      let split = and_parts (int_le n.lo (p.hi +ℤ pos 1) && int_le p.lo (n.hi +ℤ pos 1)) (eq p.value n.value) j in
+      let near = and_parts (int_le n.lo (p.hi +ℤ pos 1)) (int_le p.lo (n.hi +ℤ pos 1)) split.0 in
       let inside : holds (joined p n) k ≡ holds n k || holds p k = in_joined p.lo p.hi n.lo n.hi k o q near.0 near.1 in
       subst (λ r. SameOption eq (last_at (joined p n ∷ []) k) r) (sym (last_append others (n ∷ []) k))
       (subst (λ b. SameOption eq (cond b (Some p.value) None) (option_or (last_at (n ∷ []) k) (last_at others k))) (sym inside)
@@ -84,9 +79,9 @@ module _ {V : Type 0} (eq : V → V → Bool) where
     -- where both pairs lie inside, the joined one does
     inside_joined : (p n : Entry V) (es : List (Entry V)) → IsCanonical eq es → p.lo ≤ℤ p.hi → n.lo ≤ℤ n.hi → are_one_pair eq p n ≡ true → AreInside eq (p ∷ []) es → AreInside eq (n ∷ []) es → AreInside eq (joined p n ∷ []) es
     inside_joined p n es c o q j a b =
-        let split = both (int_le n.lo (p.hi +ℤ pos 1) && int_le p.lo (n.hi +ℤ pos 1)) (eq p.value n.value) j in
-        let near = both (int_le n.lo (p.hi +ℤ pos 1)) (int_le p.lo (n.hi +ℤ pos 1)) split.0 in (
-          inr (inside_both eq laws p.lo p.hi n.lo n.hi p.value n.value es c o q (at_most n.lo (p.hi +ℤ pos 1) near.0) (at_most p.lo (n.hi +ℤ pos 1) near.1) split.1 (with_key p o a.0) (with_key n q b.0)
+        let split = and_parts (int_le n.lo (p.hi +ℤ pos 1) && int_le p.lo (n.hi +ℤ pos 1)) (eq p.value n.value) j in
+        let near = and_parts (int_le n.lo (p.hi +ℤ pos 1)) (int_le p.lo (n.hi +ℤ pos 1)) split.0 in (
+          inr (inside_both eq laws p.lo p.hi n.lo n.hi p.value n.value es c o q (le_holds n.lo (p.hi +ℤ pos 1) near.0) (le_holds p.lo (n.hi +ℤ pos 1) near.1) split.1 (with_key p o a.0) (with_key n q b.0)
               (joined p n).lo (joined p n).hi (joined_order p.lo p.hi n.lo n.hi o q) (λ k x y. in_parts p.lo p.hi n.lo n.hi k o q near.0 near.1 x y)),
           tt,
         )

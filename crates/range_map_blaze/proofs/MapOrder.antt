@@ -7,13 +7,13 @@ use Rattle.std.specs.Bool.{Decides}
 use Rattle.std.specs.Cmp.{IsEquivalence, Equal-is, signed_Decides}
 use Rattle.std.specs.Cmp.Lexicographic.{slice_cmp}
 use Rattle.std.specs.Prelude.{◌↔◌}
+use Rattle.blaze_entries.proofs.Alike.{same_along}
 use Rattle.blaze_table.specs.Canonical.{IsRangeMap}
 use Rattle.blaze_table.specs.Entries.{Entry, SameContent, SameOption}
 use Rattle.blaze_table.specs.Equality.{same_entries}
 use Rattle.blaze_table.specs.Pairs.{value_at}
 use Rattle.blaze_table.proofs.PairLaws.{pairs_are_content}
 use Rattle.blaze_table.proofs.SameLists.{content_decides}
-use Rattle.blaze_table.proofs.Unique.{same_along}
 use Rattle.range_map_blaze.specs.Order.{ranked_pairs, pair_cmp, pairs_cmp, entry_cmp, map_cmp}
 use Rattle.range_map_blaze.specs.OrderLaws.{equal_pairs_tie, equal_entries_tie}
 use Rattle.range_map_blaze.proofs.PairOrder.{both_Equal}

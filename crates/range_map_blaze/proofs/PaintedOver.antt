@@ -2,13 +2,13 @@
 use Rattle.std.specs.Option.{option_or}
 use Rattle.std.proofs.Common.{◌≡◌, ℤ, Bool, true, false, cond, List, [], ◌∷◌, Option, Some, None, refl, ◌∙◌, ap}
 use Rattle.std.specs.Cmp.{IsEquivalence}
+use Rattle.blaze_entries.proofs.Alike.{same_along}
 use Rattle.blaze_table.specs.Entries.{Entry, at, holds}
 use Rattle.blaze_table.specs.Canonical.{IsCanonical, IsRangeMap}
 use Rattle.blaze_table.specs.Chosen.{right_first, IsChosen}
 use Rattle.blaze_table.specs.Painted.{last_at}
 use Rattle.blaze_table.proofs.Lookup.{IsAbove-from_apart, at_before, by_place, holds_under, holds_over}
 use Rattle.blaze_table.proofs.Runs.{canonical}
-use Rattle.blaze_table.proofs.Unique.{same_along}
 use Rattle.range_map_blaze.specs.Extended.{IsExtended}
 
 -- the value where the key is held, else what was there

@@ -9,12 +9,13 @@ use Rattle.std.specs.List.{slice_get}
 use Rattle.std.specs.Ordering.{int_cmp, is_eq, is_ne, ordering_then}
 use Rattle.std.specs.Cmp.{signed_Decides}
 use Rattle.std.specs.Cmp.Lexicographic.{slice_cmp}
+use Rattle.blaze_int.proofs.Naturals.{nat_of-pos}
 use Rattle.blaze_table.specs.Canonical.{IsCanonical}
 use Rattle.blaze_table.specs.Entries.{Entry}
 use Rattle.blaze_table.specs.Pairs.{pairs_from}
 use Rattle.std.specs.Int.{int_min}
 use Rattle.blaze_table.specs.Splice.{after}
-use Rattle.blaze_table.proofs.PairLists.{nat_of-pos, nat_of-next, pairs_append}
+use Rattle.blaze_table.proofs.PairLists.{nat_of-next, pairs_append}
 use Rattle.blaze_table.proofs.Splices.{after_cuts}
 use Rattle.blaze_streams.proofs.Steady.{after_first}
 use Rattle.blaze_streams.specs.Cursors.{Reaches}

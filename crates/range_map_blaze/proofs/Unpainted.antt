@@ -3,6 +3,7 @@ use Rattle.std.specs.Option.{option_or}
 use Rattle.std.proofs.Common.{◌≡◌, ℕ, ◌-◌, ◌*◌, ◌≤◌, ℤ, Bool, cond, List, [], ◌∷◌, length, Option, Some, None, refl, ◌∙◌, sym, ap, arith, inl, inr}
 use Rattle.std.specs.Cmp.{IsEquivalence}
 use Rattle.std.proofs.lemmas.Int.{ints}
+use Rattle.blaze_entries.proofs.Alike.{same_along, same_itself, or_none}
 use Rattle.blaze_table.specs.Entries.{Entry, at, holds, SameOption}
 use Rattle.blaze_table.specs.Canonical.{IsCanonical, IsRangeMap}
 use Rattle.blaze_table.specs.Chosen.{right_first}
@@ -11,7 +12,6 @@ use Rattle.blaze_table.proofs.Fewest.{fewest}
 use Rattle.blaze_table.proofs.Inside.{inside_at}
 use Rattle.blaze_table.proofs.Lookup.{by_place, holds_in, holds_under, holds_over}
 use Rattle.blaze_table.proofs.Runs.{canonical}
-use Rattle.blaze_table.proofs.Unique.{same_along, same_itself}
 use Rattle.range_map_blaze.specs.Extended.{AreInside, IsExtended}
 use Rattle.range_map_blaze.specs.Union.{IsUnion}
 use Rattle.range_map_blaze.proofs.PaintedOver.{last_is_first, turned}
@@ -54,12 +54,8 @@ module _ {V : Type 0} (eq : V → V → Bool) (laws : IsEquivalence eq) where
       inside = λ a. absurd (n a);
     }
       where
-        none : (x : Option V) → right_first None x ≡ x
-        none None = refl
-        none (Some y) = refl
-
         same : old ≡ [] → (k : ℤ) → SameOption eq (at new k) (at pairs k)
-        same e k = same_along eq {a = at new k} refl (ap (λ es. right_first (at es k) (at pairs k)) e ∙ none (at pairs k)) (u.chosen.content k)
+        same e k = same_along eq {a = at new k} refl (ap (λ es. right_first (at es k) (at pairs k)) e ∙ or_none (at pairs k)) (u.chosen.content k)
 
         some : (ps : List (Entry V)) → (AreInside eq ps old → ⊥) → 1 ≤ length ps
         some [] m = absurd (m tt)

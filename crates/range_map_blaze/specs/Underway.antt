@@ -5,11 +5,6 @@ use Rattle.blaze_table.specs.Entries.{Entry, entry, SameOption}
 use Rattle.blaze_table.specs.Canonical.{IsCanonical}
 use Rattle.blaze_table.specs.Painted.{last_at}
 use Rattle.range_map_blaze.specs.Extended.{AreInside, IsExtended}
-use Rattle.range_map_blaze.specs.declared.paint.joining.Pair.{Pair}
-
--- a pair, as an entry
-abbrev pub shown_pair : {T V : Type 0} → (T → ℤ) → Pair T V → Entry V
-shown_pair rank p = record { lo = rank p.start; hi = rank p.end; value = p.value }
 
 -- the ranges touch or overlap, and the values are equal
 abbrev pub are_one_pair : {V : Type 0} → (V → V → Bool) → Entry V → Entry V → Bool

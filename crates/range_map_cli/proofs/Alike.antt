@@ -4,18 +4,18 @@ use Rattle.std.proofs.Common.{◌≡◌, ℤ, Bool, true, false, not, eqb, cond,
 use Rattle.std.specs.Prelude.{int_le, int_lt, ◌&&◌}
 use Rattle.std.specs.Ordering.{int_eq}
 use Rattle.std.specs.Cmp.{IsEquivalence}
+use Rattle.blaze_entries.proofs.Alike.{same_itself, same_trans, is_some_alike}
 use Rattle.blaze_table.specs.Entries.{at, SameOption}
 use Rattle.blaze_table.specs.Chosen.{right_first, left_with_right, left_alone}
 use Rattle.blaze_table.specs.Complement.{absent}
 use Rattle.blaze_table.specs.Count.{mapped_keys}
 use Rattle.blaze_table.specs.Painted.{painted}
-use Rattle.blaze_table.proofs.Unique.{same_itself, same_trans}
 use Rattle.range_map_cli.specs.Steps.{after, after_all, answer, answers, first_key, last_key, pair_of, with_value, without, SameAnswer, SameAnswers, SamePair}
 use Rattle.range_map_cli.specs.declared.step.Step.{Step}
 use Rattle.range_map_cli.specs.declared.step.Step.TheVariants.{Paint, Insert, Remove, PopFirst, PopLast, Clear, KeepBelow, KeepFrom, Or, And, Minus, Xor, AndSet, MinusSet, ComplementWith}
 use Rattle.range_map_cli.specs.declared.step.Answer.{Answer}
 use Rattle.range_map_cli.specs.declared.step.Answer.TheVariants.{Wrote, Old, Popped, Done}
-use Rattle.range_map_cli.proofs.EndKeys.{alike_same, first_alike, last_alike, mapped_alike}
+use Rattle.range_map_cli.proofs.EndKeys.{first_alike, last_alike, mapped_alike}
 
 module _ {V : Type 0} (eq : V → V → Bool) (laws : IsEquivalence eq) where
   same_cond : (b : Bool) (w x y z : Option V) → SameOption eq w y → SameOption eq x z → SameOption eq (cond b w x) (cond b y z)
@@ -69,10 +69,10 @@ module _ {V : Type 0} (eq : V → V → Bool) (laws : IsEquivalence eq) where
   same_pairs (Some k) c d s = same_pair k (c k) (d k) (s k)
 
   first_same : (low high : ℤ) (c d : ℤ → Option V) → ((k : ℤ) → SameOption eq (c k) (d k)) → first_key low high c ≡ first_key low high d
-  first_same low high c d same = first_alike c d (λ k. alike_same eq (c k) (d k) (same k)) low _
+  first_same low high c d same = first_alike c d (λ k. is_some_alike eq (c k) (d k) (same k)) low _
 
   last_same : (low high : ℤ) (c d : ℤ → Option V) → ((k : ℤ) → SameOption eq (c k) (d k)) → last_key low high c ≡ last_key low high d
-  last_same low high c d same = last_alike c d (λ k. alike_same eq (c k) (d k) (same k)) high _
+  last_same low high c d same = last_alike c d (λ k. is_some_alike eq (c k) (d k) (same k)) high _
 
   module _ {T L : Type 0} (rank : T → ℤ) (low high : ℤ) (c d : ℤ → Option V) (same : (k : ℤ) → SameOption eq (c k) (d k)) where
     -- the content after a step
@@ -96,8 +96,8 @@ module _ {V : Type 0} (eq : V → V → Bool) (laws : IsEquivalence eq) where
     -- the answer
     pub answer_alike : (s : Step T V L) → SameAnswer (λ (j : ℤ). j) eq (answer rank low high s c) (answer rank low high s d)
     answer_alike (Paint lo hi v) =
-        ap not (ap (λ n. eqb n (mapped_keys low high c)) (mapped_alike (painted (rank lo) (rank hi) v c) (painted (rank lo) (rank hi) v d) (λ k. alike_same eq _ _ (after_alike (Paint lo hi v) k)) low _)
-        ∙ ap (λ n. eqb (mapped_keys low high (painted (rank lo) (rank hi) v d)) n) (mapped_alike c d (λ k. alike_same eq (c k) (d k) (same k)) low _))
+        ap not (ap (λ n. eqb n (mapped_keys low high c)) (mapped_alike (painted (rank lo) (rank hi) v c) (painted (rank lo) (rank hi) v d) (λ k. is_some_alike eq _ _ (after_alike (Paint lo hi v) k)) low _)
+        ∙ ap (λ n. eqb (mapped_keys low high (painted (rank lo) (rank hi) v d)) n) (mapped_alike c d (λ k. is_some_alike eq (c k) (d k) (same k)) low _))
     answer_alike (Insert j v) = same (rank j)
     answer_alike (Remove j) = same (rank j)
     answer_alike PopFirst = subst (λ o. SamePair (λ (j : ℤ). j) eq (with_value c (first_key low high c)) (with_value d o)) (first_same low high c d same) (same_pairs (first_key low high c) c d same)

@@ -4,9 +4,9 @@ use Rattle.std.proofs.lemmas.Cmp.{nat_list_eq_equiv}
 use Rattle.std.proofs.lemmas.Int.{ints}
 use Rattle.std.specs.Cmp.Lexicographic.{bytes_decides}
 use Rattle.std.specs.Str.{bytes_eq}
+use Rattle.blaze_entries.proofs.Alike.{same_along, same_itself}
 use Rattle.blaze_table.specs.Entries.{Entry, at, entry, SameEntries}
 use Rattle.blaze_table.proofs.ListLaws.{canonical_is_unique}
-use Rattle.blaze_table.proofs.Unique.{same_along, same_itself}
 use Rattle.range_map_cli.specs.Commands.{Command, Blank, Paint, Insert, Remove, Get, At, Len, Entries}
 use Rattle.range_map_cli.specs.Lines.{lines_of}
 use Rattle.range_map_cli.specs.Pieces.{IsPiece}

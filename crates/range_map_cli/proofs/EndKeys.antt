@@ -1,11 +1,11 @@
 -- The least and the greatest key that has a value, and how many have one.
 use Rattle.std.proofs.Common.{◌≡◌, ℕ, zero, suc, ◌+◌, ℤ, pos, ◌+ℤ◌, ◌-ℤ◌, ◌≤ℤ◌, ◌<ℤ◌, Bool, cond, List, [], ◌∷◌, Option, Some, None, is_some, refl, ◌∙◌, sym, ap, subst, arith}
 use Rattle.std.proofs.lemmas.Int.{ints, by_lt_z}
+use Rattle.blaze_int.proofs.Naturals.{nat_of-pos}
 use Rattle.blaze_table.specs.Entries.{Entry, at, SameOption}
 use Rattle.blaze_table.specs.Canonical.{AreKeys}
 use Rattle.blaze_table.specs.Count.{mapped}
 use Rattle.blaze_table.proofs.Lookup.{at_over, at_under, by_place}
-use Rattle.blaze_table.proofs.PairLists.{nat_of-pos}
 use Rattle.range_map_cli.specs.Steps.{first_of, last_of, first_key, last_key}
 
 module _ {A B : Type 0} (c : ℤ → Option A) (d : ℤ → Option B) (alike : (k : ℤ) → is_some (c k) ≡ is_some (d k)) where
@@ -50,13 +50,6 @@ module _ {V : Type 0} (content : ℤ → Option V) where
       (λ u. ap (λ o. cond (is_some o) (Some b) (last_of content (b -ℤ pos 1) n)) (none b u) ∙ last_is k v (b -ℤ pos 1) n here none (omega (arith, ints)) (omega (arith, ints)))
       (λ u. let same : k ≡ b = omega (arith, ints) in
       ap (λ o. cond (is_some o) (Some b) (last_of content (b -ℤ pos 1) n)) (subst (λ j. content j ≡ Some v) same here) ∙ ap Some (sym same))
-
--- equal values are both there, or neither
-pub alike_same : {V : Type 0} (eq : V → V → Bool) (a b : Option V) → SameOption eq a b → is_some a ≡ is_some b
-alike_same eq None None s = refl
-alike_same eq None (Some y) s = absurd s
-alike_same eq (Some x) None s = absurd s
-alike_same eq (Some x) (Some y) s = refl
 
 -- a key that has a value is a key of the type
 pub at_key : {V : Type 0} (low high : ℤ) (es : List (Entry V)) (k : ℤ) (v : V) → AreKeys low high es → at es k ≡ Some v → (low ≤ℤ k) × (k ≤ℤ high)

@@ -4,22 +4,9 @@ use Rattle.std.proofs.lemmas.Option.{same_Some}
 use Rattle.std.proofs.lemmas.Int.{ints}
 use Rattle.blaze_table.specs.Entries.{Entry, at, entry_at, holds}
 use Rattle.blaze_table.specs.Canonical.{IsDisjoint, IsClear, HasStart, HasEnd, AreKeys}
+use Rattle.blaze_table.proofs.Lookup.{at_clear, holds_in}
 
 module _ {V : Type 0} where
-  pub holds_in : (e : Entry V) (k : ℤ) → e.lo ≤ℤ k → k ≤ℤ e.hi → holds e k ≡ true
-  holds_in e k l h = grind (arith, ints)
-
-  pub holds_between : (e : Entry V) (k : ℤ) → holds e k ≡ true → (e.lo ≤ℤ k) × (k ≤ℤ e.hi)
-  holds_between e k h = grind (arith, ints)
-
-  -- a key of the first entry is in no other
-  pub clear_at : (e : Entry V) (es : List (Entry V)) (k : ℤ) → IsClear e es → holds e k ≡ true → at es k ≡ None
-  clear_at e [] k h in' = refl
-  clear_at e (f ∷ fs) k h in' = skip (holds f k) (λ t. h.0 k in' t) ∙ clear_at e fs k h.1 in'
-    where
-      skip : (t : Bool) → (t ≡ true → ⊥) → cond t (Some f.value) (at fs k) ≡ at fs k
-      skip true never = absurd (never refl)
-      skip false never = refl
 
   -- the entry is the first, which then holds the key, or it is one of the rest
   by_entry : {P : Type 0} (t : Bool) (f e : Entry V) (rest : Option (Entry V)) → cond t (Some f) rest ≡ Some e → (t ≡ true → f ≡ e → P) → (rest ≡ Some e → P) → P
@@ -48,7 +35,7 @@ module _ {V : Type 0} where
     pub entry_value : (es : List (Entry V)) (j : ℤ) → IsDisjoint es → entry_at es k ≡ Some e → holds e j ≡ true → at es j ≡ Some e.value
     entry_value [] j apart is in' = cc
     entry_value (f ∷ fs) j apart is in' =
-        by_entry (holds f k) f e (entry_at fs k) is (λ _ same. here same) (λ later. there (holds f j) (clear_at f fs j apart.1) (entry_value fs j apart.2 later in'))
+        by_entry (holds f k) f e (entry_at fs k) is (λ _ same. here same) (λ later. there (holds f j) (at_clear f fs j apart.1) (entry_value fs j apart.2 later in'))
       where
         here : f ≡ e → cond (holds f j) (Some f.value) (at fs j) ≡ Some e.value
         here same = ap (λ (g : Entry V). cond (holds g j) (Some g.value) (at fs j)) same ∙ ap (λ t. cond t (Some e.value) (at fs j)) in'

@@ -6,8 +6,8 @@ use Rattle.std.specs.Cmp.Lexicographic.{bytes_decides}
 use Rattle.std.specs.List.{onto_first, list_all}
 use Rattle.std.specs.Char.{is_ascii_alphanumeric, is_ascii_digit}
 use Rattle.std.proofs.str.Laws.{order}
+use Rattle.std.proofs.lemmas.Bool.{and_parts}
 use Rattle.range_map_cli.specs.Commands.{Command, Paint, Insert, Remove, Get, At, Len, Entries, command_of, command_of_words, paint_of, insert_of, words_of, number_of, is_word, is_digits}
-use Rattle.range_map_cli.proofs.Texts.{both_true}
 
 -- the bytes of the words, with one more for each
 total : List (List ℕ) → ℕ
@@ -49,8 +49,8 @@ name_length name text h = ap length ((bytes_decides name text).0 h)
 
 word_short : (w : List ℕ) → is_word w ≡ true → length w ≤ 32
 word_short w h =
-    let parts = both_true (leb 1 (length w) && leb (length w) 32) (list_all is_ascii_alphanumeric w) h in
-    let last = both_true (leb 1 (length w)) (leb (length w) 32) parts.0 in
+    let parts = and_parts (leb 1 (length w) && leb (length w) 32) (list_all is_ascii_alphanumeric w) h in
+    let last = and_parts (leb 1 (length w)) (leb (length w) 32) parts.0 in
     grind (arith, nat_tests, last.1)
 
 choose : (t : Bool) (o p : Option Command) → (t ≡ true → o ≡ None) → p ≡ None → cond t o p ≡ None

@@ -2,12 +2,13 @@
 use Rattle.std.proofs.Common.{◌≡◌, ℤ, pos, ◌+ℤ◌, ◌-ℤ◌, ◌≤ℤ◌, ◌<ℤ◌, Bool, List, [], ◌∷◌, Option, Some, None, ◌∙◌, sym, ap, arith}
 use Rattle.std.proofs.lemmas.Int.{ints, by_lt_z}
 use Rattle.std.specs.Cmp.{IsEquivalence}
+use Rattle.blaze_entries.proofs.Alike.{same_along}
 use Rattle.blaze_table.specs.Canonical.{IsRangeMap}
 use Rattle.blaze_table.specs.Entries.{Entry, entry, at, entry_at}
-use Rattle.blaze_table.proofs.Unique.{same_along}
+use Rattle.blaze_table.proofs.Lookup.{holds_in, holds_ends}
 use Rattle.range_map_cli.specs.Laws.{AreRangesOrGapsFrom, CoverFrom, IsRangeOrGapAt, LookUpsCover}
 use Rattle.range_map_cli.specs.Pieces.{IsSameFrom, IsPiece}
-use Rattle.range_map_cli.proofs.EntryAt.{holds_in, holds_between, entry_holds, entry_starts, entry_ends, entry_keys, entry_value}
+use Rattle.range_map_cli.proofs.EntryAt.{entry_holds, entry_starts, entry_ends, entry_keys, entry_value}
 
 module _ {V : Type 0} (eq : V → V → Bool) (laws : IsEquivalence eq) (low high : ℤ) (es : List (Entry V)) (map : IsRangeMap eq low high es) where
   -- what is there at a key: the piece round it, and its value
@@ -20,7 +21,7 @@ module _ {V : Type 0} (eq : V → V → Bool) (laws : IsEquivalence eq) (low hig
     value_from j l h = entry_value k (entry a b v) es j map.runs.disjoint is (holds_in (entry a b v) j l h)
 
     within : (a ≤ℤ k) × (k ≤ℤ b)
-    within = holds_between (entry a b v) k (entry_holds k (entry a b v) es is)
+    within = holds_ends (entry a b v) k (entry_holds k (entry a b v) es is)
 
     no_lower : (c d : ℤ) → c ≤ℤ k → k ≤ℤ d → IsSameFrom (at es) k c d → c <ℤ a → ⊥
     no_lower c d l h same less =

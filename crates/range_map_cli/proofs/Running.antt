@@ -5,11 +5,11 @@ use Rattle.std.specs.Cmp.{IsEquivalence}
 use Rattle.std.proofs.lemmas.List.Elements.{All-cons, All-head, All-tail, All-nil}
 use Rattle.std.proofs.Math.Seq.{take-append_seam}
 use Rattle.std.proofs.lemmas.List.{length-append, nil_from_length}
+use Rattle.blaze_entries.proofs.Alike.{same_itself, same_trans}
 use Rattle.blaze_table.specs.Entries.{at, SameOption}
 use Rattle.blaze_table.specs.Counted.{CountedEntries}
 use Rattle.blaze_table.specs.Canonical.{IsRangeMap}
 use Rattle.blaze_table.specs.Work.{PutsAtMost}
-use Rattle.blaze_table.proofs.Unique.{same_itself, same_trans}
 use Rattle.range_map_cli.specs.Steps.{after, after_all, answer, answers, IsCountedRun, IsEdit, IsRefusedAt, IsStepped, IsSteppedAll, SameAnswer, SameAnswers}
 use Rattle.range_map_cli.specs.declared.step.Step.{Step}
 use Rattle.range_map_cli.specs.declared.step.Answer.{Answer}

@@ -4,17 +4,18 @@ use Rattle.std.specs.Prelude.{int_le, ◌&&◌}
 use Rattle.std.specs.Cmp.{IsEquivalence}
 use Rattle.std.proofs.lemmas.Bool.{eq-eqb, ne_eqb, cases_eq}
 use Rattle.std.proofs.lemmas.Int.{ints}
+use Rattle.blaze_int.proofs.Naturals.{pos_injective}
+use Rattle.blaze_entries.proofs.Alike.{same_itself, is_some_alike}
 use Rattle.blaze_table.specs.Entries.{Entry, at, SameOption}
 use Rattle.blaze_table.specs.Counted.{CountedEntries}
 use Rattle.blaze_table.specs.Canonical.{IsRangeMap}
 use Rattle.blaze_table.specs.Complement.{absent, IsComplement}
 use Rattle.blaze_table.specs.Count.{keys_in, mapped_keys}
-use Rattle.blaze_table.proofs.Unique.{same_itself}
 use Rattle.range_map_blaze.specs.Pairs.{PopsFirst, PopsLast}
 use Rattle.range_map_cli.specs.Steps.{answer, complemented, first_key, last_key, with_value, pair_of, IsStepped, IsWithout, SameAnswer, SamePair}
 use Rattle.range_map_cli.specs.declared.step.Step.{Step}
 use Rattle.range_map_cli.specs.declared.step.Answer.{Answer}
-use Rattle.range_map_cli.proofs.EndKeys.{alike_same, at_key, first_key_is, first_none, last_key_is, last_none, mapped_alike}
+use Rattle.range_map_cli.proofs.EndKeys.{at_key, first_key_is, first_none, last_key_is, last_none, mapped_alike}
 
 module _ {T V L : Type 0} (eq : V → V → Bool) (rank : T → ℤ) (low high : ℤ) where
   -- what is so of a step is so of its other name
@@ -44,14 +45,11 @@ module _ {V : Type 0} (eq : V → V → Bool) (low high : ℤ) where
   pub changed_is : (changed : Bool) (old new : List (Entry V)) (meant : ℤ → Option V) → keys_in old ≡ pos (mapped_keys low high (at old)) → keys_in new ≡ pos (mapped_keys low high (at new))
       → ((k : ℤ) → SameOption eq (at new k) (meant k)) → (IsTrue changed ↔ (¬ (keys_in new ≡ keys_in old))) → changed ≡ not (eqb (mapped_keys low high meant) (mapped_keys low high (at old)))
   changed_is changed old new meant counted_old counted_new same says =
-      let now : mapped_keys low high (at new) ≡ mapped_keys low high meant = mapped_alike (at new) meant (λ k. alike_same eq (at new k) (meant k) (same k)) low _ in
+      let now : mapped_keys low high (at new) ≡ mapped_keys low high meant = mapped_alike (at new) meant (λ k. is_some_alike eq (at new k) (meant k) (same k)) low _ in
       differ_is changed _ _ (
         λ is e. says.0 is (counted_new ∙ ap pos (now ∙ e) ∙ sym counted_old),
-        λ ne. says.1 (λ e. ne (sym now ∙ pos_inj _ _ (sym counted_new ∙ e ∙ counted_old))),
+        λ ne. says.1 (λ e. ne (sym now ∙ pos_injective _ _ (sym counted_new ∙ e ∙ counted_old))),
       )
-    where
-      pos_inj : (m n : ℕ) → pos m ≡ pos n → m ≡ n
-      pos_inj m n e = cc
 
   -- a complement has nothing off the keys
   pub complement_is : (v : V) (old new : List (Entry V)) → IsComplement eq low high v old new → (k : ℤ) → SameOption eq (at new k) (complemented low high v (at old) k)

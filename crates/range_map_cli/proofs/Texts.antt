@@ -7,6 +7,7 @@ use Rattle.std.proofs.lemmas.List.{take_all}
 use Rattle.std.proofs.lemmas.Bool.Decides.{nat_tests}
 use Rattle.std.proofs.lemmas.Str.Ascii.{IsAscii-cons, IsAscii-nil}
 use Rattle.std.proofs.lemmas.Str.{IsUtf8-from_ascii}
+use Rattle.std.proofs.lemmas.Bool.{and_parts}
 
 -- one more digit fits
 pub room : (v d i : ℕ) → v < 10 ^ i → d < 10 → v * 10 + d < 10 ^ (i + 1)
@@ -32,13 +33,9 @@ digit_from_test c h = grind (arith, nat_tests)
 alphanumeric_ascii : (b : ℕ) → is_ascii_alphanumeric b ≡ true → b < 128
 alphanumeric_ascii b h = grind (arith, nat_tests)
 
-pub both_true : (a b : Bool) → (a && b) ≡ true → (a ≡ true) × (b ≡ true)
-both_true true b h = (refl, h)
-both_true false b h = absurd (cc)
-
 word_ascii : (bs : List ℕ) → list_all is_ascii_alphanumeric bs ≡ true → IsAscii bs
 word_ascii [] h = IsAscii-nil
-word_ascii (b ∷ bs) h = let parts = both_true (is_ascii_alphanumeric b) (list_all is_ascii_alphanumeric bs) h in IsAscii-cons b bs (alphanumeric_ascii b parts.0) (word_ascii bs parts.1)
+word_ascii (b ∷ bs) h = let parts = and_parts (is_ascii_alphanumeric b) (list_all is_ascii_alphanumeric bs) h in IsAscii-cons b bs (alphanumeric_ascii b parts.0) (word_ascii bs parts.1)
 
 -- letters and digits are text
 pub word_utf8 : (bs : List ℕ) → list_all is_ascii_alphanumeric bs ≡ true → IsUtf8 bs

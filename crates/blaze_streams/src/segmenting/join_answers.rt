@@ -3,7 +3,8 @@ ghost use Rattle.std.specs.Prelude.{IfOk};
 ghost use Rattle.blaze_streams.specs.Answers.{values, IsCallableAtEach, IsTransformed};
 ghost use Rattle.blaze_streams.specs.JoinAnswers.{either, with_left, both, AllJoined};
 ghost use Rattle.blaze_streams.specs.JoinAnswers.{IsCallableAtSegments, IsJoined};
-ghost use Rattle.blaze_streams.specs.declared.segmenting.joins.JoinKind.TheVariants.{Inner, Left, Full};
+ghost use Rattle.blaze_streams.specs.declared.segmenting.joins.JoinKind.TheVariants.{Inner, Left};
+ghost use Rattle.blaze_streams.specs.declared.segmenting.joins.JoinKind.TheVariants.{Full};
 
 use crate::carrier::ValueCarrier;
 use crate::lists::canon_map::CanonMapIter;
@@ -16,7 +17,7 @@ use std::alloc::{AllocError, Global};
 
 /// What a closure answers at the segments of a full join: one call for each, ascending, with what the two streams have there,
 /// and no other. Touching segments with equal answers are one range. Refused memory drops the segments and the answers.
-pub fn answer_either<
+fn answer_either<
     T: Integer,
     VCL: ValueCarrier,
     VCR: ValueCarrier,
@@ -44,7 +45,7 @@ pub fn answer_either<
 
 /// What a closure answers at the segments of a left join: one call for each, ascending, with what the two streams have there,
 /// and no other. Touching segments with equal answers are one range. Refused memory drops the segments and the answers.
-pub fn answer_left<
+fn answer_left<
     T: Integer,
     VCL: ValueCarrier,
     VCR: ValueCarrier,
@@ -76,7 +77,7 @@ pub fn answer_left<
 /// What a closure answers at the segments of an inner join: one call for each, ascending, with what the two streams have
 /// there, and no other. Touching segments with equal answers are one range. Refused memory drops the segments and the
 /// answers.
-pub fn answer_both<
+fn answer_both<
     T: Integer,
     VCL: ValueCarrier,
     VCR: ValueCarrier,

@@ -1,7 +1,7 @@
 //! The pairs that wait, each by its place and its index; the one with the greatest place on top.
 ghost use Rattle.std.specs.Prelude.{◌≡◌, ◌≤◌, ◌∷◌, ◌+◌, [], All, IfSome, IfNone, IsPermutation};
 ghost use Rattle.std.specs.BinaryHeap.{IsHeap, heap_items, heap_len};
-ghost use Rattle.std.specs.List.{Contains, slice_get};
+ghost use Rattle.std.specs.List.{slice_get};
 ghost use Rattle.blaze_table.specs.Pieces.{place_cmp};
 
 use std::alloc::Global;
