@@ -15,7 +15,7 @@ use Rattle.blaze_table.proofs.Painted.{entries_themselves, is_painted, painted_n
 use Rattle.blaze_table.proofs.Runs.{canonical, one_per_run}
 use Rattle.blaze_table.proofs.Unique.{unique}
 use Rattle.blaze_table.specs.CanonicalOf.{keyed, IsCanonicalOf}
-use Rattle.blaze_table.specs.Swept.{AreApart, IsSwept, IsCanonicalAfter}
+use Rattle.blaze_table.specs.Swept.{Continues, AreApart, IsSwept, IsCanonicalAfter}
 use Rattle.blaze_table.proofs.Lasts.{painted_one, last_below, last_first, last_over}
 use Rattle.blaze_table.proofs.Sweeps.{at_past}
 
@@ -119,6 +119,15 @@ module _ {V : Type 0} (eq : V → V → Bool) (laws : IsEquivalence eq) where
           let one : is_keyed f ≡ 1 = ap (λ b. cond b 1 0) (le_true f.lo f.hi d.0) in
           let rest = count fs d.2 in
           omega (arith, one, rest)
+
+  -- a range map's list is canonical among the keys, and apart from no entry before it
+  pub canonical_list : (low high : ℤ) (es : List (Entry V)) → IsRangeMap eq low high es → IsCanonicalAfter eq low high None es
+  canonical_list low high es m = (canonical eq laws es m.runs, m.keys)
+
+  -- the first of a canonical list goes on from the entry before it
+  pub after_first : (low high : ℤ) (before : Option (Entry V)) (e : Entry V) (es : List (Entry V)) → IsCanonicalAfter eq low high before (e ∷ es) → Continues eq low high before e
+  after_first low high None e es c = (c.1.0, c.0.0, c.1.1)
+  after_first low high (Some d) e es c = (c.1.0, c.0.0, c.1.1, c.2)
 
   -- nothing is left after the last entry
   pub range_map_after : (low high : ℤ) (before : Option (Entry V)) (all rest : List (Entry V)) → length rest ≡ 0 → (IsCanonicalAfter eq low high before rest → IsCanonicalAfter eq low high None all) → IsRangeMap eq low high all

@@ -9,4 +9,4 @@ returns-then-is_canonical g c =
     let rank = g.T.Integer.rank in
     let eq = g.V.PartialEq.eq in
     canonical_of_itself eq g.met.V.Eq.laws g.T.Integer.low g.T.Integer.high (listed rank c.args.pairs.items)
-    (subst (λ xs. IsRangeMap eq g.T.Integer.low g.T.Integer.high (listed rank xs)) c.as_slice.ensures.value (c.is_canonical.ensures c.if-is_canonical.true))
+    (subst (λ xs. IsRangeMap eq g.T.Integer.low g.T.Integer.high (listed rank xs)) c.as_slice.ensures.value (c.is_canonical.ensures.0 c.if-is_canonical.true))
