@@ -1,6 +1,5 @@
 -- Lists in the order of their starts, in two parts: below a key and from it on.
-use Rattle.std.proofs.Common.{◌≡◌, ℤ, pos, ◌+ℤ◌, ◌≤ℤ◌, ◌<ℤ◌, true, false, cond, ◌⊎◌, inl, inr, List, [], ◌∷◌, refl, ◌∙◌, sym, ap, arith}
-use Rattle.std.specs.Prelude.{int_lt, int_le}
+use Rattle.std.proofs.Common.{◌≡◌, ℤ, pos, ◌+ℤ◌, ◌≤ℤ◌, ◌<ℤ◌, cond, ◌⊎◌, inl, inr, List, [], ◌∷◌, refl, ◌∙◌, sym, ap, arith}
 use Rattle.std.proofs.lemmas.Int.{ints, by_lt_z}
 use Rattle.blaze_int.proofs.Tests.{lt_true, lt_false, le_true, le_false}
 use Rattle.blaze_entries.specs.Entries.{Entry}

@@ -7,7 +7,7 @@ use Rattle.std.specs.Cmp.Lexicographic.{lists_equiv, options_equiv}
 use Rattle.std.proofs.lemmas.Bool.{false_from_ne_true}
 use Rattle.std.proofs.lemmas.Int.{ints}
 use Rattle.blaze_entries.proofs.Alike.{same_along, or_none, or_assoc}
-use Rattle.blaze_table.specs.Entries.{Entry, holds, at, SameOption}
+use Rattle.blaze_table.specs.Entries.{Entry, at, SameOption}
 use Rattle.blaze_table.specs.Canonical.{IsCanonical}
 use Rattle.blaze_table.specs.Splice.{IsBelow}
 use Rattle.blaze_table.proofs.Lookup.{at_in, at_under, at_over, by_place, at_append}

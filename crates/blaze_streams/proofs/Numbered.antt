@@ -1,8 +1,7 @@
 -- Lists of ranges that are in order are canonical with their places as values, also where they touch.
-use Rattle.std.proofs.Common.{◌≡◌, ℕ, ◌+◌, ℤ, ◌≤ℤ◌, false, nat_eq, List, [], ◌∷◌, ◌++◌, drop, ◌∙◌, sym, ap, subst, append_assoc, arith}
+use Rattle.std.proofs.Common.{◌≡◌, ℕ, ◌+◌, ℤ, ◌≤ℤ◌, nat_eq, List, [], ◌∷◌, ◌++◌, drop, ◌∙◌, sym, ap, subst, append_assoc}
 use Rattle.std.proofs.lemmas.List.{map-append}
 use Rattle.std.specs.declared.ops.RangeInclusive.{RangeInclusive}
-use Rattle.std.specs.Cmp.{nat_eq_equiv}
 use Rattle.std.specs.Global.{Vec}
 use Rattle.blaze_int.proofs.Naturals.{next_differs}
 use Rattle.blaze_table.specs.Entries.{Entry, entry}

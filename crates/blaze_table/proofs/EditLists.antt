@@ -129,8 +129,7 @@ module _ {V : Type 0} where
       (λ o q r. rw (below_takes (k +ℤ pos 1) f fs (omega (arith, ints))) (rw r refl))
       (λ o q r. rw (below_takes (k +ℤ pos 1) f fs (omega (arith, ints))) (rw r (start_below k fs)))
 
-  ]
-
+  -- the lengths
   pub length-with_end : (k z : ℤ) (es : List (Entry V)) → length (with_end k z es) ≡ length es
   length-with_end k z [] = refl
   length-with_end k z (e ∷ es) = elim (int_eq k e.lo) as (λ t. length (cond t (entry e.lo z e.value ∷ es) (e ∷ with_end k z es)) ≡ length (e ∷ es)) [

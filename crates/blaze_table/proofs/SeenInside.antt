@@ -1,5 +1,5 @@
 -- Whether a range lies inside an entry with an equal value, by the entry that starts there or below it.
-use Rattle.std.proofs.Common.{◌≡◌, ◌+◌, ◌≤◌, ℤ, pos, ◌+ℤ◌, ◌≤ℤ◌, ◌<ℤ◌, Bool, true, false, ◌&&◌, cond, List, [], ◌∷◌, ◌++◌, length, Option, Some, None, refl, ◌∙◌, sym, subst, ap, arith, inl, inr}
+use Rattle.std.proofs.Common.{◌≡◌, ◌+◌, ◌≤◌, ℤ, pos, ◌+ℤ◌, ◌≤ℤ◌, ◌<ℤ◌, Bool, true, false, cond, List, [], ◌∷◌, ◌++◌, length, Option, Some, None, refl, ◌∙◌, sym, subst, ap, arith, inl, inr}
 use Rattle.std.specs.Prelude.{◌↔◌, int_le}
 use Rattle.std.specs.List.{last_or}
 use Rattle.std.specs.Option.{option_map, option_or}

@@ -1,5 +1,5 @@
 -- Edits that split a list at a key.
-use Rattle.std.proofs.Common.{◌≡◌, Bool, ℤ, pos, ◌-ℤ◌, ◌≤ℤ◌, ◌<ℤ◌, true, List, [], ◌∷◌, ◌++◌, Option, Some, None, refl, ◌∙◌, sym, subst, ap, arith}
+use Rattle.std.proofs.Common.{◌≡◌, Bool, ℤ, pos, ◌-ℤ◌, ◌≤ℤ◌, ◌<ℤ◌, true, List, [], ◌∷◌, ◌++◌, None, refl, ◌∙◌, sym, subst, ap, arith}
 use Rattle.std.specs.Cmp.{IsEquivalence}
 use Rattle.std.specs.Prelude.{Result, Ok, Err, IfOk, OnOk, IsSome, int_lt, int_le}
 use Rattle.std.specs.Option.{option_map}

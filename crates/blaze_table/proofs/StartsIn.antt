@@ -15,7 +15,7 @@ use Rattle.blaze_table.specs.Entries.{Entry}
 use Rattle.blaze_table.specs.Canonical.{IsCanonical}
 use Rattle.blaze_table.specs.Planned.{starts_in, ends_in, least, least_with}
 use Rattle.blaze_table.specs.Splice.{after}
-use Rattle.blaze_table.proofs.Lookup.{IsAbove, IsAbove-from_apart, above_by, above_rest}
+use Rattle.blaze_table.proofs.Lookup.{IsAbove, IsAbove-from_apart, above_rest}
 use Rattle.blaze_table.proofs.Splices.{by_after}
 use Rattle.blaze_table.proofs.Splits.{LastAt, from_at, from_not_at}
 

@@ -12,7 +12,7 @@ use Rattle.blaze_int.proofs.Tests.{le_holds, eq_holds, le_true, eq_true}
 use Rattle.blaze_entries.proofs.Alike.{one_value}
 use Rattle.blaze_table.specs.Entries.{Entry, entry, SameEntries}
 use Rattle.blaze_table.specs.Canonical.{IsApart, IsCanonical}
-use Rattle.blaze_table.specs.Splice.{before, after, join, glue, IsPaintOf}
+use Rattle.blaze_table.specs.Splice.{before, after, glue, IsPaintOf}
 use Rattle.blaze_table.proofs.Splices.{by_after, by_join, before_keeps, before_cuts, before_ends, below_more, after_skips, after_keeps, canonical_after}
 use Rattle.blaze_table.proofs.Lookup.{IsAbove}
 use Rattle.blaze_table.proofs.Painted.{before_past}

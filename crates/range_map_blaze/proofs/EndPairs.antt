@@ -1,10 +1,10 @@
 -- The first and the last entry have the least and the greatest key.
-use Rattle.std.proofs.Common.{◌≡◌, ℕ, zero, suc, ◌-◌, ◌≤◌, ℤ, ◌≤ℤ◌, ◌<ℤ◌, true, List, [], ◌∷◌, length, Some, None, refl, ◌∙◌, subst, arith}
+use Rattle.std.proofs.Common.{◌≡◌, ℕ, zero, suc, ◌-◌, ◌≤◌, ℤ, ◌≤ℤ◌, ◌<ℤ◌, List, [], ◌∷◌, length, Some, None, refl, ◌∙◌, subst, arith}
 use Rattle.std.specs.List.{slice_get}
-use Rattle.std.proofs.lemmas.Int.{ints, by_lt_z}
-use Rattle.blaze_table.specs.Entries.{Entry, holds, at}
+use Rattle.std.proofs.lemmas.Int.{ints}
+use Rattle.blaze_table.specs.Entries.{Entry, at}
 use Rattle.blaze_table.specs.Canonical.{IsDisjoint, IsAscending}
-use Rattle.blaze_table.proofs.Lookup.{holds_in, at_in, at_under, at_over}
+use Rattle.blaze_table.proofs.Lookup.{at_in, at_under, at_over}
 use Rattle.blaze_table.proofs.Runs.{in_order}
 use Rattle.range_map_blaze.specs.Pairs.{IsFirstPair, IsLastPair}
 

@@ -1,5 +1,5 @@
 -- A paint of no key changes nothing.
-use Rattle.std.proofs.Common.{◌≡◌, ℤ, ◌<ℤ◌, Bool, false, ◌&&◌, cond, List, length, Option, Some, None, sym, subst, ap, arith}
+use Rattle.std.proofs.Common.{◌≡◌, ℤ, ◌<ℤ◌, Bool, false, ◌&&◌, cond, List, length, Some, sym, subst, ap, arith}
 use Rattle.std.specs.Prelude.{int_le}
 use Rattle.std.specs.Cmp.{IsEquivalence}
 use Rattle.std.proofs.lemmas.Int.{ints}

@@ -1,6 +1,6 @@
 -- A union has few entries: no more than a list that is made by painting the right list's entries over the left list.
 use Rattle.std.specs.Option.{option_or}
-use Rattle.std.proofs.Common.{◌+◌, ◌*◌, ◌≤◌, ℤ, Bool, cond, List, [], ◌∷◌, length, Option, Some, None, refl, ◌∙◌, sym, ap, subst, arith}
+use Rattle.std.proofs.Common.{◌+◌, ◌*◌, ◌≤◌, ℤ, Bool, cond, List, [], ◌∷◌, length, Some, None, refl, ◌∙◌, sym, ap, subst, arith}
 use Rattle.std.specs.Cmp.{IsEquivalence}
 use Rattle.blaze_entries.proofs.Alike.{same_itself, same_trans, same_back, same_or, or_assoc}
 use Rattle.blaze_table.specs.Entries.{Entry, at, holds, SameOption, SameContent}

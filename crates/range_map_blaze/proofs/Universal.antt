@@ -1,7 +1,7 @@
 -- When every key has a value.
 use Rattle.blaze_int.specs.Unsigned.{nat_of}
-use Rattle.std.proofs.Common.{◌≡◌, ℕ, zero, suc, ◌≤◌, ℤ, pos, ◌+ℤ◌, ◌-ℤ◌, ◌≤ℤ◌, ◌<ℤ◌, Bool, true, false, cond, not, Option, Some, None, refl, ◌∙◌, sym, ap, subst, arith}
-use Rattle.std.specs.Prelude.{is_some, IsSome, IsTrue}
+use Rattle.std.proofs.Common.{◌≡◌, ℕ, zero, suc, ◌≤◌, ℤ, pos, ◌+ℤ◌, ◌-ℤ◌, ◌≤ℤ◌, ◌<ℤ◌, Bool, true, false, not, Option, Some, None, refl, ◌∙◌, sym, ap, subst, arith}
+use Rattle.std.specs.Prelude.{IsSome, IsTrue}
 use Rattle.std.proofs.lemmas.Int.{ints, by_lt_z}
 use Rattle.blaze_table.specs.Count.{mapped, mapped_keys}
 use Rattle.blaze_table.proofs.Mapped.{one_if}

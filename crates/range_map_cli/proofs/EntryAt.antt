@@ -1,10 +1,9 @@
 -- The entry of a list that holds a key.
-use Rattle.std.proofs.Common.{◌≡◌, ℤ, ◌≤ℤ◌, List, [], ◌∷◌, true, false, Bool, cond, refl, sym, ap, ◌∙◌, subst, Option, Some, None, arith, inl, inr}
+use Rattle.std.proofs.Common.{◌≡◌, ℤ, ◌≤ℤ◌, List, [], ◌∷◌, true, false, Bool, cond, refl, sym, ap, ◌∙◌, subst, Option, Some, None, inl, inr}
 use Rattle.std.proofs.lemmas.Option.{same_Some}
-use Rattle.std.proofs.lemmas.Int.{ints}
 use Rattle.blaze_table.specs.Entries.{Entry, at, entry_at, holds}
-use Rattle.blaze_table.specs.Canonical.{IsDisjoint, IsClear, HasStart, HasEnd, AreKeys}
-use Rattle.blaze_table.proofs.Lookup.{at_clear, holds_in}
+use Rattle.blaze_table.specs.Canonical.{IsDisjoint, HasStart, HasEnd, AreKeys}
+use Rattle.blaze_table.proofs.Lookup.{at_clear}
 
 module _ {V : Type 0} where
 

@@ -1,6 +1,6 @@
 -- The operations between many maps, where there are two.
 use Rattle.std.specs.Option.{option_xor}
-use Rattle.std.proofs.Common.{◌≡◌, ℤ, Bool, List, [], ◌∷◌, Option, Some, None, refl, ◌∙◌, subst}
+use Rattle.std.proofs.Common.{◌≡◌, ℤ, Bool, List, [], ◌∷◌, Option, Some, None, refl, subst}
 use Rattle.std.specs.Cmp.{IsEquivalence}
 use Rattle.blaze_entries.proofs.Alike.{same_trans, same_back}
 use Rattle.blaze_table.specs.Entries.{Entry, at, SameOption, SameEntries}
