@@ -3,7 +3,7 @@ use Rattle.std.proofs.Common.{◌≡◌, ◌+◌, length, ℤ, pos, ◌+ℤ◌, 
 use Rattle.std.specs.Prelude.{IsSome}
 use Rattle.std.specs.Ordering.{int_eq}
 use Rattle.std.proofs.lemmas.Int.{ints}
-use Rattle.blaze_int.proofs.Tests.{eq_true}
+use Rattle.blaze_int.proofs.Comparisons.{eq_true}
 use Rattle.blaze_entries.specs.Entries.{Entry, entry}
 use Rattle.blaze_entries.specs.Starts.{StartsAscend, start_at, with_entry, without, with_end_value, IsStartMoved, IsFrontReplaced}
 use Rattle.blaze_entries.proofs.Ascending.{by_order, start_with_entry, start_without, start_with_end_value, length-with_entry, length-without}

@@ -41,7 +41,6 @@ module _ {A B : Type 0} where
   both_from s L R starts = let m = at_most_both (first_key L) (first_key R) s (at_most_itself _ s starts) in (from_first s L m.0, from_first s R m.1)
 
 module _ {V : Type 0} (eq : V → V → Bool) (laws : IsEquivalence eq) where
-
   -- nothing before what is the same
   nothing_before : (a b c : Option V) → a ≡ None → b ≡ c → SameOption eq (option_or a b) c
   nothing_before a b c p q = same_along eq (sym (ap (λ z. option_or z b) p ∙ none_or b ∙ q)) refl (same_itself eq laws c)

@@ -4,7 +4,7 @@ use Rattle.std.specs.Prelude.{int_le, int_lt, ◌&&◌, ◌||◌, option_map}
 use Rattle.std.specs.Ordering.{int_eq}
 use Rattle.std.specs.Cmp.{IsEquivalence}
 use Rattle.std.proofs.lemmas.Int.{ints}
-use Rattle.blaze_int.proofs.Tests.{lt_false, le_false, eq_true, eq_holds, and_fails}
+use Rattle.blaze_int.proofs.Comparisons.{lt_false, le_false, eq_true, eq_holds, and_fails}
 use Rattle.blaze_table.specs.Entries.{Entry}
 use Rattle.blaze_table.specs.Canonical.{IsApart, IsCanonical, IsOnePerRun, AreKeys, IsRangeMap}
 use Rattle.blaze_table.proofs.Runs.{canonical, one_per_run}

@@ -2,7 +2,7 @@
 use Rattle.std.proofs.Common.{◌≡◌, ℤ, pos, ◌+ℤ◌, ◌-ℤ◌, ◌≤ℤ◌, ◌<ℤ◌, Bool, cond, List, [], ◌∷◌, ◌++◌, Option, Some, None, refl, ◌∙◌, sym, ap, subst, append_assoc, arith}
 use Rattle.std.proofs.lemmas.Int.{ints, by_lt_z}
 use Rattle.std.specs.Cmp.{IsEquivalence}
-use Rattle.blaze_int.proofs.Tests.{lt_true, lt_false}
+use Rattle.blaze_int.proofs.Comparisons.{lt_true, lt_false}
 use Rattle.blaze_entries.proofs.Alike.{same_itself}
 use Rattle.blaze_table.specs.Entries.{Entry, entry, at, SameOption}
 use Rattle.blaze_table.specs.Canonical.{IsApart, IsCanonical, AreKeys, IsRangeMap}
@@ -38,7 +38,6 @@ apart_from f b (e ∷ es) h i = (omega (arith, ints), λ p. absurd (omega (arith
 -- ---- all gaps
 
 module _ {V : Type 0} (eq : V → V → Bool) (high : ℤ) where
-
   above_gaps : (n : ℤ) (es : List (Entry V)) → IsCanonical eq es → IsAbove (n -ℤ pos 1) es → IsAbove (n -ℤ pos 1) (gaps n high es)
   above_gaps n [] c a = by_gap (IsAbove (n -ℤ pos 1)) n (high +ℤ pos 1) (λ h. omega (arith, ints)) (λ h. tt)
   above_gaps n (e ∷ es) c a = by_gap (λ G. IsAbove (n -ℤ pos 1) (G ++ gaps (e.hi +ℤ pos 1) high es)) n e.lo

@@ -18,7 +18,6 @@ keys_push low high [] e k l h = (l, h, tt)
 keys_push low high (x ∷ xs) e k l h = (k.0, k.1, keys_push low high xs e k.2 l h)
 
 module _ {T : Type 0} (rank : T → ℤ) where
-
   numbered_canonical : (i : ℕ) (rs : List (T × T)) → IsDisjoint (numbered rank i rs) → IsAscending (numbered rank i rs) → IsCanonical nat_eq (numbered rank i rs)
   numbered_canonical i [] d a = tt
   numbered_canonical i (r ∷ []) d a = (d.0, tt, tt)

@@ -4,7 +4,7 @@ use Rattle.std.specs.Prelude.{int_lt, int_le, reverse}
 use Rattle.std.specs.Option.{is_some}
 use Rattle.std.proofs.lemmas.Int.{ints, by_lt_z}
 use Rattle.std.proofs.lemmas.List.{reverse-append}
-use Rattle.blaze_int.proofs.Tests.{lt_true, lt_false, le_true, le_false}
+use Rattle.blaze_int.proofs.Comparisons.{lt_true, lt_false, le_true, le_false}
 use Rattle.blaze_entries.specs.Found.{found_in}
 use Rattle.blaze_entries.specs.Scanned.{seen_covered, walked_covered}
 use Rattle.blaze_entries.specs.Starts.{StartsAscend, below}

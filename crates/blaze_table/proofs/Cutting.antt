@@ -6,7 +6,7 @@ use Rattle.std.specs.Ordering.{int_eq}
 use Rattle.std.proofs.lemmas.Int.{ints, by_lt_z}
 use Rattle.std.proofs.lemmas.Bool.{and_left}
 use Rattle.std.proofs.lemmas.List.{append-nil}
-use Rattle.blaze_int.proofs.Tests.{eq_true}
+use Rattle.blaze_int.proofs.Comparisons.{eq_true}
 use Rattle.blaze_entries.proofs.Alike.{same_along, same_trans, same_or_right}
 use Rattle.blaze_table.specs.Entries.{Entry, at, SameEntries, SameOption, entry}
 use Rattle.blaze_table.specs.Canonical.{IsCanonical, AreKeys}

@@ -3,7 +3,7 @@ use Rattle.std.proofs.Common.{◌≡◌, ℤ, pos, ◌+ℤ◌, ◌≤ℤ◌, ◌
 use Rattle.std.specs.Prelude.{IsSome, int_lt, int_le}
 use Rattle.std.specs.Ordering.{int_eq}
 use Rattle.std.proofs.lemmas.Int.{ints}
-use Rattle.blaze_int.proofs.Tests.{eq_true}
+use Rattle.blaze_int.proofs.Comparisons.{eq_true}
 use Rattle.blaze_entries.specs.Starts.{below, from, start_at, with_entry, without, with_end, with_end_value}
 use Rattle.blaze_entries.proofs.Ascending.{by_order}
 use Rattle.blaze_entries.proofs.Halves.{StartsBelow, below_takes, below_skips, from_takes, from_skips}

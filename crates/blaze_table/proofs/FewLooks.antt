@@ -4,7 +4,7 @@ use Rattle.std.specs.Prelude.{reverse, Result, Ok, Err, OnOk}
 use Rattle.std.proofs.lemmas.Int.{ints, by_lt_z}
 use Rattle.std.proofs.lemmas.List.{reverse-append}
 use Rattle.std.proofs.lemmas.List.Elements.{filter-append}
-use Rattle.blaze_int.proofs.Tests.{lt_true, lt_false}
+use Rattle.blaze_int.proofs.Comparisons.{lt_true, lt_false}
 use Rattle.blaze_entries.specs.Counted.{CountedEntries}
 use Rattle.blaze_entries.specs.Scanned.{answers}
 use Rattle.blaze_entries.specs.Starts.{StartsAscend, below, from}

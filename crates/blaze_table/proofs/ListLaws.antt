@@ -22,7 +22,6 @@ nat_of-between low high h = by_sign (high -ℤ low +ℤ pos 1) refl
     by_sign (negsuc n) p = absurd (omega (arith, ints))
 
 module _ {V : Type 0} (eq : V → V → Bool) where
-
   below_high : (low high b : ℤ) (es : List (Entry V)) → b ≡ high +ℤ pos 1 → AreKeys low high es → IsBelow b es
   below_high low high b [] p k = tt
   below_high low high b (e ∷ es) p k = (omega (arith, ints, k.1), below_high low high b es p k.2)

@@ -7,7 +7,7 @@ use Rattle.std.proofs.lemmas.Int.{ints}
 use Rattle.std.proofs.lemmas.List.{reverse-append, append-nil}
 use Rattle.std.proofs.lemmas.List.Folds.{find-append}
 use Rattle.std.proofs.lemmas.List.Elements.{filter-append}
-use Rattle.blaze_int.proofs.Tests.{lt_true, lt_false}
+use Rattle.blaze_int.proofs.Comparisons.{lt_true, lt_false}
 use Rattle.blaze_entries.specs.Starts.{StartsAscend, below, first_entry, last_below, first_from}
 use Rattle.blaze_entries.proofs.Halves.{below_all, below_none}
 use Rattle.blaze_table.specs.Entries.{Entry, entry_at}

@@ -3,7 +3,7 @@ use Rattle.std.proofs.Common.{◌≡◌, ℕ, ℤ, pos, ◌+ℤ◌, ◌≤ℤ◌
 use Rattle.std.specs.Prelude.{int_lt, reverse}
 use Rattle.std.proofs.lemmas.Int.{ints, by_lt_z}
 use Rattle.std.proofs.lemmas.List.{reverse-append}
-use Rattle.blaze_int.proofs.Tests.{lt_false}
+use Rattle.blaze_int.proofs.Comparisons.{lt_false}
 use Rattle.blaze_entries.specs.Scanned.{walked_keys}
 use Rattle.blaze_entries.specs.Starts.{StartsAscend, below, from}
 use Rattle.blaze_entries.proofs.Halves.{starts_from, starts_of_below}

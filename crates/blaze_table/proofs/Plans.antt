@@ -5,7 +5,7 @@ use Rattle.std.specs.Cmp.{IsEquivalence}
 use Rattle.std.specs.Option.{option_map}
 use Rattle.std.proofs.lemmas.Int.{ints, by_lt_z}
 use Rattle.std.proofs.lemmas.List.{append_assoc}
-use Rattle.blaze_int.proofs.Tests.{by_bool, lt_true, lt_false, le_true, le_false, lt_holds, not_both}
+use Rattle.blaze_int.proofs.Comparisons.{by_bool, lt_true, lt_false, le_true, le_false, lt_holds, not_both}
 use Rattle.blaze_entries.specs.Found.{found_in, range_in, ranks_of}
 use Rattle.blaze_entries.specs.Scanned.{Seen}
 use Rattle.blaze_entries.specs.Starts.{StartsAscend, from, last_below, start_at}

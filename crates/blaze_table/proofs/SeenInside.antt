@@ -5,7 +5,7 @@ use Rattle.std.specs.List.{last_or}
 use Rattle.std.specs.Option.{option_map, option_or}
 use Rattle.std.proofs.lemmas.Int.{ints, by_lt_z}
 use Rattle.std.proofs.lemmas.Bool.{and_parts, and_from}
-use Rattle.blaze_int.proofs.Tests.{le_true, le_false, le_holds, not_both}
+use Rattle.blaze_int.proofs.Comparisons.{le_true, le_false, le_holds, not_both}
 use Rattle.blaze_entries.specs.Found.{found_in}
 use Rattle.blaze_entries.specs.Scanned.{Seen}
 use Rattle.blaze_entries.specs.Starts.{StartsAscend, below, last_below, start_at}

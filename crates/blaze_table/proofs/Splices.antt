@@ -5,7 +5,7 @@ use Rattle.std.specs.Prelude.{int_lt, int_le}
 use Rattle.std.proofs.lemmas.Int.{ints, by_lt_z}
 use Rattle.std.specs.Cmp.{IsEquivalence}
 use Rattle.std.proofs.lemmas.Bool.{and_parts}
-use Rattle.blaze_int.proofs.Tests.{by_bool, lt_true, lt_false, le_true, le_false, eq_holds, eq_true, and_fails}
+use Rattle.blaze_int.proofs.Comparisons.{by_bool, lt_true, lt_false, le_true, le_false, eq_holds, eq_true, and_fails}
 use Rattle.blaze_entries.proofs.Alike.{same_along, same_itself, same_trans}
 use Rattle.blaze_table.specs.Entries.{Entry, holds, at, SameOption, entry}
 use Rattle.blaze_table.specs.Canonical.{IsApart, IsCanonical}

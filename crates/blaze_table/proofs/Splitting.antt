@@ -3,7 +3,7 @@ use Rattle.std.proofs.Common.{◌≡◌, ℕ, ℤ, pos, ◌+ℤ◌, ◌-ℤ◌, 
 use Rattle.std.specs.Cmp.{IsEquivalence}
 use Rattle.std.proofs.lemmas.Int.{ints, by_lt_z}
 use Rattle.std.proofs.lemmas.List.{append-nil}
-use Rattle.blaze_int.proofs.Tests.{lt_true, lt_false, le_true, le_false}
+use Rattle.blaze_int.proofs.Comparisons.{lt_true, lt_false, le_true, le_false}
 use Rattle.blaze_entries.proofs.Alike.{same_along, same_itself}
 use Rattle.blaze_table.specs.Entries.{Entry, at, SameEntries, entry}
 use Rattle.blaze_table.specs.Canonical.{IsCanonical, AreKeys}

@@ -6,7 +6,7 @@ use Rattle.std.specs.Option.{option_map}
 use Rattle.std.specs.Ordering.{int_eq}
 use Rattle.std.proofs.lemmas.Int.{ints, by_lt_z}
 use Rattle.std.proofs.lemmas.List.Elements.{filter-append}
-use Rattle.blaze_int.proofs.Tests.{by_bool, le_true, le_false}
+use Rattle.blaze_int.proofs.Comparisons.{by_bool, le_true, le_false}
 use Rattle.blaze_entries.specs.Found.{found_in}
 use Rattle.blaze_entries.specs.Starts.{StartsAscend, below, from, start_at, without}
 use Rattle.blaze_entries.proofs.Ascending.{by_order}

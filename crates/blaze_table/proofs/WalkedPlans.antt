@@ -6,7 +6,7 @@ use Rattle.std.specs.Option.{option_map}
 use Rattle.std.proofs.lemmas.Int.{ints, by_lt_z}
 use Rattle.std.proofs.lemmas.List.{reverse-append}
 use Rattle.std.proofs.lemmas.List.Elements.{filter-append}
-use Rattle.blaze_int.proofs.Tests.{by_bool, lt_true, lt_false, le_true, le_false}
+use Rattle.blaze_int.proofs.Comparisons.{by_bool, lt_true, lt_false, le_true, le_false}
 use Rattle.blaze_entries.specs.Found.{found_in}
 use Rattle.blaze_entries.specs.Scanned.{Seen, unseen, seen, seen_start, walked}
 use Rattle.blaze_entries.specs.Starts.{StartsAscend, below, from, last_below, start_at}

@@ -8,7 +8,7 @@ use Rattle.std.proofs.lemmas.Int.{ints, by_lt_z}
 use Rattle.std.proofs.lemmas.Bool.{and_parts}
 use Rattle.std.proofs.lemmas.List.{append-nil, append_assoc}
 use Rattle.std.proofs.lemmas.List.Elements.{filter-append}
-use Rattle.blaze_int.proofs.Tests.{le_holds, eq_holds, le_true, eq_true}
+use Rattle.blaze_int.proofs.Comparisons.{le_holds, eq_holds, le_true, eq_true}
 use Rattle.blaze_entries.proofs.Alike.{one_value}
 use Rattle.blaze_table.specs.Entries.{Entry, entry, SameEntries}
 use Rattle.blaze_table.specs.Canonical.{IsApart, IsCanonical}
@@ -25,7 +25,6 @@ use Rattle.blaze_table.proofs.Growing.{last_there}
 use Rattle.blaze_table.proofs.Glued.{glue-last}
 
 module _ {V : Type 0} (eq : V → V → Bool) where
-
   pub after_over : (k : ℤ) (es : List (Entry V)) → IsAbove k es → IsCanonical eq es → after k es ≡ es
   after_over k [] a c = refl
   after_over k (e ∷ es) a c = after_keeps k e es (omega (arith, ints, c.0)) a

@@ -4,7 +4,7 @@ use Rattle.std.specs.Prelude.{find, int_lt}
 use Rattle.std.specs.Cmp.{IsEquivalence}
 use Rattle.std.proofs.lemmas.Int.{ints, by_lt_z}
 use Rattle.std.proofs.lemmas.List.{map-append}
-use Rattle.blaze_int.proofs.Tests.{lt_true, lt_false}
+use Rattle.blaze_int.proofs.Comparisons.{lt_true, lt_false}
 use Rattle.blaze_entries.proofs.Alike.{same_itself}
 use Rattle.blaze_table.specs.Canonical.{IsCanonical, IsRangeMap}
 use Rattle.blaze_table.specs.Chosen.{left_with_right, IsChosen}

@@ -6,9 +6,8 @@ ghost use Rattle.blaze_table.specs.Count.{keys_in, mapped_keys};
 ghost use Rattle.blaze_table.specs.Laws.{IsShortest};
 ghost use Rattle.blaze_table.specs.Painted.{ClonesAreAlike};
 
-use blaze_int::Integer;
 use blaze_int::compare::length;
-use blaze_int::differ;
+use blaze_int::{Integer, differ};
 use blaze_streams::RangeValuesIter;
 use blaze_table::RangeTable;
 use blaze_table::laws::canonical_is_shortest;

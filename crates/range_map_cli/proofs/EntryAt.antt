@@ -6,7 +6,6 @@ use Rattle.blaze_table.specs.Canonical.{IsDisjoint, HasStart, HasEnd, AreKeys}
 use Rattle.blaze_table.proofs.Lookup.{at_clear}
 
 module _ {V : Type 0} where
-
   -- the entry is the first, which then holds the key, or it is one of the rest
   by_entry : {P : Type 0} (t : Bool) (f e : Entry V) (rest : Option (Entry V)) → cond t (Some f) rest ≡ Some e → (t ≡ true → f ≡ e → P) → (rest ≡ Some e → P) → P
   by_entry true f e rest is first later = first refl (same_Some f e is)

@@ -48,7 +48,6 @@ row_length [] k = refl
 row_length (L ∷ Ls) k = ap suc (row_length Ls k)
 
 module _ {V : Type 0} where
-
   first_assoc : (x y z : Option V) → right_first x (right_first y z) ≡ right_first (right_first x y) z
   first_assoc x y None = refl
   first_assoc x y (Some z) = refl

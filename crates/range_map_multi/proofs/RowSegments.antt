@@ -5,7 +5,7 @@ use Rattle.std.specs.List.{list_any}
 use Rattle.std.specs.Cmp.{IsEquivalence}
 use Rattle.std.specs.Cmp.Lexicographic.{lists_equiv, options_equiv}
 use Rattle.std.proofs.lemmas.Int.{ints}
-use Rattle.blaze_int.proofs.Tests.{by_bool}
+use Rattle.blaze_int.proofs.Comparisons.{by_bool}
 use Rattle.blaze_entries.proofs.Alike.{or_none}
 use Rattle.blaze_table.specs.Entries.{Entry, entry, at, holds}
 use Rattle.blaze_table.specs.Canonical.{IsApart, IsCanonical, AreKeys}

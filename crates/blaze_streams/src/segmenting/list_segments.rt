@@ -7,7 +7,7 @@ ghost use Rattle.blaze_table.specs.Canonical.{IsCanonical};
 
 use crate::cursor::Cursor;
 use crate::lists::canon_map::CanonMapIter;
-use crate::segmenting::cursors::{PlaceCursor, advance_all, first_of, last_of, row_at};
+use crate::segmenting::cursors::{PlaceCursor, advance_all, row_at, segment_end, segment_start};
 use blaze_int::Integer;
 use std::alloc::{AllocError, Global};
 
@@ -99,10 +99,10 @@ pub fn next_segment<T: Integer>(
         (λ next. IfSome next (λ segment. IsNextSegment lists.old
         (entry_of T.rank segment) lists.new)) }
 {
-    let Some(start) = first_of(lists) else {
+    let Some(start) = segment_start(lists) else {
         return Ok(None);
     };
-    let Some(end) = last_of(lists, start) else {
+    let Some(end) = segment_end(lists, start) else {
         return Ok(None);
     };
     let at = row_at(alloc, lists, start)?;

@@ -38,7 +38,7 @@ pub(crate) fn is_ascending<T: Integer, V>(pairs: &[(T, T, V)]) -> bool
 }
 
 /// The list of pairs that are ascending and disjoint, where touching ones with equal values are joined. Each value is moved.
-pub(crate) fn joined<T: Integer, V: Eq + Clone>(
+pub(crate) fn joined_entries<T: Integer, V: Eq + Clone>(
     alloc: Global,
     pairs: Vec<(T, T, V)>,
 ) -> Result<Vec<(T, T, V)>, AllocError>

@@ -2,7 +2,7 @@ use Rattle.blaze_int.specs.Unsigned.{nat_of}
 use Rattle.std.proofs.Common.{◌≡◌, sym, ap, subst, ℤ, pos, ◌+ℤ◌, ◌-ℤ◌, arith, ◌∙◌, true, false}
 use Rattle.std.proofs.lemmas.Int.{ints}
 use Rattle.blaze_int.proofs.Naturals.{nat_of-pos}
-use Rattle.blaze_int.proofs.Tests.{lt_holds, lt_fails}
+use Rattle.blaze_int.proofs.Comparisons.{lt_holds, lt_fails}
 use Rattle.blaze_table.specs.Keeping.{KeepsMore}
 use Rattle.blaze_table.specs.Pairs.{pairs_from}
 use Rattle.blaze_table.specs.Retain.{AnswersAtPair, TakesPair}

@@ -1,5 +1,5 @@
 use Rattle.std.proofs.Common.{◌∙◌, sym, refl}
-use Rattle.blaze_int.proofs.Tests.{le_fails}
+use Rattle.blaze_int.proofs.Comparisons.{le_fails}
 use Rattle.blaze_entries.specs.Starts.{below, from}
 use Rattle.blaze_table.specs.Splice.{IsSplitOf}
 use Rattle.blaze_table.proofs.Holders.{holder}

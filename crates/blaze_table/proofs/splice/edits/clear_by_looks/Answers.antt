@@ -1,6 +1,6 @@
 use Rattle.std.proofs.Common.{◌<ℤ◌, ◌≤ℤ◌, length, ap, sym, ◌∙◌, arith}
 use Rattle.std.proofs.lemmas.Int.{ints}
-use Rattle.blaze_int.proofs.Tests.{lt_holds, lt_fails}
+use Rattle.blaze_int.proofs.Comparisons.{lt_holds, lt_fails}
 use Rattle.blaze_entries.specs.Counted.{CountedEntries}
 use Rattle.blaze_table.proofs.Clearing.{stopped, ended, there, whole, kept_below, kept_above}
 use Rattle.blaze_table.proofs.splice.edits.clear_by_looks.Goals as goal

@@ -1,6 +1,6 @@
 use Rattle.std.proofs.Common.{length, ap, sym, ◌∙◌, arith}
 use Rattle.std.specs.Option.{option_map}
-use Rattle.blaze_int.proofs.Tests.{le_holds, le_fails}
+use Rattle.blaze_int.proofs.Comparisons.{le_holds, le_fails}
 use Rattle.blaze_entries.specs.Counted.{CountedEntries}
 use Rattle.blaze_table.specs.Planned.{ends_of}
 use Rattle.blaze_table.proofs.EditLists.{length-with_end}

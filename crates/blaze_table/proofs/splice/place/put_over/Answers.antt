@@ -1,6 +1,6 @@
 use Rattle.std.proofs.Common.{length, sym, subst, ap, ◌∙◌, arith}
 use Rattle.std.specs.Option.{option_map}
-use Rattle.blaze_int.proofs.Tests.{lt_holds, lt_fails}
+use Rattle.blaze_int.proofs.Comparisons.{lt_holds, lt_fails}
 use Rattle.blaze_entries.specs.Counted.{CountedEntries}
 use Rattle.blaze_entries.specs.Found.{ranks_of}
 use Rattle.blaze_entries.proofs.Moves.{length-with_end_value}

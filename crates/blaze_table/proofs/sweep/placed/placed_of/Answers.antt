@@ -3,7 +3,7 @@ use Rattle.std.proofs.lemmas.List.{length-map, nil_from_length}
 use Rattle.std.proofs.lemmas.List.Elements.{All-weaker}
 use Rattle.std.proofs.lemmas.List.Sorted.{answers_always}
 use Rattle.std.specs.Vec.Iter.{into_iter_items}
-use Rattle.blaze_int.proofs.Tests.{le_holds, le_fails}
+use Rattle.blaze_int.proofs.Comparisons.{le_holds, le_fails}
 use Rattle.blaze_table.specs.Entries.{shown_entry}
 use Rattle.blaze_table.specs.Listed.{listed}
 use Rattle.blaze_table.specs.Pieces.{IsPlaced}

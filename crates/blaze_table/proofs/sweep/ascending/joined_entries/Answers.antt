@@ -6,7 +6,7 @@ use Rattle.blaze_table.specs.Listed.{listed}
 use Rattle.blaze_table.specs.Painted.{last_at}
 use Rattle.blaze_table.proofs.JoinedPieces.{IsJoined, joined_none, joined_more}
 use Rattle.blaze_table.proofs.Canonicals.{canonical_of_swept}
-use Rattle.blaze_table.proofs.sweep.ascending.joined.Goals as goal
+use Rattle.blaze_table.proofs.sweep.ascending.joined_entries.Goals as goal
 
 pub loop-start-init : goal.loop-start-init
 loop-start-init g c =

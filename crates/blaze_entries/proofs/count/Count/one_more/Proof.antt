@@ -27,10 +27,10 @@ use denote.Triple.Entry.{on_entry, alive, Args}
 use denote.Triple.Spec.{Meets, triple_of}
 use denote.Triple.Table.{entered}
 use denote.Triple.Walked.{says, stay_none_ref, Stays, walk_of, Walks, ends_at, walked, Goes-none_ref, walk_Meets}
-use Rattle.blaze_entries.specs.contracts.count.Count.after.Key.{name as key}
-use Rattle.blaze_entries.specs.contracts.count.Count.after as f
-use Rattle.blaze_entries.proofs.count.Count.after.Statement as stated
-use Rattle.blaze_entries.proofs.count.Count.after.Code as code
+use Rattle.blaze_entries.specs.contracts.count.Count.one_more.Key.{name as key}
+use Rattle.blaze_entries.specs.contracts.count.Count.one_more as f
+use Rattle.blaze_entries.proofs.count.Count.one_more.Statement as stated
+use Rattle.blaze_entries.proofs.count.Count.one_more.Code as code
 use Rattle.blaze_entries.specs.contracts.count.Count as made
 
 abbrev stayed : Stays (f.ended).signature.params (f.ended).kept
@@ -71,9 +71,9 @@ meets {𝓤 = 𝓤} 𝓛 mem run 𝓣 =
     walk_Meets 𝓛 f.ended stayed (Goes-none_ref 𝓛 1 (0 ∷ []) tt (plain (λ _. made.the_row)) yes, tt) (f.clauses 𝓛 mem run) (WpFn 𝓤 𝓛.H 𝓣.C 𝓣.Λ code.function)
     (WpFn-mono 𝓤 𝓛.H 𝓛.laws 𝓣 code.function) (walks 𝓛 mem run 𝓣.C 𝓣.Λ)
 
-pub after_spec : {M : Type 1} → stated.statement M
+pub one_more_spec : {M : Type 1} → stated.statement M
 unfolding tables_of
-after_spec 𝓤 𝓛 𝓜 𝓡 wired =
+one_more_spec 𝓤 𝓛 𝓜 𝓡 wired =
     entered 𝓤 𝓛.H (triple_of 𝓛 f.signature (f.spec 𝓛 𝓜.mem 𝓡.returns))
     (tables 𝓤 𝓛.H 𝓜 𝓡 𝓡.env).C (tables 𝓤 𝓛.H 𝓜 𝓡 𝓡.env).Λ key code.function (code.unfolded 𝓤 𝓛.H 𝓜 𝓡 wired)
     (meets 𝓛 𝓜.mem 𝓡.returns (tables_of 𝓤 𝓛.H 𝓜 (tables 𝓤 𝓛.H 𝓜 𝓡 𝓡.env)))
