@@ -26,7 +26,7 @@ module _ {V : Type 0} (eq : V → V → Bool) (laws : IsEquivalence eq) (low hig
     range_map = f.range_map;
     content = λ k. same_along eq {a = at new k} refl (or_assoc (at right k) (at done k) (at (e ∷ []) k) ∙ ap (option_or (at right k)) (sym (at_append done (e ∷ []) k)))
         (same_trans eq laws (at new k) _ _ (f.content k)
-        (same_or eq laws (at cur k) (option_or (at right k) (at done k)) (cond (holds e k) (Some w) None) (at (e ∷ []) k) (u.content k) (either (holds e k))));
+        (same_or eq (at cur k) (option_or (at right k) (at done k)) (cond (holds e k) (Some w) None) (at (e ∷ []) k) (u.content k) (either (holds e k))));
   }
     where
       either : (b : Bool) → SameOption eq (cond b (Some w) None) (cond b (Some e.value) None)

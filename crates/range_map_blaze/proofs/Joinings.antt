@@ -16,7 +16,7 @@ use Rattle.blaze_table.specs.Entries.{Entry, holds, SameOption}
 use Rattle.blaze_table.specs.Canonical.{IsCanonical, IsRangeMap}
 use Rattle.blaze_table.specs.Painted.{IsInside, last_at}
 use Rattle.range_map_blaze.specs.Extended.{AreInside, IsExtended}
-use Rattle.range_map_blaze.specs.Underway.{are_one_pair, joined, IsUnderway}
+use Rattle.range_map_blaze.specs.Underway.{are_one_pair, joined_pair, IsUnderway}
 use Rattle.range_map_blaze.proofs.Insides.{inside_both, inside_parts}
 use Rattle.range_map_blaze.proofs.Paintings.{last_append, extended_none, extended_more}
 
@@ -54,12 +54,12 @@ module _ {V : Type 0} (eq : V → V → Bool) where
 
   -- the joined pair stands for what the first stands for, and then the second
   last_joined : (p n : Entry V) (others : List (Entry V)) (k : ℤ) → p.lo ≤ℤ p.hi → n.lo ≤ℤ n.hi → are_one_pair eq p n ≡ true
-      → SameOption eq (last_at (p ∷ []) k) (last_at others k) → SameOption eq (last_at (joined p n ∷ []) k) (last_at (others ++ n ∷ []) k)
+      → SameOption eq (last_at (p ∷ []) k) (last_at others k) → SameOption eq (last_at (joined_pair p n ∷ []) k) (last_at (others ++ n ∷ []) k)
   last_joined p n others k o q j s =
       let split = and_parts (int_le n.lo (p.hi +ℤ pos 1) && int_le p.lo (n.hi +ℤ pos 1)) (eq p.value n.value) j in
       let near = and_parts (int_le n.lo (p.hi +ℤ pos 1)) (int_le p.lo (n.hi +ℤ pos 1)) split.0 in
-      let inside : holds (joined p n) k ≡ holds n k || holds p k = in_joined p.lo p.hi n.lo n.hi k o q near.0 near.1 in
-      subst (λ r. SameOption eq (last_at (joined p n ∷ []) k) r) (sym (last_append others (n ∷ []) k))
+      let inside : holds (joined_pair p n) k ≡ holds n k || holds p k = in_joined p.lo p.hi n.lo n.hi k o q near.0 near.1 in
+      subst (λ r. SameOption eq (last_at (joined_pair p n ∷ []) k) r) (sym (last_append others (n ∷ []) k))
       (subst (λ b. SameOption eq (cond b (Some p.value) None) (option_or (last_at (n ∷ []) k) (last_at others k))) (sym inside)
       (joined_value (holds n k) (holds p k) p.value n.value (last_at others k) split.1 s))
 
@@ -77,12 +77,12 @@ module _ {V : Type 0} (eq : V → V → Bool) where
     underway_one n pairs old cur d q = record { done = pairs; others = n ∷ []; parts = refl; extended = d; same = λ k. same_itself eq laws (last_at (n ∷ []) k); fewer = omega arith; inside = λ es c a. a; order = q }
 
     -- where both pairs lie inside, the joined one does
-    inside_joined : (p n : Entry V) (es : List (Entry V)) → IsCanonical eq es → p.lo ≤ℤ p.hi → n.lo ≤ℤ n.hi → are_one_pair eq p n ≡ true → AreInside eq (p ∷ []) es → AreInside eq (n ∷ []) es → AreInside eq (joined p n ∷ []) es
+    inside_joined : (p n : Entry V) (es : List (Entry V)) → IsCanonical eq es → p.lo ≤ℤ p.hi → n.lo ≤ℤ n.hi → are_one_pair eq p n ≡ true → AreInside eq (p ∷ []) es → AreInside eq (n ∷ []) es → AreInside eq (joined_pair p n ∷ []) es
     inside_joined p n es c o q j a b =
         let split = and_parts (int_le n.lo (p.hi +ℤ pos 1) && int_le p.lo (n.hi +ℤ pos 1)) (eq p.value n.value) j in
         let near = and_parts (int_le n.lo (p.hi +ℤ pos 1)) (int_le p.lo (n.hi +ℤ pos 1)) split.0 in (
           inr (inside_both eq laws p.lo p.hi n.lo n.hi p.value n.value es c o q (le_holds n.lo (p.hi +ℤ pos 1) near.0) (le_holds p.lo (n.hi +ℤ pos 1) near.1) split.1 (with_key p o a.0) (with_key n q b.0)
-              (joined p n).lo (joined p n).hi (joined_order p.lo p.hi n.lo n.hi o q) (λ k x y. in_parts p.lo p.hi n.lo n.hi k o q near.0 near.1 x y)),
+              (joined_pair p n).lo (joined_pair p n).hi (joined_order p.lo p.hi n.lo n.hi o q) (λ k x y. in_parts p.lo p.hi n.lo n.hi k o q near.0 near.1 x y)),
           tt,
         )
       where
@@ -92,7 +92,7 @@ module _ {V : Type 0} (eq : V → V → Bool) where
 
     -- the next pair is joined with the pending one
     pub underway_joined : (p n : Entry V) (pairs old cur : List (Entry V)) → IsUnderway eq low high pairs old cur (Some p) → n.lo ≤ℤ n.hi → are_one_pair eq p n ≡ true
-        → IsUnderway eq low high (pairs ++ n ∷ []) old cur (Some (joined p n))
+        → IsUnderway eq low high (pairs ++ n ∷ []) old cur (Some (joined_pair p n))
     underway_joined p n pairs old cur u q j = record {
       done = u.done;
       others = u.others ++ n ∷ [];

@@ -65,7 +65,7 @@ module _ {V : Type 0} (eq : V → V → Bool) (laws : IsEquivalence eq) where
       range_map = p.range_map;
       content = λ k. subst (SameOption eq (at new k)) (sym (or_assoc (last_at others k) (last_at done k) (at old k)) ∙ ap (λ o. option_or o (at old k)) (sym (last_append done others k)))
           (same_trans eq laws (at new k) (painted_in_order part (at cur) k) (option_or (last_at others k) (painted_in_order done (at old) k)) (p.content k)
-          (same_or (last_at part k) (last_at others k) (at cur k) (painted_in_order done (at old) k) (s k) (d.content k)));
+          (same_or eq (last_at part k) (last_at others k) (at cur k) (painted_in_order done (at old) k) (s k) (d.content k)));
       few = omega (arith, d.few, p.few, length-append done others);
       alone = alone_more done others part old cur new d p l;
       inside = λ a.

@@ -33,7 +33,7 @@ module _ {V : Type 0} (eq : V → V → Bool) (laws : IsEquivalence eq) where
           is_canonical = rest.1.is_canonical;
           content = λ k. same_trans eq laws (at rest.0 k) (option_or (last_at ps k) (at cur k)) _ (rest.1.content k)
               (subst (SameOption eq (option_or (last_at ps k) (at cur k))) (sym (or_assoc (last_at ps k) (cond (holds p k) (Some p.value) None) (at old k)))
-              (same_or eq laws (last_at ps k) (last_at ps k) (at cur k) _ (same_itself eq laws (last_at ps k)) (subst (SameOption eq (at cur k)) (painted_one (holds p k) p.value (at old k)) (one.content k))));
+              (same_or eq (last_at ps k) (last_at ps k) (at cur k) _ (same_itself eq laws (last_at ps k)) (subst (SameOption eq (at cur k)) (painted_one (holds p k) p.value (at old k)) (one.content k))));
           few = omega (arith, rest.1.few, one.few);
         },
       )

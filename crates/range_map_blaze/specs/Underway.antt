@@ -11,8 +11,8 @@ abbrev pub are_one_pair : {V : Type 0} → (V → V → Bool) → Entry V → En
 are_one_pair eq p n = (int_le n.lo (p.hi +ℤ pos 1) && int_le p.lo (n.hi +ℤ pos 1)) && eq p.value n.value
 
 -- from the lesser start to the greater end, with the value of the first
-abbrev pub joined : {V : Type 0} → Entry V → Entry V → Entry V
-joined p n = entry (if int_lt n.lo p.lo then n.lo else p.lo) (if int_lt p.hi n.hi then n.hi else p.hi) p.value
+abbrev pub joined_pair : {V : Type 0} → Entry V → Entry V → Entry V
+joined_pair p n = entry (if int_lt n.lo p.lo then n.lo else p.lo) (if int_lt p.hi n.hi then n.hi else p.hi) p.value
 
 -- Of the pairs the first are painted, and the pending pair, if there is one, stands for the others.
 pub record IsUnderway {V : Type 0} (eq : V → V → Bool) (low high : ℤ) (pairs old new : List (Entry V)) (pending : Option (Entry V)) : Type 0 where

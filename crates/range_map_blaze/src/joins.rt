@@ -3,14 +3,13 @@ ghost use Rattle.std.specs.Prelude.{◌≡◌, IfOk};
 ghost use Rattle.blaze_streams.specs.Answers.{values, IsCallableAtEach, IsTransformed};
 ghost use Rattle.blaze_streams.specs.JoinAnswers.{either, both, with_left, IsCallableAtSegments};
 ghost use Rattle.blaze_streams.specs.JoinAnswers.{IsJoined};
-ghost use Rattle.blaze_streams.specs.declared.segmenting.joins.JoinKind.TheVariants.{Inner, Left};
-ghost use Rattle.blaze_streams.specs.declared.segmenting.joins.JoinKind.TheVariants.{Full};
+ghost use Rattle.blaze_streams.specs.declared.segmenting.joins.JoinKind.TheVariants.{Inner, Left, Full};
 
 use crate::map::RangeMapBlaze;
 use blaze_int::Integer;
 use blaze_streams::{
-    CanonMapIter, Owned, RangeValuesIter, SortedDisjointMap, full_join_of, inner_join_of,
-    left_join_of, transform,
+    CanonMapIter, JoinKind, Owned, RangeValuesIter, SortedDisjointMap, answer_both, answer_either,
+    answer_left, join_of, transform,
 };
 use blaze_table::RangeTable;
 use std::alloc::{AllocError, Global};
@@ -58,9 +57,13 @@ fn inner_joined<T: Integer, V: Eq + Clone, V2: Eq + Clone, W: Eq + Clone, F: FnM
     ensures { IfOk result (λ new. IsJoined (both (λ v. v.now) (λ v. v.now)) F.FnMut V.eq V2.eq T.low
         T.high Inner W.eq f table.now.entries other.now.entries new) }
 {
-    let left = RangeValuesIter::new(table);
-    let right = RangeValuesIter::new(other);
-    inner_join_of(alloc, left, right, f)
+    let segments = join_of(
+        alloc,
+        RangeValuesIter::new(table),
+        RangeValuesIter::new(other),
+        JoinKind::Inner,
+    )?;
+    answer_both(alloc, segments, f)
 }
 
 /// A closure's answers where the first table has a value, as a stream.
@@ -81,9 +84,13 @@ fn left_joined<
     ensures { IfOk result (λ new. IsJoined (with_left (λ v. v.now) (λ v. v.now)) F.FnMut V.eq V2.eq
         T.low T.high Left W.eq f table.now.entries other.now.entries new) }
 {
-    let left = RangeValuesIter::new(table);
-    let right = RangeValuesIter::new(other);
-    left_join_of(alloc, left, right, f)
+    let segments = join_of(
+        alloc,
+        RangeValuesIter::new(table),
+        RangeValuesIter::new(other),
+        JoinKind::Left,
+    )?;
+    answer_left(alloc, segments, f)
 }
 
 /// A closure's answers where at least one table has a value, as a stream.
@@ -104,9 +111,13 @@ fn full_joined<
     ensures { IfOk result (λ new. IsJoined (either (λ v. v.now) (λ v. v.now)) F.FnMut V.eq V2.eq
         T.low T.high Full W.eq f table.now.entries other.now.entries new) }
 {
-    let left = RangeValuesIter::new(table);
-    let right = RangeValuesIter::new(other);
-    full_join_of(alloc, left, right, f)
+    let segments = join_of(
+        alloc,
+        RangeValuesIter::new(table),
+        RangeValuesIter::new(other),
+        JoinKind::Full,
+    )?;
+    answer_either(alloc, segments, f)
 }
 
 impl<T: Integer, V: Eq + Clone> RangeMapBlaze<T, V> {

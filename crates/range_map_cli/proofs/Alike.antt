@@ -10,7 +10,7 @@ use Rattle.blaze_table.specs.Chosen.{right_first, left_with_right, left_alone}
 use Rattle.blaze_table.specs.Complement.{absent}
 use Rattle.blaze_table.specs.Count.{mapped_keys}
 use Rattle.blaze_table.specs.Painted.{painted}
-use Rattle.range_map_cli.specs.Steps.{after, after_all, answer, answers, first_key, last_key, pair_of, with_value, without, SameAnswer, SameAnswers, SamePair}
+use Rattle.range_map_cli.specs.Steps.{content_after, after_all, answer, answers, first_key, last_key, pair_of, with_value, without, SameAnswer, SameAnswers, SamePair}
 use Rattle.range_map_cli.specs.declared.step.Step.{Step}
 use Rattle.range_map_cli.specs.declared.step.Step.TheVariants.{Paint, Insert, Remove, PopFirst, PopLast, Clear, KeepBelow, KeepFrom, Or, And, Minus, Xor, AndSet, MinusSet, ComplementWith}
 use Rattle.range_map_cli.specs.declared.step.Answer.{Answer}
@@ -76,7 +76,7 @@ module _ {V : Type 0} (eq : V → V → Bool) (laws : IsEquivalence eq) where
 
   module _ {T L : Type 0} (rank : T → ℤ) (low high : ℤ) (c d : ℤ → Option V) (same : (k : ℤ) → SameOption eq (c k) (d k)) where
     -- the content after a step
-    pub after_alike : (s : Step T V L) (k : ℤ) → SameOption eq (after rank low high s c k) (after rank low high s d k)
+    pub after_alike : (s : Step T V L) (k : ℤ) → SameOption eq (content_after rank low high s c k) (content_after rank low high s d k)
     after_alike (Paint lo hi v) k = same_cond (int_le (rank lo) k && int_le k (rank hi)) (Some v) (c k) (Some v) (d k) (laws.refl v) (same k)
     after_alike (Insert j v) k = same_cond (int_le (rank j) k && int_le k (rank j)) (Some v) (c k) (Some v) (d k) (laws.refl v) (same k)
     after_alike (Remove j) k = same_cond (int_eq k (rank j)) None (c k) None (d k) tt (same k)
@@ -155,13 +155,13 @@ module _ {V : Type 0} (eq : V → V → Bool) (laws : IsEquivalence eq) where
   -- ---- one step more
 
   module _ {T L : Type 0} (rank : T → ℤ) (low high : ℤ) where
-    pub after_more : (steps : List (Step T V L)) (s : Step T V L) (c : ℤ → Option V) → after_all rank low high (steps ++ s ∷ []) c ≡ after rank low high s (after_all rank low high steps c)
+    pub after_more : (steps : List (Step T V L)) (s : Step T V L) (c : ℤ → Option V) → after_all rank low high (steps ++ s ∷ []) c ≡ content_after rank low high s (after_all rank low high steps c)
     after_more [] s c = refl
-    after_more (t ∷ steps) s c = after_more steps s (after rank low high t c)
+    after_more (t ∷ steps) s c = after_more steps s (content_after rank low high t c)
 
     pub answers_more : (steps : List (Step T V L)) (s : Step T V L) (c : ℤ → Option V) (given : List (Answer T V)) (a : Answer T V) → SameAnswers rank eq given (answers rank low high steps c)
         → SameAnswer rank eq a (answer rank low high s (after_all rank low high steps c)) → SameAnswers rank eq (given ++ a ∷ []) (answers rank low high (steps ++ s ∷ []) c)
     answers_more [] s c [] a p q = (q, tt)
     answers_more [] s c (b ∷ given) a p q = absurd p
     answers_more (t ∷ steps) s c [] a p q = absurd p
-    answers_more (t ∷ steps) s c (b ∷ given) a p q = (p.0, answers_more steps s (after rank low high t c) given a p.1 q)
+    answers_more (t ∷ steps) s c (b ∷ given) a p q = (p.0, answers_more steps s (content_after rank low high t c) given a p.1 q)

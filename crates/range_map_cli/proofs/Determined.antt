@@ -10,7 +10,7 @@ use Rattle.blaze_table.proofs.ListLaws.{canonical_is_unique}
 use Rattle.range_map_cli.specs.Commands.{Command, Blank, Paint, Insert, Remove, Get, At, Len, Entries}
 use Rattle.range_map_cli.specs.Lines.{lines_of}
 use Rattle.range_map_cli.specs.Pieces.{IsPiece}
-use Rattle.range_map_cli.specs.Replies.{Content, nothing, after, greatest_key, least_key, entries_text, line, Lists, piece_text, Replies}
+use Rattle.range_map_cli.specs.Replies.{Content, nothing, content_after, greatest_key, least_key, entries_text, line, Lists, piece_text, Replies}
 use Rattle.range_map_cli.specs.Output.{commands_of, has_bad, Answers, error_line, IsOutput}
 use Rattle.range_map_cli.specs.Sessions.{after_all}
 use Rattle.range_map_cli.proofs.Forwarding.{front_none}
@@ -50,7 +50,7 @@ one_reply content Entries a b h k = h.2 ∙ ap (λ t. line t) (one_list content 
 -- so do the contents at the start and the commands the answers
 pub one_answer : (content : Content) (commands : List Command) (a b : List ℕ) → Answers content commands a → Answers content commands b → a ≡ b
 one_answer content [] a b h k = h ∙ sym k
-one_answer content (c ∷ cs) a b h k = h.2 ∙ ap (λ l. l ++ h.1) (one_reply content c h.0 k.0 h.3 k.3) ∙ ap (λ l. k.0 ++ l) (one_answer (after c content) cs h.1 k.1 h.4 k.4) ∙ sym k.2
+one_answer content (c ∷ cs) a b h k = h.2 ∙ ap (λ l. l ++ h.1) (one_reply content c h.0 k.0 h.3 k.3) ∙ ap (λ l. k.0 ++ l) (one_answer (content_after c content) cs h.1 k.1 h.4 k.4) ∙ sym k.2
 
 pub one_output : (text a b : List ℕ) → IsOutput text a → IsOutput text b → a ≡ b
 one_output text a b h k = h.2 ∙ ap (λ l. l ++ (cond (has_bad (lines_of text)) (error_line (length (commands_of (lines_of text)))) [])) (one_answer nothing (commands_of (lines_of text)) h.0 k.0 h.1 k.1) ∙ sym k.2
@@ -59,7 +59,7 @@ one_output text a b h k = h.2 ∙ ap (λ l. l ++ (cond (has_bad (lines_of text))
 split_answers : (content : Content) (cs ds : List Command) (text : List ℕ) → Answers content (cs ++ ds) text → (first rest : List ℕ) × (text ≡ first ++ rest) × Answers content cs first × Answers (after_all cs content) ds rest
 split_answers content [] ds text h = ([], text, refl, refl, h)
 split_answers content (c ∷ cs) ds text h =
-    let r = split_answers (after c content) cs ds h.1 h.4 in
+    let r = split_answers (content_after c content) cs ds h.1 h.4 in
     (h.0 ++ r.0, r.1, h.2 ∙ ap (λ l. h.0 ++ l) r.2 ∙ sym (append_assoc h.0 r.0 r.1), (h.0, r.0, refl, h.3, r.3), r.4)
 
 -- what is printed for a bad line, where there is one
@@ -96,7 +96,7 @@ reply_line content Entries text h = inr (_, h.2)
 
 whole_answers : (content : Content) (commands : List Command) (text : List ℕ) → Answers content commands text → IsWhole text
 whole_answers content [] text h = inl h
-whole_answers content (c ∷ cs) text h = subst IsWhole (sym h.2) (whole_append h.0 h.1 (first (reply_line content c h.0 h.3)) (whole_answers (after c content) cs h.1 h.4))
+whole_answers content (c ∷ cs) text h = subst IsWhole (sym h.2) (whole_append h.0 h.1 (first (reply_line content c h.0 h.3)) (whole_answers (content_after c content) cs h.1 h.4))
   where
     first : ((c ≡ Blank) × (h.0 ≡ [])) ⊎ ((front : List ℕ) × (h.0 ≡ front ++ 10 ∷ [])) → IsWhole h.0
     first (inl p) = inl p.1

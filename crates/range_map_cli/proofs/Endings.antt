@@ -8,7 +8,7 @@ use Rattle.range_map_cli.specs.declared.End.TheVariants as ends
 use Rattle.range_map_cli.specs.Lines.{lines_of, ends_in}
 use Rattle.range_map_cli.specs.Commands.{Blank, Command, command_of}
 use Rattle.range_map_cli.specs.Replies.{nothing, Replies}
-use Rattle.range_map_cli.specs.Output.{commands_of, has_bad, before, bad_or, Answers, AnswersFirst, error_line, no_memory, IsOutput, Prints, Closes}
+use Rattle.range_map_cli.specs.Output.{commands_of, has_bad, with_command, bad_or, Answers, AnswersFirst, error_line, no_memory, IsOutput, Prints, Closes}
 use Rattle.range_map_cli.specs.States.{content_of, HasWords}
 use Rattle.range_map_cli.specs.Sessions.{Forwards, IsAt}
 use Rattle.range_map_cli.proofs.Cuts.{nothing_kept, ends_in-append}
@@ -52,7 +52,7 @@ good_lines : (lines : List (List ℕ)) → has_bad lines ≡ false → length (c
 good_lines [] h = refl
 good_lines (line ∷ lines) h = by_command (command_of line) h (λ good. good_lines lines good)
   where
-    by_command : (o : Option Command) → bad_or o (has_bad lines) ≡ false → (has_bad lines ≡ false → length (commands_of lines) ≡ length lines) → length (before o (commands_of lines)) ≡ suc (length lines)
+    by_command : (o : Option Command) → bad_or o (has_bad lines) ≡ false → (has_bad lines ≡ false → length (commands_of lines) ≡ length lines) → length (with_command o (commands_of lines)) ≡ suc (length lines)
     by_command None g later = cc
     by_command (Some command) g later = ap suc (later g)
 
@@ -61,7 +61,7 @@ bad_line : (lines : List (List ℕ)) → has_bad lines ≡ true → has_bad (tak
 bad_line [] h = cc
 bad_line (line ∷ lines) h = by_command (command_of line) h (λ bad. bad_line lines bad)
   where
-    by_command : (o : Option Command) → bad_or o (has_bad lines) ≡ true → (has_bad lines ≡ true → has_bad (take (suc (length (commands_of lines))) lines) ≡ true) → bad_or o (has_bad (take (length (before o (commands_of lines))) lines)) ≡ true
+    by_command : (o : Option Command) → bad_or o (has_bad lines) ≡ true → (has_bad lines ≡ true → has_bad (take (suc (length (commands_of lines))) lines) ≡ true) → bad_or o (has_bad (take (length (with_command o (commands_of lines))) lines)) ≡ true
     by_command None g later = refl
     by_command (Some command) g later = later g
 
@@ -83,7 +83,7 @@ module _ (held now : Option (List ℕ)) (text : List ℕ) (session : Session) (r
   pub prints_no_memory : (command_of session.line ≡ Some Blank → ⊥) → Prints text (length at.commands) ends.NoMemory (at.answers ++ no_memory)
   prints_no_memory some = (at.answers, answers_first held now text session (10 ∷ rest) lines at, refl, λ all. more all (command_of session.line) (asked_here held now text session rest lines at) (bad_here held now text session rest lines at) some)
     where
-      more : IsOutput text at.answers → (o : Option Command) → commands_of (lines_of text) ≡ at.commands ++ before o (commands_of (lines_of rest)) → has_bad (lines_of text) ≡ bad_or o (has_bad (lines_of rest)) → (o ≡ Some Blank → ⊥) → ⊥
+      more : IsOutput text at.answers → (o : Option Command) → commands_of (lines_of text) ≡ at.commands ++ with_command o (commands_of (lines_of rest)) → has_bad (lines_of text) ≡ bad_or o (has_bad (lines_of rest)) → (o ≡ Some Blank → ⊥) → ⊥
       more all None asked bad some = let whole = output_from text at.answers at.answers at.commands [] asked at.answered all in absurd (some_error text whole.0 bad (no_more at.answers (whole.0 ++ bad_text text) whole.1))
       more all (Some command) asked bad some =
           let whole = output_from text at.answers at.answers at.commands (command ∷ commands_of (lines_of rest)) asked at.answered all in
@@ -92,7 +92,7 @@ module _ (held now : Option (List ℕ)) (text : List ℕ) (session : Session) (r
   -- the line is bad
   pub prints_bad : (bytes : List ℕ) → command_of session.line ≡ None → bytes ≡ codes "error line " ++ (decimal (min (session.number + 1) (2 ^ 64 - 1)) ++ codes "\n") → Prints text (length at.commands + 1) ends.BadLine (at.answers ++ bytes)
   prints_bad bytes is written =
-      let asked : commands_of (lines_of text) ≡ at.commands = asked_here held now text session rest lines at ∙ ap (λ o. at.commands ++ before o (commands_of (lines_of rest))) is ∙ append-nil at.commands in
+      let asked : commands_of (lines_of text) ≡ at.commands = asked_here held now text session rest lines at ∙ ap (λ o. at.commands ++ with_command o (commands_of (lines_of rest))) is ∙ append-nil at.commands in
       let bad : has_bad (lines_of text) ≡ true = bad_here held now text session rest lines at ∙ ap (λ o. bad_or o (has_bad (lines_of rest))) is in
       let number : min (session.number + 1) (2 ^ 64 - 1) ≡ min (length (commands_of (lines_of text)) + 1) (2 ^ 64 - 1) = saturated _ _ _ at.number (ap length asked) in
       let same : bytes ≡ error_line (length (commands_of (lines_of text))) = written ∙ ap (λ n. codes "error line " ++ (decimal n ++ codes "\n")) number ∙ sym (append_assoc (codes "error line ") _ (codes "\n")) in

@@ -3,7 +3,7 @@ use Rattle.std.proofs.Common.{◌≡◌, ℕ, ℤ, List, [], ◌∷◌, true, fa
 use Rattle.std.specs.Ordering.{int_eq}
 use Rattle.range_map_cli.specs.Commands.{Command, Blank, Paint, Insert, Remove, Get, At, Len, Entries, command_of, command_of_words, paint_of, insert_of, words_of, number_of, is_word}
 use Rattle.blaze_table.specs.Painted.{painted}
-use Rattle.range_map_cli.specs.Replies.{Content, after}
+use Rattle.range_map_cli.specs.Replies.{Content, content_after}
 use Rattle.range_map_cli.specs.States.{HasWords}
 
 abbrev IsGood : Command → Type 0
@@ -60,7 +60,7 @@ painted_good lo hi word content good words = λ key. place (int_le lo key && int
     place true old h = good
     place false old h = h
 
-after_good : (command : Command) (content : Content) → IsGood command → HasWords content → HasWords (after command content)
+after_good : (command : Command) (content : Content) → IsGood command → HasWords content → HasWords (content_after command content)
 after_good Blank content good words = words
 after_good (Paint lo hi word) content good words = painted_good lo hi word content good words
 after_good (Insert key word) content good words = painted_good key key word content good words
@@ -75,5 +75,5 @@ after_good Len content good words = words
 after_good Entries content good words = words
 
 -- a good line leaves words
-pub HasWords-after : (line : List ℕ) (command : Command) (content : Content) → command_of line ≡ Some command → HasWords content → HasWords (after command content)
+pub HasWords-after : (line : List ℕ) (command : Command) (content : Content) → command_of line ≡ Some command → HasWords content → HasWords (content_after command content)
 HasWords-after line command content is words = after_good command content (subst IfGood is (line_good line)) words

@@ -10,7 +10,7 @@ use Rattle.blaze_table.specs.Entries.{at, SameOption}
 use Rattle.blaze_table.specs.Counted.{CountedEntries}
 use Rattle.blaze_table.specs.Canonical.{IsRangeMap}
 use Rattle.blaze_table.specs.Work.{PutsAtMost}
-use Rattle.range_map_cli.specs.Steps.{after, after_all, answer, answers, IsCountedRun, IsEdit, IsRefusedAt, IsStepped, IsSteppedAll, SameAnswer, SameAnswers}
+use Rattle.range_map_cli.specs.Steps.{content_after, after_all, answer, answers, IsCountedRun, IsEdit, IsRefusedAt, IsStepped, IsSteppedAll, SameAnswer, SameAnswers}
 use Rattle.range_map_cli.specs.declared.step.Step.{Step}
 use Rattle.range_map_cli.specs.declared.step.Answer.{Answer}
 use Rattle.range_map_cli.proofs.Alike.{after_alike, after_more, answer_alike, answer_trans, answers_more}
@@ -59,7 +59,7 @@ module _ {T V L : Type 0} (eq : V → V → Bool) (laws : IsEquivalence eq) (ran
     stepped = record {
       range_map = p.range_map;
       content = λ k. subst (λ c. SameOption eq (at new.entries k) (c k)) (sym (after_more eq laws rank low high done s (at old.entries)))
-          (same_trans eq laws (at new.entries k) (after rank low high s (at now.entries) k) (after rank low high s (after_all rank low high done (at old.entries)) k) (p.content k)
+          (same_trans eq laws (at new.entries k) (content_after rank low high s (at now.entries) k) (content_after rank low high s (after_all rank low high done (at old.entries)) k) (p.content k)
           (after_alike eq laws rank low high (at now.entries) (after_all rank low high done (at old.entries)) r.stepped.content s k));
     };
     answered = answers_more eq laws rank low high done s (at old.entries) given a r.answered

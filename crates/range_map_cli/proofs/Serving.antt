@@ -7,7 +7,7 @@ use Rattle.range_map_cli.specs.declared.End.{End}
 use Rattle.range_map_cli.specs.declared.End.TheVariants as ends
 use Rattle.range_map_cli.specs.Lines.{lines_of, ends_in}
 use Rattle.range_map_cli.specs.Commands.{Command, command_of}
-use Rattle.range_map_cli.specs.Output.{AnswersFirst, AreRead, Closes, Serves, Streams, commands_of, has_bad, before, bad_or}
+use Rattle.range_map_cli.specs.Output.{AnswersFirst, AreRead, Closes, Serves, Streams, commands_of, has_bad, with_command, bad_or}
 use Rattle.range_map_cli.specs.States.{content_of}
 use Rattle.range_map_cli.specs.Sessions.{ClosesBefore, Forwards, IsAt, IsServing}
 use Rattle.range_map_cli.proofs.Cuts.{ends_in-append}
@@ -86,7 +86,7 @@ good_lines zero lines h = refl
 good_lines (suc n) [] h = absurd (omega arith)
 good_lines (suc n) (line ∷ lines) h = by_command (command_of line) h (λ k. good_lines n lines k)
   where
-    by_command : (o : Option Command) → suc n ≤ length (before o (commands_of lines)) → (n ≤ length (commands_of lines) → has_bad (take n lines) ≡ false) → bad_or o (has_bad (take n lines)) ≡ false
+    by_command : (o : Option Command) → suc n ≤ length (with_command o (commands_of lines)) → (n ≤ length (commands_of lines) → has_bad (take n lines) ≡ false) → bad_or o (has_bad (take n lines)) ≡ false
     by_command None g later = absurd (omega arith)
     by_command (Some command) g later = later (omega (arith, g))
 

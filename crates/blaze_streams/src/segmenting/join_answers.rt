@@ -17,7 +17,7 @@ use std::alloc::{AllocError, Global};
 
 /// What a closure answers at the segments of a full join: one call for each, ascending, with what the two streams have there,
 /// and no other. Touching segments with equal answers are one range. Refused memory drops the segments and the answers.
-fn answer_either<
+pub fn answer_either<
     T: Integer,
     VCL: ValueCarrier,
     VCR: ValueCarrier,
@@ -45,7 +45,7 @@ fn answer_either<
 
 /// What a closure answers at the segments of a left join: one call for each, ascending, with what the two streams have there,
 /// and no other. Touching segments with equal answers are one range. Refused memory drops the segments and the answers.
-fn answer_left<
+pub fn answer_left<
     T: Integer,
     VCL: ValueCarrier,
     VCR: ValueCarrier,
@@ -77,7 +77,7 @@ fn answer_left<
 /// What a closure answers at the segments of an inner join: one call for each, ascending, with what the two streams have
 /// there, and no other. Touching segments with equal answers are one range. Refused memory drops the segments and the
 /// answers.
-fn answer_both<
+pub fn answer_both<
     T: Integer,
     VCL: ValueCarrier,
     VCR: ValueCarrier,

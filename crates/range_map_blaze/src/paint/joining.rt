@@ -6,7 +6,7 @@ ghost use Rattle.std.specs.Option.{option_to_list};
 ghost use Rattle.blaze_table.specs.Entries.{Entry, shown_entry};
 ghost use Rattle.blaze_table.specs.Painted.{ClonesAreAlike};
 ghost use Rattle.range_map_blaze.specs.Extended.{IsExtended};
-ghost use Rattle.range_map_blaze.specs.Underway.{are_one_pair, joined, IsUnderway};
+ghost use Rattle.range_map_blaze.specs.Underway.{are_one_pair, joined_pair, IsUnderway};
 
 use crate::map::RangeMapBlaze;
 use blaze_int::Integer;
@@ -31,7 +31,7 @@ fn are_joinable<T: Integer, V: Eq>(pair: &(T, T, V), next: &(T, T, V)) -> bool
 // One pair from the lesser start to the greater end, with the value of the first.
 fn join<T: Integer, V: Drop>(pair: (T, T, V), next: (T, T, V)) -> (T, T, V)
     ensures { shown_entry T.rank (λ v. v) result
-        ≡ joined (shown_entry T.rank (λ v. v) pair) (shown_entry T.rank (λ v. v) next) }
+        ≡ joined_pair (shown_entry T.rank (λ v. v) pair) (shown_entry T.rank (λ v. v) next) }
 {
     let start = if is_below(next.0, pair.0) {
         next.0
