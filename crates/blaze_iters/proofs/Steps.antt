@@ -9,7 +9,7 @@ use Rattle.blaze_int.proofs.Naturals.{nat_of-pos}
 use Rattle.blaze_table.specs.Entries.{Entry, entry, shown_entry}
 use Rattle.blaze_table.specs.Canonical.{IsDisjoint, IsClear}
 use Rattle.blaze_table.specs.Pairs.{pairs_from, pairs_of, pair_list}
-use Rattle.blaze_table.proofs.PairLists.{pairs_first, pairs_last, pairs_one, pair_list-append}
+use Rattle.blaze_table.proofs.Pairs.PairLists.{pairs_first, pairs_last, pairs_one, pair_list-append}
 use Rattle.blaze_iters.specs.Left.{RangesLeft, ranges_left, pairs_left, seen, OpensFirst, OpensLast, IsRestAfter, IsRestBefore}
 use Rattle.blaze_iters.specs.Owned.{OwnedLeft, owned_ranges, HasSeveralFirst, HasSeveralLast}
 

@@ -11,10 +11,10 @@ use Rattle.blaze_entries.proofs.Alike.{same_along, same_trans, same_or_left}
 use Rattle.blaze_table.specs.Entries.{Entry, entry, at, SameOption}
 use Rattle.blaze_table.specs.Canonical.{IsCanonical, IsRangeMap, AreKeys}
 use Rattle.blaze_table.specs.Splice.{glue, IsBelow}
-use Rattle.blaze_table.proofs.Counted.{are_keys_glue}
-use Rattle.blaze_table.proofs.Runs.{canonical, one_per_run}
-use Rattle.blaze_table.proofs.Splices.{canonical_glue, at_glue, below_glue, below_more}
-use Rattle.blaze_table.proofs.Lookup.{at_append}
+use Rattle.blaze_table.proofs.Canonical.Counted.{are_keys_glue}
+use Rattle.blaze_table.proofs.Canonical.Runs.{canonical, one_per_run}
+use Rattle.blaze_table.proofs.Paints.Splices.{canonical_glue, at_glue, below_glue, below_more}
+use Rattle.blaze_table.proofs.Canonical.Lookup.{at_append}
 use Rattle.blaze_streams.specs.Answers.{values, answered, AnswersAt, SomeCallAt, TakesValue, IsCallableAtEach, IsTransformed}
 use Rattle.blaze_streams.specs.Cursors.{first_key}
 use Rattle.blaze_streams.proofs.Steady.{same_some}

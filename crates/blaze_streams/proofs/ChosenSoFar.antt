@@ -8,11 +8,11 @@ use Rattle.blaze_table.specs.Entries.{Entry, entry, at, SameOption}
 use Rattle.blaze_table.specs.Canonical.{IsCanonical, AreKeys}
 use Rattle.blaze_table.specs.Chosen.{IsChosen}
 use Rattle.blaze_table.specs.Splice.{glue, after, IsBelow}
-use Rattle.blaze_table.proofs.Counted.{are_keys_glue}
-use Rattle.blaze_table.proofs.Lookup.{IsAbove, at_in, at_under, at_over}
-use Rattle.blaze_table.proofs.Painted.{glue-nil}
-use Rattle.blaze_table.proofs.Runs.{one_per_run}
-use Rattle.blaze_table.proofs.Splices.{canonical_glue, at_glue, below_glue, below_more, above_after, at-after_over}
+use Rattle.blaze_table.proofs.Canonical.Counted.{are_keys_glue}
+use Rattle.blaze_table.proofs.Canonical.Lookup.{IsAbove, at_in, at_under, at_over}
+use Rattle.blaze_table.proofs.Paints.Painted.{glue-nil}
+use Rattle.blaze_table.proofs.Canonical.Runs.{one_per_run}
+use Rattle.blaze_table.proofs.Paints.Splices.{canonical_glue, at_glue, below_glue, below_more, above_after, at-after_over}
 use Rattle.blaze_streams.specs.Choosing.{IsTaken, PutsValue, IsChoiceMade}
 use Rattle.blaze_streams.specs.Cursors.{first_key, IsFrom, lesser}
 use Rattle.blaze_streams.proofs.Steady.{same_some, from_first, at_below_from, at-after_under}

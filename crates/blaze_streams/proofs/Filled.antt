@@ -7,8 +7,8 @@ use Rattle.std.proofs.lemmas.Int.{ints}
 use Rattle.std.proofs.lemmas.List.{map-append}
 use Rattle.blaze_table.specs.Entries.{Entry, entry, at}
 use Rattle.blaze_table.specs.Canonical.{IsApart, IsCanonical, AreKeys, IsRangeMap}
-use Rattle.blaze_table.proofs.Lookup.{IsAbove, IsAbove-from_apart, at_in, at_under, at_over, at_before, by_place, above_low, above_rest}
-use Rattle.blaze_table.proofs.Runs.{canonical, one_per_run}
+use Rattle.blaze_table.proofs.Canonical.Lookup.{IsAbove, IsAbove-from_apart, at_in, at_under, at_over, at_before, by_place, above_low, above_rest}
+use Rattle.blaze_table.proofs.Canonical.Runs.{canonical, one_per_run}
 use Rattle.blaze_streams.specs.Fills.{with_none, none_before, filled_entries, IsFilled}
 use Rattle.blaze_streams.proofs.GapLists.{by_gap}
 

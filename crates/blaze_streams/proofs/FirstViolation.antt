@@ -7,7 +7,7 @@ use Rattle.std.proofs.lemmas.Int.{ints}
 use Rattle.blaze_int.proofs.Comparisons.{lt_false, le_false, eq_true, eq_holds, and_fails}
 use Rattle.blaze_table.specs.Entries.{Entry}
 use Rattle.blaze_table.specs.Canonical.{IsApart, IsCanonical, IsOnePerRun, AreKeys, IsRangeMap}
-use Rattle.blaze_table.proofs.Runs.{canonical, one_per_run}
+use Rattle.blaze_table.proofs.Canonical.Runs.{canonical, one_per_run}
 use Rattle.blaze_streams.specs.Violations.{violates, ViolatesAfter, IsFirstViolation}
 
 -- ---- tests

@@ -10,10 +10,10 @@ use Rattle.blaze_entries.proofs.Alike.{same_along, or_none, or_assoc}
 use Rattle.blaze_table.specs.Entries.{Entry, at, SameOption}
 use Rattle.blaze_table.specs.Canonical.{IsCanonical}
 use Rattle.blaze_table.specs.Splice.{IsBelow}
-use Rattle.blaze_table.proofs.Lookup.{at_in, at_under, at_over, by_place, at_append}
-use Rattle.blaze_table.proofs.Runs.{one_per_run}
-use Rattle.blaze_table.proofs.Glued.{IsBelow-push}
-use Rattle.blaze_table.proofs.Splices.{below_more}
+use Rattle.blaze_table.proofs.Canonical.Lookup.{at_in, at_under, at_over, by_place, at_append}
+use Rattle.blaze_table.proofs.Canonical.Runs.{one_per_run}
+use Rattle.blaze_table.proofs.Neighbours.Glued.{IsBelow-push}
+use Rattle.blaze_table.proofs.Paints.Splices.{below_more}
 use Rattle.blaze_streams.specs.declared.segmenting.list_segments.Segment.{Segment}
 use Rattle.blaze_streams.specs.Segments.{row, present, row_eq, entry_of, entries_of, IsSegmentsOf}
 use Rattle.blaze_streams.specs.Cursors.{AllCanonical, first_keys, all_after, IsNextSegment}

@@ -8,9 +8,9 @@ use Rattle.blaze_table.specs.Entries.{Entry, entry, at, SameOption}
 use Rattle.blaze_table.specs.Canonical.{IsApart, IsCanonical, AreKeys, IsRangeMap}
 use Rattle.blaze_table.specs.Complement.{absent, IsComplement}
 use Rattle.blaze_table.specs.RangeSets.{unit_eq}
-use Rattle.blaze_table.proofs.Lookup.{IsAbove, IsAbove-from_apart, at_in, at_under, at_over, at_before, by_place, above_low, above_rest}
-use Rattle.blaze_table.proofs.Runs.{canonical, one_per_run}
-use Rattle.blaze_table.proofs.UnitLaws.{unit_laws}
+use Rattle.blaze_table.proofs.Canonical.Lookup.{IsAbove, IsAbove-from_apart, at_in, at_under, at_over, at_before, by_place, above_low, above_rest}
+use Rattle.blaze_table.proofs.Canonical.Runs.{canonical, one_per_run}
+use Rattle.blaze_table.proofs.Pairs.UnitLaws.{unit_laws}
 use Rattle.blaze_int.specs.Ranked.{IsNextKey}
 use Rattle.blaze_streams.specs.Gaps.{gap_before, gaps, rank_or_end}
 

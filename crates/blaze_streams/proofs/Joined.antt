@@ -7,12 +7,12 @@ use Rattle.std.proofs.lemmas.Int.{ints}
 use Rattle.std.proofs.lemmas.Bool.Decides.{Decides-int_eq}
 use Rattle.blaze_table.specs.Entries.{Entry, entry, at}
 use Rattle.blaze_table.specs.Canonical.{IsApart, IsCanonical, AreKeys, IsRangeMap}
-use Rattle.blaze_table.proofs.Lookup.{IsAbove, IsAbove-from_apart}
-use Rattle.blaze_table.proofs.Runs.{canonical, one_per_run}
+use Rattle.blaze_table.proofs.Canonical.Lookup.{IsAbove, IsAbove-from_apart}
+use Rattle.blaze_table.proofs.Canonical.Runs.{canonical, one_per_run}
 use Rattle.blaze_table.specs.RangeSets.{unit_eq, IsRangeSet}
 use Rattle.blaze_streams.specs.KeyRanges.{AreKeyRanges, TakesEnds, joined_ranges, joined_left}
-use Rattle.blaze_table.proofs.Parts.{IsRangeMap-rest}
-use Rattle.blaze_table.proofs.UnitLaws.{unit_laws}
+use Rattle.blaze_table.proofs.Canonical.Parts.{IsRangeMap-rest}
+use Rattle.blaze_table.proofs.Pairs.UnitLaws.{unit_laws}
 
 pick : {A : Type 0} (P : A → Type 0) (b : Bool) (x y : A) → (b ≡ true → P x) → (b ≡ false → P y) → P (if b then x else y)
 pick P true x y p q = p refl

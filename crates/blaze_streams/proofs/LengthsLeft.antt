@@ -6,7 +6,7 @@ use Rattle.blaze_int.proofs.Naturals.{nat_of-pos}
 use Rattle.blaze_table.specs.Entries.{Entry}
 use Rattle.blaze_table.specs.Canonical.{IsCanonical}
 use Rattle.blaze_table.specs.Splice.{after}
-use Rattle.blaze_table.proofs.Splices.{by_after}
+use Rattle.blaze_table.proofs.Paints.Splices.{by_after}
 use Rattle.blaze_streams.specs.Cursors.{first_key, AllCanonical, first_keys, all_after}
 use Rattle.blaze_streams.proofs.Steady.{same_some}
 use Rattle.blaze_streams.proofs.Lesser.{lesser_one}

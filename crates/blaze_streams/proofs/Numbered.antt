@@ -6,7 +6,7 @@ use Rattle.std.specs.Global.{Vec}
 use Rattle.blaze_int.proofs.Naturals.{next_differs}
 use Rattle.blaze_table.specs.Entries.{Entry, entry}
 use Rattle.blaze_table.specs.Canonical.{IsCanonical, IsDisjoint, IsAscending, AreKeys}
-use Rattle.blaze_table.proofs.Runs.{in_order}
+use Rattle.blaze_table.proofs.Canonical.Runs.{in_order}
 use Rattle.blaze_streams.specs.Segments.{numbered, all_numbered, AreInOrder}
 use Rattle.blaze_streams.specs.Cursors.{AllCanonical}
 use Rattle.blaze_streams.specs.RangeLists.{shown_ranges}

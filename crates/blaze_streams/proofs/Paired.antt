@@ -10,10 +10,10 @@ use Rattle.blaze_entries.proofs.Alike.{or_none, or_assoc}
 use Rattle.blaze_table.specs.Entries.{Entry, entry, at, SameOption}
 use Rattle.blaze_table.specs.Canonical.{IsCanonical, AreKeys}
 use Rattle.blaze_table.specs.Splice.{IsBelow, after}
-use Rattle.blaze_table.proofs.Glued.{IsBelow-push}
-use Rattle.blaze_table.proofs.Lookup.{IsAbove-from_apart, at_in, at_under, at_over, at_before, at_append}
-use Rattle.blaze_table.proofs.Runs.{canonical, one_per_run}
-use Rattle.blaze_table.proofs.Splices.{below_more, at-after_over}
+use Rattle.blaze_table.proofs.Neighbours.Glued.{IsBelow-push}
+use Rattle.blaze_table.proofs.Canonical.Lookup.{IsAbove-from_apart, at_in, at_under, at_over, at_before, at_append}
+use Rattle.blaze_table.proofs.Canonical.Runs.{canonical, one_per_run}
+use Rattle.blaze_table.proofs.Paints.Splices.{below_more, at-after_over}
 use Rattle.blaze_streams.specs.declared.segmenting.joins.JoinKind.{JoinKind}
 use Rattle.blaze_streams.specs.declared.segmenting.joins.JoinKind.TheVariants.{Inner, Left, Full}
 use Rattle.blaze_streams.specs.Cursors.{first_key, steady_to, lesser}

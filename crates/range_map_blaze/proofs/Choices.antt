@@ -5,8 +5,8 @@ use Rattle.blaze_entries.proofs.Alike.{same_trans}
 use Rattle.blaze_table.specs.Entries.{Entry, at, SameOption, SameEntries}
 use Rattle.blaze_table.specs.Chosen.{right_first, left_with_right, left_alone, IsChosen}
 use Rattle.blaze_table.specs.Complement.{absent, IsComplement}
-use Rattle.blaze_table.proofs.Painted.{content_as}
-use Rattle.blaze_table.proofs.Unique.{back}
+use Rattle.blaze_table.proofs.Paints.Painted.{content_as}
+use Rattle.blaze_table.proofs.Canonical.Unique.{back}
 use Rattle.range_map_blaze.proofs.Streams.{range_map_as}
 
 -- the choice looks at the right one's presence alone

@@ -8,12 +8,12 @@ use Rattle.blaze_table.specs.Canonical.{IsCanonical, IsRangeMap}
 use Rattle.blaze_table.specs.Chosen.{right_first, IsChosen}
 use Rattle.blaze_table.specs.Painted.{last_at, painted_in_order}
 use Rattle.blaze_table.specs.Splice.{paint, after}
-use Rattle.blaze_table.proofs.Fewest.{fewest}
-use Rattle.blaze_table.proofs.Painted.{entries_themselves, is_painted}
-use Rattle.blaze_table.proofs.Runs.{canonical, one_per_run}
+use Rattle.blaze_table.proofs.Canonical.Fewest.{fewest}
+use Rattle.blaze_table.proofs.Paints.Painted.{entries_themselves, is_painted}
+use Rattle.blaze_table.proofs.Canonical.Runs.{canonical, one_per_run}
 use Rattle.range_map_blaze.specs.Union.{IsUnion}
-use Rattle.range_map_blaze.proofs.PaintedOver.{last_is_first, turned}
-use Rattle.blaze_table.proofs.Lasts.{painted_one}
+use Rattle.range_map_blaze.proofs.Paints.PaintedOver.{last_is_first, turned}
+use Rattle.blaze_table.proofs.Pairs.Lasts.{painted_one}
 
 -- a list with the content after the entries are painted in their order, with at most two entries more for each
 record IsManyPainted {V : Type 0} (eq : V → V → Bool) (ps old new : List (Entry V)) : Type 0 where

@@ -4,7 +4,7 @@ use Rattle.std.proofs.Common.{◌≡◌, ℕ, zero, suc, ◌≤◌, ℤ, pos, �
 use Rattle.std.specs.Prelude.{IsSome, IsTrue}
 use Rattle.std.proofs.lemmas.Int.{ints, by_lt_z}
 use Rattle.blaze_table.specs.Count.{mapped, mapped_keys}
-use Rattle.blaze_table.proofs.Mapped.{one_if}
+use Rattle.blaze_table.proofs.Canonical.Mapped.{one_if}
 
 module _ {V : Type 0} (content : ℤ → Option V) where
   one_of : (o : Option V) → one_if o ≡ 1 → IsSome o

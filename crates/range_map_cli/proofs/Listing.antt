@@ -12,7 +12,7 @@ use Rattle.std.specs.Fmt.{debug_escape, debug_str, signed_decimal, option_append
 use Rattle.std.proofs.lemmas.Bool.{and_parts}
 use Rattle.blaze_table.specs.Entries.{Entry, entry, at, holds, SameOption}
 use Rattle.blaze_table.specs.Canonical.{IsOnePerRun, IsDisjoint, IsAscending, IsClear, HasStart, HasEnd, IsRunStart, IsRunEnd}
-use Rattle.blaze_table.proofs.Lookup.{at_clear}
+use Rattle.blaze_table.proofs.Canonical.Lookup.{at_clear}
 use Rattle.range_map_blaze.specs.Printed as printed
 use Rattle.range_map_cli.specs.Commands.{is_word, Entries}
 use Rattle.range_map_cli.specs.Replies.{Replies, entry_text, entries_text}

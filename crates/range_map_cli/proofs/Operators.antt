@@ -8,7 +8,7 @@ use Rattle.blaze_table.specs.Entries.{at}
 use Rattle.blaze_table.specs.Chosen.{right_first, left_with_right, left_alone}
 use Rattle.blaze_table.specs.Count.{mapped, mapped_keys}
 use Rattle.range_map_cli.specs.Laws.{CountsAddUp, DisjointUnionCommutes, EmptyIsUnit, PartsHaveItsKeys, SetKeeps, UnionIsAssociative, UnionIsIdempotent, UniversalKeeps, XorWithItselfIsEmpty}
-use Rattle.range_map_cli.proofs.EndKeys.{mapped_alike}
+use Rattle.range_map_cli.proofs.Stepping.EndKeys.{mapped_alike}
 
 module _ {V : Type 0} where
   -- ---- counts

@@ -11,14 +11,14 @@ use Rattle.blaze_table.specs.Cut.{below_at, from_at}
 use Rattle.blaze_table.specs.Entries.{Entry, entry, at, holds, SameEntries, SameOption}
 use Rattle.blaze_table.specs.Painted.{last_at, painted_in_order}
 use Rattle.blaze_table.specs.Pairs.{value_at, IsAscendingPairs}
-use Rattle.blaze_table.proofs.Lasts.{painted_one}
-use Rattle.blaze_table.proofs.ListLaws.{canonical_is_unique}
-use Rattle.blaze_table.proofs.PairLaws.{pairs_are_content}
-use Rattle.blaze_table.proofs.Runs.{canonical}
+use Rattle.blaze_table.proofs.Pairs.Lasts.{painted_one}
+use Rattle.blaze_table.proofs.Canonical.ListLaws.{canonical_is_unique}
+use Rattle.blaze_table.proofs.Pairs.PairLaws.{pairs_are_content}
+use Rattle.blaze_table.proofs.Canonical.Runs.{canonical}
 use Rattle.range_map_blaze.specs.Order.{ranked_pairs}
-use Rattle.range_map_blaze.proofs.PaintedOver.{last_is_first, painted_over, turned}
+use Rattle.range_map_blaze.proofs.Paints.PaintedOver.{last_is_first, painted_over, turned}
 use Rattle.range_map_cli.specs.Laws.{points_of, AppendUndoesSplit, ArePaintedInTurn, UnionIsPainting}
-use Rattle.range_map_cli.proofs.Stepped.{same_back}
+use Rattle.range_map_cli.proofs.Stepping.Stepped.{same_back}
 
 -- ---- points
 

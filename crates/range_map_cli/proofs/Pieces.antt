@@ -10,13 +10,13 @@ use Rattle.std.proofs.lemmas.Int.{ints, by_lt_z}
 use Rattle.blaze_table.specs.Entries.{Entry, entry, at, entry_at}
 use Rattle.blaze_table.specs.Canonical.{IsRunStart, IsRunEnd, IsRangeMap}
 use Rattle.blaze_table.specs.Gap.{IsGap}
-use Rattle.blaze_table.proofs.Lookup.{holds_in, holds_ends}
+use Rattle.blaze_table.proofs.Canonical.Lookup.{holds_in, holds_ends}
 use Rattle.range_map_cli.specs.Commands.{At}
 use Rattle.range_map_cli.specs.Pieces.{IsSameFrom, IsPiece}
 use Rattle.range_map_cli.specs.Replies.{Content, greatest_key, least_key, line, Replies, word_or_dash}
 use Rattle.range_map_cli.specs.States.{content_of}
 use Rattle.range_map_cli.proofs.Contents.{alike_words}
-use Rattle.range_map_cli.proofs.EntryAt.{entry_holds, entry_starts, entry_ends, entry_keys, entry_value}
+use Rattle.range_map_cli.proofs.Stepping.EntryAt.{entry_holds, entry_starts, entry_ends, entry_keys, entry_value}
 
 -- the entry of a canonical list that holds a key
 module _ (low high : ℤ) (es : List (Entry (String Global))) (k a b : ℤ) (v : String Global) (map : IsRangeMap string_eq low high es) (is : entry_at es k ≡ Some (entry a b v)) where

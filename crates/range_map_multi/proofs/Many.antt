@@ -9,8 +9,8 @@ use Rattle.blaze_entries.proofs.Alike.{same_itself, same_trans, or_none, is_some
 use Rattle.blaze_table.specs.Entries.{Entry, at, SameOption, SameEntries}
 use Rattle.blaze_table.specs.Canonical.{IsRangeMap}
 use Rattle.blaze_table.specs.Chosen.{right_first, left_with_right, IsChosen}
-use Rattle.blaze_table.proofs.Painted.{content_as}
-use Rattle.blaze_table.proofs.Unique.{back}
+use Rattle.blaze_table.proofs.Paints.Painted.{content_as}
+use Rattle.blaze_table.proofs.Canonical.Unique.{back}
 use Rattle.blaze_streams.specs.Segments.{row}
 use Rattle.range_map_blaze.proofs.Streams.{range_map_as}
 use Rattle.range_map_multi.specs.Many.{last_value, last_of_all, has_odd, last_of_odd, IsChosenOfMany, IsOnly, HasOddKeys}

@@ -6,8 +6,8 @@ use Rattle.blaze_entries.proofs.Alike.{same_trans, same_back}
 use Rattle.blaze_table.specs.Entries.{Entry, at, SameOption, SameEntries}
 use Rattle.blaze_table.specs.Canonical.{IsRangeMap}
 use Rattle.blaze_table.specs.Chosen.{left_with_right}
-use Rattle.blaze_table.proofs.Runs.{canonical}
-use Rattle.blaze_table.proofs.Unique.{unique}
+use Rattle.blaze_table.proofs.Canonical.Runs.{canonical}
+use Rattle.blaze_table.proofs.Canonical.Unique.{unique}
 use Rattle.range_map_multi.specs.Many.{last_of_all, last_of_odd}
 use Rattle.range_map_multi.specs.ManyLaws.{UnionOfTwoIsOr, IntersectionOfTwoIsAnd, SymmetricDifferenceOfTwoIsXor}
 

@@ -9,9 +9,9 @@ use Rattle.blaze_int.proofs.Comparisons.{by_bool}
 use Rattle.blaze_entries.proofs.Alike.{or_none}
 use Rattle.blaze_table.specs.Entries.{Entry, entry, at, holds}
 use Rattle.blaze_table.specs.Canonical.{IsApart, IsCanonical, AreKeys}
-use Rattle.blaze_table.proofs.Counted.{are_keys_after}
-use Rattle.blaze_table.proofs.Lookup.{IsAbove, IsAbove-from_apart, at_in, at_under, at_over, at_before, by_place}
-use Rattle.blaze_table.proofs.Runs.{one_per_run}
+use Rattle.blaze_table.proofs.Canonical.Counted.{are_keys_after}
+use Rattle.blaze_table.proofs.Canonical.Lookup.{IsAbove, IsAbove-from_apart, at_in, at_under, at_over, at_before, by_place}
+use Rattle.blaze_table.proofs.Canonical.Runs.{one_per_run}
 use Rattle.blaze_streams.specs.Cursors.{first_key, steady_to, AllCanonical, first_keys, all_steady_to, all_after, IsNextSegment}
 use Rattle.blaze_streams.specs.Segments.{row, present, row_eq}
 use Rattle.blaze_streams.proofs.FoundSegments.{IsFound, found_none, found_more, next_less, absent}

@@ -7,8 +7,8 @@ use Rattle.blaze_table.specs.Keeping.{KeepsMore}
 use Rattle.blaze_table.specs.Pairs.{pairs_from}
 use Rattle.blaze_table.specs.Retain.{AnswersAtPair, TakesPair}
 use Rattle.blaze_table.specs.Listed.{listed}
-use Rattle.blaze_table.proofs.AtPairs.{all_at}
-use Rattle.blaze_table.proofs.Keeping.{more_next}
+use Rattle.blaze_table.proofs.Pairs.AtPairs.{all_at}
+use Rattle.blaze_table.proofs.Pairs.Keeping.{more_next}
 use Rattle.blaze_table.proofs.retain_keys.keep_keys.Goals as goal
 
 pub keep_key-requires-clause-callable : goal.keep_key-requires-clause-callable

@@ -2,7 +2,7 @@ use Rattle.std.proofs.Common.{[], ◌∷◌, subst, arith}
 use Rattle.std.proofs.lemmas.Int.{ints}
 use Rattle.blaze_table.specs.Entries.{shown_entry}
 use Rattle.range_map_blaze.specs.Extended.{IsExtended}
-use Rattle.range_map_blaze.proofs.Paintings.{extended_none, extended_one, extended_nowhere}
+use Rattle.range_map_blaze.proofs.Paints.Paintings.{extended_none, extended_one, extended_nowhere}
 use Rattle.range_map_blaze.proofs.map.RangeMapBlaze.paint_pair.Goals as goal
 
 pub returns-in_ok-paint-clause-ok : goal.returns-in_ok-paint-clause-ok

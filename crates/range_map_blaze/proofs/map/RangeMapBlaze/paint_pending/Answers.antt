@@ -3,7 +3,7 @@ use Rattle.std.specs.Prelude.{option_map}
 use Rattle.std.specs.Option.{option_to_list}
 use Rattle.blaze_table.specs.Entries.{shown_entry}
 use Rattle.range_map_blaze.specs.Extended.{IsExtended}
-use Rattle.range_map_blaze.proofs.Paintings.{extended_none}
+use Rattle.range_map_blaze.proofs.Paints.Paintings.{extended_none}
 use Rattle.range_map_blaze.proofs.map.RangeMapBlaze.paint_pending.Goals as goal
 
 pub returns-in-None-clause-ok : goal.returns-in-None-clause-ok

@@ -2,8 +2,8 @@ use Rattle.std.proofs.Common.{Some, [], ◌++◌, ◌∷◌, ◌∙◌, sym, sub
 use Rattle.std.specs.Prelude.{option_map}
 use Rattle.blaze_table.specs.Entries.{shown_entry}
 use Rattle.range_map_blaze.specs.Underway.{IsUnderway}
-use Rattle.range_map_blaze.proofs.Paintings.{extended_nowhere}
-use Rattle.range_map_blaze.proofs.Joinings.{reversed, ordered, underway_none, underway_one, underway_joined, underway_painted, underway_ended}
+use Rattle.range_map_blaze.proofs.Paints.Paintings.{extended_nowhere}
+use Rattle.range_map_blaze.proofs.Paints.Joinings.{reversed, ordered, underway_none, underway_one, underway_joined, underway_painted, underway_ended}
 use Rattle.range_map_blaze.proofs.map.RangeMapBlaze.take_pair.Goals as goal
 
 -- a reversed pair
