@@ -4,4 +4,4 @@ pub mod Neighbours
 pub mod Cuts
 pub mod Pairs
 pub mod Walks
-pub mod Sweep
+pub mod Sweeping

@@ -1,4 +1,4 @@
-pub mod Session
+pub mod Sessions
 pub mod Contents
 pub mod Counting
 pub mod Stepping

@@ -1,7 +1,7 @@
 use Rattle.std.proofs.Common.{subst}
 use Rattle.blaze_table.specs.Canonical.{IsRangeMap}
 use Rattle.blaze_table.specs.Listed.{listed}
-use Rattle.blaze_table.proofs.Sweep.Canonicals.{canonical_of_itself}
+use Rattle.blaze_table.proofs.Sweeping.Canonicals.{canonical_of_itself}
 use Rattle.blaze_table.proofs.sweep.canonical_of.Goals as goal
 
 pub returns-then-is_canonical : goal.returns-then-is_canonical

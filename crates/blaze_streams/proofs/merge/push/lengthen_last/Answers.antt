@@ -7,7 +7,7 @@ use Rattle.std.proofs.lemmas.Bool.{and_left, and_right}
 use Rattle.blaze_table.proofs.Neighbours.Glued.{and_both}
 use Rattle.blaze_table.specs.Entries.{entry}
 use Rattle.blaze_streams.specs.Ranges.{shown_range}
-use Rattle.blaze_table.proofs.Sweep.Pushed.{has_last, pushed_joined, pushed_apart}
+use Rattle.blaze_table.proofs.Sweeping.Pushed.{has_last, pushed_joined, pushed_apart}
 use Rattle.blaze_streams.proofs.merge.push.lengthen_last.Goals as goal
 use Rattle.blaze_streams.proofs.merge.push.lengthen_last.Goals.{then-not-is_next-via-then-not-is_next, then-not-is_next-via-else-not-is_next+then-not-value_eq}
 

@@ -4,8 +4,8 @@ use Rattle.std.specs.Vec.Iter.{into_iter_items}
 use Rattle.blaze_table.specs.Entries.{shown_entry}
 use Rattle.blaze_table.specs.Listed.{listed}
 use Rattle.blaze_table.specs.Painted.{last_at}
-use Rattle.blaze_table.proofs.Sweep.JoinedPieces.{IsJoined, joined_none, joined_more}
-use Rattle.blaze_table.proofs.Sweep.Canonicals.{canonical_of_swept}
+use Rattle.blaze_table.proofs.Sweeping.JoinedPieces.{IsJoined, joined_none, joined_more}
+use Rattle.blaze_table.proofs.Sweeping.Canonicals.{canonical_of_swept}
 use Rattle.blaze_table.proofs.sweep.ascending.joined_entries.Goals as goal
 
 pub loop-start-init : goal.loop-start-init

@@ -1,6 +1,6 @@
 use Rattle.std.specs.Vec.Iter.{into_iter_items}
 use Rattle.blaze_table.specs.Listed.{listed}
-use Rattle.blaze_table.proofs.Sweep.JoinedPieces.{IsJoined}
+use Rattle.blaze_table.proofs.Sweeping.JoinedPieces.{IsJoined}
 use Rattle.blaze_table.proofs.sweep.ascending.joined_entries.Given as goal
 
 abbrev pub invariant-loop-start : goal.invariant-loop-start

@@ -5,7 +5,7 @@ use Rattle.std.proofs.lemmas.List.{length-map}
 use Rattle.blaze_table.specs.Entries.{shown_entry}
 use Rattle.blaze_table.specs.Listed.{listed}
 use Rattle.blaze_table.specs.Swept.{IsCanonicalAfter}
-use Rattle.blaze_table.proofs.Sweep.Canonicals.{range_map_after, after_first, canonical_list}
+use Rattle.blaze_table.proofs.Sweeping.Canonicals.{range_map_after, after_first, canonical_list}
 use Rattle.blaze_table.proofs.sweep.canonical.is_canonical.Goals as goal
 
 pub returns-then-not-continues : goal.returns-then-not-continues

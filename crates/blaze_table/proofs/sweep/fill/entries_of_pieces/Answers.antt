@@ -3,7 +3,7 @@ use Rattle.std.proofs.lemmas.List.{nil_from_length}
 use Rattle.std.specs.Vec.Iter.{into_iter_items}
 use Rattle.blaze_table.specs.Entries.{shown_entry}
 use Rattle.blaze_table.specs.Listed.{listed}
-use Rattle.blaze_table.proofs.Sweep.Filling.{IsFilled, filled_none, filled_more, filled_all, some_value}
+use Rattle.blaze_table.proofs.Sweeping.Filling.{IsFilled, filled_none, filled_more, filled_all, some_value}
 use Rattle.blaze_table.proofs.sweep.fill.entries_of_pieces.Goals as goal
 
 pub loop-start-init : goal.loop-start-init

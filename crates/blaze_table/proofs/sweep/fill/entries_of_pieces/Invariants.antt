@@ -1,7 +1,7 @@
 use Rattle.std.proofs.Common.{pos, ◌+ℤ◌}
 use Rattle.std.specs.Vec.Iter.{into_iter_items}
 use Rattle.blaze_table.specs.Listed.{listed}
-use Rattle.blaze_table.proofs.Sweep.Filling.{IsFilled}
+use Rattle.blaze_table.proofs.Sweeping.Filling.{IsFilled}
 use Rattle.blaze_table.proofs.sweep.fill.entries_of_pieces.Given as goal
 
 abbrev pub invariant-loop-start : goal.invariant-loop-start

@@ -1,7 +1,7 @@
 use Rattle.std.proofs.Common.{sym, ◌∙◌, ◌-ℤ◌, pos}
 use Rattle.std.specs.BinaryHeap.{heap_items}
 use Rattle.blaze_int.proofs.Comparisons.{le_fails}
-use Rattle.blaze_table.proofs.Sweep.Waitings.{waiting_kept, waiting_from, waiting_moved}
+use Rattle.blaze_table.proofs.Sweeping.Waitings.{waiting_kept, waiting_from, waiting_moved}
 use Rattle.blaze_table.proofs.sweep.pieces.advance.Goals as goal
 
 pub returns-then-is_at_most-clause-waits : goal.returns-then-is_at_most-clause-waits

@@ -4,9 +4,9 @@ use Rattle.std.proofs.lemmas.Int.{ints}
 use Rattle.blaze_int.proofs.Comparisons.{le_holds, le_fails, lt_holds, lt_fails}
 use Rattle.blaze_table.specs.Listed.{listed}
 use Rattle.blaze_table.specs.Pieces.{ArePieces}
-use Rattle.blaze_table.proofs.Sweep.Orders.{step_up, step_to, step_past, weaker}
-use Rattle.blaze_table.proofs.Sweep.Pieces.{pieces_to, pieces_rest}
-use Rattle.blaze_table.proofs.Sweep.Waitings.{top_read, waiting_from, waiting_less}
+use Rattle.blaze_table.proofs.Sweeping.Orders.{step_up, step_to, step_past, weaker}
+use Rattle.blaze_table.proofs.Sweeping.Pieces.{pieces_to, pieces_rest}
+use Rattle.blaze_table.proofs.Sweeping.Waitings.{top_read, waiting_from, waiting_less}
 use Rattle.blaze_table.proofs.sweep.pieces.sweep_to.Goals as goal
 
 pub returns-then-is_at_most-clause-waits : goal.returns-then-is_at_most-clause-waits

@@ -7,7 +7,7 @@ use Rattle.blaze_int.proofs.Comparisons.{le_holds, le_fails}
 use Rattle.blaze_table.specs.Entries.{shown_entry}
 use Rattle.blaze_table.specs.Listed.{listed}
 use Rattle.blaze_table.specs.Pieces.{IsPlaced}
-use Rattle.blaze_table.proofs.Sweep.Placed.{head_of_drop, placed_none, placed_skip, placed_more, placed_sorted, ends_are_keys, ascends}
+use Rattle.blaze_table.proofs.Sweeping.Placed.{head_of_drop, placed_none, placed_skip, placed_more, placed_sorted, ends_are_keys, ascends}
 use Rattle.blaze_table.proofs.sweep.placed.placed_of.Goals as goal
 
 pub loop-start-init : goal.loop-start-init

@@ -7,7 +7,7 @@ use Rattle.std.proofs.lemmas.List.Elements.{All-contains, All-tail, All-weaker}
 use Rattle.std.proofs.lemmas.List.Sorted.{All-permutation, Contains-permutation}
 use Rattle.std.proofs.lemmas.Option.{slice_get_read, slice_get_within}
 use Rattle.blaze_table.specs.Pieces.{HasKey, HasStarted, IsWaiting, KeepsReaching}
-use Rattle.blaze_table.proofs.Sweep.Placed.{one_item, item_of}
+use Rattle.blaze_table.proofs.Sweeping.Placed.{one_item, item_of}
 
 pub contains_cases : {X : Type 0} (x y : X) (xs : List X) → Contains (x ∷ xs) y → (x ≡ y) ⊎ Contains xs y
 contains_cases x y xs c = elim_index c.0 c.1 c.2

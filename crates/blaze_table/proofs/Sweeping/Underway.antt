@@ -8,8 +8,8 @@ use Rattle.std.proofs.lemmas.List.Sorted.{All-permutation, Contains-permutation}
 use Rattle.std.proofs.lemmas.Option.{slice_get_within}
 use Rattle.blaze_table.specs.Entries.{Entry}
 use Rattle.blaze_table.specs.Pieces.{EndsAreKeys, AreAscending, HasStarted, IsWaiting, KeepsReaching, ArePieces, IsUnderway}
-use Rattle.blaze_table.proofs.Sweep.Pieces.{ended}
-use Rattle.blaze_table.proofs.Sweep.Placed.{one_item, item_of, one_more}
+use Rattle.blaze_table.proofs.Sweeping.Pieces.{ended}
+use Rattle.blaze_table.proofs.Sweeping.Placed.{one_item, item_of, one_more}
 
 contains_head : {X : Type 0} (x : X) (xs : List X) → Contains (x ∷ xs) x
 contains_head x xs = (0, omega arith, refl)

@@ -13,7 +13,7 @@ use Rattle.range_map_cli.specs.Pieces.{IsPiece}
 use Rattle.range_map_cli.specs.Replies.{Content, nothing, content_after, greatest_key, least_key, entries_text, line, Lists, piece_text, Replies}
 use Rattle.range_map_cli.specs.Output.{commands_of, has_bad, Answers, error_line, IsOutput}
 use Rattle.range_map_cli.specs.Sessions.{after_all}
-use Rattle.range_map_cli.proofs.Session.Forwarding.{front_none}
+use Rattle.range_map_cli.proofs.Sessions.Forwarding.{front_none}
 
 same_entry : (e f : Entry (List ℕ)) → e.lo ≡ f.lo → e.hi ≡ f.hi → bytes_eq e.value f.value ≡ true → e ≡ f
 same_entry e f lo hi value = ap (λ l. entry l e.hi e.value) lo ∙ ap (λ h. entry f.lo h e.value) hi ∙ ap (λ v. entry f.lo f.hi v) ((bytes_decides e.value f.value).0 value)

@@ -11,11 +11,11 @@ use Rattle.range_map_cli.specs.Replies.{Content, nothing, content_after, Replies
 use Rattle.range_map_cli.specs.Output.{commands_of, has_bad, with_command, bad_or, Answers, AnswersFirst}
 use Rattle.range_map_cli.specs.States.{content_of, HasWords}
 use Rattle.range_map_cli.specs.Sessions.{after_all, Forwards, IsAt}
-use Rattle.range_map_cli.proofs.Session.Kept.{take_again}
-use Rattle.range_map_cli.proofs.Session.Lengths.{command_of-take}
-use Rattle.range_map_cli.proofs.Session.Cuts.{lines_end, lines_last, ends_in-Lacks, ends_in-append}
-use Rattle.range_map_cli.proofs.Session.Good.{HasWords-after}
-use Rattle.range_map_cli.proofs.Session.Forwarding.{Forwards-push, Forwards-trans, Forwards-all}
+use Rattle.range_map_cli.proofs.Sessions.Kept.{take_again}
+use Rattle.range_map_cli.proofs.Sessions.Lengths.{command_of-take}
+use Rattle.range_map_cli.proofs.Sessions.Cuts.{lines_end, lines_last, ends_in-Lacks, ends_in-append}
+use Rattle.range_map_cli.proofs.Sessions.Good.{HasWords-after}
+use Rattle.range_map_cli.proofs.Sessions.Forwarding.{Forwards-push, Forwards-trans, Forwards-all}
 
 -- one more reply
 Answers-push : (content : Content) (commands : List Command) (command : Command) (text reply : List ℕ) → Answers content commands text → Replies (after_all commands content) command reply → Answers content (commands ++ command ∷ []) (text ++ reply)

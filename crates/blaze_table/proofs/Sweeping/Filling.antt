@@ -13,11 +13,11 @@ use Rattle.blaze_table.specs.declared.sweep.held.Held.TheVariants.{Kept, Moved}
 use Rattle.blaze_table.specs.Held.{kept_value, held_value, value_in, PutsPiece}
 use Rattle.blaze_table.specs.Pieces.{ArePlaced, EndsAreKeys, ArePieces, IsCanonicalOfPlaced}
 use Rattle.blaze_table.specs.Swept.{IsSwept}
-use Rattle.blaze_table.proofs.Sweep.Canonicals.{canonical_of_swept}
-use Rattle.blaze_table.proofs.Sweep.Held.{get_set_same, get_set_other, glue_keeps, glue_last, within_held}
-use Rattle.blaze_table.proofs.Sweep.Pieces.{same_number}
-use Rattle.blaze_table.proofs.Sweep.Placed.{one_item, item_of, none_at, value_of}
-use Rattle.blaze_table.proofs.Sweep.Sweeps.{swept_none, swept_more}
+use Rattle.blaze_table.proofs.Sweeping.Canonicals.{canonical_of_swept}
+use Rattle.blaze_table.proofs.Sweeping.Held.{get_set_same, get_set_other, glue_keeps, glue_last, within_held}
+use Rattle.blaze_table.proofs.Sweeping.Pieces.{same_number}
+use Rattle.blaze_table.proofs.Sweeping.Placed.{one_item, item_of, none_at, value_of}
+use Rattle.blaze_table.proofs.Sweeping.Sweeps.{swept_none, swept_more}
 
 -- what the pairs paint below the key `from` is in the list, the pieces from there on are left, and each pair's value is at hand
 pub record IsFilled {T V : Type 0} (eq : V → V → Bool) (rank : T → ℤ) (low high : ℤ) (placed : List (T × T × ℕ × V)) (b : ℤ) (rest : List (Entry ℕ)) (out : List (Entry V)) (held : List (Held V)) : Type 0 where

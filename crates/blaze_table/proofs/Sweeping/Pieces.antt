@@ -6,8 +6,8 @@ use Rattle.blaze_table.specs.Entries.{Entry, entry}
 use Rattle.blaze_table.specs.Splice.{glue}
 use Rattle.blaze_table.proofs.Paints.Splices.{by_join}
 use Rattle.blaze_table.specs.Pieces.{IsUncovered, IsPiece, ArePieces, IsWaiting}
-use Rattle.blaze_table.proofs.Sweep.Placed.{one_item}
-use Rattle.blaze_table.proofs.Sweep.Waitings.{top_pair, top_is_last, none_is}
+use Rattle.blaze_table.proofs.Sweeping.Placed.{one_item}
+use Rattle.blaze_table.proofs.Sweeping.Waitings.{top_pair, top_is_last, none_is}
 
 pub same_number : (a b : ℕ) → nat_eq a b ≡ true → a ≡ b
 same_number a b h = grind arith

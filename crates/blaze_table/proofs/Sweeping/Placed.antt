@@ -17,7 +17,7 @@ use Rattle.blaze_table.specs.Painted.{last_at}
 use Rattle.blaze_table.specs.Pieces.{IsPlaced, places_of, ArePlacedBelow, ArePlaced, HasKey, EndsAreKeys, AreAscending, IsPiece}
 use Rattle.blaze_table.proofs.Pairs.Lasts.{last_none, last_is}
 use Rattle.blaze_table.proofs.Canonical.Lookup.{holds_in, holds_ends}
-use Rattle.blaze_table.proofs.Sweep.Orders.{tail_sorted, not_less}
+use Rattle.blaze_table.proofs.Sweeping.Orders.{tail_sorted, not_less}
 
 -- ---- items of lists
 

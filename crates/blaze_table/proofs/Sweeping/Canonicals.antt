@@ -17,7 +17,7 @@ use Rattle.blaze_table.proofs.Canonical.Unique.{unique}
 use Rattle.blaze_table.specs.CanonicalOf.{keyed, IsCanonicalOf}
 use Rattle.blaze_table.specs.Swept.{Continues, AreApart, IsSwept, IsCanonicalAfter}
 use Rattle.blaze_table.proofs.Pairs.Lasts.{painted_one, last_below, last_first, last_over}
-use Rattle.blaze_table.proofs.Sweep.Sweeps.{at_past}
+use Rattle.blaze_table.proofs.Sweeping.Sweeps.{at_past}
 
 -- whether the pair has a key, as a number
 abbrev is_keyed : {V : Type 0} → Entry V → ℕ

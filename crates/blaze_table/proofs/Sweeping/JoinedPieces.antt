@@ -8,7 +8,7 @@ use Rattle.blaze_table.specs.Painted.{last_at}
 use Rattle.blaze_table.specs.Splice.{glue}
 use Rattle.blaze_table.specs.Swept.{AreApart, IsSwept}
 use Rattle.blaze_table.proofs.Pairs.Lasts.{last_below, last_first, last_over}
-use Rattle.blaze_table.proofs.Sweep.Sweeps.{swept_none, swept_more}
+use Rattle.blaze_table.proofs.Sweeping.Sweeps.{swept_none, swept_more}
 
 -- what all pairs paint below the key `from` is in the list, and what they paint from there on is painted by the rest
 pub record IsJoined {V : Type 0} (eq : V → V → Bool) (low high : ℤ) (all rest out : List (Entry V)) : Type 0 where

@@ -10,9 +10,9 @@ use Rattle.range_map_cli.specs.Commands.{Command, command_of}
 use Rattle.range_map_cli.specs.Output.{AnswersFirst, AreRead, Closes, Serves, Streams, commands_of, has_bad, with_command, bad_or}
 use Rattle.range_map_cli.specs.States.{content_of}
 use Rattle.range_map_cli.specs.Sessions.{ClosesBefore, Forwards, IsAt, IsServing}
-use Rattle.range_map_cli.proofs.Session.Cuts.{ends_in-append}
-use Rattle.range_map_cli.proofs.Session.Progress.{answers_first, next_flush}
-use Rattle.range_map_cli.proofs.Session.Endings.{closes_waiting}
+use Rattle.range_map_cli.proofs.Sessions.Cuts.{ends_in-append}
+use Rattle.range_map_cli.proofs.Sessions.Progress.{answers_first, next_flush}
+use Rattle.range_map_cli.proofs.Sessions.Endings.{closes_waiting}
 
 pub serving_start : (held had : Option (List ℕ)) (session : Session) → session.map.entries ≡ [] → session.number ≡ 0 → session.line ≡ [] → session.waiting.items ≡ [] → IsServing held held had had session
 serving_start held None session map number line waiting = tt

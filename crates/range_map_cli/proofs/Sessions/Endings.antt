@@ -11,11 +11,11 @@ use Rattle.range_map_cli.specs.Replies.{nothing, Replies}
 use Rattle.range_map_cli.specs.Output.{commands_of, has_bad, with_command, bad_or, Answers, AnswersFirst, error_line, no_memory, IsOutput, Prints, Closes}
 use Rattle.range_map_cli.specs.States.{content_of, HasWords}
 use Rattle.range_map_cli.specs.Sessions.{Forwards, IsAt}
-use Rattle.range_map_cli.proofs.Session.Cuts.{nothing_kept, ends_in-append}
-use Rattle.range_map_cli.proofs.Session.Determined.{bad_text, output_from, some_error, some_reply}
-use Rattle.range_map_cli.proofs.Session.Faults.{ends_lost, no_more}
-use Rattle.range_map_cli.proofs.Session.Forwarding.{front_none, Forwards-push, Forwards-trans}
-use Rattle.range_map_cli.proofs.Session.Progress.{asked_here, bad_here, asked_next, answered_next, answers_first, first_answers}
+use Rattle.range_map_cli.proofs.Sessions.Cuts.{nothing_kept, ends_in-append}
+use Rattle.range_map_cli.proofs.Sessions.Determined.{bad_text, output_from, some_error, some_reply}
+use Rattle.range_map_cli.proofs.Sessions.Faults.{ends_lost, no_more}
+use Rattle.range_map_cli.proofs.Sessions.Forwarding.{front_none, Forwards-push, Forwards-trans}
+use Rattle.range_map_cli.proofs.Sessions.Progress.{asked_here, bad_here, asked_next, answered_next, answers_first, first_answers}
 
 -- all that was to be written was written
 pub closes_all : (held now later : Option (List ℕ)) (text out bytes : List ℕ) (n : ℕ) (end : End) → Appends held now out → Prints text n end (out ++ bytes) → Forwards now later bytes [] → Closes held later text n end

@@ -5,9 +5,9 @@ use Rattle.range_map_cli.specs.declared.End.{End}
 use Rattle.range_map_cli.specs.declared.End.TheVariants as ends
 use Rattle.range_map_cli.specs.Lines.{lines_of, Lacks}
 use Rattle.range_map_cli.specs.Output.{commands_of, no_memory, Ends, IsOutput, Prints}
-use Rattle.range_map_cli.proofs.Session.Cuts.{Lacks-ends_in, other_head, other_tail}
-use Rattle.range_map_cli.proofs.Session.Forwarding.{front_none}
-use Rattle.range_map_cli.proofs.Session.Determined.{bad_text, IsWhole, one_output, output_from, whole_rest}
+use Rattle.range_map_cli.proofs.Sessions.Cuts.{Lacks-ends_in, other_head, other_tail}
+use Rattle.range_map_cli.proofs.Sessions.Forwarding.{front_none}
+use Rattle.range_map_cli.proofs.Sessions.Determined.{bad_text, IsWhole, one_output, output_from, whole_rest}
 
 -- nothing was added
 pub no_more : (xs ys : List ℕ) → xs ≡ xs ++ ys → ys ≡ []
