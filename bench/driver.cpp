@@ -86,6 +86,10 @@ const Work works[] = {
     {"a map of unsorted ranges; plain paints them", 17, 1'000'000, 10, 1e6, "range", 0.25},
     {"the same, painted one by one", 19, 1'000'000, 10, 1e6, "range", 0},
     {"a map of sorted ranges; plain copies them", 18, 1'000'000, 100, 1e6, "range", 2.0},
+    {"the union of so many maps of 10^5 entries in all", 20, 2, 1'000, 1e5, "entry", 0},
+    {"the union of so many maps of 10^5 entries in all", 20, 16, 1'000, 1e5, "entry", 0},
+    {"the union of so many maps of 10^5 entries in all", 20, 256, 1'000, 1e5, "entry", 0},
+    {"the union of so many maps of 10^5 entries in all", 20, 4'096, 1'000, 1e5, "entry", 0},
 };
 
 // A text for the program on lines.
@@ -194,8 +198,13 @@ string size_text(std::uint64_t size) {
         return "from none";
     }
     int power = 0;
-    for (std::uint64_t rest = size; rest >= 10; rest /= 10) {
+    std::uint64_t rest = size;
+    while (rest % 10 == 0) {
+        rest /= 10;
         ++power;
+    }
+    if (rest != 1) {
+        return std::to_string(size);
     }
     return "10^" + std::to_string(power);
 }
@@ -288,6 +297,7 @@ void print_growths(const Times& times) {
     print_growth(times, "`a \\| b`, b of 100, by value at 10^5, of 100 paints", 11, 100'000, 100, 0, 100'000, 1);
     print_growth(times, "a map of 10^6 unsorted ranges, of painting them", 17, 1'000'000, 1, 19, 1'000'000, 0.25);
     print_growth(times, "`a \\| b`, b of 100, by value at 10^6, of that at 10^5", 11, 1'000'000, 1, 11, 100'000, 4);
+    print_growth(times, "the union of 4,096 maps, of that of 16", 20, 4'096, 1, 20, 16, 3);
 }
 
 void write_text(const Settings& settings, const Text& text, const string& path) {

@@ -227,6 +227,27 @@ fn copy_sorted(check: bool, size: u64, count: u64) -> u64 {
     sum
 }
 
+/// The union of so many lent maps, 100,000 entries in all, in rounds of two, again and again.
+fn union_of_many(check: bool, maps: u64, count: u64) -> u64 {
+    let maps: Vec<Map> = (1..=maps).map(|seed| prepared(seed, 100_000 / maps, 16 * maps, 0)).collect();
+    let mut sum = 0;
+    for _ in 0..count {
+        let mut round: Vec<Map> = maps.chunks(2).map(|pair| pair[0].union(&pair[pair.len() - 1])).collect();
+        while round.len() > 1 {
+            let mut left = round.into_iter();
+            round = Vec::new();
+            while let Some(map) = left.next() {
+                round.push(match left.next() {
+                    Some(other) => map.union_by_value(other),
+                    None => map,
+                });
+            }
+        }
+        sum = checksum(check, sum, &round[0]);
+    }
+    sum
+}
+
 /// Does a work and answers a checksum, which is not 0; 0 where there is no such work.
 #[unsafe(no_mangle)]
 pub extern "C" fn plain_run(work: u32, size: u64, count: u64) -> u64 {
@@ -251,6 +272,7 @@ pub extern "C" fn plain_run(work: u32, size: u64, count: u64) -> u64 {
         16 => walk(size, 1, count),
         17 | 19 => paint_all(check, size, count),
         18 => copy_sorted(check, size, count),
+        20 => union_of_many(check, size, count),
         _ => return 0,
     };
     sum | 1

@@ -4,11 +4,13 @@
 mod changes;
 mod draw;
 mod makes;
+mod many;
 mod prepared;
 mod whole;
 
 use crate::changes::{Change, change_maps, clumps, get, pop_first};
 use crate::makes::{Making, make};
+use crate::many::union_of_many;
 use crate::whole::{Combination, append, combine, split_off, union_by_value, walk};
 use std::alloc::{AllocError, Global};
 
@@ -56,6 +58,7 @@ fn run(alloc: Global, work: u32, size: u64, count: u64) -> Result<Option<u64>, A
         17 => make(alloc, check, Making::Unsorted, size, count)?,
         18 => make(alloc, check, Making::Sorted, size, count)?,
         19 => make(alloc, check, Making::OneByOne, size, count)?,
+        20 => union_of_many(alloc, check, size, count)?,
         _ => return Ok(None),
     };
     Ok(Some(sum))

@@ -4,19 +4,15 @@ use Rattle.std.specs.List.{items_where_true, FoldsTo}
 use Rattle.std.specs.List.Retain.{ReturnsInTurn, IsFiltered}
 use Rattle.std.proofs.lemmas.Int.{ints}
 use Rattle.std.proofs.lemmas.List.{length-append, append-nil}
+use Rattle.blaze_int.specs.Unsigned.{nat_of}
 use Rattle.blaze_entries.specs.Entries.{Entry}
 use Rattle.blaze_entries.specs.Starts.{StartsAscend, from, first_entry, first_from, without}
 use Rattle.blaze_entries.proofs.Ascending.{by_order}
 use Rattle.blaze_entries.proofs.Halves.{StartsBelow, from_skips, from_all}
 use Rattle.blaze_entries.proofs.InTurn.{returns-push, folds-returned, picked-push_true, picked-push_false}
 
-pub nat_of : ℤ → ℕ
-nat_of (pos n) = n
-nat_of (negsuc n) = 0
-
 -- less is left up to high from a greater key on
 pub fewer_left : (high a b : ℤ) → a <ℤ b → a ≤ℤ high → nat_of (high +ℤ pos 1 -ℤ b) < nat_of (high +ℤ pos 1 -ℤ a)
-unfolding nat_of
 fewer_left high a b l m = less (high +ℤ pos 1 -ℤ b) (high +ℤ pos 1 -ℤ a) (omega (arith, ints)) (omega (arith, ints))
   where
     less : (x y : ℤ) → x <ℤ y → pos 0 <ℤ y → nat_of x < nat_of y

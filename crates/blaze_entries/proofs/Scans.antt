@@ -7,7 +7,8 @@ use Rattle.std.proofs.lemmas.List.{length-map, reverse-append}
 use Rattle.blaze_entries.specs.Entries.{Entry}
 use Rattle.blaze_entries.specs.Found.{found_in, found_of}
 use Rattle.blaze_entries.specs.Places.{held, full, places, place_of, AreFull}
-use Rattle.blaze_entries.specs.Overlap.{later, earlier, shared, overlap}
+use Rattle.std.specs.Int.{int_max, int_min}
+use Rattle.blaze_entries.specs.Overlap.{shared, overlap}
 use Rattle.blaze_entries.specs.Scanned.{Seen, seen, walked, seen_covered, walked_covered, answers, walked_keys}
 use Rattle.blaze_entries.specs.declared.found.Found.{Found}
 use Rattle.blaze_entries.specs.declared.nodes.EndValue.{EndValue}
@@ -40,7 +41,7 @@ up_to_keys : (a b : ℤ) → pos 0 ≤ℤ cond (int_le a b) ((b -ℤ a) +ℤ pos
 up_to_keys a b = grind (arith, ints)
 
 pub shared_keys : (l h a b : ℤ) → pos 0 ≤ℤ shared l h a b
-shared_keys l h a b = up_to_keys (later a l) (earlier b h)
+shared_keys l h a b = up_to_keys (int_max l a) (int_min h b)
 
 module _ {V : Type 0} (l h : ℤ) where
   pub some_walked : (es : List (Entry V)) → pos 0 ≤ℤ walked_keys l h es

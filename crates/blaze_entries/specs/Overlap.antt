@@ -1,16 +1,11 @@
 -- How many of the entries' keys lie in a range.
 use Rattle.std.specs.Prelude.{ℤ, pos, ◌+ℤ◌, ◌-ℤ◌, int_lt, int_le, if◌then◌else◌, List, [], ◌∷◌}
+use Rattle.std.specs.Int.{int_max, int_min}
 use Rattle.blaze_entries.specs.Entries.{Entry}
-
-abbrev pub later : ℤ → ℤ → ℤ
-later a b = if int_lt a b then b else a
-
-abbrev pub earlier : ℤ → ℤ → ℤ
-earlier a b = if int_lt a b then a else b
 
 -- how many keys lie both from l up to h and from a up to b
 abbrev pub shared : ℤ → ℤ → ℤ → ℤ → ℤ
-shared l h a b = if int_le (later a l) (earlier b h) then (earlier b h -ℤ later a l) +ℤ pos 1 else pos 0
+shared l h a b = if int_le (int_max l a) (int_min h b) then (int_min h b -ℤ int_max l a) +ℤ pos 1 else pos 0
 
 -- how many of the entry's keys lie from l up to h
 abbrev pub overlap : {V : Type 0} → ℤ → ℤ → Entry V → ℤ

@@ -1,13 +1,18 @@
 //! The entries with their counters. Each look here is counted: there is no other way to read an entry.
-ghost use Rattle.std.specs.Prelude.{◌≡◌, ◌+◌, [], pos, ◌+ℤ◌, ◌≤ℤ◌, length, map, reverse, Some, None, IsSome, IfSome, OnOk, OnErr, IfOk};
+ghost use Rattle.std.specs.Prelude.{◌≡◌, ◌+◌, [], pos, ◌+ℤ◌, ◌≤ℤ◌, length, map, reverse, Some};
+ghost use Rattle.std.specs.Prelude.{None, IsSome, IfSome, OnOk, OnErr, IfOk};
 ghost use Rattle.std.specs.List.Retain.{IsFiltered};
 ghost use Rattle.std.specs.Option.{option_map};
 ghost use Rattle.blaze_entries.specs.Answers.{AnswersAt, IsCallableAtEach};
 ghost use Rattle.blaze_entries.specs.Entries.{entry, shown_entry};
 ghost use Rattle.blaze_entries.specs.Counted.{uncounted};
 ghost use Rattle.blaze_entries.specs.Found.{found_in, found_of, range_in, ranks_of};
-ghost use Rattle.blaze_entries.specs.Scanned.{seen_of, unseen, walked, least_by, walked_covered, answers, walked_keys};
-ghost use Rattle.blaze_entries.specs.Starts.{StartsAscend, below, from, last_below, first_from, start_at, with_entry, without, with_end, with_end_value, IsStartMoved, IsFrontReplaced, IsCloneInserted};
+ghost use Rattle.blaze_entries.specs.Scanned.{seen_of, unseen, walked, least_by, walked_covered};
+ghost use Rattle.blaze_entries.specs.Scanned.{answers, walked_keys};
+ghost use Rattle.blaze_entries.specs.Starts.{StartsAscend, below, from, last_below, first_from};
+ghost use Rattle.blaze_entries.specs.Starts.{start_at, with_entry, without, with_end};
+ghost use Rattle.blaze_entries.specs.Starts.{with_end_value, IsStartMoved, IsFrontReplaced};
+ghost use Rattle.blaze_entries.specs.Starts.{IsCloneInserted};
 
 use crate::build::tree_of;
 use crate::count::Count;
@@ -168,7 +173,8 @@ impl<T: Integer, V: Drop> Counted<T, V> {
     /// Keeps the entries that a closure answers true at: one call for each, ascending. No entry is counted.
     pub(crate) fn retain<F: FnMut(&RangeInclusive<T>, &V) -> bool>(&mut self, f: F)
         requires { IsCallableAtEach T.rank F.FnMut f self.old.entries }
-        ensures entries { IsFiltered (AnswersAt T.rank F.FnMut) f self.old.entries self.new.entries }
+        ensures entries { IsFiltered (AnswersAt T.rank F.FnMut) f
+            self.old.entries self.new.entries }
         ensures uncounted { self.new ≡ record self.old { entries = self.new.entries } }
     {
         retain(&mut self.tree, f);

@@ -1,11 +1,13 @@
 //! The entries as a table has them: reads that aren't counted, beside the counted ones.
-ghost use Rattle.std.specs.Prelude.{◌≡◌, ◌-◌, [], ◌+ℤ◌, pos, length, slice_get, map, Some, None, IsSome, IfOk, OnOk, OnErr};
+ghost use Rattle.std.specs.Prelude.{◌≡◌, ◌-◌, [], ◌+ℤ◌, pos, length, slice_get, map, Some, None};
+ghost use Rattle.std.specs.Prelude.{IsSome, IfOk, OnOk, OnErr};
 ghost use Rattle.std.specs.List.Retain.{IsFiltered};
 ghost use Rattle.std.specs.Option.{option_map};
 ghost use Rattle.blaze_entries.specs.Answers.{AnswersAt, IsCallableAtEach};
 ghost use Rattle.blaze_entries.specs.Counted.{uncounted};
 ghost use Rattle.blaze_entries.specs.Entries.{shown_entry};
-ghost use Rattle.blaze_entries.specs.Starts.{StartsAscend, last_below, first_from, start_at, below, from, without, with_end, IsCloneInserted};
+ghost use Rattle.blaze_entries.specs.Starts.{StartsAscend, last_below, first_from, start_at, below};
+ghost use Rattle.blaze_entries.specs.Starts.{from, without, with_end, IsCloneInserted};
 
 use crate::counted::Counted;
 use crate::into_iter::IntoIter;
@@ -186,7 +188,8 @@ impl<T: Integer, V: Drop> Entries<T, V> {
     /// counted.
     pub fn retain<F: FnMut(&RangeInclusive<T>, &V) -> bool>(&mut self, f: F)
         requires { IsCallableAtEach T.rank F.FnMut f self.old.entries }
-        ensures entries { IsFiltered (AnswersAt T.rank F.FnMut) f self.old.entries self.new.entries }
+        ensures entries { IsFiltered (AnswersAt T.rank F.FnMut) f
+            self.old.entries self.new.entries }
         ensures uncounted { self.new ≡ record self.old { entries = self.new.entries } }
     {
         self.counted.retain(f);

@@ -1,6 +1,7 @@
 //! How many keys of an entry lie in a range.
 ghost use Rattle.std.specs.Prelude.{◌≡◌, pos, ◌+ℤ◌, ◌≤ℤ◌};
-ghost use Rattle.blaze_entries.specs.Overlap.{later, earlier, shared};
+ghost use Rattle.std.specs.Int.{int_max, int_min};
+ghost use Rattle.blaze_entries.specs.Overlap.{shared};
 
 use crate::found::Found;
 use blaze_int::compare::{is_at_most, is_below, length};
@@ -8,14 +9,14 @@ use blaze_int::{Integer, SafeLength};
 
 // The larger of two keys.
 fn later_of<T: Integer>(a: T, b: T) -> T
-    ensures { T.rank result ≡ later (T.rank a) (T.rank b) }
+    ensures { T.rank result ≡ int_max (T.rank b) (T.rank a) }
 {
     if is_below(a, b) { b } else { a }
 }
 
 // The smaller of two keys.
 fn earlier_of<T: Integer>(a: T, b: T) -> T
-    ensures { T.rank result ≡ earlier (T.rank a) (T.rank b) }
+    ensures { T.rank result ≡ int_min (T.rank b) (T.rank a) }
 {
     if is_below(a, b) { a } else { b }
 }

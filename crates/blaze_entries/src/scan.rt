@@ -1,9 +1,12 @@
 //! A walk down the tree from above a range, in one search.
-ghost use Rattle.std.specs.Prelude.{◌≡◌, ◌⊎◌, ◌+◌, ◌++◌, ◌∷◌, [], pos, ◌+ℤ◌, ◌≤ℤ◌, ◌<◌, length, reverse, None, MatchOption, OnSome};
+ghost use Rattle.std.specs.Prelude.{◌≡◌, ◌⊎◌, ◌+◌, ◌++◌, ◌∷◌, [], pos, ◌+ℤ◌, ◌≤ℤ◌, ◌<◌, length};
+ghost use Rattle.std.specs.Prelude.{reverse, None, MatchOption, OnSome};
 ghost use Rattle.blaze_entries.specs.Entries.{Entry};
 ghost use Rattle.blaze_entries.specs.Found.{found_in, found_of};
 ghost use Rattle.blaze_entries.specs.Places.{places, entries_of, AreFull, AreHeld};
-ghost use Rattle.blaze_entries.specs.Scanned.{seen_of, unseen, seen_end, seen_start, seen, walked, least_by, seen_covered, walked_covered, answers, walked_keys};
+ghost use Rattle.blaze_entries.specs.Scanned.{seen_of, unseen, seen_end, seen_start, seen, walked};
+ghost use Rattle.blaze_entries.specs.Scanned.{least_by, seen_covered, walked_covered, answers};
+ghost use Rattle.blaze_entries.specs.Scanned.{walked_keys};
 ghost use Rattle.blaze_entries.specs.Starts.{below};
 
 use crate::count::Count;

@@ -1,4 +1,4 @@
-// The keys that the bounds of a range name.
+//! The keys that the bounds of a range name.
 ghost use Rattle.std.specs.Prelude.{◌≡◌, ◌↔◌, ◌≤ℤ◌, ◌<ℤ◌, ℤ, IsTrue, MatchOption, IfSome};
 ghost use Rattle.std.specs.Range.Bound.{bound_map};
 ghost use Rattle.blaze_int.specs.Bounds.{start_rank, end_rank, IsNamed, AreEndsOf, AreAtRanks};
@@ -33,7 +33,8 @@ pub fn names_a_key<T: Integer, R: RangeBounds<T>>(r: &R) -> bool
         ↔ ((z : ℤ) × IsNamed T.rank T.low T.high (R.start_bound r.now) (R.end_bound r.now) z) }
     ensures ranks { R.has_bounds r.now
         → IsTrue result
-        ↔ (start_rank T.rank T.low (R.start_bound r.now) ≤ℤ end_rank T.rank T.high (R.end_bound r.now)) }
+        ↔ (start_rank T.rank T.low (R.start_bound r.now) ≤ℤ end_rank T.rank T.high
+        (R.end_bound r.now)) }
 {
     bounds_of(r).is_some()
 }

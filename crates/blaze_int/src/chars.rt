@@ -1,4 +1,4 @@
-// `char`, whose ranks leave out the surrogates.
+//! `char`, whose ranks leave out the surrogates.
 ghost use Rattle.std.specs.Prelude.{◌≡◌, ◌-◌, ◌^◌, pos};
 ghost use Rattle.std.proofs.Common.{lit≤};
 ghost use Rattle.blaze_int.specs.Chars.{char_index, char_rank, char_of_rank, char-ranked};

@@ -1,4 +1,4 @@
-// Comparisons of keys, steps between them and lengths, by rank.
+//! Comparisons of keys, steps between them and lengths, by rank.
 ghost use Rattle.std.specs.Prelude.{◌≡◌, pos, ◌+ℤ◌, ◌-ℤ◌, ◌≤ℤ◌, ◌<ℤ◌, int_le, int_lt};
 ghost use Rattle.std.specs.Ordering.{int_eq};
 

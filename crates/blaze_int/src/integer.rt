@@ -1,4 +1,4 @@
-// Keys, as contracts see them: each has a rank, and the ranks run from `low` to `high` with no gap.
+//! Keys, as contracts see them: each has a rank, and the ranks run from `low` to `high` with no gap.
 ghost use Rattle.std.specs.Prelude.{◌≡◌, ℤ, pos, ◌+ℤ◌, ◌≤ℤ◌, ◌<ℤ◌};
 ghost use Rattle.std.specs.Range.{range_inclusive_start, range_inclusive_end};
 ghost use Rattle.blaze_int.specs.Ranked.{IsRanked, IsNextKey, key_count};

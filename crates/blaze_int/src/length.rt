@@ -1,4 +1,4 @@
-// Lengths of ranges of keys, as contracts see them: each has a number, and the numbers run from 0 to `most`.
+//! Lengths of ranges of keys, as contracts see them: each has a number, and the numbers run from 0 to `most`.
 ghost use Rattle.std.specs.Prelude.{◌≡◌, ◌+◌, ◌≤◌, ℕ, ◌↔◌, IsTrue};
 ghost use Rattle.blaze_int.specs.Counted.{IsCounted};
 

@@ -1,4 +1,4 @@
-// Lengths of ranges of numbers of up to 64 bits, by way of `i128`.
+//! Lengths of ranges of numbers of up to 64 bits, by way of `i128`.
 ghost use Rattle.std.specs.Prelude.{◌≡◌, ◌≤ℤ◌, ◌-ℤ◌, ◌+ℤ◌, ◌-◌, ◌^◌, pos, negsuc, FitsSigned};
 ghost use Rattle.std.specs.Int.{w128};
 

@@ -1,4 +1,4 @@
-// The signed number types as keys. The rank of a number is the number itself.
+//! The signed number types as keys. The rank of a number is the number itself.
 ghost use Rattle.std.specs.Prelude.{◌-◌, ◌^◌, pos, negsuc};
 ghost use Rattle.std.proofs.Common.{lit≤};
 ghost use Rattle.blaze_int.specs.Signed.{signed-ranked, signed-room};

@@ -1,3 +1,4 @@
+//! Lengths, neighbours and bounds at the ends of key types.
 use crate::bounds::{bounds_of, names_a_key};
 use crate::compare::{is_next, length};
 use crate::integer::Integer;

@@ -1,4 +1,4 @@
-// The lengths of ranges of keys of 128 bits, which go one past the greatest `u128`.
+//! The lengths of ranges of keys of 128 bits, which go one past the greatest `u128`.
 ghost use Rattle.std.specs.Prelude.{◌^◌};
 ghost use Rattle.std.proofs.Common.{refl};
 
@@ -14,8 +14,11 @@ pub enum UIntPlusOne {
 }
 
 impl SafeLength for UIntPlusOne {
-    ghost use Rattle.blaze_int.specs.declared.uint_plus_one.UIntPlusOne.TheVariants.{UInt, MaxPlusOne};
-    ghost use Rattle.blaze_int.specs.UIntPlusOne.{number_of, one_value, has_value, order-UInt, order-below, order-above, equal-UInt, equal-below, equal-above};
+    ghost use Rattle.blaze_int.specs.declared.uint_plus_one.UIntPlusOne.TheVariants.{UInt};
+    ghost use Rattle.blaze_int.specs.declared.uint_plus_one.UIntPlusOne.TheVariants.{MaxPlusOne};
+    ghost use Rattle.blaze_int.specs.UIntPlusOne.{number_of, one_value, has_value, order-UInt};
+    ghost use Rattle.blaze_int.specs.UIntPlusOne.{order-below, order-above, equal-UInt};
+    ghost use Rattle.blaze_int.specs.UIntPlusOne.{equal-below, equal-above};
 
     ghost number = { number_of };
 
@@ -61,7 +64,11 @@ impl SafeLength for UIntPlusOne {
       ];
       equal = elim [
         | UInt a ↦ elim [ UInt b ↦ equal-UInt a b | MaxPlusOne ↦ λ _ _. equal-below a ]
-        | MaxPlusOne ↦ elim [ UInt b ↦ λ _ _. equal-above b | MaxPlusOne ↦ λ _ _. ((λ _. refl), (λ _. refl)) ]
+        | MaxPlusOne ↦ elim [
+          | UInt b ↦ λ _ _. equal-above b
+          | MaxPlusOne ↦ λ
+              _ _. ((λ _. refl), (λ _. refl))
+        ]
       ];
     } };
 }

@@ -1,4 +1,4 @@
-// The unsigned number types as keys. The rank of a number is the number itself.
+//! The unsigned number types as keys. The rank of a number is the number itself.
 ghost use Rattle.std.specs.Prelude.{◌-◌, ◌^◌, pos};
 ghost use Rattle.std.proofs.Common.{lit≤};
 ghost use Rattle.blaze_int.specs.Unsigned.{nat_of, unsigned-ranked, unsigned-room};

@@ -1,4 +1,5 @@
 -- A step over the keys of ranges, from either end.
+use Rattle.blaze_int.specs.Unsigned.{nat_of}
 use Rattle.std.proofs.Common.{◌≡◌, ℕ, suc, zero, ◌+◌, ◌≤◌, ℤ, pos, ◌+ℤ◌, ◌-ℤ◌, ◌≤ℤ◌, ◌<ℤ◌, List, [], ◌∷◌, ◌++◌, length, Option, Some, None, refl, sym, ap, ◌∙◌, arith, append_assoc, append-nil, length-append}
 use Rattle.std.specs.Prelude.{option_map}
 use Rattle.std.specs.Option.{option_to_list}
@@ -6,7 +7,6 @@ use Rattle.std.specs.Iterator.{MakesProgress, item_count}
 use Rattle.std.proofs.lemmas.Int.{ints}
 use Rattle.blaze_table.specs.Entries.{Entry, entry, shown_entry}
 use Rattle.blaze_table.specs.Canonical.{IsDisjoint, IsClear}
-use Rattle.blaze_table.specs.Count.{nat_of}
 use Rattle.blaze_table.specs.Pairs.{pairs_from, pairs_of, pair_list}
 use Rattle.blaze_table.proofs.PairLists.{nat_of-pos, pairs_first, pairs_last, pairs_one, pair_list-append}
 use Rattle.blaze_iters.specs.Left.{RangesLeft, ranges_left, pairs_left, seen, OpensFirst, OpensLast, IsRestAfter, IsRestBefore}

@@ -1,13 +1,15 @@
 //! The keys of a table, each with its range's value, by value.
-ghost use Rattle.std.specs.Prelude.{◌≡◌, ◌≤◌, ◌≤ℤ◌, [], length, None, IfSome, IfNone, unwrap_or};
+ghost use Rattle.std.specs.Prelude.{◌≡◌, ◌≤◌, [], length, None, IfSome, IfNone, unwrap_or};
 ghost use Rattle.std.specs.Iterator.{YieldsFirstBy, YieldsLastBy, item_count, UpTo};
 ghost use Rattle.std.specs.Iterator.SizeHint.{IsWithinCount};
-ghost use Rattle.blaze_table.specs.Entries.{Entry, shown_entry};
-ghost use Rattle.blaze_table.specs.Canonical.{IsDisjoint};
+ghost use Rattle.blaze_table.specs.Entries.{shown_entry};
 ghost use Rattle.blaze_table.specs.Painted.{ClonesAreAlike};
 ghost use Rattle.blaze_table.specs.Pairs.{pair_list};
-ghost use Rattle.blaze_iters.specs.Left.{RangesLeft, unopened, seen, OpensFirst, OpensLast, YieldsOpeningFirst, YieldsOpeningLast, pairs_left, keys_left};
-ghost use Rattle.blaze_iters.specs.Owned.{OwnedLeft, owned_ranges, IsOwned, GivesFirst, GivesLast, IsLikePair};
+ghost use Rattle.blaze_iters.specs.Left.{unopened, seen, OpensFirst, OpensLast};
+ghost use Rattle.blaze_iters.specs.Left.{YieldsOpeningFirst, YieldsOpeningLast, pairs_left};
+ghost use Rattle.blaze_iters.specs.Left.{keys_left};
+ghost use Rattle.blaze_iters.specs.Owned.{OwnedLeft, owned_ranges, IsOwned, GivesFirst, GivesLast};
+ghost use Rattle.blaze_iters.specs.Owned.{IsLikePair};
 
 use crate::rest::{rest_after, rest_before, second, second_last};
 use blaze_int::Integer;
@@ -73,7 +75,8 @@ impl<T: Integer, V: Eq + Drop> IntoIterMap<T, V> {
 
     /// Takes the first key that is left, and clones nothing.
     pub(crate) fn next_key(&mut self) -> Option<T>
-        ensures { YieldsOpeningFirst (λ es. es) (λ k. k) (keys_left T.of_rank (λ es. es)) self.old result self.new }
+        ensures { YieldsOpeningFirst (λ es. es) (λ k. k) (keys_left T.of_rank (λ es. es))
+            self.old result self.new }
     {
         let (lo, hi, value) = take_first(&mut self.front, &mut self.inner, &mut self.back)?;
         lo.in_hand();
@@ -83,7 +86,8 @@ impl<T: Integer, V: Eq + Drop> IntoIterMap<T, V> {
 
     /// Takes the last key that is left, and clones nothing.
     pub(crate) fn next_back_key(&mut self) -> Option<T>
-        ensures { YieldsOpeningLast (λ es. es) (λ k. k) (keys_left T.of_rank (λ es. es)) self.old result self.new }
+        ensures { YieldsOpeningLast (λ es. es) (λ k. k) (keys_left T.of_rank (λ es. es))
+            self.old result self.new }
     {
         let (lo, hi, value) = take_last(&mut self.front, &mut self.inner, &mut self.back)?;
         hi.in_hand();
@@ -122,8 +126,10 @@ impl<T: Integer, V: Eq + Clone> Iterator for IntoIterMap<T, V> {
 
     /// At least as many keys are left as the ranges that no call has opened. After a refused clone that is 0.
     fn size_hint(&self) -> (usize, Option<usize>)
-        ensures lower { IsWithinCount result.0 (item_count (pairs_left T.of_rank (λ es. es)) self.now) }
-        ensures upper { IfSome result.1 (UpTo (item_count (pairs_left T.of_rank (λ es. es)) self.now)) }
+        ensures lower { IsWithinCount result.0
+            (item_count (pairs_left T.of_rank (λ es. es)) self.now) }
+        ensures upper { IfSome result.1
+            (UpTo (item_count (pairs_left T.of_rank (λ es. es)) self.now)) }
         ensures hint { result ≡ (length self.now.inner, None) }
     {
         (self.whole_len(), None)
@@ -159,7 +165,8 @@ impl<T: Integer, V: Eq + Clone> FusedIterator for IntoIterMap<T, V> {}
 
 /// Takes the first range that no call has opened.
 fn first_whole<T: Integer, V: Drop>(inner: &mut Option<IntoIter<T, V>>) -> Option<(T, T, V)>
-    ensures { YieldsFirstBy (shown_entry T.rank (λ v. v)) (λ s. unwrap_or s []) inner.old result inner.new }
+    ensures { YieldsFirstBy (shown_entry T.rank (λ v. v)) (λ s. unwrap_or s [])
+        inner.old result inner.new }
 {
     match inner {
         Some(ranges) => ranges.next(),
@@ -169,7 +176,8 @@ fn first_whole<T: Integer, V: Drop>(inner: &mut Option<IntoIter<T, V>>) -> Optio
 
 /// Takes the last range that no call has opened.
 fn last_whole<T: Integer, V: Drop>(inner: &mut Option<IntoIter<T, V>>) -> Option<(T, T, V)>
-    ensures { YieldsLastBy (shown_entry T.rank (λ v. v)) (λ s. unwrap_or s []) inner.old result inner.new }
+    ensures { YieldsLastBy (shown_entry T.rank (λ v. v)) (λ s. unwrap_or s [])
+        inner.old result inner.new }
 {
     match inner {
         Some(ranges) => ranges.next_back(),
@@ -184,11 +192,15 @@ fn take_first<T: Integer, V: Drop>(
     back: &mut Option<(T, T, V)>,
 ) -> Option<(T, T, V)>
     requires { IsOwned (seen T.rank (λ v. v) front.old (unwrap_or inner.old []) back.old) }
-    ensures left { owned_ranges (seen T.rank (λ v. v) front.old (unwrap_or inner.old []) back.old) ≡ owned_ranges (seen T.rank (λ v. v) result (unwrap_or inner.new []) back.new) }
+    ensures left { owned_ranges (seen T.rank (λ v. v) front.old (unwrap_or inner.old []) back.old)
+        ≡ owned_ranges (seen T.rank (λ v. v) result (unwrap_or inner.new []) back.new) }
     ensures owned { IsOwned (seen T.rank (λ v. v) result (unwrap_or inner.new []) back.new) }
     ensures front { front.new ≡ None }
-    ensures opens { OpensFirst (λ es. es) (seen T.rank (λ v. v) front.old (unwrap_or inner.old []) back.old) (seen T.rank (λ v. v) front.new (unwrap_or inner.new []) back.new) }
-    ensures none { IfNone result (owned_ranges (seen T.rank (λ v. v) None (unwrap_or inner.new []) back.new) ≡ []) }
+    ensures opens { OpensFirst (λ es. es)
+        (seen T.rank (λ v. v) front.old (unwrap_or inner.old []) back.old)
+        (seen T.rank (λ v. v) front.new (unwrap_or inner.new []) back.new) }
+    ensures none { IfNone result
+        (owned_ranges (seen T.rank (λ v. v) None (unwrap_or inner.new []) back.new) ≡ []) }
 {
     if let Some(rest) = front.take() {
         return Some(rest);
@@ -206,11 +218,15 @@ fn take_last<T: Integer, V: Drop>(
     back: &mut Option<(T, T, V)>,
 ) -> Option<(T, T, V)>
     requires { IsOwned (seen T.rank (λ v. v) front.old (unwrap_or inner.old []) back.old) }
-    ensures left { owned_ranges (seen T.rank (λ v. v) front.old (unwrap_or inner.old []) back.old) ≡ owned_ranges (seen T.rank (λ v. v) front.new (unwrap_or inner.new []) result) }
+    ensures left { owned_ranges (seen T.rank (λ v. v) front.old (unwrap_or inner.old []) back.old)
+        ≡ owned_ranges (seen T.rank (λ v. v) front.new (unwrap_or inner.new []) result) }
     ensures owned { IsOwned (seen T.rank (λ v. v) front.new (unwrap_or inner.new []) result) }
     ensures back { back.new ≡ None }
-    ensures opens { OpensLast (λ es. es) (seen T.rank (λ v. v) front.old (unwrap_or inner.old []) back.old) (seen T.rank (λ v. v) front.new (unwrap_or inner.new []) back.new) }
-    ensures none { IfNone result (owned_ranges (seen T.rank (λ v. v) front.new (unwrap_or inner.new []) None) ≡ []) }
+    ensures opens { OpensLast (λ es. es)
+        (seen T.rank (λ v. v) front.old (unwrap_or inner.old []) back.old)
+        (seen T.rank (λ v. v) front.new (unwrap_or inner.new []) back.new) }
+    ensures none { IfNone result
+        (owned_ranges (seen T.rank (λ v. v) front.new (unwrap_or inner.new []) None) ≡ []) }
 {
     if let Some(rest) = back.take() {
         return Some(rest);

@@ -3,7 +3,8 @@ ghost use Rattle.std.specs.Prelude.{◌≡◌, length, None, IfSome, map};
 ghost use Rattle.std.specs.Iterator.{item_count, UpTo};
 ghost use Rattle.std.specs.Iterator.SizeHint.{IsWithinCount};
 ghost use Rattle.blaze_table.specs.Pairs.{pair_list};
-ghost use Rattle.blaze_iters.specs.Left.{unopened, keys_left, YieldsOpeningFirst, YieldsOpeningLast};
+ghost use Rattle.blaze_iters.specs.Left.{unopened, keys_left, YieldsOpeningFirst};
+ghost use Rattle.blaze_iters.specs.Left.{YieldsOpeningLast};
 
 use crate::into_iter_map::IntoIterMap;
 use blaze_int::Integer;
@@ -29,7 +30,8 @@ impl<T: Integer, V: Eq + Drop> IntoKeys<T, V> {
     /// The keys of a table.
     pub fn new(table: RangeTable<T, V>) -> Self
         ensures unopened { result ≡ unopened table.entries }
-        ensures keys { keys_left T.of_rank (λ es. es) result ≡ map (λ p. p.0) (pair_list T.of_rank table.entries) }
+        ensures keys { keys_left T.of_rank (λ es. es) result
+            ≡ map (λ p. p.0) (pair_list T.of_rank table.entries) }
     {
         IntoKeys {
             pairs: IntoIterMap::new(table),
@@ -50,8 +52,10 @@ impl<T: Integer, V: Eq + Drop> Iterator for IntoKeys<T, V> {
 
     /// At least as many keys are left as the ranges that no call has opened.
     fn size_hint(&self) -> (usize, Option<usize>)
-        ensures lower { IsWithinCount result.0 (item_count (keys_left T.of_rank (λ es. es)) self.now) }
-        ensures upper { IfSome result.1 (UpTo (item_count (keys_left T.of_rank (λ es. es)) self.now)) }
+        ensures lower { IsWithinCount result.0
+            (item_count (keys_left T.of_rank (λ es. es)) self.now) }
+        ensures upper { IfSome result.1
+            (UpTo (item_count (keys_left T.of_rank (λ es. es)) self.now)) }
         ensures hint { result ≡ (length self.now.inner, None) }
     {
         (self.pairs.whole_len(), None)
@@ -59,7 +63,8 @@ impl<T: Integer, V: Eq + Drop> Iterator for IntoKeys<T, V> {
 }
 
 impl<T: Integer, V: Eq + Drop> DoubleEndedIterator for IntoKeys<T, V> {
-    ghost next_back_gives = { YieldsOpeningLast (λ es. es) (λ k. k) (keys_left T.of_rank (λ es. es)) };
+    ghost next_back_gives = { YieldsOpeningLast (λ es. es) (λ k. k)
+        (keys_left T.of_rank (λ es. es)) };
 
     fn next_back(&mut self) -> Option<T> {
         self.pairs.next_back_key()

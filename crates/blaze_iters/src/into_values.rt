@@ -33,7 +33,8 @@ impl<T: Integer, V: Eq + Drop> IntoValues<T, V> {
     /// The values of a table, each once for each key.
     pub fn new(table: RangeTable<T, V>) -> Self
         ensures unopened { result ≡ unopened table.entries }
-        ensures values { values_left T.of_rank (λ es. es) result ≡ map (λ p. p.1) (pair_list T.of_rank table.entries) }
+        ensures values { values_left T.of_rank (λ es. es) result
+            ≡ map (λ p. p.1) (pair_list T.of_rank table.entries) }
     {
         IntoValues {
             pairs: IntoIterMap::new(table),
@@ -60,8 +61,10 @@ impl<T: Integer, V: Eq + Clone> Iterator for IntoValues<T, V> {
 
     /// At least as many values are left as the ranges that no call has opened. After a refused clone that is 0.
     fn size_hint(&self) -> (usize, Option<usize>)
-        ensures lower { IsWithinCount result.0 (item_count (values_left T.of_rank (λ es. es)) self.now) }
-        ensures upper { IfSome result.1 (UpTo (item_count (values_left T.of_rank (λ es. es)) self.now)) }
+        ensures lower { IsWithinCount result.0
+            (item_count (values_left T.of_rank (λ es. es)) self.now) }
+        ensures upper { IfSome result.1
+            (UpTo (item_count (values_left T.of_rank (λ es. es)) self.now)) }
         ensures hint { result ≡ (length self.now.inner, None) }
     {
         (self.pairs.whole_len(), None)

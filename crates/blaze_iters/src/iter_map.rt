@@ -1,10 +1,11 @@
 //! The keys of a stream of ranges, each with its range's value.
-ghost use Rattle.std.specs.Prelude.{◌≡◌, ◌++◌, [], ◌≤ℤ◌, None, IfSome, IfNone};
+ghost use Rattle.std.specs.Prelude.{◌≡◌, [], None, IfSome, IfNone};
 ghost use Rattle.std.specs.Iterator.{item_count, UpTo};
 ghost use Rattle.std.specs.Iterator.SizeHint.{IsWithinCount};
-ghost use Rattle.blaze_table.specs.Entries.{Entry, shown_entry};
 ghost use Rattle.blaze_table.specs.Pairs.{pair_list};
-ghost use Rattle.blaze_iters.specs.Left.{RangesLeft, unopened, seen, AreFull, OpensFirst, OpensLast, YieldsOpeningFirst, YieldsOpeningLast, ranges_left, pairs_left, shown_pair};
+ghost use Rattle.blaze_iters.specs.Left.{RangesLeft, unopened, seen, AreFull, OpensFirst};
+ghost use Rattle.blaze_iters.specs.Left.{OpensLast, YieldsOpeningFirst, YieldsOpeningLast};
+ghost use Rattle.blaze_iters.specs.Left.{ranges_left, pairs_left, shown_pair};
 
 use crate::rest::{rest_after, rest_before};
 use blaze_int::Integer;
@@ -49,7 +50,8 @@ impl<'a, T: Integer, V: Eq + Clone> IterMap<T, &'a V, RangeValuesIter<'a, T, V>>
     /// The keys of a table with their values.
     pub fn of_table(table: &'a RangeTable<T, V>) -> Self
         ensures unopened { result ≡ unopened table.now.entries }
-        ensures pairs { pairs_left T.of_rank (λ es. es) result ≡ pair_list T.of_rank table.now.entries }
+        ensures pairs { pairs_left T.of_rank (λ es. es) result
+            ≡ pair_list T.of_rank table.now.entries }
     {
         IterMap {
             front: None,
@@ -66,11 +68,14 @@ fn take_first<T: Integer, VC: ValueCarrier, I: SortedDisjointMap<T, VC>>(
     back: &mut Option<(T, T, VC)>,
 ) -> Option<(T, T, VC)>
     requires { AreFull (seen T.rank VC.shown front.old inner.old back.old) }
-    ensures left { ranges_left I.left (seen T.rank VC.shown front.old inner.old back.old) ≡ ranges_left I.left (seen T.rank VC.shown result inner.new back.new) }
+    ensures left { ranges_left I.left (seen T.rank VC.shown front.old inner.old back.old)
+        ≡ ranges_left I.left (seen T.rank VC.shown result inner.new back.new) }
     ensures full { AreFull (seen T.rank VC.shown result inner.new back.new) }
     ensures front { front.new ≡ None }
-    ensures opens { OpensFirst I.left (seen T.rank VC.shown front.old inner.old back.old) (seen T.rank VC.shown front.new inner.new back.new) }
-    ensures none { IfNone result (ranges_left I.left (seen T.rank VC.shown None inner.new back.new) ≡ []) }
+    ensures opens { OpensFirst I.left (seen T.rank VC.shown front.old inner.old back.old)
+        (seen T.rank VC.shown front.new inner.new back.new) }
+    ensures none { IfNone result (ranges_left I.left (seen T.rank VC.shown None inner.new back.new)
+        ≡ []) }
 {
     if let Some(rest) = front.take() {
         return Some(rest);
@@ -89,7 +94,8 @@ impl<T: Integer, VC: ValueCarrier + Copy, I: SortedDisjointMap<T, VC>> Iterator
     for IterMap<T, VC, I> {
     type Item = (T, VC);
 
-    ghost next_gives = { YieldsOpeningFirst I.left (shown_pair VC.shown) (pairs_left T.of_rank I.left) };
+    ghost next_gives = { YieldsOpeningFirst I.left (shown_pair VC.shown)
+        (pairs_left T.of_rank I.left) };
 
     ghost remaining = { item_count (pairs_left T.of_rank I.left) };
 
@@ -118,11 +124,14 @@ fn take_last<T: Integer, VC: ValueCarrier, I: BothEnds<T, VC>>(
     back: &mut Option<(T, T, VC)>,
 ) -> Option<(T, T, VC)>
     requires { AreFull (seen T.rank VC.shown front.old inner.old back.old) }
-    ensures left { ranges_left I.left (seen T.rank VC.shown front.old inner.old back.old) ≡ ranges_left I.left (seen T.rank VC.shown front.new inner.new result) }
+    ensures left { ranges_left I.left (seen T.rank VC.shown front.old inner.old back.old)
+        ≡ ranges_left I.left (seen T.rank VC.shown front.new inner.new result) }
     ensures full { AreFull (seen T.rank VC.shown front.new inner.new result) }
     ensures back { back.new ≡ None }
-    ensures opens { OpensLast I.left (seen T.rank VC.shown front.old inner.old back.old) (seen T.rank VC.shown front.new inner.new back.new) }
-    ensures none { IfNone result (ranges_left I.left (seen T.rank VC.shown front.new inner.new None) ≡ []) }
+    ensures opens { OpensLast I.left (seen T.rank VC.shown front.old inner.old back.old)
+        (seen T.rank VC.shown front.new inner.new back.new) }
+    ensures none { IfNone result (ranges_left I.left (seen T.rank VC.shown front.new inner.new None)
+        ≡ []) }
 {
     if let Some(rest) = back.take() {
         return Some(rest);
@@ -139,7 +148,8 @@ fn take_last<T: Integer, VC: ValueCarrier, I: BothEnds<T, VC>>(
 
 impl<T: Integer, VC: ValueCarrier + Copy, I: BothEnds<T, VC>> DoubleEndedIterator
     for IterMap<T, VC, I> {
-    ghost next_back_gives = { YieldsOpeningLast I.left (shown_pair VC.shown) (pairs_left T.of_rank I.left) };
+    ghost next_back_gives = { YieldsOpeningLast I.left (shown_pair VC.shown)
+        (pairs_left T.of_rank I.left) };
 
     fn next_back(&mut self) -> Option<(T, VC)> {
         let (lo, hi, value) = take_last(&mut self.front, &mut self.inner, &mut self.back)?;

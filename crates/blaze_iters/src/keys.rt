@@ -3,7 +3,8 @@ ghost use Rattle.std.specs.Prelude.{◌≡◌, None, IfSome, map};
 ghost use Rattle.std.specs.Iterator.{item_count, UpTo};
 ghost use Rattle.std.specs.Iterator.SizeHint.{IsWithinCount};
 ghost use Rattle.blaze_table.specs.Pairs.{pair_list};
-ghost use Rattle.blaze_iters.specs.Left.{RangesLeft, unopened, keys_left, YieldsOpeningFirst, YieldsOpeningLast};
+ghost use Rattle.blaze_iters.specs.Left.{RangesLeft, unopened, keys_left, YieldsOpeningFirst};
+ghost use Rattle.blaze_iters.specs.Left.{YieldsOpeningLast};
 
 use crate::iter_map::IterMap;
 use blaze_int::Integer;
@@ -30,7 +31,8 @@ impl<T: Integer, VC: ValueCarrier + Copy, I: SortedDisjointMap<T, VC>> Keys<T, V
     /// The keys of the ranges that are left of a stream.
     pub fn new(inner: I) -> Self
         ensures unopened { result ≡ unopened inner }
-        ensures keys { keys_left T.of_rank I.left result ≡ map (λ p. p.0) (pair_list T.of_rank (I.left inner)) }
+        ensures keys { keys_left T.of_rank I.left result
+            ≡ map (λ p. p.0) (pair_list T.of_rank (I.left inner)) }
     {
         Keys {
             pairs: IterMap::new(inner),
@@ -42,7 +44,8 @@ impl<'a, T: Integer, V: Eq + Clone> Keys<T, &'a V, RangeValuesIter<'a, T, V>> {
     /// The keys of a table.
     pub fn of_table(table: &'a RangeTable<T, V>) -> Self
         ensures unopened { result ≡ unopened table.now.entries }
-        ensures keys { keys_left T.of_rank (λ es. es) result ≡ map (λ p. p.0) (pair_list T.of_rank table.now.entries) }
+        ensures keys { keys_left T.of_rank (λ es. es) result
+            ≡ map (λ p. p.0) (pair_list T.of_rank table.now.entries) }
     {
         Keys {
             pairs: IterMap::of_table(table),

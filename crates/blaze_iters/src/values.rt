@@ -3,7 +3,8 @@ ghost use Rattle.std.specs.Prelude.{◌≡◌, None, IfSome, map};
 ghost use Rattle.std.specs.Iterator.{item_count, UpTo};
 ghost use Rattle.std.specs.Iterator.SizeHint.{IsWithinCount};
 ghost use Rattle.blaze_table.specs.Pairs.{pair_list};
-ghost use Rattle.blaze_iters.specs.Left.{RangesLeft, unopened, values_left, YieldsOpeningFirst, YieldsOpeningLast};
+ghost use Rattle.blaze_iters.specs.Left.{RangesLeft, unopened, values_left, YieldsOpeningFirst};
+ghost use Rattle.blaze_iters.specs.Left.{YieldsOpeningLast};
 
 use crate::iter_map::IterMap;
 use blaze_int::Integer;
@@ -30,7 +31,8 @@ impl<T: Integer, VC: ValueCarrier + Copy, I: SortedDisjointMap<T, VC>> Values<T,
     /// The values of the ranges that are left of a stream, each once for each key.
     pub fn new(inner: I) -> Self
         ensures unopened { result ≡ unopened inner }
-        ensures values { values_left T.of_rank I.left result ≡ map (λ p. p.1) (pair_list T.of_rank (I.left inner)) }
+        ensures values { values_left T.of_rank I.left result
+            ≡ map (λ p. p.1) (pair_list T.of_rank (I.left inner)) }
     {
         Values {
             pairs: IterMap::new(inner),
@@ -42,7 +44,8 @@ impl<'a, T: Integer, V: Eq + Clone> Values<T, &'a V, RangeValuesIter<'a, T, V>> 
     /// The values of a table, each once for each key.
     pub fn of_table(table: &'a RangeTable<T, V>) -> Self
         ensures unopened { result ≡ unopened table.now.entries }
-        ensures values { values_left T.of_rank (λ es. es) result ≡ map (λ p. p.1) (pair_list T.of_rank table.now.entries) }
+        ensures values { values_left T.of_rank (λ es. es) result
+            ≡ map (λ p. p.1) (pair_list T.of_rank table.now.entries) }
     {
         Values {
             pairs: IterMap::of_table(table),
@@ -65,8 +68,10 @@ impl<T: Integer, VC: ValueCarrier + Copy, I: SortedDisjointMap<T, VC>> Iterator
 
     /// At least as many values are left as the ranges that no call has opened: the lower bound of the stream's.
     fn size_hint(&self) -> (usize, Option<usize>)
-        ensures lower { IsWithinCount result.0 (item_count (values_left T.of_rank I.left) self.now) }
-        ensures upper { IfSome result.1 (UpTo (item_count (values_left T.of_rank I.left) self.now)) }
+        ensures lower { IsWithinCount result.0
+            (item_count (values_left T.of_rank I.left) self.now) }
+        ensures upper { IfSome result.1
+            (UpTo (item_count (values_left T.of_rank I.left) self.now)) }
         ensures hint { result ≡ (I.least self.now.inner, None) }
     {
         self.pairs.size_hint()

@@ -1,11 +1,11 @@
 -- The lists of a slice advanced one after another.
-use Rattle.std.proofs.Common.{◌≡◌, ℕ, ◌+◌, ◌<◌, ℤ, List, [], ◌∷◌, ◌++◌, length, slice_index_or, slice_set, refl, ◌∙◌, sym, subst, ap, append_assoc, arith}
+use Rattle.std.proofs.Common.{◌≡◌, ℕ, ◌+◌, ◌<◌, ℤ, List, [], ◌∷◌, ◌++◌, length, slice_index_or, slice_set, refl, ◌∙◌, sym, ap, append_assoc, arith}
 use Rattle.std.proofs.lemmas.List.{append-nil, length_push}
 use Rattle.std.proofs.lemmas.Grind.{common_steps}
 use Rattle.std.proofs.Math.Seq.{set-append_seam, get_or-append_seam}
 use Rattle.blaze_table.specs.Entries.{Entry}
 use Rattle.blaze_table.specs.Splice.{after}
-use Rattle.blaze_streams.specs.Cursors.{Reaches, AllReach, all_after}
+use Rattle.blaze_streams.specs.Cursors.{all_after}
 
 module _ {A : Type 0} (t : ℤ) where
   length-all_after : (Ls : List (List (Entry A))) → length (all_after t Ls) ≡ length Ls
@@ -23,10 +23,9 @@ module _ {A : Type 0} (t : ℤ) where
     pub whole : all ≡ done ++ todo
     pub partly : now ≡ all_after t done ++ todo
     pub count : length done ≡ i
-    pub reach : AllReach t todo
 
-  pub partly_none : (all : List (List (Entry A))) → AllReach t all → IsPartly all all 0
-  partly_none all r = record { done = []; todo = all; whole = refl; partly = refl; count = refl; reach = r }
+  pub partly_none : (all : List (List (Entry A))) → IsPartly all all 0
+  partly_none all = record { done = []; todo = all; whole = refl; partly = refl; count = refl }
 
   here : (done todo now : List (List (Entry A))) (y d : List (Entry A)) (i : ℕ) → now ≡ all_after t done ++ y ∷ todo → length done ≡ i → slice_index_or now i d ≡ y
   here done todo now y d i p c =
@@ -34,19 +33,12 @@ module _ {A : Type 0} (t : ℤ) where
       ∙ ap (λ n. slice_index_or (all_after t done ++ y ∷ todo) n d) (sym c ∙ sym (length-all_after done))
       ∙ get_or-append_seam (all_after t done) y todo d
 
-  pub partly_reach : (all now : List (List (Entry A))) (i : ℕ) (d : List (Entry A)) → IsPartly all now i → i < length all → Reaches t (slice_index_or now i d)
-  partly_reach all now i d p l = by_todo p.todo p.whole p.partly p.reach
-    where
-      by_todo : (todo : List (List (Entry A))) → all ≡ p.done ++ todo → now ≡ all_after t p.done ++ todo → AllReach t todo → Reaches t (slice_index_or now i d)
-      by_todo [] w q r = let e : length all ≡ length p.done = ap length (w ∙ append-nil p.done) in absurd (omega (arith, e, p.count))
-      by_todo (y ∷ ys) w q r = subst (Reaches t) (sym (here p.done ys now y d i q p.count)) r.0
-
   pub partly_more : (all now : List (List (Entry A))) (i : ℕ) (d z : List (Entry A)) → IsPartly all now i → i < length all → z ≡ after t (slice_index_or now i d) → IsPartly all (slice_set now i z) (i + 1)
-  partly_more all now i d z p l e = by_todo p.todo p.whole p.partly p.reach
+  partly_more all now i d z p l e = by_todo p.todo p.whole p.partly
     where
-      by_todo : (todo : List (List (Entry A))) → all ≡ p.done ++ todo → now ≡ all_after t p.done ++ todo → AllReach t todo → IsPartly all (slice_set now i z) (i + 1)
-      by_todo [] w q r = let u : length all ≡ length p.done = ap length (w ∙ append-nil p.done) in absurd (omega (arith, u, p.count))
-      by_todo (y ∷ ys) w q r = record {
+      by_todo : (todo : List (List (Entry A))) → all ≡ p.done ++ todo → now ≡ all_after t p.done ++ todo → IsPartly all (slice_set now i z) (i + 1)
+      by_todo [] w q = let u : length all ≡ length p.done = ap length (w ∙ append-nil p.done) in absurd (omega (arith, u, p.count))
+      by_todo (y ∷ ys) w q = record {
         done = p.done ++ y ∷ [];
         todo = ys;
         whole = w ∙ sym (append_assoc p.done (y ∷ []) ys);
@@ -57,7 +49,6 @@ module _ {A : Type 0} (t : ℤ) where
             ∙ sym (append_assoc (all_after t p.done) (after t y ∷ []) ys)
             ∙ ap (λ l. l ++ ys) (sym (all_after-append p.done (y ∷ [])));
         count = simp length_push (omega (arith, p.count));
-        reach = r.1;
       }
 
   pub partly_all : (all now : List (List (Entry A))) (i : ℕ) → IsPartly all now i → i ≡ length all → now ≡ all_after t all

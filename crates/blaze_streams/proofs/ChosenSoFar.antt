@@ -1,4 +1,5 @@
 -- What is chosen so far from two streams, and one step more.
+use Rattle.std.specs.Option.{option_or}
 use Rattle.std.proofs.Common.{◌≡◌, ℤ, pos, ◌+ℤ◌, ◌-ℤ◌, ◌≤ℤ◌, ◌<ℤ◌, Bool, List, [], ◌∷◌, Option, Some, None, refl, ◌∙◌, sym, ap, arith, ⊎_elim}
 use Rattle.std.specs.Cmp.{IsEquivalence}
 use Rattle.std.proofs.lemmas.Int.{ints, by_lt_z}
@@ -10,24 +11,21 @@ use Rattle.blaze_table.proofs.Counted.{are_keys_glue}
 use Rattle.blaze_table.proofs.Lookup.{IsAbove, at_in, at_under, at_over}
 use Rattle.blaze_table.proofs.Painted.{glue-nil}
 use Rattle.blaze_table.proofs.Runs.{one_per_run}
-use Rattle.blaze_table.proofs.Splices.{or_else, canonical_glue, at_glue, below_glue, below_more, above_after, at-after_over}
+use Rattle.blaze_table.proofs.Splices.{canonical_glue, at_glue, below_glue, below_more, above_after, at-after_over}
 use Rattle.blaze_table.proofs.Unique.{same_along, same_itself, same_trans}
 use Rattle.blaze_streams.specs.Choosing.{IsTaken, PutsValue, IsChoiceMade}
 use Rattle.blaze_streams.specs.Cursors.{first_key, IsFrom, lesser}
 use Rattle.blaze_streams.proofs.Steady.{same_some, from_first, at_below_from, at-after_under}
 use Rattle.blaze_streams.proofs.Lesser.{at_most_both, at_most_itself, lesser_one, some_lesser}
 
-or_assoc : {V : Type 0} (x y z : Option V) → or_else (or_else x y) z ≡ or_else x (or_else y z)
-unfolding or_else
+or_assoc : {V : Type 0} (x y z : Option V) → option_or (option_or x y) z ≡ option_or x (option_or y z)
 or_assoc None y z = refl
 or_assoc (Some v) y z = refl
 
-none_or : {V : Type 0} (x : Option V) → or_else None x ≡ x
-unfolding or_else
+none_or : {V : Type 0} (x : Option V) → option_or None x ≡ x
 none_or x = refl
 
-or_none : {V : Type 0} (x : Option V) → or_else x None ≡ x
-unfolding or_else
+or_none : {V : Type 0} (x : Option V) → option_or x None ≡ x
 or_none None = refl
 or_none (Some v) = refl
 
@@ -54,15 +52,13 @@ module _ {A B : Type 0} where
   both_from s L R starts = let m = at_most_both (first_key L) (first_key R) s (at_most_itself _ s starts) in (from_first s L m.0, from_first s R m.1)
 
 module _ {V : Type 0} (eq : V → V → Bool) (laws : IsEquivalence eq) where
-  pub same_or_left : (a b z : Option V) → SameOption eq a b → SameOption eq (or_else a z) (or_else b z)
-  unfolding or_else
+  pub same_or_left : (a b z : Option V) → SameOption eq a b → SameOption eq (option_or a z) (option_or b z)
   same_or_left None None z s = same_itself eq laws z
   same_or_left None (Some y) z s = absurd s
   same_or_left (Some x) None z s = absurd s
   same_or_left (Some x) (Some y) z s = s
 
-  same_or_right : (a x y : Option V) → SameOption eq x y → SameOption eq (or_else a x) (or_else a y)
-  unfolding or_else
+  same_or_right : (a x y : Option V) → SameOption eq x y → SameOption eq (option_or a x) (option_or a y)
   same_or_right None x y s = s
   same_or_right (Some v) x y s = laws.refl v
 
@@ -73,12 +69,12 @@ module _ {V : Type 0} (eq : V → V → Bool) (laws : IsEquivalence eq) where
   same_back (Some x) (Some y) s = laws.symm y x ∙ s
 
   -- nothing before what is the same
-  nothing_before : (a b c : Option V) → a ≡ None → b ≡ c → SameOption eq (or_else a b) c
-  nothing_before a b c p q = same_along eq (sym (ap (λ z. or_else z b) p ∙ none_or b ∙ q)) refl (same_itself eq laws c)
+  nothing_before : (a b c : Option V) → a ≡ None → b ≡ c → SameOption eq (option_or a b) c
+  nothing_before a b c p q = same_along eq (sym (ap (λ z. option_or z b) p ∙ none_or b ∙ q)) refl (same_itself eq laws c)
 
   -- nothing after what is the same
-  nothing_after : (a b c : Option V) → b ≡ None → SameOption eq a c → SameOption eq (or_else a b) c
-  nothing_after a b c p s = same_along eq (sym (ap (or_else a) p ∙ or_none a)) refl s
+  nothing_after : (a b c : Option V) → b ≡ None → SameOption eq a c → SameOption eq (option_or a b) c
+  nothing_after a b c p s = same_along eq (sym (ap (option_or a) p ∙ or_none a)) refl s
 
 -- the lesser of two keys, by what the code has in hand
 pub lesser_is : (p q p' q' : Option ℤ) (s : ℤ) → Some s ≡ lesser p q → p ≡ p' → q ≡ q' → lesser p' q' ≡ Some s
@@ -96,7 +92,7 @@ pub record IsChosenSoFar {A B V : Type 0} (eq : V → V → Bool) (low high : �
   pub canonical : IsCanonical eq out
   pub keys : AreKeys low high out
   pub under : (s : ℤ) → lesser (first_key L) (first_key R) ≡ Some s → IsBelow s out
-  pub content : (k : ℤ) → SameOption eq (or_else (at out k) (chosen_at choose L R k)) (chosen_at choose left right k)
+  pub content : (k : ℤ) → SameOption eq (option_or (at out k) (chosen_at choose L R k)) (chosen_at choose left right k)
 
 -- what a step puts behind the list, on the keys from s to t
 record IsPiece {A B V : Type 0} (eq : V → V → Bool) (low high : ℤ) (choose : Option A → Option B → Option V) (L L' : List (Entry A)) (R R' : List (Entry B)) (s t : ℤ) (piece : List (Entry V)) : Type 0 where
@@ -104,7 +100,7 @@ record IsPiece {A B V : Type 0} (eq : V → V → Bool) (low high : ℤ) (choose
   pub keys : AreKeys low high piece
   pub above : IsAbove (s -ℤ pos 1) piece
   pub below : IsBelow (t +ℤ pos 1) piece
-  pub content : (k : ℤ) → SameOption eq (or_else (at piece k) (chosen_at choose L' R' k)) (chosen_at choose L R k)
+  pub content : (k : ℤ) → SameOption eq (option_or (at piece k) (chosen_at choose L' R' k)) (chosen_at choose L R k)
 
 module _ {A B V : Type 0} (eq : V → V → Bool) (laws : IsEquivalence eq) (low high : ℤ) (choose : Option A → Option B → Option V) where
   pub chosen_none : (L : List (Entry A)) (R : List (Entry B)) → IsChosenSoFar eq low high choose L R L R []
@@ -121,7 +117,7 @@ module _ {A B V : Type 0} (eq : V → V → Bool) (laws : IsEquivalence eq) (low
       let n = no_first (first_key L) (first_key R) f in
       record {
         range_map = record { runs = one_per_run eq laws out c.canonical; keys = c.keys };
-        content = λ k. same_along eq (ap (or_else (at out k)) (ap (λ x. choose x (at R k)) (none_there L k n.0) ∙ ap (choose None) (none_there R k n.1) ∙ nothing) ∙ or_none (at out k)) refl (c.content k);
+        content = λ k. same_along eq (ap (option_or (at out k)) (ap (λ x. choose x (at R k)) (none_there L k n.0) ∙ ap (choose None) (none_there R k n.1) ∙ nothing) ∙ or_none (at out k)) refl (c.content k);
       }
 
   module _ (eqa : A → A → Bool) (eqb : B → B → Bool) (nothing : choose None None ≡ None) (L L' : List (Entry A)) (R R' : List (Entry B)) (s t : ℤ) (value : Option V) (ca : IsCanonical eqa L) (cb : IsCanonical eqb R) (starts : lesser (first_key L) (first_key R) ≡ Some s) (taken : IsTaken eq choose s L L' R R' t value) where
@@ -140,7 +136,7 @@ module _ {A B V : Type 0} (eq : V → V → Bool) (laws : IsEquivalence eq) (low
 
     -- a piece has on the keys from s to t what is chosen at s, and nothing elsewhere
     piece_content : (piece : List (Entry V)) → ((k : ℤ) → k <ℤ s → at piece k ≡ None) → ((k : ℤ) → t <ℤ k → at piece k ≡ None) → ((k : ℤ) → s ≤ℤ k → k ≤ℤ t → SameOption eq (at piece k) (chosen_at choose L R s))
-        → (k : ℤ) → SameOption eq (or_else (at piece k) (chosen_at choose L' R' k)) (chosen_at choose L R k)
+        → (k : ℤ) → SameOption eq (option_or (at piece k) (chosen_at choose L' R' k)) (chosen_at choose L R k)
     piece_content piece under over here k = by_lt_z k s
         (λ l. nothing_before eq laws (at piece k) _ (chosen_at choose L R k) (under k l) (none_after k (omega (arith, ints, taken.order)) ∙ sym (none_under k l)))
         (λ l. by_lt_z t k
@@ -187,11 +183,11 @@ module _ {A B V : Type 0} (eq : V → V → Bool) (laws : IsEquivalence eq) (low
               (lesser_one (first_key L') (first_key R') r f) in
               below_more (t +ℤ pos 1) r (glue eq out piece) (omega (arith, ints)) below;
           content = λ k. let rest = chosen_at choose L' R' k in
-              same_trans eq laws _ (or_else (or_else (at out k) (at piece k)) rest) _
-              (same_or_left eq laws (at (glue eq out piece) k) (or_else (at out k) (at piece k)) rest (at_glue eq laws out piece k c.canonical p.canonical))
+              same_trans eq laws _ (option_or (option_or (at out k) (at piece k)) rest) _
+              (same_or_left eq laws (at (glue eq out piece) k) (option_or (at out k) (at piece k)) rest (at_glue eq laws out piece k c.canonical p.canonical))
               (same_along eq (sym (or_assoc (at out k) (at piece k) rest)) refl
-              (same_trans eq laws _ (or_else (at out k) (chosen_at choose L R k)) _
-              (same_or_right eq laws (at out k) (or_else (at piece k) rest) (chosen_at choose L R k) (p.content k)) (c.content k)));
+              (same_trans eq laws _ (option_or (at out k) (chosen_at choose L R k)) _
+              (same_or_right eq laws (at out k) (option_or (at piece k) rest) (chosen_at choose L R k) (p.content k)) (c.content k)));
         }
 
     -- one step more

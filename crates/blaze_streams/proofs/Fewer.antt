@@ -7,15 +7,15 @@ use Rattle.blaze_table.specs.Splice.{after}
 use Rattle.blaze_table.proofs.Splices.{after_keeps}
 use Rattle.blaze_streams.specs.Choosing.{IsChoiceMade}
 use Rattle.blaze_streams.specs.Cursors.{first_key, lesser}
-use Rattle.blaze_streams.proofs.KeysLeft.{keys_left, all_less}
+use Rattle.blaze_streams.proofs.LengthsLeft.{lengths_left, all_less}
 use Rattle.blaze_streams.proofs.Lesser.{lesser_one}
 
 module _ {A : Type 0} (eq : A → A → Bool) (t : ℤ) where
-  less : (s : ℤ) (es : List (Entry A)) → IsCanonical eq es → s ≤ℤ t → first_key es ≡ Some s → keys_left (after t es) < keys_left es
+  less : (s : ℤ) (es : List (Entry A)) → IsCanonical eq es → s ≤ℤ t → first_key es ≡ Some s → lengths_left (after t es) < lengths_left es
   less s [] c w f = cc
   less s (e ∷ es) c w f = omega (arith, all_less eq s t ((e ∷ es) ∷ []) (c, tt) w f)
 
-  fewer : (es : List (Entry A)) → IsCanonical eq es → keys_left (after t es) ≤ keys_left es
+  fewer : (es : List (Entry A)) → IsCanonical eq es → lengths_left (after t es) ≤ lengths_left es
   fewer [] c = omega arith
   fewer (e ∷ es) c = by_lt_z t e.lo
       (λ l. rw (after_keeps t e es (omega (arith, ints, c.0)) l) (omega arith))
@@ -23,13 +23,13 @@ module _ {A : Type 0} (eq : A → A → Bool) (t : ℤ) where
 
 -- of two lists, of which at least one has the key s, fewer keys are left above a key from s on
 pub both_less : {A B : Type 0} (eqa : A → A → Bool) (eqb : B → B → Bool) (s t : ℤ) (L : List (Entry A)) (R : List (Entry B))
-    → IsCanonical eqa L → IsCanonical eqb R → lesser (first_key L) (first_key R) ≡ Some s → s ≤ℤ t → keys_left (after t L) + keys_left (after t R) < keys_left L + keys_left R
+    → IsCanonical eqa L → IsCanonical eqb R → lesser (first_key L) (first_key R) ≡ Some s → s ≤ℤ t → lengths_left (after t L) + lengths_left (after t R) < lengths_left L + lengths_left R
 both_less eqa eqb s t L R ca cb starts order = ⊎_elim
     (λ e. omega (arith, less eqa t s L ca order e, fewer eqb t R cb))
     (λ e. omega (arith, less eqb t s R cb order e, fewer eqa t L ca))
     (lesser_one (first_key L) (first_key R) s starts)
 
 pub step_less : {A B V : Type 0} (eqa : A → A → Bool) (eqb : B → B → Bool) (eq : V → V → Bool) (low high : ℤ) (choose : Option A → Option B → Option V) (s : ℤ) (L L' : List (Entry A)) (R R' : List (Entry B)) (out new : List (Entry V))
-    → IsCanonical eqa L → IsCanonical eqb R → lesser (first_key L) (first_key R) ≡ Some s → IsChoiceMade eq low high choose s L L' R R' out new → keys_left L' + keys_left R' < keys_left L + keys_left R
+    → IsCanonical eqa L → IsCanonical eqb R → lesser (first_key L) (first_key R) ≡ Some s → IsChoiceMade eq low high choose s L L' R R' out new → lengths_left L' + lengths_left R' < lengths_left L + lengths_left R
 step_less eqa eqb eq low high choose s L L' R R' out new ca cb starts m =
     rw (m.taken.left_is, m.taken.right_is) (both_less eqa eqb s m.end L R ca cb starts m.taken.order)

@@ -1,6 +1,6 @@
 -- The segments that were found so far, and one more.
 use Rattle.std.proofs.Common.{◌≡◌, ℕ, ◌<◌, ℤ, pos, ◌+ℤ◌, ◌≤ℤ◌, ◌<ℤ◌, Bool, true, false, cond, nat_eq, List, [], ◌∷◌, ◌++◌, Option, Some, None, refl, ◌∙◌, sym, ap, arith, ⊎_elim}
-use Rattle.std.specs.Option.{option_eq, is_some}
+use Rattle.std.specs.Option.{option_eq, is_some, option_or}
 use Rattle.std.specs.List.{list_any}
 use Rattle.std.specs.Cmp.{IsEquivalence, first_so, second_so, nat_eq_equiv}
 use Rattle.std.specs.Cmp.Lexicographic.{lists_equiv, options_equiv}
@@ -8,18 +8,17 @@ use Rattle.std.proofs.lemmas.Bool.{false_from_ne_true}
 use Rattle.std.proofs.lemmas.Int.{ints}
 use Rattle.blaze_table.specs.Entries.{Entry, holds, at, SameOption}
 use Rattle.blaze_table.specs.Canonical.{IsCanonical}
-use Rattle.blaze_table.specs.Painted.{or_else}
 use Rattle.blaze_table.specs.Splice.{IsBelow}
 use Rattle.blaze_table.proofs.Lookup.{at_in, at_under, at_over, by_place}
 use Rattle.blaze_table.proofs.Unique.{same_along}
 use Rattle.blaze_table.proofs.Runs.{one_per_run}
 use Rattle.blaze_table.proofs.Glued.{IsBelow-push}
 use Rattle.blaze_table.proofs.Splices.{below_more}
-use Rattle.blaze_streams.specs.declared.list_segments.Segment.{Segment}
+use Rattle.blaze_streams.specs.declared.segmenting.list_segments.Segment.{Segment}
 use Rattle.blaze_streams.specs.Segments.{row, present, row_eq, entry_of, entries_of, IsSegmentsOf}
 use Rattle.blaze_streams.specs.Cursors.{AllCanonical, first_keys, all_after, IsNextSegment}
 use Rattle.blaze_streams.proofs.Steady.{changes}
-use Rattle.blaze_streams.proofs.KeysLeft.{all_keys_left, all_less}
+use Rattle.blaze_streams.proofs.LengthsLeft.{all_lengths_left, all_less}
 use Rattle.blaze_streams.proofs.Rows.{AnyStops, IsFirstSegment, is_first, rows_low, rows_under, rows_over, firsts_after, none_left, all_canonical_after}
 
 pub entries_more : {T : Type 0} (rank : T → ℤ) (new old : List (Segment T)) (s : Segment T) → new ≡ old ++ s ∷ [] → entries_of rank new ≡ entries_of rank old ++ entry_of rank s ∷ []
@@ -29,19 +28,19 @@ entries_more {T} rank new old s e = ap (entries_of rank) e ∙ pushed old
     pushed [] = refl
     pushed (x ∷ xs) = ap (λ l. entry_of rank x ∷ l) (pushed xs)
 
-pub at_push : {V : Type 0} (P : List (Entry V)) (p : Entry V) (k : ℤ) → at (P ++ p ∷ []) k ≡ or_else (at P k) (at (p ∷ []) k)
+pub at_push : {V : Type 0} (P : List (Entry V)) (p : Entry V) (k : ℤ) → at (P ++ p ∷ []) k ≡ option_or (at P k) (at (p ∷ []) k)
 at_push [] p k = refl
 at_push (e ∷ es) p k = either (holds e k) e.value (at (es ++ p ∷ []) k) (at es k) (at (p ∷ []) k) (at_push es p k)
   where
-    either : {V : Type 0} (b : Bool) (v : V) (x y z : Option V) → x ≡ or_else y z → cond b (Some v) x ≡ or_else (cond b (Some v) y) z
+    either : {V : Type 0} (b : Bool) (v : V) (x y z : Option V) → x ≡ option_or y z → cond b (Some v) x ≡ option_or (cond b (Some v) y) z
     either true v x y z e = refl
     either false v x y z e = e
 
-pub or_assoc : {V : Type 0} (x y z : Option V) → or_else (or_else x y) z ≡ or_else x (or_else y z)
+pub or_assoc : {V : Type 0} (x y z : Option V) → option_or (option_or x y) z ≡ option_or x (option_or y z)
 or_assoc None y z = refl
 or_assoc (Some v) y z = refl
 
-pub or_none : {V : Type 0} (x : Option V) → or_else x None ≡ x
+pub or_none : {V : Type 0} (x : Option V) → option_or x None ≡ x
 or_none None = refl
 or_none (Some v) = refl
 
@@ -77,13 +76,13 @@ module _ {A : Type 0} where
 
   module _ (eq : A → A → Bool) where
     -- what a segment takes off
-    next_present : (Ls : List (List (Entry A))) (p : Entry (List (Option A))) (k : ℤ) → AllCanonical eq Ls → IsFirstSegment Ls p → present (row Ls k) ≡ or_else (at (p ∷ []) k) (present (row (all_after p.hi Ls) k))
+    next_present : (Ls : List (List (Entry A))) (p : Entry (List (Option A))) (k : ℤ) → AllCanonical eq Ls → IsFirstSegment Ls p → present (row Ls k) ≡ option_or (at (p ∷ []) k) (present (row (all_after p.hi Ls) k))
     next_present Ls p k c n = by_place p k
-        (λ l h. ap present (n.steady k l h) ∙ there p.value n.some ∙ ap (λ z. or_else z (present (row (all_after p.hi Ls) k))) (sym (at_in p [] k l h)))
+        (λ l h. ap present (n.steady k l h) ∙ there p.value n.some ∙ ap (λ z. option_or z (present (row (all_after p.hi Ls) k))) (sym (at_in p [] k l h)))
         (λ l. absent (row Ls k) (rows_low eq Ls p.lo k c n.from l)
         ∙ sym (absent (row (all_after p.hi Ls) k) (rows_under eq p.hi k Ls c (omega (arith, ints, n.full))))
-        ∙ ap (λ z. or_else z (present (row (all_after p.hi Ls) k))) (sym (at_under p [] k l)))
-        (λ h. ap present (sym (rows_over eq p.hi k Ls c h)) ∙ ap (λ z. or_else z (present (row (all_after p.hi Ls) k))) (sym (at_over p [] k h)))
+        ∙ ap (λ z. option_or z (present (row (all_after p.hi Ls) k))) (sym (at_under p [] k l)))
+        (λ h. ap present (sym (rows_over eq p.hi k Ls c h)) ∙ ap (λ z. option_or z (present (row (all_after p.hi Ls) k))) (sym (at_over p [] k h)))
 
     no_change : (laws : IsEquivalence eq) (t : ℤ) (Ls : List (List (Entry A))) → AllCanonical eq Ls → AnyStops t Ls → row_eq eq (row Ls t) (row Ls (t +ℤ pos 1)) ≡ true → ⊥
     no_change laws t [] c s e = s
@@ -104,7 +103,7 @@ module _ {A : Type 0} where
       pub left : AllCanonical eq Ls
       pub canonical : IsCanonical (row_eq eq) out
       pub under : (s : ℤ) → first_keys Ls ≡ Some s → IsBelow s out
-      pub content : (k : ℤ) → present (row lists k) ≡ or_else (at out k) (present (row Ls k))
+      pub content : (k : ℤ) → present (row lists k) ≡ option_or (at out k) (present (row Ls k))
       pub apart : EndsApart (row_eq eq) out (λ k. present (row Ls k))
 
     pub found_none : (lists : List (List (Entry A))) → AllCanonical eq lists → IsFound lists [] lists
@@ -128,19 +127,19 @@ module _ {A : Type 0} where
             left = all_canonical_after eq p.hi Ls s.left;
             canonical = canonical_push (row_eq eq) out p (λ k. present (row Ls k)) s.canonical below n.full s.apart here;
             under = λ t f. let u = firsts_after p.hi t Ls f in IsBelow-push t out p (below_more p.lo t out (omega (arith, ints, n.full)) below) u;
-            content = λ k. s.content k ∙ ap (or_else (at out k)) (next_present Ls p k s.left n) ∙ sym (or_assoc (at out k) (at (p ∷ []) k) (rest k)) ∙ ap (λ z. or_else z (rest k)) (sym (at_push out p k));
+            content = λ k. s.content k ∙ ap (option_or (at out k)) (next_present Ls p k s.left n) ∙ sym (or_assoc (at out k) (at (p ∷ []) k) (rest k)) ∙ ap (λ z. option_or z (rest k)) (sym (at_push out p k));
             apart = apart_push (row_eq eq) out p rest (next_apart s.left n);
           }
 
       pub found_more : (new : List (Entry (List (Option A)))) (Ls' : List (List (Entry A))) → IsFound lists out Ls → IsNextSegment Ls p Ls' → new ≡ out ++ p ∷ [] → IsFound lists new Ls'
       found_more new Ls' s n e = rw (e, n.left) (found_push s (s.under p.lo n.starts) (is_first eq Ls Ls' p s.left n))
 
-    pub next_less : (Ls Ls' : List (List (Entry A))) (p : Entry (List (Option A))) → AllCanonical eq Ls → IsNextSegment Ls p Ls' → all_keys_left Ls' < all_keys_left Ls
+    pub next_less : (Ls Ls' : List (List (Entry A))) (p : Entry (List (Option A))) → AllCanonical eq Ls → IsNextSegment Ls p Ls' → all_lengths_left Ls' < all_lengths_left Ls
     next_less Ls Ls' p c n = rw n.left (all_less eq p.lo p.hi Ls c (is_first eq Ls Ls' p c n).full n.starts)
 
 -- with no key left, all segments are found
 pub found_all : (lists Ls : List (List (Entry ℕ))) (out : List (Entry (List (Option ℕ)))) → IsFound nat_eq lists out Ls → first_keys Ls ≡ None → IsSegmentsOf nat_eq lists out
 found_all lists Ls out s f = record {
   runs = one_per_run (row_eq nat_eq) (lists_equiv (options_equiv nat_eq_equiv)) out s.canonical;
-  content = λ k. sym (s.content k ∙ ap (or_else (at out k)) (absent (row Ls k) (none_left Ls k f)) ∙ or_none (at out k));
+  content = λ k. sym (s.content k ∙ ap (option_or (at out k)) (absent (row Ls k) (none_left Ls k f)) ∙ or_none (at out k));
 }

@@ -10,7 +10,7 @@ use Rattle.blaze_table.proofs.Lookup.{IsAbove-from_apart, at_in, at_over, at_bef
 use Rattle.blaze_table.proofs.Unique.{same_itself}
 use Rattle.std.proofs.lemmas.Int.{ints, by_lt_z}
 use Rattle.blaze_table.proofs.Runs.{canonical, one_per_run}
-use Rattle.blaze_streams.specs.declared.joins.JoinKind.TheVariants.{Inner, Left, Full}
+use Rattle.blaze_streams.specs.declared.segmenting.joins.JoinKind.TheVariants.{Inner, Left, Full}
 use Rattle.blaze_streams.specs.Answers.{answered}
 use Rattle.blaze_streams.specs.JoinLaws.{as_row, AnswersKeepKeys, LeftJoinHasLeftKeys, FullJoinIsOfListOfTwo, FullJoinIsInner}
 use Rattle.blaze_streams.specs.Joins.{paired, pair_eq}
@@ -42,6 +42,18 @@ left_there (Some v) y = refl
 pub left_join_has_left_keys : {A B : Type 0} (eqa : A → A → Bool) (eqb : B → B → Bool) (low high : ℤ) → LeftJoinHasLeftKeys eqa eqb low high
 left_join_has_left_keys eqa eqb low high left right segments j k = ap is_some (j.content k) ∙ left_there (at left k) (at right k)
 
+module _ {A : Type 0} where
+  abbrev pub as_list : Option A × Option A → List (Option A)
+  as_list p = p.0 ∷ p.1 ∷ []
+
+  either_row : (b : Bool) (v : Option A × Option A) (x : Option (Option A × Option A)) (y : Option (List (Option A))) → y ≡ option_map as_list x → cond b (Some (as_list v)) y ≡ option_map as_list (cond b (Some v) x)
+  either_row true v x y p = refl
+  either_row false v x y p = p
+
+  pub at_rows : (es : List (Entry (Option A × Option A))) (k : ℤ) → at (map as_row es) k ≡ option_map as_list (at es k)
+  at_rows [] k = refl
+  at_rows (e ∷ es) k = either_row (holds e k) e.value (at es k) (at (map as_row es) k) (at_rows es k)
+
 module _ {A : Type 0} (eq : A → A → Bool) where
   and_true : (a b : Bool) → (a && (b && true)) ≡ (a && b)
   and_true true true = refl
@@ -52,20 +64,9 @@ module _ {A : Type 0} (eq : A → A → Bool) where
   apart_rows e [] a = tt
   apart_rows e (f ∷ fs) a = (a.0, λ p. and_true (option_eq eq e.value.0 f.value.0) (option_eq eq e.value.1 f.value.1) ∙ a.1 p)
 
-  canonical_rows : (es : List (Entry (Option A × Option A))) → IsCanonical (pair_eq eq eq) es → IsCanonical (row_eq eq) (map as_row es)
+  pub canonical_rows : (es : List (Entry (Option A × Option A))) → IsCanonical (pair_eq eq eq) es → IsCanonical (row_eq eq) (map as_row es)
   canonical_rows [] c = tt
   canonical_rows (e ∷ es) c = (c.0, apart_rows e es c.1, canonical_rows es c.2)
-
-  abbrev as_list : Option A × Option A → List (Option A)
-  as_list p = p.0 ∷ p.1 ∷ []
-
-  either_row : (b : Bool) (v : Option A × Option A) (x : Option (Option A × Option A)) (y : Option (List (Option A))) → y ≡ option_map as_list x → cond b (Some (as_list v)) y ≡ option_map as_list (cond b (Some v) x)
-  either_row true v x y p = refl
-  either_row false v x y p = p
-
-  at_rows : (es : List (Entry (Option A × Option A))) (k : ℤ) → at (map as_row es) k ≡ option_map as_list (at es k)
-  at_rows [] k = refl
-  at_rows (e ∷ es) k = either_row (holds e k) e.value (at es k) (at (map as_row es) k) (at_rows es k)
 
   present_pair : (x y : Option A) → option_map as_list (paired Full x y) ≡ present (x ∷ y ∷ [])
   present_pair None None = refl

@@ -10,7 +10,7 @@ use Rattle.blaze_table.specs.Canonical.{IsApart, IsCanonical, AreKeys, IsRangeMa
 use Rattle.blaze_table.proofs.Lookup.{IsAbove, IsAbove-from_apart}
 use Rattle.blaze_table.proofs.Runs.{canonical, one_per_run}
 use Rattle.blaze_table.specs.RangeSets.{unit_eq, IsRangeSet}
-use Rattle.blaze_streams.specs.KeyRanges.{AreKeyRanges, joined, joined_left}
+use Rattle.blaze_streams.specs.KeyRanges.{AreKeyRanges, TakesEnds, joined, joined_left}
 use Rattle.blaze_table.proofs.Parts.{IsRangeMap-rest}
 use Rattle.blaze_table.proofs.UnitLaws.{unit_laws}
 
@@ -87,11 +87,9 @@ module _ {V : Type 0} (eq : V → V → Bool) (laws : IsEquivalence eq) (low hig
   no_key_ranges = record { range_set = record { runs = one_per_run unit_eq unit_laws [] tt; keys = tt }; same_keys = λ k. refl }
 
   -- what is left once the first entry was taken
-  pub left_from : {T : Type 0} (rank : T → ℤ) (p : T × T) (v : V) (es rest : List (Entry V)) (first : Option (T × T)) → IsRangeMap eq low high es → es ≡ entry (rank p.0) (rank p.1) v ∷ rest → first ≡ Some p → AreKeyRanges low high es (joined_left rank first rest)
-  left_from rank p v es rest first m e o = rw (o, e) (key_ranges (entry (rank p.0) (rank p.1) v) rest (rw e at m))
-
-  pub left_none : {T : Type 0} (rank : T → ℤ) (es rest : List (Entry V)) (first : Option (T × T)) → es ≡ [] → first ≡ None → AreKeyRanges low high es (joined_left rank first rest)
-  left_none rank es rest first e o = rw (o, e) no_key_ranges
+  pub left_of : {T : Type 0} (rank : T → ℤ) (first : Option (T × T)) (es rest : List (Entry V)) → IsRangeMap eq low high es → TakesEnds rank first es rest → AreKeyRanges low high es (joined_left rank first rest)
+  left_of rank None es rest m t = rw t.0 no_key_ranges
+  left_of rank (Some p) es rest m t = rw t.1 (key_ranges (entry (rank p.0) (rank p.1) t.0) rest (rw t.1 at m))
 
 -- what is left after a range that the next entry does not go on with
 pub after_gap : {V : Type 0} (low high lo hi : ℤ) (e : Entry V) (es rest : List (Entry V)) (old : List (Entry (Unit {0}))) → IsRangeSet low high old → joined lo hi es ≡ old → es ≡ e ∷ rest → int_eq e.lo (hi +ℤ pos 1) ≡ false → IsRangeSet low high (joined e.lo e.hi rest)

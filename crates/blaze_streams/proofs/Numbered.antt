@@ -1,12 +1,21 @@
 -- Lists of ranges that are in order are canonical with their places as values, also where they touch.
-use Rattle.std.proofs.Common.{◌≡◌, ℕ, ◌+◌, ℤ, false, nat_eq, List, [], ◌∷◌, arith}
+use Rattle.std.proofs.Common.{◌≡◌, ℕ, ◌+◌, ℤ, ◌≤ℤ◌, false, nat_eq, List, [], ◌∷◌, ◌++◌, drop, ◌∙◌, sym, ap, subst, append_assoc, arith}
+use Rattle.std.proofs.lemmas.List.{map-append}
+use Rattle.std.specs.declared.ops.RangeInclusive.{RangeInclusive}
 use Rattle.std.specs.Cmp.{nat_eq_equiv}
 use Rattle.std.specs.Global.{Vec}
-use Rattle.blaze_table.specs.Entries.{entry}
-use Rattle.blaze_table.specs.Canonical.{IsCanonical, IsDisjoint, IsAscending}
+use Rattle.blaze_table.specs.Entries.{Entry, entry}
+use Rattle.blaze_table.specs.Canonical.{IsCanonical, IsDisjoint, IsAscending, AreKeys}
 use Rattle.blaze_table.proofs.Runs.{in_order}
 use Rattle.blaze_streams.specs.Segments.{numbered, all_numbered, AreInOrder}
 use Rattle.blaze_streams.specs.Cursors.{AllCanonical}
+use Rattle.blaze_streams.specs.RangeLists.{shown_ranges}
+use Rattle.blaze_streams.specs.Ranges.{shown_range}
+
+-- a range among the keys behind a list
+pub keys_push : {A : Type 0} (low high : ℤ) (es : List (Entry A)) (e : Entry A) → AreKeys low high es → low ≤ℤ e.lo → e.hi ≤ℤ high → AreKeys low high (es ++ e ∷ [])
+keys_push low high [] e k l h = (l, h, tt)
+keys_push low high (x ∷ xs) e k l h = (k.0, k.1, keys_push low high xs e k.2 l h)
 
 module _ {T : Type 0} (rank : T → ℤ) where
   next_differs : (i : ℕ) → nat_eq i (i + 1) ≡ false
@@ -20,3 +29,21 @@ module _ {T : Type 0} (rank : T → ℤ) where
   pub all_canonical : (vs : List (Vec (T × T))) → AreInOrder (all_numbered rank vs) → AllCanonical nat_eq (all_numbered rank vs)
   all_canonical [] o = tt
   all_canonical (v ∷ vs) o = (numbered_canonical 0 v.items o.0 o.1, all_canonical vs o.2)
+
+  -- one range more with its place
+  pub placed_more : (all : List (T × T)) (i : ℕ) (r : T × T) (found new : List (RangeInclusive T × ℕ)) (p : RangeInclusive T × ℕ) → new ≡ found ++ p ∷ [] → shown_range rank (λ j. j) p ≡ entry (rank r.0) (rank r.1) i → drop i all ≡ r ∷ drop (i + 1) all → shown_ranges rank (λ j. j) found ++ numbered rank i (drop i all) ≡ numbered rank 0 all → shown_ranges rank (λ j. j) new ++ numbered rank (i + 1) (drop (i + 1) all) ≡ numbered rank 0 all
+  placed_more all i r found new p n s d h =
+      let rest = numbered rank (i + 1) (drop (i + 1) all) in
+      let seen = shown_ranges rank (λ j. j) found in
+      ap (λ xs. shown_ranges rank (λ j. j) xs ++ rest) n
+      ∙ ap (λ es. es ++ rest) (map-append (shown_range rank (λ j. j)) found (p ∷ []))
+      ∙ append_assoc seen (shown_range rank (λ j. j) p ∷ []) rest
+      ∙ ap (λ e. seen ++ e ∷ rest) s
+      ∙ ap (λ rs. seen ++ numbered rank i rs) (sym d)
+      ∙ h
+
+  pub keys_more : (low high : ℤ) (r : T × T) (found new : List (RangeInclusive T × ℕ)) (p : RangeInclusive T × ℕ) (i : ℕ) → new ≡ found ++ p ∷ [] → shown_range rank (λ j. j) p ≡ entry (rank r.0) (rank r.1) i → low ≤ℤ rank r.0 → rank r.1 ≤ℤ high → AreKeys low high (shown_ranges rank (λ j. j) found) → AreKeys low high (shown_ranges rank (λ j. j) new)
+  keys_more low high r found new p i n s l h k =
+      let seen = shown_ranges rank (λ j. j) in
+      subst (AreKeys low high) (sym (ap seen n ∙ map-append (shown_range rank (λ j. j)) found (p ∷ []) ∙ ap (λ e. seen found ++ e ∷ []) s))
+      (keys_push low high (seen found) (entry (rank r.0) (rank r.1) i) k l h)

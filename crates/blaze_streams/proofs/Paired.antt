@@ -1,6 +1,6 @@
 -- The segments of two lists that were found so far, and one more.
 use Rattle.std.proofs.Common.{◌≡◌, ◌+◌, ◌<◌, ℤ, pos, ◌+ℤ◌, ◌≤ℤ◌, ◌<ℤ◌, Bool, true, false, ◌&&◌, cond, List, [], ◌∷◌, ◌++◌, Option, Some, None, refl, ◌∙◌, sym, ap, subst, arith, ⊎_elim}
-use Rattle.std.specs.Option.{option_eq}
+use Rattle.std.specs.Option.{option_eq, option_or}
 use Rattle.std.specs.Cmp.{IsEquivalence, first_so, second_so}
 use Rattle.std.specs.Cmp.Lexicographic.{options_equiv}
 use Rattle.std.proofs.lemmas.Cmp.{and_equiv, on_equiv}
@@ -8,21 +8,20 @@ use Rattle.std.proofs.lemmas.Int.{ints, by_lt_z}
 use Rattle.std.proofs.lemmas.List.{append-nil}
 use Rattle.blaze_table.specs.Entries.{Entry, entry, at, SameOption}
 use Rattle.blaze_table.specs.Canonical.{IsCanonical, AreKeys}
-use Rattle.blaze_table.specs.Painted.{or_else}
 use Rattle.blaze_table.specs.Splice.{IsBelow, after}
 use Rattle.blaze_table.proofs.Glued.{IsBelow-push}
 use Rattle.blaze_table.proofs.Lookup.{IsAbove-from_apart, at_in, at_under, at_over, at_before}
 use Rattle.blaze_table.proofs.Runs.{canonical, one_per_run}
 use Rattle.blaze_table.proofs.Splices.{below_more, at-after_over}
-use Rattle.blaze_streams.specs.declared.joins.JoinKind.{JoinKind}
-use Rattle.blaze_streams.specs.declared.joins.JoinKind.TheVariants.{Inner, Left, Full}
+use Rattle.blaze_streams.specs.declared.segmenting.joins.JoinKind.{JoinKind}
+use Rattle.blaze_streams.specs.declared.segmenting.joins.JoinKind.TheVariants.{Inner, Left, Full}
 use Rattle.blaze_streams.specs.Cursors.{first_key, steady_to, lesser}
 use Rattle.blaze_streams.specs.Joins.{is_joined, paired, pair_eq, IsJoinOf, piece_of, IsSegmentPut}
 use Rattle.blaze_streams.specs.JoinAnswers.{AllJoined}
 use Rattle.blaze_streams.proofs.ChosenSoFar.{both_from, none_there, no_first, first_above}
 use Rattle.blaze_streams.proofs.Fewer.{both_less}
 use Rattle.blaze_streams.proofs.FoundSegments.{at_push, or_assoc, or_none, option_same, EndsApart, canonical_push, apart_push}
-use Rattle.blaze_streams.proofs.KeysLeft.{keys_left}
+use Rattle.blaze_streams.proofs.LengthsLeft.{lengths_left}
 use Rattle.blaze_streams.proofs.Lesser.{at_most_both, at_most_itself, lesser_one}
 use Rattle.blaze_streams.proofs.Steady.{AtMost, at_below_from, at-after_under, steady, steady_far, stops_steady, changes}
 
@@ -60,7 +59,7 @@ module _ {A B : Type 0} (eqa : A → A → Bool) (eqb : B → B → Bool) (low h
     pub canonical : IsCanonical (pair_eq eqa eqb) out
     pub keys : AreKeys low high out
     pub under : (s : ℤ) → lesser (first_key L) (first_key R) ≡ Some s → IsBelow s out
-    pub content : (k : ℤ) → pair_at kind left right k ≡ or_else (at out k) (pair_at kind L R k)
+    pub content : (k : ℤ) → pair_at kind left right k ≡ option_or (at out k) (pair_at kind L R k)
     pub apart : EndsApart (pair_eq eqa eqb) out (pair_at kind L R)
 
   pub paired_none : (L : List (Entry A)) (R : List (Entry B)) → IsPairedSoFar L R L R []
@@ -100,7 +99,7 @@ module _ {A B : Type 0} (eqa : A → A → Bool) (eqb : B → B → Bool) (low h
         (lesser_one (steady_to s L) (steady_to s R) t ends)
 
     -- what a segment takes off
-    next_pair : (p : Option (Option A × Option B)) → pair_at kind L R t ≡ p → (k : ℤ) → pair_at kind L R k ≡ or_else (at (piece_of s t p) k) (pair_at kind (after t L) (after t R) k)
+    next_pair : (p : Option (Option A × Option B)) → pair_at kind L R t ≡ p → (k : ℤ) → pair_at kind L R k ≡ option_or (at (piece_of s t p) k) (pair_at kind (after t L) (after t R) k)
     next_pair None e k = by_lt_z t k
         (λ h. sym (same_over k h))
         (λ h. by_lt_z k s
@@ -110,10 +109,10 @@ module _ {A B : Type 0} (eqa : A → A → Bool) (eqb : B → B → Bool) (low h
         let f = entry s t v in
         let rest = pair_at kind (after t L) (after t R) k in
         by_lt_z t k
-        (λ h. sym (same_over k h) ∙ ap (λ z. or_else z rest) (sym (at_over f [] k h)))
+        (λ h. sym (same_over k h) ∙ ap (λ z. option_or z rest) (sym (at_over f [] k h)))
         (λ h. by_lt_z k s
-        (λ l. none_under k l ∙ sym (none_after k h) ∙ ap (λ z. or_else z rest) (sym (at_under f [] k l)))
-        (λ l. same_from k l h ∙ sym (same_from t in_order (omega (arith, ints))) ∙ e ∙ ap (λ z. or_else z rest) (sym (at_in f [] k l h))))
+        (λ l. none_under k l ∙ sym (none_after k h) ∙ ap (λ z. option_or z rest) (sym (at_under f [] k l)))
+        (λ l. same_from k l h ∙ sym (same_from t in_order (omega (arith, ints))) ∙ e ∙ ap (λ z. option_or z rest) (sym (at_in f [] k l h))))
 
     module _ (lawsa : IsEquivalence eqa) (lawsb : IsEquivalence eqb) (left : List (Entry A)) (right : List (Entry B)) (out : List (Entry (Option A × Option B))) (from : low ≤ℤ s) (to : t ≤ℤ high) where
       pair_put : (p : Option (Option A × Option B)) → pair_at kind L R t ≡ p → IsPairedSoFar left right L R out → IsPairedSoFar left right (after t L) (after t R) (out ++ piece_of s t p)
@@ -121,7 +120,7 @@ module _ {A B : Type 0} (eqa : A → A → Bool) (eqb : B → B → Bool) (low h
         canonical = h.canonical;
         keys = h.keys;
         under = λ r f. below_more s r out (omega (arith, ints, in_order, first_left r f)) (h.under s starts);
-        content = λ k. h.content k ∙ ap (or_else (at out k)) (next_pair None e k);
+        content = λ k. h.content k ∙ ap (option_or (at out k)) (next_pair None e k);
         apart = apart_along (pair_eq eqa eqb) out (pair_at kind L R) (pair_at kind (after t L) (after t R)) (λ k. sym (next_pair None e k)) h.apart;
       })
       pair_put (Some v) e h =
@@ -131,7 +130,7 @@ module _ {A B : Type 0} (eqa : A → A → Bool) (eqb : B → B → Bool) (low h
             canonical = canonical_push (pair_eq eqa eqb) out f (pair_at kind L R) h.canonical below in_order h.apart (sym (same_from t in_order (omega (arith, ints))) ∙ e);
             keys = keys_push out h.keys;
             under = λ r g. IsBelow-push r out f (below_more s r out (omega (arith, ints, in_order, first_left r g)) below) (first_left r g);
-            content = λ k. h.content k ∙ ap (or_else (at out k)) (next_pair (Some v) e k) ∙ sym (or_assoc (at out k) (at (f ∷ []) k) (pair_at kind (after t L) (after t R) k)) ∙ ap (λ z. or_else z (pair_at kind (after t L) (after t R) k)) (sym (at_push out f k));
+            content = λ k. h.content k ∙ ap (option_or (at out k)) (next_pair (Some v) e k) ∙ sym (or_assoc (at out k) (at (f ∷ []) k) (pair_at kind (after t L) (after t R) k)) ∙ ap (λ z. option_or z (pair_at kind (after t L) (after t R) k)) (sym (at_push out f k));
             apart = apart_push (pair_eq eqa eqb) out f (pair_at kind (after t L) (after t R)) (next_changes lawsa lawsb v e);
           }
         where
@@ -144,7 +143,7 @@ module _ {A B : Type 0} (eqa : A → A → Bool) (eqb : B → B → Bool) (low h
     pub paired_more : IsEquivalence eqa → IsEquivalence eqb → IsPairedSoFar left right L R out → IsPairedSoFar left right L' R' new
     paired_more lawsa lawsb h = rw (m.put, m.left_is, m.right_is) (pair_put L R s m.end ca cb starts m.ends lawsa lawsb left right out m.from m.to (pair_at kind L R m.end) refl h)
 
-    pub paired_less : keys_left L' + keys_left R' < keys_left L + keys_left R
+    pub paired_less : lengths_left L' + lengths_left R' < lengths_left L + lengths_left R
     paired_less = rw (m.left_is, m.right_is) (both_less eqa eqb s m.end L R ca cb starts (in_order L R s m.end ca cb starts m.ends))
 
   -- with no key left, all segments are found
@@ -153,7 +152,7 @@ module _ {A B : Type 0} (eqa : A → A → Bool) (eqb : B → B → Bool) (low h
       let n = no_first (first_key L) (first_key R) f in
       record {
         range_map = record { runs = one_per_run (pair_eq eqa eqb) (pair_laws eqa eqb lawsa lawsb) out h.canonical; keys = h.keys };
-        content = λ k. sym (h.content k ∙ ap (or_else (at out k)) (none_if kind (at L k) (at R k) (none_there L k n.0) (none_there R k n.1)) ∙ or_none (at out k));
+        content = λ k. sym (h.content k ∙ ap (option_or (at out k)) (none_if kind (at L k) (at R k) (none_there L k n.0) (none_there R k n.1)) ∙ or_none (at out k));
       }
 
 -- ---- each segment is one that the kind asks for

@@ -8,15 +8,21 @@ use Rattle.blaze_table.specs.Entries.{Entry, at}
 use Rattle.blaze_table.specs.Splice.{after}
 use Rattle.blaze_table.proofs.Lookup.{IsAbove}
 use Rattle.blaze_table.proofs.Splices.{above_after, canonical_after, at-after_over}
+use Rattle.blaze_streams.specs.Carried.{shown_option}
 use Rattle.blaze_streams.specs.Segments.{row}
 use Rattle.blaze_streams.specs.Cursors.{first_key, steady_to, AllCanonical, first_keys, AllFrom, all_steady_to, AllReach, all_after, IsNextSegment}
-use Rattle.blaze_streams.proofs.Steady.{AtMost, Stops, same_some, steady, reaches, from_first, stops_steady, steady_far, starts_there, at_below_from, at-after_under}
+use Rattle.blaze_streams.proofs.Steady.{AtMost, Stops, same_some, steady, from_first, stops_steady, steady_far, starts_there, at_below_from, at-after_under}
 use Rattle.blaze_streams.proofs.Lesser.{at_most_both, at_most_itself, lesser_one, some_lesser}
 
 -- the first range of a list ends at t, or starts right above it
 abbrev pub AnyStops : {A : Type 0} → ℤ → List (List (Entry A)) → Type 0
 AnyStops t [] = ⊥
 AnyStops t (L ∷ Ls) = Stops t L ⊎ AnyStops t Ls
+
+-- what stands for itself
+pub shown_itself : {A : Type 0} (o : Option A) → shown_option (λ a. a) o ≡ o
+shown_itself None = refl
+shown_itself (Some a) = refl
 
 module _ {A : Type 0} where
   none_present : (x : Option A) (r : List (Option A)) → x ≡ None → list_any is_some r ≡ false → list_any is_some (x ∷ r) ≡ false
@@ -86,9 +92,11 @@ module _ {A : Type 0} where
     all_canonical_after t [] c = tt
     all_canonical_after t (L ∷ Ls) c = (canonical_after eq t L c.0, all_canonical_after t Ls c.1)
 
-    pub all_reach : (s t : ℤ) (Ls : List (List (Entry A))) → AllCanonical eq Ls → AtMost t (all_steady_to s Ls) → AllReach t Ls
-    all_reach s t [] c m = tt
-    all_reach s t (L ∷ Ls) c m = let n = at_most_both (steady_to s L) (all_steady_to s Ls) t m in (reaches eq s t L c.0 n.0, all_reach s t Ls c.1 n.1)
+    -- no list ends below the first key of all
+    pub reach_from : (s : ℤ) (Ls : List (List (Entry A))) → AllCanonical eq Ls → AllFrom s Ls → AllReach s Ls
+    reach_from s [] c f = tt
+    reach_from s ([] ∷ Ls) c f = (tt, reach_from s Ls c.1 f.1)
+    reach_from s ((e ∷ es) ∷ Ls) c f = (omega (arith, ints, c.0.0, f.0), reach_from s Ls c.1 f.1)
 
     steady_rows : (s t k : ℤ) (Ls : List (List (Entry A))) → AllCanonical eq Ls → AllFrom s Ls → AtMost t (all_steady_to s Ls) → s ≤ℤ k → k ≤ℤ t → row Ls k ≡ row Ls s
     steady_rows s t k [] c f m l h = refl

@@ -1,12 +1,13 @@
 -- What is taken of two lists.
 use Rattle.std.proofs.Common.{◌≡◌, ℤ, ◌≤ℤ◌, Bool, true, List, Option, Some, refl, ◌∙◌, ap, arith, ⊎_elim}
+use Rattle.std.specs.Cmp.{IsEquivalence}
 use Rattle.std.specs.Option.{is_some}
 use Rattle.std.proofs.lemmas.Int.{ints}
 use Rattle.blaze_table.specs.Entries.{Entry, at, SameOption}
 use Rattle.blaze_table.specs.Canonical.{IsCanonical}
 use Rattle.blaze_table.specs.Splice.{after}
-use Rattle.blaze_table.proofs.Unique.{same_along}
-use Rattle.blaze_streams.specs.Choosing.{IsTaken}
+use Rattle.blaze_table.proofs.Unique.{same_along, same_trans}
+use Rattle.blaze_streams.specs.Choosing.{IsTaken, PutsAlike, IsChoiceMade}
 use Rattle.blaze_streams.specs.Cursors.{first_key, steady_to, lesser}
 use Rattle.blaze_streams.proofs.ChosenSoFar.{both_from, chosen_at}
 use Rattle.blaze_streams.proofs.Lesser.{at_most_both, at_most_itself, lesser_one}
@@ -38,3 +39,21 @@ module _ {A B V : Type 0} (eqa : A → A → Bool) (eqb : B → B → Bool) (eq 
       let from = both_from s L R starts in
       taken_to (steady_far eqb s t R cb from.1 ends)
       (λ k l h. ap (choose (at L k)) (steady eqb s t k R cb from.1 (at_most_itself _ t ends) l h) ∙ decided (at L k) (at L s) (at R s) there)
+
+-- what is taken, put behind a list
+pub choice_made : {A B V : Type 0} (eq : V → V → Bool) (laws : IsEquivalence eq) (low high : ℤ) (choose : Option A → Option B → Option V) (s t : ℤ) (L L' : List (Entry A)) (R R' : List (Entry B)) (value : Option V) (out new : List (Entry V))
+    → low ≤ℤ s → t ≤ℤ high → IsTaken eq choose s L L' R R' t value → PutsAlike eq s t value out new → IsChoiceMade eq low high choose s L L' R R' out new
+choice_made eq laws low high choose s t L L' R R' value out new from to taken puts = record {
+  end = t;
+  value = puts.alike;
+  from = from;
+  to = to;
+  taken = record {
+    order = taken.order;
+    same = taken.same;
+    alike = same_trans eq laws (chosen_at choose L R s) value puts.alike taken.alike puts.same;
+    left_is = taken.left_is;
+    right_is = taken.right_is;
+  };
+  put = puts.put;
+}

@@ -1,13 +1,9 @@
 -- What is left of lists that are gone through together: the words of this crate's own functions. No public clause names them.
-use Rattle.std.specs.Prelude.{◌≡◌, ℕ, ℤ, pos, ◌-ℤ◌, ◌≤ℤ◌, int_le, Bool, if◌then◌else◌, List, [], ◌∷◌, map, Option, Some, None}
-use Rattle.blaze_table.specs.Entries.{Entry, shown_entry}
+use Rattle.std.specs.Prelude.{◌≡◌, ℤ, pos, ◌-ℤ◌, ◌≤ℤ◌, int_le, Bool, if◌then◌else◌, List, [], ◌∷◌, Option, Some, None}
+use Rattle.blaze_table.specs.Entries.{Entry}
 use Rattle.blaze_table.specs.Canonical.{IsCanonical}
 use Rattle.blaze_table.specs.Splice.{after}
 use Rattle.blaze_streams.specs.Segments.{row}
-
--- ranges with their places, as entries
-abbrev pub placed : {T : Type 0} → (T → ℤ) → List (T × T × ℕ) → List (Entry ℕ)
-placed rank ps = map (shown_entry rank (λ i. i)) ps
 
 -- the first key of a list
 abbrev pub first_key : {A : Type 0} → List (Entry A) → Option ℤ

@@ -2,7 +2,7 @@
 use Rattle.std.specs.Prelude.{◌≡◌, ℤ, Bool, true, List, [], ◌∷◌, Option, Some}
 use Rattle.std.specs.Fn.{Mut}
 use Rattle.blaze_table.specs.Entries.{Entry}
-use Rattle.blaze_streams.specs.declared.joins.JoinKind.{JoinKind}
+use Rattle.blaze_streams.specs.declared.segmenting.joins.JoinKind.{JoinKind}
 use Rattle.blaze_streams.specs.Carried.{shown_option}
 use Rattle.blaze_streams.specs.Answers.{values, IsCallableAtEach, IsTransformed}
 use Rattle.blaze_streams.specs.Joins.{is_joined, IsJoinOf}

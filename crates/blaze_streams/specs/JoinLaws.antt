@@ -2,7 +2,7 @@
 use Rattle.std.specs.Prelude.{◌≡◌, ℤ, Bool, List, [], ◌∷◌, length, map, Option}
 use Rattle.std.specs.Option.{is_some}
 use Rattle.blaze_table.specs.Entries.{Entry, entry, at, SameOption}
-use Rattle.blaze_streams.specs.declared.joins.JoinKind.TheVariants.{Inner, Left, Full}
+use Rattle.blaze_streams.specs.declared.segmenting.joins.JoinKind.TheVariants.{Inner, Left, Full}
 use Rattle.blaze_streams.specs.Answers.{answered}
 use Rattle.blaze_streams.specs.Joins.{IsJoinOf}
 use Rattle.blaze_streams.specs.Segments.{IsSegmentsOf}

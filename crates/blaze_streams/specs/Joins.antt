@@ -5,8 +5,8 @@ use Rattle.std.specs.Option.{option_eq, is_some}
 use Rattle.blaze_table.specs.Entries.{Entry, entry, at}
 use Rattle.blaze_table.specs.Canonical.{IsRangeMap}
 use Rattle.blaze_table.specs.Splice.{after}
-use Rattle.blaze_streams.specs.declared.joins.JoinKind.{JoinKind}
-use Rattle.blaze_streams.specs.declared.joins.JoinKind.TheVariants.{Inner, Left, Full}
+use Rattle.blaze_streams.specs.declared.segmenting.joins.JoinKind.{JoinKind}
+use Rattle.blaze_streams.specs.declared.segmenting.joins.JoinKind.TheVariants.{Inner, Left, Full}
 use Rattle.blaze_streams.specs.Cursors.{steady_to, lesser}
 
 -- whether a join of the kind is asked for what two lists have at a key

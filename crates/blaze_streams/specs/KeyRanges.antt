@@ -1,5 +1,5 @@
 -- A map's keys as ranges.
-use Rattle.std.specs.Prelude.{◌≡◌, ℤ, pos, ◌+ℤ◌, if◌then◌else◌, List, [], ◌∷◌, Option, Some, None, is_some}
+use Rattle.std.specs.Prelude.{◌≡◌, ℤ, pos, ◌+ℤ◌, if◌then◌else◌, List, [], ◌∷◌, Option, Some, None, is_some, MatchOption}
 use Rattle.std.specs.Ordering.{int_eq}
 use Rattle.blaze_table.specs.Entries.{Entry, entry, at}
 use Rattle.blaze_table.specs.RangeSets.{IsRangeSet}
@@ -8,6 +8,10 @@ use Rattle.blaze_table.specs.RangeSets.{IsRangeSet}
 pub record AreKeyRanges {V : Type 0} (low high : ℤ) (entries : List (Entry V)) (ranges : List (Entry (Unit {0}))) : Type 0 where
   pub range_set : IsRangeSet low high ranges
   pub same_keys : (k : ℤ) → is_some (at ranges k) ≡ is_some (at entries k)
+
+-- the first of the entries is taken out, by its first and last key, or there is none
+abbrev pub TakesEnds : {T V : Type 0} → (T → ℤ) → Option (T × T) → List (Entry V) → List (Entry V) → Type 0
+TakesEnds {V = V} rank ends old new = MatchOption ends ((old ≡ []) × (new ≡ [])) (λ p. (v : V) × (old ≡ entry (rank p.0) (rank p.1) v ∷ new))
 
 -- ---- by structure
 

@@ -6,7 +6,7 @@ use Rattle.std.specs.Cmp.Lexicographic.{pointwise}
 use Rattle.std.specs.Global.{Vec}
 use Rattle.blaze_table.specs.Entries.{Entry, entry, at}
 use Rattle.blaze_table.specs.Canonical.{IsDisjoint, IsAscending, IsOnePerRun}
-use Rattle.blaze_streams.specs.declared.list_segments.Segment.{Segment}
+use Rattle.blaze_streams.specs.declared.segmenting.list_segments.Segment.{Segment}
 
 -- the ranges of a list as entries, each with its place as its value; the first has the place i
 abbrev pub numbered : {T : Type 0} → (T → ℤ) → ℕ → List (T × T) → List (Entry ℕ)

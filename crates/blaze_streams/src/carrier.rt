@@ -54,6 +54,48 @@ impl<V: Eq + Clone> ValueCarrier for &V {
     }
 }
 
+/// The unit value stands for itself. Nothing takes memory.
+impl ValueCarrier for () {
+    type Value = ();
+
+    ghost shown = { λ u. u };
+
+    ghost can_carry = { ⊤ };
+
+    fn value_eq(&self, other: &Self) -> bool {
+        *self == *other
+    }
+
+    fn into_value(self) -> Result<(), AllocError> {
+        Ok(self)
+    }
+
+    fn carry(&self) -> Result<Self, AllocError> {
+        Ok(*self)
+    }
+}
+
+/// A place in a list stands for itself. Nothing takes memory.
+impl ValueCarrier for usize {
+    type Value = usize;
+
+    ghost shown = { λ i. i };
+
+    ghost can_carry = { ⊤ };
+
+    fn value_eq(&self, other: &Self) -> bool {
+        *self == *other
+    }
+
+    fn into_value(self) -> Result<usize, AllocError> {
+        Ok(self)
+    }
+
+    fn carry(&self) -> Result<Self, AllocError> {
+        Ok(*self)
+    }
+}
+
 /// A `bool` stands for itself. Nothing takes memory.
 impl ValueCarrier for bool {
     type Value = bool;

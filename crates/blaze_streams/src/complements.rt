@@ -4,8 +4,8 @@ ghost use Rattle.blaze_table.specs.Complement.{IsComplement};
 ghost use Rattle.blaze_table.specs.RangeSets.{bare_ranges, unit_eq};
 ghost use Rattle.blaze_streams.specs.Gaps.{gap_before, rank_or_end};
 
-use crate::canon::CanonIter;
-use crate::ranges_stream::SortedDisjoint;
+use crate::lists::canon::CanonIter;
+use crate::sorted_disjoint::SortedDisjoint;
 use blaze_int::Integer;
 use blaze_int::compare::{before, is_below};
 use std::alloc::{AllocError, Global};
@@ -17,7 +17,9 @@ fn push_gap<T: Integer>(
     next: Option<T>,
     start: T,
 ) -> Result<(), AllocError>
-    ensures { OnOk result (bare_ranges T.rank gaps.new.items ≡ bare_ranges T.rank gaps.old.items ++ gap_before (rank_or_end T.rank T.high next) (T.rank start)) }
+    ensures { OnOk result (bare_ranges T.rank gaps.new.items
+        ≡ bare_ranges T.rank gaps.old.items ++ gap_before
+        (rank_or_end T.rank T.high next) (T.rank start)) }
 {
     start.in_hand();
     if let Some(first) = next {
@@ -33,7 +35,9 @@ fn push_rest<T: Integer>(
     gaps: &mut Vec<RangeInclusive<T>>,
     next: Option<T>,
 ) -> Result<(), AllocError>
-    ensures { OnOk result (bare_ranges T.rank gaps.new.items ≡ bare_ranges T.rank gaps.old.items ++ gap_before (rank_or_end T.rank T.high next) (T.high +ℤ pos 1)) }
+    ensures { OnOk result (bare_ranges T.rank gaps.new.items
+        ≡ bare_ranges T.rank gaps.old.items ++ gap_before (rank_or_end T.rank T.high next)
+        (T.high +ℤ pos 1)) }
 {
     if let Some(first) = next {
         first.in_hand();

@@ -1,52 +1,92 @@
-//! What is left of a list of ranges that is gone through from its start.
-ghost use Rattle.std.specs.Prelude.{◌≡◌, nat_eq};
-ghost use Rattle.std.specs.Option.{option_map};
-ghost use Rattle.blaze_table.specs.Entries.{at};
+//! What is left of a stream that is gone through from its start.
+ghost use Rattle.std.specs.Prelude.{◌≡◌, [], Some, IfSome, IfNone, IfOk};
+ghost use Rattle.std.specs.Option.{option_map, is_some};
+ghost use Rattle.blaze_table.specs.Entries.{at, SameOption};
 ghost use Rattle.blaze_table.specs.Canonical.{IsCanonical};
 ghost use Rattle.blaze_table.specs.Splice.{after};
-ghost use Rattle.blaze_streams.specs.Cursors.{placed, first_key, steady_to, IsFrom, Reaches, lesser};
+ghost use Rattle.blaze_streams.specs.Carried.{shown_option};
+ghost use Rattle.blaze_streams.specs.Choosing.{ahead_of};
+ghost use Rattle.blaze_streams.specs.Cursors.{first_key, steady_to, IsFrom, Reaches};
 
+use crate::carrier::ValueCarrier;
+use crate::sorted_disjoint_map::SortedDisjointMap;
 use blaze_int::Integer;
 use blaze_int::compare::{after, before, is_at_most};
-use std::collections::VecDeque;
+use std::alloc::AllocError;
 use std::marker::Model;
 
-/// The ranges that are left of a list, with their places: what is left of the first, and the others.
+/// The ranges that are left of a stream, with their carriers: what is left of the first, and the stream of the others.
 #[derive(Drop)]
-pub struct Cursor<T: Integer> {
-    head: Option<(T, T, usize)>,
-    rest: VecDeque<(T, T, usize)>,
+pub struct Cursor<T: Integer, VC: ValueCarrier, I: SortedDisjointMap<T, VC>> {
+    head: Option<(T, T, VC)>,
+    rest: I,
 }
 
-impl<T: Integer> Model for Cursor<T> {
-    ghost use Rattle.std.specs.Prelude.{ℕ, List, [], ◌++◌, IfNone, ◌≡◌, nat_eq};
-    ghost use Rattle.std.specs.Option.{option_to_list};
-    ghost use Rattle.blaze_table.specs.Entries.{Entry};
+impl<T: Integer, VC: ValueCarrier, I: SortedDisjointMap<T, VC>> Model for Cursor<T, VC, I> {
+    ghost use Rattle.std.specs.Prelude.{List, [], IfNone, ◌≡◌};
+    ghost use Rattle.std.specs.Coded.{coded_list};
+    ghost use Rattle.blaze_table.specs.Entries.{Entry, entry_code};
     ghost use Rattle.blaze_table.specs.Canonical.{IsCanonical};
-    ghost use Rattle.blaze_streams.specs.Cursors.{placed};
+    ghost use Rattle.blaze_streams.specs.Choosing.{ahead_of};
 
-    ghost Value = { List (Entry ℕ) };
+    ghost Value = { List (Entry VC.Value) };
 
-    ghost view = { λ c. placed T.rank (option_to_list c.head ++ c.rest.items) };
+    ghost coded = { coded_list (entry_code VC.Value.code) };
 
-    ghost invariant = { λ c. IfNone c.head (c.rest.items ≡ []) × IsCanonical nat_eq (placed T.rank (option_to_list c.head ++ c.rest.items)) };
+    ghost view = { λ a. ahead_of T.rank VC.shown a.head (I.left a.rest) };
+
+    ghost invariant = { λ a. IfNone a.head (I.left a.rest ≡ [])
+        × IsCanonical VC.Value.eq (ahead_of T.rank VC.shown a.head (I.left a.rest)) };
 }
 
-impl<T: Integer> Cursor<T> {
-    /// A cursor at the start of a list of ranges with their places.
-    pub fn new(ranges: Vec<(T, T, usize)>) -> Self
-        requires { IsCanonical nat_eq (placed T.rank ranges.items) }
-        ensures { result ≡ placed T.rank ranges.items }
+/// Takes the first range out of a stream: its first key, its last key and its carrier.
+fn take_first<T: Integer, VC: ValueCarrier, I: SortedDisjointMap<T, VC>>(
+    stream: &mut I,
+) -> Option<(T, T, VC)>
+    ensures left { ahead_of T.rank VC.shown result (I.left stream.new) ≡ I.left stream.old }
+    ensures none { IfNone result (I.left stream.new ≡ []) }
+{
+    let (range, carrier) = stream.next()?;
+    let (start, end) = range.into_inner();
+    Some((start, end, carrier))
+}
+
+/// Takes the ranges up to `end` out of a stream, and the first of what lies above: its first key, its last key and its
+/// carrier.
+fn take_above<T: Integer, VC: ValueCarrier, I: SortedDisjointMap<T, VC>>(
+    stream: &mut I,
+    end: T,
+) -> Option<(T, T, VC)>
+    ensures left { ahead_of T.rank VC.shown result (I.left stream.new)
+        ≡ after (T.rank end) (I.left stream.old) }
+    ensures none { IfNone result (I.left stream.new ≡ []) }
+{
+    while let Some((lo, hi, carrier)) = take_first(stream) {
+        if !is_at_most(hi, end) {
+            if is_at_most(lo, end) {
+                return Some((after(end, hi), hi, carrier));
+            }
+            return Some((lo, hi, carrier));
+        }
+    }
+    None
+}
+
+impl<T: Integer, VC: ValueCarrier, I: SortedDisjointMap<T, VC>> Cursor<T, VC, I> {
+    /// All that is left of a stream.
+    pub fn new(stream: I) -> Self
+        ensures { result ≡ I.left stream }
     {
-        let mut rest = VecDeque::from_vec(ranges);
-        let head = rest.pop_front();
+        stream.in_hand();
+        let mut rest = stream;
+        let head = take_first(&mut rest);
         Cursor { head, rest }
     }
 
     /// The first key that is left.
     pub fn first(&self) -> Option<T>
         ensures first { option_map T.rank result ≡ first_key self.now }
-        ensures canonical { IsCanonical nat_eq self.now }
+        ensures canonical { IsCanonical VC.Value.eq self.now }
     {
         match &self.head {
             None => None,
@@ -54,20 +94,14 @@ impl<T: Integer> Cursor<T> {
         }
     }
 
-    /// The place of the range that has a key below which none is left.
-    pub fn here(&self, start: T) -> Option<usize>
-        requires { IsFrom (T.rank start) self.now }
-        ensures { result ≡ at self.now (T.rank start) }
+    /// Whether a range has the key, which is not above the end of the first range.
+    pub fn has(&self, key: T) -> bool
+        requires { Reaches (T.rank key) self.now }
+        ensures { result ≡ is_some (at self.now (T.rank key)) }
     {
         match &self.head {
-            None => None,
-            Some((lo, _, place)) => {
-                if is_at_most(*lo, start) {
-                    Some(*place)
-                } else {
-                    None
-                }
-            }
+            None => false,
+            Some((lo, _, _)) => is_at_most(*lo, key),
         }
     }
 
@@ -88,29 +122,81 @@ impl<T: Integer> Cursor<T> {
         }
     }
 
-    /// Lets the keys up to `end` go, which is not above the end of the first range.
-    #[tactic(auto, using(crate::proofs::Steady::after_first))]
+    /// Lets the keys up to `end` go.
     pub fn advance(&mut self, end: T)
-        requires { Reaches (T.rank end) self.old }
         ensures { self.new ≡ after (T.rank end) self.old }
     {
-        if let Some((lo, hi, place)) = self.head {
+        if let Some((lo, hi, carrier)) = self.head.take() {
             if is_at_most(hi, end) {
-                self.head = self.rest.pop_front();
+                self.head = take_above(&mut self.rest, end);
             } else if is_at_most(lo, end) {
-                self.head = Some((after(end, hi), hi, place));
+                self.head = Some((after(end, hi), hi, carrier));
+            } else {
+                self.head = Some((lo, hi, carrier));
             }
+        }
+    }
+
+    /// The last key of the range that has a key below which none is left.
+    pub fn end_at(&self, start: T) -> Option<T>
+        requires { IsFrom (T.rank start) self.now }
+        ensures has { is_some (at self.now (T.rank start)) ≡ is_some result }
+        ensures end { IfSome result (λ end. steady_to (T.rank start) self.now ≡ Some (T.rank end)) }
+        ensures reaches { IfSome result (λ end. Reaches (T.rank end) self.now) }
+    {
+        match &self.head {
+            None => None,
+            Some((lo, hi, _)) => {
+                if is_at_most(*lo, start) {
+                    Some(*hi)
+                } else {
+                    None
+                }
+            }
+        }
+    }
+
+    /// Lets the keys up to `end` go, which is not above the end of the first range, and answers the carrier of the value at
+    /// `end`: the range's own where the range ends there, else another, and refused memory then lets the keys go all the same.
+    pub fn take(&mut self, end: T) -> Result<Option<VC>, AllocError>
+        requires can { VC.can_carry }
+        requires reaches { Reaches (T.rank end) self.old }
+        ensures carrier { IfOk result (λ carrier. SameOption VC.Value.eq (at self.old (T.rank end))
+            (option_map VC.shown carrier)) }
+        ensures rest { self.new ≡ after (T.rank end) self.old }
+    {
+        let Some((lo, hi, carrier)) = self.head.take() else {
+            return Ok(None);
+        };
+        if is_at_most(hi, end) {
+            self.head = take_first(&mut self.rest);
+            Ok(Some(carrier))
+        } else if is_at_most(lo, end) {
+            let other = carrier.carry();
+            self.head = Some((after(end, hi), hi, carrier));
+            Ok(Some(other?))
+        } else {
+            self.head = Some((lo, hi, carrier));
+            Ok(None)
         }
     }
 }
 
-/// The lesser of two keys, where there are two.
-pub fn lesser_of<T: Integer>(a: Option<T>, b: Option<T>) -> Option<T>
-    ensures { option_map T.rank result ≡ lesser (option_map T.rank a) (option_map T.rank b) }
-{
-    match (a, b) {
-        (None, _) => b,
-        (_, None) => a,
-        (Some(x), Some(y)) => { if is_at_most(x, y) { a } else { b } }
+impl<T: Integer, VC: ValueCarrier + Copy, I: SortedDisjointMap<T, VC>> Cursor<T, VC, I> {
+    /// The carrier of the value at a key, which is not above the end of the first range.
+    pub fn here(&self, key: T) -> Option<VC>
+        requires { Reaches (T.rank key) self.now }
+        ensures { shown_option VC.shown result ≡ at self.now (T.rank key) }
+    {
+        match &self.head {
+            None => None,
+            Some((lo, _, carrier)) => {
+                if is_at_most(*lo, key) {
+                    Some(*carrier)
+                } else {
+                    None
+                }
+            }
+        }
     }
 }

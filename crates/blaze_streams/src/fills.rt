@@ -5,9 +5,9 @@ ghost use Rattle.blaze_streams.specs.Fills.{none_before, IsFilled};
 ghost use Rattle.blaze_streams.specs.Gaps.{rank_or_end};
 ghost use Rattle.blaze_streams.specs.RangeLists.{shown_ranges};
 
-use crate::canon_map::CanonMapIter;
 use crate::carrier::ValueCarrier;
-use crate::stream::SortedDisjointMap;
+use crate::lists::canon_map::CanonMapIter;
+use crate::sorted_disjoint_map::SortedDisjointMap;
 use blaze_int::Integer;
 use blaze_int::compare::{before, is_below};
 use std::alloc::{AllocError, Global};
@@ -20,7 +20,9 @@ fn push_none<T: Integer, VC: ValueCarrier>(
     next: Option<T>,
     start: T,
 ) -> Result<(), AllocError>
-    ensures { OnOk result (shown_ranges T.rank (shown_option VC.shown) out.new.items ≡ shown_ranges T.rank (shown_option VC.shown) out.old.items ++ none_before (rank_or_end T.rank T.high next) (T.rank start)) }
+    ensures { OnOk result (shown_ranges T.rank (shown_option VC.shown) out.new.items
+        ≡ shown_ranges T.rank (shown_option VC.shown) out.old.items ++ none_before
+        (rank_or_end T.rank T.high next) (T.rank start)) }
 {
     start.in_hand();
     if let Some(first) = next {
@@ -36,7 +38,9 @@ fn push_last<T: Integer, VC: ValueCarrier>(
     out: &mut Vec<(RangeInclusive<T>, Option<VC>)>,
     next: Option<T>,
 ) -> Result<(), AllocError>
-    ensures { OnOk result (shown_ranges T.rank (shown_option VC.shown) out.new.items ≡ shown_ranges T.rank (shown_option VC.shown) out.old.items ++ none_before (rank_or_end T.rank T.high next) (T.high +ℤ pos 1)) }
+    ensures { OnOk result (shown_ranges T.rank (shown_option VC.shown) out.new.items
+        ≡ shown_ranges T.rank (shown_option VC.shown) out.old.items ++ none_before
+        (rank_or_end T.rank T.high next) (T.high +ℤ pos 1)) }
 {
     if let Some(first) = next {
         first.in_hand();

@@ -1,5 +1,6 @@
 //! The laws of joins and of what closures answer.
-ghost use Rattle.blaze_streams.specs.JoinLaws.{AnswersKeepKeys, LeftJoinHasLeftKeys, FullJoinIsOfListOfTwo, FullJoinIsInner};
+ghost use Rattle.blaze_streams.specs.JoinLaws.{AnswersKeepKeys, LeftJoinHasLeftKeys};
+ghost use Rattle.blaze_streams.specs.JoinLaws.{FullJoinIsOfListOfTwo, FullJoinIsInner};
 
 use blaze_int::Integer;
 

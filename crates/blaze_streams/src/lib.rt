@@ -1,66 +1,69 @@
 //! Sorted streams of disjoint ranges with their values.
 #![tactic(auto)]
 
-mod ahead;
-mod breaks;
-mod canon;
-mod canon_map;
 mod carrier;
-mod check;
-mod check_map;
-mod choice;
-mod choosing;
 mod complements;
 mod cursor;
-mod cursors;
+mod events;
 mod fills;
-mod into_range_values;
-mod join_answers;
-mod joins;
 pub mod laws;
-mod list_segments;
-mod map_into_ranges;
-mod map_ranges;
+mod lists;
+mod merge;
 mod multiway;
-mod not_sorted;
 mod owned;
-mod owned_range_values;
-mod push;
-mod range_values;
-mod ranges_stream;
-mod set_ranges;
-mod stream;
+mod segmenting;
+mod sorted_disjoint;
+mod sorted_disjoint_map;
+mod tables;
 mod transforms;
-mod union;
-mod with_ranges;
-mod with_true;
 
 pub use blaze_table::canonical_of;
-pub use canon::CanonIter;
-pub use canon_map::CanonMapIter;
 pub use carrier::ValueCarrier;
-pub use check::CheckSortedDisjoint;
-pub use check_map::CheckSortedDisjointMap;
 pub use complements::complement;
+pub use events::multiway_sweep::MultiwaySweep;
+pub use events::sweep::sweep_of;
+pub use events::sweep_event::SweepEvent;
 pub use fills::fill;
-pub use into_range_values::IntoRangeValuesIter;
-pub use join_answers::{
-    answer_both, answer_either, answer_left, full_join_of, inner_join_of, left_join_of,
-};
-pub use joins::{JoinKind, join_of};
-pub use list_segments::{Segment, segments};
-pub use map_into_ranges::MapIntoRangesIter;
-pub use map_ranges::MapRangesIter;
+pub use lists::canon::CanonIter;
+pub use lists::canon_map::CanonMapIter;
+pub use lists::check::CheckSortedDisjoint;
+pub use lists::check_map::CheckSortedDisjointMap;
+pub use lists::not_sorted::NotSorted;
+pub use merge::union::{intersection_of, symmetric_difference_of, union_of};
+pub use merge::with_ranges::{intersect_with_ranges, subtract_ranges};
 pub use multiway::{
     MultiwayFullJoinMap, MultiwayInnerJoinMap, MultiwayIntersectionMap,
     MultiwaySymmetricDifferenceMap, MultiwayUnionMap,
 };
-pub use not_sorted::NotSorted;
 pub use owned::Owned;
-pub use owned_range_values::OwnedRangeValuesIter;
-pub use range_values::RangeValuesIter;
-pub use ranges_stream::SortedDisjoint;
-pub use stream::{BothEnds, SortedDisjointMap};
+pub use segmenting::join_answers::{
+    answer_both, answer_either, answer_left, full_join_of, inner_join_of, left_join_of,
+};
+pub use segmenting::joins::{JoinKind, join_of};
+pub use segmenting::list_segments::{Segment, segments};
+pub use sorted_disjoint::SortedDisjoint;
+pub use sorted_disjoint_map::{BothEnds, SortedDisjointMap};
+pub use tables::into_range_values::IntoRangeValuesIter;
+pub use tables::key_ranges::{
+    KeyRanges, MapIntoRangesIter, MapRangesIter, into_ranges_of, ranges_of,
+};
+pub use tables::owned_range_values::OwnedRangeValuesIter;
+pub use tables::range_values::RangeValuesIter;
 pub use transforms::transform;
-pub use union::{intersection_of, symmetric_difference_of, union_of};
-pub use with_ranges::{intersect_with_ranges, subtract_ranges};
+
+// For `range_map_blaze` alone, whose maps are made of entries that are chosen.
+#[doc(hidden)]
+pub use merge::choice::{Choice, ExactlyOne, LeftAlone, LeftWithRight, RightFirst};
+#[doc(hidden)]
+pub use merge::chosen::entries_chosen_of;
+#[doc(hidden)]
+pub use merge::with_unit::WithUnit;
+// For `range_map_multi` alone, which goes through many streams as this crate does through many lists.
+#[doc(hidden)]
+pub use cursor::Cursor;
+#[doc(hidden)]
+pub use merge::push::push_joined;
+#[doc(hidden)]
+pub use segmenting::cursors::PlaceCursor;
+#[doc(hidden)]
+pub use segmenting::list_segments::next_segment;

@@ -1,6 +1,6 @@
 //! The names of the streams that operations over many inputs give.
 
-use crate::canon_map::CanonMapIter;
+use crate::lists::canon_map::CanonMapIter;
 use crate::owned::Owned;
 
 /// The union of many streams.

@@ -2,11 +2,11 @@
 ghost use Rattle.std.specs.Prelude.{IfOk};
 ghost use Rattle.blaze_streams.specs.Answers.{values, IsCallableAtEach, IsTransformed};
 
-use crate::canon_map::CanonMapIter;
 use crate::carrier::ValueCarrier;
+use crate::lists::canon_map::CanonMapIter;
+use crate::merge::push::push_joined;
 use crate::owned::Owned;
-use crate::push::push_joined;
-use crate::stream::SortedDisjointMap;
+use crate::sorted_disjoint_map::SortedDisjointMap;
 use blaze_int::Integer;
 use std::alloc::{AllocError, Global};
 
@@ -20,7 +20,8 @@ pub fn transform<
     F: FnMut(VC) -> W,
 >(alloc: Global, stream: S, mut f: F) -> Result<CanonMapIter<T, Owned<W>>, AllocError>
     requires { IsCallableAtEach (λ a. VC.shown a.0) F.FnMut f (values (S.left stream)) }
-    ensures { IfOk result (λ new. IsTransformed (λ a. VC.shown a.0) F.FnMut W.eq T.low T.high f (S.left stream) new) }
+    ensures { IfOk result (λ new. IsTransformed (λ a. VC.shown a.0) F.FnMut W.eq T.low T.high f
+        (S.left stream) new) }
 {
     stream.in_hand();
     let mut out = Vec::new(alloc);

@@ -1,11 +1,12 @@
 -- A list with all that pairs paint is their canonical list; how long it is.
+use Rattle.std.specs.Option.{option_or}
 use Rattle.std.proofs.Common.{◌≡◌, ℕ, suc, ◌+◌, ◌-◌, ◌*◌, ◌≤◌, ℤ, pos, ◌+ℤ◌, ◌-ℤ◌, ◌≤ℤ◌, Bool, true, false, cond, List, [], ◌∷◌, length, Option, Some, None, refl, ◌∙◌, sym, ap, subst, arith, inl, inr, ⊎_elim}
 use Rattle.std.specs.Prelude.{int_le, ◌⊎◌}
 use Rattle.std.specs.Cmp.{IsEquivalence}
 use Rattle.std.proofs.lemmas.Int.{ints, by_lt_z}
 use Rattle.blaze_table.specs.Entries.{Entry, at, holds, SameOption}
 use Rattle.blaze_table.specs.Canonical.{AreKeys, IsCanonical, IsRangeMap}
-use Rattle.blaze_table.specs.Painted.{or_else, last_at, painted_in_order}
+use Rattle.blaze_table.specs.Painted.{last_at, painted_in_order}
 use Rattle.blaze_table.specs.Splice.{IsListPainted, paint, after}
 use Rattle.blaze_table.proofs.Lookup.{IsAbove, IsAbove-from_apart, at_in, at_under, at_over, by_place}
 use Rattle.blaze_table.proofs.Painted.{entries_themselves, is_painted, painted_nowhere, length_as}
@@ -43,7 +44,7 @@ record IsPaintedEach {V : Type 0} (eq : V → V → Bool) (ps old new : List (En
   alone : old ≡ [] → length new ≤ 2 * keyed ps - 1
 
 module _ {V : Type 0} (eq : V → V → Bool) (laws : IsEquivalence eq) where
-  same_in_or : (a x y : Option V) → SameOption eq x y → SameOption eq (or_else a x) (or_else a y)
+  same_in_or : (a x y : Option V) → SameOption eq x y → SameOption eq (option_or a x) (option_or a y)
   same_in_or None x y s = s
   same_in_or (Some v) x y s = laws.refl v
 
@@ -61,9 +62,9 @@ module _ {V : Type 0} (eq : V → V → Bool) (laws : IsEquivalence eq) where
         rest.0,
         record {
           canonical = rest.1.canonical;
-          content = λ k. same_trans eq laws (at rest.0 k) (or_else (last_at ps k) (at one.0 k)) (painted_in_order (p ∷ ps) (at old) k) (rest.1.content k)
-              (subst (SameOption eq (or_else (last_at ps k) (at one.0 k)))
-              (ap (or_else (last_at ps k)) (painted_one (holds p k) p.value (at old k)) ∙ sym (or_or (last_at ps k) (cond (holds p k) (Some p.value) None) (at old k)))
+          content = λ k. same_trans eq laws (at rest.0 k) (option_or (last_at ps k) (at one.0 k)) (painted_in_order (p ∷ ps) (at old) k) (rest.1.content k)
+              (subst (SameOption eq (option_or (last_at ps k) (at one.0 k)))
+              (ap (option_or (last_at ps k)) (painted_one (holds p k) p.value (at old k)) ∙ sym (or_or (last_at ps k) (cond (holds p k) (Some p.value) None) (at old k)))
               (same_in_or (last_at ps k) (at one.0 k) (cond (holds p k) (Some p.value) (at old k)) (one.1.list.content k)));
           few = ⊎_elim
               (λ (n : (one.0 ≡ old) × (is_keyed p ≡ 0)). let same = ap length n.0 in omega (arith, rest.1.few, same, n.1))

@@ -1,4 +1,5 @@
 -- A list without a key, from its pieces.
+use Rattle.std.specs.Option.{option_or}
 use Rattle.std.proofs.Common.{◌≡◌, ℕ, ℤ, pos, ◌+ℤ◌, ◌-ℤ◌, ◌≤ℤ◌, ◌<ℤ◌, Bool, true, false, cond, List, [], ◌∷◌, ◌++◌, Option, Some, None, refl, ◌∙◌, sym, ap, subst, arith}
 use Rattle.std.specs.Cmp.{IsEquivalence}
 use Rattle.std.specs.Ordering.{int_eq}
@@ -12,7 +13,7 @@ use Rattle.blaze_table.specs.Cut.{cut_at}
 use Rattle.blaze_table.specs.Table.{IsTable}
 use Rattle.blaze_table.proofs.Lookup.{IsAbove, IsAbove-from_apart, at_in, at_over, at_before, by_place}
 use Rattle.blaze_table.proofs.Unique.{same_along, same_trans, back}
-use Rattle.blaze_table.proofs.Splices.{before_keeps, before_cuts, before_ends, after_skips, after_cuts, by_after, canonical_glue, canonical_before, canonical_after, at_glue, above_after, below_before, at-before_under, at-before_over, at-after_over, or_else}
+use Rattle.blaze_table.proofs.Splices.{before_keeps, before_cuts, before_ends, after_skips, after_cuts, by_after, canonical_glue, canonical_before, canonical_after, at_glue, above_after, below_before, at-before_under, at-before_over, at-after_over}
 use Rattle.blaze_table.proofs.Painted.{before_past, after_past, entries_themselves, canonical_as, above_as, content_as}
 use Rattle.blaze_table.proofs.Counted.{keys_apart, covered_none, overlap_whole, overlap_none, overlap_most, keys_glue, are_keys_glue, are_keys_before, are_keys_after, are_keys_as, same_keys_in}
 
@@ -138,15 +139,14 @@ module _ {V : Type 0} (eq : V → V → Bool) (laws : IsEquivalence eq) (k : ℤ
   int_eq_no : (a b : ℤ) → (a ≡ b → ⊥) → int_eq a b ≡ false
   int_eq_no a b h = grind (arith, ints)
 
-  two : (j : ℤ) → or_else (at (before k es) j) (at (after k es) j) ≡ cut_at k (at es) j
-  unfolding or_else
+  two : (j : ℤ) → option_or (at (before k es) j) (at (after k es) j) ≡ cut_at k (at es) j
   two j = by_lt_z j k
       (λ u. rw (at-before_under eq k j es c u, int_eq_no j k (λ e. omega (arith, ints))) (or_last (at es j) (at (after k es) j) (at_before eq (after k es) k j (canonical_after eq k es c) (above_after k es) (omega (arith, ints)))))
       (λ u. rw (at-before_over eq k j es u) (by_lt_z k j
       (λ w. rw (int_eq_no j k (λ e. omega (arith, ints))) (at-after_over eq k j es c w))
       (λ w. at_before eq (after k es) k j (canonical_after eq k es c) (above_after k es) w ∙ here (at es j) (int_eq j k) (int_eq_yes j k (omega (arith, ints))))))
     where
-      or_last : (a b : Option V) → b ≡ None → or_else a b ≡ a
+      or_last : (a b : Option V) → b ≡ None → option_or a b ≡ a
       or_last None b p = p
       or_last (Some x) b p = refl
 
@@ -157,15 +157,14 @@ module _ {V : Type 0} (eq : V → V → Bool) (laws : IsEquivalence eq) (k : ℤ
       here o true p = refl
       here o false p = cc
 
-  same_or : (a x y : Option V) → SameOption eq x y → SameOption eq (or_else a x) (or_else a y)
-  unfolding or_else
+  same_or : (a x y : Option V) → SameOption eq x y → SameOption eq (option_or a x) (option_or a y)
   same_or None x y s = s
   same_or (Some v) x y s = laws.refl v
 
   pub cut_content : (j : ℤ) → SameOption eq (at new j) (cut_at k (at es) j)
   cut_content j =
       same_along eq (sym (ap (λ xs. at xs j) new_is)) refl
-      (same_trans eq laws (at (glue eq (before k es) r.above) j) (or_else (at (before k es) j) (at r.above j)) (cut_at k (at es) j)
+      (same_trans eq laws (at (glue eq (before k es) r.above) j) (option_or (at (before k es) j) (at r.above j)) (cut_at k (at es) j)
       (at_glue eq laws (before k es) r.above j (canonical_before eq k es c) above_is)
       (same_along eq refl (two j) (same_or (at (before k es) j) (at r.above j) (at (after k es) j) (back eq laws (after k es) r.above (content_as eq laws (after k es) r.above r.like) j))))
 

@@ -1,4 +1,6 @@
 -- Keys put one after another behind a list: what is kept of the pairs asked at.
+use Rattle.blaze_int.specs.Unsigned.{nat_of}
+use Rattle.std.specs.Option.{option_or}
 use Rattle.std.proofs.Common.{◌≡◌, ℕ, ◌+◌, ℤ, pos, ◌+ℤ◌, ◌-ℤ◌, ◌≤ℤ◌, Bool, true, false, cond, List, [], ◌∷◌, ◌++◌, Option, Some, None, refl, ap, sym, ◌∙◌, subst, arith, append_assoc, append-nil}
 use Rattle.std.specs.Ordering.{int_eq}
 use Rattle.std.specs.Cmp.{IsEquivalence}
@@ -8,7 +10,7 @@ use Rattle.std.proofs.lemmas.List.{length-append}
 use Rattle.blaze_entries.proofs.InTurn.{returns-push, picked-push_true, picked-push_false}
 use Rattle.blaze_table.specs.Entries.{Entry, entry, at, SameOption}
 use Rattle.blaze_table.specs.Canonical.{IsCanonical, AreKeys}
-use Rattle.blaze_table.specs.Count.{keys_in, nat_of}
+use Rattle.blaze_table.specs.Count.{keys_in}
 use Rattle.blaze_table.specs.Keeping.{AddsKey, IsKept, KeepsMore}
 use Rattle.blaze_table.specs.Pairs.{pairs_from, pairs_of, pair_list, value_at}
 use Rattle.blaze_table.specs.Splice.{glue, IsBelow}
@@ -16,7 +18,7 @@ use Rattle.blaze_table.specs.Table.{IsTable}
 use Rattle.blaze_table.proofs.Counted.{keys_glue, are_keys_glue, some_keys}
 use Rattle.blaze_table.proofs.Lookup.{IsAbove, IsAbove-from_apart, at_in, at_under, at_over}
 use Rattle.blaze_table.proofs.PairLists.{nat_of-pos, pairs_append, pair_list-push}
-use Rattle.blaze_table.proofs.Splices.{or_else, canonical_glue, at_glue, below_glue, below_more}
+use Rattle.blaze_table.proofs.Splices.{canonical_glue, at_glue, below_glue, below_more}
 use Rattle.blaze_table.proofs.Splits.{canonical_part}
 use Rattle.blaze_table.proofs.Unique.{same_along, same_trans}
 
@@ -24,12 +26,11 @@ use Rattle.blaze_table.proofs.Unique.{same_along, same_trans}
 pub keys_added : {V : Type 0} (eq : V → V → Bool) (k : ℤ) (v : V) (old new : List (Entry V)) → AddsKey eq k v old new → keys_in new ≡ keys_in old +ℤ pos 1
 keys_added eq k v old new a = ap keys_in a.glued ∙ omega (arith, ints, keys_glue eq old (entry k k a.value ∷ []))
 
-value_at-push : {T V : Type 0} (rank : T → ℤ) (ps : List (T × V)) (p : T × V) (k : ℤ) → value_at rank (ps ++ p ∷ []) k ≡ or_else (value_at rank ps k) (cond (int_eq k (rank p.0)) (Some p.1) None)
-unfolding or_else
+value_at-push : {T V : Type 0} (rank : T → ℤ) (ps : List (T × V)) (p : T × V) (k : ℤ) → value_at rank (ps ++ p ∷ []) k ≡ option_or (value_at rank ps k) (cond (int_eq k (rank p.0)) (Some p.1) None)
 value_at-push rank [] p k = refl
 value_at-push rank (q ∷ ps) p k = first (int_eq k (rank q.0)) (value_at-push rank ps p k)
   where
-    first : (b : Bool) → value_at rank (ps ++ p ∷ []) k ≡ or_else (value_at rank ps k) (cond (int_eq k (rank p.0)) (Some p.1) None) → cond b (Some q.1) (value_at rank (ps ++ p ∷ []) k) ≡ or_else (cond b (Some q.1) (value_at rank ps k)) (cond (int_eq k (rank p.0)) (Some p.1) None)
+    first : (b : Bool) → value_at rank (ps ++ p ∷ []) k ≡ option_or (value_at rank ps k) (cond (int_eq k (rank p.0)) (Some p.1) None) → cond b (Some q.1) (value_at rank (ps ++ p ∷ []) k) ≡ option_or (cond b (Some q.1) (value_at rank ps k)) (cond (int_eq k (rank p.0)) (Some p.1) None)
     first true e = refl
     first false e = e
 
@@ -73,8 +74,7 @@ module _ {F T V : Type 0} (R : F → T × V → Bool → F → Type 0) (f : F) (
   }
 
   module _ (laws : IsEquivalence eq) where
-    same_or : (a b c d : Option V) → SameOption eq a b → SameOption eq c d → SameOption eq (or_else a c) (or_else b d)
-    unfolding or_else
+    same_or : (a b c d : Option V) → SameOption eq a b → SameOption eq c d → SameOption eq (option_or a c) (option_or b d)
     same_or None None c d s t = t
     same_or None (Some y) c d s t = absurd s
     same_or (Some x) None c d s t = absurd s
@@ -98,10 +98,10 @@ module _ {F T V : Type 0} (R : F → T × V → Bool → F → Type 0) (f : F) (
     more_yes p k es new is from to r a pairs h =
         let one = entry k k a.value ∷ [] in
         let canonical = canonical_glue eq laws (k -ℤ pos 1) es one h.canonical (omega (arith, ints), tt, tt) (below_more k (k -ℤ pos 1 +ℤ pos 1) es (omega (arith, ints)) h.below) (omega (arith, ints)) in
-        let like : (j : ℤ) → SameOption eq (at (glue eq es one) j) (or_else (value_at rank (items_where_true h.answers pairs) j) (cond (int_eq j k) (Some p.1) None)) = λ j.
+        let like : (j : ℤ) → SameOption eq (at (glue eq es one) j) (option_or (value_at rank (items_where_true h.answers pairs) j) (cond (int_eq j k) (Some p.1) None)) = λ j.
         same_trans eq laws _ _ _ (at_glue eq laws es one j h.canonical (omega (arith, ints), tt, tt)) (same_or (at es j) _ (at one j) _ (h.content j) (one_key k j p.1 a.value a.like)) in
-        let value : (j : ℤ) → value_at rank (items_where_true (h.answers ++ true ∷ []) (pairs ++ p ∷ [])) j ≡ or_else (value_at rank (items_where_true h.answers pairs) j) (cond (int_eq j k) (Some p.1) None) = λ j.
-        ap (λ ps. value_at rank ps j) (picked-push_true h.answers pairs p h.long) ∙ value_at-push rank (items_where_true h.answers pairs) p j ∙ ap (λ z. or_else (value_at rank (items_where_true h.answers pairs) j) (cond (int_eq j z) (Some p.1) None)) is in
+        let value : (j : ℤ) → value_at rank (items_where_true (h.answers ++ true ∷ []) (pairs ++ p ∷ [])) j ≡ option_or (value_at rank (items_where_true h.answers pairs) j) (cond (int_eq j k) (Some p.1) None) = λ j.
+        ap (λ ps. value_at rank ps j) (picked-push_true h.answers pairs p h.long) ∙ value_at-push rank (items_where_true h.answers pairs) p j ∙ ap (λ z. option_or (value_at rank (items_where_true h.answers pairs) j) (cond (int_eq j z) (Some p.1) None)) is in
         record {
           answers = h.answers ++ true ∷ [];
           long = omega (arith, h.long, length-append h.answers (true ∷ []), length-append pairs (p ∷ []));

@@ -1,9 +1,10 @@
 -- The set of ranges swept, and when two lists of ranges have the same keys.
+use Rattle.std.specs.Option.{option_or}
 use Rattle.std.proofs.Common.{◌≡◌, ℤ, Bool, true, false, cond, List, [], ◌∷◌, Option, Some, None, refl, ◌∙◌, sym, ap, subst}
 use Rattle.std.specs.Bool.{Decides}
 use Rattle.blaze_table.specs.Entries.{Entry, at, holds, SameOption, SameEntries}
 use Rattle.blaze_table.specs.CanonicalOf.{IsCanonicalOf}
-use Rattle.blaze_table.specs.Painted.{or_else, last_at, painted_in_order}
+use Rattle.blaze_table.specs.Painted.{last_at, painted_in_order}
 use Rattle.blaze_table.specs.RangeSets.{IsRangeSet, IsSetOf, same_ranges, unit_eq}
 use Rattle.blaze_table.proofs.Painted.{entries_themselves}
 use Rattle.blaze_table.proofs.SameLists.{same_from_test, test_from_same, content_decides}
@@ -20,7 +21,7 @@ last_is_at : (es : List (Entry (Unit {0}))) (k : ℤ) → painted_in_order es (a
 last_is_at [] k = refl
 last_is_at (e ∷ es) k = either (last_at es k) (holds e k) ∙ ap (λ o. cond (holds e k) (Some tt) o) (last_is_at es k)
   where
-    either : (o : Option (Unit {0})) (b : Bool) → or_else (or_else o (cond b (Some tt) None)) None ≡ cond b (Some tt) (or_else o None)
+    either : (o : Option (Unit {0})) (b : Bool) → option_or (option_or o (cond b (Some tt) None)) None ≡ cond b (Some tt) (option_or o None)
     either None true = refl
     either None false = refl
     either (Some u) true = refl

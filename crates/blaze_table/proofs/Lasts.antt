@@ -1,27 +1,28 @@
 -- The last pair that has a key.
+use Rattle.std.specs.Option.{option_or}
 use Rattle.std.proofs.Common.{◌≡◌, ℕ, zero, suc, ◌<◌, ℤ, pos, ◌+ℤ◌, ◌≤ℤ◌, ◌<ℤ◌, Bool, true, false, cond, List, [], ◌∷◌, Option, Some, None, refl, ◌∙◌, ap, arith}
 use Rattle.std.specs.Prelude.{slice_get}
 use Rattle.std.proofs.lemmas.Int.{ints}
 use Rattle.blaze_table.specs.Entries.{Entry, holds}
-use Rattle.blaze_table.specs.Painted.{or_else, last_at}
+use Rattle.blaze_table.specs.Painted.{last_at}
 use Rattle.blaze_table.proofs.Lookup.{holds_in, holds_under, holds_over}
 use Rattle.blaze_table.specs.Swept.{AreApart}
 
 module _ {V : Type 0} where
-  pub or_none : (a : Option V) → or_else a None ≡ a
+  pub or_none : (a : Option V) → option_or a None ≡ a
   or_none None = refl
   or_none (Some x) = refl
 
-  pub or_or : (a b c : Option V) → or_else (or_else a b) c ≡ or_else a (or_else b c)
+  pub or_or : (a b c : Option V) → option_or (option_or a b) c ≡ option_or a (option_or b c)
   or_or None b c = refl
   or_or (Some x) b c = refl
 
-  pub painted_one : (b : Bool) (v : V) (o : Option V) → cond b (Some v) o ≡ or_else (cond b (Some v) None) o
+  pub painted_one : (b : Bool) (v : V) (o : Option V) → cond b (Some v) o ≡ option_or (cond b (Some v) None) o
   painted_one true v o = refl
   painted_one false v o = refl
 
-  put : (a b : Option V) (x y : Bool) (v : V) → a ≡ b → x ≡ y → or_else a (cond x (Some v) None) ≡ or_else b (cond y (Some v) None)
-  put a b x y v p q = ap (λ o. or_else o (cond x (Some v) None)) p ∙ ap (λ z. or_else b (cond z (Some v) None)) q
+  put : (a b : Option V) (x y : Bool) (v : V) → a ≡ b → x ≡ y → option_or a (cond x (Some v) None) ≡ option_or b (cond y (Some v) None)
+  put a b x y v p q = ap (λ o. option_or o (cond x (Some v) None)) p ∙ ap (λ z. option_or b (cond z (Some v) None)) q
 
   -- no pair has the key
   pub last_none : (ps : List (Entry V)) (k : ℤ) → ((j : ℕ) (e : Entry V) → slice_get ps j ≡ Some e → holds e k ≡ false) → last_at ps k ≡ None
@@ -34,7 +35,7 @@ module _ {V : Type 0} where
   last_is (p ∷ ps) zero e k q h f =
       let same : p ≡ e = cc in
       put (last_at ps k) None (holds p k) true p.value (last_none ps k (λ i g r. f (suc i) g (omega arith) r)) (ap (λ x. holds x k) same ∙ h) ∙ ap (λ (x : Entry V). Some x.value) same
-  last_is (p ∷ ps) (suc j) e k q h f = ap (λ o. or_else o (cond (holds p k) (Some p.value) None)) (last_is ps j e k q h (λ i g l r. f (suc i) g (omega arith) r))
+  last_is (p ∷ ps) (suc j) e k q h f = ap (λ o. option_or o (cond (holds p k) (Some p.value) None)) (last_is ps j e k q h (λ i g l r. f (suc i) g (omega arith) r))
 
   -- below all pairs
   pub last_below : (b k : ℤ) (ps : List (Entry V)) → AreApart b ps → k <ℤ b → last_at ps k ≡ None

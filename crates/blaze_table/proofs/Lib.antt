@@ -54,9 +54,10 @@ pub mod Canonicals
 pub mod Held
 pub mod Pieces
 pub mod Pushed
-pub mod Starts
+pub mod Placed
 pub mod Underway
 pub mod Waitings
 pub mod Filling
 pub mod JoinedPieces
 pub mod Orders
+pub mod Indexed

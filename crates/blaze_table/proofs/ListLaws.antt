@@ -1,10 +1,11 @@
 -- The laws in the words of the content.
+use Rattle.blaze_int.specs.Unsigned.{nat_of}
 use Rattle.std.proofs.Common.{◌≡◌, ℕ, zero, suc, ℤ, pos, negsuc, ◌+ℤ◌, ◌-ℤ◌, ◌≤ℤ◌, Bool, List, [], ◌∷◌, refl, sym, arith}
 use Rattle.std.proofs.lemmas.Int.{ints}
 use Rattle.std.specs.Cmp.{IsEquivalence}
 use Rattle.blaze_table.specs.Entries.{Entry, at}
 use Rattle.blaze_table.specs.Canonical.{IsCanonical, AreKeys}
-use Rattle.blaze_table.specs.Count.{keys_in, mapped, nat_of, mapped_keys}
+use Rattle.blaze_table.specs.Count.{keys_in, mapped, mapped_keys}
 use Rattle.blaze_table.specs.Laws.{CanonicalIsUnique, CanonicalIsFewest, LengthsAreMapped}
 use Rattle.blaze_table.specs.Splice.{IsBelow}
 use Rattle.blaze_table.proofs.Lookup.{IsAbove}

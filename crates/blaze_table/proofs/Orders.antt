@@ -1,6 +1,8 @@
--- What tests of whole numbers say, and steps of one.
-use Rattle.std.proofs.Common.{◌≡◌, ℤ, pos, ◌+ℤ◌, ◌≤ℤ◌, ◌<ℤ◌, true, false, arith}
-use Rattle.std.specs.Prelude.{int_le, int_lt}
+-- What tests of whole numbers say, steps of one, and what a sort leaves.
+use Rattle.std.proofs.Common.{◌≡◌, suc, ◌+◌, ℤ, pos, ◌+ℤ◌, ◌≤ℤ◌, ◌<ℤ◌, Bool, true, false, List, ◌∷◌, subst, arith}
+use Rattle.std.specs.Prelude.{int_le, int_lt, slice_index_or}
+use Rattle.std.specs.List.Sorted.{IsSortedBy}
+use Rattle.std.specs.Ordering.{is_lt, int_cmp}
 use Rattle.std.proofs.lemmas.Int.{ints}
 
 pub at_most : (a b : ℤ) → int_le a b ≡ true → a ≤ℤ b
@@ -26,3 +28,11 @@ step_past e n q = omega (arith, ints)
 
 pub weaker : (a b : ℤ) → a <ℤ b → a ≤ℤ b
 weaker a b h = omega (arith, ints)
+
+pub not_less : (a b : ℤ) → is_lt (int_cmp a b) ≡ false → b ≤ℤ a
+not_less a b h = grind (arith, ints)
+
+pub tail_sorted : {X : Type 0} (lt : X → X → Bool) (x : X) (xs : List X) → IsSortedBy lt (x ∷ xs) → IsSortedBy lt xs
+tail_sorted lt x xs up k d l h =
+    let q : suc k + 1 ≡ suc (k + 1) = omega arith in
+    subst (λ m. lt (slice_index_or (x ∷ xs) m d) (slice_index_or xs k d) ≡ false) q (up (suc k) d (omega arith) (omega arith))

@@ -1,4 +1,5 @@
 -- A list that is the paint of another, but for values above that are only like the old.
+use Rattle.std.specs.Option.{option_or}
 use Rattle.std.proofs.Common.{◌≡◌, ◌+◌, ◌≤◌, ℤ, ◌≤ℤ◌, ◌<ℤ◌, Bool, true, false, cond, List, [], ◌∷◌, ◌++◌, length, Option, Some, None, refl, ◌∙◌, sym, ap, arith}
 use Rattle.std.specs.Prelude.{int_le, ◌&&◌}
 use Rattle.std.proofs.lemmas.Int.{ints}
@@ -8,7 +9,7 @@ use Rattle.blaze_table.specs.Canonical.{IsApart, IsCanonical}
 use Rattle.blaze_table.specs.Splice.{before, after, glue, IsBelow, IsPaintOf, IsListPainted}
 use Rattle.blaze_table.proofs.Lookup.{IsAbove, by_place, holds_under, holds_over}
 use Rattle.blaze_table.proofs.Unique.{same_along, same_itself, same_trans, back}
-use Rattle.blaze_table.proofs.Splices.{canonical_left, below_left, at_left, canonical_glue, canonical_after, above_after, at_glue, same_in_or, three, length-glue, length_around, or_else, before_keeps, after_skips}
+use Rattle.blaze_table.proofs.Splices.{canonical_left, below_left, at_left, canonical_glue, canonical_after, above_after, at_glue, same_in_or, three, length-glue, length_around, before_keeps, after_skips}
 
 module _ {V : Type 0} (eq : V → V → Bool) (laws : IsEquivalence eq) where
   pub entries_themselves : (es : List (Entry V)) → SameEntries eq es es
@@ -58,8 +59,7 @@ module _ {V : Type 0} (eq : V → V → Bool) (laws : IsEquivalence eq) where
       same_cond false true p x y h = cc
       same_cond false false p x y h = h
 
-  same_or_right : (a x y : Option V) → SameOption eq x y → SameOption eq (or_else a x) (or_else a y)
-  unfolding or_else
+  same_or_right : (a x y : Option V) → SameOption eq x y → SameOption eq (option_or a x) (option_or a y)
   same_or_right None x y s = s
   same_or_right (Some v) x y s = laws.refl v
 
@@ -85,7 +85,7 @@ module _ {V : Type 0} (eq : V → V → Bool) (laws : IsEquivalence eq) where
         canonical = rw r.glued (canonical_glue eq laws p.hi left r.above left_is above_is (below_left eq laws p.lo p.hi p.value es w c) (above_as p.hi (after p.hi es) r.above r.like (above_after p.hi es)));
         content = λ k. rw r.glued (same_trans eq laws (at (glue eq left r.above) k) _ _
             (at_glue eq laws left r.above k left_is above_is)
-            (same_trans eq laws _ (or_else (at left k) (at (after p.hi es) k)) _
+            (same_trans eq laws _ (option_or (at left k) (at (after p.hi es) k)) _
             (same_or_right (at left k) (at r.above k) (at (after p.hi es) k) (back eq laws (after p.hi es) r.above (content_as (after p.hi es) r.above r.like) k))
             (same_along eq refl (three eq laws p.lo p.hi p.value es w c k) (same_in_or eq laws p.lo p.hi p.value es w c (at left k) _ (at (after p.hi es) k) (at_left eq laws p.lo p.hi p.value es w c k)))));
         few = omega (arith, painted_short p es new r, length_around p.lo p.hi es w);

@@ -1,4 +1,6 @@
 -- The pair list of a range map is its content, key by key.
+use Rattle.blaze_int.specs.Unsigned.{nat_of}
+use Rattle.std.specs.Option.{option_or}
 use Rattle.std.proofs.Common.{◌≡◌, ℕ, zero, suc, ℤ, pos, ◌+ℤ◌, ◌-ℤ◌, ◌≤ℤ◌, ◌<ℤ◌, Bool, true, false, cond, List, [], ◌∷◌, ◌++◌, length, Option, Some, None, refl, ap, sym, ◌∙◌, subst, arith}
 use Rattle.std.specs.Ordering.{int_eq}
 use Rattle.std.specs.Cmp.{IsEquivalence}
@@ -6,13 +8,12 @@ use Rattle.std.proofs.lemmas.Int.{ints, by_lt_z}
 use Rattle.std.proofs.lemmas.List.{length-append}
 use Rattle.blaze_table.specs.Entries.{Entry, at}
 use Rattle.blaze_table.specs.Canonical.{IsCanonical, AreKeys}
-use Rattle.blaze_table.specs.Count.{keys_in, nat_of}
+use Rattle.blaze_table.specs.Count.{keys_in}
 use Rattle.blaze_table.specs.Laws.{PairsAreContent}
 use Rattle.blaze_table.specs.Pairs.{pairs_from, pairs_of, pair_list, value_at, IsAscendingPairs}
 use Rattle.blaze_table.proofs.Lookup.{IsAbove, IsAbove-from_apart, at_in, at_under, at_over, by_place}
 use Rattle.blaze_table.proofs.PairLists.{nat_of-pos}
 use Rattle.blaze_table.proofs.Runs.{canonical}
-use Rattle.blaze_table.proofs.Splices.{or_else}
 
 -- the n numbers from a on are the ranks of keys
 abbrev pub AreRanks : {K : Type 0} → (K → ℤ) → (ℤ → K) → ℤ → ℕ → Type 0
@@ -40,12 +41,11 @@ module _ {K V : Type 0} (rank : K → ℤ) (of_rank : ℤ → K) where
       (omega (arith, ints, is), ascending_cons (of_rank a, v) _ (subst (λ b. ArePairsAbove b (pairs_from of_rank (a +ℤ pos 1) n v ++ rest)) next i.0) i.1)
 
   -- what a list of pairs has at a key, by its parts
-  value_at-append : (ps qs : List (K × V)) (k : ℤ) → value_at rank (ps ++ qs) k ≡ or_else (value_at rank ps k) (value_at rank qs k)
-  unfolding or_else
+  value_at-append : (ps qs : List (K × V)) (k : ℤ) → value_at rank (ps ++ qs) k ≡ option_or (value_at rank ps k) (value_at rank qs k)
   value_at-append [] qs k = refl
   value_at-append (p ∷ ps) qs k = first (int_eq k (rank p.0)) (value_at-append ps qs k)
     where
-      first : (b : Bool) → value_at rank (ps ++ qs) k ≡ or_else (value_at rank ps k) (value_at rank qs k) → cond b (Some p.1) (value_at rank (ps ++ qs) k) ≡ or_else (cond b (Some p.1) (value_at rank ps k)) (value_at rank qs k)
+      first : (b : Bool) → value_at rank (ps ++ qs) k ≡ option_or (value_at rank ps k) (value_at rank qs k) → cond b (Some p.1) (value_at rank (ps ++ qs) k) ≡ option_or (cond b (Some p.1) (value_at rank ps k)) (value_at rank qs k)
       first true e = refl
       first false e = e
 
@@ -102,15 +102,14 @@ module _ {K V : Type 0} (rank : K → ℤ) (of_rank : ℤ → K) where
         further c d (p ∷ ps) l h = omega (arith, ints, h)
 
     same_list : (es : List (Entry V)) (k : ℤ) → IsCanonical eq es → AreKeys low high es → value_at rank (pair_list of_rank es) k ≡ at es k
-    unfolding or_else
     same_list [] k c h = refl
     same_list (e ∷ es) k c h =
         let r = among e c.0 h.0 h.1 in
         let i = same_list es k c.2 h.2 in
         value_at-append (pairs_of of_rank e) (pair_list of_rank es) k ∙ by_place e k
-        (λ l m. ap (λ o. or_else o (value_at rank (pair_list of_rank es) k)) (value_inside e.lo (keys_of e) e.value k r l (omega (arith, ints, keys_end e c.0))) ∙ sym (at_in e es k l m))
-        (λ l. ap (λ o. or_else o (value_at rank (pair_list of_rank es) k)) (value_under e.lo (keys_of e) e.value k r l) ∙ i ∙ sym (at_under e es k l))
-        (λ l. ap (λ o. or_else o (value_at rank (pair_list of_rank es) k)) (value_over e.lo (keys_of e) e.value k r (omega (arith, ints, keys_end e c.0))) ∙ i ∙ sym (at_over e es k l))
+        (λ l m. ap (λ o. option_or o (value_at rank (pair_list of_rank es) k)) (value_inside e.lo (keys_of e) e.value k r l (omega (arith, ints, keys_end e c.0))) ∙ sym (at_in e es k l m))
+        (λ l. ap (λ o. option_or o (value_at rank (pair_list of_rank es) k)) (value_under e.lo (keys_of e) e.value k r l) ∙ i ∙ sym (at_under e es k l))
+        (λ l. ap (λ o. option_or o (value_at rank (pair_list of_rank es) k)) (value_over e.lo (keys_of e) e.value k r (omega (arith, ints, keys_end e c.0))) ∙ i ∙ sym (at_over e es k l))
 
     long_list : (es : List (Entry V)) → IsCanonical eq es → pos (length (pair_list of_rank es)) ≡ keys_in es
     long_list [] c = refl

@@ -1,8 +1,8 @@
 -- Pair lists, taken apart at either end, and their content.
+use Rattle.blaze_int.specs.Unsigned.{nat_of}
 use Rattle.std.proofs.Common.{◌≡◌, ℕ, zero, suc, ◌+◌, ℤ, pos, negsuc, ◌+ℤ◌, ◌-ℤ◌, ◌≤ℤ◌, ◌<ℤ◌, List, [], ◌∷◌, ◌++◌, refl, ap, sym, ◌∙◌, arith, append_assoc, append-nil}
 use Rattle.std.proofs.lemmas.Int.{ints}
 use Rattle.blaze_table.specs.Entries.{Entry}
-use Rattle.blaze_table.specs.Count.{nat_of}
 use Rattle.blaze_table.specs.Pairs.{pairs_from, pairs_of, pair_list}
 
 pub nat_of-pos : (z : ℤ) → pos 0 ≤ℤ z → pos (nat_of z) ≡ z

@@ -2,7 +2,7 @@
 use Rattle.std.proofs.Common.{◌≡◌, ◌+◌, ◌≤◌, ℤ, pos, ◌+ℤ◌, ◌≤ℤ◌, ◌<ℤ◌, Bool, true, false, ◌&&◌, cond, List, [], ◌∷◌, ◌++◌, length, Option, Some, None, refl, ◌∙◌, sym, subst, ap, arith, inl, inr}
 use Rattle.std.specs.Prelude.{◌↔◌, int_le}
 use Rattle.std.specs.List.{last_or}
-use Rattle.std.specs.Option.{option_map}
+use Rattle.std.specs.Option.{option_map, option_or}
 use Rattle.std.proofs.lemmas.Int.{ints, by_lt_z}
 use Rattle.blaze_entries.specs.Found.{found_in}
 use Rattle.blaze_entries.specs.Scanned.{Seen}
@@ -10,7 +10,7 @@ use Rattle.blaze_entries.specs.Starts.{StartsAscend, below, last_below, start_at
 use Rattle.blaze_entries.proofs.Ascending.{start_none}
 use Rattle.blaze_table.specs.Entries.{Entry}
 use Rattle.blaze_table.specs.Canonical.{IsCanonical}
-use Rattle.blaze_table.specs.Painted.{IsInside, or_else}
+use Rattle.blaze_table.specs.Painted.{IsInside}
 use Rattle.blaze_table.specs.Planned.{IsPlanOf, reaches}
 use Rattle.blaze_table.specs.Splice.{before, after, IsBelow}
 use Rattle.blaze_table.proofs.Clearing.{below_below}
@@ -76,14 +76,14 @@ module _ {V : Type 0} (eq : V → V → Bool) (v : V) (l h : ℤ) (w : l ≤ℤ 
         )
 
     -- it starts there, or is the last below
-    holder_is : option_map (found_in eq v) (last_below (l +ℤ pos 1) es) ≡ or_else (option_map (found_in eq v) (start_at l es)) (option_map (found_in eq v) (last_below l es))
+    holder_is : option_map (found_in eq v) (last_below (l +ℤ pos 1) es) ≡ option_or (option_map (found_in eq v) (start_at l es)) (option_map (found_in eq v) (last_below l es))
     holder_is = by_last (last_below (l +ℤ pos 1) es) refl
       where
-        by_last : (o : Option (Entry V)) → last_below (l +ℤ pos 1) es ≡ o → option_map (found_in eq v) o ≡ or_else (option_map (found_in eq v) (start_at l es)) (option_map (found_in eq v) (last_below l es))
+        by_last : (o : Option (Entry V)) → last_below (l +ℤ pos 1) es ≡ o → option_map (found_in eq v) o ≡ option_or (option_map (found_in eq v) (start_at l es)) (option_map (found_in eq v) (last_below l es))
         by_last None q =
             let no_start = start_none l (l +ℤ pos 1) high es (omega (arith, ints)) (no_last_from (l +ℤ pos 1) low high es s q) in
             let no_left : last_below l es ≡ None = ap (last_or None) (sym (below_below l (l +ℤ pos 1) es (omega (arith, ints))) ∙ ap (below l) (no_last (l +ℤ pos 1) low high es s q)) in
-            sym (ap (λ x. or_else (option_map (found_in eq v) x) (option_map (found_in eq v) (last_below l es))) no_start ∙ ap (option_map (found_in eq v)) no_left)
+            sym (ap (λ x. option_or (option_map (found_in eq v) x) (option_map (found_in eq v) (last_below l es))) no_start ∙ ap (option_map (found_in eq v)) no_left)
         by_last (Some e) q =
             let i = last_at (l +ℤ pos 1) low high e es s q in
             let up = i.starts in
@@ -91,20 +91,20 @@ module _ {V : Type 0} (eq : V → V → Bool) (v : V) (l h : ℤ) (w : l ≤ℤ 
             (λ u.
             let left : last_below l es ≡ Some e = ap (last_or None) (same_below eq v l h low high es s c (l +ℤ pos 1) e i l u (omega (arith, ints))) ∙ q in
             let no_start : option_map (found_in eq v) (start_at l es) ≡ None = sym (first_is eq v l low high es s) ∙ ap (λ x. not_below l (option_map (found_in eq v) x)) q ∙ ap (λ b. cond b (Some (found_in eq v e)) None) (le_false l e.lo u) in
-            sym (ap (λ x. or_else x (option_map (found_in eq v) (last_below l es))) no_start ∙ ap (option_map (found_in eq v)) left))
+            sym (ap (λ x. option_or x (option_map (found_in eq v) (last_below l es))) no_start ∙ ap (option_map (found_in eq v)) left))
             (λ u.
             let same : e.lo ≡ l = omega (arith, ints) in
             let here : start_at l es ≡ Some e = ap (λ x. start_at x es) (sym same) ∙ last_there (l +ℤ pos 1) high e es i in
-            sym (ap (λ x. or_else (option_map (found_in eq v) x) (option_map (found_in eq v) (last_below l es))) here))
+            sym (ap (λ x. option_or (option_map (found_in eq v) x) (option_map (found_in eq v) (last_below l es))) here))
 
-    pub inside_seen : (p : Seen) → IsPlanOf eq l h v es p → (reaches h (or_else p.first p.left) ≡ true) ↔ IsInside eq l h v es
+    pub inside_seen : (p : Seen) → IsPlanOf eq l h v es p → (reaches h (option_or p.first p.left) ≡ true) ↔ IsInside eq l h v es
     inside_seen p r =
-        let holder : option_map (found_in eq v) (last_below (l +ℤ pos 1) es) ≡ or_else p.first p.left = holder_is ∙ sym (ap (λ x. or_else x p.left) r.first ∙ ap (or_else (option_map (found_in eq v) (start_at l es))) r.left) in
+        let holder : option_map (found_in eq v) (last_below (l +ℤ pos 1) es) ≡ option_or p.first p.left = holder_is ∙ sym (ap (λ x. option_or x p.left) r.first ∙ ap (option_or (option_map (found_in eq v) (start_at l es))) r.left) in
         let last = inside_last (last_below (l +ℤ pos 1) es) refl in
         ((λ t. last.0 (ap (reaches h) holder ∙ t)), (λ i. sym (ap (reaches h) holder) ∙ last.1 i))
 
-    pub not_reached : (p : Seen) → IsPlanOf eq l h v es p → reaches h (or_else p.first p.left) ≡ false → IsInside eq l h v es → ⊥
-    not_reached p r n i = true_false (reaches h (or_else p.first p.left)) ((inside_seen p r).1 i) n
+    pub not_reached : (p : Seen) → IsPlanOf eq l h v es p → reaches h (option_or p.first p.left) ≡ false → IsInside eq l h v es → ⊥
+    not_reached p r n i = true_false (reaches h (option_or p.first p.left)) ((inside_seen p r).1 i) n
       where
         true_false : (b : Bool) → b ≡ true → b ≡ false → ⊥
         true_false b p q = cc

@@ -1,5 +1,6 @@
 -- What a painted list has at each key, that it is canonical, and how long it is.
 use Rattle.std.proofs.Common.{◌≡◌, ◌+◌, ◌≤◌, ℤ, pos, ◌+ℤ◌, ◌-ℤ◌, ◌≤ℤ◌, ◌<ℤ◌, Bool, true, false, cond, List, [], ◌∷◌, length, Option, Some, None, refl, ◌∙◌, sym, ap, arith}
+use Rattle.std.specs.Option.{option_or}
 use Rattle.std.specs.Prelude.{int_lt, int_le, ◌&&◌}
 use Rattle.std.specs.Ordering.{int_eq}
 use Rattle.std.proofs.lemmas.Int.{ints, by_lt_z}
@@ -30,10 +31,6 @@ le_false a b h = grind (arith, ints)
 
 eq_true : (a b : ℤ) → int_eq a b ≡ true → a ≡ b
 eq_true a b h = grind (arith, ints)
-
-unfoldable pub or_else : {V : Type 0} → Option V → Option V → Option V
-or_else None y = y
-or_else (Some x) y = Some x
 
 module _ {V : Type 0} where
   -- `before`, by where its entry stands
@@ -203,13 +200,11 @@ module _ {V : Type 0} (eq : V → V → Bool) where
         (λ n p. rw p (c.0, (omega (arith, ints, l.0), n), d))
     canonical_glue b (e ∷ f ∷ L) M c d l m = (c.0, apart_glue e f L M c.1, canonical_glue b (f ∷ L) M c.2 d l.1 m)
 
-    same_or : (b : Bool) (v : V) (x y z : Option V) → SameOption eq x (or_else y z) → SameOption eq (cond b (Some v) x) (or_else (cond b (Some v) y) z)
-    unfolding or_else
+    same_or : (b : Bool) (v : V) (x y z : Option V) → SameOption eq x (option_or y z) → SameOption eq (cond b (Some v) x) (option_or (cond b (Some v) y) z)
     same_or true v x y z h = laws.refl v
     same_or false v x y z h = h
 
-    or_none : (a : Option V) → SameOption eq a (or_else a None)
-    unfolding or_else
+    or_none : (a : Option V) → SameOption eq a (option_or a None)
     or_none None = tt
     or_none (Some x) = laws.refl x
 
@@ -223,8 +218,7 @@ module _ {V : Type 0} (eq : V → V → Bool) where
         (λ u. same_along eq (sym (at_over j fs k u)) (sym (at_over e (f ∷ fs) k h ∙ at_over f fs k u)) (same_itself eq laws (at fs k)))
         (λ u. same_along eq (sym (at_in j fs k (omega (arith, ints)) u)) (sym (at_over e (f ∷ fs) k h ∙ at_in f fs k (omega (arith, ints)) u)) v))
 
-    pub at_glue : (L M : List (Entry V)) (k : ℤ) → IsCanonical eq L → IsCanonical eq M → SameOption eq (at (glue eq L M) k) (or_else (at L k) (at M k))
-    unfolding or_else
+    pub at_glue : (L M : List (Entry V)) (k : ℤ) → IsCanonical eq L → IsCanonical eq M → SameOption eq (at (glue eq L M) k) (option_or (at L k) (at M k))
     at_glue [] M k c d = same_itself eq laws (at M k)
     at_glue (e ∷ []) [] k c d = or_none (at (e ∷ []) k)
     at_glue (e ∷ []) (f ∷ fs) k c d =
@@ -247,23 +241,21 @@ module _ {V : Type 0} (eq : V → V → Bool) where
       pub canonical_paint : IsCanonical eq (paint eq l h v es)
       canonical_paint = canonical_glue h left (after h es) canonical_left (canonical_after h es c) below_left (above_after h es)
 
-      pub at_left : (k : ℤ) → SameOption eq (at left k) (or_else (at (before l es) k) (at (entry l h v ∷ []) k))
+      pub at_left : (k : ℤ) → SameOption eq (at left k) (option_or (at (before l es) k) (at (entry l h v ∷ []) k))
       at_left k = at_glue (before l es) (entry l h v ∷ []) k (canonical_before l es c) (w, tt, tt)
 
-      pub same_in_or : (a b z : Option V) → SameOption eq a b → SameOption eq (or_else a z) (or_else b z)
-      unfolding or_else
+      pub same_in_or : (a b z : Option V) → SameOption eq a b → SameOption eq (option_or a z) (option_or b z)
       same_in_or None None z s = same_itself eq laws z
       same_in_or None (Some y) z s = absurd s
       same_in_or (Some x) None z s = absurd s
       same_in_or (Some x) (Some y) z s = s
 
-      pub three : (k : ℤ) → or_else (or_else (at (before l es) k) (at (entry l h v ∷ []) k)) (at (after h es) k) ≡ painted l h v (at es) k
-      unfolding or_else
+      pub three : (k : ℤ) → option_or (option_or (at (before l es) k) (at (entry l h v ∷ []) k)) (at (after h es) k) ≡ painted l h v (at es) k
       three k = by_place (entry l h v) k
           (λ a b. rw (at-before_over l k es a, holds_in (entry l h v) k a b) refl)
           (λ a. rw (at-before_under l k es c a, holds_under (entry l h v) k a) (or_last (at es k) (at (after h es) k) (at_before eq (after h es) h k (canonical_after h es c) (above_after h es) (omega (arith, ints)))))
           (λ b. rw (at-before_over l k es (omega (arith, ints)), holds_over (entry l h v) k b) (at-after_over h k es c b))
         where
-          or_last : (a b : Option V) → b ≡ None → or_else (or_else a None) b ≡ a
+          or_last : (a b : Option V) → b ≡ None → option_or (option_or a None) b ≡ a
           or_last None b p = p
           or_last (Some x) b p = refl

@@ -1,4 +1,5 @@
 -- What is swept, one step more.
+use Rattle.std.specs.Option.{option_or}
 use Rattle.std.proofs.Common.{◌≡◌, ℤ, pos, ◌+ℤ◌, ◌-ℤ◌, ◌≤ℤ◌, ◌<ℤ◌, Bool, List, [], ◌∷◌, Option, Some, None, refl, ◌∙◌, sym, ap, subst, arith}
 use Rattle.std.specs.Cmp.{IsEquivalence}
 use Rattle.std.proofs.lemmas.Int.{ints, by_lt_z}
@@ -6,7 +7,7 @@ use Rattle.blaze_table.specs.Entries.{Entry, entry, at, SameOption}
 use Rattle.blaze_table.specs.Splice.{glue, IsBelow}
 use Rattle.blaze_table.proofs.Counted.{are_keys_glue}
 use Rattle.blaze_table.proofs.Lookup.{at_in, at_under, at_over}
-use Rattle.blaze_table.proofs.Splices.{or_else, canonical_glue, at_glue, below_glue, below_more}
+use Rattle.blaze_table.proofs.Splices.{canonical_glue, at_glue, below_glue, below_more}
 use Rattle.blaze_table.proofs.Unique.{same_along, same_trans}
 use Rattle.blaze_table.specs.Swept.{IsBare, IsSwept}
 
@@ -14,13 +15,11 @@ pub at_past : {V : Type 0} (b k : ℤ) (es : List (Entry V)) → IsBelow b es �
 at_past b k [] h l = refl
 at_past b k (e ∷ es) h l = at_over e es k (omega (arith, ints, h.0)) ∙ at_past b k es h.1 l
 
-or_none : {V : Type 0} (a : Option V) → or_else a None ≡ a
-unfolding or_else
+or_none : {V : Type 0} (a : Option V) → option_or a None ≡ a
 or_none None = refl
 or_none (Some x) = refl
 
-none_or : {V : Type 0} (a : Option V) → or_else None a ≡ a
-unfolding or_else
+none_or : {V : Type 0} (a : Option V) → option_or None a ≡ a
 none_or a = refl
 
 module _ {V : Type 0} (eq : V → V → Bool) (laws : IsEquivalence eq) (low high : ℤ) (wanted : ℤ → Option V) where
@@ -51,10 +50,10 @@ module _ {V : Type 0} (eq : V → V → Bool) (laws : IsEquivalence eq) (low hig
         canonical = canonical_glue eq laws (a -ℤ pos 1) out (e ∷ []) c.canonical (w, tt, tt) (below_more a (a -ℤ pos 1 +ℤ pos 1) out (omega (arith, ints)) c.below) (omega (arith, ints));
         keys = are_keys_glue eq low high out (e ∷ []) c.keys (f, u, tt);
         below = below_glue eq (t +ℤ pos 1) out (e ∷ []) (below_more a (t +ℤ pos 1) out (omega (arith, ints)) c.below) (omega (arith, ints), tt);
-        content = λ k l. same_trans eq laws (at (glue eq out (e ∷ [])) k) (or_else (at out k) (at (e ∷ []) k)) (wanted k) (at_glue eq laws out (e ∷ []) k c.canonical (w, tt, tt))
+        content = λ k l. same_trans eq laws (at (glue eq out (e ∷ [])) k) (option_or (at out k) (at (e ∷ []) k)) (wanted k) (at_glue eq laws out (e ∷ []) k c.canonical (w, tt, tt))
             (by_lt_z k a
-            (λ h. same_along eq (sym (ap (or_else (at out k)) (at_under e [] k h) ∙ or_none (at out k))) refl (c.content k h))
-            (λ h. same_along eq {a = Some v} {b = wanted k} (sym (ap (λ o. or_else o (at (e ∷ []) k)) (at_past a k out c.below h) ∙ none_or (at (e ∷ []) k) ∙ at_in e [] k h (omega (arith, ints)))) refl (some k h (omega (arith, ints)))));
+            (λ h. same_along eq (sym (ap (option_or (at out k)) (at_under e [] k h) ∙ or_none (at out k))) refl (c.content k h))
+            (λ h. same_along eq {a = Some v} {b = wanted k} (sym (ap (λ o. option_or o (at (e ∷ []) k)) (at_past a k out c.below h) ∙ none_or (at (e ∷ []) k) ∙ at_in e [] k h (omega (arith, ints)))) refl (some k h (omega (arith, ints)))));
       }
 
   -- nothing lies from a up to below b, and one value from there up to t

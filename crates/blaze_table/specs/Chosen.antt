@@ -1,23 +1,16 @@
 -- What operations between two maps, or a map and a set, give: at each key a choice from what the two have there.
 use Rattle.std.specs.Prelude.{ℤ, Bool, List, Option, Some, None}
+use Rattle.std.specs.Option.{option_or, option_and}
 use Rattle.blaze_table.specs.Entries.{Entry, at, SameOption}
 use Rattle.blaze_table.specs.Canonical.{IsRangeMap}
 
 -- the right one where it is there, else the left
 abbrev pub right_first : {V : Type 0} → Option V → Option V → Option V
-right_first x None = x
-right_first x (Some y) = Some y
-
--- the one that is there, where exactly one is
-abbrev pub exactly_one : {V : Type 0} → Option V → Option V → Option V
-exactly_one None y = y
-exactly_one (Some x) None = Some x
-exactly_one (Some x) (Some y) = None
+right_first x y = option_or y x
 
 -- the left one, where the right is there too
 abbrev pub left_with_right : {A B : Type 0} → Option A → Option B → Option A
-left_with_right x None = None
-left_with_right x (Some y) = x
+left_with_right x y = option_and y x
 
 -- the left one, where the right is not there
 abbrev pub left_alone : {A B : Type 0} → Option A → Option B → Option A

@@ -1,5 +1,6 @@
 -- How many keys a list of entries maps.
-use Rattle.std.specs.Prelude.{ℕ, zero, suc, is_some, ◌+◌, ℤ, pos, negsuc, ◌+ℤ◌, ◌-ℤ◌, if◌then◌else◌, List, [], ◌∷◌, Option}
+use Rattle.std.specs.Prelude.{ℕ, zero, suc, is_some, ◌+◌, ℤ, pos, ◌+ℤ◌, ◌-ℤ◌, if◌then◌else◌, List, [], ◌∷◌, Option}
+use Rattle.blaze_int.specs.Unsigned.{nat_of}
 use Rattle.blaze_table.specs.Entries.{Entry}
 
 -- the sum of the lengths of the ranges: of a disjoint list, the number of its keys
@@ -11,10 +12,6 @@ keys_in (e ∷ es) = (e.hi -ℤ e.lo +ℤ pos 1) +ℤ keys_in es
 unfoldable pub mapped : {V : Type 0} → (ℤ → Option V) → ℤ → ℕ → ℕ
 mapped content a zero = 0
 mapped content a (suc n) = (if is_some (content a) then 1 else 0) + mapped content (a +ℤ pos 1) n
-
-abbrev pub nat_of : ℤ → ℕ
-nat_of (pos n) = n
-nat_of (negsuc n) = 0
 
 -- how many of the keys from low to high have a value
 abbrev pub mapped_keys : {V : Type 0} → ℤ → ℤ → (ℤ → Option V) → ℕ

@@ -7,8 +7,8 @@ use Rattle.blaze_table.specs.declared.sweep.held.Held.{Held}
 use Rattle.blaze_table.specs.declared.sweep.held.Held.TheVariants.{Kept, Moved}
 
 -- the value that was not moved
-abbrev pub kept_value : {T V : Type 0} → T × T × V → Held V
-kept_value p = Kept p.2
+abbrev pub kept_value : {T V : Type 0} → T × T × ℕ × V → Held V
+kept_value p = Kept p.3
 
 -- the value: the one that was not moved, or that of the entry
 abbrev pub held_value : {V : Type 0} → List (Entry V) → Option (Held V) → Option V
@@ -17,15 +17,15 @@ held_value entries (Some (Kept v)) = Some v
 held_value entries (Some (Moved i)) = option_map (λ e. e.value) (slice_get entries i)
 
 abbrev pub value_in : {V : Type 0} → List (Entry V) → List (Held V) → ℕ → Option V
-value_in entries held place = held_value entries (slice_get held place)
+value_in entries held index = held_value entries (slice_get held index)
 
--- the value at the place is in the entry n
+-- the value at the index is in the entry n
 abbrev pub moved_to : {V : Type 0} → ℕ → List (Held V) → ℕ → List (Held V)
-moved_to n held place = slice_set held place (Moved n)
+moved_to n held index = slice_set held index (Moved n)
 
--- the value at the place is put behind the entries, and is in the last one
-pub record PutsPiece {V : Type 0} (eq : V → V → Bool) (l h : ℤ) (place : ℕ) (old new : List (Entry V)) (held left : List (Held V)) : Type 0 where
+-- the value at the index is put behind the entries, and is in the last one
+pub record PutsPiece {V : Type 0} (eq : V → V → Bool) (l h : ℤ) (index : ℕ) (old new : List (Entry V)) (held left : List (Held V)) : Type 0 where
   pub value : V
-  pub alike : SameOption eq (Some value) (value_in old held place)
+  pub alike : SameOption eq (Some value) (value_in old held index)
   pub glued : new ≡ glue eq old (entry l h value ∷ [])
-  pub moved : left ≡ moved_to (length new - 1) held place
+  pub moved : left ≡ moved_to (length new - 1) held index

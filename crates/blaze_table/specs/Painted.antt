@@ -1,5 +1,6 @@
 -- What painting gives: a value is put on the keys of a range.
 use Rattle.std.specs.Prelude.{◌≡◌, ℤ, ◌+◌, ◌≤◌, length, ◌≤ℤ◌, int_le, Bool, true, ◌&&◌, if◌then◌else◌, List, [], ◌∷◌, Option, Some, None, ◌⊎◌}
+use Rattle.std.specs.Option.{option_or}
 use Rattle.blaze_table.specs.Entries.{Entry, at, holds, SameOption}
 use Rattle.blaze_table.specs.Canonical.{IsRangeMap}
 
@@ -24,15 +25,11 @@ IsInside eq l h v (e ∷ es) = ((e.lo ≤ℤ l) × (h ≤ℤ e.hi) × (eq e.valu
 abbrev pub ClonesAreAlike : {V : Type 0} → (V → V → Type 0) → (V → V → Bool) → Type 0
 ClonesAreAlike {V} is_clone eq = (x y : V) → is_clone x y → eq x y ≡ true
 
-abbrev pub or_else : {V : Type 0} → Option V → Option V → Option V
-or_else None y = y
-or_else (Some x) y = Some x
-
 -- the value of the last of the entries whose range has the key
 abbrev pub last_at : {V : Type 0} → List (Entry V) → ℤ → Option V
 last_at [] k = None
-last_at (p ∷ ps) k = or_else (last_at ps k) (if holds p k then Some p.value else None)
+last_at (p ∷ ps) k = option_or (last_at ps k) (if holds p k then Some p.value else None)
 
 -- the content after the entries are painted in their order
 abbrev pub painted_in_order : {V : Type 0} → List (Entry V) → (ℤ → Option V) → ℤ → Option V
-painted_in_order ps content k = or_else (last_at ps k) (content k)
+painted_in_order ps content k = option_or (last_at ps k) (content k)

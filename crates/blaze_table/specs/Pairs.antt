@@ -1,8 +1,8 @@
 -- The pair list of a range map: each key that has a value, ascending, with that value.
+use Rattle.blaze_int.specs.Unsigned.{nat_of}
 use Rattle.std.specs.Prelude.{◌≡◌, ℕ, zero, suc, ℤ, pos, ◌+ℤ◌, ◌-ℤ◌, ◌<ℤ◌, List, [], ◌∷◌, ◌++◌, Option, Some, None, if◌then◌else◌}
 use Rattle.std.specs.Ordering.{int_eq}
 use Rattle.blaze_table.specs.Entries.{Entry}
-use Rattle.blaze_table.specs.Count.{nat_of}
 
 -- n keys, from the one with the rank a on, each with v
 abbrev pub pairs_from : {K V : Type 0} → (ℤ → K) → ℤ → ℕ → V → List (K × V)

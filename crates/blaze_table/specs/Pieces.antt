@@ -1,74 +1,93 @@
--- Pairs swept from the least key up: the words of this crate's own functions. No public clause names them. A pair is named by
--- its place in the list, from 0 on.
-use Rattle.std.specs.Prelude.{◌≡◌, ℕ, ◌<◌, ℤ, pos, ◌+ℤ◌, ◌≤ℤ◌, List, [], ◌∷◌, map, Some, All, slice_get, ◌⊎◌}
+-- Pairs swept from the least key up: the words of this crate's own functions. No public clause names them. A placed pair is of
+-- first key, last key, the pair's place in the order in which the pairs are painted, from 0 on, and value.
+use Rattle.std.specs.Prelude.{◌≡◌, ℕ, ◌<◌, ◌≤◌, ℤ, pos, ◌+ℤ◌, ◌≤ℤ◌, ◌<ℤ◌, length, Bool, List, [], ◌∷◌, map, Some, All, slice_get}
 use Rattle.std.specs.List.{Contains}
-use Rattle.blaze_table.specs.Entries.{Entry}
-use Rattle.blaze_table.specs.Painted.{last_at}
-use Rattle.blaze_table.specs.Swept.{IsBare}
+use Rattle.std.specs.Ordering.{nat_cmp, ordering_then}
+use Rattle.std.specs.declared.cmp.Ordering.{Ordering}
+use Rattle.blaze_table.specs.Entries.{Entry, entry}
+use Rattle.blaze_table.specs.CanonicalOf.{IsCanonicalOf}
 
--- ---- the starts
+-- ---- the placed pairs
 
--- the first key of the pair at its place, which has a key
-pub record IsStart {T V : Type 0} (rank : T → ℤ) (ps : List (Entry V)) (start : T × ℕ) : Type 0 where
-  pub pair : Entry V
-  pub is : slice_get ps start.1 ≡ Some pair
-  pub first : rank start.0 ≡ pair.lo
-  pub order : pair.lo ≤ℤ pair.hi
+-- the pair stands in the list at its place, and has a key
+pub record IsPlaced {T V : Type 0} (rank : T → ℤ) (ps : List (Entry V)) (p : T × T × ℕ × V) : Type 0 where
+  pub is : slice_get ps p.2 ≡ Some (entry (rank p.0) (rank p.1) p.3)
+  pub order : rank p.0 ≤ℤ rank p.1
 
-abbrev pub places_of : {T : Type 0} → List (T × ℕ) → List ℕ
-places_of starts = map (λ s. s.1) starts
+abbrev pub places_of : {T V : Type 0} → List (T × T × ℕ × V) → List ℕ
+places_of placed = map (λ p. p.2) placed
 
--- the starts of those of the first n pairs that have a key
-pub record AreStarts {T V : Type 0} (rank : T → ℤ) (ps : List (Entry V)) (n : ℕ) (starts : List (T × ℕ)) : Type 0 where
-  pub known : All (IsStart rank ps) starts
-  pub complete : (j : ℕ) → j < n → (e : Entry V) → slice_get ps j ≡ Some e → e.lo ≤ℤ e.hi → Contains (places_of starts) j
+-- those of the first n pairs that have a key, each with its place
+pub record ArePlacedBelow {T V : Type 0} (rank : T → ℤ) (ps : List (Entry V)) (n : ℕ) (placed : List (T × T × ℕ × V)) : Type 0 where
+  pub known : All (IsPlaced rank ps) placed
+  pub complete : (j : ℕ) → j < n → (e : Entry V) → slice_get ps j ≡ Some e → e.lo ≤ℤ e.hi → Contains (places_of placed) j
 
--- no start is below the key b
-abbrev pub AreFrom : {T : Type 0} → (T → ℤ) → ℤ → List (T × ℕ) → Type 0
-AreFrom rank b [] = Unit {0}
-AreFrom rank b (s ∷ ss) = (b ≤ℤ rank s.0) × AreFrom rank b ss
+-- the pairs that have a key, each with its place
+abbrev pub ArePlaced : {T V : Type 0} → (T → ℤ) → List (Entry V) → List (T × T × ℕ × V) → Type 0
+ArePlaced rank ps placed = ArePlacedBelow rank ps (length ps) placed
 
--- no start is below the one before
-abbrev pub AreAscending : {T : Type 0} → (T → ℤ) → List (T × ℕ) → Type 0
-AreAscending rank [] = Unit {0}
-AreAscending rank (s ∷ ss) = AreFrom rank (rank s.0) ss × AreAscending rank ss
+-- the pair has the key k
+abbrev pub HasKey : {T V : Type 0} → (T → ℤ) → T × T × ℕ × V → ℤ → Type 0
+HasKey rank p k = (rank p.0 ≤ℤ k) × (k ≤ℤ rank p.1)
 
--- ---- the pairs that wait
+-- the pair's ends are keys
+abbrev pub EndsAreKeys : {T V : Type 0} → (T → ℤ) → ℤ → ℤ → T × T × ℕ × V → Type 0
+EndsAreKeys rank low high p = (low ≤ℤ rank p.0) × (rank p.1 ≤ℤ high)
 
--- the pair at the place starts at or below the key a
-pub record HasStarted {V : Type 0} (ps : List (Entry V)) (a : ℤ) (place : ℕ) : Type 0 where
-  pub pair : Entry V
-  pub is : slice_get ps place ≡ Some pair
-  pub start : pair.lo ≤ℤ a
+-- no pair starts below one before it
+abbrev pub AreAscending : {T V : Type 0} → (T → ℤ) → List (T × T × ℕ × V) → Type 0
+AreAscending {T} {V} rank placed = (i j : ℕ) (p q : T × T × ℕ × V) → i ≤ j → slice_get placed i ≡ Some p → slice_get placed j ≡ Some q → rank p.0 ≤ℤ rank q.0
 
--- among the places are those of all pairs that start at or below the key `to` and have a key from a on; all have started at a
-pub record IsWaiting {V : Type 0} (ps : List (Entry V)) (a to : ℤ) (places : List ℕ) : Type 0 where
-  pub started : All (HasStarted ps a) places
-  pub complete : (j : ℕ) (e : Entry V) → slice_get ps j ≡ Some e → e.lo ≤ℤ e.hi → a ≤ℤ e.hi → e.lo ≤ℤ to → Contains places j
+-- ---- the pairs that wait, each by its place and its index among the placed pairs
 
--- the places of pairs that have a key from s on stay
-abbrev pub KeepsReaching : {V : Type 0} → List (Entry V) → ℤ → List ℕ → List ℕ → Type 0
-KeepsReaching {V} ps s old new = (j : ℕ) (e : Entry V) → slice_get ps j ≡ Some e → e.lo ≤ℤ e.hi → s ≤ℤ e.hi → Contains old j → Contains new j
+-- std's order of two numbers each
+abbrev pub place_cmp : ℕ × ℕ → ℕ × ℕ → Ordering
+place_cmp a b = ordering_then (nat_cmp a.0 b.0) (nat_cmp a.1 b.1)
 
--- ---- the pieces
+-- the pair at the index has the place, and starts at or below the key a
+pub record HasStarted {T V : Type 0} (rank : T → ℤ) (placed : List (T × T × ℕ × V)) (a : ℤ) (wait : ℕ × ℕ) : Type 0 where
+  pub pair : T × T × ℕ × V
+  pub is : slice_get placed wait.1 ≡ Some pair
+  pub place : pair.2 ≡ wait.0
+  pub start : rank pair.0 ≤ℤ a
 
--- the keys of the piece, of which there is one at least, have the value of the pair at the place that the piece names
-pub record IsPiece {V : Type 0} (ps : List (Entry V)) (piece : Entry ℕ) : Type 0 where
-  pub pair : Entry V
-  pub is : slice_get ps piece.value ≡ Some pair
+-- among those that wait are all pairs that start at or below the key `to` and have a key from a on; all have started at a
+pub record IsWaiting {T V : Type 0} (rank : T → ℤ) (placed : List (T × T × ℕ × V)) (a to : ℤ) (waits : List (ℕ × ℕ)) : Type 0 where
+  pub started : All (HasStarted rank placed a) waits
+  pub complete : (j : ℕ) (p : T × T × ℕ × V) → slice_get placed j ≡ Some p → a ≤ℤ rank p.1 → rank p.0 ≤ℤ to → Contains waits (p.2, j)
+
+-- those of them that have a key from s on stay
+abbrev pub KeepsReaching : {T V : Type 0} → (T → ℤ) → List (T × T × ℕ × V) → ℤ → List (ℕ × ℕ) → List (ℕ × ℕ) → Type 0
+KeepsReaching {T} {V} rank placed s old new = (j : ℕ) (p : T × T × ℕ × V) → slice_get placed j ≡ Some p → s ≤ℤ rank p.1 → Contains old (p.2, j) → Contains new (p.2, j)
+
+-- ---- the pieces, each with the index of its pair
+
+-- no pair has a key from a up to below b
+abbrev pub IsUncovered : {T V : Type 0} → (T → ℤ) → List (T × T × ℕ × V) → ℤ → ℤ → Type 0
+IsUncovered {T} {V} rank placed a b = (j : ℕ) (p : T × T × ℕ × V) → slice_get placed j ≡ Some p → (k : ℤ) → a ≤ℤ k → k <ℤ b → HasKey rank p k → ⊥
+
+-- the piece, which has a key, lies in the pair that it names, and no pair of a later place has a key of it
+pub record IsPiece {T V : Type 0} (rank : T → ℤ) (placed : List (T × T × ℕ × V)) (piece : Entry ℕ) : Type 0 where
+  pub pair : T × T × ℕ × V
+  pub is : slice_get placed piece.value ≡ Some pair
   pub order : piece.lo ≤ℤ piece.hi
-  pub content : (k : ℤ) → piece.lo ≤ℤ k → k ≤ℤ piece.hi → last_at ps k ≡ Some pair.value
+  pub start : rank pair.0 ≤ℤ piece.lo
+  pub end : piece.hi ≤ℤ rank pair.1
+  pub last : (j : ℕ) (p : T × T × ℕ × V) → slice_get placed j ≡ Some p → (k : ℤ) → piece.lo ≤ℤ k → k ≤ℤ piece.hi → HasKey rank p k → p.2 ≤ pair.2
 
 -- the pieces are what the pairs paint on the keys from a up to below b
-abbrev pub ArePieces : {V : Type 0} → List (Entry V) → ℤ → ℤ → List (Entry ℕ) → Type 0
-ArePieces ps a b [] = (a ≤ℤ b) × IsBare (last_at ps) a b
-ArePieces ps a b (x ∷ xs) = (a ≤ℤ x.lo) × IsBare (last_at ps) a x.lo × IsPiece ps x × ArePieces ps (x.hi +ℤ pos 1) b xs
+abbrev pub ArePieces : {T V : Type 0} → (T → ℤ) → List (T × T × ℕ × V) → ℤ → ℤ → List (Entry ℕ) → Type 0
+ArePieces rank placed a b [] = (a ≤ℤ b) × IsUncovered rank placed a b
+ArePieces rank placed a b (x ∷ xs) = (a ≤ℤ x.lo) × IsUncovered rank placed a x.lo × IsPiece rank placed x × ArePieces rank placed (x.hi +ℤ pos 1) b xs
 
--- the pieces below the key a are made, and each pair that has a key from there on waits or is to come
-pub record IsUnderway {T V : Type 0} (rank : T → ℤ) (low : ℤ) (ps : List (Entry V)) (a : ℤ) (places : List ℕ) (rest : List (T × ℕ)) (pieces : List (Entry ℕ)) : Type 0 where
-  pub made : ArePieces ps low a pieces
-  pub from : AreFrom rank a rest
-  pub ascending : AreAscending rank rest
-  pub known : All (IsStart rank ps) rest
-  pub started : All (HasStarted ps a) places
-  pub complete : (j : ℕ) (e : Entry V) → slice_get ps j ≡ Some e → e.lo ≤ℤ e.hi → a ≤ℤ e.hi → Contains places j ⊎ Contains (places_of rest) j
+-- the pieces below the key a are made, and of the first n pairs those wait that have a key from there on; the others start there
+-- or above
+pub record IsUnderway {T V : Type 0} (rank : T → ℤ) (low : ℤ) (placed : List (T × T × ℕ × V)) (a : ℤ) (n : ℕ) (waits : List (ℕ × ℕ)) (pieces : List (Entry ℕ)) : Type 0 where
+  pub made : ArePieces rank placed low a pieces
+  pub started : All (HasStarted rank placed a) waits
+  pub complete : (j : ℕ) (p : T × T × ℕ × V) → slice_get placed j ≡ Some p → j < n → a ≤ℤ rank p.1 → Contains waits (p.2, j)
+  pub others : (j : ℕ) (p : T × T × ℕ × V) → slice_get placed j ≡ Some p → n ≤ j → a ≤ℤ rank p.0
+
+-- the list is the canonical list of the pairs that are placed
+abbrev pub IsCanonicalOfPlaced : {T V : Type 0} → (V → V → Bool) → (T → ℤ) → ℤ → ℤ → List (T × T × ℕ × V) → List (Entry V) → Type 0
+IsCanonicalOfPlaced {T} {V} eq rank low high placed new = (ps : List (Entry V)) → ArePlaced rank ps placed → IsCanonicalOf eq low high ps new

@@ -1,7 +1,8 @@
--- Lists taken apart at a key and put together again: the words of this crate's own functions. No public clause names them.
+-- Lists taken apart at a key and put together again: the words of this crate's own functions. Of public clauses only those of
+-- `push_entry` name them.
 use Rattle.std.specs.Prelude.{◌≡◌, ℤ, pos, ◌+◌, ◌≤◌, length, ◌+ℤ◌, ◌-ℤ◌, ◌<ℤ◌, ◌++◌, int_lt, int_le, Bool, ◌&&◌, if◌then◌else◌, List, [], ◌∷◌}
 use Rattle.std.specs.Ordering.{int_eq}
-pub use Rattle.blaze_entries.specs.Overlap.{later, earlier, overlap, covered}
+pub use Rattle.blaze_entries.specs.Overlap.{overlap, covered}
 use Rattle.blaze_table.specs.Entries.{Entry, entry, at, SameEntries, SameOption}
 use Rattle.blaze_table.specs.Canonical.{IsCanonical}
 use Rattle.blaze_table.specs.Painted.{painted}

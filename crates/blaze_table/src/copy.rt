@@ -13,7 +13,8 @@ pub fn clone_entries<T: Integer, V: Eq + Clone>(
     entries: &Entries<T, V>,
 ) -> Result<Vec<(T, T, V)>, AllocError>
     requires { ClonesAreAlike V.is_clone V.eq }
-    ensures { IfOk result (λ copy. SameEntries V.eq entries.now.entries (listed T.rank copy.items)) }
+    ensures { IfOk result (λ copy. SameEntries V.eq entries.now.entries
+        (listed T.rank copy.items)) }
 {
     let mut copy = Vec::with_capacity(entries.allocator(), entries.len())?;
     for (start, end, value) in entries.iter() {

@@ -2,6 +2,7 @@
 ghost use Rattle.std.specs.Prelude.{◌≡◌, pos, ◌≤ℤ◌};
 ghost use Rattle.blaze_table.specs.Canonical.{IsCanonical};
 ghost use Rattle.blaze_table.specs.Count.{keys_in};
+ghost use Rattle.blaze_table.specs.Listed.{listed};
 
 use blaze_entries::Entries;
 use blaze_int::compare::length;
@@ -16,6 +17,19 @@ pub fn count<T: Integer, V: Eq>(entries: &Entries<T, V>) -> T::SafeLen
     let mut sum = T::SafeLen::zero();
     for (start, end, _) in entries.iter() {
         sum = sum.plus(length(start, end));
+    }
+    sum
+}
+
+/// How many keys the entries of a list have: first key, last key and value.
+pub fn count_list<T: Integer, V: Eq>(entries: &[(T, T, V)]) -> T::SafeLen
+    requires canonical { IsCanonical V.eq (listed T.rank entries.now) }
+    requires fits { keys_in (listed T.rank entries.now) ≤ℤ pos T.SafeLen.most }
+    ensures { pos (T.SafeLen.number result) ≡ keys_in (listed T.rank entries.now) }
+{
+    let mut sum = T::SafeLen::zero();
+    for entry in entries {
+        sum = sum.plus(length(entry.0, entry.1));
     }
     sum
 }

@@ -13,7 +13,8 @@ use blaze_int::compare::{after, before};
 pub fn gap_round<T: Integer, V: Eq>(entries: &Entries<T, V>, key: T) -> (T, T)
     requires canonical { IsCanonical V.eq entries.now.entries }
     requires unmapped { at entries.now.entries (T.rank key) ≡ None }
-    ensures { IsGap T.low T.high (at entries.now.entries) (T.rank key) (T.rank result.0) (T.rank result.1) }
+    ensures { IsGap T.low T.high (at entries.now.entries) (T.rank key) (T.rank result.0)
+        (T.rank result.1) }
 {
     (gap_start(entries, key), gap_end(entries, key))
 }
@@ -25,7 +26,8 @@ fn gap_start<T: Integer, V: Eq>(entries: &Entries<T, V>, key: T) -> T
     ensures is_key { T.low ≤ℤ T.rank result }
     ensures reaches { T.rank result ≤ℤ T.rank key }
     ensures clear { IsClearFrom (at entries.now.entries) (T.rank result) (T.rank key) }
-    ensures least { (T.rank result ≡ T.low) ⊎ IsSome (at entries.now.entries (T.rank result -ℤ pos 1)) }
+    ensures least { (T.rank result
+        ≡ T.low) ⊎ IsSome (at entries.now.entries (T.rank result -ℤ pos 1)) }
 {
     entries.in_hand();
     key.in_hand();
@@ -46,7 +48,8 @@ fn gap_end<T: Integer, V: Eq>(entries: &Entries<T, V>, key: T) -> T
     ensures is_key { T.rank result ≤ℤ T.high }
     ensures reaches { T.rank key ≤ℤ T.rank result }
     ensures clear { IsClearFrom (at entries.now.entries) (T.rank key) (T.rank result) }
-    ensures greatest { (T.rank result ≡ T.high) ⊎ IsSome (at entries.now.entries (T.rank result +ℤ pos 1)) }
+    ensures greatest { (T.rank result
+        ≡ T.high) ⊎ IsSome (at entries.now.entries (T.rank result +ℤ pos 1)) }
 {
     entries.in_hand();
     key.in_hand();

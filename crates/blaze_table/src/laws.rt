@@ -1,5 +1,6 @@
 //! The laws of canonical lists, for every value type with a lawful equality.
-ghost use Rattle.blaze_table.specs.Laws.{CanonicalIsUnique, CanonicalIsFewest, CanonicalIsShortest, LengthsAreMapped, PairsAreContent, StructureIsDefinition};
+ghost use Rattle.blaze_table.specs.Laws.{CanonicalIsUnique, CanonicalIsFewest, CanonicalIsShortest};
+ghost use Rattle.blaze_table.specs.Laws.{LengthsAreMapped, PairsAreContent, StructureIsDefinition};
 
 use blaze_int::Integer;
 

@@ -10,7 +10,8 @@ use blaze_int::compare::{is_at_most, is_below};
 /// The entry that holds a key: its first key, last key and value.
 pub fn entry_holding<T: Integer, V: Eq>(entries: &Entries<T, V>, key: T) -> Option<(T, T, &V)>
     requires { IsCanonical V.eq entries.now.entries }
-    ensures { option_map (shown_entry T.rank (λ v. v.now)) result ≡ entry_at entries.now.entries (T.rank key) }
+    ensures { option_map (shown_entry T.rank (λ v. v.now)) result
+        ≡ entry_at entries.now.entries (T.rank key) }
 {
     entries.in_hand();
     let found = entries.at_or_below(key)?;
@@ -23,7 +24,8 @@ pub fn entry_holding<T: Integer, V: Eq>(entries: &Entries<T, V>, key: T) -> Opti
 
 /// The least entry that starts above a key: its first key, last key and value.
 pub fn entry_above<T: Integer, V>(entries: &Entries<T, V>, key: T) -> Option<(T, T, &V)>
-    ensures { option_map (shown_entry T.rank (λ v. v.now)) result ≡ find (λ e. int_lt (T.rank key) e.lo) entries.now.entries }
+    ensures { option_map (shown_entry T.rank (λ v. v.now)) result
+        ≡ find (λ e. int_lt (T.rank key) e.lo) entries.now.entries }
 {
     entries.in_hand();
     key.in_hand();
@@ -33,7 +35,8 @@ pub fn entry_above<T: Integer, V>(entries: &Entries<T, V>, key: T) -> Option<(T,
 /// The greatest entry that ends below a key: its first key, last key and value.
 pub fn entry_below<T: Integer, V: Eq>(entries: &Entries<T, V>, key: T) -> Option<(T, T, &V)>
     requires { IsCanonical V.eq entries.now.entries }
-    ensures { option_map (shown_entry T.rank (λ v. v.now)) result ≡ find (λ e. int_lt e.hi (T.rank key)) (reverse entries.now.entries) }
+    ensures { option_map (shown_entry T.rank (λ v. v.now)) result
+        ≡ find (λ e. int_lt e.hi (T.rank key)) (reverse entries.now.entries) }
 {
     entries.in_hand();
     let found = entries.at_or_below(key)?;

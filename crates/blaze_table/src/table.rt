@@ -1,8 +1,11 @@
 //! The table.
-ghost use Rattle.std.specs.Prelude.{◌≡◌, ◌↔◌, ◌-◌, ◌≤ℤ◌, int_lt, pos, [], length, slice_get, find, reverse, false, None, Ok, IfOk, OnOk, OnErr, IsTrue, option_map};
+ghost use Rattle.std.specs.Prelude.{◌≡◌, ◌↔◌, ◌-◌, ◌≤ℤ◌, int_lt, pos, [], length, slice_get, find};
+ghost use Rattle.std.specs.Prelude.{reverse, false, None, Ok, IfOk, OnOk, OnErr, IsTrue};
+ghost use Rattle.std.specs.Prelude.{option_map};
 ghost use Rattle.std.specs.List.Retain.{IsFiltered};
 ghost use Rattle.blaze_table.specs.Counted.{uncounted};
-ghost use Rattle.blaze_table.specs.Entries.{Entry, entry, at, entry_at, shown_entry, SameOption, SameEntries};
+ghost use Rattle.blaze_table.specs.Entries.{Entry, entry, at, entry_at, shown_entry, SameOption};
+ghost use Rattle.blaze_table.specs.Entries.{SameEntries};
 ghost use Rattle.blaze_table.specs.Canonical.{IsRangeMap};
 ghost use Rattle.blaze_table.specs.Count.{keys_in, mapped_keys};
 ghost use Rattle.blaze_table.specs.Painted.{IsPainted, ClonesAreAlike, IsInside};
@@ -10,13 +13,14 @@ ghost use Rattle.blaze_table.specs.Cut.{IsCut, IsSplit, IsAmongOthers};
 ghost use Rattle.blaze_table.specs.Gap.{IsGap};
 ghost use Rattle.blaze_table.specs.Listed.{listed};
 ghost use Rattle.blaze_table.specs.Work.{IsCountedPaint, IsCountedCut};
-ghost use Rattle.blaze_table.specs.Retain.{AnswersAt, IsCallableAtEach, IsCallableAtPairs, IsKeyRetained};
+ghost use Rattle.blaze_table.specs.Retain.{AnswersAt, IsCallableAtEach, IsCallableAtPairs};
+ghost use Rattle.blaze_table.specs.Retain.{IsKeyRetained};
 
 use crate::copy::clone_entries;
-use crate::count::count;
+use crate::count::{count, count_list};
 use crate::cut::cut;
 use crate::gaps::gap_round;
-use crate::keep::retain_keys;
+use crate::retain_keys::retain_keys;
 use crate::search::{entry_above, entry_below, entry_holding};
 use crate::splice::{paint, paint_by_splice};
 use crate::split::split;
@@ -64,7 +68,6 @@ impl<T: Integer, V: Eq> RangeTable<T, V> {
         ensures lengths { pos (T.SafeLen.number result) ≡ keys_in self.now.entries }
         ensures mapped { T.SafeLen.number result ≡ mapped_keys T.low T.high (at self.now.entries) }
     {
-        let _ = &self.entries;
         self.len
     }
 
@@ -89,7 +92,8 @@ impl<T: Integer, V: Eq> RangeTable<T, V> {
 
     /// The entry that holds a key: its first key, last key and value.
     pub fn find(&self, key: T) -> Option<(T, T, &V)>
-        ensures entry { option_map (shown_entry T.rank (λ v. v.now)) result ≡ entry_at self.now.entries (T.rank key) }
+        ensures entry { option_map (shown_entry T.rank (λ v. v.now)) result
+            ≡ entry_at self.now.entries (T.rank key) }
         ensures value { option_map (λ e. e.2.now) result ≡ at self.now.entries (T.rank key) }
     {
         entry_holding(&self.entries, key)
@@ -97,28 +101,32 @@ impl<T: Integer, V: Eq> RangeTable<T, V> {
 
     /// The least entry: its first key, last key and value.
     pub fn first(&self) -> Option<(T, T, &V)>
-        ensures { option_map (shown_entry T.rank (λ v. v.now)) result ≡ slice_get self.now.entries 0 }
+        ensures { option_map (shown_entry T.rank (λ v. v.now)) result
+            ≡ slice_get self.now.entries 0 }
     {
         self.entries.first()
     }
 
     /// The greatest entry: its first key, last key and value.
     pub fn last(&self) -> Option<(T, T, &V)>
-        ensures { option_map (shown_entry T.rank (λ v. v.now)) result ≡ slice_get self.now.entries (length self.now.entries - 1) }
+        ensures { option_map (shown_entry T.rank (λ v. v.now)) result
+            ≡ slice_get self.now.entries (length self.now.entries - 1) }
     {
         self.entries.last()
     }
 
     /// The least entry that starts above a key: its first key, last key and value.
     pub fn next_above(&self, key: T) -> Option<(T, T, &V)>
-        ensures { option_map (shown_entry T.rank (λ v. v.now)) result ≡ find (λ e. int_lt (T.rank key) e.lo) self.now.entries }
+        ensures { option_map (shown_entry T.rank (λ v. v.now)) result
+            ≡ find (λ e. int_lt (T.rank key) e.lo) self.now.entries }
     {
         entry_above(&self.entries, key)
     }
 
     /// The greatest entry that ends below a key: its first key, last key and value.
     pub fn next_below(&self, key: T) -> Option<(T, T, &V)>
-        ensures { option_map (shown_entry T.rank (λ v. v.now)) result ≡ find (λ e. int_lt e.hi (T.rank key)) (reverse self.now.entries) }
+        ensures { option_map (shown_entry T.rank (λ v. v.now)) result
+            ≡ find (λ e. int_lt e.hi (T.rank key)) (reverse self.now.entries) }
     {
         entry_below(&self.entries, key)
     }
@@ -133,7 +141,8 @@ impl<T: Integer, V: Eq> RangeTable<T, V> {
     /// The greatest range of keys without a value that holds a key without one: its first and last key.
     pub fn gap_round(&self, key: T) -> (T, T)
         requires { at self.now.entries (T.rank key) ≡ None }
-        ensures { IsGap T.low T.high (at self.now.entries) (T.rank key) (T.rank result.0) (T.rank result.1) }
+        ensures { IsGap T.low T.high (at self.now.entries) (T.rank key) (T.rank result.0)
+            (T.rank result.1) }
     {
         gap_round(&self.entries, key)
     }
@@ -145,8 +154,8 @@ impl<T: Integer, V: Eq + Drop> RangeTable<T, V> {
         requires { IsRangeMap V.eq T.low T.high (listed T.rank entries.items) }
         ensures { IfOk result (λ table. table ≡ uncounted (listed T.rank entries.items)) }
     {
+        let len = count_list(entries.as_slice());
         let entries = Entries::from_sorted(alloc, entries)?;
-        let len = count(&entries);
         Ok(RangeTable { entries, len })
     }
 
@@ -166,7 +175,6 @@ impl<T: Integer, V: Eq + Drop> RangeTable<T, V> {
         ensures kept { IsFiltered (AnswersAt T.rank F.FnMut) f self.old.entries self.new.entries }
         ensures uncounted { self.new ≡ record self.old { entries = self.new.entries } }
     {
-        let _ = &self.entries;
         self.entries.retain(f);
         let len = count(&self.entries);
         self.len = len;
@@ -180,7 +188,6 @@ impl<T: Integer, V: Eq + Clone> RangeTable<T, V> {
         ensures same { IfOk result (λ copy. SameEntries V.eq self.now.entries copy.entries) }
         ensures uncounted { IfOk result (λ copy. copy ≡ uncounted copy.entries) }
     {
-        let _ = &self.entries;
         let copy = clone_entries(&self.entries)?;
         let entries = Entries::from_sorted(self.entries.allocator(), copy)?;
         Ok(RangeTable {
@@ -196,13 +203,15 @@ impl<T: Integer, V: Eq + Clone> RangeTable<T, V> {
     pub fn paint(&mut self, lo: T, hi: T, value: V) -> Result<bool, AllocError>
         requires order { T.rank lo ≤ℤ T.rank hi }
         requires clones { ClonesAreAlike V.is_clone V.eq }
-        ensures ok { OnOk result (IsPainted V.eq T.low T.high (entry (T.rank lo) (T.rank hi) value) self.old.entries self.new.entries) }
-        ensures changed { IfOk result (λ changed. IsTrue changed ↔ (¬ (keys_in self.new.entries ≡ keys_in self.old.entries))) }
-        ensures inside { IsInside V.eq (T.rank lo) (T.rank hi) value self.old.entries → (result ≡ Ok false) × (self.new.entries ≡ self.old.entries) }
+        ensures ok { OnOk result (IsPainted V.eq T.low T.high (entry (T.rank lo) (T.rank hi) value)
+            self.old.entries self.new.entries) }
+        ensures changed { IfOk result (λ changed. IsTrue changed ↔ (¬ (keys_in self.new.entries
+            ≡ keys_in self.old.entries))) }
+        ensures inside { IsInside V.eq (T.rank lo) (T.rank hi) value self.old.entries
+            → (result ≡ Ok false) × (self.new.entries ≡ self.old.entries) }
         ensures counted { OnOk result (IsCountedPaint self.old self.new) }
         ensures err { OnErr result (self.new.entries ≡ self.old.entries) }
     {
-        let _ = &self.entries;
         let old_len = self.len;
         let new_len = paint(&mut self.entries.counted, old_len, lo, hi, value)?;
         self.len = new_len;
@@ -213,13 +222,15 @@ impl<T: Integer, V: Eq + Clone> RangeTable<T, V> {
     pub fn paint_by_splice(&mut self, lo: T, hi: T, value: V) -> Result<bool, AllocError>
         requires order { T.rank lo ≤ℤ T.rank hi }
         requires clones { ClonesAreAlike V.is_clone V.eq }
-        ensures ok { OnOk result (IsPainted V.eq T.low T.high (entry (T.rank lo) (T.rank hi) value) self.old.entries self.new.entries) }
-        ensures changed { IfOk result (λ changed. IsTrue changed ↔ (¬ (keys_in self.new.entries ≡ keys_in self.old.entries))) }
-        ensures inside { IsInside V.eq (T.rank lo) (T.rank hi) value self.old.entries → (result ≡ Ok false) × (self.new.entries ≡ self.old.entries) }
+        ensures ok { OnOk result (IsPainted V.eq T.low T.high (entry (T.rank lo) (T.rank hi) value)
+            self.old.entries self.new.entries) }
+        ensures changed { IfOk result (λ changed. IsTrue changed ↔ (¬ (keys_in self.new.entries
+            ≡ keys_in self.old.entries))) }
+        ensures inside { IsInside V.eq (T.rank lo) (T.rank hi) value self.old.entries
+            → (result ≡ Ok false) × (self.new.entries ≡ self.old.entries) }
         ensures counted { OnOk result (IsCountedPaint self.old self.new) }
         ensures err { OnErr result (self.new.entries ≡ self.old.entries) }
     {
-        let _ = &self.entries;
         let old_len = self.len;
         let new_len = paint_by_splice(&mut self.entries.counted, old_len, lo, hi, value)?;
         self.len = new_len;
@@ -230,14 +241,16 @@ impl<T: Integer, V: Eq + Clone> RangeTable<T, V> {
     /// where the key has no value or is an entry of its own.
     pub fn cut_key(&mut self, key: T) -> Result<Option<V>, AllocError>
         requires { ClonesAreAlike V.is_clone V.eq }
-        ensures ok { OnOk result (IsCut V.eq T.low T.high (T.rank key) self.old.entries self.new.entries) }
-        ensures value { IfOk result (λ value. SameOption V.eq (at self.old.entries (T.rank key)) value) }
-        ensures none { at self.old.entries (T.rank key) ≡ None → (result ≡ Ok None) × (self.new.entries ≡ self.old.entries) }
+        ensures ok { OnOk result
+            (IsCut V.eq T.low T.high (T.rank key) self.old.entries self.new.entries) }
+        ensures value { IfOk result
+            (λ value. SameOption V.eq (at self.old.entries (T.rank key)) value) }
+        ensures none { at self.old.entries (T.rank key) ≡ None → (result ≡ Ok None)
+            × (self.new.entries ≡ self.old.entries) }
         ensures counted { OnOk result (IsCountedCut self.old self.new) }
         ensures refused { OnErr result (IsAmongOthers (T.rank key) self.old.entries) }
         ensures err { OnErr result (self.new.entries ≡ self.old.entries) }
     {
-        let _ = &self.entries;
         let old_len = self.len;
         let (value, len) = cut(&mut self.entries.counted, old_len, key)?;
         self.len = len;
@@ -249,11 +262,13 @@ impl<T: Integer, V: Eq + Clone> RangeTable<T, V> {
     pub fn retain_keys<F: Fn(&T, &V) -> bool>(&mut self, f: F) -> Result<(), AllocError>
         requires callable { IsCallableAtPairs F.Fn f T.of_rank self.old.entries }
         requires clones { ClonesAreAlike V.is_clone V.eq }
-        ensures ok { OnOk result (IsKeyRetained F.Fn f T.rank T.of_rank V.eq T.low T.high self.old.entries self.new.entries) }
-        ensures uncounted { OnOk result (self.new ≡ record self.old { entries = self.new.entries }) }
+        ensures ok { OnOk result
+            (IsKeyRetained F.Fn f T.rank T.of_rank V.eq T.low T.high self.old.entries
+            self.new.entries) }
+        ensures uncounted { OnOk result (self.new
+            ≡ record self.old { entries = self.new.entries }) }
         ensures err { OnErr result (self.new ≡ self.old) }
     {
-        let _ = &self.entries;
         let (kept, len) = retain_keys(&self.entries, self.len, &f)?;
         self.entries.set_sorted(kept)?;
         self.len = len;
@@ -263,11 +278,12 @@ impl<T: Integer, V: Eq + Clone> RangeTable<T, V> {
     /// Keeps the keys below one, and answers the table of the keys from it on. Refused memory leaves the table unchanged.
     pub fn split_at(&mut self, key: T) -> Result<Self, AllocError>
         requires { ClonesAreAlike V.is_clone V.eq }
-        ensures ok { IfOk result (λ from. IsSplit V.eq T.low T.high (T.rank key) self.old.entries self.new.entries from.entries) }
-        ensures uncounted { IfOk result (λ from. (self.new ≡ record self.old { entries = self.new.entries }) × (from ≡ uncounted from.entries)) }
+        ensures ok { IfOk result (λ from. IsSplit V.eq T.low T.high (T.rank key) self.old.entries
+            self.new.entries from.entries) }
+        ensures uncounted { IfOk result (λ from. (self.new
+            ≡ record self.old { entries = self.new.entries }) × (from ≡ uncounted from.entries)) }
         ensures err { OnErr result (self.new ≡ self.old) }
     {
-        let _ = &self.entries;
         let old_len = self.len;
         let (entries, below_len, from_len) = split(&mut self.entries, key, old_len)?;
         self.len = below_len;

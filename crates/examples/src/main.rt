@@ -6,6 +6,7 @@ mod answers;
 mod fault;
 mod labelled;
 mod many;
+mod many_joins;
 mod map_answers;
 mod maps;
 mod moved;
@@ -38,6 +39,9 @@ fn run(rt: &HostRuntime) -> Result<(), Fault> {
     answers::answered(rt)?;
     answers::of_lists(rt)?;
     many::operations(rt)?;
+    many_joins::of_maps(rt)?;
+    many_joins::of_streams(rt)?;
+    many_joins::sweeps(rt)?;
     moved::merged(rt)?;
     moved::painted(rt)?;
     labelled::coarse(rt)?;

@@ -2,9 +2,9 @@
 use crate::fault::Fault;
 use blaze_int::Integer;
 use blaze_streams::{
-    BothEnds, CheckSortedDisjoint, CheckSortedDisjointMap, IntoRangeValuesIter, MapRangesIter,
-    NotSorted, Owned, OwnedRangeValuesIter, RangeValuesIter, SortedDisjointMap, ValueCarrier,
-    intersect_with_ranges, intersection_of, subtract_ranges, symmetric_difference_of, union_of,
+    BothEnds, CheckSortedDisjoint, CheckSortedDisjointMap, IntoRangeValuesIter, NotSorted, Owned,
+    OwnedRangeValuesIter, RangeValuesIter, SortedDisjointMap, ValueCarrier, intersect_with_ranges,
+    intersection_of, ranges_of, subtract_ranges, symmetric_difference_of, union_of,
 };
 use blaze_table::RangeTable;
 use std::alloc::{AllocError, Global};
@@ -36,8 +36,8 @@ pub fn show<T: Integer, VC: ValueCarrier + Debug, I: SortedDisjointMap<T, VC>>(
     }
 }
 
-/// Prints where a list breaks the law.
-fn show_break(rt: &HostRuntime, items: &[(i64, i64, char)]) {
+/// Prints where a list violates the law.
+fn show_violation(rt: &HostRuntime, items: &[(i64, i64, char)]) {
     if let Err(Fault::NotSorted(fault)) = letters(rt.alloc(), items) {
         let _ = println!(rt; "{fault}");
     }
@@ -45,9 +45,9 @@ fn show_break(rt: &HostRuntime, items: &[(i64, i64, char)]) {
 
 /// Lists that keep the law of a stream, and lists that don't.
 pub fn checked_lists(rt: &HostRuntime) -> Result<(), Fault> {
-    show_break(rt, &[(1, 3, 'a'), (3, 5, 'b')]);
-    show_break(rt, &[(1, 2, 'a'), (3, 4, 'a')]);
-    show_break(rt, &[(5, 4, 'a')]);
+    show_violation(rt, &[(1, 3, 'a'), (3, 5, 'b')]);
+    show_violation(rt, &[(1, 2, 'a'), (3, 4, 'a')]);
+    show_violation(rt, &[(5, 4, 'a')]);
     let kept = letters(rt.alloc(), &[(1, 3, 'a'), (4, 4, 'b')])?;
     let _ = println!(rt; "{:?}", kept.size_hint());
     show(rt, "a list", kept);
@@ -150,7 +150,7 @@ pub fn of_tables(rt: &HostRuntime) -> Result<(), AllocError> {
     let _ = map.paint(0, 255, 'a')?;
     let mut last = RangeTable::<u8, char>::new(alloc);
     let _ = last.paint(255, 255, 'b')?;
-    let keys = MapRangesIter::new(&last);
+    let keys = ranges_of(&last);
     show(
         rt,
         "of tables",

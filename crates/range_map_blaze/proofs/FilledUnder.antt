@@ -1,9 +1,9 @@
 -- One map's entries filled into another.
+use Rattle.std.specs.Option.{option_or}
 use Rattle.std.proofs.Common.{◌≡◌, ℤ, Bool, true, false, cond, List, [], ◌∷◌, ◌++◌, Some, None, refl, ◌∙◌, sym, ap}
 use Rattle.std.specs.Cmp.{IsEquivalence}
 use Rattle.blaze_table.specs.Entries.{Entry, entry, at, holds, SameOption}
 use Rattle.blaze_table.specs.Canonical.{IsRangeMap}
-use Rattle.blaze_table.specs.Painted.{or_else}
 use Rattle.blaze_table.proofs.Unique.{same_along, same_itself, same_trans}
 use Rattle.range_map_blaze.specs.Filled.{IsFilled}
 use Rattle.range_map_blaze.specs.Union.{IsUnion}
@@ -14,18 +14,18 @@ use Rattle.range_map_blaze.proofs.Unions.{union_of}
 
 module _ {V : Type 0} where
   -- the first of two lists that has a value
-  at_append : (xs ys : List (Entry V)) (k : ℤ) → at (xs ++ ys) k ≡ or_else (at xs k) (at ys k)
+  at_append : (xs ys : List (Entry V)) (k : ℤ) → at (xs ++ ys) k ≡ option_or (at xs k) (at ys k)
   at_append [] ys k = refl
   at_append (x ∷ xs) ys k = either (holds x k) (at_append xs ys k)
     where
-      either : (b : Bool) → at (xs ++ ys) k ≡ or_else (at xs k) (at ys k) → cond b (Some x.value) (at (xs ++ ys) k) ≡ or_else (cond b (Some x.value) (at xs k)) (at ys k)
+      either : (b : Bool) → at (xs ++ ys) k ≡ option_or (at xs k) (at ys k) → cond b (Some x.value) (at (xs ++ ys) k) ≡ option_or (cond b (Some x.value) (at xs k)) (at ys k)
       either true p = refl
       either false p = p
 
 -- the entries of a list fill the gaps of another
 pub record IsUnder {V : Type 0} (eq : V → V → Bool) (low high : ℤ) (right done new : List (Entry V)) : Type 0 where
   pub range_map : IsRangeMap eq low high new
-  pub content : (k : ℤ) → SameOption eq (at new k) (or_else (at right k) (at done k))
+  pub content : (k : ℤ) → SameOption eq (at new k) (option_or (at right k) (at done k))
 
 module _ {V : Type 0} (eq : V → V → Bool) (laws : IsEquivalence eq) (low high : ℤ) (right : List (Entry V)) where
   pub under_none : IsRangeMap eq low high right → IsUnder eq low high right [] right
@@ -35,9 +35,9 @@ module _ {V : Type 0} (eq : V → V → Bool) (laws : IsEquivalence eq) (low hig
   pub under_more : (e : Entry V) (w : V) (done cur new : List (Entry V)) → IsUnder eq low high right done cur → IsFilled eq low high (entry e.lo e.hi w) cur new → eq e.value w ≡ true → IsUnder eq low high right (done ++ e ∷ []) new
   under_more e w done cur new u f like = record {
     range_map = f.range_map;
-    content = λ k. same_along eq {a = at new k} refl (or_or (at right k) (at done k) (at (e ∷ []) k) ∙ ap (or_else (at right k)) (sym (at_append done (e ∷ []) k)))
+    content = λ k. same_along eq {a = at new k} refl (or_or (at right k) (at done k) (at (e ∷ []) k) ∙ ap (option_or (at right k)) (sym (at_append done (e ∷ []) k)))
         (same_trans eq laws (at new k) _ _ (f.content k)
-        (or_alike eq laws (at cur k) (or_else (at right k) (at done k)) (cond (holds e k) (Some w) None) (at (e ∷ []) k) (u.content k) (either (holds e k))));
+        (or_alike eq laws (at cur k) (option_or (at right k) (at done k)) (cond (holds e k) (Some w) None) (at (e ∷ []) k) (u.content k) (either (holds e k))));
   }
     where
       either : (b : Bool) → SameOption eq (cond b (Some w) None) (cond b (Some e.value) None)

@@ -1,4 +1,5 @@
 -- A value put on the gaps of a range, one after another.
+use Rattle.std.specs.Option.{option_or}
 use Rattle.std.proofs.Common.{◌≡◌, ℤ, pos, ◌+ℤ◌, ◌-ℤ◌, ◌≤ℤ◌, ◌<ℤ◌, Bool, true, false, cond, List, Option, Some, None, refl, ◌∙◌, sym, ap, subst, arith, inl, inr}
 use Rattle.std.specs.Prelude.{IsSome}
 use Rattle.std.specs.Cmp.{IsEquivalence}
@@ -6,7 +7,7 @@ use Rattle.std.proofs.lemmas.Int.{ints, by_lt_z}
 use Rattle.blaze_table.specs.Entries.{Entry, entry, at, holds, SameOption}
 use Rattle.blaze_table.specs.Canonical.{IsRangeMap}
 use Rattle.blaze_table.specs.Gap.{IsClearFrom}
-use Rattle.blaze_table.specs.Painted.{IsPainted, or_else, painted}
+use Rattle.blaze_table.specs.Painted.{IsPainted, painted}
 use Rattle.blaze_table.proofs.Lookup.{by_place, holds_in, holds_under, holds_over}
 use Rattle.blaze_table.proofs.Unique.{same_along, same_itself, same_trans}
 use Rattle.range_map_blaze.specs.Filled.{filled, IsFilled, IsPartlyFilled, IsHeldFrom, IsFirstGap}
@@ -14,16 +15,16 @@ use Rattle.blaze_table.proofs.Lasts.{or_none}
 
 module _ {V : Type 0} where
   module _ (content : ℤ → Option V) (v : V) (l h k : ℤ) where
-    filled_in : l ≤ℤ k → k ≤ℤ h → filled l h v content k ≡ or_else (content k) (Some v)
-    filled_in a b = ap (λ t. or_else (content k) (cond t (Some v) None)) (holds_in (entry l h v) k a b)
+    filled_in : l ≤ℤ k → k ≤ℤ h → filled l h v content k ≡ option_or (content k) (Some v)
+    filled_in a b = ap (λ t. option_or (content k) (cond t (Some v) None)) (holds_in (entry l h v) k a b)
 
     filled_under : k <ℤ l → filled l h v content k ≡ content k
-    filled_under a = ap (λ t. or_else (content k) (cond t (Some v) None)) (holds_under (entry l h v) k a) ∙ or_none (content k)
+    filled_under a = ap (λ t. option_or (content k) (cond t (Some v) None)) (holds_under (entry l h v) k a) ∙ or_none (content k)
 
     filled_over : h <ℤ k → filled l h v content k ≡ content k
-    filled_over b = ap (λ t. or_else (content k) (cond t (Some v) None)) (holds_over (entry l h v) k b) ∙ or_none (content k)
+    filled_over b = ap (λ t. option_or (content k) (cond t (Some v) None)) (holds_over (entry l h v) k b) ∙ or_none (content k)
 
-  or_some : (a b : Option V) → IsSome a → or_else a b ≡ a
+  or_some : (a b : Option V) → IsSome a → option_or a b ≡ a
   or_some (Some x) b s = refl
   or_some None b s = cc
 
@@ -71,7 +72,7 @@ module _ {V : Type 0} (eq : V → V → Bool) (laws : IsEquivalence eq) where
   filled_more old cur new v w l a b n o p q before clear held one like k = by_place (entry a b w) k
       (λ x y.
       let none : old k ≡ None = sym (filled_over old v l (a -ℤ pos 1) k (omega (arith, ints))) ∙ none_same (cur k) _ (before k) (clear k x y) in
-      same_along eq {a = new k} refl (sym (filled_in old v l n k (omega (arith, ints)) (omega (arith, ints)) ∙ ap (λ o. or_else o (Some v)) none))
+      same_along eq {a = new k} refl (sym (filled_in old v l n k (omega (arith, ints)) (omega (arith, ints)) ∙ ap (λ o. option_or o (Some v)) none))
       (with_clone (new k) (same_along eq {a = new k} refl (ap (λ t. cond t (Some w) (cur k)) (holds_in (entry a b w) k x y)) (one k))))
       (λ x.
       same_along eq {a = new k} refl (filled_less old v l (a -ℤ pos 1) n (omega (arith, ints)) k (omega (arith, ints)))

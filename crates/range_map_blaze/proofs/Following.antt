@@ -8,7 +8,8 @@ use Rattle.blaze_table.specs.Canonical.{IsCanonical, IsRangeMap}
 use Rattle.blaze_table.specs.Chosen.{left_with_right, IsChosen}
 use Rattle.blaze_table.specs.Entries.{Entry, entry, at, entry_at, shown_entry, SameEntries, SameOption}
 use Rattle.blaze_table.specs.Listed.{listed}
-use Rattle.blaze_table.specs.Splice.{before, after, earlier}
+use Rattle.std.specs.Int.{int_min}
+use Rattle.blaze_table.specs.Splice.{before, after}
 use Rattle.blaze_table.proofs.Clones.{IsCopied}
 use Rattle.blaze_table.proofs.Counted.{above_by, before_none, are_keys_before, are_keys_after}
 use Rattle.blaze_table.proofs.Lookup.{IsAbove, IsAbove-from_apart, at_before, at_in, at_under, at_over, by_place, entry_in, entry_over, value-entry_at}
@@ -20,7 +21,7 @@ use Rattle.range_map_blaze.proofs.Gaps.{entry_has}
 use Rattle.range_map_blaze.specs.OneRange.{one_range}
 use Rattle.range_map_blaze.specs.Within.{within, starting_above, following, with_following}
 
-by_earlier : {P : Type 0} (a b : ℤ) → (a ≤ℤ b → earlier a b ≡ a → P) → (b <ℤ a → earlier a b ≡ b → P) → P
+by_earlier : {P : Type 0} (a b : ℤ) → (a ≤ℤ b → int_min b a ≡ a → P) → (b <ℤ a → int_min b a ≡ b → P) → P
 by_earlier a b l r = by_lt_z a b
     (λ u. l (omega (arith, ints)) (ap (λ t. cond t a b) (lt_true a b u)))
     (λ u. by_lt_z b a
@@ -81,7 +82,7 @@ module _ {V : Type 0} (eq : V → V → Bool) where
       (λ l. starting_skips k e es l ∙ none_above k es (p ∙ ap (λ t. cond t (Some e) (find (λ x. int_lt k x.lo) es)) (lt_false k e.lo l)))
 
   -- up to h the first is cut off, and then come those above its end
-  cut_first : (h : ℤ) (e : Entry V) (es : List (Entry V)) → IsCanonical eq (e ∷ es) → e.lo ≤ℤ h → before (h +ℤ pos 1) (e ∷ es) ≡ entry e.lo (earlier e.hi h) e.value ∷ following (earlier e.hi h) h es
+  cut_first : (h : ℤ) (e : Entry V) (es : List (Entry V)) → IsCanonical eq (e ∷ es) → e.lo ≤ℤ h → before (h +ℤ pos 1) (e ∷ es) ≡ entry e.lo (int_min h e.hi) e.value ∷ following (int_min h e.hi) h es
   cut_first h e es c l = by_earlier e.hi h
       (λ u p. rw (p, before_keeps (h +ℤ pos 1) e es (omega (arith, ints)), starting_all e.hi es (IsAbove-from_apart eq e es c.1)) refl)
       (λ u p.
@@ -104,12 +105,12 @@ module _ {V : Type 0} (eq : V → V → Bool) where
           let i = first_above k f es c p in
           sym (ap (before (h +ℤ pos 1)) i.here ∙ before_none eq (h +ℤ pos 1) (f ∷ i.rest) i.canonical (omega (arith, ints)))
 
-      pub next_some : f.lo ≤ℤ h → with_following h es (Some (entry f.lo (earlier f.hi h) f.value)) ≡ following k h es
+      pub next_some : f.lo ≤ℤ h → with_following h es (Some (entry f.lo (int_min h f.hi) f.value)) ≡ following k h es
       next_some l =
           let i = first_above k f es c p in
           let ordered : f.lo ≤ℤ f.hi = i.canonical.0 in
-          let reaches : f.lo ≤ℤ earlier f.hi h = by_earlier f.hi h (λ u q. rw q ordered) (λ u q. rw q l) in
-          ap (λ t. entry f.lo (earlier f.hi h) f.value ∷ before (h +ℤ pos 1) t) (i.later (earlier f.hi h) reaches)
+          let reaches : f.lo ≤ℤ int_min h f.hi = by_earlier f.hi h (λ u q. rw q ordered) (λ u q. rw q l) in
+          ap (λ t. entry f.lo (int_min h f.hi) f.value ∷ before (h +ℤ pos 1) t) (i.later (int_min h f.hi) reaches)
           ∙ sym (ap (before (h +ℤ pos 1)) i.here ∙ cut_first h f i.rest i.canonical l)
 
   pub first_none : (l h : ℤ) (es : List (Entry V)) → IsCanonical eq es → None ≡ at es l → following l h es ≡ within l h es
@@ -122,22 +123,22 @@ module _ {V : Type 0} (eq : V → V → Bool) where
           (λ a. starting_takes l e es a ∙ sym (after_keeps (l -ℤ pos 1) e es (omega (arith, ints, c.0)) (omega (arith, ints))))
           (λ b. starting_skips l e es (omega (arith, ints, c.0)) ∙ all_above es c.2 (n ∙ at_over e es l b) ∙ sym (after_skips (l -ℤ pos 1) e es (omega (arith, ints))))
 
-  pub first_some : (l h : ℤ) (e : Entry V) (es : List (Entry V)) → IsCanonical eq es → l ≤ℤ h → Some e ≡ entry_at es l → with_following h es (Some (entry l (earlier e.hi h) e.value)) ≡ within l h es
+  pub first_some : (l h : ℤ) (e : Entry V) (es : List (Entry V)) → IsCanonical eq es → l ≤ℤ h → Some e ≡ entry_at es l → with_following h es (Some (entry l (int_min h e.hi) e.value)) ≡ within l h es
   first_some l h e [] c o p = cc
   first_some l h e (d ∷ ds) c o p = by_place d l
       (λ a b.
       let same : d ≡ e = cc (p, entry_in d ds l a b) in
       let cut = cut_after d ds a b in
-      let reaches : l ≤ℤ earlier d.hi h = by_earlier d.hi h (λ u q. rw q b) (λ u q. rw q o) in
-      subst (λ (x : Entry V). with_following h (d ∷ ds) (Some (entry l (earlier x.hi h) x.value)) ≡ within l h (d ∷ ds)) same
-      (ap (λ t. entry l (earlier d.hi h) d.value ∷ t) (following_skips (earlier d.hi h) h d ds (omega (arith, ints)))
+      let reaches : l ≤ℤ int_min h d.hi = by_earlier d.hi h (λ u q. rw q b) (λ u q. rw q o) in
+      subst (λ (x : Entry V). with_following h (d ∷ ds) (Some (entry l (int_min h x.hi) x.value)) ≡ within l h (d ∷ ds)) same
+      (ap (λ t. entry l (int_min h d.hi) d.value ∷ t) (following_skips (int_min h d.hi) h d ds (omega (arith, ints)))
       ∙ sym (ap (before (h +ℤ pos 1)) cut ∙ cut_first h (entry l d.hi d.value) ds (subst (IsCanonical eq) cut (canonical_after eq (l -ℤ pos 1) (d ∷ ds) c)) o)))
       (λ a. cc (ap (option_map (λ (x : Entry V). x.value)) p, value-entry_at (d ∷ ds) l, at_before eq (d ∷ ds) l l c a (omega (arith, ints))))
       (λ b.
       let q = p ∙ entry_over d ds l b in
       let has = entry_has e ds l q in
-      let reaches : l ≤ℤ earlier e.hi h = by_earlier e.hi h (λ u r. rw r has.1) (λ u r. rw r o) in
-      ap (λ t. entry l (earlier e.hi h) e.value ∷ t) (following_skips (earlier e.hi h) h d ds (omega (arith, ints, c.0)))
+      let reaches : l ≤ℤ int_min h e.hi = by_earlier e.hi h (λ u r. rw r has.1) (λ u r. rw r o) in
+      ap (λ t. entry l (int_min h e.hi) e.value ∷ t) (following_skips (int_min h e.hi) h d ds (omega (arith, ints, c.0)))
       ∙ first_some l h e ds c.2 o q
       ∙ sym (ap (before (h +ℤ pos 1)) (after_skips (l -ℤ pos 1) d ds (omega (arith, ints)))))
     where

@@ -1,11 +1,11 @@
 -- The entry at a key, and the first gap behind it.
+use Rattle.blaze_int.specs.Unsigned.{nat_of}
 use Rattle.std.proofs.Common.{◌≡◌, ◌<◌, ℤ, pos, ◌-ℤ◌, ◌≤ℤ◌, ◌<ℤ◌, Bool, true, false, cond, List, [], ◌∷◌, Some, None, refl, ◌∙◌, sym, subst, arith}
 use Rattle.std.specs.Prelude.{IsSome, find, int_lt}
 use Rattle.std.specs.Cmp.{IsEquivalence}
 use Rattle.std.proofs.lemmas.Int.{ints, by_lt_z}
 use Rattle.blaze_table.specs.Entries.{Entry, at, entry_at, holds}
 use Rattle.blaze_table.specs.Canonical.{IsRangeMap}
-use Rattle.blaze_table.specs.Count.{nat_of}
 use Rattle.blaze_table.proofs.Between.{IsAboveGap, above_gap}
 use Rattle.blaze_table.proofs.Lookup.{by_place, entry_in, entry_under, entry_over, holds_in}
 use Rattle.blaze_table.proofs.PairLists.{nat_of-pos}

@@ -1,4 +1,5 @@
 -- The keys of joins of maps, and of maps with what a closure answers at their values.
+use Rattle.blaze_int.specs.Unsigned.{nat_of}
 use Rattle.std.proofs.Common.{◌≡◌, ℕ, zero, suc, ◌+◌, ℤ, pos, ◌+ℤ◌, ◌-ℤ◌, ◌<ℤ◌, Bool, cond, List, [], ◌∷◌, Option, None, refl, ◌∙◌, sym, ap, subst, arith}
 use Rattle.std.specs.Option.{is_some}
 use Rattle.std.specs.Cmp.{IsEquivalence}
@@ -7,7 +8,7 @@ use Rattle.std.proofs.lemmas.Int.{ints, by_lt_z}
 use Rattle.std.proofs.lemmas.List.{length-map}
 use Rattle.blaze_table.specs.Entries.{Entry, at, SameOption}
 use Rattle.blaze_table.specs.Canonical.{AreKeys}
-use Rattle.blaze_table.specs.Count.{mapped, nat_of}
+use Rattle.blaze_table.specs.Count.{mapped}
 use Rattle.blaze_table.proofs.ListLaws.{canonical_is_unique}
 use Rattle.blaze_table.proofs.Lookup.{at_under, at_over}
 use Rattle.blaze_table.proofs.Unique.{same_trans, back}
@@ -28,11 +29,11 @@ answers_are_on_its_keys {V = V} shows g eq low high f entries new t =
     same_keys low high entries new (answers_keep_keys V eq entries t.answers new (t.in_turn.count ∙ length-map entries (λ e. e.value)) t.content)
 
 -- no key below the least or above the greatest is mapped
-below_all : {V : Type 0} (low high : ℤ) (es : List (Entry V)) (k : ℤ) → AreKeys low high es → k <ℤ low → at es k ≡ None
+pub below_all : {V : Type 0} (low high : ℤ) (es : List (Entry V)) (k : ℤ) → AreKeys low high es → k <ℤ low → at es k ≡ None
 below_all low high [] k a h = refl
 below_all low high (e ∷ es) k a h = at_under e es k (omega (arith, ints, a.0)) ∙ below_all low high es k a.2 h
 
-above_all : {V : Type 0} (low high : ℤ) (es : List (Entry V)) (k : ℤ) → AreKeys low high es → high <ℤ k → at es k ≡ None
+pub above_all : {V : Type 0} (low high : ℤ) (es : List (Entry V)) (k : ℤ) → AreKeys low high es → high <ℤ k → at es k ≡ None
 above_all low high [] k a h = refl
 above_all low high (e ∷ es) k a h = at_over e es k (omega (arith, ints, a.1)) ∙ above_all low high es k a.2 h
 

@@ -5,16 +5,16 @@ use Rattle.std.specs.Cmp.{IsEquivalence}
 use Rattle.std.specs.Iterator.{Yields, Drains, ExtendsWithItems}
 use Rattle.std.specs.Result.{IsErr}
 use Rattle.std.specs.declared.result.Result.{Result}
-use Rattle.std.specs.Option.{option_to_list}
+use Rattle.std.specs.Option.{option_to_list, option_or}
 use Rattle.std.proofs.lemmas.Int.{ints, by_lt_z}
 use Rattle.std.proofs.lemmas.List.{length-append, map-append}
 use Rattle.std.proofs.lemmas.Result.{MatchResult-from_err}
 use Rattle.blaze_table.specs.Entries.{Entry, holds, SameOption}
 use Rattle.blaze_table.specs.Canonical.{IsCanonical, IsRangeMap}
-use Rattle.blaze_table.specs.Painted.{IsInside, or_else, last_at}
+use Rattle.blaze_table.specs.Painted.{IsInside, last_at}
 use Rattle.blaze_table.proofs.Unique.{same_itself}
 use Rattle.range_map_blaze.specs.Extended.{AreInside, IsExtended}
-use Rattle.range_map_blaze.specs.Underway.{is_joinable, joined, IsUnderway}
+use Rattle.range_map_blaze.specs.Underway.{are_one_pair, joined, IsUnderway}
 use Rattle.range_map_blaze.proofs.Insides.{inside_both, inside_parts}
 use Rattle.range_map_blaze.proofs.Paintings.{last_append, extended_none, extended_more}
 
@@ -53,19 +53,19 @@ joined_order l h m n o q = by_lt_z m l
     (λ a. by_lt_z h n (λ b. grind (arith, ints)) (λ b. grind (arith, ints)))
 
 module _ {V : Type 0} (eq : V → V → Bool) where
-  joined_value : (b c : Bool) (v w : V) (o : Option V) → eq v w ≡ true → SameOption eq (cond c (Some v) None) o → SameOption eq (cond (b || c) (Some v) None) (or_else (cond b (Some w) None) o)
+  joined_value : (b c : Bool) (v w : V) (o : Option V) → eq v w ≡ true → SameOption eq (cond c (Some v) None) o → SameOption eq (cond (b || c) (Some v) None) (option_or (cond b (Some w) None) o)
   joined_value true c v w o e s = e
   joined_value false c v w o e s = s
 
   -- the joined pair stands for what the first stands for, and then the second
-  last_joined : (p n : Entry V) (others : List (Entry V)) (k : ℤ) → p.lo ≤ℤ p.hi → n.lo ≤ℤ n.hi → is_joinable eq p n ≡ true
+  last_joined : (p n : Entry V) (others : List (Entry V)) (k : ℤ) → p.lo ≤ℤ p.hi → n.lo ≤ℤ n.hi → are_one_pair eq p n ≡ true
       → SameOption eq (last_at (p ∷ []) k) (last_at others k) → SameOption eq (last_at (joined p n ∷ []) k) (last_at (others ++ n ∷ []) k)
   last_joined p n others k o q j s =
       let split = both (int_le n.lo (p.hi +ℤ pos 1) && int_le p.lo (n.hi +ℤ pos 1)) (eq p.value n.value) j in
       let near = both (int_le n.lo (p.hi +ℤ pos 1)) (int_le p.lo (n.hi +ℤ pos 1)) split.0 in
       let inside : holds (joined p n) k ≡ holds n k || holds p k = in_joined p.lo p.hi n.lo n.hi k o q near.0 near.1 in
       subst (λ r. SameOption eq (last_at (joined p n ∷ []) k) r) (sym (last_append others (n ∷ []) k))
-      (subst (λ b. SameOption eq (cond b (Some p.value) None) (or_else (last_at (n ∷ []) k) (last_at others k))) (sym inside)
+      (subst (λ b. SameOption eq (cond b (Some p.value) None) (option_or (last_at (n ∷ []) k) (last_at others k))) (sym inside)
       (joined_value (holds n k) (holds p k) p.value n.value (last_at others k) split.1 s))
 
   module _ (laws : IsEquivalence eq) (low high : ℤ) where
@@ -82,7 +82,7 @@ module _ {V : Type 0} (eq : V → V → Bool) where
     underway_one n pairs old cur d q = record { done = pairs; others = n ∷ []; parts = refl; extended = d; same = λ k. same_itself eq laws (last_at (n ∷ []) k); fewer = omega arith; inside = λ es c a. a; order = q }
 
     -- where both pairs lie inside, the joined one does
-    inside_joined : (p n : Entry V) (es : List (Entry V)) → IsCanonical eq es → p.lo ≤ℤ p.hi → n.lo ≤ℤ n.hi → is_joinable eq p n ≡ true → AreInside eq (p ∷ []) es → AreInside eq (n ∷ []) es → AreInside eq (joined p n ∷ []) es
+    inside_joined : (p n : Entry V) (es : List (Entry V)) → IsCanonical eq es → p.lo ≤ℤ p.hi → n.lo ≤ℤ n.hi → are_one_pair eq p n ≡ true → AreInside eq (p ∷ []) es → AreInside eq (n ∷ []) es → AreInside eq (joined p n ∷ []) es
     inside_joined p n es c o q j a b =
         let split = both (int_le n.lo (p.hi +ℤ pos 1) && int_le p.lo (n.hi +ℤ pos 1)) (eq p.value n.value) j in
         let near = both (int_le n.lo (p.hi +ℤ pos 1)) (int_le p.lo (n.hi +ℤ pos 1)) split.0 in (
@@ -96,7 +96,7 @@ module _ {V : Type 0} (eq : V → V → Bool) where
         with_key r w (inr h) = h
 
     -- the next pair is joined with the pending one
-    pub underway_joined : (p n : Entry V) (pairs old cur : List (Entry V)) → IsUnderway eq low high pairs old cur (Some p) → n.lo ≤ℤ n.hi → is_joinable eq p n ≡ true
+    pub underway_joined : (p n : Entry V) (pairs old cur : List (Entry V)) → IsUnderway eq low high pairs old cur (Some p) → n.lo ≤ℤ n.hi → are_one_pair eq p n ≡ true
         → IsUnderway eq low high (pairs ++ n ∷ []) old cur (Some (joined p n))
     underway_joined p n pairs old cur u q j = record {
       done = u.done;

@@ -1,4 +1,5 @@
 -- Entries whose values are lent, and the entries with the values themselves.
+use Rattle.std.specs.Option.{option_or}
 use Rattle.std.proofs.Common.{◌≡◌, ◌+◌, ℤ, Bool, true, false, cond, List, [], ◌∷◌, ◌++◌, length, map, Option, Some, None, refl, ◌∙◌, sym, ap, subst, arith}
 use Rattle.std.specs.Prelude.{int_le}
 use Rattle.std.specs.Cmp.{IsEquivalence}
@@ -7,7 +8,7 @@ use denote.Ref.{Bor}
 use Rattle.blaze_table.specs.Entries.{Entry, at, holds, shown_entry, SameOption, SameEntries}
 use Rattle.blaze_table.specs.Canonical.{IsApart, IsCanonical, AreKeys, IsRangeMap}
 use Rattle.blaze_table.specs.Listed.{listed}
-use Rattle.blaze_table.specs.Painted.{or_else, last_at, painted_in_order}
+use Rattle.blaze_table.specs.Painted.{last_at, painted_in_order}
 use Rattle.blaze_table.proofs.Painted.{content_as, length_as}
 use Rattle.blaze_table.proofs.Runs.{canonical, one_per_run}
 use Rattle.blaze_table.proofs.Unique.{same_along, same_trans, back}
@@ -35,7 +36,7 @@ module _ {V : Type 0} where
   value_of_cond true v o = refl
   value_of_cond false v o = refl
 
-  value_of_or : (a b : Option (Bor V)) → value_of (or_else a b) ≡ or_else (value_of a) (value_of b)
+  value_of_or : (a b : Option (Bor V)) → value_of (option_or a b) ≡ option_or (value_of a) (value_of b)
   value_of_or None b = refl
   value_of_or (Some v) b = refl
 
@@ -48,11 +49,11 @@ module _ {V : Type 0} where
   last_itself (p ∷ ps) k =
       let here = value_of_cond (holds p k) p.value None in
       value_of_or (last_at ps k) (cond (holds p k) (Some p.value) None)
-      ∙ ap (λ o. or_else o (value_of (cond (holds p k) (Some p.value) None))) (last_itself ps k)
-      ∙ ap (λ o. or_else (last_at (map itself ps) k) o) here
+      ∙ ap (λ o. option_or o (value_of (cond (holds p k) (Some p.value) None))) (last_itself ps k)
+      ∙ ap (λ o. option_or (last_at (map itself ps) k) o) here
 
   painted_itself : (ps : List (Entry (Bor V))) (k : ℤ) → value_of (painted_in_order ps (at []) k) ≡ painted_in_order (map itself ps) (at []) k
-  painted_itself ps k = value_of_or (last_at ps k) None ∙ ap (λ o. or_else o None) (last_itself ps k)
+  painted_itself ps k = value_of_or (last_at ps k) None ∙ ap (λ o. option_or o None) (last_itself ps k)
 
   keyed_itself : (ps : List (Entry (Bor V))) → keyed (map itself ps) ≡ keyed ps
   keyed_itself [] = refl

@@ -1,11 +1,12 @@
 -- Pairs painted in parts, one part after another.
+use Rattle.std.specs.Option.{option_or}
 use Rattle.std.proofs.Common.{◌≡◌, ◌-◌, ◌*◌, ◌≤◌, ℤ, ◌≤ℤ◌, ◌<ℤ◌, Bool, true, false, ◌&&◌, cond, List, [], ◌∷◌, ◌++◌, length, map, Option, Some, None, refl, ◌∙◌, sym, ap, subst, arith, inl, inr}
 use Rattle.std.specs.Prelude.{int_le}
 use Rattle.std.specs.Cmp.{IsEquivalence}
 use Rattle.std.proofs.lemmas.Int.{ints}
 use Rattle.std.proofs.lemmas.List.{length-append, map-append}
 use Rattle.blaze_table.specs.Entries.{Entry, at, holds, SameOption}
-use Rattle.blaze_table.specs.Painted.{IsInside, IsPainted, or_else, last_at, painted_in_order}
+use Rattle.blaze_table.specs.Painted.{IsInside, IsPainted, last_at, painted_in_order}
 use Rattle.blaze_table.proofs.Lasts.{or_none, or_or, painted_one}
 use Rattle.blaze_table.proofs.Unique.{same_itself, same_trans}
 use Rattle.blaze_table.specs.Canonical.{IsCanonical, IsRangeMap}
@@ -15,9 +16,9 @@ use Rattle.range_map_blaze.proofs.Insides.{inside_equal, inside_parts}
 
 module _ {V : Type 0} where
   -- the last of two lists is that of the second, where it has one
-  pub last_append : (ps qs : List (Entry V)) (k : ℤ) → last_at (ps ++ qs) k ≡ or_else (last_at qs k) (last_at ps k)
+  pub last_append : (ps qs : List (Entry V)) (k : ℤ) → last_at (ps ++ qs) k ≡ option_or (last_at qs k) (last_at ps k)
   last_append [] qs k = sym (or_none (last_at qs k))
-  last_append (p ∷ ps) qs k = ap (λ o. or_else o (cond (holds p k) (Some p.value) None)) (last_append ps qs k) ∙ or_or (last_at qs k) (last_at ps k) (cond (holds p k) (Some p.value) None)
+  last_append (p ∷ ps) qs k = ap (λ o. option_or o (cond (holds p k) (Some p.value) None)) (last_append ps qs k) ∙ or_or (last_at qs k) (last_at ps k) (cond (holds p k) (Some p.value) None)
 
   no_key : (p : Entry V) (k : ℤ) → p.hi <ℤ p.lo → holds p k ≡ false
   no_key p k w = grind (arith, ints)
@@ -26,7 +27,7 @@ module _ {V : Type 0} where
   last_nowhere p k w = ap (λ b. cond b (Some p.value) None) (no_key p k w)
 
 module _ {V : Type 0} (eq : V → V → Bool) (laws : IsEquivalence eq) where
-  pub or_alike : (a b c d : Option V) → SameOption eq a b → SameOption eq c d → SameOption eq (or_else a c) (or_else b d)
+  pub or_alike : (a b c d : Option V) → SameOption eq a b → SameOption eq c d → SameOption eq (option_or a c) (option_or b d)
   or_alike None None c d s t = t
   or_alike None (Some y) c d s t = absurd s
   or_alike (Some x) None c d s t = absurd s
@@ -68,8 +69,8 @@ module _ {V : Type 0} (eq : V → V → Bool) (laws : IsEquivalence eq) where
         → IsExtended eq low high (done ++ others) old new
     extended_more done others part old cur new d p s l f = record {
       range_map = p.range_map;
-      content = λ k. subst (SameOption eq (at new k)) (sym (or_or (last_at others k) (last_at done k) (at old k)) ∙ ap (λ o. or_else o (at old k)) (sym (last_append done others k)))
-          (same_trans eq laws (at new k) (painted_in_order part (at cur) k) (or_else (last_at others k) (painted_in_order done (at old) k)) (p.content k)
+      content = λ k. subst (SameOption eq (at new k)) (sym (or_or (last_at others k) (last_at done k) (at old k)) ∙ ap (λ o. option_or o (at old k)) (sym (last_append done others k)))
+          (same_trans eq laws (at new k) (painted_in_order part (at cur) k) (option_or (last_at others k) (painted_in_order done (at old) k)) (p.content k)
           (or_alike (last_at part k) (last_at others k) (at cur k) (painted_in_order done (at old) k) (s k) (d.content k)));
       few = omega (arith, d.few, p.few, length-append done others);
       alone = alone_more done others part old cur new d p l;

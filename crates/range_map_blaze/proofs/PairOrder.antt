@@ -1,6 +1,7 @@
 -- How two lists compare from their first entries on.
-use Rattle.std.proofs.Common.{◌≡◌, ℕ, suc, ◌+◌, ◌≤◌, ◌<◌, ℤ, pos, ◌+ℤ◌, ◌-ℤ◌, ◌≤ℤ◌, ◌<ℤ◌, Bool, cond, List, [], ◌∷◌, ◌++◌, length, Option, Some, None, true, false, refl, ◌∙◌, sym, ap, subst, arith, append_assoc, inl, inr, ⊎_elim}
-use Rattle.std.specs.Prelude.{◌⊎◌, int_lt}
+use Rattle.blaze_int.specs.Unsigned.{nat_of}
+use Rattle.std.proofs.Common.{◌≡◌, ◌+◌, ◌≤◌, ℤ, pos, ◌+ℤ◌, ◌-ℤ◌, ◌≤ℤ◌, Bool, List, [], ◌∷◌, ◌++◌, length, Some, None, true, false, refl, ◌∙◌, sym, ap, subst, arith, append_assoc, inl, inr, ⊎_elim}
+use Rattle.std.specs.Prelude.{◌⊎◌}
 use Rattle.std.proofs.lemmas.Int.{ints, by_lt_z}
 use Rattle.std.specs.declared.cmp.Ordering.{Ordering}
 use Rattle.std.specs.declared.cmp.Ordering.TheVariants.{Less, Equal, Greater}
@@ -9,10 +10,10 @@ use Rattle.std.specs.Ordering.{int_cmp, is_eq, is_ne, ordering_then}
 use Rattle.std.specs.Cmp.{signed_Decides}
 use Rattle.std.specs.Cmp.Lexicographic.{slice_cmp}
 use Rattle.blaze_table.specs.Canonical.{IsCanonical}
-use Rattle.blaze_table.specs.Count.{nat_of}
-use Rattle.blaze_table.specs.Entries.{Entry, entry}
-use Rattle.blaze_table.specs.Pairs.{pairs_from, pair_list}
-use Rattle.blaze_table.specs.Splice.{after, earlier}
+use Rattle.blaze_table.specs.Entries.{Entry}
+use Rattle.blaze_table.specs.Pairs.{pairs_from}
+use Rattle.std.specs.Int.{int_min}
+use Rattle.blaze_table.specs.Splice.{after}
 use Rattle.blaze_table.proofs.PairLists.{nat_of-pos, nat_of-next, pairs_append}
 use Rattle.blaze_table.proofs.Splices.{after_cuts}
 use Rattle.blaze_streams.proofs.Steady.{after_first}
@@ -110,16 +111,16 @@ module _ {V : Type 0} where
             }
 
         -- first pairs that tie go, up to the end of the shorter entry
-        pub compared_on : first_cmp value e f ≡ Equal → IsComparedOn value (e ∷ es) (f ∷ fs) (after (earlier e.hi f.hi) (e ∷ es)) (after (earlier e.hi f.hi) (f ∷ fs))
+        pub compared_on : first_cmp value e f ≡ Equal → IsComparedOn value (e ∷ es) (f ∷ fs) (after (int_min f.hi e.hi) (e ∷ es)) (after (int_min f.hi e.hi) (f ∷ fs))
         compared_on p =
             let ties = both_Equal (int_cmp e.lo f.lo) (value e.value f.value) p in
             let lo : e.lo ≡ f.lo = (signed_Decides e.lo f.lo).0 (ap is_eq ties.0) in
             by_lt_z e.hi f.hi
             (λ l.
-            let is : earlier e.hi f.hi ≡ e.hi = grind (arith, ints) in
+            let is : int_min f.hi e.hi ≡ e.hi = grind (arith, ints) in
             subst (λ m. IsComparedOn value (e ∷ es) (f ∷ fs) (after m (e ∷ es)) (after m (f ∷ fs))) (sym is) (on_to e.hi p c.0 (omega (arith, ints)) (omega (arith, ints)) (inl refl)))
             (λ l.
-            let is : earlier e.hi f.hi ≡ f.hi = grind (arith, ints) in
+            let is : int_min f.hi e.hi ≡ f.hi = grind (arith, ints) in
             subst (λ m. IsComparedOn value (e ∷ es) (f ∷ fs) (after m (e ∷ es)) (after m (f ∷ fs))) (sym is) (on_to f.hi p (omega (arith, ints, d.0)) l (omega (arith, ints)) (inr refl)))
 
       -- ---- the same by what the first entries are
@@ -144,7 +145,7 @@ module _ {V : Type 0} where
       decided_at_first (x ∷ xs) [] e f p q c d o r n = absurd cc
       decided_at_first (x ∷ xs) (y ∷ ys) e f p q c d o r n = first_decides x y xs ys c d o (r ∙ (ap (λ z. first_cmp value z f) (same_some e x p) ∙ ap (λ z. first_cmp value x z) (same_some f y q))) n
 
-      pub compared_after : (L M : List (Entry V)) (e f : Entry V) → Some e ≡ slice_get L 0 → Some f ≡ slice_get M 0 → IsCanonical eq L → IsCanonical eq M → first_cmp value e f ≡ Equal → IsComparedOn value L M (after (earlier e.hi f.hi) L) (after (earlier e.hi f.hi) M)
+      pub compared_after : (L M : List (Entry V)) (e f : Entry V) → Some e ≡ slice_get L 0 → Some f ≡ slice_get M 0 → IsCanonical eq L → IsCanonical eq M → first_cmp value e f ≡ Equal → IsComparedOn value L M (after (int_min f.hi e.hi) L) (after (int_min f.hi e.hi) M)
       compared_after [] M e f p q c d r = absurd cc
       compared_after (x ∷ xs) [] e f p q c d r = absurd cc
       compared_after (x ∷ xs) (y ∷ ys) e f p q c d r =
@@ -153,15 +154,15 @@ module _ {V : Type 0} where
           let tied : first_cmp value x y ≡ Equal = ap (λ z. first_cmp value x z) (sym other) ∙ (ap (λ z. first_cmp value z f) (sym left) ∙ r) in
           let L : List (Entry V) = x ∷ xs in
           let M : List (Entry V) = y ∷ ys in
-          subst (λ (z : Entry V). IsComparedOn value L M (after (earlier z.hi f.hi) L) (after (earlier z.hi f.hi) M)) (sym left)
-          (subst (λ (z : Entry V). IsComparedOn value L M (after (earlier x.hi z.hi) L) (after (earlier x.hi z.hi) M)) (sym other) (compared_on x y xs ys c d tied))
+          subst (λ (z : Entry V). IsComparedOn value L M (after (int_min f.hi z.hi) L) (after (int_min f.hi z.hi) M)) (sym left)
+          (subst (λ (z : Entry V). IsComparedOn value L M (after (int_min z.hi x.hi) L) (after (int_min z.hi x.hi) M)) (sym other) (compared_on x y xs ys c d tied))
 
   pub reaches_first : (L : List (Entry V)) (e : Entry V) (m : ℤ) → Some e ≡ slice_get L 0 → m ≤ℤ e.hi → Reaches m L
   reaches_first [] e m p h = tt
   reaches_first (x ∷ xs) e m p h = subst (λ (z : Entry V). m ≤ℤ z.hi) (same_some e x p) h
 
-pub earlier_left : (a b : ℤ) → earlier a b ≤ℤ a
+pub earlier_left : (a b : ℤ) → int_min b a ≤ℤ a
 earlier_left a b = grind (arith, ints)
 
-pub earlier_right : (a b : ℤ) → earlier a b ≤ℤ b
+pub earlier_right : (a b : ℤ) → int_min b a ≤ℤ b
 earlier_right a b = grind (arith, ints)

@@ -1,10 +1,11 @@
 -- A union has few entries: no more than a list that is made by painting the right list's entries over the left list.
+use Rattle.std.specs.Option.{option_or}
 use Rattle.std.proofs.Common.{◌+◌, ◌*◌, ◌≤◌, ℤ, Bool, cond, List, [], ◌∷◌, length, Option, Some, None, refl, ◌∙◌, sym, ap, subst, arith}
 use Rattle.std.specs.Cmp.{IsEquivalence}
 use Rattle.blaze_table.specs.Entries.{Entry, at, holds, SameOption, SameContent}
 use Rattle.blaze_table.specs.Canonical.{IsCanonical, IsRangeMap}
 use Rattle.blaze_table.specs.Chosen.{right_first, IsChosen}
-use Rattle.blaze_table.specs.Painted.{or_else, last_at, painted_in_order}
+use Rattle.blaze_table.specs.Painted.{last_at, painted_in_order}
 use Rattle.blaze_table.specs.Splice.{paint, after}
 use Rattle.blaze_table.proofs.Fewest.{fewest}
 use Rattle.blaze_table.proofs.Painted.{entries_themselves, is_painted}
@@ -31,8 +32,8 @@ module _ {V : Type 0} (eq : V → V → Bool) (laws : IsEquivalence eq) where
         rest.0,
         record {
           is_canonical = rest.1.is_canonical;
-          content = λ k. same_trans eq laws (at rest.0 k) (or_else (last_at ps k) (at cur k)) _ (rest.1.content k)
-              (subst (SameOption eq (or_else (last_at ps k) (at cur k))) (sym (or_or (last_at ps k) (cond (holds p k) (Some p.value) None) (at old k)))
+          content = λ k. same_trans eq laws (at rest.0 k) (option_or (last_at ps k) (at cur k)) _ (rest.1.content k)
+              (subst (SameOption eq (option_or (last_at ps k) (at cur k))) (sym (or_or (last_at ps k) (cond (holds p k) (Some p.value) None) (at old k)))
               (or_alike eq laws (last_at ps k) (last_at ps k) (at cur k) _ (same_itself eq laws (last_at ps k)) (subst (SameOption eq (at cur k)) (painted_one (holds p k) p.value (at old k)) (one.content k))));
           few = omega (arith, rest.1.few, one.few);
         },
@@ -49,5 +50,5 @@ module _ {V : Type 0} (eq : V → V → Bool) (laws : IsEquivalence eq) where
       let over = canonical eq laws right r.runs in
       let many = many_painted right left over (canonical eq laws left l.runs) in
       let same : SameContent eq new many.0 = λ k. same_trans eq laws (at new k) (right_first (at left k) (at right k)) (at many.0 k) (c.content k)
-      (same_symm (at many.0 k) _ (subst (SameOption eq (at many.0 k)) (ap (λ o. or_else o (at left k)) (last_is_first eq right k over) ∙ turned (at right k) (at left k)) (many.1.content k))) in
+      (same_symm (at many.0 k) _ (subst (SameOption eq (at many.0 k)) (ap (λ o. option_or o (at left k)) (last_is_first eq right k over) ∙ turned (at right k) (at left k)) (many.1.content k))) in
       record { chosen = c; few = omega (arith, fewest eq laws new many.0 (canonical eq laws new c.range_map.runs) (one_per_run eq laws many.0 many.1.is_canonical).disjoint same, many.1.few) }

@@ -1,11 +1,12 @@
 -- Pairs that need not be painted: those that lie inside, and those that are there already.
+use Rattle.std.specs.Option.{option_or}
 use Rattle.std.proofs.Common.{◌≡◌, ℕ, ◌-◌, ◌*◌, ◌≤◌, ℤ, Bool, cond, List, [], ◌∷◌, length, Option, Some, None, refl, ◌∙◌, sym, ap, arith, inl, inr}
 use Rattle.std.specs.Cmp.{IsEquivalence}
 use Rattle.std.proofs.lemmas.Int.{ints}
 use Rattle.blaze_table.specs.Entries.{Entry, at, holds, SameOption}
 use Rattle.blaze_table.specs.Canonical.{IsCanonical, IsRangeMap}
 use Rattle.blaze_table.specs.Chosen.{right_first}
-use Rattle.blaze_table.specs.Painted.{or_else, last_at, painted_in_order}
+use Rattle.blaze_table.specs.Painted.{last_at, painted_in_order}
 use Rattle.blaze_table.proofs.Fewest.{fewest}
 use Rattle.blaze_table.proofs.Inside.{inside_at}
 use Rattle.blaze_table.proofs.Lookup.{by_place, holds_in, holds_under, holds_over}
@@ -21,14 +22,14 @@ module _ {V : Type 0} (eq : V → V → Bool) (laws : IsEquivalence eq) where
   inside_content [] es k c a = same_itself eq laws (at es k)
   inside_content (p ∷ ps) es k c a = either (last_at ps k) (inside_content ps es k c a.1)
     where
-      alone : SameOption eq (at es k) (or_else (cond (holds p k) (Some p.value) None) (at es k))
+      alone : SameOption eq (at es k) (option_or (cond (holds p k) (Some p.value) None) (at es k))
       alone = by_place p k
-          (λ x y. same_along eq {a = at es k} refl (ap (λ t. or_else (cond t (Some p.value) None) (at es k)) (sym (holds_in p k x y)))
+          (λ x y. same_along eq {a = at es k} refl (ap (λ t. option_or (cond t (Some p.value) None) (at es k)) (sym (holds_in p k x y)))
           (elim a.0 [ inl w ↦ absurd (omega (arith, ints)) | inr i ↦ inside_at eq p.lo p.hi p.value es k c i x y ]))
-          (λ x. same_along eq {a = at es k} refl (ap (λ t. or_else (cond t (Some p.value) None) (at es k)) (sym (holds_under p k x))) (same_itself eq laws (at es k)))
-          (λ y. same_along eq {a = at es k} refl (ap (λ t. or_else (cond t (Some p.value) None) (at es k)) (sym (holds_over p k y))) (same_itself eq laws (at es k)))
+          (λ x. same_along eq {a = at es k} refl (ap (λ t. option_or (cond t (Some p.value) None) (at es k)) (sym (holds_under p k x))) (same_itself eq laws (at es k)))
+          (λ y. same_along eq {a = at es k} refl (ap (λ t. option_or (cond t (Some p.value) None) (at es k)) (sym (holds_over p k y))) (same_itself eq laws (at es k)))
 
-      either : (o : Option V) → SameOption eq (at es k) (or_else o (at es k)) → SameOption eq (at es k) (or_else (or_else o (cond (holds p k) (Some p.value) None)) (at es k))
+      either : (o : Option V) → SameOption eq (at es k) (option_or o (at es k)) → SameOption eq (at es k) (option_or (option_or o (cond (holds p k) (Some p.value) None)) (at es k))
       either None s = alone
       either (Some x) s = s
 
@@ -47,7 +48,7 @@ module _ {V : Type 0} (eq : V → V → Bool) (laws : IsEquivalence eq) where
     pub extended_union : (new : List (Entry V)) → IsRangeMap eq low high pairs → IsUnion eq low high old pairs new → (AreInside eq pairs old → ⊥) → IsExtended eq low high pairs old new
     extended_union new r u n = record {
       range_map = u.chosen.range_map;
-      content = λ k. same_along eq {a = at new k} refl (sym (ap (λ o. or_else o (at old k)) (last_is_first eq pairs k (canonical eq laws pairs r.runs)) ∙ turned (at pairs k) (at old k))) (u.chosen.content k);
+      content = λ k. same_along eq {a = at new k} refl (sym (ap (λ o. option_or o (at old k)) (last_is_first eq pairs k (canonical eq laws pairs r.runs)) ∙ turned (at pairs k) (at old k))) (u.chosen.content k);
       few = u.few;
       alone = λ e. at_most (length pairs) (some pairs n) (fewest eq laws new pairs (canonical eq laws new u.chosen.range_map.runs) r.runs.disjoint (same e));
       inside = λ a. absurd (n a);

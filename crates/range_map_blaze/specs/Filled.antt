@@ -1,13 +1,13 @@
 -- What filling gives: a value is put on those keys of a range that have none.
+use Rattle.std.specs.Option.{option_or}
 use Rattle.std.specs.Prelude.{◌≡◌, ◌⊎◌, ℤ, pos, ◌+ℤ◌, ◌≤ℤ◌, ◌<ℤ◌, int_le, Bool, ◌&&◌, if◌then◌else◌, List, Option, Some, None, IsSome}
 use Rattle.blaze_table.specs.Entries.{Entry, at, SameOption}
 use Rattle.blaze_table.specs.Canonical.{IsRangeMap}
 use Rattle.blaze_table.specs.Gap.{IsClearFrom}
-use Rattle.blaze_table.specs.Painted.{or_else}
 
 -- the content after those keys from l up to h that had no value are given v: what a key had stays
 abbrev pub filled : {V : Type 0} → ℤ → ℤ → V → (ℤ → Option V) → ℤ → Option V
-filled l h v content k = or_else (content k) (if int_le l k && int_le k h then Some v else None)
+filled l h v content k = option_or (content k) (if int_le l k && int_le k h then Some v else None)
 
 -- what filling with an entry does to a range map: its content is the filled one
 pub record IsFilled {V : Type 0} (eq : V → V → Bool) (low high : ℤ) (p : Entry V) (old new : List (Entry V)) : Type 0 where

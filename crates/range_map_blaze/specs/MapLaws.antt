@@ -5,7 +5,7 @@ use Rattle.std.specs.Fn.{Mut}
 use Rattle.blaze_table.specs.Entries.{Entry, at, SameEntries}
 use Rattle.blaze_table.specs.Canonical.{IsRangeMap}
 use Rattle.blaze_table.specs.Count.{mapped_keys}
-use Rattle.blaze_streams.specs.declared.joins.JoinKind.TheVariants.{Inner, Left, Full}
+use Rattle.blaze_streams.specs.declared.segmenting.joins.JoinKind.TheVariants.{Inner, Left, Full}
 use Rattle.blaze_streams.specs.Answers.{IsTransformed}
 use Rattle.blaze_streams.specs.JoinAnswers.{IsJoined}
 

@@ -26,8 +26,10 @@ impl<T: Integer, V: Eq + Clone> RangeMapBlaze<T, V> {
     /// entry's value is cloned once. Refused memory leaves the map unchanged and drops the clones.
     pub fn fill_gaps(&self) -> Result<RangeMapBlaze<T, Option<V>>, AllocError>
         requires { ClonesAreAlike V.is_clone V.eq }
-        ensures filled { IfOk result (λ map. AreGapsFilled V.eq T.low T.high self.now.entries map.entries) }
-        ensures universal { IfOk result (λ map. (k : ℤ) → T.low ≤ℤ k → k ≤ℤ T.high → IsSome (at map.entries k)) }
+        ensures filled { IfOk result
+            (λ map. AreGapsFilled V.eq T.low T.high self.now.entries map.entries) }
+        ensures universal { IfOk result (λ map. (k : ℤ) → T.low ≤ℤ k → k ≤ℤ T.high
+            → IsSome (at map.entries k)) }
     {
         let alloc = self.allocator();
         let stream = filled(alloc, &self.table)?;

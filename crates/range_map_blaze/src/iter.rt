@@ -13,7 +13,8 @@ impl<T: Integer, V: Eq + Clone> RangeMapBlaze<T, V> {
     /// The keys that have a value, ascending, each with its value. No call of the iterator takes memory.
     pub fn iter(&self) -> IterMap<T, &V, RangeValuesIter<'_, T, V>>
         ensures unopened { result ≡ unopened self.now.entries }
-        ensures pairs { pairs_left T.of_rank (λ es. es) result ≡ pair_list T.of_rank self.now.entries }
+        ensures pairs { pairs_left T.of_rank (λ es. es) result
+            ≡ pair_list T.of_rank self.now.entries }
     {
         IterMap::of_table(&self.table)
     }
@@ -21,7 +22,8 @@ impl<T: Integer, V: Eq + Clone> RangeMapBlaze<T, V> {
     /// The keys that have a value, ascending. No call of the iterator takes memory.
     pub fn keys(&self) -> Keys<T, &V, RangeValuesIter<'_, T, V>>
         ensures unopened { result ≡ unopened self.now.entries }
-        ensures keys { keys_left T.of_rank (λ es. es) result ≡ map (λ p. p.0) (pair_list T.of_rank self.now.entries) }
+        ensures keys { keys_left T.of_rank (λ es. es) result
+            ≡ map (λ p. p.0) (pair_list T.of_rank self.now.entries) }
     {
         Keys::of_table(&self.table)
     }
@@ -29,7 +31,8 @@ impl<T: Integer, V: Eq + Clone> RangeMapBlaze<T, V> {
     /// The value of each key that has one, in the order of the keys. No call of the iterator takes memory.
     pub fn values(&self) -> Values<T, &V, RangeValuesIter<'_, T, V>>
         ensures unopened { result ≡ unopened self.now.entries }
-        ensures values { values_left T.of_rank (λ es. es) result ≡ map (λ p. p.1) (pair_list T.of_rank self.now.entries) }
+        ensures values { values_left T.of_rank (λ es. es) result
+            ≡ map (λ p. p.1) (pair_list T.of_rank self.now.entries) }
     {
         Values::of_table(&self.table)
     }
@@ -39,7 +42,8 @@ impl<T: Integer, V: Eq + Drop> RangeMapBlaze<T, V> {
     /// The keys that have a value, ascending, by value. No value is cloned, and no call of the iterator takes memory.
     pub fn into_keys(self) -> IntoKeys<T, V>
         ensures unopened { result ≡ unopened self.entries }
-        ensures keys { keys_left T.of_rank (λ es. es) result ≡ map (λ p. p.0) (pair_list T.of_rank self.entries) }
+        ensures keys { keys_left T.of_rank (λ es. es) result
+            ≡ map (λ p. p.0) (pair_list T.of_rank self.entries) }
     {
         IntoKeys::new(self.table)
     }
@@ -48,7 +52,8 @@ impl<T: Integer, V: Eq + Drop> RangeMapBlaze<T, V> {
     /// a range. After a refused clone the iterator has ended.
     pub fn into_values(self) -> IntoValues<T, V>
         ensures unopened { result ≡ unopened self.entries }
-        ensures values { values_left T.of_rank (λ es. es) result ≡ map (λ p. p.1) (pair_list T.of_rank self.entries) }
+        ensures values { values_left T.of_rank (λ es. es) result
+            ≡ map (λ p. p.1) (pair_list T.of_rank self.entries) }
     {
         IntoValues::new(self.table)
     }

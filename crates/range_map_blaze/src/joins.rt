@@ -1,8 +1,9 @@
 //! Joins of two maps, and a map with other values: what a closure answers, once for each segment or entry.
 ghost use Rattle.std.specs.Prelude.{◌≡◌, IfOk};
 ghost use Rattle.blaze_streams.specs.Answers.{values, IsCallableAtEach, IsTransformed};
-ghost use Rattle.blaze_streams.specs.JoinAnswers.{either, both, with_left, IsCallableAtSegments, IsJoined};
-ghost use Rattle.blaze_streams.specs.declared.joins.JoinKind.TheVariants.{Inner, Left, Full};
+ghost use Rattle.blaze_streams.specs.JoinAnswers.{either, both, with_left, IsCallableAtSegments};
+ghost use Rattle.blaze_streams.specs.JoinAnswers.{IsJoined};
+ghost use Rattle.blaze_streams.specs.declared.segmenting.joins.JoinKind.TheVariants.{Inner, Left, Full};
 
 use crate::map::RangeMapBlaze;
 use blaze_int::Integer;
@@ -14,7 +15,7 @@ use blaze_table::RangeTable;
 use std::alloc::{AllocError, Global};
 
 /// The map of a stream whose carriers are values: no value is cloned. Refused memory drops the stream.
-fn map_of<T: Integer, W: Eq + Clone>(
+pub fn map_of<T: Integer, W: Eq + Clone>(
     alloc: Global,
     stream: CanonMapIter<T, Owned<W>>,
 ) -> Result<RangeMapBlaze<T, W>, AllocError>
@@ -38,7 +39,8 @@ fn transformed<T: Integer, V: Eq + Clone, W: Eq + Clone, F: FnMut(&V) -> W>(
     f: F,
 ) -> Result<CanonMapIter<T, Owned<W>>, AllocError>
     requires { IsCallableAtEach (λ a. a.0.now) F.FnMut f (values table.now.entries) }
-    ensures { IfOk result (λ new. IsTransformed (λ a. a.0.now) F.FnMut W.eq T.low T.high f table.now.entries new) }
+    ensures { IfOk result (λ new. IsTransformed (λ a. a.0.now) F.FnMut W.eq T.low T.high f
+        table.now.entries new) }
 {
     transform(alloc, RangeValuesIter::new(table), f)
 }
@@ -50,8 +52,10 @@ fn inner_joined<T: Integer, V: Eq + Clone, V2: Eq + Clone, W: Eq + Clone, F: FnM
     other: &RangeTable<T, V2>,
     f: F,
 ) -> Result<CanonMapIter<T, Owned<W>>, AllocError>
-    requires { IsCallableAtSegments (both (λ v. v.now) (λ v. v.now)) F.FnMut V.eq V2.eq T.low T.high Inner f table.now.entries other.now.entries }
-    ensures { IfOk result (λ new. IsJoined (both (λ v. v.now) (λ v. v.now)) F.FnMut V.eq V2.eq T.low T.high Inner W.eq f table.now.entries other.now.entries new) }
+    requires { IsCallableAtSegments (both (λ v. v.now) (λ v. v.now)) F.FnMut V.eq V2.eq T.low T.high
+        Inner f table.now.entries other.now.entries }
+    ensures { IfOk result (λ new. IsJoined (both (λ v. v.now) (λ v. v.now)) F.FnMut V.eq V2.eq T.low
+        T.high Inner W.eq f table.now.entries other.now.entries new) }
 {
     let segments = join_of(
         alloc,
@@ -75,8 +79,10 @@ fn left_joined<
     other: &RangeTable<T, V2>,
     f: F,
 ) -> Result<CanonMapIter<T, Owned<W>>, AllocError>
-    requires { IsCallableAtSegments (with_left (λ v. v.now) (λ v. v.now)) F.FnMut V.eq V2.eq T.low T.high Left f table.now.entries other.now.entries }
-    ensures { IfOk result (λ new. IsJoined (with_left (λ v. v.now) (λ v. v.now)) F.FnMut V.eq V2.eq T.low T.high Left W.eq f table.now.entries other.now.entries new) }
+    requires { IsCallableAtSegments (with_left (λ v. v.now) (λ v. v.now)) F.FnMut V.eq V2.eq T.low
+        T.high Left f table.now.entries other.now.entries }
+    ensures { IfOk result (λ new. IsJoined (with_left (λ v. v.now) (λ v. v.now)) F.FnMut V.eq V2.eq
+        T.low T.high Left W.eq f table.now.entries other.now.entries new) }
 {
     let segments = join_of(
         alloc,
@@ -100,8 +106,10 @@ fn full_joined<
     other: &RangeTable<T, V2>,
     f: F,
 ) -> Result<CanonMapIter<T, Owned<W>>, AllocError>
-    requires { IsCallableAtSegments (either (λ v. v.now) (λ v. v.now)) F.FnMut V.eq V2.eq T.low T.high Full f table.now.entries other.now.entries }
-    ensures { IfOk result (λ new. IsJoined (either (λ v. v.now) (λ v. v.now)) F.FnMut V.eq V2.eq T.low T.high Full W.eq f table.now.entries other.now.entries new) }
+    requires { IsCallableAtSegments (either (λ v. v.now) (λ v. v.now)) F.FnMut V.eq V2.eq T.low
+        T.high Full f table.now.entries other.now.entries }
+    ensures { IfOk result (λ new. IsJoined (either (λ v. v.now) (λ v. v.now)) F.FnMut V.eq V2.eq
+        T.low T.high Full W.eq f table.now.entries other.now.entries new) }
 {
     let segments = join_of(
         alloc,
@@ -120,7 +128,8 @@ impl<T: Integer, V: Eq + Clone> RangeMapBlaze<T, V> {
         f: F,
     ) -> Result<RangeMapBlaze<T, W>, AllocError>
         requires { IsCallableAtEach (λ a. a.0.now) F.FnMut f (values self.now.entries) }
-        ensures { IfOk result (λ map. IsTransformed (λ a. a.0.now) F.FnMut W.eq T.low T.high f self.now.entries map.entries) }
+        ensures { IfOk result (λ map. IsTransformed (λ a. a.0.now) F.FnMut W.eq T.low T.high f
+            self.now.entries map.entries) }
     {
         let alloc = self.allocator();
         let stream = transformed(alloc, &self.table, f)?;
@@ -136,8 +145,10 @@ impl<T: Integer, V: Eq + Clone> RangeMapBlaze<T, V> {
         other: &RangeMapBlaze<T, V2>,
         f: F,
     ) -> Result<RangeMapBlaze<T, W>, AllocError>
-        requires { IsCallableAtSegments (both (λ v. v.now) (λ v. v.now)) F.FnMut V.eq V2.eq T.low T.high Inner f self.now.entries other.now.entries }
-        ensures { IfOk result (λ map. IsJoined (both (λ v. v.now) (λ v. v.now)) F.FnMut V.eq V2.eq T.low T.high Inner W.eq f self.now.entries other.now.entries map.entries) }
+        requires { IsCallableAtSegments (both (λ v. v.now) (λ v. v.now)) F.FnMut V.eq V2.eq T.low
+            T.high Inner f self.now.entries other.now.entries }
+        ensures { IfOk result (λ map. IsJoined (both (λ v. v.now) (λ v. v.now)) F.FnMut V.eq V2.eq
+            T.low T.high Inner W.eq f self.now.entries other.now.entries map.entries) }
     {
         let alloc = self.allocator();
         let stream = inner_joined(alloc, &self.table, &other.table, f)?;
@@ -151,8 +162,10 @@ impl<T: Integer, V: Eq + Clone> RangeMapBlaze<T, V> {
         other: &RangeMapBlaze<T, V2>,
         f: F,
     ) -> Result<RangeMapBlaze<T, W>, AllocError>
-        requires { IsCallableAtSegments (with_left (λ v. v.now) (λ v. v.now)) F.FnMut V.eq V2.eq T.low T.high Left f self.now.entries other.now.entries }
-        ensures { IfOk result (λ map. IsJoined (with_left (λ v. v.now) (λ v. v.now)) F.FnMut V.eq V2.eq T.low T.high Left W.eq f self.now.entries other.now.entries map.entries) }
+        requires { IsCallableAtSegments (with_left (λ v. v.now) (λ v. v.now)) F.FnMut V.eq V2.eq
+            T.low T.high Left f self.now.entries other.now.entries }
+        ensures { IfOk result (λ map. IsJoined (with_left (λ v. v.now) (λ v. v.now)) F.FnMut V.eq
+            V2.eq T.low T.high Left W.eq f self.now.entries other.now.entries map.entries) }
     {
         let alloc = self.allocator();
         let stream = left_joined(alloc, &self.table, &other.table, f)?;
@@ -166,8 +179,10 @@ impl<T: Integer, V: Eq + Clone> RangeMapBlaze<T, V> {
         other: &RangeMapBlaze<T, V2>,
         f: F,
     ) -> Result<RangeMapBlaze<T, W>, AllocError>
-        requires { IsCallableAtSegments (either (λ v. v.now) (λ v. v.now)) F.FnMut V.eq V2.eq T.low T.high Full f self.now.entries other.now.entries }
-        ensures { IfOk result (λ map. IsJoined (either (λ v. v.now) (λ v. v.now)) F.FnMut V.eq V2.eq T.low T.high Full W.eq f self.now.entries other.now.entries map.entries) }
+        requires { IsCallableAtSegments (either (λ v. v.now) (λ v. v.now)) F.FnMut V.eq V2.eq T.low
+            T.high Full f self.now.entries other.now.entries }
+        ensures { IfOk result (λ map. IsJoined (either (λ v. v.now) (λ v. v.now)) F.FnMut V.eq V2.eq
+            T.low T.high Full W.eq f self.now.entries other.now.entries map.entries) }
     {
         let alloc = self.allocator();
         let stream = full_joined(alloc, &self.table, &other.table, f)?;

@@ -1,6 +1,7 @@
 //! The laws of joins of maps, and of maps with what a closure answers at their values.
 ghost use Rattle.blaze_streams.specs.JoinAnswers.{either, both, with_left};
-ghost use Rattle.range_map_blaze.specs.MapLaws.{AnswersAreOnItsKeys, FullJoinIsInnerJoin, LeftJoinIsOnTheLeftKeys};
+ghost use Rattle.range_map_blaze.specs.MapLaws.{AnswersAreOnItsKeys, FullJoinIsInnerJoin};
+ghost use Rattle.range_map_blaze.specs.MapLaws.{LeftJoinIsOnTheLeftKeys};
 
 use blaze_int::Integer;
 
@@ -11,7 +12,8 @@ pub fn transform_values_keeps_keys<T: Integer, V: Eq, W: Eq, F: FnMut(&V) -> W>(
 
 /// `left_join` has the mapped keys of the left map, and so its `len`.
 pub fn left_join_has_left_keys<T: Integer, V: Eq, V2: Eq, W: Eq, F: FnMut(&V, Option<&V2>) -> W>()
-    ensures { LeftJoinIsOnTheLeftKeys (with_left (λ v. v.now) (λ v. v.now)) F.FnMut V.eq V2.eq W.eq T.low T.high }
+    ensures { LeftJoinIsOnTheLeftKeys (with_left (λ v. v.now) (λ v. v.now)) F.FnMut V.eq V2.eq
+        W.eq T.low T.high }
 {}
 
 /// Of two universal maps, `full_join` and `inner_join` have the same ranges and equal values where their closures answer the
@@ -24,5 +26,6 @@ pub fn full_join_is_inner_join<
     F: FnMut(Option<&V>, Option<&V2>) -> W,
     G: FnMut(&V, &V2) -> W,
 >()
-    ensures { FullJoinIsInnerJoin (either (λ v. v.now) (λ v. v.now)) F.FnMut V.eq V2.eq W.eq T.low T.high (both (λ v. v.now) (λ v. v.now)) G.FnMut }
+    ensures { FullJoinIsInnerJoin (either (λ v. v.now) (λ v. v.now)) F.FnMut V.eq V2.eq W.eq T.low
+        T.high (both (λ v. v.now) (λ v. v.now)) G.FnMut }
 {}

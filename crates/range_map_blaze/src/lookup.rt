@@ -1,9 +1,10 @@
 //! Look-ups by key.
-ghost use Rattle.std.specs.Prelude.{◌≡◌, ◌↔◌, ◌<ℤ◌, ℤ, Option, Some, None, MatchOption, IfSome, IsSome, IsTrue, option_map, []};
+ghost use Rattle.std.specs.Prelude.{◌≡◌, ◌↔◌, Option, Some, None, MatchOption, IfSome};
+ghost use Rattle.std.specs.Prelude.{IsSome, IsTrue, option_map, []};
 ghost use Rattle.std.specs.Option.{option_copied};
 ghost use Rattle.std.specs.Range.{range_inclusive_start, range_inclusive_end};
 ghost use Rattle.blaze_streams.specs.Ranges.{shown_range};
-ghost use Rattle.blaze_table.specs.Entries.{Entry, entry, at, entry_at};
+ghost use Rattle.blaze_table.specs.Entries.{entry, at, entry_at};
 ghost use Rattle.blaze_table.specs.Gap.{IsGap};
 ghost use Rattle.blaze_table.specs.Whole.{IsWhole};
 ghost use Rattle.range_map_blaze.specs.Pairs.{IsFirstPair, IsLastPair};
@@ -25,7 +26,9 @@ impl<T: Integer, V: Eq> RangeMapBlaze<T, V> {
 
     /// A key that has a value, with its value.
     pub fn get_key_value(&self, key: T) -> Option<(T, &V)>
-        ensures { MatchOption result (at self.now.entries (T.rank key) ≡ None) (λ pair. (pair.0 ≡ key) × (at self.now.entries (T.rank key) ≡ Some pair.1.now)) }
+        ensures { MatchOption result (at self.now.entries (T.rank key)
+            ≡ None) (λ pair. (pair.0 ≡ key)
+            × (at self.now.entries (T.rank key) ≡ Some pair.1.now)) }
     {
         match self.get(key) {
             Some(value) => Some((key, value)),
@@ -42,7 +45,8 @@ impl<T: Integer, V: Eq> RangeMapBlaze<T, V> {
 
     /// The entry that holds a key: its range and its value.
     pub fn range_at(&self, key: T) -> Option<(RangeInclusive<T>, &V)>
-        ensures entry { option_map (shown_range T.rank (λ v. v.now)) result ≡ entry_at self.now.entries (T.rank key) }
+        ensures entry { option_map (shown_range T.rank (λ v. v.now)) result
+            ≡ entry_at self.now.entries (T.rank key) }
         ensures whole { IfSome result (λ pair. IsWhole pair.0) }
     {
         match self.table.find(key) {
@@ -55,8 +59,12 @@ impl<T: Integer, V: Eq> RangeMapBlaze<T, V> {
     /// that is the whole key type.
     pub fn range_or_gap_at(&self, key: T) -> (RangeInclusive<T>, Option<&V>)
         ensures entry { MatchOption result.1
-            ((at self.now.entries (T.rank key) ≡ None) × IsGap T.low T.high (at self.now.entries) (T.rank key) (T.rank (range_inclusive_start result.0)) (T.rank (range_inclusive_end result.0)))
-            (λ v. entry_at self.now.entries (T.rank key) ≡ Some (entry (T.rank (range_inclusive_start result.0)) (T.rank (range_inclusive_end result.0)) v.now)) }
+            ((at self.now.entries (T.rank key) ≡ None)
+            × IsGap T.low T.high (at self.now.entries) (T.rank key)
+            (T.rank (range_inclusive_start result.0)) (T.rank (range_inclusive_end result.0)))
+            (λ v. entry_at self.now.entries (T.rank key)
+            ≡ Some (entry (T.rank (range_inclusive_start result.0))
+            (T.rank (range_inclusive_end result.0)) v.now)) }
         ensures whole { IsWhole result.0 }
     {
         match self.table.find(key) {
@@ -72,7 +80,8 @@ impl<T: Integer, V: Eq> RangeMapBlaze<T, V> {
 impl<T: Integer, V: Eq> RangeMapBlaze<T, V> {
     /// The least key that has a value, with its value.
     pub fn first_key_value(&self) -> Option<(T, &V)>
-        ensures { MatchOption result (self.now.entries ≡ []) (λ pair. IsFirstPair (at self.now.entries) (T.rank pair.0) pair.1.now) }
+        ensures { MatchOption result (self.now.entries
+            ≡ []) (λ pair. IsFirstPair (at self.now.entries) (T.rank pair.0) pair.1.now) }
     {
         self.in_hand();
         match self.table.first() {
@@ -83,7 +92,8 @@ impl<T: Integer, V: Eq> RangeMapBlaze<T, V> {
 
     /// The greatest key that has a value, with its value.
     pub fn last_key_value(&self) -> Option<(T, &V)>
-        ensures { MatchOption result (self.now.entries ≡ []) (λ pair. IsLastPair (at self.now.entries) (T.rank pair.0) pair.1.now) }
+        ensures { MatchOption result (self.now.entries
+            ≡ []) (λ pair. IsLastPair (at self.now.entries) (T.rank pair.0) pair.1.now) }
     {
         self.in_hand();
         match self.table.last() {

@@ -1,6 +1,6 @@
 //! The map.
 ghost use Rattle.std.specs.Prelude.{◌≡◌, ◌↔◌, ℤ, ◌≤ℤ◌, pos, [], length, IsTrue, IsSome, IfOk};
-ghost use Rattle.blaze_table.specs.Entries.{Entry, at, SameEntries};
+ghost use Rattle.blaze_table.specs.Entries.{at, SameEntries};
 ghost use Rattle.blaze_table.specs.Canonical.{IsRangeMap};
 ghost use Rattle.blaze_table.specs.Count.{keys_in, mapped_keys};
 ghost use Rattle.blaze_table.specs.Laws.{IsShortest};
@@ -67,7 +67,8 @@ impl<T: Integer, V: Eq> RangeMapBlaze<T, V> {
 
     /// Whether every key of the type has a value.
     pub fn is_universal(&self) -> bool
-        ensures { IsTrue result ↔ ((k : ℤ) → T.low ≤ℤ k → k ≤ℤ T.high → IsSome (at self.now.entries k)) }
+        ensures { IsTrue result ↔ ((k : ℤ) → T.low ≤ℤ k → k ≤ℤ T.high
+            → IsSome (at self.now.entries k)) }
     {
         let (first, last) = (T::min_value(), T::max_value());
         first.in_hand();

@@ -22,11 +22,13 @@ impl<T: Integer, V: Eq + Clone> RangeMapBlaze<T, V> {
     /// the map has. Refused memory leaves the map unchanged.
     pub fn range<R: RangeBounds<T> + Drop>(&self, range: R) -> Result<IntoIterMap<T, V>, AllocError>
         requires named { R.has_bounds range
-            → start_rank T.rank T.low (R.start_bound range) ≤ℤ end_rank T.rank T.high (R.end_bound range) }
+            → start_rank T.rank T.low (R.start_bound range) ≤ℤ end_rank T.rank T.high
+            (R.end_bound range) }
         requires clones { ClonesAreAlike V.is_clone V.eq }
         ensures within { R.has_bounds range → IfOk result (λ iter. (es : List (Entry V))
             × IsChosen V.eq T.low T.high left_with_right self.now.entries
-            (one_range (start_rank T.rank T.low (R.start_bound range)) (end_rank T.rank T.high (R.end_bound range))) es
+            (one_range (start_rank T.rank T.low (R.start_bound range))
+            (end_rank T.rank T.high (R.end_bound range))) es
             × (iter ≡ unopened es)
             × (pairs_left T.of_rank (λ es. es) iter ≡ pair_list T.of_rank es)) }
         ensures somewhere { IfOk result (λ iter. (es : List (Entry V))
@@ -46,7 +48,8 @@ impl<T: Integer, V: Eq + Clone> RangeMapBlaze<T, V> {
     fn on_keys(&self, start: T, end: T) -> Result<Self, AllocError>
         requires order { T.rank start ≤ℤ T.rank end }
         requires clones { ClonesAreAlike V.is_clone V.eq }
-        ensures { IfOk result (λ map. IsChosen V.eq T.low T.high left_with_right self.now.entries (one_range (T.rank start) (T.rank end)) map.entries) }
+        ensures { IfOk result (λ map. IsChosen V.eq T.low T.high left_with_right self.now.entries
+            (one_range (T.rank start) (T.rank end)) map.entries) }
     {
         self.in_hand();
         let entries = self.clones_within(start, end)?;

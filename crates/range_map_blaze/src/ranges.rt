@@ -4,7 +4,9 @@ ghost use Rattle.blaze_streams.specs.KeyRanges.{AreKeyRanges};
 
 use crate::map::RangeMapBlaze;
 use blaze_int::Integer;
-use blaze_streams::{IntoRangeValuesIter, MapIntoRangesIter, MapRangesIter};
+use blaze_streams::{
+    IntoRangeValuesIter, MapIntoRangesIter, MapRangesIter, into_ranges_of, ranges_of,
+};
 use std::alloc::AllocError;
 
 impl<T: Integer, V: Eq> RangeMapBlaze<T, V> {
@@ -13,7 +15,7 @@ impl<T: Integer, V: Eq> RangeMapBlaze<T, V> {
     pub fn ranges(&self) -> MapRangesIter<'_, T, V>
         ensures { AreKeyRanges T.low T.high self.now.entries result }
     {
-        MapRangesIter::new(&self.table)
+        ranges_of(&self.table)
     }
 }
 
@@ -23,8 +25,9 @@ impl<T: Integer, V: Eq + Drop> RangeMapBlaze<T, V> {
     pub fn into_ranges(self) -> MapIntoRangesIter<T, V>
         ensures { AreKeyRanges T.low T.high self.entries result }
     {
-        MapIntoRangesIter::new(self.table)
+        into_ranges_of(self.table)
     }
+
     /// The entries by value, ascending, from both ends: each range with its value, which an `Rc` shares. All memory is taken
     /// here, and none by the iterator. Refused memory drops the map.
     pub fn into_range_values(self) -> Result<IntoRangeValuesIter<T, V>, AllocError>

@@ -3,7 +3,8 @@ ghost use Rattle.std.specs.Prelude.{◌≡◌, OnOk, OnErr};
 ghost use Rattle.std.specs.List.Retain.{IsFiltered};
 ghost use Rattle.blaze_table.specs.Canonical.{IsRangeMap};
 ghost use Rattle.blaze_table.specs.Painted.{ClonesAreAlike};
-ghost use Rattle.blaze_table.specs.Retain.{AnswersAt, IsCallableAtEach, IsCallableAtPairs, IsKeyRetained};
+ghost use Rattle.blaze_table.specs.Retain.{AnswersAt, IsCallableAtEach, IsCallableAtPairs};
+ghost use Rattle.blaze_table.specs.Retain.{IsKeyRetained};
 
 use crate::map::RangeMapBlaze;
 use blaze_int::Integer;
@@ -28,8 +29,11 @@ impl<T: Integer, V: Eq + Clone> RangeMapBlaze<T, V> {
     pub fn retain<F: Fn(&T, &V) -> bool>(&mut self, f: F) -> Result<(), AllocError>
         requires callable { IsCallableAtPairs F.Fn f T.of_rank self.old.entries }
         requires clones { ClonesAreAlike V.is_clone V.eq }
-        ensures ok { OnOk result (IsKeyRetained F.Fn f T.rank T.of_rank V.eq T.low T.high self.old.entries self.new.entries) }
-        ensures uncounted { OnOk result (self.new ≡ record self.old { entries = self.new.entries }) }
+        ensures ok { OnOk result
+            (IsKeyRetained F.Fn f T.rank T.of_rank V.eq T.low T.high self.old.entries
+            self.new.entries) }
+        ensures uncounted { OnOk result (self.new
+            ≡ record self.old { entries = self.new.entries }) }
         ensures err { OnErr result (self.new ≡ self.old) }
     {
         self.table.retain_keys(f)

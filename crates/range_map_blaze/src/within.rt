@@ -3,7 +3,7 @@ ghost use Rattle.std.specs.Prelude.{◌≡◌, ◌≤ℤ◌, option_map, IfOk};
 ghost use Rattle.blaze_table.specs.Entries.{shown_entry, SameEntries};
 ghost use Rattle.blaze_table.specs.Listed.{listed};
 ghost use Rattle.blaze_table.specs.Painted.{ClonesAreAlike};
-ghost use Rattle.blaze_table.specs.Splice.{earlier};
+ghost use Rattle.std.specs.Int.{int_min};
 ghost use Rattle.range_map_blaze.specs.Within.{within, following, with_following};
 
 use crate::map::RangeMapBlaze;
@@ -13,7 +13,7 @@ use std::alloc::AllocError;
 
 // The lesser of two keys.
 fn lesser<T: Integer>(a: T, b: T) -> T
-    ensures { T.rank result ≡ earlier (T.rank a) (T.rank b) }
+    ensures { T.rank result ≡ int_min (T.rank b) (T.rank a) }
 {
     if is_below(a, b) { a } else { b }
 }
@@ -21,7 +21,8 @@ fn lesser<T: Integer>(a: T, b: T) -> T
 impl<T: Integer, V: Eq> RangeMapBlaze<T, V> {
     // The first entry that starts above a key, without its keys above `end`; `None` where it starts above `end`.
     fn next_within(&self, key: T, end: T) -> Option<(T, T, &V)>
-        ensures { with_following (T.rank end) self.now.entries (option_map (shown_entry T.rank (λ v. v.now)) result)
+        ensures { with_following (T.rank end) self.now.entries
+            (option_map (shown_entry T.rank (λ v. v.now)) result)
             ≡ following (T.rank key) (T.rank end) self.now.entries }
     {
         self.in_hand();
@@ -40,7 +41,8 @@ impl<T: Integer, V: Eq> RangeMapBlaze<T, V> {
     // The first entry that has keys from `start` up to `end`, without its other keys.
     fn first_within(&self, start: T, end: T) -> Option<(T, T, &V)>
         requires { T.rank start ≤ℤ T.rank end }
-        ensures { with_following (T.rank end) self.now.entries (option_map (shown_entry T.rank (λ v. v.now)) result)
+        ensures { with_following (T.rank end) self.now.entries
+            (option_map (shown_entry T.rank (λ v. v.now)) result)
             ≡ within (T.rank start) (T.rank end) self.now.entries }
     {
         self.in_hand();
@@ -57,7 +59,9 @@ impl<T: Integer, V: Eq + Clone> RangeMapBlaze<T, V> {
     pub(crate) fn clones_within(&self, start: T, end: T) -> Result<Vec<(T, T, V)>, AllocError>
         requires order { T.rank start ≤ℤ T.rank end }
         requires clones { ClonesAreAlike V.is_clone V.eq }
-        ensures { IfOk result (λ list. SameEntries V.eq (within (T.rank start) (T.rank end) self.now.entries) (listed T.rank list.items)) }
+        ensures { IfOk result
+            (λ list. SameEntries V.eq (within (T.rank start) (T.rank end) self.now.entries)
+            (listed T.rank list.items)) }
     {
         let mut list = Vec::new(self.allocator());
         let mut next = self.first_within(start, end);

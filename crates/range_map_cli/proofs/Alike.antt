@@ -1,10 +1,11 @@
 -- What steps make of contents that are alike at each key.
+use Rattle.std.specs.Option.{option_xor}
 use Rattle.std.proofs.Common.{◌≡◌, ℤ, Bool, true, false, not, eqb, cond, List, [], ◌∷◌, ◌++◌, Option, Some, None, refl, ◌∙◌, ap, subst}
 use Rattle.std.specs.Prelude.{int_le, int_lt, ◌&&◌}
 use Rattle.std.specs.Ordering.{int_eq}
 use Rattle.std.specs.Cmp.{IsEquivalence}
 use Rattle.blaze_table.specs.Entries.{at, SameOption}
-use Rattle.blaze_table.specs.Chosen.{right_first, exactly_one, left_with_right, left_alone}
+use Rattle.blaze_table.specs.Chosen.{right_first, left_with_right, left_alone}
 use Rattle.blaze_table.specs.Complement.{absent}
 use Rattle.blaze_table.specs.Count.{mapped_keys}
 use Rattle.blaze_table.specs.Painted.{painted}
@@ -25,7 +26,7 @@ module _ {V : Type 0} (eq : V → V → Bool) (laws : IsEquivalence eq) where
   same_right_first a b None s = s
   same_right_first a b (Some y) s = laws.refl y
 
-  same_exactly_one : (a b x : Option V) → SameOption eq a b → SameOption eq (exactly_one a x) (exactly_one b x)
+  same_exactly_one : (a b x : Option V) → SameOption eq a b → SameOption eq (option_xor a x) (option_xor b x)
   same_exactly_one None None x s = same_itself eq laws x
   same_exactly_one None (Some b) x s = absurd s
   same_exactly_one (Some a) None x s = absurd s

@@ -7,7 +7,7 @@ use Rattle.std.specs.declared.alloc.Global.{Global}
 use Rattle.blaze_table.specs.Entries.{Entry, at}
 use Rattle.blaze_table.specs.Count.{keys_in, mapped, mapped_keys}
 use Rattle.blaze_table.specs.Painted.{painted}
-use Rattle.range_map_cli.specs.Replies.{Content, greatest_key, key_count, line, least_key, Replies}
+use Rattle.range_map_cli.specs.Replies.{Content, greatest_key, mapped_count, line, least_key, Replies}
 use Rattle.range_map_cli.specs.Commands.{Paint, Len}
 use Rattle.range_map_cli.specs.States.{content_of}
 
@@ -20,16 +20,16 @@ unfolding mapped
 mapped-words content a zero = refl
 mapped-words content a (suc n) = ap (λ t. (cond t 1 0) + mapped (λ k. option_map string_bytes (content k)) (a +ℤ pos 1) n) (some_word (content a)) ∙ ap (λ m. (cond (is_some (content a)) 1 0) + m) (mapped-words content (a +ℤ pos 1) n)
 
-pub key_count-content_of : (es : List (Entry (String Global))) → key_count (content_of es) ≡ mapped_keys least_key greatest_key (at es)
-key_count-content_of es = mapped-words (at es) least_key _
+pub mapped_count-content_of : (es : List (Entry (String Global))) → mapped_count (content_of es) ≡ mapped_keys least_key greatest_key (at es)
+mapped_count-content_of es = mapped-words (at es) least_key _
 
 -- the number of keys that have a word changes where the lengths do
 pub changed_counts : (changed : Bool) (lo hi : ℤ) (word : List ℕ) (old new : List (Entry (String Global)))
     → keys_in old ≡ pos (mapped_keys least_key greatest_key (at old)) → keys_in new ≡ pos (mapped_keys least_key greatest_key (at new)) → ((k : ℤ) → content_of new k ≡ painted lo hi word (content_of old) k)
-    → (IsTrue changed ↔ (¬ (keys_in new ≡ keys_in old))) → (IsTrue changed ↔ (¬ (key_count (painted lo hi word (content_of old)) ≡ key_count (content_of old))))
+    → (IsTrue changed ↔ (¬ (keys_in new ≡ keys_in old))) → (IsTrue changed ↔ (¬ (mapped_count (painted lo hi word (content_of old)) ≡ mapped_count (content_of old))))
 changed_counts changed lo hi word old new counted_old counted_new same says =
-    let now : key_count (painted lo hi word (content_of old)) ≡ mapped_keys least_key greatest_key (at new) = ap key_count (sym (fun_ext same)) ∙ key_count-content_of new in
-    let before : key_count (content_of old) ≡ mapped_keys least_key greatest_key (at old) = key_count-content_of old in (
+    let now : mapped_count (painted lo hi word (content_of old)) ≡ mapped_keys least_key greatest_key (at new) = ap mapped_count (sym (fun_ext same)) ∙ mapped_count-content_of new in
+    let before : mapped_count (content_of old) ≡ mapped_keys least_key greatest_key (at old) = mapped_count-content_of old in (
       λ is e. says.0 is (counted_new ∙ ap pos (sym now ∙ e ∙ before) ∙ sym counted_old),
       λ ne. says.1 (λ e. ne (now ∙ pos_inj _ _ (sym counted_new ∙ e ∙ counted_old) ∙ sym before)),
     )
@@ -47,13 +47,13 @@ differ_text false m n says = ⊎_elim (λ e. ap (λ t. cond t (codes "false") (c
 
 -- what is printed for a paint
 pub Replies-paint : (changed : Bool) (content : Content) (l h lo hi : ℤ) (word empty bytes : List ℕ) → l ≡ lo → h ≡ hi
-    → (IsTrue changed ↔ (¬ (key_count (painted l h word content) ≡ key_count content))) → empty ≡ []
+    → (IsTrue changed ↔ (¬ (mapped_count (painted l h word content) ≡ mapped_count content))) → empty ≡ []
     → bytes ≡ empty ++ (cond changed (codes "true") (codes "false") ++ 10 ∷ []) → Replies content (Paint lo hi word) bytes
 Replies-paint changed content l h lo hi word empty bytes low_is high_is says none written =
-    let text = ap (λ x. line (cond (eqb (key_count (painted x h word content)) (key_count content)) (codes "false") (codes "true"))) (sym low_is)
+    let text = ap (λ x. line (cond (eqb (mapped_count (painted x h word content)) (mapped_count content)) (codes "false") (codes "true"))) (sym low_is)
     ∙ ap (λ t. line t) (differ_text changed _ _ says) in
-    written ∙ ap (λ l. l ++ (cond changed (codes "true") (codes "false") ++ 10 ∷ [])) none ∙ sym (ap (λ y. line (cond (eqb (key_count (painted lo y word content)) (key_count content)) (codes "false") (codes "true"))) (sym high_is) ∙ text)
+    written ∙ ap (λ l. l ++ (cond changed (codes "true") (codes "false") ++ 10 ∷ [])) none ∙ sym (ap (λ y. line (cond (eqb (mapped_count (painted lo y word content)) (mapped_count content)) (codes "false") (codes "true"))) (sym high_is) ∙ text)
 
 -- and for the number of keys
 pub Replies-len : (es : List (Entry (String Global))) (n : ℕ) (empty bytes : List ℕ) → n ≡ mapped_keys least_key greatest_key (at es) → empty ≡ [] → bytes ≡ empty ++ (decimal n ++ 10 ∷ []) → Replies (content_of es) Len bytes
-Replies-len es n empty bytes is none written = written ∙ ap (λ l. l ++ (decimal n ++ 10 ∷ [])) none ∙ ap (λ m. line (decimal m)) (is ∙ sym (key_count-content_of es))
+Replies-len es n empty bytes is none written = written ∙ ap (λ l. l ++ (decimal n ++ 10 ∷ [])) none ∙ ap (λ m. line (decimal m)) (is ∙ sym (mapped_count-content_of es))

@@ -1,9 +1,11 @@
 -- Operators on contents, key by key, and how many keys they map.
+use Rattle.blaze_int.specs.Unsigned.{nat_of}
+use Rattle.std.specs.Option.{option_xor}
 use Rattle.std.proofs.Common.{◌≡◌, ℕ, zero, suc, ◌+◌, ℤ, pos, ◌+ℤ◌, ◌-ℤ◌, Bool, cond, Option, Some, None, is_some, refl, arith}
 use Rattle.std.specs.Prelude.{IsSome}
 use Rattle.blaze_table.specs.Entries.{at}
-use Rattle.blaze_table.specs.Chosen.{right_first, exactly_one, left_with_right, left_alone}
-use Rattle.blaze_table.specs.Count.{mapped, mapped_keys, nat_of}
+use Rattle.blaze_table.specs.Chosen.{right_first, left_with_right, left_alone}
+use Rattle.blaze_table.specs.Count.{mapped, mapped_keys}
 use Rattle.range_map_cli.specs.Laws.{CountsAddUp, DisjointUnionCommutes, EmptyIsUnit, PartsHaveItsKeys, SetKeeps, UnionIsAssociative, UnionIsIdempotent, UniversalKeeps, XorWithItselfIsEmpty}
 use Rattle.range_map_cli.proofs.EndKeys.{alike_same, mapped_alike}
 
@@ -81,7 +83,7 @@ module _ {V : Type 0} where
   pub xor_with_itself_is_empty : XorWithItselfIsEmpty V
   xor_with_itself_is_empty x k = by_value (x k)
     where
-      by_value : (a : Option V) → exactly_one a a ≡ None
+      by_value : (a : Option V) → option_xor a a ≡ None
       by_value None = refl
       by_value (Some v) = refl
 

@@ -1,4 +1,5 @@
 -- Calls of an iterator by value, from both ends.
+use Rattle.blaze_int.specs.Unsigned.{nat_of}
 use Rattle.std.proofs.Common.{◌≡◌, ℕ, zero, suc, ◌≤◌, Bool, true, false, ℤ, pos, negsuc, ◌+ℤ◌, ◌-ℤ◌, ◌≤ℤ◌, ◌<ℤ◌, arith, List, [], ◌∷◌, ◌++◌, Option, Some, None, Result, Ok, Err, refl, ◌∙◌, sym, ap, append_assoc, append-nil}
 use Rattle.std.proofs.lemmas.Int.{ints}
 use Rattle.std.specs.List.{All}
@@ -6,7 +7,6 @@ use Rattle.std.proofs.lemmas.List.Elements.{All-cons, All-head, All-nil, All-tai
 use Rattle.std.specs.declared.alloc.AllocError.{AllocError}
 use Rattle.blaze_iters.specs.Left.{pairs_left, unopened}
 use Rattle.blaze_iters.specs.Owned.{HasSeveralFirst, HasSeveralLast, IsLikePair, OwnedLeft, owned_ranges}
-use Rattle.blaze_table.specs.Count.{nat_of}
 use Rattle.blaze_table.specs.Entries.{Entry}
 use Rattle.blaze_table.specs.Pairs.{pairs_from, pairs_of, pair_list}
 use Rattle.range_map_cli.specs.Laws.{from_front, from_back, AreItems, AreNoneFromEnd, EachOnceOwned, HasEnded, IsEachOnceOwned, IsItem, IsNotRefused, TakeAllOwned, TakesOwned}

@@ -1,4 +1,5 @@
 -- Maps that were painted in several ways to the same content are equal.
+use Rattle.std.specs.Option.{option_or}
 use Rattle.std.proofs.Common.{◌≡◌, ℤ, ◌≤ℤ◌, ◌<ℤ◌, Bool, true, false, cond, List, [], ◌∷◌, map, Option, Some, None, refl, ◌∙◌, sym, ap, subst, arith}
 use Rattle.std.proofs.lemmas.Int.{ints, by_lt_z}
 use Rattle.std.specs.Cmp.{IsEquivalence, signed_Decides}
@@ -7,7 +8,7 @@ use Rattle.blaze_table.specs.Canonical.{IsRangeMap}
 use Rattle.blaze_table.specs.Chosen.{right_first, IsChosen}
 use Rattle.blaze_table.specs.Cut.{below_at, from_at}
 use Rattle.blaze_table.specs.Entries.{Entry, entry, at, holds, SameEntries, SameOption}
-use Rattle.blaze_table.specs.Painted.{last_at, or_else, painted_in_order}
+use Rattle.blaze_table.specs.Painted.{last_at, painted_in_order}
 use Rattle.blaze_table.specs.Pairs.{value_at, IsAscendingPairs}
 use Rattle.blaze_table.proofs.Lasts.{or_or, painted_one}
 use Rattle.blaze_table.proofs.ListLaws.{canonical_is_unique}
@@ -40,12 +41,12 @@ module _ {V : Type 0} where
   last_point : (ps : List (ℤ × V)) (k : ℤ) → IsAscendingPairs (λ j. j) ps → last_at (map (λ (p : ℤ × V). entry p.0 p.0 p.1) ps) k ≡ value_at (λ j. j) ps k
   last_point [] k a = refl
   last_point (p ∷ ps) k a =
-      ap (λ o. or_else o (cond (holds (entry p.0 p.0 p.1) k) (Some p.1) None)) (last_point ps k (rest_ascending p ps a))
-      ∙ ap (λ b. or_else (value_at (λ j. j) ps k) (cond b (Some p.1) None)) (point_holds p.0 k p.1)
+      ap (λ o. option_or o (cond (holds (entry p.0 p.0 p.1) k) (Some p.1) None)) (last_point ps k (rest_ascending p ps a))
+      ∙ ap (λ b. option_or (value_at (λ j. j) ps k) (cond b (Some p.1) None)) (point_holds p.0 k p.1)
       ∙ by_test (int_eq k p.0) (value_at (λ j. j) ps k) (λ t. none_later p ps k a (omega (arith, ints, (signed_Decides k p.0).0 t)))
     where
-      by_test : (b : Bool) (o : Option V) → (b ≡ true → o ≡ None) → or_else o (cond b (Some p.1) None) ≡ cond b (Some p.1) o
-      by_test true o n = ap (λ x. or_else x (Some p.1)) (n refl)
+      by_test : (b : Bool) (o : Option V) → (b ≡ true → o ≡ None) → option_or o (cond b (Some p.1) None) ≡ cond b (Some p.1) o
+      by_test true o n = ap (λ x. option_or x (Some p.1)) (n refl)
       by_test false None n = refl
       by_test false (Some x) n = refl
 
@@ -57,7 +58,7 @@ module _ {V : Type 0} (eq : V → V → Bool) (laws : IsEquivalence eq) (low hig
 
   -- ---- one by one
 
-  same_or : (x a b : Option V) → SameOption eq a b → SameOption eq (or_else x a) (or_else x b)
+  same_or : (x a b : Option V) → SameOption eq a b → SameOption eq (option_or x a) (option_or x b)
   same_or None a b s = s
   same_or (Some v) a b s = laws.refl v
 
@@ -73,8 +74,8 @@ module _ {V : Type 0} (eq : V → V → Bool) (laws : IsEquivalence eq) (low hig
       record {
         range_map = rest.range_map;
         content = λ k. same_trans eq laws (at new k) (painted_in_order ps (at next) k) (painted_in_order (p ∷ ps) (at old) k) (rest.content k)
-            (subst (SameOption eq (or_else (last_at ps k) (at next k)))
-            (ap (or_else (last_at ps k)) (painted_one (holds p k) p.value (at old k)) ∙ sym (or_or (last_at ps k) (cond (holds p k) (Some p.value) None) (at old k)))
+            (subst (SameOption eq (option_or (last_at ps k) (at next k)))
+            (ap (option_or (last_at ps k)) (painted_one (holds p k) p.value (at old k)) ∙ sym (or_or (last_at ps k) (cond (holds p k) (Some p.value) None) (at old k)))
             (same_or (last_at ps k) (at next k) (cond (holds p k) (Some p.value) (at old k)) (one.content k)));
       }
 
@@ -89,7 +90,7 @@ module _ {V : Type 0} (eq : V → V → Bool) (laws : IsEquivalence eq) (low hig
   union_painted : (a b pairs new : List (Entry V)) → ((k : ℤ) → last_at pairs k ≡ at b k) → IsPaintedInOrder pairs a new → IsChosen eq low high right_first a b new
   union_painted a b pairs new lasts p = record {
     range_map = p.range_map;
-    content = λ k. same_along eq refl (ap (λ o. or_else o (at a k)) (lasts k) ∙ turned (at b k) (at a k)) (p.content k);
+    content = λ k. same_along eq refl (ap (λ o. option_or o (at a k)) (lasts k) ∙ turned (at b k) (at a k)) (p.content k);
   }
 
   pub union_is_painting : UnionIsPainting eq low high
@@ -101,12 +102,12 @@ module _ {V : Type 0} (eq : V → V → Bool) (laws : IsEquivalence eq) (low hig
 
   -- ---- splits
 
-  above_only : (f b o : Option V) → SameOption eq f o → SameOption eq b None → SameOption eq (or_else f b) o
+  above_only : (f b o : Option V) → SameOption eq f o → SameOption eq b None → SameOption eq (option_or f b) o
   above_only None None o s n = s
   above_only None (Some y) o s n = absurd n
   above_only (Some x) b o s n = s
 
-  below_only : (f b o : Option V) → SameOption eq f None → SameOption eq b o → SameOption eq (or_else f b) o
+  below_only : (f b o : Option V) → SameOption eq f None → SameOption eq b o → SameOption eq (option_or f b) o
   below_only None b o n s = s
   below_only (Some x) b o n s = absurd n
 
@@ -127,8 +128,8 @@ module _ {V : Type 0} (eq : V → V → Bool) (laws : IsEquivalence eq) (low hig
   pub append_undoes_split : AppendUndoesSplit eq low high
   append_undoes_split k old below from new r s e =
       canonical_is_unique eq laws new old e.range_map.runs r.runs (λ j.
-      same_trans eq laws (at new j) (or_else (at from j) (at below j)) (at old j)
-      (same_along eq refl (ap (λ o. or_else o (at below j)) (last_is_first eq from j (canonical eq laws from s.from_range_map.runs))) (e.content j))
+      same_trans eq laws (at new j) (option_or (at from j) (at below j)) (at old j)
+      (same_along eq refl (ap (λ o. option_or o (at below j)) (last_is_first eq from j (canonical eq laws from s.from_range_map.runs))) (e.content j))
       (by_lt_z j k
       (λ l. below_only (at from j) (at below j) (at old j) (same_along eq refl (from_off k j (at old) l) (s.from_content j)) (same_along eq refl (below_on k j (at old) l) (s.below_content j)))
       (λ l. above_only (at from j) (at below j) (at old j) (same_along eq refl (from_on k j (at old) l) (s.from_content j)) (same_along eq refl (below_off k j (at old) l) (s.below_content j)))))

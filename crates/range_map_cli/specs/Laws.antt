@@ -1,4 +1,5 @@
 -- The laws of range maps: of `==` and the order, operators, splits, paintings, look-ups and iterators.
+use Rattle.std.specs.Option.{option_xor}
 use Rattle.std.specs.Prelude.{◌≡◌, ◌↔◌, ◌+◌, ℤ, pos, ◌+ℤ◌, ◌≤ℤ◌, ◌<ℤ◌, Bool, true, false, IsTrue, List, [], ◌∷◌, ◌++◌, map, Option, Some, None, MatchOption, IsSome, is_some, Result, Ok, Err}
 use Rattle.std.specs.Iterator.{YieldsFirstBy, YieldsLastBy}
 use Rattle.std.specs.List.{All}
@@ -10,7 +11,7 @@ use Rattle.blaze_int.specs.Ranked.{IsKey}
 use Rattle.blaze_iters.specs.Left.{pairs_left}
 use Rattle.blaze_iters.specs.Owned.{GivesFirst, GivesLast, IsLikePair, OwnedLeft}
 use Rattle.blaze_table.specs.Canonical.{IsRangeMap}
-use Rattle.blaze_table.specs.Chosen.{right_first, exactly_one, left_with_right, left_alone, IsChosen}
+use Rattle.blaze_table.specs.Chosen.{right_first, left_with_right, left_alone, IsChosen}
 use Rattle.blaze_table.specs.Count.{mapped_keys}
 use Rattle.blaze_table.specs.Cut.{IsSplit}
 use Rattle.blaze_table.specs.Entries.{Entry, entry, at, entry_at, SameContent, SameEntries, SameOption}
@@ -261,7 +262,7 @@ SetKeeps V = (x : ℤ → Option V) (s : ℤ → Option (Unit {0})) (k : ℤ)
 
 -- `a ^ a` is empty
 abbrev pub XorWithItselfIsEmpty : Type 0 → Type 0
-XorWithItselfIsEmpty V = (x : ℤ → Option V) (k : ℤ) → exactly_one (x k) (x k) ≡ None
+XorWithItselfIsEmpty V = (x : ℤ → Option V) (k : ℤ) → option_xor (x k) (x k) ≡ None
 
 -- `(a - b) | (a & b)` has the keys of `a`
 abbrev pub PartsHaveItsKeys : Type 0 → Type 0

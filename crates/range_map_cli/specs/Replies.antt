@@ -27,8 +27,8 @@ abbrev pub greatest_key : ℤ
 greatest_key = pos (2 ^ 63 - 1)
 
 -- how many keys of the i64 have a word
-abbrev pub key_count : Content → ℕ
-key_count content = mapped_keys least_key greatest_key content
+abbrev pub mapped_count : Content → ℕ
+mapped_count content = mapped_keys least_key greatest_key content
 
 -- the content after a command
 abbrev pub after : Command → Content → Content
@@ -70,10 +70,10 @@ line text = text ++ 10 ∷ []
 -- the text is what is printed for the command
 abbrev pub Replies : Content → Command → List ℕ → Type 0
 Replies content Blank text = text ≡ []
-Replies content (Paint lo hi word) text = text ≡ line (if key_count (painted lo hi word content) == key_count content then codes "false" else codes "true")
+Replies content (Paint lo hi word) text = text ≡ line (if mapped_count (painted lo hi word content) == mapped_count content then codes "false" else codes "true")
 Replies content (Insert key word) text = text ≡ line (word_or_dash (content key))
 Replies content (Remove key) text = text ≡ line (word_or_dash (content key))
 Replies content (Get key) text = text ≡ line (word_or_dash (content key))
 Replies content (At key) text = (lo hi : ℤ) × IsPiece least_key greatest_key content key lo hi × (text ≡ line (piece_text lo hi (content key)))
-Replies content Len text = text ≡ line (decimal (key_count content))
+Replies content Len text = text ≡ line (decimal (mapped_count content))
 Replies content Entries text = (listed : List ℕ) × Lists content listed × (text ≡ line listed)

@@ -1,11 +1,13 @@
 -- What steps mean: functions from contents to contents. A content gives each key, by its rank, its value or none.
+use Rattle.blaze_int.specs.Unsigned.{nat_of}
+use Rattle.std.specs.Option.{option_xor}
 use Rattle.std.specs.Prelude.{◌≡◌, ◌⊎◌, ℕ, zero, suc, ◌*◌, ◌+◌, ◌≤◌, ◌<◌, ℤ, pos, ◌+ℤ◌, ◌-ℤ◌, int_le, Bool, true, ◌&&◌, not, ◌==◌, if◌then◌else◌, is_some, List, [], ◌∷◌, length, take, Option, Some, None}
 use Rattle.blaze_table.specs.Counted.{CountedEntries}
 use Rattle.blaze_table.specs.Entries.{Entry, at, SameOption}
 use Rattle.blaze_table.specs.Canonical.{IsRangeMap}
-use Rattle.blaze_table.specs.Chosen.{right_first, exactly_one, left_with_right, left_alone}
+use Rattle.blaze_table.specs.Chosen.{right_first, left_with_right, left_alone}
 use Rattle.blaze_table.specs.Complement.{absent}
-use Rattle.blaze_table.specs.Count.{nat_of, mapped_keys}
+use Rattle.blaze_table.specs.Count.{mapped_keys}
 use Rattle.blaze_table.specs.Cut.{cut_at, below_at, from_at}
 use Rattle.blaze_table.specs.Painted.{painted}
 use Rattle.range_map_cli.specs.declared.step.Step.{Step}
@@ -73,7 +75,7 @@ module _ {T V L : Type 0} (rank : T → ℤ) (low high : ℤ) where
   after (Or other) content = λ k. right_first (content k) (at other.entries k)
   after (And other) content = λ k. left_with_right (at other.entries k) (content k)
   after (Minus other) content = λ k. left_alone (content k) (at other.entries k)
-  after (Xor other) content = λ k. exactly_one (content k) (at other.entries k)
+  after (Xor other) content = λ k. option_xor (content k) (at other.entries k)
   after (AndSet keys) content = λ k. left_with_right (content k) (at keys k)
   after (MinusSet keys) content = λ k. left_alone (content k) (at keys k)
   after (ComplementWith v) content = complemented low high v content

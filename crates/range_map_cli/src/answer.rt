@@ -1,11 +1,13 @@
 //! What a request answers, by the range map.
-ghost use Rattle.std.specs.Prelude.{◌≡◌, ◌≢◌, ◌↔◌, ℤ, IsTrue, IfOk, OnErr, OnOk, option_map, string_bytes};
+ghost use Rattle.std.specs.Prelude.{◌≡◌, ◌≢◌, ◌↔◌, ℤ, IsTrue, IfOk, OnErr, OnOk, option_map};
+ghost use Rattle.std.specs.Prelude.{string_bytes};
 ghost use Rattle.std.specs.Option.{option_copied};
 ghost use Rattle.blaze_table.specs.Cut.{cut_at};
 ghost use Rattle.blaze_table.specs.Painted.{painted};
 ghost use Rattle.range_map_cli.specs.Commands.{asked, Blank};
 ghost use Rattle.range_map_cli.specs.Pieces.{IsPiece};
-ghost use Rattle.range_map_cli.specs.Replies.{after, greatest_key, key_count, least_key, word_or_dash as shown_word, Replies};
+ghost use Rattle.range_map_cli.specs.Replies.{after, greatest_key, mapped_count, least_key};
+ghost use Rattle.range_map_cli.specs.Replies.{word_or_dash as shown_word, Replies};
 ghost use Rattle.range_map_cli.specs.States.{content_of, HasWords};
 
 use crate::request::Request;
@@ -22,8 +24,12 @@ fn paint(
     hi: i64,
     word: &str,
 ) -> Result<bool, AllocError>
-    ensures content { OnOk result ((key : ℤ) → content_of map.new.entries key ≡ painted lo hi word.now (content_of map.old.entries) key) }
-    ensures changed { IfOk result (λ changed. IsTrue changed ↔ (¬ (key_count (painted lo hi word.now (content_of map.old.entries)) ≡ key_count (content_of map.old.entries)))) }
+    ensures content { OnOk result ((key : ℤ) → content_of map.new.entries key
+        ≡ painted lo hi word.now (content_of map.old.entries) key) }
+    ensures changed { IfOk result
+        (λ changed. IsTrue changed ↔
+        (¬ (mapped_count (painted lo hi word.now (content_of map.old.entries))
+        ≡ mapped_count (content_of map.old.entries)))) }
 {
     lengths_are_mapped::<String>();
     map.in_hand();
@@ -37,16 +43,20 @@ fn insert(
     key: i64,
     word: &str,
 ) -> Result<Option<String>, AllocError>
-    ensures content { OnOk result ((j : ℤ) → content_of map.new.entries j ≡ painted key key word.now (content_of map.old.entries) j) }
-    ensures old { IfOk result (λ old. option_map string_bytes old ≡ content_of map.old.entries key) }
+    ensures content { OnOk result ((j : ℤ) → content_of map.new.entries j
+        ≡ painted key key word.now (content_of map.old.entries) j) }
+    ensures old { IfOk result (λ old. option_map string_bytes old
+        ≡ content_of map.old.entries key) }
 {
     map.insert(key, String::from_str(alloc, word)?)
 }
 
 /// Takes a key out, and answers the word that was there.
 fn remove(map: &mut RangeMapBlaze<i64, String>, key: i64) -> Result<Option<String>, AllocError>
-    ensures content { OnOk result ((j : ℤ) → content_of map.new.entries j ≡ cut_at key (content_of map.old.entries) j) }
-    ensures old { IfOk result (λ old. option_map string_bytes old ≡ content_of map.old.entries key) }
+    ensures content { OnOk result ((j : ℤ) → content_of map.new.entries j
+        ≡ cut_at key (content_of map.old.entries) j) }
+    ensures old { IfOk result (λ old. option_map string_bytes old
+        ≡ content_of map.old.entries key) }
 {
     map.remove(key)
 }
@@ -63,7 +73,8 @@ fn word_or_dash(word: Option<&String>) -> &str
 
 /// The first and the last key of the entry that holds a key, or of the gap round it, with its word, or a dash.
 fn piece_at(map: &RangeMapBlaze<i64, String>, key: i64) -> (i64, i64, &str)
-    ensures piece { IsPiece least_key greatest_key (content_of map.now.entries) key result.0 result.1 }
+    ensures piece { IsPiece least_key greatest_key (content_of map.now.entries) key
+        result.0 result.1 }
     ensures word { result.2.now ≡ shown_word (content_of map.now.entries key) }
 {
     map.in_hand();
@@ -79,8 +90,10 @@ pub fn answer(
     alloc: Global,
     request: Request<'_>,
 ) -> Result<(), AllocError>
-    ensures reply { OnOk result (HasWords (content_of map.old.entries) → Replies (content_of map.old.entries) (asked request.entry) (string_bytes reply.new)) }
-    ensures content { OnOk result ((key : ℤ) → content_of map.new.entries key ≡ after (asked request.entry) (content_of map.old.entries) key) }
+    ensures reply { OnOk result (HasWords (content_of map.old.entries)
+        → Replies (content_of map.old.entries) (asked request.entry) (string_bytes reply.new)) }
+    ensures content { OnOk result ((key : ℤ) → content_of map.new.entries key
+        ≡ after (asked request.entry) (content_of map.old.entries) key) }
     ensures refused { OnErr result (asked request.entry ≢ Blank) }
 {
     reply.clear();

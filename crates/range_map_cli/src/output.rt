@@ -1,6 +1,5 @@
 //! Texts on their way to a writer.
-ghost use Rattle.std.specs.Prelude.{◌≡◌, ◌++◌, ◌≤◌, [], OnOk, OnErr};
-ghost use Rattle.std.specs.Vec.{vec_capacity};
+ghost use Rattle.std.specs.Prelude.{◌≡◌, ◌++◌, [], OnOk, OnErr};
 ghost use Rattle.std.specs.Io.KnownBytes.{Appends};
 ghost use Rattle.range_map_cli.specs.Sessions.{Forwards, Stops};
 
@@ -31,8 +30,10 @@ pub fn write_text<W: Write>(output: &mut W, text: &[u8]) -> Result<(), WriteFail
 
 /// Writes all that waits. At an error a beginning of it was written, and not all.
 pub fn flush<W: Write>(waiting: &mut Vec<u8>, output: &mut W) -> Result<(), WriteFailed>
-    ensures ok { OnOk result (Appends (W.contents output.old) (W.contents output.new) waiting.old.items) }
-    ensures err { OnErr result (Stops (W.contents output.old) (W.contents output.new) waiting.old.items) }
+    ensures ok { OnOk result
+        (Appends (W.contents output.old) (W.contents output.new) waiting.old.items) }
+    ensures err { OnErr result
+        (Stops (W.contents output.old) (W.contents output.new) waiting.old.items) }
     ensures empty { OnOk result (waiting.new.items ≡ []) }
 {
     write_text(output, waiting.as_slice())?;
@@ -43,8 +44,10 @@ pub fn flush<W: Write>(waiting: &mut Vec<u8>, output: &mut W) -> Result<(), Writ
 /// Puts a text behind what waits, where it has room; else what waits is written first. A text with no room at all is
 /// written at once. At an error a beginning of what waited and the text was written, and not all.
 pub fn put<W: Write>(waiting: &mut Vec<u8>, output: &mut W, text: &[u8]) -> Result<(), WriteFailed>
-    ensures ok { OnOk result (Forwards (W.contents output.old) (W.contents output.new) (waiting.old.items ++ text.now) waiting.new.items) }
-    ensures err { OnErr result (Stops (W.contents output.old) (W.contents output.new) (waiting.old.items ++ text.now)) }
+    ensures ok { OnOk result (Forwards (W.contents output.old) (W.contents output.new)
+        (waiting.old.items ++ text.now) waiting.new.items) }
+    ensures err { OnErr result (Stops (W.contents output.old) (W.contents output.new)
+        (waiting.old.items ++ text.now)) }
 {
     if waiting.capacity().saturating_sub(waiting.len()) < text.len() {
         flush(waiting, output)?;

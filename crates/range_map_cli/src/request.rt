@@ -3,7 +3,8 @@ ghost use Rattle.std.specs.Prelude.{◌≡◌, ◌∷◌, [], ◌<◌, ◌^◌, 
 ghost use Rattle.std.specs.Str.Parse.{digits_value};
 ghost use Rattle.std.specs.List.{list_all};
 ghost use Rattle.std.specs.Char.{is_ascii_alphanumeric};
-ghost use Rattle.range_map_cli.specs.Commands.{asked, command_of, command_of_words, number_of, is_word, is_digits, words_of};
+ghost use Rattle.range_map_cli.specs.Commands.{asked, command_of, command_of_words, number_of};
+ghost use Rattle.range_map_cli.specs.Commands.{is_word, is_digits};
 
 use crate::split::split_once;
 
@@ -22,7 +23,8 @@ pub enum Request<'a> {
 
 /// The number that one to nineteen digits write.
 fn digits(text: &[u8]) -> Option<u64>
-    ensures { MatchOption result (is_digits text.now ≡ false) (λ n. (is_digits text.now ≡ true) × (n ≡ digits_value 10 text.now) × (n < 10 ^ 19)) }
+    ensures { MatchOption result (is_digits text.now ≡ false) (λ n. (is_digits text.now ≡ true)
+        × (n ≡ digits_value 10 text.now) × (n < 10 ^ 19)) }
 {
     if text.is_empty() || 19 < text.len() {
         return None;
@@ -63,7 +65,8 @@ fn is_alphanumeric(text: &[u8]) -> bool
 
 /// The text, where it is one to thirty-two letters and digits.
 fn word(text: &[u8]) -> Option<&str>
-    ensures { MatchOption result (is_word text.now ≡ false) (λ word. (is_word text.now ≡ true) × (word.now ≡ text.now)) }
+    ensures { MatchOption result (is_word text.now ≡ false) (λ word. (is_word text.now ≡ true)
+        × (word.now ≡ text.now)) }
 {
     if text.is_empty() || 32 < text.len() || !is_alphanumeric(text) {
         return None;
@@ -116,7 +119,8 @@ fn read_three<'a>(name: &[u8], key: &[u8], value: &'a [u8]) -> Option<Request<'a
 
 /// What a line of four words asks.
 fn read_four<'a>(name: &[u8], lo: &[u8], hi: &[u8], value: &'a [u8]) -> Option<Request<'a>>
-    ensures { option_map asked result ≡ command_of_words (name.now ∷ lo.now ∷ hi.now ∷ value.now ∷ []) }
+    ensures { option_map asked result
+        ≡ command_of_words (name.now ∷ lo.now ∷ hi.now ∷ value.now ∷ []) }
 {
     if name == b"paint".as_slice() {
         let lo = number(lo)?;

@@ -17,9 +17,13 @@ const CHUNK: usize = 8192;
 /// next read, and none follows the read in which a bad line ends. A read or a write that fails is not tried again.
 /// What is written is of lines that were read, whatever the end. A text that asks nothing needs no memory.
 pub fn serve<R: Read, W: Write>(alloc: Global, input: &mut R, output: &mut W) -> End
-    ensures closes { Serves (W.contents output.old) (W.contents output.new) (R.remaining input.old) (R.remaining input.new) result }
-    ensures stops { result ≡ End.BadLine → StopsReading (R.remaining input.old) (R.remaining input.new) }
-    ensures streams { result ≡ End.ReadFault → Streams (W.contents output.old) (W.contents output.new) (R.remaining input.old) (R.remaining input.new) }
+    ensures closes { Serves (W.contents output.old) (W.contents output.new) (R.remaining input.old)
+        (R.remaining input.new) result }
+    ensures stops { result ≡ End.BadLine
+        → StopsReading (R.remaining input.old) (R.remaining input.new) }
+    ensures streams { result ≡ End.ReadFault
+        → Streams (W.contents output.old) (W.contents output.new) (R.remaining input.old)
+        (R.remaining input.new) }
 {
     let mut session = Session::new(alloc);
     let mut chunk = [0u8; CHUNK];

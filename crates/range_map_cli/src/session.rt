@@ -1,5 +1,7 @@
 //! The steps of a session.
-ghost use Rattle.std.specs.Prelude.{◌≡◌, ◌≢◌, ◌⊎◌, ◌+◌, ◌-◌, ◌^◌, ◌++◌, ◌∷◌, [], min, ℕ, ℤ, List, Option, Some, None, take, IfOk, OnOk, IfErr, IsErrOf, string_bytes};
+ghost use Rattle.std.specs.Prelude.{◌≡◌, ◌≢◌, ◌⊎◌, ◌+◌, ◌-◌, ◌^◌, ◌++◌, ◌∷◌, [], min, ℕ, ℤ, List};
+ghost use Rattle.std.specs.Prelude.{Option, Some, None, OnOk, IfErr, IsErrOf};
+ghost use Rattle.std.specs.Prelude.{string_bytes};
 ghost use Rattle.std.specs.Io.KnownBytes.{Appends};
 ghost use Rattle.range_map_cli.specs.Commands.{Blank, Command, command_of};
 ghost use Rattle.range_map_cli.specs.Replies.{after, Replies};
@@ -65,13 +67,17 @@ impl Session {
     /// Answers the line, which ends here.
     fn answer(&mut self, alloc: Global) -> Result<(), Fault>
         ensures ok { OnOk result ((command : Command) × (command_of self.old.line ≡ Some command)
-            × (HasWords (content_of self.old.map.entries) → Replies (content_of self.old.map.entries) command (string_bytes self.new.reply))
-            × ((key : ℤ) → content_of self.new.map.entries key ≡ after command (content_of self.old.map.entries) key)) }
+            × (HasWords (content_of self.old.map.entries)
+            → Replies (content_of self.old.map.entries) command (string_bytes self.new.reply))
+            × ((key : ℤ) → content_of self.new.map.entries key
+            ≡ after command (content_of self.old.map.entries) key)) }
         ensures number { OnOk result (self.new.number ≡ min (self.old.number + 1) (2 ^ 64 - 1)) }
         ensures line { OnOk result (self.new.line ≡ []) }
         ensures waiting { self.new.waiting.items ≡ self.old.waiting.items }
-        ensures bad { IsErrOf result Fault.BadLine → (command_of self.old.line ≡ None) × (self.new.number ≡ self.old.number) }
-        ensures no_memory { IsErrOf result Fault.NoMemory → (command_of self.old.line ≢ None) × (command_of self.old.line ≢ Some Blank) }
+        ensures bad { IsErrOf result Fault.BadLine → (command_of self.old.line ≡ None)
+            × (self.new.number ≡ self.old.number) }
+        ensures no_memory { IsErrOf result Fault.NoMemory → (command_of self.old.line ≢ None)
+            × (command_of self.old.line ≢ Some Blank) }
     {
         let Some(request) = request::read(self.line.as_slice()) else {
             return Err(Fault::BadLine);
@@ -90,7 +96,10 @@ impl Session {
 /// Writes what waits, and a last text.
 pub fn close<W: Write>(waiting: &mut Vec<u8>, output: &mut W, text: &[u8], end: End) -> End
     ensures kind { (result ≡ end) ⊎ (result ≡ End.WriteFault) }
-    ensures closes { (held : Option (List ℕ)) (all out : List ℕ) (n : ℕ) → Appends held (W.contents output.old) out → Prints all n end (out ++ (waiting.old.items ++ text.now)) → Closes held (W.contents output.new) all n result }
+    ensures closes { (held : Option (List ℕ)) (all out : List ℕ) (n : ℕ)
+        → Appends held (W.contents output.old) out
+        → Prints all n end (out ++ (waiting.old.items ++ text.now))
+        → Closes held (W.contents output.new) all n result }
 {
     let Ok(()) = put(waiting, output, text) else {
         return End::WriteFault;
@@ -103,10 +112,14 @@ pub fn close<W: Write>(waiting: &mut Vec<u8>, output: &mut W, text: &[u8], end: 
 
 /// Answers the line, which ends here. An empty line has no answer.
 fn end_line<W: Write>(session: &mut Session, alloc: Global, output: &mut W) -> Result<(), End>
-    ensures ok { OnOk result ((held : Option (List ℕ)) (text rest : List ℕ) (lines : ℕ) → IsAt held (W.contents output.old) text session.old (10 ∷ rest) lines → IsAt held (W.contents output.new) text session.new rest lines) }
+    ensures ok { OnOk result ((held : Option (List ℕ)) (text rest : List ℕ) (lines : ℕ)
+        → IsAt held (W.contents output.old) text session.old (10 ∷ rest) lines
+        → IsAt held (W.contents output.new) text session.new rest lines) }
     ensures line { OnOk result (session.new.line ≡ []) }
     ensures kind { IfErr result (λ end. end ≢ End.ReadFault) }
-    ensures err { IfErr result (λ end. (held : Option (List ℕ)) (text rest : List ℕ) (lines : ℕ) → IsAt held (W.contents output.old) text session.old (10 ∷ rest) lines → ClosesBefore held (W.contents output.new) text rest lines end) }
+    ensures err { IfErr result (λ end. (held : Option (List ℕ)) (text rest : List ℕ) (lines : ℕ)
+        → IsAt held (W.contents output.old) text session.old (10 ∷ rest) lines
+        → ClosesBefore held (W.contents output.new) text rest lines end) }
 {
     if session.line.is_empty() {
         session.number = session.number.saturating_add(1);
@@ -135,9 +148,13 @@ pub fn feed<W: Write>(
     output: &mut W,
     bytes: &[u8],
 ) -> Result<(), End>
-    ensures ok { OnOk result ((held : Option (List ℕ)) (text rest : List ℕ) (lines : ℕ) → IsAt held (W.contents output.old) text session.old (bytes.now ++ rest) lines → IsAt held (W.contents output.new) text session.new rest lines) }
+    ensures ok { OnOk result ((held : Option (List ℕ)) (text rest : List ℕ) (lines : ℕ)
+        → IsAt held (W.contents output.old) text session.old (bytes.now ++ rest) lines
+        → IsAt held (W.contents output.new) text session.new rest lines) }
     ensures kind { IfErr result (λ end. end ≢ End.ReadFault) }
-    ensures err { IfErr result (λ end. (held : Option (List ℕ)) (text rest : List ℕ) (lines : ℕ) → IsAt held (W.contents output.old) text session.old (bytes.now ++ rest) lines → ClosesBefore held (W.contents output.new) text rest lines end) }
+    ensures err { IfErr result (λ end. (held : Option (List ℕ)) (text rest : List ℕ) (lines : ℕ)
+        → IsAt held (W.contents output.old) text session.old (bytes.now ++ rest) lines
+        → ClosesBefore held (W.contents output.new) text rest lines end) }
 {
     let mut rest = bytes;
     while let Some((line, after)) = split_once(rest, b'\n') {
@@ -152,7 +169,9 @@ pub fn feed<W: Write>(
 /// Answers what stands after the last LF, if anything does, and writes what waits.
 pub fn finish<W: Write>(session: &mut Session, alloc: Global, output: &mut W) -> End
     ensures kind { result ≢ End.ReadFault }
-    ensures closes { (held : Option (List ℕ)) (text : List ℕ) (lines : ℕ) → IsAt held (W.contents output.old) text session.old [] lines → ClosesBefore held (W.contents output.new) text [] (lines + 1) result }
+    ensures closes { (held : Option (List ℕ)) (text : List ℕ) (lines : ℕ)
+        → IsAt held (W.contents output.old) text session.old [] lines
+        → ClosesBefore held (W.contents output.new) text [] (lines + 1) result }
 {
     if session.line.is_empty() {
         return close(&mut session.waiting, output, b"", End::Done);

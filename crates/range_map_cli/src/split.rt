@@ -1,12 +1,13 @@
 //! A text cut at a byte.
-ghost use Rattle.std.specs.Prelude.{◌≡◌, ◌==◌, ◌++◌, ◌∷◌, false, MatchOption};
+ghost use Rattle.std.specs.Prelude.{◌≡◌, ◌++◌, ◌∷◌, MatchOption};
 ghost use Rattle.range_map_cli.specs.Lines.{Lacks};
 
 use memchr::memchr;
 
 /// What stands before the first such byte, and what stands after it; none where the text has no such byte.
 pub fn split_once(text: &[u8], byte: u8) -> Option<(&[u8], &[u8])>
-    ensures { MatchOption result (Lacks byte text.now) (λ parts. Lacks byte parts.0.now × (text.now ≡ parts.0.now ++ byte ∷ parts.1.now)) }
+    ensures { MatchOption result (Lacks byte text.now) (λ parts. Lacks byte parts.0.now
+        × (text.now ≡ parts.0.now ++ byte ∷ parts.1.now)) }
 {
     let at = memchr(byte, text)?;
     let (before, rest) = text.split_at(at);

@@ -1,12 +1,15 @@
 //! Lists of steps.
-ghost use Rattle.std.specs.Prelude.{◌≡◌, ◌≤◌, ◌-◌, ◌*◌, ◌==◌, not, [], length, All, IfOk, IfErr, OnOk, OnErr};
-ghost use Rattle.blaze_table.specs.Canonical.{IsRangeMap};
+ghost use Rattle.std.specs.Prelude.{◌≡◌, ◌≤◌, ◌-◌, ◌*◌, ◌==◌, not, [], length, All, IfOk, IfErr};
+ghost use Rattle.std.specs.Prelude.{OnOk, OnErr};
 ghost use Rattle.blaze_table.specs.Count.{mapped_keys};
 ghost use Rattle.blaze_table.specs.Entries.{entry, at};
 ghost use Rattle.blaze_table.specs.Laws.{IsShortest};
 ghost use Rattle.blaze_table.specs.Painted.{painted, IsPainted, ClonesAreAlike};
 ghost use Rattle.blaze_table.specs.Work.{IsCountedCut, IsCountedPaint, PutsAtMost};
-ghost use Rattle.range_map_cli.specs.Steps.{answer, first_key, last_key, with_value, answers, IsCountedRun, IsEdit, IsRefusedAt, IsStepped, IsSteppedAll, IsWithout, SameAnswer, SameAnswers, SamePair};
+ghost use Rattle.range_map_cli.specs.Steps.{answer, first_key, last_key, with_value, answers};
+ghost use Rattle.range_map_cli.specs.Steps.{IsCountedRun, IsEdit, IsRefusedAt, IsStepped};
+ghost use Rattle.range_map_cli.specs.Steps.{IsSteppedAll, IsWithout, SameAnswer, SameAnswers};
+ghost use Rattle.range_map_cli.specs.Steps.{SamePair};
 
 use crate::step::{Answer, Refused, Step};
 use blaze_int::Integer;
@@ -25,7 +28,8 @@ fn paint<T: Integer, V: Eq + Clone>(
     ensures ok { OnOk result (IsPainted V.eq T.low T.high (entry (T.rank start) (T.rank end) value)
         map.old.entries map.new.entries) }
     ensures changed { IfOk result (λ changed. changed
-        ≡ not (mapped_keys T.low T.high (painted (T.rank start) (T.rank end) value (at map.old.entries))
+        ≡ not (mapped_keys T.low T.high (painted (T.rank start) (T.rank end) value
+        (at map.old.entries))
         == mapped_keys T.low T.high (at map.old.entries))) }
     ensures counted { OnOk result (IsCountedPaint map.old map.new) }
     ensures err { OnErr result (map.new.entries ≡ map.old.entries) }
@@ -41,7 +45,8 @@ fn pop_first<T: Integer, V: Eq + Clone>(
     map: &mut RangeMapBlaze<T, V>,
 ) -> Result<Option<(T, V)>, AllocError>
     requires { ClonesAreAlike V.is_clone V.eq }
-    ensures ok { OnOk result (IsWithout V.eq T.low T.high (first_key T.low T.high (at map.old.entries))
+    ensures ok { OnOk result
+        (IsWithout V.eq T.low T.high (first_key T.low T.high (at map.old.entries))
         map.old.entries map.new.entries) }
     ensures pair { IfOk result (λ pair. SamePair T.rank V.eq pair
         (with_value (at map.old.entries) (first_key T.low T.high (at map.old.entries)))) }
@@ -58,7 +63,8 @@ fn pop_last<T: Integer, V: Eq + Clone>(
     map: &mut RangeMapBlaze<T, V>,
 ) -> Result<Option<(T, V)>, AllocError>
     requires { ClonesAreAlike V.is_clone V.eq }
-    ensures ok { OnOk result (IsWithout V.eq T.low T.high (last_key T.low T.high (at map.old.entries))
+    ensures ok { OnOk result
+        (IsWithout V.eq T.low T.high (last_key T.low T.high (at map.old.entries))
         map.old.entries map.new.entries) }
     ensures pair { IfOk result (λ pair. SamePair T.rank V.eq pair
         (with_value (at map.old.entries) (last_key T.low T.high (at map.old.entries)))) }
@@ -172,7 +178,8 @@ pub fn run<T: Integer, V: Eq + Clone>(
         map.old.entries map.new.entries) }
     ensures answers { IfOk result (λ given. SameAnswers T.rank V.eq given.items
         (answers T.rank T.low T.high steps.items (at map.old.entries))) }
-    ensures refused { IfErr result (λ refused. IsRefusedAt V.eq T.rank T.low T.high steps.items refused.at
+    ensures refused { IfErr result
+        (λ refused. IsRefusedAt V.eq T.rank T.low T.high steps.items refused.at
         map.old.entries map.new.entries) }
     ensures shortest { IsShortest V.eq map.new.entries }
     ensures counted { All IsEdit steps.items

@@ -1,3 +1,4 @@
+//! The program's engine over readers and writers that fail.
 ghost use Rattle.std.specs.Prelude.{Some};
 
 use crate::{End, serve};

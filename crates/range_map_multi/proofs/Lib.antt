@@ -1,3 +1,8 @@
+pub mod AnsweredRows
+pub mod InTurn
+pub mod JoinsOfTwo
 pub mod Many
 pub mod OfTwo
-pub mod InTurn
+pub mod Pickings
+pub mod Placed
+pub mod RowSegments

@@ -1,4 +1,5 @@
 -- What is chosen from many lists, by halves.
+use Rattle.std.specs.Option.{option_xor}
 use Rattle.std.proofs.Common.{◌≡◌, ◌<◌, ℕ, ℤ, Bool, true, false, not, cond, ◌&&◌, suc, List, [], ◌∷◌, ◌++◌, length, map, take, drop, append_assoc, Option, Some, None, is_some, refl, arith, ◌∙◌, sym, ap, subst}
 use Rattle.std.specs.List.{list_all}
 use Rattle.std.specs.Cmp.{IsEquivalence}
@@ -6,7 +7,7 @@ use Rattle.std.proofs.lemmas.List.{map-append, take-append-drop}
 use Rattle.std.proofs.lemmas.List.Folds.{list_all-append}
 use Rattle.blaze_table.specs.Entries.{Entry, at, SameOption, SameEntries}
 use Rattle.blaze_table.specs.Canonical.{IsRangeMap}
-use Rattle.blaze_table.specs.Chosen.{right_first, left_with_right, exactly_one, IsChosen}
+use Rattle.blaze_table.specs.Chosen.{right_first, left_with_right, IsChosen}
 use Rattle.blaze_table.proofs.Painted.{content_as}
 use Rattle.blaze_table.proofs.Unique.{same_itself, same_trans, back}
 use Rattle.blaze_streams.specs.Segments.{row}
@@ -89,7 +90,7 @@ module _ {V : Type 0} where
   odd_append (None ∷ xs) ys = odd_append xs ys
   odd_append (Some x ∷ xs) ys = ap not (odd_append xs ys) ∙ one_not (has_odd xs) (has_odd ys)
 
-  one_there : (x y : Option V) → is_some (exactly_one x y) ≡ one_of (is_some x) (is_some y)
+  one_there : (x y : Option V) → is_some (option_xor x y) ≡ one_of (is_some x) (is_some y)
   one_there None y = refl
   one_there (Some x) None = refl
   one_there (Some x) (Some y) = refl
@@ -109,9 +110,9 @@ module _ {V : Type 0} where
       odd_one (Some x) = refl
   odd_only (L ∷ M ∷ Ls) list o k = absurd o
 
-  pub odd_both : (eq : V → V → Bool) (low high : ℤ) (Ls Ms : List (List (Entry V))) (left right new : List (Entry V)) → HasOddKeys Ls left → HasOddKeys Ms right → IsChosen eq low high exactly_one left right new → HasOddKeys (Ls ++ Ms) new
+  pub odd_both : (eq : V → V → Bool) (low high : ℤ) (Ls Ms : List (List (Entry V))) (left right new : List (Entry V)) → HasOddKeys Ls left → HasOddKeys Ms right → IsChosen eq low high option_xor left right new → HasOddKeys (Ls ++ Ms) new
   odd_both eq low high Ls Ms left right new l r c k =
-      same_there eq (at new k) (exactly_one (at left k) (at right k)) (c.content k) ∙ one_there (at left k) (at right k)
+      same_there eq (at new k) (option_xor (at left k) (at right k)) (c.content k) ∙ one_there (at left k) (at right k)
       ∙ ap (λ b. one_of b (is_some (at right k))) (l k) ∙ ap (one_of (has_odd (row Ls k))) (r k)
       ∙ sym (odd_append (row Ls k) (row Ms k)) ∙ ap has_odd (sym (row_append Ls Ms k))
 

@@ -1,12 +1,13 @@
 -- The operations between many maps, where there are two.
-use Rattle.std.proofs.Common.{◌≡◌, ℤ, Bool, List, [], ◌∷◌, Option, Some, None, refl, ◌∙◌, sym, subst}
+use Rattle.std.specs.Option.{option_xor}
+use Rattle.std.proofs.Common.{◌≡◌, ℤ, Bool, List, [], ◌∷◌, Option, Some, None, refl, ◌∙◌, subst}
 use Rattle.std.specs.Cmp.{IsEquivalence}
 use Rattle.blaze_table.specs.Entries.{Entry, at, SameOption, SameEntries}
 use Rattle.blaze_table.specs.Canonical.{IsRangeMap}
-use Rattle.blaze_table.specs.Chosen.{right_first, left_with_right, exactly_one, IsChosen}
+use Rattle.blaze_table.specs.Chosen.{left_with_right}
 use Rattle.blaze_table.proofs.Runs.{canonical}
 use Rattle.blaze_table.proofs.Unique.{same_trans, unique}
-use Rattle.range_map_multi.specs.Many.{last_value, last_of_all, last_of_odd, IsChosenOfMany}
+use Rattle.range_map_multi.specs.Many.{last_of_all, last_of_odd}
 use Rattle.range_map_multi.specs.ManyLaws.{UnionOfTwoIsOr, IntersectionOfTwoIsAnd, SymmetricDifferenceOfTwoIsXor}
 
 module _ {V : Type 0} where
@@ -15,7 +16,7 @@ module _ {V : Type 0} where
   all_of_two (Some x) None = refl
   all_of_two (Some x) (Some y) = refl
 
-  odd_of_two : (x y : Option V) → last_of_odd (x ∷ y ∷ []) ≡ exactly_one x y
+  odd_of_two : (x y : Option V) → last_of_odd (x ∷ y ∷ []) ≡ option_xor x y
   odd_of_two None None = refl
   odd_of_two None (Some y) = refl
   odd_of_two (Some x) None = refl
@@ -23,7 +24,7 @@ module _ {V : Type 0} where
 
 module _ {V : Type 0} (eq : V → V → Bool) (laws : IsEquivalence eq) (low high : ℤ) where
   -- two range maps that have like values of one content
-  one_list : (content : ℤ → Option V) (es fs : List (Entry V)) → IsRangeMap eq low high es → IsRangeMap eq low high fs
+  pub one_list : (content : ℤ → Option V) (es fs : List (Entry V)) → IsRangeMap eq low high es → IsRangeMap eq low high fs
       → ((k : ℤ) → SameOption eq (at es k) (content k)) → ((k : ℤ) → SameOption eq (at fs k) (content k)) → SameEntries eq es fs
   one_list content es fs m n s t = unique eq laws es fs (canonical eq laws es m.runs) (canonical eq laws fs n.runs)
       (λ k. same_trans eq laws (at es k) (content k) (at fs k) (s k) (turned (at fs k) (content k) (t k)))

@@ -1,2 +1,4 @@
 pub mod Many
+pub mod ManyJoins
 pub mod ManyLaws
+pub mod Parts

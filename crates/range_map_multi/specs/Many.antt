@@ -1,6 +1,6 @@
 -- What operations between any number of maps give: at each key a choice from the row of what the maps have there, first to
 -- last.
-use Rattle.std.specs.Prelude.{◌≡◌, ℤ, Bool, true, false, not, if◌then◌else◌, List, [], ◌∷◌, Option, Some, None}
+use Rattle.std.specs.Prelude.{◌≡◌, ℤ, Bool, false, not, if◌then◌else◌, List, [], ◌∷◌, Option, Some, None}
 use Rattle.std.specs.Option.{is_some}
 use Rattle.std.specs.List.{list_all}
 use Rattle.blaze_table.specs.Entries.{Entry, entry, at, SameOption}

@@ -1,6 +1,6 @@
 //! Operations between many maps that are lent, as they are or by references. The maps show that the keys outlive the loan,
 //! which code that is generic over keys has to know where it calls a function of streams.
-ghost use Rattle.std.specs.Prelude.{◌≡◌, ◌<◌, List, length, map, refl, IfOk};
+ghost use Rattle.std.specs.Prelude.{◌≡◌, ◌<◌, List, length, map, IfOk};
 ghost use Rattle.blaze_table.specs.Entries.{Entry};
 ghost use Rattle.blaze_table.specs.Painted.{ClonesAreAlike};
 ghost use Rattle.range_map_multi.specs.Many.{last_value, last_of_all, last_of_odd, IsChosenOfMany};
@@ -39,7 +39,7 @@ impl<'a, T: Integer, V: Eq + Clone> AsMap<T, V> for &'a RangeMapBlaze<T, V> {
 }
 
 /// The entries of each map, as streams.
-fn streams_of<'a, T: Integer, V: Eq + Clone, M: AsMap<T, V>>(
+pub fn streams_of<'a, T: Integer, V: Eq + Clone, M: AsMap<T, V>>(
     alloc: Global,
     maps: &'a [M],
 ) -> Result<Vec<RangeValuesIter<'a, T, V>>, AllocError>
@@ -58,7 +58,8 @@ pub fn lent_union<'a, T: Integer, V: Eq + Clone, M: AsMap<T, V>>(
     maps: &'a [M],
 ) -> Result<RangeMapBlaze<T, V>, AllocError>
     requires { ClonesAreAlike V.is_clone V.eq }
-    ensures { IfOk result (λ new. IsChosenOfMany V.eq T.low T.high last_value (map M.shown maps.now) new.entries) }
+    ensures { IfOk result (λ new. IsChosenOfMany V.eq T.low T.high last_value
+        (map M.shown maps.now) new.entries) }
 {
     let streams = streams_of(alloc, maps)?;
     let stream = merged_union(alloc, streams)?;
@@ -73,7 +74,8 @@ pub fn lent_intersection<'a, T: Integer, V: Eq + Clone, M: AsMap<T, V>>(
 ) -> Result<RangeMapBlaze<T, V>, AllocError>
     requires clones { ClonesAreAlike V.is_clone V.eq }
     requires some { 0 < length maps.now }
-    ensures { IfOk result (λ new. IsChosenOfMany V.eq T.low T.high last_of_all (map M.shown maps.now) new.entries) }
+    ensures { IfOk result (λ new. IsChosenOfMany V.eq T.low T.high last_of_all
+        (map M.shown maps.now) new.entries) }
 {
     let streams = streams_of(alloc, maps)?;
     let stream = merged_intersection(alloc, streams)?;
@@ -87,7 +89,8 @@ pub fn lent_symmetric_difference<'a, T: Integer, V: Eq + Clone, M: AsMap<T, V>>(
     maps: &'a [M],
 ) -> Result<RangeMapBlaze<T, V>, AllocError>
     requires { ClonesAreAlike V.is_clone V.eq }
-    ensures { IfOk result (λ new. IsChosenOfMany V.eq T.low T.high last_of_odd (map M.shown maps.now) new.entries) }
+    ensures { IfOk result (λ new. IsChosenOfMany V.eq T.low T.high last_of_odd
+        (map M.shown maps.now) new.entries) }
 {
     let streams = streams_of(alloc, maps)?;
     let stream = merged_symmetric_difference(alloc, streams)?;

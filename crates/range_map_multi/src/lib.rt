@@ -3,10 +3,15 @@
 
 pub mod laws;
 mod lent;
+mod lent_joins;
 mod lists;
 mod maps;
 mod merges;
 mod parity;
+mod parts;
+mod row_answers;
+mod rows;
+mod stream_joins;
 mod streams;
 
 pub use maps::{MultiwayRangeMapBlaze, MultiwayRangeMapBlazeRef};

@@ -1,10 +1,14 @@
-//! Operations between any number of maps. With n entries in k maps each takes O(n log k) steps and O(n) memory.
-ghost use Rattle.std.specs.Prelude.{◌<◌, List, length, map, IfOk};
+//! Operations between any number of maps.
+ghost use Rattle.std.specs.Prelude.{◌<◌, List, length, map, is_some, IfOk};
+ghost use Rattle.std.specs.List.{list_all, list_any};
 ghost use Rattle.blaze_table.specs.Entries.{Entry};
 ghost use Rattle.blaze_table.specs.Painted.{ClonesAreAlike};
 ghost use Rattle.range_map_multi.specs.Many.{last_value, last_of_all, last_of_odd, IsChosenOfMany};
+ghost use Rattle.range_map_multi.specs.ManyJoins.{shown_row, shown_full_row, IsCallableAtRows};
+ghost use Rattle.range_map_multi.specs.ManyJoins.{IsManyJoined};
 
 use crate::lent::{AsMap, lent_intersection, lent_symmetric_difference, lent_union};
+use crate::lent_joins::{lent_full_join, lent_inner_join};
 use blaze_int::Integer;
 use range_map_blaze::RangeMapBlaze;
 use std::alloc::{AllocError, Global};
@@ -18,20 +22,48 @@ pub trait MultiwayRangeMapBlazeRef<T: Integer, V: Eq + Clone>: Sized {
     /// one clone of its value. With n entries in k maps it takes O(n log k) steps.
     fn union(self, alloc: Global) -> Result<RangeMapBlaze<T, V>, AllocError>
         requires { ClonesAreAlike V.is_clone V.eq }
-        ensures { IfOk result (λ new. IsChosenOfMany V.eq T.low T.high last_value (lists self) new.entries) };
+        ensures { IfOk result (λ new. IsChosenOfMany V.eq T.low T.high last_value
+            (lists self) new.entries) };
 
     /// Each key that all maps have, with the last map's value. There is to be at least one map. Each entry of the answer takes
     /// one clone of its value. With n entries in k maps it takes O(n log k) steps.
     fn intersection(self, alloc: Global) -> Result<RangeMapBlaze<T, V>, AllocError>
         requires clones { ClonesAreAlike V.is_clone V.eq }
         requires some { 0 < length (lists self) }
-        ensures { IfOk result (λ new. IsChosenOfMany V.eq T.low T.high last_of_all (lists self) new.entries) };
+        ensures { IfOk result (λ new. IsChosenOfMany V.eq T.low T.high last_of_all
+            (lists self) new.entries) };
 
     /// Each key that an odd number of maps have, with the value of the last map that has it; of no maps nothing. Each entry of
     /// the answer takes one clone of its value. With n entries in k maps it takes O(n log k) steps.
     fn symmetric_difference(self, alloc: Global) -> Result<RangeMapBlaze<T, V>, AllocError>
         requires { ClonesAreAlike V.is_clone V.eq }
-        ensures { IfOk result (λ new. IsChosenOfMany V.eq T.low T.high last_of_odd (lists self) new.entries) };
+        ensures { IfOk result (λ new. IsChosenOfMany V.eq T.low T.high last_of_odd
+            (lists self) new.entries) };
+
+    /// What a closure answers where all maps have a value: one call for each of the greatest ranges on which no map changes and
+    /// all have a value, ascending. A call gets the row of the maps' values, first to last. Touching equal answers are one
+    /// entry. Of no maps the closure is called once, with an empty row, and its answer is at every key. With n entries in k maps
+    /// it takes O(n k) steps and O(n + k) memory beside the answer. No value is cloned. Refused memory drops the answers.
+    fn inner_join<W: Eq + Clone, F: FnMut(&[&V]) -> W>(
+        self,
+        alloc: Global,
+        f: F,
+    ) -> Result<RangeMapBlaze<T, W>, AllocError>
+        requires { IsCallableAtRows (λ a. shown_full_row (λ v. v.now) a.0.now) F.FnMut V.eq T.low
+            T.high (list_all is_some) f (lists self) }
+        ensures { IfOk result (λ new. IsManyJoined (λ a. shown_full_row (λ v. v.now) a.0.now)
+            F.FnMut V.eq T.low T.high (list_all is_some) W.eq f (lists self) new.entries) };
+
+    /// The same where at least one map has a value, with `None` for each that has none; of no maps nothing, and no call.
+    fn full_join<W: Eq + Clone, F: FnMut(&[Option<&V>]) -> W>(
+        self,
+        alloc: Global,
+        f: F,
+    ) -> Result<RangeMapBlaze<T, W>, AllocError>
+        requires { IsCallableAtRows (λ a. shown_row (λ v. v.now) a.0.now) F.FnMut V.eq T.low T.high
+            (list_any is_some) f (lists self) }
+        ensures { IfOk result (λ new. IsManyJoined (λ a. shown_row (λ v. v.now) a.0.now) F.FnMut
+            V.eq T.low T.high (list_any is_some) W.eq f (lists self) new.entries) };
 }
 
 impl<'a, T: Integer, V: Eq + Clone> MultiwayRangeMapBlazeRef<T, V>
@@ -50,6 +82,24 @@ impl<'a, T: Integer, V: Eq + Clone> MultiwayRangeMapBlazeRef<T, V>
 
     fn symmetric_difference(self, alloc: Global) -> Result<RangeMapBlaze<T, V>, AllocError> {
         let new = lent_symmetric_difference(alloc, &self)?;
+        Ok(new)
+    }
+
+    fn inner_join<W: Eq + Clone, F: FnMut(&[&V]) -> W>(
+        self,
+        alloc: Global,
+        f: F,
+    ) -> Result<RangeMapBlaze<T, W>, AllocError> {
+        let new = lent_inner_join(alloc, &self, f)?;
+        Ok(new)
+    }
+
+    fn full_join<W: Eq + Clone, F: FnMut(&[Option<&V>]) -> W>(
+        self,
+        alloc: Global,
+        f: F,
+    ) -> Result<RangeMapBlaze<T, W>, AllocError> {
+        let new = lent_full_join(alloc, &self, f)?;
         Ok(new)
     }
 }
@@ -75,6 +125,26 @@ impl<T: Integer, V: Eq + Clone, M: AsMap<T, V>, const N: usize> MultiwayRangeMap
         let new = lent_symmetric_difference(alloc, &maps)?;
         Ok(new)
     }
+
+    fn inner_join<W: Eq + Clone, F: FnMut(&[&V]) -> W>(
+        self,
+        alloc: Global,
+        f: F,
+    ) -> Result<RangeMapBlaze<T, W>, AllocError> {
+        let maps = Vec::from_array(alloc, self)?;
+        let new = lent_inner_join(alloc, &maps, f)?;
+        Ok(new)
+    }
+
+    fn full_join<W: Eq + Clone, F: FnMut(&[Option<&V>]) -> W>(
+        self,
+        alloc: Global,
+        f: F,
+    ) -> Result<RangeMapBlaze<T, W>, AllocError> {
+        let maps = Vec::from_array(alloc, self)?;
+        let new = lent_full_join(alloc, &maps, f)?;
+        Ok(new)
+    }
 }
 
 /// Operations between any number of maps. Refused memory drops the maps.
@@ -86,20 +156,23 @@ pub trait MultiwayRangeMapBlaze<T: Integer, V: Eq + Clone>: Sized {
     /// one clone of its value. With n entries in k maps it takes O(n log k) steps.
     fn union(self, alloc: Global) -> Result<RangeMapBlaze<T, V>, AllocError>
         requires { ClonesAreAlike V.is_clone V.eq }
-        ensures { IfOk result (λ new. IsChosenOfMany V.eq T.low T.high last_value (lists self) new.entries) };
+        ensures { IfOk result (λ new. IsChosenOfMany V.eq T.low T.high last_value
+            (lists self) new.entries) };
 
     /// Each key that all maps have, with the last map's value. There is to be at least one map. Each entry of the answer takes
     /// one clone of its value. With n entries in k maps it takes O(n log k) steps.
     fn intersection(self, alloc: Global) -> Result<RangeMapBlaze<T, V>, AllocError>
         requires clones { ClonesAreAlike V.is_clone V.eq }
         requires some { 0 < length (lists self) }
-        ensures { IfOk result (λ new. IsChosenOfMany V.eq T.low T.high last_of_all (lists self) new.entries) };
+        ensures { IfOk result (λ new. IsChosenOfMany V.eq T.low T.high last_of_all
+            (lists self) new.entries) };
 
     /// Each key that an odd number of maps have, with the value of the last map that has it; of no maps nothing. Each entry of
     /// the answer takes one clone of its value. With n entries in k maps it takes O(n log k) steps.
     fn symmetric_difference(self, alloc: Global) -> Result<RangeMapBlaze<T, V>, AllocError>
         requires { ClonesAreAlike V.is_clone V.eq }
-        ensures { IfOk result (λ new. IsChosenOfMany V.eq T.low T.high last_of_odd (lists self) new.entries) };
+        ensures { IfOk result (λ new. IsChosenOfMany V.eq T.low T.high last_of_odd
+            (lists self) new.entries) };
 }
 
 impl<T: Integer, V: Eq + Clone> MultiwayRangeMapBlaze<T, V> for Vec<RangeMapBlaze<T, V>> {

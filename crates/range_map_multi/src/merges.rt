@@ -18,7 +18,8 @@ pub fn merged_union<T: Integer, VC: ValueCarrier, I: SortedDisjointMap<T, VC>>(
     streams: Vec<I>,
 ) -> Result<CanonMapIter<T, VC>, AllocError>
     requires { VC.can_carry }
-    ensures { IfOk result (λ new. IsChosenOfMany VC.Value.eq T.low T.high last_value (map I.left streams.items) new) }
+    ensures { IfOk result (λ new. IsChosenOfMany VC.Value.eq T.low T.high last_value
+        (map I.left streams.items) new) }
 {
     if streams.len() < 2 {
         let list = only_of(alloc, streams)?;
@@ -39,7 +40,8 @@ pub fn merged_intersection<T: Integer, VC: ValueCarrier, I: SortedDisjointMap<T,
 ) -> Result<CanonMapIter<T, VC>, AllocError>
     requires can { VC.can_carry }
     requires some { 0 < vec_len streams }
-    ensures { IfOk result (λ new. IsChosenOfMany VC.Value.eq T.low T.high last_of_all (map I.left streams.items) new) }
+    ensures { IfOk result (λ new. IsChosenOfMany VC.Value.eq T.low T.high last_of_all
+        (map I.left streams.items) new) }
 {
     if streams.len() < 2 {
         let list = only_of(alloc, streams)?;

@@ -35,7 +35,8 @@ fn all_with_keys<T: Integer, VC: ValueCarrier, I: SortedDisjointMap<T, VC>>(
     streams: Vec<I>,
 ) -> Result<(Vec<CanonMapIter<T, VC>>, Vec<CanonMapIter<T, bool>>), AllocError>
     ensures lists { IfOk result (λ both. both.0.items ≡ map I.left streams.items) }
-    ensures keys { IfOk result (λ both. both.1.items ≡ map (λ s. in_turn true (I.left s)) streams.items) }
+    ensures keys { IfOk result (λ both. both.1.items
+        ≡ map (λ s. in_turn true (I.left s)) streams.items) }
 {
     let mut lists = Vec::new(alloc);
     let mut keys = Vec::new(alloc);
@@ -53,7 +54,8 @@ pub fn merged_symmetric_difference<T: Integer, VC: ValueCarrier, I: SortedDisjoi
     streams: Vec<I>,
 ) -> Result<CanonMapIter<T, VC>, AllocError>
     requires { VC.can_carry }
-    ensures { IfOk result (λ new. IsChosenOfMany VC.Value.eq T.low T.high last_of_odd (map I.left streams.items) new) }
+    ensures { IfOk result (λ new. IsChosenOfMany VC.Value.eq T.low T.high last_of_odd
+        (map I.left streams.items) new) }
 {
     let (lists, keys) = all_with_keys(alloc, streams)?;
     let union = merged_union(alloc, lists)?;

@@ -1,14 +1,19 @@
-//! Operations between any number of streams. With n ranges in k streams each takes O(n log k) steps and O(n) memory.
-ghost use Rattle.std.specs.Prelude.{◌<◌, List, length, map, IfOk};
+//! Operations between any number of streams.
+ghost use Rattle.std.specs.Prelude.{◌<◌, List, length, map, is_some, IfOk};
+ghost use Rattle.std.specs.List.{list_all, list_any};
 ghost use Rattle.blaze_table.specs.Entries.{Entry};
+ghost use Rattle.blaze_streams.specs.Sweeps.{IsSweep};
 ghost use Rattle.range_map_multi.specs.Many.{last_value, last_of_all, last_of_odd, IsChosenOfMany};
+ghost use Rattle.range_map_multi.specs.ManyJoins.{shown_row, shown_full_row, IsCallableAtRows};
+ghost use Rattle.range_map_multi.specs.ManyJoins.{IsManyJoined};
 
 use crate::merges::{merged_intersection, merged_union};
 use crate::parity::merged_symmetric_difference;
+use crate::stream_joins::{stream_full_join, stream_inner_join};
 use blaze_int::Integer;
 use blaze_streams::{
-    MultiwayIntersectionMap, MultiwaySymmetricDifferenceMap, MultiwayUnionMap, SortedDisjointMap,
-    ValueCarrier,
+    MultiwayFullJoinMap, MultiwayInnerJoinMap, MultiwayIntersectionMap, MultiwaySweep,
+    MultiwaySymmetricDifferenceMap, MultiwayUnionMap, SortedDisjointMap, ValueCarrier, sweep_of,
 };
 use std::alloc::{AllocError, Global};
 
@@ -22,14 +27,16 @@ pub trait MultiwaySortedDisjointMap<T: Integer, VC: ValueCarrier>: Sized {
     /// streams it takes O(n log k) steps.
     fn union(self, alloc: Global) -> Result<MultiwayUnionMap<T, VC>, AllocError>
         requires { VC.can_carry }
-        ensures { IfOk result (λ new. IsChosenOfMany VC.Value.eq T.low T.high last_value (lists self) new) };
+        ensures { IfOk result (λ new. IsChosenOfMany VC.Value.eq T.low T.high last_value
+            (lists self) new) };
 
     /// Each key that all streams have, with the last stream's value. There is to be at least one stream. With n ranges in k
     /// streams it takes O(n log k) steps.
     fn intersection(self, alloc: Global) -> Result<MultiwayIntersectionMap<T, VC>, AllocError>
         requires can { VC.can_carry }
         requires some { 0 < length (lists self) }
-        ensures { IfOk result (λ new. IsChosenOfMany VC.Value.eq T.low T.high last_of_all (lists self) new) };
+        ensures { IfOk result (λ new. IsChosenOfMany VC.Value.eq T.low T.high last_of_all
+            (lists self) new) };
 
     /// Each key that an odd number of streams have, with the value of the last stream that has it; of no streams nothing. With
     /// n ranges in k streams it takes O(n log k) steps.
@@ -38,7 +45,41 @@ pub trait MultiwaySortedDisjointMap<T: Integer, VC: ValueCarrier>: Sized {
         alloc: Global,
     ) -> Result<MultiwaySymmetricDifferenceMap<T, VC>, AllocError>
         requires { VC.can_carry }
-        ensures { IfOk result (λ new. IsChosenOfMany VC.Value.eq T.low T.high last_of_odd (lists self) new) };
+        ensures { IfOk result (λ new. IsChosenOfMany VC.Value.eq T.low T.high last_of_odd
+            (lists self) new) };
+
+    /// What a closure answers where all streams have a value: one call for each of the greatest ranges on which no stream
+    /// changes and all have a value, ascending. A call gets the row of the streams' carriers, first to last. Touching equal
+    /// answers are one range. Of no streams the closure is called once, with an empty row, and its answer is at every key. With n
+    /// ranges in k streams it takes O(n k) steps and O(n + k) memory beside the answer. No value is cloned. Refused memory drops
+    /// the answers too.
+    fn inner_join<W: Eq + Clone, F: FnMut(&[&VC]) -> W>(
+        self,
+        alloc: Global,
+        f: F,
+    ) -> Result<MultiwayInnerJoinMap<T, W>, AllocError>
+        requires { IsCallableAtRows (λ a. shown_full_row (λ c. VC.shown c.now) a.0.now) F.FnMut
+            VC.Value.eq T.low T.high (list_all is_some) f (lists self) }
+        ensures { IfOk result
+            (λ new. IsManyJoined (λ a. shown_full_row (λ c. VC.shown c.now) a.0.now) F.FnMut
+            VC.Value.eq T.low T.high (list_all is_some) W.eq f (lists self) new) };
+
+    /// The same where at least one stream has a value, with `None` for each that has none; of no streams nothing, and no call.
+    fn full_join<W: Eq + Clone, F: FnMut(&[Option<&VC>]) -> W>(
+        self,
+        alloc: Global,
+        f: F,
+    ) -> Result<MultiwayFullJoinMap<T, W>, AllocError>
+        requires { IsCallableAtRows (λ a. shown_row (λ c. VC.shown c.now) a.0.now) F.FnMut
+            VC.Value.eq T.low T.high (list_any is_some) f (lists self) }
+        ensures { IfOk result (λ new. IsManyJoined (λ a. shown_row (λ c. VC.shown c.now) a.0.now)
+            F.FnMut VC.Value.eq T.low T.high (list_any is_some) W.eq f (lists self) new) };
+
+    /// The events of the streams: for each range of one of them a start and an end, ascending by time. The time of a start is
+    /// twice the rank of its first key, that of an end twice the rank of its last key, plus one, and each event has the place
+    /// of its stream, from 0. Carriers are moved. With n ranges in k streams it takes O(n log k) steps.
+    fn sweep(self, alloc: Global) -> Result<MultiwaySweep<T, VC>, AllocError>
+        ensures { IfOk result (λ events. IsSweep (lists self) events) };
 }
 
 impl<T: Integer, VC: ValueCarrier, I: SortedDisjointMap<T, VC>> MultiwaySortedDisjointMap<T, VC>
@@ -61,5 +102,28 @@ impl<T: Integer, VC: ValueCarrier, I: SortedDisjointMap<T, VC>> MultiwaySortedDi
     ) -> Result<MultiwaySymmetricDifferenceMap<T, VC>, AllocError> {
         let new = merged_symmetric_difference(alloc, self)?;
         Ok(new)
+    }
+
+    fn inner_join<W: Eq + Clone, F: FnMut(&[&VC]) -> W>(
+        self,
+        alloc: Global,
+        f: F,
+    ) -> Result<MultiwayInnerJoinMap<T, W>, AllocError> {
+        let new = stream_inner_join(alloc, self, f)?;
+        Ok(new)
+    }
+
+    fn full_join<W: Eq + Clone, F: FnMut(&[Option<&VC>]) -> W>(
+        self,
+        alloc: Global,
+        f: F,
+    ) -> Result<MultiwayFullJoinMap<T, W>, AllocError> {
+        let new = stream_full_join(alloc, self, f)?;
+        Ok(new)
+    }
+
+    fn sweep(self, alloc: Global) -> Result<MultiwaySweep<T, VC>, AllocError> {
+        let events = sweep_of(alloc, self)?;
+        Ok(events)
     }
 }

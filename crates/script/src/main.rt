@@ -2,22 +2,10 @@
 #![tactic(auto)]
 
 mod calls;
-mod changes;
-mod comparisons;
-mod extends;
 mod fault;
-mod from_pairs;
-mod iterate;
-mod joins;
 mod keys;
 mod lines;
-mod look_ups;
-mod makes;
-mod operators;
-mod other_maps;
-mod runs;
 mod script;
-mod sets;
 mod state;
 mod words;
 

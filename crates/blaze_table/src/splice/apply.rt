@@ -7,7 +7,8 @@ ghost use Rattle.blaze_entries.specs.Starts.{last_below, start_at};
 ghost use Rattle.blaze_table.specs.Canonical.{IsCanonical};
 ghost use Rattle.blaze_table.specs.Entries.{entry};
 ghost use Rattle.blaze_table.specs.Painted.{ClonesAreAlike};
-ghost use Rattle.blaze_table.specs.Planned.{ends_of, joined_start, ends_in, least, least_with, IsRest, IsPutAt, IsExtended, IsPlanOf, IsWorked};
+ghost use Rattle.blaze_table.specs.Planned.{ends_of, joined_start, ends_in, least, least_with};
+ghost use Rattle.blaze_table.specs.Planned.{IsRest, IsPutAt, IsExtended, IsPlanOf, IsWorked};
 ghost use Rattle.blaze_table.specs.Splice.{IsPaintOf};
 
 use super::edits::{clear, trim};

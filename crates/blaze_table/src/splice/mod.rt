@@ -1,10 +1,11 @@
 //! A value put on the keys of a range, in place: the entries beside the range are found, then edited.
+ghost use Rattle.std.specs.Option.{option_or};
 ghost use Rattle.std.specs.Prelude.{◌≡◌, ◌+◌, ◌≤◌, length, pos, ◌+ℤ◌, ◌≤ℤ◌, Ok, IfOk, OnOk, OnErr};
 ghost use Rattle.blaze_entries.specs.Scanned.{seen_of, least_by};
 ghost use Rattle.blaze_table.specs.Count.{keys_in};
 ghost use Rattle.blaze_table.specs.Work.{IsCountedPaint};
 ghost use Rattle.blaze_table.specs.Entries.{entry};
-ghost use Rattle.blaze_table.specs.Painted.{IsInside, ClonesAreAlike, or_else};
+ghost use Rattle.blaze_table.specs.Painted.{IsInside, ClonesAreAlike};
 ghost use Rattle.blaze_table.specs.Planned.{ends_in, least, IsPlanOf, IsWorked, reaches};
 ghost use Rattle.blaze_table.specs.Splice.{IsListPainted, before, after};
 ghost use Rattle.blaze_table.specs.Table.{IsTable};
@@ -25,7 +26,7 @@ use std::alloc::AllocError;
 // Whether one entry has all keys of a range that ends at `hi`, with an equal value.
 fn is_inside<T: Integer>(plan: Plan<T>, hi: T) -> bool
     ensures { result
-        ≡ reaches (T.rank hi) (or_else (seen_of T.rank plan).first (seen_of T.rank plan).left) }
+        ≡ reaches (T.rank hi) (option_or (seen_of T.rank plan).first (seen_of T.rank plan).left) }
 {
     match plan.first.or(plan.left) {
         Some(found) => found.is_equal && is_at_most(hi, found.end),

@@ -1,6 +1,7 @@
 //! What a paint has to know of the entries beside its range, found by single looks.
 ghost use Rattle.std.specs.Prelude.{◌≡◌, ◌+◌, pos, ◌+ℤ◌, ◌≤ℤ◌, reverse, None};
-ghost use Rattle.blaze_entries.specs.Scanned.{seen_of, unseen, walked, least_by, walked_covered, answers, walked_keys};
+ghost use Rattle.blaze_entries.specs.Scanned.{seen_of, unseen, walked, least_by, walked_covered};
+ghost use Rattle.blaze_entries.specs.Scanned.{answers, walked_keys};
 ghost use Rattle.blaze_entries.specs.Starts.{below};
 
 use blaze_entries::{Counted, Plan, less, next_or_last};

@@ -11,7 +11,8 @@ use std::alloc::{AllocError, Global};
 
 /// Whether a pair has a key and starts above the end of the one before it.
 fn follows<T: Integer, V>(last: Option<T>, pair: &(T, T, V)) -> bool
-    ensures { result ≡ true → (first_from T.rank T.low last ≤ℤ T.rank pair.now.0) × (T.rank pair.now.0 ≤ℤ T.rank pair.now.1) }
+    ensures { result ≡ true → (first_from T.rank T.low last ≤ℤ T.rank pair.now.0)
+        × (T.rank pair.now.0 ≤ℤ T.rank pair.now.1) }
 {
     pair.0.in_hand();
     match last {
@@ -42,7 +43,8 @@ pub(crate) fn joined<T: Integer, V: Eq + Clone>(
     pairs: Vec<(T, T, V)>,
 ) -> Result<Vec<(T, T, V)>, AllocError>
     requires { AreApart T.low (listed T.rank pairs.items) }
-    ensures { IfOk result (λ entries. IsCanonicalOf V.eq T.low T.high (listed T.rank pairs.items) (listed T.rank entries.items)) }
+    ensures { IfOk result (λ entries. IsCanonicalOf V.eq T.low T.high (listed T.rank pairs.items)
+        (listed T.rank entries.items)) }
 {
     let mut entries = Vec::new(alloc);
     for (start, end, value) in pairs {

@@ -11,7 +11,9 @@ use blaze_int::compare::{is_at_most, is_below, is_next};
 
 /// Whether a pair has a key, starts above the end of the one before it, and has another value where the two touch.
 fn continues<T: Integer, V: Eq>(before: Option<&(T, T, V)>, pair: &(T, T, V)) -> bool
-    ensures { result ≡ true → Continues V.eq T.low T.high (option_map (shown_entry T.rank (λ v. v)) (option_copied before.entry)) (shown_entry T.rank (λ v. v) pair.now) }
+    ensures { result ≡ true
+        → Continues V.eq T.low T.high (option_map (shown_entry T.rank (λ v. v))
+        (option_copied before.entry)) (shown_entry T.rank (λ v. v) pair.now) }
 {
     pair.0.in_hand();
     pair.1.in_hand();

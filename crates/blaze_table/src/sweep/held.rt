@@ -22,29 +22,30 @@ pub(crate) enum Held<V> {
 /// The values of pairs.
 pub(crate) fn held_of<T: Integer, V: Eq + Clone>(
     alloc: Global,
-    pairs: Vec<(T, T, V)>,
+    placed: Vec<(T, T, usize, V)>,
 ) -> Result<Vec<Held<V>>, AllocError>
-    ensures { IfOk result (λ held. held.items ≡ map kept_value pairs.items) }
+    ensures { IfOk result (λ held. held.items ≡ map kept_value placed.items) }
 {
     let mut held = Vec::new(alloc);
-    for pair in pairs {
-        held.push(Held::Kept(pair.2))?;
+    for pair in placed {
+        held.push(Held::Kept(pair.3))?;
     }
     Ok(held)
 }
 
-/// The value at a place: moved out, or, where it was moved already, a clone of that of the entry that has it.
+/// The value at an index: moved out, or, where it was moved already, a clone of that of the entry that has it.
 fn value_at<T: Integer, V: Eq + Clone>(
     held: &mut Vec<Held<V>>,
     entries: &[(T, T, V)],
-    place: usize,
+    index: usize,
 ) -> Result<V, AllocError>
     requires clones { ClonesAreAlike V.is_clone V.eq }
-    requires there { IsSome (value_in (listed T.rank entries.now) held.old.items place) }
-    ensures value { IfOk result (λ value. SameOption V.eq (Some value) (value_in (listed T.rank entries.now) held.old.items place)) }
-    ensures held { held.new.items ≡ moved_to 0 held.old.items place }
+    requires there { IsSome (value_in (listed T.rank entries.now) held.old.items index) }
+    ensures value { IfOk result (λ value. SameOption V.eq (Some value)
+        (value_in (listed T.rank entries.now) held.old.items index)) }
+    ensures held { held.new.items ≡ moved_to 0 held.old.items index }
 {
-    match mem::replace(&mut held[place], Held::Moved(0)) {
+    match mem::replace(&mut held[index], Held::Moved(0)) {
         Held::Kept(value) => Ok(value),
         Held::Moved(at) => {
             let value = entries[at].2.clone()?;
@@ -53,21 +54,23 @@ fn value_at<T: Integer, V: Eq + Clone>(
     }
 }
 
-/// Adds the value at a place on the keys from `start` up to `end`, in one entry with the last where the two touch with equal
+/// Adds the value at an index on the keys from `start` up to `end`, in one entry with the last where the two touch with equal
 /// values.
 pub(crate) fn put_piece<T: Integer, V: Eq + Clone>(
     held: &mut Vec<Held<V>>,
     entries: &mut Vec<(T, T, V)>,
     start: T,
     end: T,
-    place: usize,
+    index: usize,
 ) -> Result<(), AllocError>
     requires clones { ClonesAreAlike V.is_clone V.eq }
-    requires there { IsSome (value_in (listed T.rank entries.old.items) held.old.items place) }
-    ensures { OnOk result (PutsPiece V.eq (T.rank start) (T.rank end) place (listed T.rank entries.old.items) (listed T.rank entries.new.items) held.old.items held.new.items) }
+    requires there { IsSome (value_in (listed T.rank entries.old.items) held.old.items index) }
+    ensures { OnOk result (PutsPiece V.eq (T.rank start) (T.rank end) index
+        (listed T.rank entries.old.items) (listed T.rank entries.new.items)
+        held.old.items held.new.items) }
 {
-    let value = value_at(held, entries, place)?;
+    let value = value_at(held, entries, index)?;
     push_entry(entries, start, end, value)?;
-    held[place] = Held::Moved(entries.len() - 1);
+    held[index] = Held::Moved(entries.len() - 1);
     Ok(())
 }

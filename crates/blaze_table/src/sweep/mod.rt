@@ -9,6 +9,7 @@ use crate::sweep::ascending::{is_ascending, joined};
 use crate::sweep::canonical::is_canonical;
 use crate::sweep::fill::filled;
 use crate::sweep::pieces::pieces_of;
+use crate::sweep::placed::placed_of;
 use blaze_int::Integer;
 use std::alloc::{AllocError, Global};
 
@@ -17,23 +18,27 @@ mod canonical;
 mod fill;
 mod held;
 mod pieces;
+mod placed;
 mod push;
-mod starts;
 mod waiting;
+
+pub(crate) use push::lengthen_entry;
+pub use push::push_entry;
 
 /// The canonical list of pairs painted in order, where there was nothing: of first key, last key and value. The later pair
 /// wins, a pair whose last key is below its first paints nothing, and touching entries with equal values are one.
 ///
 /// Pairs that are canonical already are answered as they are, after one pass. Pairs that are ascending and disjoint are joined
-/// in one pass more. The first keys of all others are sorted and swept from the least key up, with the pairs that reach the key
-/// in a heap whose top is the latest: O(n log n) steps for n pairs. A value is cloned only where its pair is cut into several
-/// pieces; else it is moved. Refused memory drops the list.
+/// in one pass more. All others are sorted by their first keys, with their values, and swept from the least key up, with the pairs
+/// that reach the key in a heap whose top is the latest: O(n log n) steps for n pairs. A value is cloned only where its pair is
+/// cut into several pieces; else it is moved. Refused memory drops the list.
 pub fn canonical_of<T: Integer, V: Eq + Clone>(
     alloc: Global,
     pairs: Vec<(T, T, V)>,
 ) -> Result<Vec<(T, T, V)>, AllocError>
     requires { ClonesAreAlike V.is_clone V.eq }
-    ensures { IfOk result (λ entries. IsCanonicalOf V.eq T.low T.high (listed T.rank pairs.items) (listed T.rank entries.items)) }
+    ensures { IfOk result (λ entries. IsCanonicalOf V.eq T.low T.high (listed T.rank pairs.items)
+        (listed T.rank entries.items)) }
 {
     if is_canonical(pairs.as_slice()) {
         return Ok(pairs);
@@ -43,7 +48,8 @@ pub fn canonical_of<T: Integer, V: Eq + Clone>(
         return Ok(entries);
     }
     keys_in_hand(pairs.as_slice());
-    let pieces = pieces_of(alloc, pairs.as_slice())?;
-    let entries = filled(alloc, pairs, pieces)?;
+    let placed = placed_of(alloc, pairs)?;
+    let pieces = pieces_of(alloc, placed.as_slice())?;
+    let entries = filled(alloc, placed, pieces)?;
     Ok(entries)
 }

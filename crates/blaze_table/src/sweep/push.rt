@@ -1,5 +1,5 @@
 //! Entries put one after another.
-ghost use Rattle.std.specs.Prelude.{◌≡◌, ◌∷◌, ◌++◌, [], OnOk, MatchBool};
+ghost use Rattle.std.specs.Prelude.{◌≡◌, ◌∷◌, ◌++◌, [], OnOk, OnErr, MatchBool};
 ghost use Rattle.blaze_table.specs.Entries.{entry};
 ghost use Rattle.blaze_table.specs.Listed.{listed};
 ghost use Rattle.blaze_table.specs.Splice.{glue};
@@ -9,13 +9,16 @@ use blaze_int::compare::is_next;
 use std::alloc::AllocError;
 
 /// Lets the last entry go on up to `hi` where it ends right below `lo` and has an equal value, and answers whether it does.
-fn lengthen_entry<T: Integer, V: Eq + Clone>(
+pub(crate) fn lengthen_entry<T: Integer, V: Eq + Clone>(
     out: &mut Vec<(T, T, V)>,
     lo: T,
     hi: T,
     value: &V,
 ) -> bool
-    ensures { let old = listed T.rank out.old.items in let added = entry (T.rank lo) (T.rank hi) value.now ∷ [] in MatchBool result (listed T.rank out.new.items ≡ glue V.eq old added) ((out.new.items ≡ out.old.items) × (glue V.eq old added ≡ old ++ added)) }
+    ensures { let old = listed T.rank out.old.items in let added = entry (T.rank lo)
+        (T.rank hi) value.now ∷ [] in MatchBool result (listed T.rank out.new.items
+        ≡ glue V.eq old added) ((out.new.items ≡ out.old.items)
+        × (glue V.eq old added ≡ old ++ added)) }
 {
     let Some(last) = out.last_mut() else {
         return false;
@@ -27,14 +30,17 @@ fn lengthen_entry<T: Integer, V: Eq + Clone>(
     true
 }
 
-/// Adds an entry, in one with the last where the two touch with equal values. Refused memory leaves the list unchanged.
-pub(crate) fn push_entry<T: Integer, V: Eq + Clone>(
+/// Adds an entry to a list, in one with the last where the two touch with equal values: of first key, last key and value.
+/// Refused memory leaves the list unchanged.
+pub fn push_entry<T: Integer, V: Eq + Clone>(
     out: &mut Vec<(T, T, V)>,
     lo: T,
     hi: T,
     value: V,
 ) -> Result<(), AllocError>
-    ensures { OnOk result (listed T.rank out.new.items ≡ glue V.eq (listed T.rank out.old.items) (entry (T.rank lo) (T.rank hi) value ∷ [])) }
+    ensures ok { OnOk result (listed T.rank out.new.items
+        ≡ glue V.eq (listed T.rank out.old.items) (entry (T.rank lo) (T.rank hi) value ∷ [])) }
+    ensures err { OnErr result (out.new.items ≡ out.old.items) }
 {
     if !lengthen_entry(out, lo, hi, &value) {
         out.push((lo, hi, value))?;

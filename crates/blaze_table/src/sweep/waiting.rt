@@ -1,33 +1,35 @@
-//! The places of the pairs that wait, the greatest on top.
+//! The pairs that wait, each by its place and its index; the one with the greatest place on top.
 ghost use Rattle.std.specs.Prelude.{◌≡◌, ◌≤◌, ◌∷◌, ◌+◌, [], All, IfSome, IfNone, IsPermutation};
 ghost use Rattle.std.specs.BinaryHeap.{IsHeap, heap_items, heap_len};
-ghost use Rattle.std.specs.List.{Contains};
-ghost use Rattle.std.specs.Ordering.{nat_cmp};
+ghost use Rattle.std.specs.List.{Contains, slice_get};
+ghost use Rattle.blaze_table.specs.Pieces.{place_cmp};
 
 use std::alloc::Global;
 use std::collections::BinaryHeap;
 
-/// The greatest of the places.
-pub(crate) fn last_of(places: &BinaryHeap<usize, Global>) -> Option<usize>
-    requires { IsHeap nat_cmp (heap_items places.now) }
-    ensures some { IfSome result (λ top. Contains (heap_items places.now) top × All (λ j. j ≤ top) (heap_items places.now)) }
-    ensures none { IfNone result (heap_items places.now ≡ []) }
+/// The place and the index of the pair with the greatest place.
+pub(crate) fn last_of(waiting: &BinaryHeap<(usize, usize), Global>) -> Option<(usize, usize)>
+    requires { IsHeap place_cmp (heap_items waiting.now) }
+    ensures top { IfSome result (λ top. slice_get (heap_items waiting.now) 0 ≡ Some top) }
+    ensures greatest { IfSome result (λ top. All (λ w. w.0 ≤ top.0) (heap_items waiting.now)) }
+    ensures none { IfNone result (heap_items waiting.now ≡ []) }
 {
-    match places.peek() {
+    match waiting.peek() {
         Some(top) => Some(*top),
         None => None,
     }
 }
 
-/// Takes the greatest of the places out.
-pub(crate) fn drop_last(places: &mut BinaryHeap<usize, Global>, top: usize)
-    requires heap { IsHeap nat_cmp (heap_items places.old) }
-    requires last { Contains (heap_items places.old) top × All (λ j. j ≤ top) (heap_items places.old) }
-    ensures heap { IsHeap nat_cmp (heap_items places.new) }
-    ensures permutation { IsPermutation (heap_items places.old) (top ∷ heap_items places.new) }
-    ensures len { heap_len places.new + 1 ≡ heap_len places.old }
+/// Takes the pair with the greatest place out.
+pub(crate) fn drop_last(waiting: &mut BinaryHeap<(usize, usize), Global>, top: (usize, usize))
+    requires heap { IsHeap place_cmp (heap_items waiting.old) }
+    requires top { slice_get (heap_items waiting.old) 0 ≡ Some top }
+    ensures heap { IsHeap place_cmp (heap_items waiting.new) }
+    ensures permutation { IsPermutation (heap_items waiting.old)
+        (top ∷ heap_items waiting.new) }
+    ensures len { heap_len waiting.new + 1 ≡ heap_len waiting.old }
 {
-    match places.pop() {
+    match waiting.pop() {
         Some(_) => {}
         None => unreachable!(),
     }

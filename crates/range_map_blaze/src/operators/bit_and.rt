@@ -5,7 +5,7 @@ ghost use Rattle.blaze_table.specs.Chosen.{left_with_right, IsChosen};
 ghost use Rattle.blaze_table.specs.Painted.{ClonesAreAlike};
 
 use crate::map::RangeMapBlaze;
-use crate::pointwise::{intersection, intersection_with_set};
+use crate::operators::pointwise::{intersection, intersection_with_set};
 use blaze_int::Integer;
 use blaze_table::RangeSetBlaze;
 use std::alloc::AllocError;
@@ -16,7 +16,9 @@ impl<T: Integer, V: Eq + Clone> BitAnd for RangeMapBlaze<T, V> {
 
     ghost can_bitand = { λ _ _. ClonesAreAlike V.is_clone V.eq };
 
-    ghost bitand_gives = { λ left right result. IfOk result (λ map. IsChosen V.eq T.low T.high left_with_right right.entries left.entries map.entries) };
+    ghost bitand_gives = { λ left right result. IfOk result
+        (λ map. IsChosen V.eq T.low T.high left_with_right right.entries
+        left.entries map.entries) };
 
     fn bitand(self, right: RangeMapBlaze<T, V>) -> Result<RangeMapBlaze<T, V>, AllocError> {
         intersection(&self, &right)
@@ -28,7 +30,9 @@ impl<'b, T: Integer, V: Eq + Clone> BitAnd<&'b RangeMapBlaze<T, V>> for RangeMap
 
     ghost can_bitand = { λ _ _. ClonesAreAlike V.is_clone V.eq };
 
-    ghost bitand_gives = { λ left right result. IfOk result (λ map. IsChosen V.eq T.low T.high left_with_right right.now.entries left.entries map.entries) };
+    ghost bitand_gives = { λ left right result. IfOk result
+        (λ map. IsChosen V.eq T.low T.high left_with_right right.now.entries
+        left.entries map.entries) };
 
     fn bitand(self, right: &'b RangeMapBlaze<T, V>) -> Result<RangeMapBlaze<T, V>, AllocError> {
         intersection(&self, right)
@@ -40,7 +44,9 @@ impl<'a, T: Integer, V: Eq + Clone> BitAnd<RangeMapBlaze<T, V>> for &'a RangeMap
 
     ghost can_bitand = { λ _ _. ClonesAreAlike V.is_clone V.eq };
 
-    ghost bitand_gives = { λ left right result. IfOk result (λ map. IsChosen V.eq T.low T.high left_with_right right.entries left.now.entries map.entries) };
+    ghost bitand_gives = { λ left right result. IfOk result
+        (λ map. IsChosen V.eq T.low T.high left_with_right right.entries
+        left.now.entries map.entries) };
 
     fn bitand(self, right: RangeMapBlaze<T, V>) -> Result<RangeMapBlaze<T, V>, AllocError> {
         intersection(self, &right)
@@ -53,7 +59,9 @@ impl<'a, 'b, T: Integer, V: Eq + Clone> BitAnd<&'b RangeMapBlaze<T, V>>
 
     ghost can_bitand = { λ _ _. ClonesAreAlike V.is_clone V.eq };
 
-    ghost bitand_gives = { λ left right result. IfOk result (λ map. IsChosen V.eq T.low T.high left_with_right right.now.entries left.now.entries map.entries) };
+    ghost bitand_gives = { λ left right result. IfOk result
+        (λ map. IsChosen V.eq T.low T.high left_with_right right.now.entries
+        left.now.entries map.entries) };
 
     fn bitand(self, right: &'b RangeMapBlaze<T, V>) -> Result<RangeMapBlaze<T, V>, AllocError> {
         intersection(self, right)
@@ -65,7 +73,8 @@ impl<T: Integer, V: Eq + Clone> BitAnd<RangeSetBlaze<T>> for RangeMapBlaze<T, V>
 
     ghost can_bitand = { λ _ _. ClonesAreAlike V.is_clone V.eq };
 
-    ghost bitand_gives = { λ left right result. IfOk result (λ map. IsChosen V.eq T.low T.high left_with_right left.entries right map.entries) };
+    ghost bitand_gives = { λ left right result. IfOk result
+        (λ map. IsChosen V.eq T.low T.high left_with_right left.entries right map.entries) };
 
     fn bitand(self, right: RangeSetBlaze<T>) -> Result<RangeMapBlaze<T, V>, AllocError> {
         intersection_with_set(&self, &right)
@@ -77,7 +86,8 @@ impl<'b, T: Integer, V: Eq + Clone> BitAnd<&'b RangeSetBlaze<T>> for RangeMapBla
 
     ghost can_bitand = { λ _ _. ClonesAreAlike V.is_clone V.eq };
 
-    ghost bitand_gives = { λ left right result. IfOk result (λ map. IsChosen V.eq T.low T.high left_with_right left.entries right.now map.entries) };
+    ghost bitand_gives = { λ left right result. IfOk result
+        (λ map. IsChosen V.eq T.low T.high left_with_right left.entries right.now map.entries) };
 
     fn bitand(self, right: &'b RangeSetBlaze<T>) -> Result<RangeMapBlaze<T, V>, AllocError> {
         intersection_with_set(&self, right)
@@ -89,7 +99,8 @@ impl<'a, T: Integer, V: Eq + Clone> BitAnd<RangeSetBlaze<T>> for &'a RangeMapBla
 
     ghost can_bitand = { λ _ _. ClonesAreAlike V.is_clone V.eq };
 
-    ghost bitand_gives = { λ left right result. IfOk result (λ map. IsChosen V.eq T.low T.high left_with_right left.now.entries right map.entries) };
+    ghost bitand_gives = { λ left right result. IfOk result
+        (λ map. IsChosen V.eq T.low T.high left_with_right left.now.entries right map.entries) };
 
     fn bitand(self, right: RangeSetBlaze<T>) -> Result<RangeMapBlaze<T, V>, AllocError> {
         intersection_with_set(self, &right)
@@ -101,7 +112,9 @@ impl<'a, 'b, T: Integer, V: Eq + Clone> BitAnd<&'b RangeSetBlaze<T>> for &'a Ran
 
     ghost can_bitand = { λ _ _. ClonesAreAlike V.is_clone V.eq };
 
-    ghost bitand_gives = { λ left right result. IfOk result (λ map. IsChosen V.eq T.low T.high left_with_right left.now.entries right.now map.entries) };
+    ghost bitand_gives = { λ left right result. IfOk result
+        (λ map. IsChosen V.eq T.low T.high left_with_right left.now.entries
+        right.now map.entries) };
 
     fn bitand(self, right: &'b RangeSetBlaze<T>) -> Result<RangeMapBlaze<T, V>, AllocError> {
         intersection_with_set(self, right)

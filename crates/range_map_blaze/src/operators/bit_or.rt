@@ -5,7 +5,7 @@ ghost use Rattle.blaze_table.specs.Painted.{ClonesAreAlike};
 ghost use Rattle.range_map_blaze.specs.Union.{IsUnion};
 
 use crate::map::RangeMapBlaze;
-use crate::union::{union, union_by_value, union_under, union_with};
+use crate::operators::union::{union, union_by_value, union_under, union_with};
 use blaze_int::Integer;
 use std::alloc::AllocError;
 use std::ops::BitOr;
@@ -15,7 +15,8 @@ impl<T: Integer, V: Eq + Clone> BitOr for RangeMapBlaze<T, V> {
 
     ghost can_bitor = { λ _ _. ClonesAreAlike V.is_clone V.eq };
 
-    ghost bitor_gives = { λ left right result. IfOk result (λ map. IsUnion V.eq T.low T.high left.entries right.entries map.entries) };
+    ghost bitor_gives = { λ left right result. IfOk result
+        (λ map. IsUnion V.eq T.low T.high left.entries right.entries map.entries) };
 
     fn bitor(self, right: RangeMapBlaze<T, V>) -> Result<RangeMapBlaze<T, V>, AllocError> {
         union_by_value(self, right)
@@ -27,7 +28,8 @@ impl<'b, T: Integer, V: Eq + Clone> BitOr<&'b RangeMapBlaze<T, V>> for RangeMapB
 
     ghost can_bitor = { λ _ _. ClonesAreAlike V.is_clone V.eq };
 
-    ghost bitor_gives = { λ left right result. IfOk result (λ map. IsUnion V.eq T.low T.high left.entries right.now.entries map.entries) };
+    ghost bitor_gives = { λ left right result. IfOk result
+        (λ map. IsUnion V.eq T.low T.high left.entries right.now.entries map.entries) };
 
     fn bitor(self, right: &'b RangeMapBlaze<T, V>) -> Result<RangeMapBlaze<T, V>, AllocError> {
         union_with(self, right)
@@ -39,7 +41,8 @@ impl<'a, T: Integer, V: Eq + Clone> BitOr<RangeMapBlaze<T, V>> for &'a RangeMapB
 
     ghost can_bitor = { λ _ _. ClonesAreAlike V.is_clone V.eq };
 
-    ghost bitor_gives = { λ left right result. IfOk result (λ map. IsUnion V.eq T.low T.high left.now.entries right.entries map.entries) };
+    ghost bitor_gives = { λ left right result. IfOk result
+        (λ map. IsUnion V.eq T.low T.high left.now.entries right.entries map.entries) };
 
     fn bitor(self, right: RangeMapBlaze<T, V>) -> Result<RangeMapBlaze<T, V>, AllocError> {
         union_under(self, right)
@@ -51,7 +54,8 @@ impl<'a, 'b, T: Integer, V: Eq + Clone> BitOr<&'b RangeMapBlaze<T, V>> for &'a R
 
     ghost can_bitor = { λ _ _. ClonesAreAlike V.is_clone V.eq };
 
-    ghost bitor_gives = { λ left right result. IfOk result (λ map. IsUnion V.eq T.low T.high left.now.entries right.now.entries map.entries) };
+    ghost bitor_gives = { λ left right result. IfOk result
+        (λ map. IsUnion V.eq T.low T.high left.now.entries right.now.entries map.entries) };
 
     fn bitor(self, right: &'b RangeMapBlaze<T, V>) -> Result<RangeMapBlaze<T, V>, AllocError> {
         union(self, right)

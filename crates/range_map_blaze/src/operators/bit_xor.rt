@@ -1,11 +1,12 @@
 //! `left ^ right`: the values on the keys that exactly one of the two maps has. Refused memory leaves what is borrowed
 //! unchanged and drops what is owned.
+ghost use Rattle.std.specs.Option.{option_xor};
 ghost use Rattle.std.specs.Prelude.{IfOk};
-ghost use Rattle.blaze_table.specs.Chosen.{exactly_one, IsChosen};
+ghost use Rattle.blaze_table.specs.Chosen.{IsChosen};
 ghost use Rattle.blaze_table.specs.Painted.{ClonesAreAlike};
 
 use crate::map::RangeMapBlaze;
-use crate::pointwise::symmetric_difference;
+use crate::operators::pointwise::symmetric_difference;
 use blaze_int::Integer;
 use std::alloc::AllocError;
 use std::ops::BitXor;
@@ -15,7 +16,8 @@ impl<T: Integer, V: Eq + Clone> BitXor for RangeMapBlaze<T, V> {
 
     ghost can_bitxor = { λ _ _. ClonesAreAlike V.is_clone V.eq };
 
-    ghost bitxor_gives = { λ left right result. IfOk result (λ map. IsChosen V.eq T.low T.high exactly_one left.entries right.entries map.entries) };
+    ghost bitxor_gives = { λ left right result. IfOk result
+        (λ map. IsChosen V.eq T.low T.high option_xor left.entries right.entries map.entries) };
 
     fn bitxor(self, right: RangeMapBlaze<T, V>) -> Result<RangeMapBlaze<T, V>, AllocError> {
         symmetric_difference(&self, &right)
@@ -27,7 +29,9 @@ impl<'b, T: Integer, V: Eq + Clone> BitXor<&'b RangeMapBlaze<T, V>> for RangeMap
 
     ghost can_bitxor = { λ _ _. ClonesAreAlike V.is_clone V.eq };
 
-    ghost bitxor_gives = { λ left right result. IfOk result (λ map. IsChosen V.eq T.low T.high exactly_one left.entries right.now.entries map.entries) };
+    ghost bitxor_gives = { λ left right result. IfOk result
+        (λ map. IsChosen V.eq T.low T.high option_xor left.entries
+        right.now.entries map.entries) };
 
     fn bitxor(self, right: &'b RangeMapBlaze<T, V>) -> Result<RangeMapBlaze<T, V>, AllocError> {
         symmetric_difference(&self, right)
@@ -39,7 +43,9 @@ impl<'a, T: Integer, V: Eq + Clone> BitXor<RangeMapBlaze<T, V>> for &'a RangeMap
 
     ghost can_bitxor = { λ _ _. ClonesAreAlike V.is_clone V.eq };
 
-    ghost bitxor_gives = { λ left right result. IfOk result (λ map. IsChosen V.eq T.low T.high exactly_one left.now.entries right.entries map.entries) };
+    ghost bitxor_gives = { λ left right result. IfOk result
+        (λ map. IsChosen V.eq T.low T.high option_xor left.now.entries
+        right.entries map.entries) };
 
     fn bitxor(self, right: RangeMapBlaze<T, V>) -> Result<RangeMapBlaze<T, V>, AllocError> {
         symmetric_difference(self, &right)
@@ -52,7 +58,9 @@ impl<'a, 'b, T: Integer, V: Eq + Clone> BitXor<&'b RangeMapBlaze<T, V>>
 
     ghost can_bitxor = { λ _ _. ClonesAreAlike V.is_clone V.eq };
 
-    ghost bitxor_gives = { λ left right result. IfOk result (λ map. IsChosen V.eq T.low T.high exactly_one left.now.entries right.now.entries map.entries) };
+    ghost bitxor_gives = { λ left right result. IfOk result
+        (λ map. IsChosen V.eq T.low T.high option_xor left.now.entries
+        right.now.entries map.entries) };
 
     fn bitxor(self, right: &'b RangeMapBlaze<T, V>) -> Result<RangeMapBlaze<T, V>, AllocError> {
         symmetric_difference(self, right)

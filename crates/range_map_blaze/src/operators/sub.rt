@@ -5,7 +5,7 @@ ghost use Rattle.blaze_table.specs.Chosen.{left_alone, IsChosen};
 ghost use Rattle.blaze_table.specs.Painted.{ClonesAreAlike};
 
 use crate::map::RangeMapBlaze;
-use crate::pointwise::{difference, difference_with_set};
+use crate::operators::pointwise::{difference, difference_with_set};
 use blaze_int::Integer;
 use blaze_table::RangeSetBlaze;
 use std::alloc::AllocError;
@@ -16,7 +16,8 @@ impl<T: Integer, V: Eq + Clone> Sub for RangeMapBlaze<T, V> {
 
     ghost can_sub = { λ _ _. ClonesAreAlike V.is_clone V.eq };
 
-    ghost sub_gives = { λ left right result. IfOk result (λ map. IsChosen V.eq T.low T.high left_alone left.entries right.entries map.entries) };
+    ghost sub_gives = { λ left right result. IfOk result
+        (λ map. IsChosen V.eq T.low T.high left_alone left.entries right.entries map.entries) };
 
     fn sub(self, right: RangeMapBlaze<T, V>) -> Result<RangeMapBlaze<T, V>, AllocError> {
         difference(&self, &right)
@@ -28,7 +29,8 @@ impl<'b, T: Integer, V: Eq + Clone> Sub<&'b RangeMapBlaze<T, V>> for RangeMapBla
 
     ghost can_sub = { λ _ _. ClonesAreAlike V.is_clone V.eq };
 
-    ghost sub_gives = { λ left right result. IfOk result (λ map. IsChosen V.eq T.low T.high left_alone left.entries right.now.entries map.entries) };
+    ghost sub_gives = { λ left right result. IfOk result
+        (λ map. IsChosen V.eq T.low T.high left_alone left.entries right.now.entries map.entries) };
 
     fn sub(self, right: &'b RangeMapBlaze<T, V>) -> Result<RangeMapBlaze<T, V>, AllocError> {
         difference(&self, right)
@@ -40,7 +42,8 @@ impl<'a, T: Integer, V: Eq + Clone> Sub<RangeMapBlaze<T, V>> for &'a RangeMapBla
 
     ghost can_sub = { λ _ _. ClonesAreAlike V.is_clone V.eq };
 
-    ghost sub_gives = { λ left right result. IfOk result (λ map. IsChosen V.eq T.low T.high left_alone left.now.entries right.entries map.entries) };
+    ghost sub_gives = { λ left right result. IfOk result
+        (λ map. IsChosen V.eq T.low T.high left_alone left.now.entries right.entries map.entries) };
 
     fn sub(self, right: RangeMapBlaze<T, V>) -> Result<RangeMapBlaze<T, V>, AllocError> {
         difference(self, &right)
@@ -52,7 +55,9 @@ impl<'a, 'b, T: Integer, V: Eq + Clone> Sub<&'b RangeMapBlaze<T, V>> for &'a Ran
 
     ghost can_sub = { λ _ _. ClonesAreAlike V.is_clone V.eq };
 
-    ghost sub_gives = { λ left right result. IfOk result (λ map. IsChosen V.eq T.low T.high left_alone left.now.entries right.now.entries map.entries) };
+    ghost sub_gives = { λ left right result. IfOk result
+        (λ map. IsChosen V.eq T.low T.high left_alone left.now.entries
+        right.now.entries map.entries) };
 
     fn sub(self, right: &'b RangeMapBlaze<T, V>) -> Result<RangeMapBlaze<T, V>, AllocError> {
         difference(self, right)
@@ -64,7 +69,8 @@ impl<T: Integer, V: Eq + Clone> Sub<RangeSetBlaze<T>> for RangeMapBlaze<T, V> {
 
     ghost can_sub = { λ _ _. ClonesAreAlike V.is_clone V.eq };
 
-    ghost sub_gives = { λ left right result. IfOk result (λ map. IsChosen V.eq T.low T.high left_alone left.entries right map.entries) };
+    ghost sub_gives = { λ left right result. IfOk result
+        (λ map. IsChosen V.eq T.low T.high left_alone left.entries right map.entries) };
 
     fn sub(self, right: RangeSetBlaze<T>) -> Result<RangeMapBlaze<T, V>, AllocError> {
         difference_with_set(&self, &right)
@@ -76,7 +82,8 @@ impl<'b, T: Integer, V: Eq + Clone> Sub<&'b RangeSetBlaze<T>> for RangeMapBlaze<
 
     ghost can_sub = { λ _ _. ClonesAreAlike V.is_clone V.eq };
 
-    ghost sub_gives = { λ left right result. IfOk result (λ map. IsChosen V.eq T.low T.high left_alone left.entries right.now map.entries) };
+    ghost sub_gives = { λ left right result. IfOk result
+        (λ map. IsChosen V.eq T.low T.high left_alone left.entries right.now map.entries) };
 
     fn sub(self, right: &'b RangeSetBlaze<T>) -> Result<RangeMapBlaze<T, V>, AllocError> {
         difference_with_set(&self, right)
@@ -88,7 +95,8 @@ impl<'a, T: Integer, V: Eq + Clone> Sub<RangeSetBlaze<T>> for &'a RangeMapBlaze<
 
     ghost can_sub = { λ _ _. ClonesAreAlike V.is_clone V.eq };
 
-    ghost sub_gives = { λ left right result. IfOk result (λ map. IsChosen V.eq T.low T.high left_alone left.now.entries right map.entries) };
+    ghost sub_gives = { λ left right result. IfOk result
+        (λ map. IsChosen V.eq T.low T.high left_alone left.now.entries right map.entries) };
 
     fn sub(self, right: RangeSetBlaze<T>) -> Result<RangeMapBlaze<T, V>, AllocError> {
         difference_with_set(self, &right)
@@ -100,7 +108,8 @@ impl<'a, 'b, T: Integer, V: Eq + Clone> Sub<&'b RangeSetBlaze<T>> for &'a RangeM
 
     ghost can_sub = { λ _ _. ClonesAreAlike V.is_clone V.eq };
 
-    ghost sub_gives = { λ left right result. IfOk result (λ map. IsChosen V.eq T.low T.high left_alone left.now.entries right.now map.entries) };
+    ghost sub_gives = { λ left right result. IfOk result
+        (λ map. IsChosen V.eq T.low T.high left_alone left.now.entries right.now map.entries) };
 
     fn sub(self, right: &'b RangeSetBlaze<T>) -> Result<RangeMapBlaze<T, V>, AllocError> {
         difference_with_set(self, right)

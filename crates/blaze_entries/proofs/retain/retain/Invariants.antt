@@ -1,7 +1,8 @@
+use Rattle.blaze_int.specs.Unsigned.{nat_of}
 use Rattle.std.proofs.Common.{pos, ◌+ℤ◌, ◌-ℤ◌}
 use Rattle.blaze_entries.specs.Answers.{AnswersAt}
 use Rattle.blaze_entries.specs.Places.{places, entries_of, AreHeld}
-use Rattle.blaze_entries.proofs.Asked.{IsAsked, nat_of}
+use Rattle.blaze_entries.proofs.Asked.{IsAsked}
 use Rattle.blaze_entries.proofs.retain.retain.Given as goal
 
 -- the entries that start below `from` were asked at

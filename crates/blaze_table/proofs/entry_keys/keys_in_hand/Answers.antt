@@ -1,8 +1,8 @@
-use Rattle.std.proofs.Common.{◌≡◌, ◌∙◌, ◌+◌, ◌∷◌, drop, sym, ap, subst, suc, arith}
-use Rattle.std.proofs.Math.Seq.{drop-cons}
+use Rattle.std.proofs.Common.{sym, subst}
 use Rattle.std.proofs.lemmas.List.{drop_all}
 use Rattle.blaze_table.specs.Canonical.{AreKeys}
 use Rattle.blaze_table.specs.Listed.{listed}
+use Rattle.blaze_table.proofs.Indexed.{from_index}
 use Rattle.blaze_table.proofs.entry_keys.keys_in_hand.Goals as goal
 
 pub loop-entry-init : goal.loop-entry-init
@@ -12,10 +12,7 @@ pub loop-entry-preserved : goal.loop-entry-preserved
 loop-entry-preserved g c = λ h.
     let rank = g.T.Integer.rank in
     let all = c.args.entries.now in
-    let i = c.loop-entry.entry-index in
-    let one : suc i ≡ i + 1 = omega arith in
-    let here : drop i all ≡ c.entry-item.result ∷ drop (i + 1) all = drop-cons all i c.entry-item.result c.loop-entry-test.true
-    ∙ ap (λ e. e ∷ drop (suc i) all) (sym c.entry-item.is) ∙ ap (λ n. c.entry-item.result ∷ drop n all) one in
+    let here = from_index all c.loop-entry.entry-index c.entry-item.result c.loop-entry-test.true c.entry-item.is in
     c.loop-entry.invariant (subst (λ es. AreKeys g.T.Integer.low g.T.Integer.high (listed rank es)) (sym here) (c.in_hand.ensures.from, c.in_hand-in-loop-entry.ensures.to, h))
 
 pub returns : goal.returns

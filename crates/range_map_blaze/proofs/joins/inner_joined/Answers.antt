@@ -1,4 +1,4 @@
-use Rattle.blaze_streams.specs.declared.joins.JoinKind.TheVariants.{Inner}
+use Rattle.blaze_streams.specs.declared.segmenting.joins.JoinKind.TheVariants.{Inner}
 use Rattle.blaze_streams.proofs.Paired.{joined_all}
 use Rattle.range_map_blaze.proofs.joins.inner_joined.Goals as goal
 

@@ -1,4 +1,4 @@
-use Rattle.blaze_streams.specs.declared.joins.JoinKind.TheVariants.{Left}
+use Rattle.blaze_streams.specs.declared.segmenting.joins.JoinKind.TheVariants.{Left}
 use Rattle.blaze_streams.proofs.Paired.{joined_all}
 use Rattle.range_map_blaze.proofs.joins.left_joined.Goals as goal
 

@@ -1,6 +1,5 @@
 use Rattle.std.proofs.Common.{◌∙◌, refl, ◌++◌, true, sym, ap, subst, append-nil}
 use mathlib.Core.Bool.{beq}
-use Rattle.std.specs.Range.{range_inclusive_start, range_inclusive_end}
 use Rattle.blaze_table.specs.Canonical.{IsRangeMap}
 use Rattle.blaze_table.specs.Entries.{entry}
 use Rattle.blaze_streams.specs.Ranges.{shown_range}

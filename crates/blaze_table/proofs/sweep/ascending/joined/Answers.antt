@@ -21,7 +21,7 @@ loop-start-preserved g c =
     let pair : g.row.T.Denot × g.row.T.Denot × g.row.V.Denot = (c.in-Some.start, c.in-Some.end, c.in-Some.value) in
     let split : into_iter_items c.loop-start.start-iterator ≡ pair ∷ into_iter_items c.next.new.self = search rules in
     joined_more eq g.met.V.Eq.laws g.T.Integer.low g.T.Integer.high all (shown_entry rank (λ v. v) pair) (listed rank (into_iter_items c.next.new.self)) (listed rank c.loop-start.entries.items) (listed rank c.push_entry.new.out.items)
-    c.in_hand.ensures.from c.in_hand-in-loop-start.ensures.to c.in_ok-push_entry.ensures
+    c.in_hand.ensures.from c.in_hand-in-loop-start.ensures.to c.in_ok-push_entry.ensures.ok
     (subst (λ xs. IsJoined eq g.T.Integer.low g.T.Integer.high all (listed rank xs) (listed rank c.loop-start.entries.items)) split c.loop-start.invariant)
 
 pub returns : goal.returns

@@ -7,4 +7,4 @@ use Rattle.blaze_table.proofs.sweep.fill.filled.Given as goal
 abbrev pub invariant-loop-start : goal.invariant-loop-start
 invariant-loop-start g l =
     let rank = g.T.Integer.rank in
-    IsFilled g.V.PartialEq.eq g.T.Integer.low g.T.Integer.high (listed rank l.fn.pairs.items) (g.T.Integer.high +ℤ pos 1) (listed rank (into_iter_items l.start-iterator)) (listed rank l.entries.items) l.held.items
+    IsFilled g.V.PartialEq.eq rank g.T.Integer.low g.T.Integer.high l.fn.placed.items (g.T.Integer.high +ℤ pos 1) (listed rank (into_iter_items l.start-iterator)) (listed rank l.entries.items) l.held.items

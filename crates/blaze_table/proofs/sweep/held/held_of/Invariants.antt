@@ -5,4 +5,4 @@ use Rattle.blaze_table.proofs.sweep.held.held_of.Given as goal
 
 -- the values made, and those of the pairs that are left, are all
 abbrev pub invariant-loop-pair : goal.invariant-loop-pair
-invariant-loop-pair g l = l.held.items ++ map kept_value (into_iter_items l.pair-iterator) ≡ map kept_value l.fn.pairs.items
+invariant-loop-pair g l = l.held.items ++ map kept_value (into_iter_items l.pair-iterator) ≡ map kept_value l.fn.placed.items

@@ -11,14 +11,14 @@ pub overflow_sub-len : goal.overflow_sub-len
 overflow_sub-len g c =
     let rank = g.T.Integer.rank in
     let some = glue_some g.V.PartialEq.eq (listed rank c.args.entries.now.items) (entry (rank c.args.start) (rank c.args.end) c.in_ok-value.value) in
-    let long = ap length c.in_ok-push_entry.ensures in
+    let long = ap length c.in_ok-push_entry.ensures.ok in
     omega (arith, some, long, c.len.ensures, c.push_entry.new.out.ok.0, length-map c.push_entry.new.out.items (shown_entry rank (λ v. v)))
 
 pub index_mut-requires : goal.index_mut-requires
 index_mut-requires g c =
-    let l = within_held (listed g.T.Integer.rank c.args.entries.now.items) c.args.held.now.items c.args.place c.requires.there in
+    let l = within_held (listed g.T.Integer.rank c.args.entries.now.items) c.args.held.now.items c.args.index c.requires.there in
     let same = ap length c.in_ok-value.ensures.held in
-    omega (arith, l, same, c.value_at.new.held.ok.0, length-set c.args.held.now.items c.args.place (Moved 0))
+    omega (arith, l, same, c.value_at.new.held.ok.0, length-set c.args.held.now.items c.args.index (Moved 0))
 
 pub returns : goal.returns
 returns g c =
@@ -27,7 +27,7 @@ returns g c =
     let n : c.len.result - 1 ≡ length (listed rank c.push_entry.new.out.items) - 1 = omega (arith, c.len.ensures, c.push_entry.new.out.ok.0, length-map c.push_entry.new.out.items (shown_entry rank (λ v. v))) in
     record {
       value = c.in_ok-value.value;
-      alike = subst (λ xs. SameOption g.V.PartialEq.eq (Some c.in_ok-value.value) (value_in (listed rank xs) held c.args.place)) c.deref.ensures.value c.in_ok-value.ensures.value;
-      glued = c.in_ok-push_entry.ensures;
-      moved = ap (λ l. slice_set l c.args.place (Moved (c.len.result - 1))) c.in_ok-value.ensures.held ∙ set-set held c.args.place (Moved 0) (Moved (c.len.result - 1)) ∙ ap (λ i. moved_to i held c.args.place) n;
+      alike = subst (λ xs. SameOption g.V.PartialEq.eq (Some c.in_ok-value.value) (value_in (listed rank xs) held c.args.index)) c.deref.ensures.value c.in_ok-value.ensures.value;
+      glued = c.in_ok-push_entry.ensures.ok;
+      moved = ap (λ l. slice_set l c.args.index (Moved (c.len.result - 1))) c.in_ok-value.ensures.held ∙ set-set held c.args.index (Moved 0) (Moved (c.len.result - 1)) ∙ ap (λ i. moved_to i held c.args.index) n;
     }

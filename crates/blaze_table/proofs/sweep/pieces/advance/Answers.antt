@@ -1,6 +1,5 @@
 use Rattle.std.proofs.Common.{sym, ◌∙◌, ◌-ℤ◌, pos}
 use Rattle.std.specs.BinaryHeap.{heap_items}
-use Rattle.blaze_table.specs.Listed.{listed}
 use Rattle.blaze_table.proofs.Orders.{not_at_most}
 use Rattle.blaze_table.proofs.Waitings.{waiting_kept, waiting_from, waiting_moved}
 use Rattle.blaze_table.proofs.sweep.pieces.advance.Goals as goal
@@ -8,17 +7,17 @@ use Rattle.blaze_table.proofs.sweep.pieces.advance.Goals as goal
 pub returns-then-is_at_most-clause-waits : goal.returns-then-is_at_most-clause-waits
 returns-then-is_at_most-clause-waits g c =
     let rank = g.T.Integer.rank in
-    waiting_from (listed rank c.args.pairs.now) (rank c.args.from) (rank c.args.start -ℤ pos 1) (heap_items c.args.waiting.now) c.requires.waits (rank c.args.start) c.requires.order
+    waiting_from rank c.args.placed.now (rank c.args.from) (rank c.args.start -ℤ pos 1) (heap_items c.args.waiting.now) c.requires.waits (rank c.args.start) c.requires.order
 
 pub returns-clause-waits : goal.returns-clause-waits
 returns-clause-waits g c =
     let rank = g.T.Integer.rank in
-    waiting_moved (listed rank c.args.pairs.now) (heap_items c.sweep_to.new.waiting) (rank c.before-2.result) (rank c.args.start) c.before-2.ensures c.in_ok-sweep_to.ensures.waits
+    waiting_moved rank c.args.placed.now (heap_items c.sweep_to.new.waiting) (rank c.before-2.result) (rank c.args.start) c.before-2.ensures c.in_ok-sweep_to.ensures.waits
 
 pub returns-clause-kept : goal.returns-clause-kept
 returns-clause-kept g c =
     let rank = g.T.Integer.rank in
-    let ps = listed rank c.args.pairs.now in
-    waiting_kept ps (rank c.args.from) (rank c.args.start -ℤ pos 1) (rank c.args.start) (heap_items c.args.waiting.now) (heap_items c.sweep_to.new.waiting) c.requires.waits
-    (waiting_moved ps (heap_items c.sweep_to.new.waiting) (rank c.before-2.result) (rank c.args.start) c.before-2.ensures c.in_ok-sweep_to.ensures.waits)
+    let placed = c.args.placed.now in
+    waiting_kept rank placed (rank c.args.from) (rank c.args.start -ℤ pos 1) (rank c.args.start) (heap_items c.args.waiting.now) (heap_items c.sweep_to.new.waiting) c.requires.waits
+    (waiting_moved rank placed (heap_items c.sweep_to.new.waiting) (rank c.before-2.result) (rank c.args.start) c.before-2.ensures c.in_ok-sweep_to.ensures.waits)
     (not_at_most (rank c.args.start) (rank c.args.from) (sym c.is_at_most.ensures ∙ c.if-is_at_most.false))

@@ -1,19 +1,18 @@
 use Rattle.std.proofs.Common.{◌≤ℤ◌}
 use Rattle.std.specs.BinaryHeap.{IsHeap, heap_items, heap_len}
-use Rattle.std.specs.Ordering.{nat_cmp}
 use Rattle.blaze_table.specs.Listed.{listed}
-use Rattle.blaze_table.specs.Pieces.{IsWaiting, ArePieces}
+use Rattle.blaze_table.specs.Pieces.{place_cmp, IsWaiting, ArePieces}
 use Rattle.blaze_table.proofs.sweep.pieces.sweep_to.Given as goal
 
 -- the pieces below the key `at` are made, and those wait that have a key from there on
 abbrev pub invariant-loop-top : goal.invariant-loop-top
 invariant-loop-top g l =
     let rank = g.T.Integer.rank in
-    let ps = listed rank l.pairs in record {
+    record {
       order : rank l.at ≤ℤ rank l.fn.to;
-      heap : IsHeap nat_cmp (heap_items l.waiting);
-      waits : IsWaiting ps (rank l.at) (rank l.fn.to) (heap_items l.waiting);
-      made : ArePieces ps g.T.Integer.low (rank l.at) (listed rank l.pieces.items);
+      heap : IsHeap place_cmp (heap_items l.waiting);
+      waits : IsWaiting rank l.placed (rank l.at) (rank l.fn.to) (heap_items l.waiting);
+      made : ArePieces rank l.placed g.T.Integer.low (rank l.at) (listed rank l.pieces.items);
     }
 
 abbrev pub decreases-loop-top : goal.decreases-loop-top

@@ -1,28 +1,27 @@
-use Rattle.std.proofs.Common.{sym, ap, subst, arith}
+use Rattle.std.proofs.Common.{◌∙◌, sym, ap, subst, arith}
 use Rattle.std.proofs.lemmas.Int.{ints}
 use Rattle.blaze_table.specs.Canonical.{IsCanonical, AreKeys}
 use Rattle.blaze_table.specs.Count.{keys_in}
 use Rattle.blaze_table.specs.Counted.{CountedEntries}
+use Rattle.blaze_table.specs.Listed.{listed}
 use Rattle.blaze_table.proofs.Counted.{keys_among}
 use Rattle.blaze_table.proofs.RangeMaps.{starts_ascend}
 use Rattle.blaze_table.proofs.Runs.{canonical}
 use Rattle.blaze_table.proofs.table.RangeTable.from_canonical.Goals as goal
 
+pub count_list-len-requires-clause-canonical : goal.count_list-len-requires-clause-canonical
+count_list-len-requires-clause-canonical g c = rw c.as_slice.ensures.value (canonical g.V.PartialEq.eq g.met.V.Eq.laws _ c.requires.runs)
+
+pub count_list-len-requires-clause-fits : goal.count_list-len-requires-clause-fits
+count_list-len-requires-clause-fits g c =
+    let eq = g.V.PartialEq.eq in
+    let bound = keys_among eq g.T.Integer.low g.T.Integer.high _ g.met.T.Integer.ranked.some_key (canonical eq g.met.V.Eq.laws _ c.requires.runs) c.requires.keys in
+    rw c.as_slice.ensures.value (omega (arith, ints, bound, g.met.T.Integer.has_room))
+
 pub from_sorted-requires : goal.from_sorted-requires
 from_sorted-requires g c =
     let eq = g.V.PartialEq.eq in
     starts_ascend eq g.T.Integer.low g.T.Integer.high _ (canonical eq g.met.V.Eq.laws _ c.requires.runs) c.requires.keys
-
-pub count-len-requires-clause-canonical : goal.count-len-requires-clause-canonical
-count-len-requires-clause-canonical g c =
-    let eq = g.V.PartialEq.eq in
-    subst (λ (s : CountedEntries g.row.V.Denot). IsCanonical eq s.entries) (sym c.in_ok-entries.ensures) (canonical eq g.met.V.Eq.laws _ c.requires.runs)
-
-pub count-len-requires-clause-fits : goal.count-len-requires-clause-fits
-count-len-requires-clause-fits g c =
-    let eq = g.V.PartialEq.eq in
-    let bound = keys_among eq g.T.Integer.low g.T.Integer.high _ g.met.T.Integer.ranked.some_key (canonical eq g.met.V.Eq.laws _ c.requires.runs) c.requires.keys in
-    omega (arith, ints, bound, ap (λ (s : CountedEntries g.row.V.Denot). keys_in s.entries) c.in_ok-entries.ensures, g.met.T.Integer.has_room)
 
 pub invariant_of-result : goal.invariant_of-result
 invariant_of-result g c =
@@ -30,5 +29,5 @@ invariant_of-result g c =
     record {
       canonical = subst (λ (s : CountedEntries g.row.V.Denot). IsCanonical eq s.entries) (sym c.in_ok-entries.ensures) (canonical eq g.met.V.Eq.laws _ c.requires.runs);
       are_keys = subst (λ (s : CountedEntries g.row.V.Denot). AreKeys g.T.Integer.low g.T.Integer.high s.entries) (sym c.in_ok-entries.ensures) c.requires.keys;
-      counted = c.count-len.ensures;
+      counted = c.count_list-len.ensures ∙ ap (λ xs. keys_in (listed g.T.Integer.rank xs)) c.as_slice.ensures.value ∙ ap (λ (s : CountedEntries g.row.V.Denot). keys_in s.entries) (sym c.in_ok-entries.ensures);
     }

@@ -1,5 +1,5 @@
+use Rattle.blaze_int.specs.Unsigned.{nat_of}
 use Rattle.std.proofs.Common.{◌-ℤ◌}
-use Rattle.blaze_table.specs.Count.{nat_of}
 use Rattle.range_map_blaze.proofs.Fillings.{IsFilling}
 use Rattle.range_map_blaze.proofs.map.RangeMapBlaze.fill.Given as goal
 

@@ -1,5 +1,5 @@
+use Rattle.blaze_int.specs.Unsigned.{nat_of}
 use Rattle.std.proofs.Common.{pos, ◌-ℤ◌, ◌≤ℤ◌}
-use Rattle.blaze_table.specs.Count.{nat_of}
 use Rattle.blaze_table.specs.Entries.{at}
 use Rattle.range_map_blaze.specs.Filled.{IsHeldFrom}
 use Rattle.range_map_blaze.proofs.map.RangeMapBlaze.first_gap.Given as goal

@@ -1,7 +1,0 @@
-use Rattle.blaze_table.specs.RangeSets.{unit_eq}
-use Rattle.blaze_streams.proofs.FirstBreak.{broken}
-use Rattle.blaze_table.proofs.UnitLaws.{unit_laws}
-use Rattle.blaze_streams.proofs.check.CheckSortedDisjoint.new.Goals as goal
-
-pub returns-in-Some-clause-accepted : goal.returns-in-Some-clause-accepted
-returns-in-Some-clause-accepted g c = (λ p. cc, λ r. absurd (broken unit_eq unit_laws _ c.in-Some.at (rw c.as_slice.ensures.value at c.in-Some.ensures.some) r))

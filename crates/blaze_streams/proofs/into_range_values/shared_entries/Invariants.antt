@@ -1,8 +1,0 @@
-use Rattle.std.proofs.Common.{◌≡◌, ◌++◌, map}
-use Rattle.std.specs.Rc.{rc_value}
-use Rattle.blaze_table.specs.Entries.{shown_entry}
-use Rattle.blaze_streams.proofs.into_range_values.shared_entries.Given as goal
-
--- the entries made, and those that are left, are all
-abbrev pub invariant-loop-start : goal.invariant-loop-start
-invariant-loop-start g l = map (shown_entry g.T.Integer.rank rc_value) l.entries.items ++ l.start-iterator ≡ l.fn.table.entries

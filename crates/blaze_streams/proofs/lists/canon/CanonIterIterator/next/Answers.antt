@@ -1,0 +1,7 @@
+use Rattle.blaze_table.specs.RangeSets.{unit_eq}
+use Rattle.blaze_table.proofs.Parts.{IsRangeMap-rest}
+use Rattle.blaze_table.proofs.UnitLaws.{unit_laws}
+use Rattle.blaze_streams.proofs.lists.canon.CanonIterIterator.next.Goals as goal
+
+pub invariant_of-self-2 : goal.invariant_of-self-2
+invariant_of-self-2 g c = IsRangeMap-rest unit_eq unit_laws _ _ _ _ (rw c.in_ok-next.ensures.items at c.self.invariant)

@@ -1,7 +1,0 @@
-use Rattle.std.proofs.Common.{sym, ◌∙◌}
-use Rattle.blaze_streams.proofs.Joined.{after_gap}
-use Rattle.blaze_streams.proofs.map_into_ranges.MapIntoRangesIterIterator.next.Goals as goal
-
-pub invariant_of-self-then-not-is_next : goal.invariant_of-self-then-not-is_next
-invariant_of-self-then-not-is_next g c =
-    after_gap g.T.Integer.low g.T.Integer.high _ _ _ _ _ _ c.self.invariant (c.loop-entry.invariant.left ∙ sym c.self.view_is) c.in-Some.ensures.steps (sym c.is_next.ensures ∙ c.if-not-is_next.true)

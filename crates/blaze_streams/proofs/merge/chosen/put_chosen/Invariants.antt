@@ -1,0 +1,12 @@
+use Rattle.std.proofs.Common.{◌+◌}
+use Rattle.blaze_streams.proofs.ChosenSoFar.{IsChosenSoFar}
+use Rattle.blaze_streams.proofs.LengthsLeft.{lengths_left}
+use Rattle.blaze_streams.proofs.merge.chosen.put_chosen.Given as goal
+
+abbrev pub invariant-loop-start : goal.invariant-loop-start
+invariant-loop-start g l =
+    IsChosenSoFar g.VCL.Value.PartialEq.eq g.T.Integer.low g.T.Integer.high g.C.Choice.choice (g.L.SortedDisjointMap.left l.fn.left) (g.R.SortedDisjointMap.left l.fn.right)
+    l.left l.right (g.P.PieceList.entries l.out)
+
+abbrev pub decreases-loop-start : goal.decreases-loop-start
+decreases-loop-start g l = lengths_left l.left + lengths_left l.right

@@ -1,0 +1,16 @@
+use Rattle.blaze_streams.proofs.ChosenSoFar.{lesser_is}
+use Rattle.blaze_streams.proofs.Lesser.{at_most_both, at_most_itself}
+use Rattle.blaze_streams.proofs.Steady.{reaches}
+use Rattle.blaze_streams.proofs.merge.chosen.steady_end.Goals as goal
+
+pub returns-clause-left : goal.returns-clause-left
+returns-clause-left g c =
+    let t = g.T.Integer.rank c.in-Some.end in
+    reaches g.VCL.Value.PartialEq.eq (g.T.Integer.rank c.args.start) t c.args.left.now c.requires.left
+    (at_most_both _ _ t (at_most_itself _ t (lesser_is _ _ _ _ t c.in-Some.ensures c.last.ensures c.last-2.ensures))).0
+
+pub returns-clause-right : goal.returns-clause-right
+returns-clause-right g c =
+    let t = g.T.Integer.rank c.in-Some.end in
+    reaches g.VCR.Value.PartialEq.eq (g.T.Integer.rank c.args.start) t c.args.right.now c.requires.right
+    (at_most_both _ _ t (at_most_itself _ t (lesser_is _ _ _ _ t c.in-Some.ensures c.last.ensures c.last-2.ensures))).1

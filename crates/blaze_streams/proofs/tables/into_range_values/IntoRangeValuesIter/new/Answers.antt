@@ -1,0 +1,11 @@
+use Rattle.std.proofs.Common.{ap, map, subst, sym, ◌∙◌}
+use Rattle.std.specs.Rc.{rc_value}
+use Rattle.blaze_table.specs.Canonical.{IsRangeMap}
+use Rattle.blaze_table.specs.Entries.{shown_entry}
+use Rattle.blaze_streams.proofs.tables.into_range_values.IntoRangeValuesIter.new.Goals as goal
+
+pub returns : goal.returns
+returns g c = ap (map (shown_entry g.T.Integer.rank rc_value)) c.into_iter.ensures.rest ∙ c.in_ok-entries.ensures
+
+pub invariant_of-result : goal.invariant_of-result
+invariant_of-result g c = subst (IsRangeMap g.V.PartialEq.eq g.T.Integer.low g.T.Integer.high) (sym (returns g c)) c.in_hand.ensures

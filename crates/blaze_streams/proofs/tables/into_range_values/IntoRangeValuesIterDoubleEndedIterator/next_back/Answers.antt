@@ -1,0 +1,13 @@
+use Rattle.std.proofs.Common.{ap, map, subst, ◌∙◌}
+use Rattle.std.proofs.lemmas.List.{map-append}
+use Rattle.std.specs.Rc.{rc_value}
+use Rattle.blaze_table.specs.Canonical.{IsRangeMap}
+use Rattle.blaze_table.specs.Entries.{shown_entry}
+use Rattle.blaze_table.proofs.Parts.{IsRangeMap-front}
+use Rattle.blaze_streams.proofs.tables.into_range_values.IntoRangeValuesIterDoubleEndedIterator.next_back.Goals as goal
+
+pub invariant_of-self-2 : goal.invariant_of-self-2
+invariant_of-self-2 g c =
+    let eq = g.V.PartialEq.eq in
+    let show = shown_entry g.T.Integer.rank rc_value in
+    IsRangeMap-front eq g.met.V.Eq.laws _ _ _ _ (subst (IsRangeMap eq g.T.Integer.low g.T.Integer.high) (ap (map show) c.in_ok-start.ensures.steps ∙ map-append show _ _) c.self.invariant)

@@ -1,5 +1,0 @@
-use Rattle.blaze_streams.proofs.AllTrue.{chosen_alone}
-use Rattle.blaze_streams.proofs.with_ranges.subtract_ranges.Goals as goal
-
-pub returns : goal.returns
-returns g c = chosen_alone g.VC.Value.PartialEq.eq g.T.Integer.low g.T.Integer.high (g.M.SortedDisjointMap.left c.args.map) (g.S.SortedDisjoint.left c.args.set) _ (rw c.new.ensures at c.in_ok-stream.ensures)

@@ -1,0 +1,93 @@
+//! A list that keeps the law of a stream of ranges, as a stream.
+ghost use Rattle.std.specs.Prelude.{◌≡◌, length, refl, Some, IfSome};
+ghost use Rattle.std.specs.Iterator.{item_count, UpTo};
+ghost use Rattle.std.specs.Iterator.SizeHint.{IsWithinCount};
+ghost use Rattle.blaze_table.specs.RangeSets.{bare_range, bare_ranges, IsRangeSet};
+ghost use Rattle.blaze_table.specs.Whole.{YieldsWholeFirst};
+
+use crate::sorted_disjoint::SortedDisjoint;
+use blaze_int::Integer;
+use std::iter::FusedIterator;
+use std::marker::Model;
+use std::ops::RangeInclusive;
+use std::vec;
+
+/// A list of ranges that keeps the law of `SortedDisjoint`, as a stream.
+#[derive(Drop)]
+pub struct CanonIter<T: Integer> {
+    rest: vec::IntoIter<RangeInclusive<T>>,
+}
+
+impl<T: Integer> Model for CanonIter<T> {
+    ghost use Rattle.std.specs.Prelude.{List};
+    ghost use Rattle.std.specs.Coded.{coded_list};
+    ghost use Rattle.std.specs.Vec.Iter.{into_iter_items};
+    ghost use Rattle.blaze_table.specs.Entries.{Entry};
+    ghost use Rattle.blaze_table.specs.RangeSets.{bare_code, bare_ranges, IsRangeSet};
+
+    ghost Value = { List (Entry (Unit {0})) };
+
+    ghost coded = { coded_list bare_code };
+
+    ghost view = { λ s. bare_ranges T.rank (into_iter_items s.rest) };
+
+    ghost invariant = { λ s. IsRangeSet T.low T.high
+        (bare_ranges T.rank (into_iter_items s.rest)) };
+}
+
+impl<T: Integer> CanonIter<T> {
+    /// The ranges, in order. No memory is taken.
+    pub fn new(ranges: Vec<RangeInclusive<T>>) -> Self
+        requires { IsRangeSet T.low T.high (bare_ranges T.rank ranges.items) }
+        ensures { result ≡ bare_ranges T.rank ranges.items }
+    {
+        CanonIter {
+            rest: ranges.into_iter(),
+        }
+    }
+}
+
+impl<T: Integer> Iterator for CanonIter<T> {
+    type Item = RangeInclusive<T>;
+
+    ghost next_gives = { YieldsWholeFirst (λ r. r) (bare_range T.rank) (λ s. s) };
+
+    ghost remaining = { item_count (λ s. s) };
+
+    fn next(&mut self) -> Option<RangeInclusive<T>> {
+        let (start, end) = self.rest.next()?.into_inner();
+        Some(start..=end)
+    }
+
+    /// Exact: how many ranges are left.
+    fn size_hint(&self) -> (usize, Option<usize>)
+        ensures lower { IsWithinCount result.0 (item_count (λ s. s) self.now) }
+        ensures upper { IfSome result.1 (UpTo (item_count (λ s. s) self.now)) }
+        ensures exact { result ≡ (length self.now, Some (length self.now)) }
+    {
+        let len = self.rest.len();
+        (len, Some(len))
+    }
+}
+
+impl<T: Integer> FusedIterator for CanonIter<T> {}
+
+impl<T: Integer> SortedDisjoint<T> for CanonIter<T> {
+    ghost left = { λ s. s };
+
+    ghost least = { λ s. length s };
+
+    fn in_hand(&self) {
+        let _ = &self.rest;
+    }
+
+    fn least_len(&self) -> usize {
+        self.size_hint().0
+    }
+
+    ghost ready = { λ _. tt };
+
+    ghost counted = { λ _. refl };
+
+    ghost gives = { λ _ _ _ given. given.0 };
+}

@@ -1,0 +1,24 @@
+//! The refusal of a list.
+ghost use Rattle.std.specs.Prelude.{◌++◌, Some, codes};
+ghost use Rattle.std.specs.Fmt.{decimal};
+
+use std::error::Error;
+use std::fmt::{self, Display, Formatter};
+
+/// A list does not keep the law of a stream.
+#[derive(Clone, Copy, Debug, PartialEq, Eq)]
+pub struct NotSorted {
+    /// The place of the first item that violates the law, from 0.
+    pub at: usize,
+}
+
+/// `item 3 is out of order`, with the item's place.
+impl Display for NotSorted {
+    ghost output = { λ e. Some (codes "item " ++ decimal e.at ++ codes " is out of order") };
+
+    fn fmt<W: fmt::Write>(&self, f: &mut Formatter<W>) -> fmt::Result {
+        write!(f, "item {} is out of order", self.at)
+    }
+}
+
+impl Error for NotSorted {}

@@ -1,0 +1,8 @@
+//! Two streams gone through together, and what is chosen from them.
+pub mod choice;
+pub mod chosen;
+pub mod piece_list;
+pub mod push;
+pub mod union;
+pub mod with_ranges;
+pub mod with_unit;

@@ -1,0 +1,47 @@
+//! Lists that grow at their end, piece after piece.
+ghost use Rattle.std.specs.Prelude.{List, Some, OnOk};
+ghost use Rattle.blaze_table.specs.Entries.{Entry};
+ghost use Rattle.blaze_table.specs.Listed.{listed};
+ghost use Rattle.blaze_streams.specs.Choosing.{PutsAlike};
+ghost use Rattle.blaze_streams.specs.RangeLists.{shown_ranges};
+
+use crate::carrier::ValueCarrier;
+use crate::merge::push::push_joined;
+use blaze_int::Integer;
+use blaze_table::push_entry;
+use std::alloc::AllocError;
+use std::ops::RangeInclusive;
+
+/// A list of ranges with their values, or with what stands for them.
+pub trait PieceList<T: Integer, VC: ValueCarrier> {
+    // The ranges with their values.
+    ghost entries: { Self → List (Entry VC.Value) };
+
+    /// Puts a value that is `==` to the carrier's on the keys from `lo` up to `hi` behind the list, in one range with the last
+    /// where the two touch with equal values. After refused memory nothing is said of the list, which callers then drop.
+    fn put(&mut self, lo: T, hi: T, carrier: VC) -> Result<(), AllocError>
+        requires { VC.can_carry }
+        ensures { OnOk result (PutsAlike VC.Value.eq (T.rank lo) (T.rank hi)
+            (Some (VC.shown carrier)) (entries self.old) (entries self.new)) };
+}
+
+/// A list of carriers keeps the carrier that comes.
+impl<T: Integer, VC: ValueCarrier> PieceList<T, VC> for Vec<(RangeInclusive<T>, VC)> {
+    ghost entries = { λ list. shown_ranges T.rank VC.shown list.items };
+
+    fn put(&mut self, lo: T, hi: T, carrier: VC) -> Result<(), AllocError> {
+        push_joined(self, lo, hi, carrier)?;
+        Ok(())
+    }
+}
+
+/// A list of entries, of first key, last key and value, takes a value of the carrier.
+impl<T: Integer, V: Eq + Clone, VC: ValueCarrier<Value = V>> PieceList<T, VC> for Vec<(T, T, V)> {
+    ghost entries = { λ list. listed T.rank list.items };
+
+    fn put(&mut self, lo: T, hi: T, carrier: VC) -> Result<(), AllocError> {
+        let value = carrier.into_value()?;
+        push_entry(self, lo, hi, value)?;
+        Ok(())
+    }
+}

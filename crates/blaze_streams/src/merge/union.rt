@@ -1,0 +1,58 @@
+//! Two streams as one: one over another, the keys of exactly one, the keys of both.
+ghost use Rattle.std.specs.Option.{option_xor};
+ghost use Rattle.std.specs.Prelude.{IfOk};
+ghost use Rattle.blaze_table.specs.Chosen.{right_first, left_with_right, IsChosen};
+
+use crate::carrier::ValueCarrier;
+use crate::lists::canon_map::CanonMapIter;
+use crate::merge::choice::{ExactlyOne, LeftWithRight, RightFirst};
+use crate::merge::chosen::chosen_of;
+use crate::sorted_disjoint_map::SortedDisjointMap;
+use blaze_int::Integer;
+use std::alloc::{AllocError, Global};
+
+/// The ranges of two streams, with the right one's value where it has one, and else the left one's. A value is cloned
+/// (`carry` at `Owned`) only for a piece that leaves a rest of its range behind. Refused memory drops both.
+pub fn union_of<
+    T: Integer,
+    VC: ValueCarrier,
+    L: SortedDisjointMap<T, VC>,
+    R: SortedDisjointMap<T, VC>,
+>(alloc: Global, left: L, right: R) -> Result<CanonMapIter<T, VC>, AllocError>
+    requires { VC.can_carry }
+    ensures { IfOk result (λ stream. IsChosen VC.Value.eq T.low T.high right_first (L.left left)
+        (R.left right) stream) }
+{
+    chosen_of(alloc, left, right, &RightFirst)
+}
+
+/// The keys that exactly one of two streams has, with their values. A value is cloned (`carry` at `Owned`) only for a
+/// piece that leaves a rest of its range behind. Refused memory drops both.
+pub fn symmetric_difference_of<
+    T: Integer,
+    VC: ValueCarrier,
+    L: SortedDisjointMap<T, VC>,
+    R: SortedDisjointMap<T, VC>,
+>(alloc: Global, left: L, right: R) -> Result<CanonMapIter<T, VC>, AllocError>
+    requires { VC.can_carry }
+    ensures { IfOk result (λ stream. IsChosen VC.Value.eq T.low T.high option_xor (L.left left)
+        (R.left right) stream) }
+{
+    chosen_of(alloc, left, right, &ExactlyOne)
+}
+
+/// The left stream's values on the keys that both streams have. A value is cloned (`carry` at `Owned`) only for a piece that
+/// leaves a rest of its range behind. Refused memory drops both.
+pub fn intersection_of<
+    T: Integer,
+    VCL: ValueCarrier,
+    VCR: ValueCarrier,
+    L: SortedDisjointMap<T, VCL>,
+    R: SortedDisjointMap<T, VCR>,
+>(alloc: Global, left: L, right: R) -> Result<CanonMapIter<T, VCL>, AllocError>
+    requires { VCL.can_carry }
+    ensures { IfOk result (λ stream. IsChosen VCL.Value.eq T.low T.high left_with_right
+        (L.left left) (R.left right) stream) }
+{
+    chosen_of(alloc, left, right, &LeftWithRight)
+}

@@ -1,0 +1,45 @@
+//! A stream on the keys of a set, and off them.
+ghost use Rattle.std.specs.Prelude.{IfOk};
+ghost use Rattle.blaze_table.specs.Chosen.{left_with_right, left_alone, IsChosen};
+
+use crate::carrier::ValueCarrier;
+use crate::lists::canon_map::CanonMapIter;
+use crate::merge::choice::{LeftAlone, LeftWithRight};
+use crate::merge::chosen::chosen_of;
+use crate::merge::with_unit::WithUnit;
+use crate::sorted_disjoint::SortedDisjoint;
+use crate::sorted_disjoint_map::SortedDisjointMap;
+use blaze_int::Integer;
+use std::alloc::{AllocError, Global};
+
+/// The map on the keys of the set. A value is cloned (`carry` at `Owned`) only for a piece that leaves a rest of its range
+/// behind. Refused memory drops both.
+pub fn intersect_with_ranges<
+    T: Integer,
+    VC: ValueCarrier,
+    M: SortedDisjointMap<T, VC>,
+    S: SortedDisjoint<T>,
+>(alloc: Global, map: M, set: S) -> Result<CanonMapIter<T, VC>, AllocError>
+    requires { VC.can_carry }
+    ensures { IfOk result (λ stream. IsChosen VC.Value.eq T.low T.high left_with_right (M.left map)
+        (S.left set) stream) }
+{
+    let stream = chosen_of(alloc, map, WithUnit::new(set), &LeftWithRight)?;
+    Ok(stream)
+}
+
+/// The map off the keys of the set. A value is cloned (`carry` at `Owned`) only for a piece that leaves a rest of its range
+/// behind. Refused memory drops both.
+pub fn subtract_ranges<
+    T: Integer,
+    VC: ValueCarrier,
+    M: SortedDisjointMap<T, VC>,
+    S: SortedDisjoint<T>,
+>(alloc: Global, map: M, set: S) -> Result<CanonMapIter<T, VC>, AllocError>
+    requires { VC.can_carry }
+    ensures { IfOk result (λ stream. IsChosen VC.Value.eq T.low T.high left_alone (M.left map)
+        (S.left set) stream) }
+{
+    let stream = chosen_of(alloc, map, WithUnit::new(set), &LeftAlone)?;
+    Ok(stream)
+}

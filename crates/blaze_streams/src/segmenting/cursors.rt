@@ -1,0 +1,73 @@
+//! Many lists of ranges gone through together.
+ghost use Rattle.std.specs.Prelude.{◌≡◌, IfOk, nat_eq};
+ghost use Rattle.std.specs.Option.{option_map};
+ghost use Rattle.blaze_streams.specs.Segments.{row};
+ghost use Rattle.blaze_streams.specs.Cursors.{AllCanonical, first_keys, AllFrom, all_steady_to};
+ghost use Rattle.blaze_streams.specs.Cursors.{AllReach, all_after, lesser};
+
+use crate::cursor::Cursor;
+use crate::lists::canon_map::CanonMapIter;
+use blaze_int::Integer;
+use blaze_int::compare::is_at_most;
+use std::alloc::{AllocError, Global};
+
+/// What is left of a list of ranges with their places.
+pub type PlaceCursor<T> = Cursor<T, usize, CanonMapIter<T, usize>>;
+
+/// The lesser of two keys, where there are two.
+pub fn lesser_of<T: Integer>(a: Option<T>, b: Option<T>) -> Option<T>
+    ensures { option_map T.rank result ≡ lesser (option_map T.rank a) (option_map T.rank b) }
+{
+    match (a, b) {
+        (None, _) => b,
+        (_, None) => a,
+        (Some(x), Some(y)) => { if is_at_most(x, y) { a } else { b } }
+    }
+}
+
+/// The first key that is left.
+pub fn first_of<T: Integer>(lists: &[PlaceCursor<T>]) -> Option<T>
+    ensures first { option_map T.rank result ≡ first_keys lists.now }
+    ensures canonical { AllCanonical nat_eq lists.now }
+{
+    match lists.split_first() {
+        None => None,
+        Some((list, others)) => lesser_of(list.first(), first_of(others)),
+    }
+}
+
+/// The last key up to which no list changes, from a key below which none is left.
+pub fn last_of<T: Integer>(lists: &[PlaceCursor<T>], start: T) -> Option<T>
+    requires { AllFrom (T.rank start) lists.now }
+    ensures { option_map T.rank result ≡ all_steady_to (T.rank start) lists.now }
+{
+    match lists.split_first() {
+        None => None,
+        Some((list, others)) => lesser_of(list.last(start), last_of(others, start)),
+    }
+}
+
+/// What each list has at a key, which is not above the end of a list's first range.
+pub fn row_at<T: Integer>(
+    alloc: Global,
+    lists: &[PlaceCursor<T>],
+    key: T,
+) -> Result<Vec<Option<usize>>, AllocError>
+    requires { AllReach (T.rank key) lists.now }
+    ensures { IfOk result (λ found. found.items ≡ row lists.now (T.rank key)) }
+{
+    let mut found = Vec::new(alloc);
+    for list in lists {
+        found.push(list.here(key))?;
+    }
+    Ok(found)
+}
+
+/// Lets the keys up to `end` go.
+pub fn advance_all<T: Integer>(lists: &mut [PlaceCursor<T>], end: T)
+    ensures { lists.new ≡ all_after (T.rank end) lists.old }
+{
+    for i in 0..lists.len() {
+        lists[i].advance(end);
+    }
+}

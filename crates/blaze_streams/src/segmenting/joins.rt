@@ -1,0 +1,115 @@
+//! The segments of two streams.
+ghost use Rattle.std.specs.Prelude.{◌≡◌, ◌++◌, Some, IfOk, OnOk};
+ghost use Rattle.blaze_table.specs.Canonical.{IsCanonical};
+ghost use Rattle.blaze_streams.specs.Carried.{shown_option, shown_pair};
+ghost use Rattle.blaze_streams.specs.Cursors.{first_key, lesser};
+ghost use Rattle.blaze_streams.specs.Joins.{is_joined, paired, piece_of, IsJoinOf, IsSegmentPut};
+ghost use Rattle.blaze_streams.specs.RangeLists.{shown_ranges};
+
+use crate::carrier::ValueCarrier;
+use crate::cursor::Cursor;
+use crate::lists::canon_map::CanonMapIter;
+use crate::merge::chosen::steady_end;
+use crate::segmenting::cursors::lesser_of;
+use crate::sorted_disjoint_map::SortedDisjointMap;
+use blaze_int::Integer;
+use std::alloc::{AllocError, Global};
+use std::ops::RangeInclusive;
+
+/// Which segments of two streams a join is asked for.
+#[derive(Clone, Copy, PartialEq, Eq, Debug)]
+pub enum JoinKind {
+    /// Those on which both are present.
+    Inner,
+    /// Those on which the left one is present.
+    Left,
+    /// All: at least one is present.
+    Full,
+}
+
+/// Whether a join of the kind is asked for what two streams have at a key.
+fn is_joined<A, B>(kind: JoinKind, left: &Option<A>, right: &Option<B>) -> bool
+    ensures { result ≡ is_joined kind left.now right.now }
+{
+    match kind {
+        JoinKind::Inner => left.is_some() && right.is_some(),
+        JoinKind::Left => left.is_some(),
+        JoinKind::Full => left.is_some() || right.is_some(),
+    }
+}
+
+/// Puts what two streams have on the keys from `start` up to `end` behind a list, where a join of the kind is asked for it.
+fn put_pair<T: Integer, VCL: ValueCarrier + Copy, VCR: ValueCarrier + Copy>(
+    out: &mut Vec<(RangeInclusive<T>, (Option<VCL>, Option<VCR>))>,
+    start: T,
+    end: T,
+    left: Option<VCL>,
+    right: Option<VCR>,
+    kind: JoinKind,
+) -> Result<(), AllocError>
+    ensures { OnOk result (shown_ranges T.rank (shown_pair VCL.shown VCR.shown) out.new.items
+        ≡ shown_ranges T.rank (shown_pair VCL.shown VCR.shown) out.old.items ++ piece_of
+        (T.rank start) (T.rank end) (paired kind (shown_option VCL.shown left)
+        (shown_option VCR.shown right))) }
+{
+    if is_joined(kind, &left, &right) {
+        out.push((start..=end, (left, right)))?;
+    }
+    Ok(())
+}
+
+/// Puts the first segment of two streams behind a list, where the kind asks for it, and lets its keys go.
+fn join_next<
+    T: Integer,
+    VCL: ValueCarrier + Copy,
+    VCR: ValueCarrier + Copy,
+    L: SortedDisjointMap<T, VCL>,
+    R: SortedDisjointMap<T, VCR>,
+>(
+    start: T,
+    left: &mut Cursor<T, VCL, L>,
+    right: &mut Cursor<T, VCR, R>,
+    out: &mut Vec<(RangeInclusive<T>, (Option<VCL>, Option<VCR>))>,
+    kind: JoinKind,
+) -> Result<(), AllocError>
+    requires left { IsCanonical VCL.Value.eq left.old }
+    requires right { IsCanonical VCR.Value.eq right.old }
+    requires starts { lesser (first_key left.old) (first_key right.old) ≡ Some (T.rank start) }
+    ensures { OnOk result (IsSegmentPut T.low T.high kind (T.rank start) left.old left.new right.old
+        right.new (shown_ranges T.rank (shown_pair VCL.shown VCR.shown) out.old.items)
+        (shown_ranges T.rank (shown_pair VCL.shown VCR.shown) out.new.items)) }
+{
+    let end = steady_end(start, left, right);
+    start.in_hand();
+    end.in_hand();
+    put_pair(out, start, end, left.here(end), right.here(end), kind)?;
+    left.advance(end);
+    right.advance(end);
+    Ok(())
+}
+
+/// The segments of two streams that a join of a kind is asked for, each with what the two have there, in one pass over both.
+/// No carrier is cloned. Refused memory drops both streams.
+pub fn join_of<
+    T: Integer,
+    VCL: ValueCarrier + Copy,
+    VCR: ValueCarrier + Copy,
+    L: SortedDisjointMap<T, VCL>,
+    R: SortedDisjointMap<T, VCR>,
+>(
+    alloc: Global,
+    left: L,
+    right: R,
+    kind: JoinKind,
+) -> Result<CanonMapIter<T, (Option<VCL>, Option<VCR>)>, AllocError>
+    ensures { IfOk result (λ segments. IsJoinOf VCL.Value.eq VCR.Value.eq T.low T.high kind
+        (L.left left) (R.left right) segments) }
+{
+    let mut out = Vec::new(alloc);
+    let mut left = Cursor::new(left);
+    let mut right = Cursor::new(right);
+    while let Some(start) = lesser_of(left.first(), right.first()) {
+        join_next(start, &mut left, &mut right, &mut out, kind)?;
+    }
+    Ok(CanonMapIter::new(out))
+}

@@ -1,0 +1,111 @@
+//! Segments of lists of ranges.
+ghost use Rattle.std.specs.Prelude.{◌≡◌, None, IfOk, IfSome, IfNone, nat_eq};
+ghost use Rattle.blaze_streams.specs.Segments.{numbered, all_numbered, AreInOrder, entry_of};
+ghost use Rattle.blaze_streams.specs.Segments.{entries_of, IsSegmentsOf};
+ghost use Rattle.blaze_streams.specs.Cursors.{AllCanonical, first_keys, IsNextSegment};
+ghost use Rattle.blaze_table.specs.Canonical.{IsCanonical};
+
+use crate::cursor::Cursor;
+use crate::lists::canon_map::CanonMapIter;
+use crate::segmenting::cursors::{PlaceCursor, advance_all, first_of, last_of, row_at};
+use blaze_int::Integer;
+use std::alloc::{AllocError, Global};
+
+/// A range on which no list changes and at least one is present.
+#[derive(Drop)]
+pub struct Segment<T> {
+    /// The first key.
+    pub lo: T,
+    /// The last key.
+    pub hi: T,
+    /// For each list the place of its range that has these keys, or `None`.
+    pub at: Vec<Option<usize>>,
+}
+
+/// The segments of lists, ascending: the greatest ranges on which no list changes and at least one is present, each with the
+/// place of each list's range there. Touching ranges of one list are two segments, since their places differ.
+///
+/// Each list is disjoint and ascending, and gives each range by its first and its last key. A list may be empty, and there may be
+/// no list. It is refused only where memory is, and the lists stay as they are.
+#[tactic(auto, using(crate::proofs::Numbered::all_canonical))]
+pub fn segments<T: Integer>(
+    alloc: Global,
+    lists: &[Vec<(T, T)>],
+) -> Result<Vec<Segment<T>>, AllocError>
+    requires { AreInOrder (all_numbered T.rank lists.now) }
+    ensures { IfOk result (λ found. IsSegmentsOf nat_eq (all_numbered T.rank lists.now)
+        (entries_of T.rank found.items)) }
+{
+    let mut cursors = cursors_of(alloc, lists)?;
+    let found = segments_left(alloc, &mut cursors)?;
+    Ok(found)
+}
+
+/// A cursor at the start of each list.
+fn cursors_of<T: Integer>(
+    alloc: Global,
+    lists: &[Vec<(T, T)>],
+) -> Result<Vec<PlaceCursor<T>>, AllocError>
+    requires { AllCanonical nat_eq (all_numbered T.rank lists.now) }
+    ensures { IfOk result (λ cursors. cursors.items ≡ all_numbered T.rank lists.now) }
+{
+    let mut cursors = Vec::new(alloc);
+    for list in lists {
+        cursors.push(Cursor::new(places_of(alloc, list)?))?;
+    }
+    Ok(cursors)
+}
+
+/// The ranges, each with its place.
+fn places_of<T: Integer>(
+    alloc: Global,
+    ranges: &[(T, T)],
+) -> Result<CanonMapIter<T, usize>, AllocError>
+    requires { IsCanonical nat_eq (numbered T.rank 0 ranges.now) }
+    ensures { IfOk result (λ places. places ≡ numbered T.rank 0 ranges.now) }
+{
+    let mut found = Vec::new(alloc);
+    for i in 0..ranges.len() {
+        let range = ranges[i];
+        range.0.in_hand();
+        range.1.in_hand();
+        found.push((range.0..=range.1, i))?;
+    }
+    Ok(CanonMapIter::new(found))
+}
+
+/// The segments of what is left of the lists.
+fn segments_left<T: Integer>(
+    alloc: Global,
+    lists: &mut [PlaceCursor<T>],
+) -> Result<Vec<Segment<T>>, AllocError>
+    requires { AllCanonical nat_eq lists.old }
+    ensures { IfOk result (λ found. IsSegmentsOf nat_eq lists.old (entries_of T.rank found.items)) }
+{
+    let mut found = Vec::new(alloc);
+    while let Some(segment) = next_segment(alloc, lists)? {
+        found.push(segment)?;
+    }
+    Ok(found)
+}
+
+/// Takes the first segment off the lists, or answers `None` where nothing is left. Refused memory leaves the lists unchanged.
+pub fn next_segment<T: Integer>(
+    alloc: Global,
+    lists: &mut [PlaceCursor<T>],
+) -> Result<Option<Segment<T>>, AllocError>
+    ensures none { IfOk result (λ next. IfNone next (first_keys lists.old ≡ None)) }
+    ensures some { IfOk result
+        (λ next. IfSome next (λ segment. IsNextSegment lists.old
+        (entry_of T.rank segment) lists.new)) }
+{
+    let Some(lo) = first_of(lists) else {
+        return Ok(None);
+    };
+    let Some(hi) = last_of(lists, lo) else {
+        return Ok(None);
+    };
+    let at = row_at(alloc, lists, lo)?;
+    advance_all(lists, hi);
+    Ok(Some(Segment { lo, hi, at }))
+}

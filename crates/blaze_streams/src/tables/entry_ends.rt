@@ -1,0 +1,42 @@
+//! Entries that are gone through for their first and last keys.
+ghost use Rattle.std.specs.Prelude.{List};
+ghost use Rattle.blaze_table.specs.Entries.{Entry};
+ghost use Rattle.blaze_streams.specs.KeyRanges.{TakesEnds};
+
+use blaze_int::Integer;
+use blaze_table::{IntoIter, Iter};
+
+/// Entries that are gone through from their start, whatever their values.
+pub trait EntryEnds<T: Integer>: Drop {
+    /// The type of the entries' values.
+    type Value: Eq;
+
+    // The entries that are left.
+    ghost left: { Self → List (Entry Self.Value) };
+
+    /// Takes the first entry out, and answers its first and last key.
+    fn next_ends(&mut self) -> Option<(T, T)>
+        ensures { TakesEnds T.rank result (left self.old) (left self.new) };
+}
+
+impl<'a, T: Integer, V: Eq> EntryEnds<T> for Iter<'a, T, V> {
+    type Value = V;
+
+    ghost left = { λ s. s };
+
+    fn next_ends(&mut self) -> Option<(T, T)> {
+        let (start, end, _) = self.next()?;
+        Some((start, end))
+    }
+}
+
+impl<T: Integer, V: Eq + Drop> EntryEnds<T> for IntoIter<T, V> {
+    type Value = V;
+
+    ghost left = { λ s. s };
+
+    fn next_ends(&mut self) -> Option<(T, T)> {
+        let (start, end, _) = self.next()?;
+        Some((start, end))
+    }
+}

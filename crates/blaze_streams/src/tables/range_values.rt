@@ -1,0 +1,117 @@
+//! A table's entries as ranges with their values.
+ghost use Rattle.std.specs.Prelude.{◌≡◌, length, refl, Some, IfSome};
+ghost use Rattle.std.specs.Iterator.{item_count, UpTo};
+ghost use Rattle.std.specs.Iterator.SizeHint.{IsWithinCount};
+ghost use Rattle.blaze_streams.specs.Ranges.{shown_range};
+ghost use Rattle.blaze_table.specs.Whole.{YieldsWholeFirst, YieldsWholeLast};
+
+use crate::carrier::ValueCarrier;
+use crate::sorted_disjoint_map::{BothEnds, SortedDisjointMap};
+use blaze_int::Integer;
+use blaze_table::{Iter, RangeTable};
+use std::iter::FusedIterator;
+use std::marker::Model;
+use std::ops::RangeInclusive;
+
+/// A table's entries, ascending: each range with its value.
+#[derive(Drop)]
+pub struct RangeValuesIter<'a, T: Integer, V: Eq> {
+    entries: Iter<'a, T, V>,
+    // Its type says that keys and values live as long as the table is lent.
+    table: &'a RangeTable<T, V>,
+}
+
+impl<'a, T: Integer, V: Eq> Model for RangeValuesIter<'a, T, V> {
+    ghost use Rattle.std.specs.Prelude.{List};
+    ghost use Rattle.std.specs.Coded.{coded_list};
+    ghost use Rattle.blaze_table.specs.Entries.{Entry, entry_code};
+    ghost use Rattle.blaze_table.specs.Canonical.{IsRangeMap};
+
+    ghost Value = { List (Entry V) };
+
+    ghost coded = { coded_list (entry_code V.code) };
+
+    ghost view = { λ s. s.entries };
+
+    ghost invariant = { λ s. IsRangeMap V.eq T.low T.high s.entries };
+}
+
+impl<'a, T: Integer, V: Eq> RangeValuesIter<'a, T, V> {
+    /// The table's entries.
+    pub fn new(table: &'a RangeTable<T, V>) -> Self
+        ensures { result ≡ table.now.entries }
+    {
+        table.in_hand();
+        RangeValuesIter {
+            entries: table.iter(),
+            table,
+        }
+    }
+}
+
+impl<'a, T: Integer, V: Eq> Iterator for RangeValuesIter<'a, T, V> {
+    type Item = (RangeInclusive<T>, &'a V);
+
+    ghost next_gives = { YieldsWholeFirst (λ p. p.0) (shown_range T.rank (λ v. v.now)) (λ s. s) };
+
+    ghost remaining = { item_count (λ s. s) };
+
+    fn next(&mut self) -> Option<(RangeInclusive<T>, &'a V)> {
+        let (start, end, value) = self.entries.next()?;
+        Some((start..=end, value))
+    }
+
+    /// Exact: how many entries are left.
+    fn size_hint(&self) -> (usize, Option<usize>)
+        ensures lower { IsWithinCount result.0 (item_count (λ s. s) self.now) }
+        ensures upper { IfSome result.1 (UpTo (item_count (λ s. s) self.now)) }
+        ensures exact { result ≡ (length self.now, Some (length self.now)) }
+    {
+        let len = self.len();
+        (len, Some(len))
+    }
+}
+
+impl<'a, T: Integer, V: Eq> DoubleEndedIterator for RangeValuesIter<'a, T, V> {
+    ghost next_back_gives = { YieldsWholeLast (λ p. p.0)
+        (shown_range T.rank (λ v. v.now)) (λ s. s) };
+
+    fn next_back(&mut self) -> Option<(RangeInclusive<T>, &'a V)> {
+        let (start, end, value) = self.entries.next_back()?;
+        Some((start..=end, value))
+    }
+}
+
+impl<'a, T: Integer, V: Eq> ExactSizeIterator for RangeValuesIter<'a, T, V> {
+    fn len(&self) -> usize {
+        self.entries.len()
+    }
+}
+
+impl<'a, T: Integer, V: Eq> FusedIterator for RangeValuesIter<'a, T, V> {}
+
+impl<'a, T: Integer, V: Eq + Clone> SortedDisjointMap<T, &'a V> for RangeValuesIter<'a, T, V> {
+    ghost left = { λ s. s };
+
+    ghost least = { λ s. length s };
+
+    fn in_hand(&self) {
+        let _ = &self.entries;
+    }
+
+    fn least_len(&self) -> usize {
+        self.size_hint().0
+    }
+
+    ghost ready = { λ _. tt };
+
+    ghost counted = { λ _. refl };
+
+    ghost gives = { λ _ _ _ given. given.0 };
+}
+
+impl<'a, T: Integer, V: Eq + Clone> BothEnds<T, &'a V> for RangeValuesIter<'a, T, V> {
+    ghost ready_back = { λ _. tt };
+
+    ghost gives_back = { λ _ _ _ given. given.0 };
+}

@@ -1,0 +1,9 @@
+-- A list that is gone through by index.
+use Rattle.std.proofs.Common.{◌≡◌, ℕ, ◌+◌, suc, ◌<◌, List, ◌∷◌, length, drop, get_or, ◌∙◌, sym, ap, arith}
+use Rattle.std.proofs.Math.Seq.{drop-cons}
+
+-- from an index on there is first the item at it
+pub from_index : {X : Type 0} (xs : List X) (i : ℕ) (x : X) → i < length xs → x ≡ get_or xs i x → drop i xs ≡ x ∷ drop (i + 1) xs
+from_index xs i x l e =
+    let one : suc i ≡ i + 1 = omega arith in
+    drop-cons xs i x l ∙ ap (λ y. y ∷ drop (suc i) xs) (sym e) ∙ ap (λ n. x ∷ drop n xs) one

@@ -1,7 +1,0 @@
-use Rattle.blaze_table.specs.RangeSets.{unit_eq}
-use Rattle.blaze_table.proofs.Parts.{IsRangeMap-front}
-use Rattle.blaze_table.proofs.UnitLaws.{unit_laws}
-use Rattle.blaze_table.proofs.into_ranges_iter.IntoRangesIterDoubleEndedIterator.next_back.Goals as goal
-
-pub invariant_of-self-2 : goal.invariant_of-self-2
-invariant_of-self-2 g c = IsRangeMap-front unit_eq unit_laws _ _ _ _ (rw c.in_ok-start.ensures.steps at c.self.invariant)

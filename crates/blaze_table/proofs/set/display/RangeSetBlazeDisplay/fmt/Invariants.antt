@@ -1,0 +1,16 @@
+use Rattle.std.proofs.Common.{◌≡◌, ◌++◌, ℕ, List, Some}
+use Rattle.std.specs.Fmt.{HasWritten, IsPlainFormatter}
+use denote.Text.{Utf8}
+use denote.Shadow.{shadow}
+use Rattle.blaze_table.specs.Printed.{ranges_text, set_text}
+use Rattle.blaze_table.proofs.set.display.RangeSetBlazeDisplay.fmt.Given as goal
+
+-- where the whole text is known, what is written and the text of the other ranges are the whole
+abbrev pub invariant-loop-range : goal.invariant-loop-range
+invariant-loop-range g l =
+    (goal.iterator-loop-range g).can_next l.range-iterator
+    × (goal.iterator-loop-range g).is_finite l.range-iterator
+    × shadow (Utf8 l.lead)
+    × (IsPlainFormatter l.initial.f → (whole : List ℕ) → set_text g.T.Debug.debug_output g.T.Integer.of_rank l.self ≡ Some whole
+    → (text rest : List ℕ) × HasWritten g.W.Write.write_str_gives l.initial.f text l.f
+    × (ranges_text g.T.Debug.debug_output g.T.Integer.of_rank l.lead l.range-iterator ≡ Some rest) × (text ++ rest ≡ whole))

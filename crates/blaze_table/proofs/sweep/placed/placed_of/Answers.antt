@@ -1,0 +1,89 @@
+use Rattle.std.proofs.Common.{◌≡◌, ◌≤ℤ◌, [], ◌∷◌, ◌∙◌, ap, sym, length, arith, rules}
+use Rattle.std.proofs.lemmas.List.{length-map, nil_from_length}
+use Rattle.std.proofs.lemmas.List.Elements.{All-weaker}
+use Rattle.std.proofs.lemmas.List.Sorted.{answers_always}
+use Rattle.std.specs.Vec.Iter.{into_iter_items}
+use Rattle.blaze_table.specs.Entries.{shown_entry}
+use Rattle.blaze_table.specs.Listed.{listed}
+use Rattle.blaze_table.specs.Pieces.{IsPlaced}
+use Rattle.blaze_table.proofs.Orders.{at_most, not_at_most}
+use Rattle.blaze_table.proofs.Placed.{head_of_drop, placed_none, placed_skip, placed_more, placed_sorted, ends_are_keys, ascends}
+use Rattle.blaze_table.proofs.sweep.placed.placed_of.Goals as goal
+
+pub loop-start-init : goal.loop-start-init
+loop-start-init g c =
+    let rank = g.T.Integer.rank in
+    rw (c.into_iter-start-iterator.ensures.into_iter_gives.0, c.new-placed.ensures.items)
+    (record {
+      in_all = omega arith;
+      rest = λ _. listed rank c.args.pairs.items;
+      so_far = placed_none rank (listed rank c.args.pairs.items);
+    })
+
+pub loop-start-preserved-then-not-is_at_most : goal.loop-start-preserved-then-not-is_at_most
+loop-start-preserved-then-not-is_at_most g c =
+    let rank = g.T.Integer.rank in
+    let i = c.loop-start.invariant in
+    let ps = listed rank c.args.pairs.items in
+    let pair : g.row.T.Denot × g.row.T.Denot × g.row.V.Denot = (c.in-Some.start, c.in-Some.end, c.in-Some.value) in
+    let e = shown_entry rank (λ v. v) pair in
+    let rest = into_iter_items c.next.new.self in
+    let split : into_iter_items c.loop-start.start-iterator ≡ pair ∷ rest = search rules in
+    let head = head_of_drop c.loop-start.count ps e (listed rank rest) (i.rest ∙ ap (listed rank) split) in
+    record {
+      in_all = omega (arith, ap length split, i.in_all);
+      rest = head.1;
+      so_far = placed_skip rank ps c.loop-start.count c.loop-start.placed.items i.so_far e head.0 (not_at_most _ _ (sym c.is_at_most.ensures ∙ c.if-not-is_at_most.true));
+    }
+
+pub loop-start-preserved : goal.loop-start-preserved
+loop-start-preserved g c =
+    let rank = g.T.Integer.rank in
+    let i = c.loop-start.invariant in
+    let ps = listed rank c.args.pairs.items in
+    let pair : g.row.T.Denot × g.row.T.Denot × g.row.V.Denot = (c.in-Some.start, c.in-Some.end, c.in-Some.value) in
+    let e = shown_entry rank (λ v. v) pair in
+    let rest = into_iter_items c.next.new.self in
+    let split : into_iter_items c.loop-start.start-iterator ≡ pair ∷ rest = search rules in
+    let head = head_of_drop c.loop-start.count ps e (listed rank rest) (i.rest ∙ ap (listed rank) split) in
+    record {
+      in_all = omega (arith, ap length split, i.in_all);
+      rest = head.1;
+      so_far = placed_more rank ps c.loop-start.count c.loop-start.placed.items i.so_far e head.0
+          pair.0 pair.1 pair.2 c.push.new.self.items c.in_ok-push.ensures.items (λ _. e) (at_most _ _ (sym c.is_at_most.ensures ∙ c.if-not-is_at_most.false));
+    }
+
+pub returns-clause-placed : goal.returns-clause-placed
+returns-clause-placed g c =
+    let rank = g.T.Integer.rank in
+    let i = c.loop-start.invariant in
+    let ps = listed rank c.args.pairs.items in
+    let new = c.sort_unstable_by_key.new.self.items in
+    let sort = c.sort_unstable_by_key.ensures in
+    let none : into_iter_items c.loop-start.start-iterator ≡ [] = nil_from_length (into_iter_items c.loop-start.start-iterator) (sym c.loop-start.start-iterator.rest.ok.0 ∙ c.in-None.ensures.steps.0) in
+    let placed = placed_sorted rank ps c.loop-start.count c.loop-start.placed.items new i.so_far (omega (arith, i.in_all, ap length none, length-map c.args.pairs.items (shown_entry rank (λ v. v)))) sort.permutation in
+    placed
+
+pub returns-clause-keys : goal.returns-clause-keys
+returns-clause-keys g c =
+    let rank = g.T.Integer.rank in
+    let i = c.loop-start.invariant in
+    let ps = listed rank c.args.pairs.items in
+    let new = c.sort_unstable_by_key.new.self.items in
+    let sort = c.sort_unstable_by_key.ensures in
+    let none : into_iter_items c.loop-start.start-iterator ≡ [] = nil_from_length (into_iter_items c.loop-start.start-iterator) (sym c.loop-start.start-iterator.rest.ok.0 ∙ c.in-None.ensures.steps.0) in
+    let placed = placed_sorted rank ps c.loop-start.count c.loop-start.placed.items new i.so_far (omega (arith, i.in_all, ap length none, length-map c.args.pairs.items (shown_entry rank (λ v. v)))) sort.permutation in
+    ends_are_keys rank ps g.T.Integer.low g.T.Integer.high new c.requires placed.known
+
+pub returns-clause-ascending : goal.returns-clause-ascending
+returns-clause-ascending g c =
+    let rank = g.T.Integer.rank in
+    let i = c.loop-start.invariant in
+    let ps = listed rank c.args.pairs.items in
+    let new = c.sort_unstable_by_key.new.self.items in
+    let sort = c.sort_unstable_by_key.ensures in
+    let none : into_iter_items c.loop-start.start-iterator ≡ [] = nil_from_length (into_iter_items c.loop-start.start-iterator) (sym c.loop-start.start-iterator.rest.ok.0 ∙ c.in-None.ensures.steps.0) in
+    let placed = placed_sorted rank ps c.loop-start.count c.loop-start.placed.items new i.so_far (omega (arith, i.in_all, ap length none, length-map c.args.pairs.items (shown_entry rank (λ v. v)))) sort.permutation in
+    ascends rank g.T.Integer.low g.T.Integer.high g.T.Ord.cmp g.met.T.Integer.ranked.order new (ends_are_keys rank ps g.T.Integer.low g.T.Integer.high new c.requires placed.known)
+    (All-weaker (IsPlaced rank ps) (λ p. rank p.0 ≤ℤ rank p.1) (λ p h. h.order) new placed.known)
+    (sort.sorted (λ p. p.0) (answers_always _ _ _ (λ f a r h k. search rules)))

@@ -1,0 +1,6 @@
+//! Sets of keys: a table with the unit value.
+pub mod compare;
+pub mod display;
+pub mod into_ranges_iter;
+pub mod range_set;
+pub mod ranges_iter;

@@ -1,0 +1,84 @@
+//! What is left of a table's entries that are gone through from the start.
+ghost use Rattle.std.specs.Prelude.{◌≡◌, [], IfNone, slice_get};
+ghost use Rattle.std.specs.Option.{option_map};
+ghost use Rattle.blaze_table.specs.Canonical.{IsCanonical};
+ghost use Rattle.blaze_table.specs.Entries.{shown_entry};
+ghost use Rattle.blaze_table.specs.Splice.{after};
+ghost use Rattle.blaze_streams.specs.Choosing.{ahead_of};
+ghost use Rattle.blaze_streams.specs.Cursors.{Reaches};
+
+use blaze_int::Integer;
+use blaze_int::compare::{after, is_at_most};
+use blaze_table::{Iter, RangeTable};
+use std::marker::Model;
+
+/// The entries that are left: what is left of the first, and the others.
+#[derive(Drop)]
+pub struct EntriesLeft<'a, T: Integer, V: Eq> {
+    first: Option<(T, T, &'a V)>,
+    others: Iter<'a, T, V>,
+}
+
+impl<'a, T: Integer, V: Eq> Model for EntriesLeft<'a, T, V> {
+    ghost use Rattle.std.specs.Prelude.{List, [], IfNone, ◌≡◌};
+    ghost use Rattle.std.specs.Coded.{coded_list};
+    ghost use Rattle.blaze_table.specs.Entries.{Entry, entry_code};
+    ghost use Rattle.blaze_table.specs.Canonical.{IsCanonical};
+    ghost use Rattle.blaze_streams.specs.Choosing.{ahead_of};
+
+    ghost Value = { List (Entry V) };
+
+    ghost coded = { coded_list (entry_code V.code) };
+
+    ghost view = { λ s. ahead_of T.rank (λ v. v.now) s.first s.others };
+
+    ghost invariant = { λ s. IfNone s.first (s.others ≡ [])
+        × IsCanonical V.eq (ahead_of T.rank (λ v. v.now) s.first s.others) };
+}
+
+// Takes the first entry out: its first key, last key and value.
+fn take_first<'a, T: Integer, V: Eq>(entries: &mut Iter<'a, T, V>) -> Option<(T, T, &'a V)>
+    ensures left { ahead_of T.rank (λ v. v.now) result entries.new ≡ entries.old }
+    ensures none { IfNone result (entries.new ≡ []) }
+{
+    let (lo, hi, value) = entries.next()?;
+    Some((lo, hi, value))
+}
+
+impl<'a, T: Integer, V: Eq> EntriesLeft<'a, T, V> {
+    /// All entries of a table.
+    pub fn new(table: &'a RangeTable<T, V>) -> Self
+        ensures { result ≡ table.now.entries }
+    {
+        table.in_hand();
+        let mut others = table.iter();
+        let first = take_first(&mut others);
+        EntriesLeft { first, others }
+    }
+
+    /// What is left of the first entry: its first key, last key and value.
+    pub fn first(&self) -> Option<(T, T, &'a V)>
+        ensures first { option_map (shown_entry T.rank (λ v. v.now)) result ≡ slice_get self.now 0 }
+        ensures canonical { IsCanonical V.eq self.now }
+    {
+        match &self.first {
+            None => None,
+            Some((lo, hi, value)) => Some((*lo, *hi, *value)),
+        }
+    }
+
+    /// Lets the keys up to `end` go, which is not above the end of the first entry.
+    #[tactic(auto, using(blaze_streams::proofs::Steady::after_first))]
+    pub fn advance(&mut self, end: T)
+        requires { Reaches (T.rank end) self.old }
+        ensures { self.new ≡ after (T.rank end) self.old }
+    {
+        if let Some((lo, hi, value)) = self.first {
+            if is_at_most(hi, end) {
+                self.first = take_first(&mut self.others);
+            } else if is_at_most(lo, end) {
+                self.first = Some((after(end, hi), hi, value));
+            }
+        }
+    }
+}

@@ -1,0 +1,138 @@
+//! The order of maps: the lexicographic order of their lists of (key, value) pairs. Two maps are gone through entry by entry.
+ghost use Rattle.std.specs.Prelude.{◌≡◌, ◌↔◌, ◌+◌, ◌≤◌, ◌<◌, length, refl, Some, IfSome, IfNone};
+ghost use Rattle.std.specs.Cmp.{on_total, po};
+ghost use Rattle.std.specs.Ordering.{int_cmp, ordering_then, on, as_partial_cmp};
+ghost use Rattle.std.specs.declared.cmp.Ordering.TheVariants.{Equal};
+ghost use Rattle.blaze_table.specs.Entries.{SameContent, shown_entry};
+ghost use Rattle.std.specs.Int.{int_min};
+ghost use Rattle.range_map_blaze.specs.Order.{pairs_cmp, map_cmp, first_cmp, IsComparedOn};
+ghost use Rattle.range_map_blaze.specs.OrderLaws.{equal_maps_tie, map_cmp_total};
+
+use crate::compare::entries_left::EntriesLeft;
+use crate::compare::turns::Turns;
+use crate::map::RangeMapBlaze;
+use blaze_int::Integer;
+use blaze_int::compare::is_below;
+use std::cmp::Ordering;
+
+// The smaller of two keys.
+fn earlier_of<T: Integer>(a: T, b: T) -> T
+    ensures { T.rank result ≡ int_min (T.rank b) (T.rank a) }
+{
+    if is_below(a, b) { a } else { b }
+}
+
+// How the first pairs of two entries compare.
+fn compare_starts<T: Integer, V: Ord>(start: T, value: &V, other_start: T, other: &V) -> Ordering
+    ensures { result ≡ ordering_then (int_cmp (T.rank start) (T.rank other_start))
+        (V.cmp value.now other.now) }
+{
+    start.in_hand();
+    other_start.in_hand();
+    match start.cmp(&other_start) {
+        Ordering::Less => Ordering::Less,
+        Ordering::Greater => Ordering::Greater,
+        Ordering::Equal => value.cmp(other),
+    }
+}
+
+// How the first pairs of two entries compare, and the last key of the entry that ends first.
+fn compare_first<T: Integer, V: Ord>(left: (T, T, &V), other: (T, T, &V)) -> (Ordering, T)
+    ensures order { result.0 ≡ first_cmp V.cmp (shown_entry T.rank (λ v. v.now) left.entry)
+        (shown_entry T.rank (λ v. v.now) other.entry) }
+    ensures end { T.rank result.1 ≡ int_min (shown_entry T.rank (λ v. v.now) other.entry).hi
+        (shown_entry T.rank (λ v. v.now) left.entry).hi }
+{
+    let (start, end, value) = left;
+    let (other_start, other_end, other_value) = other;
+    (
+        compare_starts(start, value, other_start, other_value),
+        earlier_of(end, other_end),
+    )
+}
+
+// One look at what is left of two lists: an answer where one is at its end, or where the first pairs differ. Else the keys up
+// to the end of the shorter first entry are let go.
+fn look<T: Integer, V: Ord>(
+    left: &mut EntriesLeft<'_, T, V>,
+    other: &mut EntriesLeft<'_, T, V>,
+) -> Option<Ordering>
+    ensures answer { IfSome result (λ order. order ≡ pairs_cmp V.cmp left.old other.old) }
+    ensures on { IfNone result (IsComparedOn V.cmp left.old other.old left.new other.new) }
+{
+    match left.first() {
+        None => match other.first() {
+            None => Some(Ordering::Equal),
+            Some(_) => Some(Ordering::Less),
+        },
+        Some(first) => match other.first() {
+            None => Some(Ordering::Greater),
+            Some(other_first) => {
+                let (order, end) = compare_first(first, other_first);
+                if order.is_ne() {
+                    return Some(order);
+                }
+                left.advance(end);
+                other.advance(end);
+                None
+            }
+        },
+    }
+}
+
+impl<T: Integer, V: Ord> RangeMapBlaze<T, V> {
+    /// How two maps compare, as `cmp` does. `turns` rises by the number of looks at two first entries, that which answers
+    /// included: at most the numbers of both maps' entries plus one, so no look is at a key. No memory is taken.
+    pub fn cmp_counted(&self, other: &Self, turns: &mut Turns) -> Ordering
+        ensures order { result ≡ pairs_cmp V.cmp self.now.entries other.now.entries }
+        ensures few { turns.new ≤ turns.old +
+            (length self.now.entries + length other.now.entries + 1) }
+        ensures last { turns.old < turns.new }
+    {
+        let mut left = EntriesLeft::new(&self.table);
+        let mut rest = EntriesLeft::new(&other.table);
+        loop {
+            turns.count();
+            if let Some(order) = look(&mut left, &mut rest) {
+                return order;
+            }
+        }
+    }
+}
+
+impl<T: Integer, V: Ord> Ord for RangeMapBlaze<T, V> {
+    ghost cmp = { on (λ m. m.entries) (map_cmp V.cmp) };
+
+    ghost total = { on_total (λ m. m.entries) (map_cmp_total V.cmp V.total) };
+
+    ghost matches_partial_cmp = { λ _ _. refl };
+
+    ghost matches_eq = { λ m n. equal_maps_tie V.eq V.cmp V.matches_eq m.entries n.entries };
+
+    /// The lexicographic order of the lists of (key, value) pairs, by key and then by the values' own order; a proper
+    /// beginning is less. Equal exactly where the maps are equal. No memory is taken, and the work is that of `cmp_counted`.
+    fn cmp(&self, other: &Self) -> Ordering
+        ensures member { result ≡ map_cmp V.cmp self.now.entries other.now.entries }
+        ensures order { result ≡ pairs_cmp V.cmp self.now.entries other.now.entries }
+        ensures equal { (result ≡ Equal) ↔ SameContent V.eq self.now.entries other.now.entries }
+    {
+        self.in_hand();
+        other.in_hand();
+        self.cmp_counted(other, &mut Turns::new())
+    }
+}
+
+impl<T: Integer, V: Ord> PartialOrd for RangeMapBlaze<T, V> {
+    ghost partial_cmp = { on (λ m. m.entries) (as_partial_cmp (map_cmp V.cmp)) };
+
+    ghost laws = { po (on_total (λ m. m.entries) (map_cmp_total V.cmp V.total))
+        (λ m n. equal_maps_tie V.eq V.cmp V.matches_eq m.entries n.entries) };
+
+    /// The order that `cmp` gives.
+    fn partial_cmp(&self, other: &Self) -> Option<Ordering>
+        ensures member { result ≡ Some (map_cmp V.cmp self.now.entries other.now.entries) }
+        ensures order { result ≡ Some (pairs_cmp V.cmp self.now.entries other.now.entries) }
+    {
+        Some(self.cmp(other))
+    }
+}

@@ -1,0 +1,201 @@
+//! Maps made of pairs, painted in order: the later pair wins.
+ghost use Rattle.std.specs.Prelude.{map, IfOk};
+ghost use Rattle.std.specs.Iterator.{IsFiniteIterable};
+ghost use Rattle.blaze_table.specs.Painted.{ClonesAreAlike};
+ghost use Rattle.blaze_table.specs.CanonicalOf.{IsCanonicalOf};
+ghost use Rattle.blaze_streams.specs.Ranges.{shown_range};
+ghost use Rattle.range_map_blaze.specs.Collected.{CollectsItems};
+ghost use Rattle.range_map_blaze.specs.Extended.{shown_point};
+
+use crate::make::lent_pairs::{LentPair, lent_pairs_of};
+use crate::make::pair_maps::{map_of_lent_pairs, map_of_pairs, pairs_of_points};
+use crate::map::RangeMapBlaze;
+use blaze_int::Integer;
+use std::alloc::{AllocError, Global};
+use std::ops::RangeInclusive;
+
+/// The map of the lent pairs of an iterable, painted in order.
+fn map_of_lent<
+    'a,
+    T: Integer,
+    V: Eq + Clone + 'a,
+    P: LentPair<'a, T, V>,
+    I: IntoIterator<Item = P>,
+>(alloc: Global, iter: I) -> Result<RangeMapBlaze<T, V>, AllocError>
+    requires ends { IsFiniteIterable I.into_iter_gives I.IntoIter.can_next
+        I.IntoIter.remaining iter }
+    requires clones { ClonesAreAlike V.is_clone V.eq }
+    ensures { IfOk result (λ new. CollectsItems I.into_iter_gives I.IntoIter.next_gives
+        (λ items list. IsCanonicalOf V.eq T.low T.high (map P.pair items) list) iter new.entries) }
+{
+    let pairs = lent_pairs_of(alloc, iter)?;
+    let new = map_of_lent_pairs(alloc, pairs)?;
+    Ok(new)
+}
+
+impl<T: Integer, V: Eq + Clone> RangeMapBlaze<T, V> {
+    /// The map of keys with values, in order: the later pair wins. It takes O(n log n) steps for n pairs, and one pass
+    /// where they ascend. Values are moved. Refused memory drops them.
+    pub fn from_points<I: IntoIterator<Item = (T, V)>>(
+        alloc: Global,
+        iter: I,
+    ) -> Result<Self, AllocError>
+        requires ends { IsFiniteIterable I.into_iter_gives I.IntoIter.can_next
+            I.IntoIter.remaining iter }
+        requires clones { ClonesAreAlike V.is_clone V.eq }
+        ensures { IfOk result (λ new. CollectsItems I.into_iter_gives I.IntoIter.next_gives
+            (λ items list. IsCanonicalOf V.eq T.low T.high (map (shown_point T.rank (λ v. v)) items)
+            list) iter new.entries) }
+    {
+        let mut pairs = Vec::new(alloc);
+        for (key, value) in iter {
+            pairs.push((key, key, value))?;
+        }
+        let new = map_of_pairs(alloc, pairs)?;
+        Ok(new)
+    }
+
+    /// The map of ranges with values, in order: the later pair wins, and a pair whose range is reversed paints nothing. It
+    /// takes O(n log n) steps for n pairs, also where they lie in one another, and one pass where they ascend and are
+    /// disjoint. A value is cloned only where its range is cut into several pieces; else it is moved. Refused memory drops
+    /// the values.
+    pub fn from_ranges<I: IntoIterator<Item = (RangeInclusive<T>, V)>>(
+        alloc: Global,
+        iter: I,
+    ) -> Result<Self, AllocError>
+        requires ends { IsFiniteIterable I.into_iter_gives I.IntoIter.can_next
+            I.IntoIter.remaining iter }
+        requires clones { ClonesAreAlike V.is_clone V.eq }
+        ensures { IfOk result (λ new. CollectsItems I.into_iter_gives I.IntoIter.next_gives
+            (λ items list. IsCanonicalOf V.eq T.low T.high (map (shown_range T.rank (λ v. v)) items)
+            list) iter new.entries) }
+    {
+        let mut pairs = Vec::new(alloc);
+        for (range, value) in iter {
+            let (start, end) = range.into_inner();
+            pairs.push((start, end, value))?;
+        }
+        let new = map_of_pairs(alloc, pairs)?;
+        Ok(new)
+    }
+
+    /// The same of keys with lent values: each entry has a clone of its value, and no other value is cloned.
+    pub fn from_points_ref_value<'a, I: IntoIterator<Item = (T, &'a V)>>(
+        alloc: Global,
+        iter: I,
+    ) -> Result<Self, AllocError>
+    where
+        T: 'a,
+        V: 'a,
+        requires ends { IsFiniteIterable I.into_iter_gives I.IntoIter.can_next
+            I.IntoIter.remaining iter }
+        requires clones { ClonesAreAlike V.is_clone V.eq }
+        ensures { IfOk result (λ new. CollectsItems I.into_iter_gives I.IntoIter.next_gives
+            (λ items list. IsCanonicalOf V.eq T.low T.high
+            (map (shown_point T.rank (λ v. v.now)) items) list) iter new.entries) }
+    {
+        map_of_lent(alloc, iter)
+    }
+
+    /// The same of ranges with lent values.
+    pub fn from_ranges_ref_value<'a, I: IntoIterator<Item = (RangeInclusive<T>, &'a V)>>(
+        alloc: Global,
+        iter: I,
+    ) -> Result<Self, AllocError>
+    where
+        T: 'a,
+        V: 'a,
+        requires ends { IsFiniteIterable I.into_iter_gives I.IntoIter.can_next
+            I.IntoIter.remaining iter }
+        requires clones { ClonesAreAlike V.is_clone V.eq }
+        ensures { IfOk result (λ new. CollectsItems I.into_iter_gives I.IntoIter.next_gives
+            (λ items list. IsCanonicalOf V.eq T.low T.high
+            (map (shown_range T.rank (λ v. v.now)) items) list) iter new.entries) }
+    {
+        map_of_lent(alloc, iter)
+    }
+
+    /// The same of lent pairs of a key and a value.
+    pub fn from_ref_points<'a, I: IntoIterator<Item = &'a (T, V)>>(
+        alloc: Global,
+        iter: I,
+    ) -> Result<Self, AllocError>
+    where
+        T: 'a,
+        V: 'a,
+        requires ends { IsFiniteIterable I.into_iter_gives I.IntoIter.can_next
+            I.IntoIter.remaining iter }
+        requires clones { ClonesAreAlike V.is_clone V.eq }
+        ensures { IfOk result (λ new. CollectsItems I.into_iter_gives I.IntoIter.next_gives
+            (λ items list. IsCanonicalOf V.eq T.low T.high
+            (map (λ p. shown_point T.rank (λ v. v) p.now) items) list) iter new.entries) }
+    {
+        map_of_lent(alloc, iter)
+    }
+
+    /// The same of lent pairs of a range and a value.
+    pub fn from_ref_ranges<'a, I: IntoIterator<Item = &'a (RangeInclusive<T>, V)>>(
+        alloc: Global,
+        iter: I,
+    ) -> Result<Self, AllocError>
+    where
+        T: 'a,
+        V: 'a,
+        requires ends { IsFiniteIterable I.into_iter_gives I.IntoIter.can_next
+            I.IntoIter.remaining iter }
+        requires clones { ClonesAreAlike V.is_clone V.eq }
+        ensures { IfOk result (λ new. CollectsItems I.into_iter_gives I.IntoIter.next_gives
+            (λ items list. IsCanonicalOf V.eq T.low T.high
+            (map (λ p. shown_range T.rank (λ v. v) p.now) items) list) iter new.entries) }
+    {
+        map_of_lent(alloc, iter)
+    }
+
+    /// The same of lent pairs of a key and a lent value.
+    pub fn from_ref_points_ref_value<'a, I: IntoIterator<Item = &'a (T, &'a V)>>(
+        alloc: Global,
+        iter: I,
+    ) -> Result<Self, AllocError>
+    where
+        T: 'a,
+        V: 'a,
+        requires ends { IsFiniteIterable I.into_iter_gives I.IntoIter.can_next
+            I.IntoIter.remaining iter }
+        requires clones { ClonesAreAlike V.is_clone V.eq }
+        ensures { IfOk result (λ new. CollectsItems I.into_iter_gives I.IntoIter.next_gives
+            (λ items list. IsCanonicalOf V.eq T.low T.high
+            (map (λ p. shown_point T.rank (λ v. v.now) p.now) items) list) iter new.entries) }
+    {
+        map_of_lent(alloc, iter)
+    }
+
+    /// The same of lent pairs of a range and a lent value.
+    pub fn from_ref_ranges_ref_value<'a, I: IntoIterator<Item = &'a (RangeInclusive<T>, &'a V)>>(
+        alloc: Global,
+        iter: I,
+    ) -> Result<Self, AllocError>
+    where
+        T: 'a,
+        V: 'a,
+        requires ends { IsFiniteIterable I.into_iter_gives I.IntoIter.can_next
+            I.IntoIter.remaining iter }
+        requires clones { ClonesAreAlike V.is_clone V.eq }
+        ensures { IfOk result (λ new. CollectsItems I.into_iter_gives I.IntoIter.next_gives
+            (λ items list. IsCanonicalOf V.eq T.low T.high
+            (map (λ p. shown_range T.rank (λ v. v.now) p.now) items) list) iter new.entries) }
+    {
+        map_of_lent(alloc, iter)
+    }
+
+    /// The map of an array of keys with values, in order: the later pair wins.
+    pub fn from_array<const N: usize>(alloc: Global, items: [(T, V); N]) -> Result<Self, AllocError>
+        requires { ClonesAreAlike V.is_clone V.eq }
+        ensures { IfOk result (λ new. IsCanonicalOf V.eq T.low T.high
+            (map (shown_point T.rank (λ v. v)) items) new.entries) }
+    {
+        let points = Vec::from_array(alloc, items)?;
+        let pairs = pairs_of_points(alloc, points)?;
+        let new = map_of_pairs(alloc, pairs)?;
+        Ok(new)
+    }
+}

@@ -1,0 +1,5 @@
+//! Maps made of pairs and of streams.
+pub mod constructors;
+pub mod lent_pairs;
+pub mod pair_maps;
+pub mod stream;

@@ -1,0 +1,57 @@
+//! The keys without a value.
+ghost use Rattle.std.specs.Prelude.{[], IfOk};
+ghost use Rattle.blaze_table.specs.Complement.{IsComplement};
+ghost use Rattle.blaze_table.specs.Painted.{ClonesAreAlike};
+ghost use Rattle.blaze_table.specs.RangeSets.{unit_eq};
+
+use crate::map::RangeMapBlaze;
+use blaze_int::Integer;
+use blaze_streams::{SortedDisjoint, complement};
+use blaze_table::{RangeSetBlaze, RangeTable};
+use std::alloc::{AllocError, Global};
+
+/// The set of the keys that have no value.
+pub fn unmapped_keys<T: Integer, V: Eq>(
+    map: &RangeMapBlaze<T, V>,
+) -> Result<RangeSetBlaze<T>, AllocError>
+    ensures { IfOk result (λ set. IsComplement unit_eq T.low T.high tt map.now.entries set) }
+{
+    let alloc = map.allocator();
+    let stream = complement(alloc, map.ranges())?;
+    stream.in_hand();
+    let mut ranges = Vec::new(alloc);
+    for range in stream {
+        ranges.push(range)?;
+    }
+    let set = RangeSetBlaze::from_canonical(alloc, ranges)?;
+    Ok(set)
+}
+
+impl<T: Integer, V: Eq + Clone> RangeMapBlaze<T, V> {
+    /// The map of a value on every key of the type. It takes memory.
+    pub fn universe_with(alloc: Global, value: &V) -> Result<Self, AllocError>
+        requires { ClonesAreAlike V.is_clone V.eq }
+        ensures { IfOk result
+            (λ map. IsComplement {V = V} V.eq T.low T.high value.now [] map.entries) }
+    {
+        Self::new(alloc).complement_with(value)
+    }
+
+    /// The map of a value on every key that has none here, and nothing elsewhere. Refused memory leaves this map unchanged.
+    pub fn complement_with(&self, value: &V) -> Result<Self, AllocError>
+        requires { ClonesAreAlike V.is_clone V.eq }
+        ensures { IfOk result
+            (λ map. IsComplement V.eq T.low T.high value.now self.now.entries map.entries) }
+    {
+        let alloc = self.allocator();
+        let stream = complement(alloc, self.ranges())?;
+        stream.in_hand();
+        let mut entries = Vec::new(alloc);
+        for range in stream {
+            let (lo, hi) = range.into_inner();
+            entries.push((lo, hi, value.clone()?))?;
+        }
+        let table = RangeTable::from_canonical(alloc, entries)?;
+        Ok(RangeMapBlaze { table })
+    }
+}

@@ -1,0 +1,36 @@
+//! The map of what is chosen from two streams, of which the left one's values are lent. The map that lends them shows that
+//! the keys outlive the loan, which code that is generic over keys has to know where it calls a function of streams.
+ghost use Rattle.std.specs.Prelude.{IfOk};
+ghost use Rattle.blaze_table.specs.Chosen.{IsChosen};
+ghost use Rattle.blaze_table.specs.Painted.{ClonesAreAlike};
+
+use crate::map::RangeMapBlaze;
+use blaze_int::Integer;
+use blaze_streams::{Choice, SortedDisjointMap, ValueCarrier, entries_chosen_of};
+use blaze_table::RangeTable;
+use std::alloc::AllocError;
+
+/// What is chosen from two streams.
+pub fn lent_chosen<
+    'a,
+    T: Integer,
+    V: Eq + Clone,
+    VCR: ValueCarrier,
+    L: SortedDisjointMap<T, &'a V>,
+    R: SortedDisjointMap<T, VCR>,
+    C: Choice<&'a V, VCR>,
+>(
+    lent: &'a RangeMapBlaze<T, V>,
+    left: L,
+    right: R,
+    choice: &C,
+) -> Result<RangeMapBlaze<T, V>, AllocError>
+    requires { ClonesAreAlike V.is_clone V.eq }
+    ensures { IfOk result (λ new. IsChosen V.eq T.low T.high C.choice (L.left left)
+        (R.left right) new.entries) }
+{
+    let alloc = lent.allocator();
+    let entries = entries_chosen_of(alloc, left, right, choice)?;
+    let table = RangeTable::from_canonical(alloc, entries)?;
+    Ok(RangeMapBlaze { table })
+}

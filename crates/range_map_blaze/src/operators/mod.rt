@@ -1,0 +1,10 @@
+//! The operators of maps.
+mod bit_and;
+mod bit_or;
+mod bit_xor;
+pub mod complements;
+pub mod lent;
+mod not;
+pub mod pointwise;
+mod sub;
+pub mod union;

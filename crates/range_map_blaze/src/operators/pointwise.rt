@@ -1,0 +1,80 @@
+//! A map's values chosen by the keys of another map or of a set.
+ghost use Rattle.std.specs.Option.{option_xor};
+ghost use Rattle.std.specs.Prelude.{IfOk};
+ghost use Rattle.blaze_table.specs.Chosen.{left_with_right, left_alone, IsChosen};
+ghost use Rattle.blaze_table.specs.Painted.{ClonesAreAlike};
+
+use crate::map::RangeMapBlaze;
+use crate::operators::lent::lent_chosen;
+use blaze_int::Integer;
+use blaze_streams::{ExactlyOne, LeftAlone, LeftWithRight, WithUnit};
+use blaze_table::RangeSetBlaze;
+use std::alloc::AllocError;
+
+/// The values of the right map on the keys of both.
+pub fn intersection<T: Integer, V: Eq + Clone>(
+    left: &RangeMapBlaze<T, V>,
+    right: &RangeMapBlaze<T, V>,
+) -> Result<RangeMapBlaze<T, V>, AllocError>
+    requires { ClonesAreAlike V.is_clone V.eq }
+    ensures { IfOk result (λ map. IsChosen V.eq T.low T.high left_with_right right.now.entries
+        left.now.entries map.entries) }
+{
+    let keys = WithUnit::new(left.ranges());
+    let new = lent_chosen(right, right.range_values(), keys, &LeftWithRight)?;
+    Ok(new)
+}
+
+/// The values of the left map off the keys of the right.
+pub fn difference<T: Integer, V: Eq + Clone>(
+    left: &RangeMapBlaze<T, V>,
+    right: &RangeMapBlaze<T, V>,
+) -> Result<RangeMapBlaze<T, V>, AllocError>
+    requires { ClonesAreAlike V.is_clone V.eq }
+    ensures { IfOk result (λ map. IsChosen V.eq T.low T.high left_alone left.now.entries
+        right.now.entries map.entries) }
+{
+    let keys = WithUnit::new(right.ranges());
+    let new = lent_chosen(left, left.range_values(), keys, &LeftAlone)?;
+    Ok(new)
+}
+
+/// The values on the keys that exactly one of the two maps has.
+pub fn symmetric_difference<T: Integer, V: Eq + Clone>(
+    left: &RangeMapBlaze<T, V>,
+    right: &RangeMapBlaze<T, V>,
+) -> Result<RangeMapBlaze<T, V>, AllocError>
+    requires { ClonesAreAlike V.is_clone V.eq }
+    ensures { IfOk result (λ map. IsChosen V.eq T.low T.high option_xor left.now.entries
+        right.now.entries map.entries) }
+{
+    lent_chosen(left, left.range_values(), right.range_values(), &ExactlyOne)
+}
+
+/// The values of a map on the keys of a set.
+pub fn intersection_with_set<T: Integer, V: Eq + Clone>(
+    map: &RangeMapBlaze<T, V>,
+    set: &RangeSetBlaze<T>,
+) -> Result<RangeMapBlaze<T, V>, AllocError>
+    requires { ClonesAreAlike V.is_clone V.eq }
+    ensures { IfOk result (λ new. IsChosen V.eq T.low T.high left_with_right map.now.entries
+        set.now new.entries) }
+{
+    let keys = WithUnit::new(set.ranges());
+    let new = lent_chosen(map, map.range_values(), keys, &LeftWithRight)?;
+    Ok(new)
+}
+
+/// The values of a map off the keys of a set.
+pub fn difference_with_set<T: Integer, V: Eq + Clone>(
+    map: &RangeMapBlaze<T, V>,
+    set: &RangeSetBlaze<T>,
+) -> Result<RangeMapBlaze<T, V>, AllocError>
+    requires { ClonesAreAlike V.is_clone V.eq }
+    ensures { IfOk result (λ new. IsChosen V.eq T.low T.high left_alone map.now.entries
+        set.now new.entries) }
+{
+    let keys = WithUnit::new(set.ranges());
+    let new = lent_chosen(map, map.range_values(), keys, &LeftAlone)?;
+    Ok(new)
+}

@@ -1,0 +1,30 @@
+use Rattle.std.proofs.Common.{◌∙◌, List, map, Bor, sym, ap, subst}
+use Rattle.std.specs.Global.{Vec}
+use Rattle.std.specs.Option.{is_some}
+use Rattle.std.specs.List.{list_all}
+use Rattle.std.proofs.lemmas.List.{map-id}
+use Rattle.range_map_multi.specs.ManyJoins.{shown_full_row, IsCallableAtRows, IsManyJoined}
+use Rattle.range_map_multi.specs.Parts.{AllRangeMaps}
+use Rattle.range_map_multi.proofs.Placed.{given_lists, given_placed}
+use Rattle.range_map_multi.proofs.lent_joins.lent_inner_join.Goals as goal
+
+pub inner_answers-requires-clause-placed : goal.inner_answers-requires-clause-placed
+inner_answers-requires-clause-placed g c = given_placed _ _ c.in_ok-cursors.cursors.items c.deref_mut.result.now _ (ap (λ (vs : List (Vec (Bor g.row.V.Denot))). map (λ v. map (λ r. r.now) v.items) vs) c.deref.ensures.value) c.deref_mut.ensures.value c.in_ok-cursors.ensures.placed
+
+pub inner_answers-requires-clause-range_maps : goal.inner_answers-requires-clause-range_maps
+inner_answers-requires-clause-range_maps g c =
+    subst (AllRangeMaps g.V.PartialEq.eq g.T.Integer.low g.T.Integer.high) (sym (given_lists _ _ c.in_ok-cursors.cursors.items c.deref_mut.result.now _ (ap (λ (vs : List (Vec (Bor g.row.V.Denot))). map (λ v. map (λ r. r.now) v.items) vs) c.deref.ensures.value) c.deref_mut.ensures.value c.in_ok-cursors.ensures.placed))
+    c.in_ok-cursors.ensures.range_maps
+
+pub inner_answers-requires-clause-callable : goal.inner_answers-requires-clause-callable
+inner_answers-requires-clause-callable g c =
+    subst (IsCallableAtRows (λ a. shown_full_row (λ v. v.now) a.0.now) g.F.FnMut g.V.PartialEq.eq g.T.Integer.low g.T.Integer.high (list_all is_some) c.args.f)
+    (sym (given_lists _ _ c.in_ok-cursors.cursors.items c.deref_mut.result.now _ (ap (λ (vs : List (Vec (Bor g.row.V.Denot))). map (λ v. map (λ r. r.now) v.items) vs) c.deref.ensures.value) c.deref_mut.ensures.value c.in_ok-cursors.ensures.placed ∙ map-id c.in_ok-streams.streams.items ∙ c.in_ok-streams.ensures))
+    c.requires
+
+pub returns : goal.returns
+returns g c =
+    subst (IsManyJoined (λ a. shown_full_row (λ v. v.now) a.0.now) g.F.FnMut g.V.PartialEq.eq g.T.Integer.low g.T.Integer.high (list_all is_some) g.W.PartialEq.eq c.args.f _) (sym c.in_ok-new.ensures)
+    (subst (λ Ls. IsManyJoined (λ a. shown_full_row (λ v. v.now) a.0.now) g.F.FnMut g.V.PartialEq.eq g.T.Integer.low g.T.Integer.high (list_all is_some) g.W.PartialEq.eq c.args.f Ls c.in_ok-answers.answers)
+    (given_lists _ _ c.in_ok-cursors.cursors.items c.deref_mut.result.now _ (ap (λ (vs : List (Vec (Bor g.row.V.Denot))). map (λ v. map (λ r. r.now) v.items) vs) c.deref.ensures.value) c.deref_mut.ensures.value c.in_ok-cursors.ensures.placed ∙ map-id c.in_ok-streams.streams.items ∙ c.in_ok-streams.ensures)
+    c.in_ok-answers.ensures)

@@ -1,0 +1,56 @@
+use Rattle.std.proofs.Common.{◌∙◌, length, map, ap, arith}
+use Rattle.std.specs.Option.{is_some}
+use Rattle.std.specs.List.{list_any}
+use Rattle.std.proofs.lemmas.List.{length-map}
+use Rattle.blaze_streams.specs.Segments.{entry_of}
+use Rattle.range_map_multi.specs.ManyJoins.{shown_row}
+use Rattle.range_map_multi.specs.Parts.{picked}
+use Rattle.range_map_multi.proofs.AnsweredRows.{asked_none, asked_all, asked_count, asked_some, asked_less, asked_takes, asked_more}
+use Rattle.range_map_multi.proofs.Pickings.{picked_shown}
+use Rattle.range_map_multi.proofs.row_answers.full_answers.Goals as goal
+
+pub loop-out-init : goal.loop-out-init
+loop-out-init g c =
+    let values = map (λ v. map g.S.Shows.shown v.items) c.args.lists.now in
+    rw c.new-out.ensures.items
+    (asked_none (λ a. shown_row g.S.Shows.shown a.0.now) g.F.FnMut g.S.Value.PartialEq.eq g.W.PartialEq.eq g.T.Integer.low g.T.Integer.high (list_any is_some) c.args.f values _
+    g.met.S.Value.Eq.laws c.args.cursors.now c.requires.placed c.requires.range_maps (λ k h. h))
+
+pub loop-out-smaller : goal.loop-out-smaller
+loop-out-smaller g c =
+    asked_less _ _ _ _ _ _ _ _ _ _ c.loop-out.cursors c.next_segment.new.lists c.loop-out.f _ (entry_of g.T.Integer.rank c.in-Some.segment) c.loop-out.invariant (rw c.in-Some.is at c.in_ok-segment.ensures.some)
+
+pub fill_row-requires : goal.fill_row-requires
+fill_row-requires g c =
+    let count = asked_count _ _ _ _ _ _ _ _ _ _ c.loop-out.cursors c.next_segment.new.lists c.loop-out.f _ (entry_of g.T.Integer.rank c.in-Some.segment) c.loop-out.invariant (rw c.in-Some.is at c.in_ok-segment.ensures.some) in
+    omega (arith, count, length-map c.args.lists.now (λ v. map g.S.Shows.shown v.items), ap length c.deref.ensures.value)
+
+pub f-answer-requires : goal.f-answer-requires
+f-answer-requires g c =
+    let shown = g.S.Shows.shown in
+    let segment = entry_of g.T.Integer.rank c.in-Some.segment in
+    let next = rw c.in-Some.is at c.in_ok-segment.ensures.some in
+    let some = asked_some _ _ _ _ _ _ _ _ _ _ c.loop-out.cursors c.next_segment.new.lists c.loop-out.f _ segment c.loop-out.invariant next in
+    asked_takes _ _ _ _ _ _ _ _ _ _ c.loop-out.cursors c.next_segment.new.lists c.loop-out.f _ segment c.loop-out.invariant next c.requires.callable some _
+    (picked_shown shown (λ v. v.items) c.args.lists.now segment.value _ (c.deref-in-Some.ensures.value ∙ c.in_ok-fill_row.ensures ∙ ap (picked _) c.deref.ensures.value))
+
+pub loop-out-preserved : goal.loop-out-preserved
+loop-out-preserved g c =
+    let shown = g.S.Shows.shown in
+    let segment = entry_of g.T.Integer.rank c.in-Some.segment in
+    let next = rw c.in-Some.is at c.in_ok-segment.ensures.some in
+    let some = asked_some _ _ _ _ _ _ _ _ _ _ c.loop-out.cursors c.next_segment.new.lists c.loop-out.f _ segment c.loop-out.invariant next in
+    asked_more _ _ _ _ _ _ _ _ _ _ c.loop-out.cursors c.next_segment.new.lists c.loop-out.f _ segment c.loop-out.invariant next g.met.W.Eq.laws _ _ c.f-answer.result some
+    (record {
+      arguments = _;
+      shown = picked_shown shown (λ v. v.items) c.args.lists.now segment.value _ (c.deref-in-Some.ensures.value ∙ c.in_ok-fill_row.ensures ∙ ap (picked _) c.deref.ensures.value);
+      called = c.f-answer.ensures;
+    })
+    c.in_ok-push_joined.ensures.ok
+
+pub new-requires : goal.new-requires
+new-requires g c = (asked_all _ _ _ _ _ _ _ _ _ _ g.met.W.Eq.laws c.loop-out.cursors c.loop-out.f _ c.loop-out.invariant (rw c.in_default.is at c.in_ok-segment.ensures.none)).answered.range_map
+
+pub returns : goal.returns
+returns g c =
+    rw c.new.ensures (asked_all _ _ _ _ _ _ _ _ _ _ g.met.W.Eq.laws c.loop-out.cursors c.loop-out.f _ c.loop-out.invariant (rw c.in_default.is at c.in_ok-segment.ensures.none))

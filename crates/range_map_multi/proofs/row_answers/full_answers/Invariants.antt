@@ -1,0 +1,18 @@
+use Rattle.std.proofs.Common.{map}
+use Rattle.std.specs.Option.{is_some}
+use Rattle.std.specs.List.{list_any}
+use Rattle.blaze_streams.specs.RangeLists.{shown_ranges}
+use Rattle.blaze_streams.proofs.LengthsLeft.{all_lengths_left}
+use Rattle.range_map_multi.specs.ManyJoins.{shown_row}
+use Rattle.range_map_multi.specs.Parts.{all_valued}
+use Rattle.range_map_multi.proofs.AnsweredRows.{IsAskedSoFar}
+use Rattle.range_map_multi.proofs.row_answers.full_answers.Given as goal
+
+abbrev pub invariant-loop-out : goal.invariant-loop-out
+invariant-loop-out g l =
+    let values = map (λ v. map g.S.Shows.shown v.items) l.lists in
+    IsAskedSoFar (λ a. shown_row g.S.Shows.shown a.0.now) g.F.FnMut g.S.Value.PartialEq.eq g.W.PartialEq.eq g.T.Integer.low g.T.Integer.high (list_any is_some) l.initial.f
+    values (all_valued values l.fn.cursors) l.cursors l.f (shown_ranges g.T.Integer.rank (λ o. o.0) l.out.items)
+
+abbrev pub decreases-loop-out : goal.decreases-loop-out
+decreases-loop-out g l = all_lengths_left l.cursors

@@ -1,0 +1,19 @@
+use Rattle.std.proofs.Common.{◌∙◌, map, sym, ap, subst}
+use Rattle.std.specs.Option.{is_some}
+use Rattle.std.specs.List.{list_all}
+use Rattle.range_map_multi.specs.ManyJoins.{shown_full_row, IsCallableAtRows, IsManyJoined}
+use Rattle.range_map_multi.specs.Parts.{all_valued}
+use Rattle.range_map_multi.proofs.Pickings.{none_from_empty, valued_none}
+use Rattle.range_map_multi.proofs.row_answers.inner_answers.Goals as goal
+
+pub inner_answers_of_none-requires : goal.inner_answers_of_none-requires
+inner_answers_of_none-requires g c =
+    let values = map (λ v. map g.S.Shows.shown v.items) c.args.lists.now in
+    subst (IsCallableAtRows (λ a. shown_full_row g.S.Shows.shown a.0.now) g.F.FnMut g.S.Value.PartialEq.eq g.T.Integer.low g.T.Integer.high (list_all is_some) c.args.f)
+    (ap (all_valued values) (none_from_empty c.args.cursors.now c.is_empty.result c.is_empty.ensures c.if-is_empty.true) ∙ valued_none values) c.requires.callable
+
+pub returns-then-is_empty : goal.returns-then-is_empty
+returns-then-is_empty g c =
+    let values = map (λ v. map g.S.Shows.shown v.items) c.args.lists.now in
+    subst (λ Ls. IsManyJoined (λ a. shown_full_row g.S.Shows.shown a.0.now) g.F.FnMut g.S.Value.PartialEq.eq g.T.Integer.low g.T.Integer.high (list_all is_some) g.W.PartialEq.eq c.args.f Ls c.in_ok-new.new)
+    (sym (ap (all_valued values) (none_from_empty c.args.cursors.now c.is_empty.result c.is_empty.ensures c.if-is_empty.true) ∙ valued_none values)) c.in_ok-new.ensures

@@ -1,0 +1,56 @@
+-- Lists taken apart, into ranges with places and the values at these places: the words of this crate's own functions. No public
+-- clause names them.
+use Rattle.std.specs.Prelude.{◌≡◌, ℕ, ◌+◌, ℤ, Bool, List, [], ◌∷◌, map, Option, Some, None}
+use Rattle.std.specs.List.{slice_get}
+use Rattle.std.specs.Option.{option_and_then}
+use Rattle.blaze_table.specs.Entries.{Entry, entry}
+use Rattle.blaze_table.specs.Canonical.{IsRangeMap}
+
+-- the entries, each with what a function gives for its value
+abbrev pub with_values : {A B : Type 0} → (A → B) → List (Entry A) → List (Entry B)
+with_values f es = map (λ e. entry e.lo e.hi (f e.value)) es
+
+-- the ranges of a list, each with its place; the first has the place i
+abbrev pub in_places : {V : Type 0} → ℕ → List (Entry V) → List (Entry ℕ)
+in_places i [] = []
+in_places i (e ∷ es) = entry e.lo e.hi i ∷ in_places (i + 1) es
+
+-- the list has the ranges, with the values at their places
+abbrev pub IsPlaced : {V : Type 0} → List V → List (Entry ℕ) → List (Entry V) → Type 0
+IsPlaced vs ranges list = with_values (slice_get vs) ranges ≡ with_values Some list
+
+-- the same of each list
+abbrev pub AllPlaced : {V : Type 0} → List (List V) → List (List (Entry ℕ)) → List (List (Entry V)) → Type 0
+AllPlaced [] [] [] = Unit {0}
+AllPlaced [] [] (L ∷ Ls) = ⊥
+AllPlaced [] (N ∷ Ns) Ls = ⊥
+AllPlaced (vs ∷ vss) [] Ls = ⊥
+AllPlaced (vs ∷ vss) (N ∷ Ns) [] = ⊥
+AllPlaced (vs ∷ vss) (N ∷ Ns) (L ∷ Ls) = IsPlaced vs N L × AllPlaced vss Ns Ls
+
+-- a range with a value before other entries, where there is a value
+abbrev pub with_value : {V : Type 0} → Entry ℕ → Option V → List (Entry V) → List (Entry V)
+with_value r None es = es
+with_value r (Some v) es = entry r.lo r.hi v ∷ es
+
+-- the ranges with the values at their places
+abbrev pub valued : {V : Type 0} → List V → List (Entry ℕ) → List (Entry V)
+valued vs [] = []
+valued vs (r ∷ rs) = with_value r (slice_get vs r.value) (valued vs rs)
+
+-- the same of each list
+abbrev pub all_valued : {V : Type 0} → List (List V) → List (List (Entry ℕ)) → List (List (Entry V))
+all_valued [] Ns = []
+all_valued (vs ∷ vss) [] = []
+all_valued (vs ∷ vss) (N ∷ Ns) = valued vs N ∷ all_valued vss Ns
+
+-- the values at places, one of each list
+abbrev pub picked : {V : Type 0} → List (List V) → List (Option ℕ) → List (Option V)
+picked [] places = []
+picked (vs ∷ vss) [] = []
+picked (vs ∷ vss) (place ∷ places) = option_and_then (slice_get vs) place ∷ picked vss places
+
+-- each list is a range map's
+abbrev pub AllRangeMaps : {V : Type 0} → (V → V → Bool) → ℤ → ℤ → List (List (Entry V)) → Type 0
+AllRangeMaps eq low high [] = Unit {0}
+AllRangeMaps eq low high (L ∷ Ls) = IsRangeMap eq low high L × AllRangeMaps eq low high Ls

@@ -1,0 +1,58 @@
+//! Rows: what many lists have at a segment, first to last.
+ghost use Rattle.std.specs.Prelude.{◌≡◌, ◌≤◌, length, map, Some, false, is_some, IfOk, OnOk};
+ghost use Rattle.std.specs.Prelude.{MatchBool};
+ghost use Rattle.std.specs.List.{list_all, slice_get};
+ghost use Rattle.std.specs.Option.{option_and_then};
+ghost use Rattle.range_map_multi.specs.Parts.{picked};
+
+use std::alloc::AllocError;
+
+/// What an item of a row stands for.
+pub trait Shows<A> {
+    /// The type of the value.
+    type Value: Eq;
+
+    // The value that an item stands for.
+    ghost shown: { A → Self.Value };
+}
+
+/// The item at a place of a list, where there is one.
+fn item_at<A: Copy>(list: &[A], place: Option<usize>) -> Option<A>
+    ensures { result ≡ option_and_then (slice_get list.now) place }
+{
+    match place {
+        None => None,
+        Some(place) => list.get(place).copied(),
+    }
+}
+
+/// Makes the row of the items at places, one place of each list.
+pub fn fill_row<A: Copy>(
+    row: &mut Vec<Option<A>>,
+    places: &[Option<usize>],
+    lists: &[Vec<A>],
+) -> Result<(), AllocError>
+    requires { length places.now ≤ length lists.now }
+    ensures { OnOk result (row.new.items ≡ picked (map (λ v. v.items) lists.now) places.now) }
+{
+    row.clear();
+    for i in 0..places.len() {
+        row.push(item_at(&lists[i], places[i]))?;
+    }
+    Ok(())
+}
+
+/// Makes the row of the items that are there, and answers whether all are.
+pub fn fill_full_row<A: Copy>(row: &mut Vec<A>, found: &[Option<A>]) -> Result<bool, AllocError>
+    ensures { IfOk result (λ all. MatchBool all (map Some row.new.items
+        ≡ found.now) (list_all is_some found.now ≡ false)) }
+{
+    row.clear();
+    for item in found {
+        let Some(item) = *item else {
+            return Ok(false);
+        };
+        row.push(item)?;
+    }
+    Ok(true)
+}

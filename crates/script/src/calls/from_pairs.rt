@@ -1,0 +1,133 @@
+//! `c = from_points K V ..` and kin: maps made of pairs.
+use crate::calls::extends::{points, ranges};
+use crate::fault::Fault;
+use crate::keys::ScriptKey;
+use crate::state::Map;
+use crate::words::{key, value};
+use std::alloc::{AllocError, Global};
+use std::ops::RangeInclusive;
+
+/// How pairs are given: by value, with lent values, lent, or lent with lent values.
+#[derive(Clone, Copy, Debug)]
+pub enum Form {
+    Owned,
+    RefValue,
+    Ref,
+    RefRefValue,
+}
+
+/// Pairs that a map is made of.
+#[derive(Drop)]
+pub enum FromPairs<T: ScriptKey> {
+    Points(Form, Vec<(T, String)>),
+    Ranges(Form, Vec<(RangeInclusive<T>, String)>),
+    Array(Vec<(T, String)>),
+}
+
+impl<T: ScriptKey> FromPairs<T> {
+    /// The pairs that the words behind `=` give.
+    pub fn read(alloc: Global, words: &[&str]) -> Result<Self, Fault> {
+        let [call, pairs @ ..] = words else {
+            return Err(Fault::Bad);
+        };
+        let form = match *call {
+            "from_points" | "from_ranges" => Form::Owned,
+            "from_points_ref_value" | "from_ranges_ref_value" => Form::RefValue,
+            "from_ref_points" | "from_ref_ranges" => Form::Ref,
+            "from_ref_points_ref_value" | "from_ref_ranges_ref_value" => Form::RefRefValue,
+            "from_array" => return Ok(FromPairs::Array(points(alloc, pairs)?)),
+            _ => return Err(Fault::Bad),
+        };
+        match *call {
+            "from_points"
+            | "from_points_ref_value"
+            | "from_ref_points"
+            | "from_ref_points_ref_value" => { Ok(FromPairs::Points(form, points(alloc, pairs)?)) }
+            _ => Ok(FromPairs::Ranges(form, ranges(alloc, pairs)?)),
+        }
+    }
+
+    /// Makes the call.
+    pub fn make(self, alloc: Global) -> Result<Map<T>, Fault> {
+        match self {
+            FromPairs::Points(Form::Owned, pairs) => Ok(Map::from_points(alloc, pairs)?),
+            FromPairs::Ranges(Form::Owned, pairs) => Ok(Map::from_ranges(alloc, pairs)?),
+            FromPairs::Points(form, pairs) => Ok(of_lent_points(alloc, form, &pairs)?),
+            FromPairs::Ranges(form, pairs) => Ok(of_lent_ranges(alloc, form, &pairs)?),
+            FromPairs::Array(pairs) => of_three(alloc, pairs),
+        }
+    }
+}
+
+/// The map of an array.
+fn of_array<T: ScriptKey>(alloc: Global, pairs: [(T, String); 3]) -> Result<Map<T>, AllocError> {
+    Map::from_array(alloc, pairs)
+}
+
+/// The map of an array of three pairs; other numbers of pairs are bad.
+fn of_three<T: ScriptKey>(alloc: Global, pairs: Vec<(T, String)>) -> Result<Map<T>, Fault> {
+    let mut pairs = pairs.into_iter();
+    let (Some(first), Some(second), Some(third), None) = (
+        pairs.next(),
+        pairs.next(),
+        pairs.next(),
+        pairs.next(),
+    ) else {
+        return Err(Fault::Bad);
+    };
+    Ok(of_array(alloc, [first, second, third])?)
+}
+
+/// The map of lent keys with lent values.
+fn of_ref_points<'a, T: ScriptKey>(
+    alloc: Global,
+    pairs: &'a [(T, &'a String)],
+) -> Result<Map<T>, AllocError> {
+    Map::from_ref_points_ref_value(alloc, pairs)
+}
+
+/// The map of lent ranges with lent values.
+fn of_ref_ranges<'a, T: ScriptKey>(
+    alloc: Global,
+    pairs: &'a [(RangeInclusive<T>, &'a String)],
+) -> Result<Map<T>, AllocError> {
+    Map::from_ref_ranges_ref_value(alloc, pairs)
+}
+
+/// The map of keys with values, of which at least the values are lent.
+fn of_lent_points<T: ScriptKey>(
+    alloc: Global,
+    form: Form,
+    pairs: &Vec<(T, String)>,
+) -> Result<Map<T>, AllocError> {
+    if let Form::Ref = form {
+        return Map::from_ref_points(alloc, pairs);
+    }
+    let mut lent = Vec::new(alloc);
+    for (key, value) in pairs {
+        lent.push((*key, value))?;
+    }
+    match form {
+        Form::RefRefValue => of_ref_points(alloc, lent.as_slice()),
+        _ => Map::from_points_ref_value(alloc, lent),
+    }
+}
+
+/// The map of ranges with values, of which at least the values are lent.
+fn of_lent_ranges<T: ScriptKey>(
+    alloc: Global,
+    form: Form,
+    pairs: &Vec<(RangeInclusive<T>, String)>,
+) -> Result<Map<T>, AllocError> {
+    if let Form::Ref = form {
+        return Map::from_ref_ranges(alloc, pairs);
+    }
+    let mut lent = Vec::new(alloc);
+    for (range, value) in pairs {
+        lent.push((*range.start()..=*range.end(), value))?;
+    }
+    match form {
+        Form::RefRefValue => of_ref_ranges(alloc, lent.as_slice()),
+        _ => Map::from_ranges_ref_value(alloc, lent),
+    }
+}

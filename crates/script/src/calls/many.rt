@@ -1,0 +1,178 @@
+//! `c = union a b ..` and kin: operations between any number of lent maps.
+use crate::calls::joins::{answer, unless_refused};
+use crate::fault::Fault;
+use crate::keys::ScriptKey;
+use crate::state::{Map, MapName, State};
+use range_map_blaze::SweepEvent;
+use range_map_multi::{MultiwayRangeMapBlazeRef, MultiwaySortedDisjointMap};
+use std::alloc::{AllocError, Global};
+
+/// An operation between any number of maps.
+#[derive(Clone, Copy, Debug)]
+enum Kind {
+    Union,
+    Intersection,
+    SymmetricDifference,
+    InnerJoin,
+    FullJoin,
+}
+
+/// An operation between lent maps.
+#[derive(Drop)]
+pub struct Many {
+    kind: Kind,
+    maps: Vec<MapName>,
+}
+
+impl Many {
+    /// The operation that the words behind `=` ask for. A map may be named twice.
+    pub fn read(alloc: Global, words: &[&str]) -> Result<Self, Fault> {
+        let [call, names @ ..] = words else {
+            return Err(Fault::Bad);
+        };
+        let kind = match *call {
+            "union" => Kind::Union,
+            "intersection" => Kind::Intersection,
+            "symmetric_difference" => Kind::SymmetricDifference,
+            "many_inner_join" => Kind::InnerJoin,
+            "many_full_join" => Kind::FullJoin,
+            _ => return Err(Fault::Bad),
+        };
+        let maps = map_names(alloc, names)?;
+        Ok(Many { kind, maps })
+    }
+
+    /// Makes the call. An intersection of no map is bad.
+    pub fn make<T: ScriptKey>(self, state: &State<T>) -> Result<Map<T>, Fault> {
+        let lent = lent_maps(state, &self.maps)?;
+        match self.kind {
+            Kind::Union => Ok(lent.union(state.alloc)?),
+            Kind::Intersection if lent.is_empty() => Err(Fault::Bad),
+            Kind::Intersection => Ok(lent.intersection(state.alloc)?),
+            Kind::SymmetricDifference => Ok(lent.symmetric_difference(state.alloc)?),
+            Kind::InnerJoin => inner_join(state.alloc, lent),
+            Kind::FullJoin => full_join(state.alloc, lent),
+        }
+    }
+}
+
+/// The names of maps.
+fn map_names(alloc: Global, words: &[&str]) -> Result<Vec<MapName>, Fault> {
+    let mut names = Vec::new(alloc);
+    for word in words {
+        names.push(MapName::read(word)?)?;
+    }
+    Ok(names)
+}
+
+/// The maps of the names, lent.
+fn lent_maps<'a, T: ScriptKey>(
+    state: &'a State<T>,
+    names: &[MapName],
+) -> Result<Vec<&'a Map<T>>, AllocError> {
+    let mut lent = Vec::new(state.alloc);
+    for name in names {
+        lent.push(state.map(*name))?;
+    }
+    Ok(lent)
+}
+
+/// Puts a word behind others that are joined with `+`, or in the place of `none`.
+fn put_word(words: &mut String, word: &str, is_first: bool) -> Result<(), AllocError> {
+    if !is_first {
+        words.push_str("+")?;
+    }
+    words.push_str(word)
+}
+
+/// The words joined with `+`; `none` where there is none.
+fn all_joined(alloc: Global, row: &[&String]) -> Result<String, AllocError> {
+    let mut words = String::new(alloc);
+    if row.is_empty() {
+        words.push_str("none")?;
+    }
+    let mut is_first = true;
+    for word in row {
+        put_word(&mut words, word.as_str(), is_first)?;
+        is_first = false;
+    }
+    Ok(words)
+}
+
+/// The words joined with `+`, an absent one as `-`.
+fn present_joined(alloc: Global, row: &[Option<&String>]) -> Result<String, AllocError> {
+    let mut words = String::new(alloc);
+    let mut is_first = true;
+    for word in row {
+        put_word(&mut words, word.map_or("-", |word| word.as_str()), is_first)?;
+        is_first = false;
+    }
+    Ok(words)
+}
+
+/// The words where all maps have one, joined.
+fn inner_join<T: ScriptKey>(alloc: Global, maps: Vec<&Map<T>>) -> Result<Map<T>, Fault> {
+    let mut is_refused = false;
+    let made = maps.inner_join(
+        alloc,
+        |row| answer(alloc, all_joined(alloc, row), &mut is_refused),
+    );
+    unless_refused(made, is_refused)
+}
+
+/// The words where at least one map has one, joined.
+fn full_join<T: ScriptKey>(alloc: Global, maps: Vec<&Map<T>>) -> Result<Map<T>, Fault> {
+    let mut is_refused = false;
+    let made = maps.full_join(alloc, |row| {
+        answer(alloc, present_joined(alloc, row), &mut is_refused)
+    });
+    unless_refused(made, is_refused)
+}
+
+/// The sweep over lent maps.
+#[derive(Drop)]
+pub struct Sweep {
+    maps: Vec<MapName>,
+}
+
+impl Sweep {
+    /// The sweep over the maps that the words name. A map may be named twice.
+    pub fn read(alloc: Global, words: &[&str]) -> Result<Self, Fault> {
+        let maps = map_names(alloc, words)?;
+        Ok(Sweep { maps })
+    }
+
+    /// Makes the call, and prints the events, joined by a semicolon and a space.
+    pub fn make<T: ScriptKey>(self, state: &State<T>, reply: &mut String) -> Result<(), Fault> {
+        let lent = lent_maps(state, &self.maps)?;
+        print_sweep(state.alloc, &lent, reply)
+    }
+}
+
+/// Prints the events of a sweep over maps.
+fn print_sweep<T: ScriptKey>(
+    alloc: Global,
+    maps: &[&Map<T>],
+    reply: &mut String,
+) -> Result<(), Fault> {
+    let mut streams = Vec::new(alloc);
+    for map in maps {
+        streams.push(map.range_values())?;
+    }
+    let mut is_first = true;
+    for event in streams.sweep(alloc)? {
+        if !is_first {
+            reply.push_str("; ")?;
+        }
+        is_first = false;
+        match event {
+            SweepEvent::Start {
+                range,
+                input,
+                value,
+            } => write!(reply, "Start({range:?}, {input}, {value:?})")?,
+            SweepEvent::End { last, input } => write!(reply, "End({last:?}, {input})")?,
+        }
+    }
+    Ok(())
+}
