@@ -19,7 +19,7 @@ kit="$(dirname "$(rt doc)")"
 mkdir -p out
 
 echo "bench: proving and building the library and the program" >&2
-for crate in blaze_int blaze_entries blaze_table blaze_streams blaze_iters range_map_blaze bench_library; do
+for crate in blaze_int blaze_entries blaze_table blaze_streams blaze_iters range_map_blaze range_map_multi bench_library; do
     if ! (cd "$root/crates/$crate" && rt lib) >out/log 2>&1; then
         cat out/log >&2
         exit 1

@@ -5,7 +5,7 @@ use Rattle.std.specs.Ordering.{int_cmp, int_eq}
 use Rattle.std.specs.declared.cmp.Ordering.TheVariants.{Less, Equal, Greater}
 use Rattle.std.proofs.lemmas.Int.{ints, by_lt_z}
 use Rattle.blaze_entries.specs.Entries.{Entry, entry}
-use Rattle.blaze_entries.specs.Starts.{StartsAscend, start_at, with_entry, without, with_end, with_end_value}
+use Rattle.blaze_entries.specs.Starts.{StartsAscend, first_entry, start_at, with_entry, without, with_end, with_end_value}
 
 -- two numbers, by their order
 pub by_order : {P : Type 0} (a b : ℤ)
@@ -17,6 +17,11 @@ by_order a b l e g = by_lt_z a b
     (λ h. by_lt_z b a (λ k. g k (grind (arith, ints)) (grind (arith, ints))) (λ k. e (omega (arith, ints)) (grind (arith, ints)) (grind (arith, ints))))
 
 module _ {V : Type 0} where
+  -- a list with no first entry
+  pub first_none : (es : List (Entry V)) → first_entry es ≡ None → es ≡ []
+  first_none [] n = refl
+  first_none (e ∷ es) n = cc
+
   -- none starts below the first
   pub start_none : (k b high : ℤ) (es : List (Entry V)) → k <ℤ b → StartsAscend b high es → start_at k es ≡ None
   start_none k b high [] l h = refl

@@ -1,5 +1,5 @@
 -- Entries that a closure is asked at, one after another, where those at which it answers false go at once.
-use Rattle.std.proofs.Common.{◌≡◌, ℕ, ◌<◌, ℤ, pos, negsuc, ◌+ℤ◌, ◌-ℤ◌, ◌≤ℤ◌, ◌<ℤ◌, Bool, true, false, List, [], ◌∷◌, ◌++◌, length, Some, None, refl, ◌∙◌, sym, subst, ap, arith, append_assoc}
+use Rattle.std.proofs.Common.{◌≡◌, ◌<◌, ℤ, pos, negsuc, ◌+ℤ◌, ◌-ℤ◌, ◌≤ℤ◌, ◌<ℤ◌, Bool, true, false, List, [], ◌∷◌, ◌++◌, length, Some, None, refl, ◌∙◌, sym, subst, ap, arith, append_assoc}
 use Rattle.std.specs.List.{items_where_true, FoldsTo}
 use Rattle.std.specs.List.Retain.{ReturnsInTurn, IsFiltered}
 use Rattle.std.proofs.lemmas.Int.{ints}
@@ -7,8 +7,8 @@ use Rattle.std.proofs.lemmas.List.{length-append, append-nil}
 use Rattle.blaze_int.specs.Unsigned.{nat_of}
 use Rattle.blaze_entries.specs.Entries.{Entry}
 use Rattle.blaze_entries.specs.Starts.{StartsAscend, from, first_entry, first_from, without}
-use Rattle.blaze_entries.proofs.Ascending.{by_order}
-use Rattle.blaze_entries.proofs.Halves.{StartsBelow, from_skips, from_all}
+use Rattle.blaze_entries.proofs.Ascending.{by_order, first_none}
+use Rattle.blaze_entries.proofs.Halves.{StartsBelow, from_skips, from_all, more_below}
 use Rattle.blaze_entries.proofs.InTurn.{returns-push, folds-returned, picked-push_true, picked-push_false}
 
 -- less is left up to high from a greater key on
@@ -45,10 +45,6 @@ module _ {V : Type 0} where
   below_push k j [] e l m h = (m, tt)
   below_push k j (x ∷ xs) e l m h = (omega (arith, ints, h.0), below_push k j xs e l m h.1)
 
-  below_more : (k j : ℤ) (xs : List (Entry V)) → k ≤ℤ j → StartsBelow k xs → StartsBelow j xs
-  below_more k j [] l h = tt
-  below_more k j (x ∷ xs) l h = (omega (arith, ints, h.0), below_more k j xs l h.1)
-
 module _ {F V : Type 0} (R : F → Entry V → Bool → F → Type 0) (f : F) (low high : ℤ) (old : List (Entry V)) where
   -- the entries that start below k were asked at, and the list is what is kept of them, and the others
   pub record IsAsked (k : ℤ) (es : List (Entry V)) (g : F) : Type 0 where
@@ -79,10 +75,6 @@ module _ {F V : Type 0} (R : F → Entry V → Bool → F → Type 0) (f : F) (l
     from_is : from k es ≡ h.others
     from_is = ap (from k) h.kept ∙ from_past k (items_where_true h.answers h.done) h.others (below_picked k h.answers h.done h.below) ∙ from_all k k high h.others (omega (arith, ints)) h.above
 
-    none_left : (xs : List (Entry V)) → first_entry xs ≡ None → xs ≡ []
-    none_left [] n = refl
-    none_left (x ∷ xs) n = cc
-
     all_asked : h.others ≡ [] → IsFiltered R f old es
     all_asked n =
         let all : old ≡ h.done = h.parts ∙ ap (λ l. h.done ++ l) n ∙ append-nil h.done in (
@@ -95,7 +87,7 @@ module _ {F V : Type 0} (R : F → Entry V → Bool → F → Type 0) (f : F) (l
 
     -- nothing is left from k on
     pub asked_all : None ≡ first_from k es → IsFiltered R f old es
-    asked_all n = all_asked (sym from_is ∙ none_left (from k es) (sym n))
+    asked_all n = all_asked (sym from_is ∙ first_none (from k es) (sym n))
 
     -- nothing is left above the greatest key
     pub asked_top : high <ℤ k → IsFiltered R f old es
@@ -163,7 +155,7 @@ module _ {F V : Type 0} (R : F → Entry V → Bool → F → Type 0) (f : F) (l
         long = omega (arith, h.long, length-append h.answers (false ∷ []), length-append h.done (e ∷ []));
         returns = returns-push R f g g' h.answers h.done false e h.long h.returns r;
         kept = n ∙ ap (without e.lo) (h.kept ∙ ap (λ l. items_where_true h.answers h.done ++ l) next_asked.split)
-            ∙ without_past e.lo (items_where_true h.answers h.done) (e ∷ next_asked.rest) (below_picked e.lo h.answers h.done (below_more k e.lo h.done next_asked.starts h.below))
+            ∙ without_past e.lo (items_where_true h.answers h.done) (e ∷ next_asked.rest) (below_picked e.lo h.answers h.done (more_below k e.lo h.done next_asked.starts h.below))
             ∙ ap (λ l. items_where_true h.answers h.done ++ l) (without_first e next_asked.rest)
             ∙ ap (λ l. l ++ next_asked.rest) (sym (picked-push_false h.answers h.done e h.long));
         below = below_push k (e.lo +ℤ pos 1) h.done e (omega (arith, ints, next_asked.starts)) (omega (arith, ints)) h.below;

@@ -1,21 +1,9 @@
 -- Lists in the order of their starts, in two parts: below a key and from it on.
-use Rattle.std.proofs.Common.{◌≡◌, ℤ, pos, ◌+ℤ◌, ◌≤ℤ◌, ◌<ℤ◌, true, false, cond, ◌⊎◌, inl, inr, List, [], ◌∷◌, refl, ◌∙◌, sym, ap, arith}
-use Rattle.std.specs.Prelude.{int_lt, int_le}
+use Rattle.std.proofs.Common.{◌≡◌, ℤ, pos, ◌+ℤ◌, ◌≤ℤ◌, ◌<ℤ◌, cond, ◌⊎◌, inl, inr, List, [], ◌∷◌, refl, ◌∙◌, sym, ap, arith}
 use Rattle.std.proofs.lemmas.Int.{ints, by_lt_z}
+use Rattle.blaze_int.proofs.Comparisons.{lt_true, lt_false, le_true, le_false}
 use Rattle.blaze_entries.specs.Entries.{Entry}
 use Rattle.blaze_entries.specs.Starts.{StartsAscend, below, from}
-
-lt_true : (a b : ℤ) → a <ℤ b → int_lt a b ≡ true
-lt_true a b h = grind (arith, ints)
-
-lt_false : (a b : ℤ) → b ≤ℤ a → int_lt a b ≡ false
-lt_false a b h = grind (arith, ints)
-
-le_true : (a b : ℤ) → a ≤ℤ b → int_le a b ≡ true
-le_true a b h = grind (arith, ints)
-
-le_false : (a b : ℤ) → b <ℤ a → int_le a b ≡ false
-le_false a b h = grind (arith, ints)
 
 -- each start is below k
 abbrev pub StartsBelow : {V : Type 0} → ℤ → List (Entry V) → Type 0
@@ -23,6 +11,10 @@ StartsBelow k [] = Unit {0}
 StartsBelow k (e ∷ es) = (e.lo <ℤ k) × StartsBelow k es
 
 module _ {V : Type 0} where
+  pub more_below : (k j : ℤ) (es : List (Entry V)) → k ≤ℤ j → StartsBelow k es → StartsBelow j es
+  more_below k j [] l h = tt
+  more_below k j (e ∷ es) l h = (omega (arith, ints, h.0), more_below k j es l h.1)
+
   pub below_takes : (k : ℤ) (e : Entry V) (es : List (Entry V)) → e.lo <ℤ k → below k (e ∷ es) ≡ e ∷ below k es
   below_takes k e es l = ap (λ b. cond b (e ∷ below k es) (below k es)) (lt_true e.lo k l)
 

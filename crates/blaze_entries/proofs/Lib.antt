@@ -1,3 +1,4 @@
+pub mod Alike
 pub mod Ascending
 pub mod Changes
 pub mod Halves

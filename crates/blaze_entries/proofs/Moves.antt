@@ -3,12 +3,10 @@ use Rattle.std.proofs.Common.{◌≡◌, ◌+◌, length, ℤ, pos, ◌+ℤ◌, 
 use Rattle.std.specs.Prelude.{IsSome}
 use Rattle.std.specs.Ordering.{int_eq}
 use Rattle.std.proofs.lemmas.Int.{ints}
+use Rattle.blaze_int.proofs.Comparisons.{eq_true}
 use Rattle.blaze_entries.specs.Entries.{Entry, entry}
 use Rattle.blaze_entries.specs.Starts.{StartsAscend, start_at, with_entry, without, with_end_value, IsStartMoved, IsFrontReplaced}
 use Rattle.blaze_entries.proofs.Ascending.{by_order, start_with_entry, start_without, start_with_end_value, length-with_entry, length-without}
-
-eq_self : (k : ℤ) → int_eq k k ≡ true
-eq_self k = by_order k k (λ o p q. absurd (omega (arith, ints))) (λ o p q. q) (λ o p q. absurd (omega (arith, ints)))
 
 module _ {V : Type 0} where
   -- an entry below all others comes first
@@ -40,13 +38,13 @@ module _ {V : Type 0} where
 
   -- the value of what was put in, changed
   set_put : (k h z : ℤ) (u v : V) (es : List (Entry V)) → with_end_value k z v (with_entry (entry k h u) es) ≡ with_entry (entry k z v) es
-  set_put k h z u v [] = rw (eq_self k) refl
+  set_put k h z u v [] = rw (eq_true k k refl) refl
   set_put k h z u v (f ∷ fs) = by_order k f.lo
-      (λ o p q. rw (p, eq_self k) refl)
+      (λ o p q. rw (p, eq_true k k refl) refl)
       (λ o p q. rw (p, q) refl)
       (λ o p q. rw (p, q) (ap (λ l. f ∷ l) (set_put k h z u v fs)))
 
-  absent_next : (k : ℤ) (f : Entry V) (fs : List (Entry V)) → int_eq k f.lo ≡ false → start_at k (f ∷ fs) ≡ None → start_at k fs ≡ None
+  pub absent_next : (k : ℤ) (f : Entry V) (fs : List (Entry V)) → int_eq k f.lo ≡ false → start_at k (f ∷ fs) ≡ None → start_at k fs ≡ None
   absent_next k f fs q n = rw q at n
 
   not_first : (k : ℤ) (f : Entry V) (fs : List (Entry V)) → int_eq k f.lo ≡ true → start_at k (f ∷ fs) ≡ None → ⊥
@@ -56,9 +54,9 @@ module _ {V : Type 0} where
   module _ (k s h z : ℤ) (u w : V) (n : int_eq k s ≡ false) where
     set_behind_without : (b high : ℤ) (es : List (Entry V)) → StartsAscend b high es → start_at s es ≡ None
         → with_end_value s z w (without k (with_entry (entry s h u) es)) ≡ with_entry (entry s z w) (without k es)
-    set_behind_without b high [] a m = rw (n, eq_self s) refl
+    set_behind_without b high [] a m = rw (n, eq_true s s refl) refl
     set_behind_without b high (f ∷ fs) a m = by_order s f.lo
-        (λ o p q. rw (p, n, eq_self s) (sym (with_entry-first (entry s z w) f.lo high (without k (f ∷ fs)) o (start_without f.lo high k (f ∷ fs) (omega (arith, ints), a.1, a.2)))))
+        (λ o p q. rw (p, n, eq_true s s refl) (sym (with_entry-first (entry s z w) f.lo high (without k (f ∷ fs)) o (start_without f.lo high k (f ∷ fs) (omega (arith, ints), a.1, a.2)))))
         (λ o p q. absurd (not_first s f fs q m))
         (λ o p q. rw p (by_order k f.lo
         (λ o2 p2 q2. rw (q2, q, p) (ap (λ l. f ∷ l) (set_behind_without (f.lo +ℤ pos 1) high fs a.2 (absent_next s f fs q m))))
@@ -68,9 +66,9 @@ module _ {V : Type 0} where
     -- put in, another changed, and filled
     set_behind_change : (y : ℤ) (v : V) (b high : ℤ) (es : List (Entry V)) → StartsAscend b high es → start_at s es ≡ None
         → with_end_value s z w (with_end_value k y v (with_entry (entry s h u) es)) ≡ with_entry (entry s z w) (with_end_value k y v es)
-    set_behind_change y v b high [] a m = rw (n, eq_self s) refl
+    set_behind_change y v b high [] a m = rw (n, eq_true s s refl) refl
     set_behind_change y v b high (f ∷ fs) a m = by_order s f.lo
-        (λ o p q. rw (p, n, eq_self s) (sym (with_entry-first (entry s z w) f.lo high (with_end_value k y v (f ∷ fs)) o (start_with_end_value f.lo high k y v (f ∷ fs) (omega (arith, ints), a.1, a.2)))))
+        (λ o p q. rw (p, n, eq_true s s refl) (sym (with_entry-first (entry s z w) f.lo high (with_end_value k y v (f ∷ fs)) o (start_with_end_value f.lo high k y v (f ∷ fs) (omega (arith, ints), a.1, a.2)))))
         (λ o p q. absurd (not_first s f fs q m))
         (λ o p q. rw p (by_order k f.lo
         (λ o2 p2 q2. rw (q2, q, p) (ap (λ l. f ∷ l) (set_behind_change y v (f.lo +ℤ pos 1) high fs a.2 (absent_next s f fs q m))))
@@ -146,7 +144,7 @@ module _ {V : Type 0} where
       (λ o2 p2 q2. rw (q2, q) (absent_next s e es q n))
       (λ o2 p2 q2. rw (q2, q) (start_at-with_end_value k y s v es (absent_next s e es q n))))
 
-  length-with_end_value : (k y : ℤ) (v : V) (es : List (Entry V)) → length (with_end_value k y v es) ≡ length es
+  pub length-with_end_value : (k y : ℤ) (v : V) (es : List (Entry V)) → length (with_end_value k y v es) ≡ length es
   length-with_end_value k y v [] = refl
   length-with_end_value k y v (e ∷ es) =
       elim (int_eq k e.lo) as (λ b. length (cond b (entry e.lo y v ∷ es) (e ∷ with_end_value k y v es)) ≡ length (e ∷ es)) [

@@ -24,7 +24,7 @@ impl Count {
     }
 
     /// One step more.
-    pub fn after(&self) -> Count
+    pub fn one_more(&self) -> Count
         ensures { result.number ≡ self.now.number + 1 }
     {
         Count { seal: () }

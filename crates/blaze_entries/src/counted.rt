@@ -118,7 +118,7 @@ impl<T: Integer, V> Counted<T, V> {
             ≡ option_map range_in (last_below (T.rank key +ℤ pos 1) self.old.entries) }
         ensures looked { self.new ≡ record self.old { looks = self.old.looks + 1 } }
     {
-        self.looks = self.looks.after();
+        self.looks = self.looks.one_more();
         range_of(node_at_or_below(&self.tree, key))
     }
 
@@ -128,7 +128,7 @@ impl<T: Integer, V> Counted<T, V> {
             ≡ option_map range_in (first_from (T.rank key) self.old.entries) }
         ensures looked { self.new ≡ record self.old { looks = self.old.looks + 1 } }
     {
-        self.looks = self.looks.after();
+        self.looks = self.looks.one_more();
         range_of(node_at_or_above(&self.tree, key))
     }
 
@@ -207,7 +207,7 @@ impl<T: Integer, V: Drop> Counted<T, V> {
         replace(&mut self.tree, start, EndValue { end, value });
     }
 
-    /// Puts an entry in, at a start where none is.
+    /// Puts an entry in, at a start where none is. Refused memory leaves the entries.
     pub fn insert(&mut self, start: T, end: T, value: V) -> Result<(), AllocError>
         requires { start_at (T.rank start) self.old.entries ≡ None }
         ensures ok { OnOk result (self.new
@@ -220,7 +220,7 @@ impl<T: Integer, V: Drop> Counted<T, V> {
         ensures err { OnErr result (self.new ≡ self.old) }
     {
         self.insert_uncounted(start, end, value)?;
-        self.put_in = self.put_in.after();
+        self.put_in = self.put_in.one_more();
         Ok(())
     }
 
@@ -253,7 +253,7 @@ impl<T: Integer, V: Drop> Counted<T, V> {
             ≡ Some result }
         ensures shorter { length self.new.entries + 1 ≡ length self.old.entries }
     {
-        self.taken_out = self.taken_out.after();
+        self.taken_out = self.taken_out.one_more();
         self.remove_uncounted(start)
     }
 
@@ -269,7 +269,7 @@ impl<T: Integer, V: Drop> Counted<T, V> {
         value_of(remove(&mut self.tree, start))
     }
 
-    /// Moves the entry at a start to another start, where none is, with its end and value.
+    /// Moves the entry at a start to another start, where none is, with its end and value. Refused memory leaves it.
     pub fn move_start(&mut self, from: T, to: T) -> Result<(), AllocError>
         requires present { IsSome (start_at (T.rank from) self.old.entries) }
         requires absent { start_at (T.rank to) self.old.entries ≡ None }
@@ -290,13 +290,13 @@ impl<T: Integer, V: Drop> Counted<T, V> {
             value: None,
         };
         move_node(&mut self.tree, from, to, place)?;
-        self.put_in = self.put_in.after();
-        self.taken_out = self.taken_out.after();
+        self.put_in = self.put_in.one_more();
+        self.taken_out = self.taken_out.one_more();
         Ok(())
     }
 
     /// Replaces the front of the entry at a start: it has another end and value, and what it had is an entry from another
-    /// start on, where none is.
+    /// start on, where none is. Refused memory leaves the entries.
     pub fn replace_front(&mut self, start: T, end: T, value: V, to: T) -> Result<(), AllocError>
         requires present { IsSome (start_at (T.rank start) self.old.entries) }
         requires absent { start_at (T.rank to) self.old.entries ≡ None }
@@ -315,7 +315,7 @@ impl<T: Integer, V: Drop> Counted<T, V> {
             value: None,
         };
         replace_front(&mut self.tree, start, EndValue { end, value }, to, place)?;
-        self.put_in = self.put_in.after();
+        self.put_in = self.put_in.one_more();
         Ok(())
     }
 }
@@ -327,7 +327,7 @@ impl<T: Integer, V: Eq> Counted<T, V> {
             ≡ option_map (found_in V.eq value.now) (last_below (T.rank key) self.old.entries) }
         ensures looked { self.new ≡ record self.old { looks = self.old.looks + 1 } }
     {
-        self.looks = self.looks.after();
+        self.looks = self.looks.one_more();
         found(node_below(&self.tree, key), value)
     }
 
@@ -338,7 +338,7 @@ impl<T: Integer, V: Eq> Counted<T, V> {
             (last_below (T.rank key +ℤ pos 1) self.old.entries) }
         ensures looked { self.new ≡ record self.old { looks = self.old.looks + 1 } }
     {
-        self.looks = self.looks.after();
+        self.looks = self.looks.one_more();
         found(node_at_or_below(&self.tree, key), value)
     }
 
@@ -348,7 +348,7 @@ impl<T: Integer, V: Eq> Counted<T, V> {
             ≡ option_map (found_in V.eq value.now) (first_from (T.rank key) self.old.entries) }
         ensures looked { self.new ≡ record self.old { looks = self.old.looks + 1 } }
     {
-        self.looks = self.looks.after();
+        self.looks = self.looks.one_more();
         found(node_at_or_above(&self.tree, key), value)
     }
 }
@@ -382,7 +382,7 @@ impl<T: Integer, V: Eq> Counted<T, V> {
 }
 
 impl<T: Integer, V: Clone> Counted<T, V> {
-    /// A clone of the value of the entry at a start.
+    /// A clone of the value of the entry at a start. Refused memory leaves the entries.
     pub fn clone_value(&mut self, start: T) -> Result<V, AllocError>
         requires { IsSome (start_at (T.rank start) self.old.entries) }
         ensures value { IfOk result
@@ -390,7 +390,7 @@ impl<T: Integer, V: Clone> Counted<T, V> {
             (λ e. V.is_clone e.value value)) }
         ensures looked { self.new ≡ record self.old { looks = self.old.looks + 1 } }
     {
-        self.looks = self.looks.after();
+        self.looks = self.looks.one_more();
         let node = cloned(node_at(&self.tree, start))?;
         Ok(node.value)
     }
@@ -409,7 +409,7 @@ impl<T: Integer, V: Clone> Counted<T, V> {
         ensures err { OnErr result (self.new ≡ self.old) }
     {
         let value = set_end_cloned(&mut self.tree, start, end)?;
-        self.looks = self.looks.after();
+        self.looks = self.looks.one_more();
         Ok(value)
     }
 }

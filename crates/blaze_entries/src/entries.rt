@@ -138,7 +138,7 @@ impl<T: Integer, V> Entries<T, V> {
         self.counted.set_end(start, end);
     }
 
-    /// Keeps the entries that start below a key, and answers the others.
+    /// Keeps the entries that start below a key, and answers the others. Refused memory leaves the entries.
     pub fn split_off(&mut self, key: T) -> Result<Self, AllocError>
         ensures below { OnOk result (self.new
             ≡ record self.old { entries = below (T.rank key) self.old.entries }) }
@@ -205,7 +205,7 @@ impl<T: Integer, V: Drop> Entries<T, V> {
 
 impl<T: Integer, V: Clone + Drop> Entries<T, V> {
     /// Puts an entry in that starts at `start`, where none is, ends where the entry at `of` ends and has a clone of its
-    /// value. It is not counted.
+    /// value. It is not counted. Refused memory leaves the entries.
     pub fn insert_clone(&mut self, of: T, start: T) -> Result<(), AllocError>
         requires present { IsSome (start_at (T.rank of) self.old.entries) }
         requires absent { start_at (T.rank start) self.old.entries ≡ None }

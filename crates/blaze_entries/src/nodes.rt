@@ -3,7 +3,7 @@ ghost use Rattle.std.specs.BTreeMap.{is_at, get};
 ghost use Rattle.std.specs.Prelude.{◌≡◌, ℤ, pos, ◌+ℤ◌, None, IsSome, IfSome, OnOk, OnErr, IfOk};
 ghost use Rattle.std.specs.Option.{option_map, option_copied};
 ghost use Rattle.blaze_entries.specs.Changed.{changed};
-ghost use Rattle.blaze_entries.specs.Places.{place_of, places, place_lent, place_at};
+ghost use Rattle.blaze_entries.specs.Places.{places, place_lent, place_at};
 ghost use Rattle.blaze_entries.specs.Starts.{StartsAscend, below, from, last_below, first_from};
 ghost use Rattle.blaze_entries.specs.Starts.{start_at, with_entry, without, with_end};
 ghost use Rattle.blaze_entries.specs.Starts.{with_end_value, IsStartMoved, IsFrontReplaced};

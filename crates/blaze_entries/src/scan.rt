@@ -137,7 +137,7 @@ fn next_found<'a, T: Integer, V: Eq>(
     ensures looked { looks.new.number ≡ looks.old.number + 1 }
     ensures shorter { OnSome result (length nodes.new < length nodes.old) }
 {
-    *looks = looks.after();
+    *looks = looks.one_more();
     found(nodes.next_back(), value)
 }
 

@@ -1,5 +1,6 @@
 //! Comparisons of keys, steps between them and lengths, by rank.
 ghost use Rattle.std.specs.Prelude.{◌≡◌, pos, ◌+ℤ◌, ◌-ℤ◌, ◌≤ℤ◌, ◌<ℤ◌, int_le, int_lt};
+ghost use Rattle.std.specs.Int.{int_max, int_min};
 ghost use Rattle.std.specs.Ordering.{int_eq};
 
 use crate::integer::Integer;
@@ -53,6 +54,20 @@ pub fn before<T: Integer>(key: T, below: T) -> T
 {
     below.in_hand();
     key.sub_one()
+}
+
+/// The lesser of two keys.
+pub fn lesser<T: Integer>(a: T, b: T) -> T
+    ensures { T.rank result ≡ int_min (T.rank b) (T.rank a) }
+{
+    if is_below(a, b) { a } else { b }
+}
+
+/// The greater of two keys.
+pub fn greater<T: Integer>(a: T, b: T) -> T
+    ensures { T.rank result ≡ int_max (T.rank b) (T.rank a) }
+{
+    if is_below(a, b) { b } else { a }
 }
 
 /// The length of the range from one key to another, both included, in keys.

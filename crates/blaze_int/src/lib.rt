@@ -3,20 +3,20 @@
 //! No call of this crate takes memory.
 #![tactic(auto)]
 
-pub mod bounds;
+mod bounds;
 mod chars;
 pub mod compare;
-pub mod integer;
-pub mod length;
+mod integer;
+mod length;
 mod lengths;
 mod numbers;
 mod signed;
-pub mod uint_plus_one;
+mod uint_plus_one;
 mod unsigned;
 
 pub use bounds::{bounds_of, names_a_key};
 pub use integer::Integer;
-pub use length::SafeLength;
+pub use length::{SafeLength, differ};
 pub use uint_plus_one::UIntPlusOne;
 
 #[cfg(test)]

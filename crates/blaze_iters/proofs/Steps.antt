@@ -5,10 +5,11 @@ use Rattle.std.specs.Prelude.{option_map}
 use Rattle.std.specs.Option.{option_to_list}
 use Rattle.std.specs.Iterator.{MakesProgress, item_count}
 use Rattle.std.proofs.lemmas.Int.{ints}
+use Rattle.blaze_int.proofs.Naturals.{nat_of-pos}
 use Rattle.blaze_table.specs.Entries.{Entry, entry, shown_entry}
 use Rattle.blaze_table.specs.Canonical.{IsDisjoint, IsClear}
 use Rattle.blaze_table.specs.Pairs.{pairs_from, pairs_of, pair_list}
-use Rattle.blaze_table.proofs.PairLists.{nat_of-pos, pairs_first, pairs_last, pairs_one, pair_list-append}
+use Rattle.blaze_table.proofs.Pairs.PairLists.{pairs_first, pairs_last, pairs_one, pair_list-append}
 use Rattle.blaze_iters.specs.Left.{RangesLeft, ranges_left, pairs_left, seen, OpensFirst, OpensLast, IsRestAfter, IsRestBefore}
 use Rattle.blaze_iters.specs.Owned.{OwnedLeft, owned_ranges, HasSeveralFirst, HasSeveralLast}
 

@@ -78,10 +78,10 @@ impl<T: Integer, V: Eq + Drop> IntoIterMap<T, V> {
         ensures { YieldsOpeningFirst (λ es. es) (λ k. k) (keys_left T.of_rank (λ es. es))
             self.old result self.new }
     {
-        let (lo, hi, value) = take_first(&mut self.front, &mut self.inner, &mut self.back)?;
-        lo.in_hand();
-        self.front = rest_after(lo, hi, value);
-        Some(lo)
+        let (start, end, value) = take_first(&mut self.front, &mut self.inner, &mut self.back)?;
+        start.in_hand();
+        self.front = rest_after(start, end, value);
+        Some(start)
     }
 
     /// Takes the last key that is left, and clones nothing.
@@ -89,10 +89,10 @@ impl<T: Integer, V: Eq + Drop> IntoIterMap<T, V> {
         ensures { YieldsOpeningLast (λ es. es) (λ k. k) (keys_left T.of_rank (λ es. es))
             self.old result self.new }
     {
-        let (lo, hi, value) = take_last(&mut self.front, &mut self.inner, &mut self.back)?;
-        hi.in_hand();
-        self.back = rest_before(lo, hi, value);
-        Some(hi)
+        let (start, end, value) = take_last(&mut self.front, &mut self.inner, &mut self.back)?;
+        end.in_hand();
+        self.back = rest_before(start, end, value);
+        Some(end)
     }
 }
 
@@ -106,16 +106,16 @@ impl<T: Integer, V: Eq + Clone> Iterator for IntoIterMap<T, V> {
     ghost remaining = { item_count (pairs_left T.of_rank (λ es. es)) };
 
     fn next(&mut self) -> Option<Result<(T, V), AllocError>> {
-        let (lo, hi, value) = take_first(&mut self.front, &mut self.inner, &mut self.back)?;
-        lo.in_hand();
-        let next = match second(lo, hi) {
+        let (start, end, value) = take_first(&mut self.front, &mut self.inner, &mut self.back)?;
+        start.in_hand();
+        let next = match second(start, end) {
             Some(next) => next,
-            None => return Some(Ok((lo, value))),
+            None => return Some(Ok((start, value))),
         };
         match value.clone() {
             Ok(copy) => {
-                self.front = Some((next, hi, value));
-                Some(Ok((lo, copy)))
+                self.front = Some((next, end, value));
+                Some(Ok((start, copy)))
             }
             Err(refused) => {
                 self.end();
@@ -142,16 +142,16 @@ impl<T: Integer, V: Eq + Clone> DoubleEndedIterator for IntoIterMap<T, V> {
     ghost next_back_gives = { GivesLast (pairs_left T.of_rank (λ es. es)) (IsLikePair V.eq) };
 
     fn next_back(&mut self) -> Option<Result<(T, V), AllocError>> {
-        let (lo, hi, value) = take_last(&mut self.front, &mut self.inner, &mut self.back)?;
-        hi.in_hand();
-        let previous = match second_last(lo, hi) {
+        let (start, end, value) = take_last(&mut self.front, &mut self.inner, &mut self.back)?;
+        end.in_hand();
+        let previous = match second_last(start, end) {
             Some(previous) => previous,
-            None => return Some(Ok((hi, value))),
+            None => return Some(Ok((end, value))),
         };
         match value.clone() {
             Ok(copy) => {
-                self.back = Some((lo, previous, value));
-                Some(Ok((hi, copy)))
+                self.back = Some((start, previous, value));
+                Some(Ok((end, copy)))
             }
             Err(refused) => {
                 self.end();
@@ -206,7 +206,7 @@ fn take_first<T: Integer, V: Drop>(
         return Some(rest);
     }
     match first_whole(inner) {
-        Some((lo, hi, value)) => Some((lo, hi, value)),
+        Some((start, end, value)) => Some((start, end, value)),
         None => back.take(),
     }
 }
@@ -232,7 +232,7 @@ fn take_last<T: Integer, V: Drop>(
         return Some(rest);
     }
     match last_whole(inner) {
-        Some((lo, hi, value)) => Some((lo, hi, value)),
+        Some((start, end, value)) => Some((start, end, value)),
         None => front.take(),
     }
 }

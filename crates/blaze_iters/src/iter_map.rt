@@ -83,8 +83,8 @@ fn take_first<T: Integer, VC: ValueCarrier, I: SortedDisjointMap<T, VC>>(
     inner.in_hand();
     match inner.next() {
         Some((range, value)) => {
-            let (lo, hi) = range.into_inner();
-            Some((lo, hi, value))
+            let (start, end) = range.into_inner();
+            Some((start, end, value))
         }
         None => back.take(),
     }
@@ -100,10 +100,10 @@ impl<T: Integer, VC: ValueCarrier + Copy, I: SortedDisjointMap<T, VC>> Iterator
     ghost remaining = { item_count (pairs_left T.of_rank I.left) };
 
     fn next(&mut self) -> Option<(T, VC)> {
-        let (lo, hi, value) = take_first(&mut self.front, &mut self.inner, &mut self.back)?;
-        lo.in_hand();
-        self.front = rest_after(lo, hi, value);
-        Some((lo, value))
+        let (start, end, value) = take_first(&mut self.front, &mut self.inner, &mut self.back)?;
+        start.in_hand();
+        self.front = rest_after(start, end, value);
+        Some((start, value))
     }
 
     /// At least as many keys are left as the ranges that no call has opened: the lower bound of the stream's.
@@ -139,8 +139,8 @@ fn take_last<T: Integer, VC: ValueCarrier, I: BothEnds<T, VC>>(
     inner.in_hand();
     match inner.next_back() {
         Some((range, value)) => {
-            let (lo, hi) = range.into_inner();
-            Some((lo, hi, value))
+            let (start, end) = range.into_inner();
+            Some((start, end, value))
         }
         None => front.take(),
     }
@@ -152,10 +152,10 @@ impl<T: Integer, VC: ValueCarrier + Copy, I: BothEnds<T, VC>> DoubleEndedIterato
         (pairs_left T.of_rank I.left) };
 
     fn next_back(&mut self) -> Option<(T, VC)> {
-        let (lo, hi, value) = take_last(&mut self.front, &mut self.inner, &mut self.back)?;
-        hi.in_hand();
-        self.back = rest_before(lo, hi, value);
-        Some((hi, value))
+        let (start, end, value) = take_last(&mut self.front, &mut self.inner, &mut self.back)?;
+        end.in_hand();
+        self.back = rest_before(start, end, value);
+        Some((end, value))
     }
 }
 

@@ -6,41 +6,41 @@ use blaze_int::Integer;
 use blaze_int::compare::{after, before, is_below};
 
 /// The key after the first of a range, where it has one.
-pub(crate) fn second<T: Integer>(lo: T, hi: T) -> Option<T>
-    requires { T.rank lo ≤ℤ T.rank hi }
-    ensures { IsSecond T.rank lo hi result }
+pub(crate) fn second<T: Integer>(start: T, end: T) -> Option<T>
+    requires { T.rank start ≤ℤ T.rank end }
+    ensures { IsSecond T.rank start end result }
 {
-    if is_below(lo, hi) {
-        Some(after(lo, hi))
+    if is_below(start, end) {
+        Some(after(start, end))
     } else {
         None
     }
 }
 
 /// The key before the last of a range, where it has one.
-pub(crate) fn second_last<T: Integer>(lo: T, hi: T) -> Option<T>
-    requires { T.rank lo ≤ℤ T.rank hi }
-    ensures { IsSecondLast T.rank lo hi result }
+pub(crate) fn second_last<T: Integer>(start: T, end: T) -> Option<T>
+    requires { T.rank start ≤ℤ T.rank end }
+    ensures { IsSecondLast T.rank start end result }
 {
-    if is_below(lo, hi) {
-        Some(before(hi, lo))
+    if is_below(start, end) {
+        Some(before(end, start))
     } else {
         None
     }
 }
 
 /// What is left of a range with its value once the first key is taken.
-pub(crate) fn rest_after<T: Integer, R: Drop>(lo: T, hi: T, value: R) -> Option<(T, T, R)>
-    requires { T.rank lo ≤ℤ T.rank hi }
-    ensures { IsRestAfter T.rank (lo, hi, value) result }
+pub(crate) fn rest_after<T: Integer, R: Drop>(start: T, end: T, value: R) -> Option<(T, T, R)>
+    requires { T.rank start ≤ℤ T.rank end }
+    ensures { IsRestAfter T.rank (start, end, value) result }
 {
-    Some((second(lo, hi)?, hi, value))
+    Some((second(start, end)?, end, value))
 }
 
 /// What is left of a range with its value once the last key is taken.
-pub(crate) fn rest_before<T: Integer, R: Drop>(lo: T, hi: T, value: R) -> Option<(T, T, R)>
-    requires { T.rank lo ≤ℤ T.rank hi }
-    ensures { IsRestBefore T.rank (lo, hi, value) result }
+pub(crate) fn rest_before<T: Integer, R: Drop>(start: T, end: T, value: R) -> Option<(T, T, R)>
+    requires { T.rank start ≤ℤ T.rank end }
+    ensures { IsRestBefore T.rank (start, end, value) result }
 {
-    Some((lo, second_last(lo, hi)?, value))
+    Some((start, second_last(start, end)?, value))
 }

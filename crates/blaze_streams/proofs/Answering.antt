@@ -1,31 +1,23 @@
 -- What a closure answered so far at the entries of a list, and one answer more.
 use Rattle.std.specs.Option.{option_or}
-use Rattle.std.proofs.Common.{◌≡◌, ℤ, pos, ◌+ℤ◌, ◌-ℤ◌, Bool, true, false, cond, List, [], ◌∷◌, ◌++◌, Option, Some, length, map, refl, ◌∙◌, sym, ap, subst, append_assoc, arith}
+use Rattle.std.proofs.Common.{◌≡◌, ℤ, pos, ◌+ℤ◌, ◌-ℤ◌, Bool, List, [], ◌∷◌, ◌++◌, Some, length, map, refl, ◌∙◌, sym, ap, subst, append_assoc, arith}
 use Rattle.std.specs.List.{FoldsTo, zip}
 use Rattle.std.specs.Fn.{Mut}
 use Rattle.std.specs.Cmp.{IsEquivalence}
 use Rattle.std.proofs.lemmas.Fn.{FoldsTo-push}
 use Rattle.std.proofs.lemmas.Int.{ints}
 use Rattle.std.proofs.lemmas.List.{map-append, append-nil}
-use Rattle.blaze_table.specs.Entries.{Entry, entry, at, holds, SameOption}
+use Rattle.blaze_entries.proofs.Alike.{same_along, same_trans, same_or_left}
+use Rattle.blaze_table.specs.Entries.{Entry, entry, at, SameOption}
 use Rattle.blaze_table.specs.Canonical.{IsCanonical, IsRangeMap, AreKeys}
 use Rattle.blaze_table.specs.Splice.{glue, IsBelow}
-use Rattle.blaze_table.proofs.Counted.{are_keys_glue}
-use Rattle.blaze_table.proofs.Runs.{canonical, one_per_run}
-use Rattle.blaze_table.proofs.Splices.{canonical_glue, at_glue, below_glue, below_more}
-use Rattle.blaze_table.proofs.Unique.{same_along, same_trans}
+use Rattle.blaze_table.proofs.Canonical.Counted.{are_keys_glue}
+use Rattle.blaze_table.proofs.Canonical.Runs.{canonical, one_per_run}
+use Rattle.blaze_table.proofs.Paints.Splices.{canonical_glue, at_glue, below_glue, below_more}
+use Rattle.blaze_table.proofs.Canonical.Lookup.{at_append}
 use Rattle.blaze_streams.specs.Answers.{values, answered, AnswersAt, SomeCallAt, TakesValue, IsCallableAtEach, IsTransformed}
 use Rattle.blaze_streams.specs.Cursors.{first_key}
-use Rattle.blaze_streams.proofs.ChosenSoFar.{same_or_left}
 use Rattle.blaze_streams.proofs.Steady.{same_some}
-
-at_push : {V : Type 0} (P : List (Entry V)) (p : Entry V) (k : ℤ) → at (P ++ p ∷ []) k ≡ option_or (at P k) (at (p ∷ []) k)
-at_push [] p k = refl
-at_push (e ∷ es) p k = either (holds e k) e.value (at (es ++ p ∷ []) k) (at es k) (at (p ∷ []) k) (at_push es p k)
-  where
-    either : {V : Type 0} (b : Bool) (v : V) (x y z : Option V) → x ≡ option_or y z → cond b (Some v) x ≡ option_or (cond b (Some v) y) z
-    either true v x y z e = refl
-    either false v x y z e = e
 
 -- the entries of calls, each with its answer
 abbrev pub asked : {V W : Type 0} → List (Entry V × W) → List (Entry V)
@@ -117,7 +109,7 @@ module _ {F A V W : Type 0} (shows : A → V) (g : Mut F A W) where
             canonical = rw pushed (canonical_glue eq laws (e.lo -ℤ pos 1) out piece h.canonical (c.0, tt, tt) (below_more e.lo (e.lo -ℤ pos 1 +ℤ pos 1) out (omega (arith, ints)) below) (omega (arith, ints)));
             keys = rw pushed (are_keys_glue eq low high out piece h.keys (keys.0, keys.1, tt));
             under = λ s p. rw pushed (under_more e w out others s c below p);
-            content = λ k. rw (pushed, map-append with_answer h.calls ((e, w) ∷ []), at_push (map with_answer h.calls) (entry e.lo e.hi w) k)
+            content = λ k. rw (pushed, map-append with_answer h.calls ((e, w) ∷ []), at_append (map with_answer h.calls) (entry e.lo e.hi w ∷ []) k)
                 (same_trans eq laws _ (option_or (at out k) (at piece k)) _
                 (at_glue eq laws out piece k h.canonical (c.0, tt, tt))
                 (same_or_left eq laws (at out k) (at (map with_answer h.calls) k) (at piece k) (h.content k)));

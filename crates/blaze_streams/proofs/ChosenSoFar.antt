@@ -3,31 +3,20 @@ use Rattle.std.specs.Option.{option_or}
 use Rattle.std.proofs.Common.{◌≡◌, ℤ, pos, ◌+ℤ◌, ◌-ℤ◌, ◌≤ℤ◌, ◌<ℤ◌, Bool, List, [], ◌∷◌, Option, Some, None, refl, ◌∙◌, sym, ap, arith, ⊎_elim}
 use Rattle.std.specs.Cmp.{IsEquivalence}
 use Rattle.std.proofs.lemmas.Int.{ints, by_lt_z}
+use Rattle.blaze_entries.proofs.Alike.{same_along, same_itself, same_trans, same_or_left, same_or_right, same_back, or_assoc, or_none, none_or}
 use Rattle.blaze_table.specs.Entries.{Entry, entry, at, SameOption}
 use Rattle.blaze_table.specs.Canonical.{IsCanonical, AreKeys}
 use Rattle.blaze_table.specs.Chosen.{IsChosen}
 use Rattle.blaze_table.specs.Splice.{glue, after, IsBelow}
-use Rattle.blaze_table.proofs.Counted.{are_keys_glue}
-use Rattle.blaze_table.proofs.Lookup.{IsAbove, at_in, at_under, at_over}
-use Rattle.blaze_table.proofs.Painted.{glue-nil}
-use Rattle.blaze_table.proofs.Runs.{one_per_run}
-use Rattle.blaze_table.proofs.Splices.{canonical_glue, at_glue, below_glue, below_more, above_after, at-after_over}
-use Rattle.blaze_table.proofs.Unique.{same_along, same_itself, same_trans}
+use Rattle.blaze_table.proofs.Canonical.Counted.{are_keys_glue}
+use Rattle.blaze_table.proofs.Canonical.Lookup.{IsAbove, at_in, at_under, at_over}
+use Rattle.blaze_table.proofs.Paints.Painted.{glue-nil}
+use Rattle.blaze_table.proofs.Canonical.Runs.{one_per_run}
+use Rattle.blaze_table.proofs.Paints.Splices.{canonical_glue, at_glue, below_glue, below_more, above_after, at-after_over}
 use Rattle.blaze_streams.specs.Choosing.{IsTaken, PutsValue, IsChoiceMade}
 use Rattle.blaze_streams.specs.Cursors.{first_key, IsFrom, lesser}
 use Rattle.blaze_streams.proofs.Steady.{same_some, from_first, at_below_from, at-after_under}
 use Rattle.blaze_streams.proofs.Lesser.{at_most_both, at_most_itself, lesser_one, some_lesser}
-
-or_assoc : {V : Type 0} (x y z : Option V) → option_or (option_or x y) z ≡ option_or x (option_or y z)
-or_assoc None y z = refl
-or_assoc (Some v) y z = refl
-
-none_or : {V : Type 0} (x : Option V) → option_or None x ≡ x
-none_or x = refl
-
-or_none : {V : Type 0} (x : Option V) → option_or x None ≡ x
-or_none None = refl
-or_none (Some v) = refl
 
 -- a list without a first key has nothing
 pub none_there : {A : Type 0} (es : List (Entry A)) (k : ℤ) → first_key es ≡ None → at es k ≡ None
@@ -52,22 +41,6 @@ module _ {A B : Type 0} where
   both_from s L R starts = let m = at_most_both (first_key L) (first_key R) s (at_most_itself _ s starts) in (from_first s L m.0, from_first s R m.1)
 
 module _ {V : Type 0} (eq : V → V → Bool) (laws : IsEquivalence eq) where
-  pub same_or_left : (a b z : Option V) → SameOption eq a b → SameOption eq (option_or a z) (option_or b z)
-  same_or_left None None z s = same_itself eq laws z
-  same_or_left None (Some y) z s = absurd s
-  same_or_left (Some x) None z s = absurd s
-  same_or_left (Some x) (Some y) z s = s
-
-  same_or_right : (a x y : Option V) → SameOption eq x y → SameOption eq (option_or a x) (option_or a y)
-  same_or_right None x y s = s
-  same_or_right (Some v) x y s = laws.refl v
-
-  same_back : (a b : Option V) → SameOption eq a b → SameOption eq b a
-  same_back None None s = tt
-  same_back None (Some y) s = absurd s
-  same_back (Some x) None s = absurd s
-  same_back (Some x) (Some y) s = laws.symm y x ∙ s
-
   -- nothing before what is the same
   nothing_before : (a b c : Option V) → a ≡ None → b ≡ c → SameOption eq (option_or a b) c
   nothing_before a b c p q = same_along eq (sym (ap (λ z. option_or z b) p ∙ none_or b ∙ q)) refl (same_itself eq laws c)

@@ -4,7 +4,7 @@ use Rattle.std.proofs.lemmas.Int.{ints, by_lt_z}
 use Rattle.blaze_table.specs.Entries.{Entry}
 use Rattle.blaze_table.specs.Canonical.{IsCanonical}
 use Rattle.blaze_table.specs.Splice.{after}
-use Rattle.blaze_table.proofs.Splices.{after_keeps}
+use Rattle.blaze_table.proofs.Paints.Splices.{after_keeps}
 use Rattle.blaze_streams.specs.Choosing.{IsChoiceMade}
 use Rattle.blaze_streams.specs.Cursors.{first_key, lesser}
 use Rattle.blaze_streams.proofs.LengthsLeft.{lengths_left, all_less}

@@ -7,10 +7,10 @@ use Rattle.std.proofs.lemmas.Int.{ints}
 use Rattle.std.proofs.lemmas.List.{map-append}
 use Rattle.blaze_table.specs.Entries.{Entry, entry, at}
 use Rattle.blaze_table.specs.Canonical.{IsApart, IsCanonical, AreKeys, IsRangeMap}
-use Rattle.blaze_table.proofs.Lookup.{IsAbove, IsAbove-from_apart, at_in, at_under, at_over, at_before, by_place}
-use Rattle.blaze_table.proofs.Runs.{canonical, one_per_run}
-use Rattle.blaze_streams.specs.Fills.{with_none, none_before, filled, IsFilled}
-use Rattle.blaze_streams.proofs.GapLists.{by_gap, above_low}
+use Rattle.blaze_table.proofs.Canonical.Lookup.{IsAbove, IsAbove-from_apart, at_in, at_under, at_over, at_before, by_place, above_low, above_rest}
+use Rattle.blaze_table.proofs.Canonical.Runs.{canonical, one_per_run}
+use Rattle.blaze_streams.specs.Fills.{with_none, none_before, filled_entries, IsFilled}
+use Rattle.blaze_streams.proofs.GapLists.{by_gap}
 
 module _ {V : Type 0} (eq : V → V → Bool) (high : ℤ) where
   -- what a gap and the list after it are, by whether the gap has keys
@@ -21,50 +21,47 @@ module _ {V : Type 0} (eq : V → V → Bool) (high : ℤ) where
   some_of : Entry V → Entry (Option V)
   some_of e = entry e.lo e.hi (Some e.value)
 
-  rest_above : (b : ℤ) (e : Entry V) (es : List (Entry V)) → IsCanonical eq (e ∷ es) → b ≡ e.hi → IsAbove b es
-  rest_above b e es c p = subst (λ z. IsAbove z es) (sym p) (IsAbove-from_apart eq e es c.1)
-
   rest : (e : Entry V) (es : List (Entry V)) → IsCanonical eq (e ∷ es) → IsAbove (e.hi +ℤ pos 1 -ℤ pos 1) es
-  rest e es c = rest_above (e.hi +ℤ pos 1 -ℤ pos 1) e es c (omega (arith, ints))
+  rest e es c = above_rest eq (e.hi +ℤ pos 1 -ℤ pos 1) e es (omega (arith, ints)) c
 
-  above_filled : (n : ℤ) (es : List (Entry V)) → IsAbove (n -ℤ pos 1) es → IsAbove (n -ℤ pos 1) (filled n high es)
+  above_filled : (n : ℤ) (es : List (Entry V)) → IsAbove (n -ℤ pos 1) es → IsAbove (n -ℤ pos 1) (filled_entries n high es)
   above_filled n [] a = by_none (IsAbove (n -ℤ pos 1)) n (high +ℤ pos 1) (λ h. omega (arith, ints)) (λ h. tt)
-  above_filled n (e ∷ es) a = by_none (λ G. IsAbove (n -ℤ pos 1) (G ++ entry e.lo e.hi (Some e.value) ∷ filled (e.hi +ℤ pos 1) high es)) n e.lo
+  above_filled n (e ∷ es) a = by_none (λ G. IsAbove (n -ℤ pos 1) (G ++ entry e.lo e.hi (Some e.value) ∷ filled_entries (e.hi +ℤ pos 1) high es)) n e.lo
       (λ h. omega (arith, ints))
       (λ h. a)
 
   -- an entry is apart from what is filled right above it
-  apart_filled : (e : Entry V) (es : List (Entry V)) → IsApart eq e es → IsApart (option_eq eq) (entry e.lo e.hi (Some e.value)) (filled (e.hi +ℤ pos 1) high es)
+  apart_filled : (e : Entry V) (es : List (Entry V)) → IsApart eq e es → IsApart (option_eq eq) (entry e.lo e.hi (Some e.value)) (filled_entries (e.hi +ℤ pos 1) high es)
   apart_filled e [] a = by_none (IsApart (option_eq eq) (entry e.lo e.hi (Some e.value))) (e.hi +ℤ pos 1) (high +ℤ pos 1)
       (λ h. (omega (arith, ints), λ p. refl))
       (λ h. tt)
-  apart_filled e (d ∷ ds) a = by_none (λ G. IsApart (option_eq eq) (entry e.lo e.hi (Some e.value)) (G ++ entry d.lo d.hi (Some d.value) ∷ filled (d.hi +ℤ pos 1) high ds)) (e.hi +ℤ pos 1) d.lo
+  apart_filled e (d ∷ ds) a = by_none (λ G. IsApart (option_eq eq) (entry e.lo e.hi (Some e.value)) (G ++ entry d.lo d.hi (Some d.value) ∷ filled_entries (d.hi +ℤ pos 1) high ds)) (e.hi +ℤ pos 1) d.lo
       (λ h. (omega (arith, ints), λ p. refl))
       (λ h. a)
 
-  canonical_filled : (n : ℤ) (es : List (Entry V)) → IsCanonical eq es → IsAbove (n -ℤ pos 1) es → IsCanonical (option_eq eq) (filled n high es)
+  canonical_filled : (n : ℤ) (es : List (Entry V)) → IsCanonical eq es → IsAbove (n -ℤ pos 1) es → IsCanonical (option_eq eq) (filled_entries n high es)
   canonical_filled n [] c a = by_none (IsCanonical (option_eq eq)) n (high +ℤ pos 1) (λ h. (omega (arith, ints), tt, tt)) (λ h. tt)
   canonical_filled n (e ∷ es) c a =
       let more = canonical_filled (e.hi +ℤ pos 1) es c.2 (rest e es c) in
-      by_none (λ G. IsCanonical (option_eq eq) (G ++ entry e.lo e.hi (Some e.value) ∷ filled (e.hi +ℤ pos 1) high es)) n e.lo
+      by_none (λ G. IsCanonical (option_eq eq) (G ++ entry e.lo e.hi (Some e.value) ∷ filled_entries (e.hi +ℤ pos 1) high es)) n e.lo
       (λ h. (omega (arith, ints), (omega (arith, ints), λ p. refl), (c.0, apart_filled e es c.1, more)))
       (λ h. (c.0, apart_filled e es c.1, more))
 
-  keys_filled : (low n : ℤ) (es : List (Entry V)) → low ≤ℤ n → IsCanonical eq es → AreKeys low high es → AreKeys low high (filled n high es)
+  keys_filled : (low n : ℤ) (es : List (Entry V)) → low ≤ℤ n → IsCanonical eq es → AreKeys low high es → AreKeys low high (filled_entries n high es)
   keys_filled low n [] l c k = by_none (AreKeys low high) n (high +ℤ pos 1) (λ h. (l, omega (arith, ints), tt)) (λ h. tt)
   keys_filled low n (e ∷ es) l c k =
       let more = keys_filled low (e.hi +ℤ pos 1) es (omega (arith, ints, c.0, k.0)) c.2 k.2 in
-      by_none (λ G. AreKeys low high (G ++ entry e.lo e.hi (Some e.value) ∷ filled (e.hi +ℤ pos 1) high es)) n e.lo
+      by_none (λ G. AreKeys low high (G ++ entry e.lo e.hi (Some e.value) ∷ filled_entries (e.hi +ℤ pos 1) high es)) n e.lo
       (λ h. (l, omega (arith, ints, c.0, k.1), (k.0, k.1, more)))
       (λ h. (k.0, k.1, more))
 
-  at_filled : (n : ℤ) (es : List (Entry V)) (k : ℤ) → IsCanonical eq es → IsAbove (n -ℤ pos 1) es → n ≤ℤ k → k ≤ℤ high → at (filled n high es) k ≡ Some (at es k)
+  at_filled : (n : ℤ) (es : List (Entry V)) (k : ℤ) → IsCanonical eq es → IsAbove (n -ℤ pos 1) es → n ≤ℤ k → k ≤ℤ high → at (filled_entries n high es) k ≡ Some (at es k)
   at_filled n [] k c a l u = by_none (λ G. at G k ≡ Some None) n (high +ℤ pos 1)
       (λ h. at_in (entry n (high +ℤ pos 1 -ℤ pos 1) None) [] k l (omega (arith, ints)))
       (λ h. absurd (omega (arith, ints, l, u)))
   at_filled n (e ∷ es) k c a l u =
       let f = entry e.lo e.hi (Some e.value) in
-      let more = filled (e.hi +ℤ pos 1) high es in
+      let more = filled_entries (e.hi +ℤ pos 1) high es in
       let P : List (Entry (Option V)) → Type 0 = λ G. at (G ++ f ∷ more) k ≡ Some (at (e ∷ es) k) in
       by_place e k
       (λ i j.
@@ -83,28 +80,28 @@ module _ {V : Type 0} (eq : V → V → Bool) (high : ℤ) where
 pub seen_more : {X E : Type 0} (seen : X → E) (new old : List X) (x : X) (e : E) → new ≡ old ++ x ∷ [] → seen x ≡ e → map seen new ≡ map seen old ++ e ∷ []
 seen_more seen new old x e p q = ap (map seen) p ∙ map-append seen old (x ∷ []) ∙ ap (λ z. map seen old ++ z ∷ []) q
 
-module _ {V : Type 0} (high n : ℤ) (old mid new all : List (Entry (Option V))) (left : List (Entry V)) (i : old ++ filled n high left ≡ all) where
-  pub filled_more : (lo hi m : ℤ) (e : Entry V) (others : List (Entry V)) → left ≡ e ∷ others → lo ≡ e.lo → hi ≡ e.hi → mid ≡ old ++ none_before n lo → new ≡ mid ++ entry lo hi (Some e.value) ∷ [] → m ≡ hi +ℤ pos 1 → new ++ filled m high others ≡ all
+module _ {V : Type 0} (high n : ℤ) (old mid new all : List (Entry (Option V))) (left : List (Entry V)) (i : old ++ filled_entries n high left ≡ all) where
+  pub filled_more : (lo hi m : ℤ) (e : Entry V) (others : List (Entry V)) → left ≡ e ∷ others → lo ≡ e.lo → hi ≡ e.hi → mid ≡ old ++ none_before n lo → new ≡ mid ++ entry lo hi (Some e.value) ∷ [] → m ≡ hi +ℤ pos 1 → new ++ filled_entries m high others ≡ all
   filled_more lo hi m e others is starts ends pushed put next =
       let f = entry e.lo e.hi (Some e.value) in
-      let more = filled (e.hi +ℤ pos 1) high others in
-      ap (λ xs. xs ++ filled m high others) (put ∙ ap (λ z. mid ++ entry z hi (Some e.value) ∷ []) starts ∙ ap (λ z. mid ++ entry e.lo z (Some e.value) ∷ []) ends)
-      ∙ ap (λ z. (mid ++ f ∷ []) ++ filled z high others) (next ∙ ap (λ z. z +ℤ pos 1) ends)
+      let more = filled_entries (e.hi +ℤ pos 1) high others in
+      ap (λ xs. xs ++ filled_entries m high others) (put ∙ ap (λ z. mid ++ entry z hi (Some e.value) ∷ []) starts ∙ ap (λ z. mid ++ entry e.lo z (Some e.value) ∷ []) ends)
+      ∙ ap (λ z. (mid ++ f ∷ []) ++ filled_entries z high others) (next ∙ ap (λ z. z +ℤ pos 1) ends)
       ∙ append_assoc mid (f ∷ []) more
       ∙ ap (λ xs. xs ++ f ∷ more) (pushed ∙ ap (λ z. old ++ none_before n z) starts)
       ∙ append_assoc old (none_before n e.lo) (f ∷ more)
-      ∙ ap (λ es. old ++ filled n high es) (sym is) ∙ i
+      ∙ ap (λ es. old ++ filled_entries n high es) (sym is) ∙ i
 
 module _ {V : Type 0} (eq : V → V → Bool) (laws : IsEquivalence eq) (low high : ℤ) (es : List (Entry V)) (r : IsRangeMap eq low high es) where
-  filled_all : IsFilled eq low high es (filled low high es)
+  filled_all : IsFilled eq low high es (filled_entries low high es)
   filled_all =
       let c = canonical eq laws es r.runs in
       let above = above_low low high es r.keys in
       record {
-        range_map = record { runs = one_per_run (option_eq eq) (options_equiv laws) (filled low high es) (canonical_filled eq high low es c above); keys = keys_filled eq high low low es (omega (arith, ints)) c r.keys };
+        range_map = record { runs = one_per_run (option_eq eq) (options_equiv laws) (filled_entries low high es) (canonical_filled eq high low es c above); keys = keys_filled eq high low low es (omega (arith, ints)) c r.keys };
         content = λ k l u. at_filled eq high low es k c above l u;
       }
 
   -- what was made, range by range
-  pub fill_made : (n : ℤ) (old new : List (Entry (Option V))) (left : List (Entry V)) → old ++ filled n high left ≡ filled low high es → left ≡ [] → new ≡ old ++ none_before n (high +ℤ pos 1) → IsFilled eq low high es new
-  fill_made n old new left i is pushed = subst (IsFilled eq low high es) (sym (pushed ∙ ap (λ es. old ++ filled n high es) (sym is) ∙ i)) filled_all
+  pub fill_made : (n : ℤ) (old new : List (Entry (Option V))) (left : List (Entry V)) → old ++ filled_entries n high left ≡ filled_entries low high es → left ≡ [] → new ≡ old ++ none_before n (high +ℤ pos 1) → IsFilled eq low high es new
+  fill_made n old new left i is pushed = subst (IsFilled eq low high es) (sym (pushed ∙ ap (λ es. old ++ filled_entries n high es) (sym is) ∙ i)) filled_all

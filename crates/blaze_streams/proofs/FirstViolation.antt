@@ -4,10 +4,10 @@ use Rattle.std.specs.Prelude.{int_le, int_lt, ◌&&◌, ◌||◌, option_map}
 use Rattle.std.specs.Ordering.{int_eq}
 use Rattle.std.specs.Cmp.{IsEquivalence}
 use Rattle.std.proofs.lemmas.Int.{ints}
-use Rattle.std.proofs.lemmas.Bool.Decides.{Decides-int_eq}
+use Rattle.blaze_int.proofs.Comparisons.{lt_false, le_false, eq_true, eq_holds, and_fails}
 use Rattle.blaze_table.specs.Entries.{Entry}
 use Rattle.blaze_table.specs.Canonical.{IsApart, IsCanonical, IsOnePerRun, AreKeys, IsRangeMap}
-use Rattle.blaze_table.proofs.Runs.{canonical, one_per_run}
+use Rattle.blaze_table.proofs.Canonical.Runs.{canonical, one_per_run}
 use Rattle.blaze_streams.specs.Violations.{violates, ViolatesAfter, IsFirstViolation}
 
 -- ---- tests
@@ -20,27 +20,11 @@ or_second : (a b : Bool) → (a || b) ≡ false → b ≡ false
 or_second true b p = cc
 or_second false b p = p
 
-and_second : (a b : Bool) → (a && b) ≡ false → a ≡ true → b ≡ false
-and_second true b p q = p
-and_second false b p q = cc
-
 none_of : (a b c d : Bool) → a ≡ false → b ≡ false → (c ≡ true → d ≡ false) → (a || (b || (c && d))) ≡ false
 none_of true b c d p q r = cc
 none_of false true c d p q r = cc
 none_of false false true d p q r = r refl
 none_of false false false d p q r = refl
-
-lt_no : (a b : ℤ) → b ≤ℤ a → int_lt a b ≡ false
-lt_no a b h = grind (arith, ints)
-
-le_no : (a b : ℤ) → b <ℤ a → int_le a b ≡ false
-le_no a b h = grind (arith, ints)
-
-eq_yes : (a b : ℤ) → a ≡ b → int_eq a b ≡ true
-eq_yes a b h = (Decides-int_eq a b).1 h
-
-eq_then : (a b : ℤ) → int_eq a b ≡ true → a ≡ b
-eq_then a b h = (Decides-int_eq a b).0 h
 
 -- ---- one step of the search
 
@@ -99,7 +83,7 @@ module _ {V : Type 0} (eq : V → V → Bool) where
       let others = or_second (int_lt e.hi e.lo) _ p in
       let above : int_le e.lo d.hi ≡ false = or_first _ _ others in
       let touching = or_second (int_le e.lo d.hi) _ others in
-      (omega (arith, ints), omega (arith, ints), λ q. and_second (int_eq e.lo (d.hi +ℤ pos 1)) _ touching (eq_yes _ _ q))
+      (omega (arith, ints), omega (arith, ints), λ q. and_fails (int_eq e.lo (d.hi +ℤ pos 1)) _ touching (eq_true _ _ q))
 
   sound : (before : Option (Entry V)) (es : List (Entry V)) → first_violation_after before es ≡ None → Follows before es × IsCanonical eq es
   sound None [] p = (tt, tt)
@@ -120,7 +104,7 @@ module _ {V : Type 0} (eq : V → V → Bool) where
   complete before [] i h f c = h
   complete None (e ∷ es) zero h f c = omega (arith, ints, c.0)
   complete (Some d) (e ∷ es) zero h f c =
-      let n = none_of (int_lt e.hi e.lo) (int_le e.lo d.hi) (int_eq e.lo (d.hi +ℤ pos 1)) (eq d.value e.value) (lt_no _ _ c.0) (le_no _ _ f.0) (λ q. f.1 (eq_then _ _ q)) in
+      let n = none_of (int_lt e.hi e.lo) (int_le e.lo d.hi) (int_eq e.lo (d.hi +ℤ pos 1)) (eq d.value e.value) (lt_false _ _ c.0) (le_false _ _ f.0) (λ q. f.1 (eq_holds _ _ q)) in
       cc (h, n)
   complete before (e ∷ es) (suc i) h f c = complete (Some e) es i h c.1 c.2
 

@@ -6,14 +6,14 @@ use Rattle.std.specs.Cmp.{IsEquivalence, first_so, second_so, nat_eq_equiv}
 use Rattle.std.specs.Cmp.Lexicographic.{lists_equiv, options_equiv}
 use Rattle.std.proofs.lemmas.Bool.{false_from_ne_true}
 use Rattle.std.proofs.lemmas.Int.{ints}
-use Rattle.blaze_table.specs.Entries.{Entry, holds, at, SameOption}
+use Rattle.blaze_entries.proofs.Alike.{same_along, or_none, or_assoc}
+use Rattle.blaze_table.specs.Entries.{Entry, at, SameOption}
 use Rattle.blaze_table.specs.Canonical.{IsCanonical}
 use Rattle.blaze_table.specs.Splice.{IsBelow}
-use Rattle.blaze_table.proofs.Lookup.{at_in, at_under, at_over, by_place}
-use Rattle.blaze_table.proofs.Unique.{same_along}
-use Rattle.blaze_table.proofs.Runs.{one_per_run}
-use Rattle.blaze_table.proofs.Glued.{IsBelow-push}
-use Rattle.blaze_table.proofs.Splices.{below_more}
+use Rattle.blaze_table.proofs.Canonical.Lookup.{at_in, at_under, at_over, by_place, at_append}
+use Rattle.blaze_table.proofs.Canonical.Runs.{one_per_run}
+use Rattle.blaze_table.proofs.Neighbours.Glued.{IsBelow-push}
+use Rattle.blaze_table.proofs.Paints.Splices.{below_more}
 use Rattle.blaze_streams.specs.declared.segmenting.list_segments.Segment.{Segment}
 use Rattle.blaze_streams.specs.Segments.{row, present, row_eq, entry_of, entries_of, IsSegmentsOf}
 use Rattle.blaze_streams.specs.Cursors.{AllCanonical, first_keys, all_after, IsNextSegment}
@@ -27,22 +27,6 @@ entries_more {T} rank new old s e = ap (entries_of rank) e ∙ pushed old
     pushed : (ss : List (Segment T)) → entries_of rank (ss ++ s ∷ []) ≡ entries_of rank ss ++ entry_of rank s ∷ []
     pushed [] = refl
     pushed (x ∷ xs) = ap (λ l. entry_of rank x ∷ l) (pushed xs)
-
-pub at_push : {V : Type 0} (P : List (Entry V)) (p : Entry V) (k : ℤ) → at (P ++ p ∷ []) k ≡ option_or (at P k) (at (p ∷ []) k)
-at_push [] p k = refl
-at_push (e ∷ es) p k = either (holds e k) e.value (at (es ++ p ∷ []) k) (at es k) (at (p ∷ []) k) (at_push es p k)
-  where
-    either : {V : Type 0} (b : Bool) (v : V) (x y z : Option V) → x ≡ option_or y z → cond b (Some v) x ≡ option_or (cond b (Some v) y) z
-    either true v x y z e = refl
-    either false v x y z e = e
-
-pub or_assoc : {V : Type 0} (x y z : Option V) → option_or (option_or x y) z ≡ option_or x (option_or y z)
-or_assoc None y z = refl
-or_assoc (Some v) y z = refl
-
-pub or_none : {V : Type 0} (x : Option V) → option_or x None ≡ x
-or_none None = refl
-or_none (Some v) = refl
 
 pub option_same : {A : Type 0} (eq : A → A → Bool) (x y : Option A) → option_eq eq x y ≡ true → SameOption eq x y
 option_same eq None None h = tt
@@ -68,7 +52,7 @@ module _ {V : Type 0} (eq : V → V → Bool) where
   apart_push (e ∷ f ∷ es) p c h = apart_push (f ∷ es) p c h
 
 module _ {A : Type 0} where
-  absent : (r : List (Option A)) → list_any is_some r ≡ false → present r ≡ None
+  pub absent : (r : List (Option A)) → list_any is_some r ≡ false → present r ≡ None
   absent r p = ap (λ b. cond b (Some r) None) p
 
   there : (r : List (Option A)) → list_any is_some r ≡ true → present r ≡ Some r
@@ -127,7 +111,7 @@ module _ {A : Type 0} where
             left = all_canonical_after eq p.hi Ls s.left;
             canonical = canonical_push (row_eq eq) out p (λ k. present (row Ls k)) s.canonical below n.full s.apart here;
             under = λ t f. let u = firsts_after p.hi t Ls f in IsBelow-push t out p (below_more p.lo t out (omega (arith, ints, n.full)) below) u;
-            content = λ k. s.content k ∙ ap (option_or (at out k)) (next_present Ls p k s.left n) ∙ sym (or_assoc (at out k) (at (p ∷ []) k) (rest k)) ∙ ap (λ z. option_or z (rest k)) (sym (at_push out p k));
+            content = λ k. s.content k ∙ ap (option_or (at out k)) (next_present Ls p k s.left n) ∙ sym (or_assoc (at out k) (at (p ∷ []) k) (rest k)) ∙ ap (λ z. option_or z (rest k)) (sym (at_append out (p ∷ []) k));
             apart = apart_push (row_eq eq) out p rest (next_apart s.left n);
           }
 

@@ -2,15 +2,15 @@
 use Rattle.std.proofs.Common.{◌≡◌, ℤ, pos, ◌+ℤ◌, ◌-ℤ◌, ◌≤ℤ◌, ◌<ℤ◌, Bool, cond, List, [], ◌∷◌, ◌++◌, Option, Some, None, refl, ◌∙◌, sym, ap, subst, append_assoc, arith}
 use Rattle.std.proofs.lemmas.Int.{ints, by_lt_z}
 use Rattle.std.specs.Cmp.{IsEquivalence}
+use Rattle.blaze_int.proofs.Comparisons.{lt_true, lt_false}
+use Rattle.blaze_entries.proofs.Alike.{same_itself}
 use Rattle.blaze_table.specs.Entries.{Entry, entry, at, SameOption}
 use Rattle.blaze_table.specs.Canonical.{IsApart, IsCanonical, AreKeys, IsRangeMap}
 use Rattle.blaze_table.specs.Complement.{absent, IsComplement}
 use Rattle.blaze_table.specs.RangeSets.{unit_eq}
-use Rattle.blaze_table.proofs.Lookup.{IsAbove, IsAbove-from_apart, at_in, at_under, at_over, at_before, by_place}
-use Rattle.blaze_table.proofs.Runs.{canonical, one_per_run}
-use Rattle.blaze_table.proofs.Splices.{lt_true, lt_false}
-use Rattle.blaze_table.proofs.Unique.{same_itself}
-use Rattle.blaze_table.proofs.UnitLaws.{unit_laws}
+use Rattle.blaze_table.proofs.Canonical.Lookup.{IsAbove, IsAbove-from_apart, at_in, at_under, at_over, at_before, by_place, above_low, above_rest}
+use Rattle.blaze_table.proofs.Canonical.Runs.{canonical, one_per_run}
+use Rattle.blaze_table.proofs.Pairs.UnitLaws.{unit_laws}
 use Rattle.blaze_int.specs.Ranked.{IsNextKey}
 use Rattle.blaze_streams.specs.Gaps.{gap_before, gaps, rank_or_end}
 
@@ -38,19 +38,16 @@ apart_from f b (e ∷ es) h i = (omega (arith, ints), λ p. absurd (omega (arith
 -- ---- all gaps
 
 module _ {V : Type 0} (eq : V → V → Bool) (high : ℤ) where
-  rest_above : (n b : ℤ) (e : Entry V) (es : List (Entry V)) → IsCanonical eq (e ∷ es) → b ≡ e.hi → IsAbove b es
-  rest_above n b e es c p = subst (λ z. IsAbove z es) (sym p) (IsAbove-from_apart eq e es c.1)
-
   above_gaps : (n : ℤ) (es : List (Entry V)) → IsCanonical eq es → IsAbove (n -ℤ pos 1) es → IsAbove (n -ℤ pos 1) (gaps n high es)
   above_gaps n [] c a = by_gap (IsAbove (n -ℤ pos 1)) n (high +ℤ pos 1) (λ h. omega (arith, ints)) (λ h. tt)
   above_gaps n (e ∷ es) c a = by_gap (λ G. IsAbove (n -ℤ pos 1) (G ++ gaps (e.hi +ℤ pos 1) high es)) n e.lo
       (λ h. omega (arith, ints))
       (λ h. above_less (n -ℤ pos 1) (e.hi +ℤ pos 1 -ℤ pos 1) _ (omega (arith, ints, c.0, a))
-      (above_gaps (e.hi +ℤ pos 1) es c.2 (rest_above n (e.hi +ℤ pos 1 -ℤ pos 1) e es c (omega (arith, ints)))))
+      (above_gaps (e.hi +ℤ pos 1) es c.2 (above_rest eq (e.hi +ℤ pos 1 -ℤ pos 1) e es (omega (arith, ints)) c)))
 
   -- what comes after an entry
   rest : (e : Entry V) (es : List (Entry V)) → IsCanonical eq (e ∷ es) → IsAbove (e.hi +ℤ pos 1 -ℤ pos 1) es
-  rest e es c = rest_above e.hi (e.hi +ℤ pos 1 -ℤ pos 1) e es c (omega (arith, ints))
+  rest e es c = above_rest eq (e.hi +ℤ pos 1 -ℤ pos 1) e es (omega (arith, ints)) c
 
   canonical_gaps : (n : ℤ) (es : List (Entry V)) → IsCanonical eq es → IsAbove (n -ℤ pos 1) es → IsCanonical unit_eq (gaps n high es)
   canonical_gaps n [] c a = by_gap (IsCanonical unit_eq) n (high +ℤ pos 1) (λ h. (omega (arith, ints), tt, tt)) (λ h. tt)
@@ -105,10 +102,6 @@ module _ {V : Type 0} (high n : ℤ) (old new all : List (Entry (Unit {0}))) (le
 
   gap_last : left ≡ [] → new ≡ old ++ gap_before n (high +ℤ pos 1) → new ≡ all
   gap_last is pushed = pushed ∙ (ap (λ es. old ++ gaps n high es) (sym is) ∙ i)
-
-pub above_low : {V : Type 0} (low high : ℤ) (es : List (Entry V)) → AreKeys low high es → IsAbove (low -ℤ pos 1) es
-above_low low high [] k = tt
-above_low low high (e ∷ es) k = omega (arith, ints, k.0)
 
 module _ {V : Type 0} (eq : V → V → Bool) (laws : IsEquivalence eq) (low high : ℤ) (es : List (Entry V)) (r : IsRangeMap eq low high es) where
   gaps_complement : IsComplement unit_eq low high tt es (gaps low high es)

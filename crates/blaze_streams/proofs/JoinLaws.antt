@@ -3,25 +3,19 @@ use Rattle.std.proofs.Common.{◌≡◌, ℤ, ◌≤ℤ◌, Bool, true, false, �
 use Rattle.std.specs.Option.{option_eq, option_map, is_some}
 use Rattle.std.specs.Cmp.{IsEquivalence}
 use Rattle.std.specs.Cmp.Lexicographic.{lists_equiv, options_equiv}
+use Rattle.blaze_entries.proofs.Alike.{same_itself, is_some_alike}
 use Rattle.blaze_table.specs.Entries.{Entry, entry, holds, at, SameOption, SameEntries}
 use Rattle.blaze_table.specs.Canonical.{IsApart, IsCanonical}
-use Rattle.blaze_table.proofs.ListLaws.{canonical_is_unique}
-use Rattle.blaze_table.proofs.Lookup.{IsAbove-from_apart, at_in, at_over, at_before}
-use Rattle.blaze_table.proofs.Unique.{same_itself}
+use Rattle.blaze_table.proofs.Canonical.ListLaws.{canonical_is_unique}
+use Rattle.blaze_table.proofs.Canonical.Lookup.{IsAbove-from_apart, at_in, at_over, at_before}
 use Rattle.std.proofs.lemmas.Int.{ints, by_lt_z}
-use Rattle.blaze_table.proofs.Runs.{canonical, one_per_run}
+use Rattle.blaze_table.proofs.Canonical.Runs.{canonical, one_per_run}
 use Rattle.blaze_streams.specs.declared.segmenting.joins.JoinKind.TheVariants.{Inner, Left, Full}
 use Rattle.blaze_streams.specs.Answers.{answered}
 use Rattle.blaze_streams.specs.JoinLaws.{as_row, AnswersKeepKeys, LeftJoinHasLeftKeys, FullJoinIsOfListOfTwo, FullJoinIsInner}
 use Rattle.blaze_streams.specs.Joins.{paired, pair_eq}
 use Rattle.blaze_streams.specs.Segments.{present, row_eq}
 use Rattle.blaze_streams.proofs.Paired.{pair_laws}
-
-same_some : {V : Type 0} (eq : V → V → Bool) (x y : Option V) → SameOption eq x y → is_some x ≡ is_some y
-same_some eq None None s = refl
-same_some eq None (Some y) s = absurd s
-same_some eq (Some x) None s = absurd s
-same_some eq (Some x) (Some y) s = refl
 
 either_some : {V W : Type 0} (b : Bool) (v : V) (w : W) (x : Option V) (y : Option W) → is_some y ≡ is_some x → is_some (cond b (Some w) y) ≡ is_some (cond b (Some v) x)
 either_some true v w x y p = refl
@@ -33,7 +27,7 @@ answered_keys (e ∷ es) [] l k = absurd (omega (arith, l))
 answered_keys (e ∷ es) (w ∷ ws) l k = either_some (holds e k) e.value w (at es k) (at (answered es ws) k) (answered_keys es ws (omega (arith, l)) k)
 
 pub answers_keep_keys : (V : Type 0) {W : Type 0} (eq : W → W → Bool) → AnswersKeepKeys V eq
-answers_keep_keys V eq entries answers new l same k = same_some eq (at new k) (at (answered entries answers) k) (same k) ∙ answered_keys entries answers l k
+answers_keep_keys V eq entries answers new l same k = is_some_alike eq (at new k) (at (answered entries answers) k) (same k) ∙ answered_keys entries answers l k
 
 left_there : {A B : Type 0} (x : Option A) (y : Option B) → is_some (paired Left x y) ≡ is_some x
 left_there None y = refl

@@ -7,12 +7,12 @@ use Rattle.std.proofs.lemmas.Int.{ints}
 use Rattle.std.proofs.lemmas.Bool.Decides.{Decides-int_eq}
 use Rattle.blaze_table.specs.Entries.{Entry, entry, at}
 use Rattle.blaze_table.specs.Canonical.{IsApart, IsCanonical, AreKeys, IsRangeMap}
-use Rattle.blaze_table.proofs.Lookup.{IsAbove, IsAbove-from_apart}
-use Rattle.blaze_table.proofs.Runs.{canonical, one_per_run}
+use Rattle.blaze_table.proofs.Canonical.Lookup.{IsAbove, IsAbove-from_apart}
+use Rattle.blaze_table.proofs.Canonical.Runs.{canonical, one_per_run}
 use Rattle.blaze_table.specs.RangeSets.{unit_eq, IsRangeSet}
-use Rattle.blaze_streams.specs.KeyRanges.{AreKeyRanges, TakesEnds, joined, joined_left}
-use Rattle.blaze_table.proofs.Parts.{IsRangeMap-rest}
-use Rattle.blaze_table.proofs.UnitLaws.{unit_laws}
+use Rattle.blaze_streams.specs.KeyRanges.{AreKeyRanges, TakesEnds, joined_ranges, joined_left}
+use Rattle.blaze_table.proofs.Canonical.Parts.{IsRangeMap-rest}
+use Rattle.blaze_table.proofs.Pairs.UnitLaws.{unit_laws}
 
 pick : {A : Type 0} (P : A → Type 0) (b : Bool) (x y : A) → (b ≡ true → P x) → (b ≡ false → P y) → P (if b then x else y)
 pick P true x y p q = p refl
@@ -36,12 +36,12 @@ covers_both : (lo hi l h k : ℤ) → lo ≤ℤ hi → l ≡ hi +ℤ pos 1 → l
 covers_both lo hi l h k p q r = grind (arith, ints)
 
 module _ {V : Type 0} (eq : V → V → Bool) where
-  apart_joined : (d : Entry (Unit {0})) (lo hi : ℤ) (es : List (Entry V)) → d.hi <ℤ lo → (lo ≡ d.hi +ℤ pos 1 → ⊥) → IsApart unit_eq d (joined lo hi es)
+  apart_joined : (d : Entry (Unit {0})) (lo hi : ℤ) (es : List (Entry V)) → d.hi <ℤ lo → (lo ≡ d.hi +ℤ pos 1 → ⊥) → IsApart unit_eq d (joined_ranges lo hi es)
   apart_joined d lo hi [] a n = (a, λ q. absurd (n q))
   apart_joined d lo hi (e ∷ es) a n =
       pick (IsApart unit_eq d) (int_eq e.lo (hi +ℤ pos 1)) _ _ (λ t. apart_joined d lo e.hi es a n) (λ f. (a, λ q. absurd (n q)))
 
-  canonical_joined : (lo hi : ℤ) (es : List (Entry V)) → lo ≤ℤ hi → IsAbove hi es → IsCanonical eq es → IsCanonical unit_eq (joined lo hi es)
+  canonical_joined : (lo hi : ℤ) (es : List (Entry V)) → lo ≤ℤ hi → IsAbove hi es → IsCanonical eq es → IsCanonical unit_eq (joined_ranges lo hi es)
   canonical_joined lo hi [] l a c = (l, tt, tt)
   canonical_joined lo hi (e ∷ es) l a c =
       let over = IsAbove-from_apart eq e es c.1 in
@@ -49,14 +49,14 @@ module _ {V : Type 0} (eq : V → V → Bool) where
       (λ t. canonical_joined lo e.hi es (omega (arith, ints, c.0)) over c.2)
       (λ f. (l, apart_joined (entry lo hi tt) e.lo e.hi es a (apart_eq _ _ f), canonical_joined e.lo e.hi es c.0 over c.2))
 
-  keys_joined : (low high lo hi : ℤ) (es : List (Entry V)) → low ≤ℤ lo → hi ≤ℤ high → AreKeys low high es → AreKeys low high (joined lo hi es)
+  keys_joined : (low high lo hi : ℤ) (es : List (Entry V)) → low ≤ℤ lo → hi ≤ℤ high → AreKeys low high es → AreKeys low high (joined_ranges lo hi es)
   keys_joined low high lo hi [] l h a = (l, h, tt)
   keys_joined low high lo hi (e ∷ es) l h a =
       pick (AreKeys low high) (int_eq e.lo (hi +ℤ pos 1)) _ _
       (λ t. keys_joined low high lo e.hi es l a.1 a.2)
       (λ f. (l, h, keys_joined low high e.lo e.hi es a.0 a.1 a.2))
 
-  same_joined : (lo hi : ℤ) (es : List (Entry V)) → lo ≤ℤ hi → IsCanonical eq es → (k : ℤ) → is_some (at (joined lo hi es) k) ≡ (covers lo hi k || is_some (at es k))
+  same_joined : (lo hi : ℤ) (es : List (Entry V)) → lo ≤ℤ hi → IsCanonical eq es → (k : ℤ) → is_some (at (joined_ranges lo hi es) k) ≡ (covers lo hi k || is_some (at es k))
   same_joined lo hi [] l c k = some_if (covers lo hi k) tt None
   same_joined lo hi (e ∷ es) l c k =
       let rest = some_if (covers e.lo e.hi k) e.value (at es k) in
@@ -68,16 +68,16 @@ module _ {V : Type 0} (eq : V → V → Bool) where
       ∙ or_assoc (covers lo hi k) (covers e.lo e.hi k) (is_some (at es k))
       ∙ ap (λ b. covers lo hi k || b) (sym rest))
       (λ f.
-      some_if (covers lo hi k) tt (at (joined e.lo e.hi es) k)
+      some_if (covers lo hi k) tt (at (joined_ranges e.lo e.hi es) k)
       ∙ ap (λ b. covers lo hi k || b) (same_joined e.lo e.hi es c.0 c.2 k ∙ sym rest))
 
 module _ {V : Type 0} (eq : V → V → Bool) (laws : IsEquivalence eq) (low high : ℤ) where
-  pub key_ranges : (e : Entry V) (es : List (Entry V)) → IsRangeMap eq low high (e ∷ es) → AreKeyRanges low high (e ∷ es) (joined e.lo e.hi es)
+  pub key_ranges : (e : Entry V) (es : List (Entry V)) → IsRangeMap eq low high (e ∷ es) → AreKeyRanges low high (e ∷ es) (joined_ranges e.lo e.hi es)
   key_ranges e es m =
       let c = canonical eq laws (e ∷ es) m.runs in
       record {
         range_set = record {
-          runs = one_per_run unit_eq unit_laws (joined e.lo e.hi es) (canonical_joined eq e.lo e.hi es c.0 (IsAbove-from_apart eq e es c.1) c.2);
+          runs = one_per_run unit_eq unit_laws (joined_ranges e.lo e.hi es) (canonical_joined eq e.lo e.hi es c.0 (IsAbove-from_apart eq e es c.1) c.2);
           keys = keys_joined eq low high e.lo e.hi es m.keys.0 m.keys.1 m.keys.2;
         };
         same_keys = λ k. same_joined eq e.lo e.hi es c.0 c.2 k ∙ sym (some_if (covers e.lo e.hi k) e.value (at es k));
@@ -92,7 +92,7 @@ module _ {V : Type 0} (eq : V → V → Bool) (laws : IsEquivalence eq) (low hig
   left_of rank (Some p) es rest m t = rw t.1 (key_ranges (entry (rank p.0) (rank p.1) t.0) rest (rw t.1 at m))
 
 -- what is left after a range that the next entry does not go on with
-pub after_gap : {V : Type 0} (low high lo hi : ℤ) (e : Entry V) (es rest : List (Entry V)) (old : List (Entry (Unit {0}))) → IsRangeSet low high old → joined lo hi es ≡ old → es ≡ e ∷ rest → int_eq e.lo (hi +ℤ pos 1) ≡ false → IsRangeSet low high (joined e.lo e.hi rest)
+pub after_gap : {V : Type 0} (low high lo hi : ℤ) (e : Entry V) (es rest : List (Entry V)) (old : List (Entry (Unit {0}))) → IsRangeSet low high old → joined_ranges lo hi es ≡ old → es ≡ e ∷ rest → int_eq e.lo (hi +ℤ pos 1) ≡ false → IsRangeSet low high (joined_ranges e.lo e.hi rest)
 after_gap low high lo hi e es rest old m j p n =
-    let first : joined lo hi es ≡ entry lo hi tt ∷ joined e.lo e.hi rest = rw (p, n) refl in
-    IsRangeMap-rest unit_eq unit_laws low high (entry lo hi tt) (joined e.lo e.hi rest) (rw (sym j ∙ first) at m)
+    let first : joined_ranges lo hi es ≡ entry lo hi tt ∷ joined_ranges e.lo e.hi rest = rw (p, n) refl in
+    IsRangeMap-rest unit_eq unit_laws low high (entry lo hi tt) (joined_ranges e.lo e.hi rest) (rw (sym j ∙ first) at m)

@@ -1,11 +1,12 @@
 -- How many keys are left.
 use Rattle.blaze_int.specs.Unsigned.{nat_of}
-use Rattle.std.proofs.Common.{◌≡◌, ℕ, ◌+◌, ◌<◌, ◌≤◌, ℤ, pos, negsuc, ◌+ℤ◌, ◌-ℤ◌, ◌≤ℤ◌, Bool, List, [], ◌∷◌, Some, refl, arith, ⊎_elim}
+use Rattle.std.proofs.Common.{◌≡◌, ℕ, ◌+◌, ◌<◌, ◌≤◌, ℤ, pos, ◌+ℤ◌, ◌-ℤ◌, ◌≤ℤ◌, Bool, List, [], ◌∷◌, Some, arith, ⊎_elim}
 use Rattle.std.proofs.lemmas.Int.{ints}
+use Rattle.blaze_int.proofs.Naturals.{nat_of-pos}
 use Rattle.blaze_table.specs.Entries.{Entry}
 use Rattle.blaze_table.specs.Canonical.{IsCanonical}
 use Rattle.blaze_table.specs.Splice.{after}
-use Rattle.blaze_table.proofs.Splices.{by_after}
+use Rattle.blaze_table.proofs.Paints.Splices.{by_after}
 use Rattle.blaze_streams.specs.Cursors.{first_key, AllCanonical, first_keys, all_after}
 use Rattle.blaze_streams.proofs.Steady.{same_some}
 use Rattle.blaze_streams.proofs.Lesser.{lesser_one}
@@ -18,10 +19,6 @@ abbrev pub all_lengths_left : {A : Type 0} → List (List (Entry A)) → ℕ
 all_lengths_left [] = 0
 all_lengths_left (L ∷ Ls) = lengths_left L + all_lengths_left Ls
 
-whole : (z : ℤ) → pos 0 ≤ℤ z → pos (nat_of z) ≡ z
-whole (pos n) h = refl
-whole (negsuc n) h = absurd (omega (arith, ints))
-
 module _ {A : Type 0} (eq : A → A → Bool) where
   fewer : (t : ℤ) (es : List (Entry A)) → IsCanonical eq es → lengths_left (after t es) ≤ lengths_left es
   fewer t [] c = omega arith
@@ -29,8 +26,8 @@ module _ {A : Type 0} (eq : A → A → Bool) where
       (λ h p. rw p (omega (arith, fewer t es c.2)))
       (λ h l p. rw p (let n : ℕ = nat_of ((e.hi -ℤ (t +ℤ pos 1)) +ℤ pos 1) in
       let m : ℕ = nat_of ((e.hi -ℤ e.lo) +ℤ pos 1) in
-      let a : pos n ≡ ((e.hi -ℤ (t +ℤ pos 1)) +ℤ pos 1) = whole ((e.hi -ℤ (t +ℤ pos 1)) +ℤ pos 1) (omega (arith, ints)) in
-      let b : pos m ≡ ((e.hi -ℤ e.lo) +ℤ pos 1) = whole ((e.hi -ℤ e.lo) +ℤ pos 1) (omega (arith, ints, c.0)) in
+      let a : pos n ≡ ((e.hi -ℤ (t +ℤ pos 1)) +ℤ pos 1) = nat_of-pos ((e.hi -ℤ (t +ℤ pos 1)) +ℤ pos 1) (omega (arith, ints)) in
+      let b : pos m ≡ ((e.hi -ℤ e.lo) +ℤ pos 1) = nat_of-pos ((e.hi -ℤ e.lo) +ℤ pos 1) (omega (arith, ints, c.0)) in
       let k : n ≤ m = omega (arith, ints) in omega (arith, k)))
       (λ h l p. rw p (omega arith))
 
@@ -39,12 +36,12 @@ module _ {A : Type 0} (eq : A → A → Bool) where
   less s t (e ∷ es) c w f =
       let is : e.lo ≡ s = same_some e.lo s f in
       let m : ℕ = nat_of ((e.hi -ℤ e.lo) +ℤ pos 1) in
-      let b : pos m ≡ ((e.hi -ℤ e.lo) +ℤ pos 1) = whole ((e.hi -ℤ e.lo) +ℤ pos 1) (omega (arith, ints, c.0)) in
+      let b : pos m ≡ ((e.hi -ℤ e.lo) +ℤ pos 1) = nat_of-pos ((e.hi -ℤ e.lo) +ℤ pos 1) (omega (arith, ints, c.0)) in
       let one : 0 < m = omega (arith, ints, c.0) in
       by_after t e es
       (λ h p. rw p (omega (arith, fewer t es c.2, one)))
       (λ h l p. rw p (let n : ℕ = nat_of ((e.hi -ℤ (t +ℤ pos 1)) +ℤ pos 1) in
-      let a : pos n ≡ ((e.hi -ℤ (t +ℤ pos 1)) +ℤ pos 1) = whole ((e.hi -ℤ (t +ℤ pos 1)) +ℤ pos 1) (omega (arith, ints)) in
+      let a : pos n ≡ ((e.hi -ℤ (t +ℤ pos 1)) +ℤ pos 1) = nat_of-pos ((e.hi -ℤ (t +ℤ pos 1)) +ℤ pos 1) (omega (arith, ints)) in
       let k : n < m = omega (arith, ints) in omega (arith, k)))
       (λ h l p. absurd (omega (arith, ints)))
 

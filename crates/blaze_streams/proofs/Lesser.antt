@@ -2,7 +2,7 @@
 use Rattle.std.proofs.Common.{◌≡◌, ℤ, ◌≤ℤ◌, cond, Option, Some, None, ◌∙◌, sym, subst, ap, arith, inl, inr}
 use Rattle.std.specs.Prelude.{◌⊎◌}
 use Rattle.std.proofs.lemmas.Int.{ints, by_lt_z}
-use Rattle.blaze_table.proofs.Splices.{le_true, le_false}
+use Rattle.blaze_int.proofs.Comparisons.{le_true, le_false}
 use Rattle.blaze_streams.specs.Cursors.{lesser}
 use Rattle.blaze_streams.proofs.Steady.{AtMost}
 

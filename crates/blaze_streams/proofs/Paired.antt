@@ -6,13 +6,14 @@ use Rattle.std.specs.Cmp.Lexicographic.{options_equiv}
 use Rattle.std.proofs.lemmas.Cmp.{and_equiv, on_equiv}
 use Rattle.std.proofs.lemmas.Int.{ints, by_lt_z}
 use Rattle.std.proofs.lemmas.List.{append-nil}
+use Rattle.blaze_entries.proofs.Alike.{or_none, or_assoc}
 use Rattle.blaze_table.specs.Entries.{Entry, entry, at, SameOption}
 use Rattle.blaze_table.specs.Canonical.{IsCanonical, AreKeys}
 use Rattle.blaze_table.specs.Splice.{IsBelow, after}
-use Rattle.blaze_table.proofs.Glued.{IsBelow-push}
-use Rattle.blaze_table.proofs.Lookup.{IsAbove-from_apart, at_in, at_under, at_over, at_before}
-use Rattle.blaze_table.proofs.Runs.{canonical, one_per_run}
-use Rattle.blaze_table.proofs.Splices.{below_more, at-after_over}
+use Rattle.blaze_table.proofs.Neighbours.Glued.{IsBelow-push}
+use Rattle.blaze_table.proofs.Canonical.Lookup.{IsAbove-from_apart, at_in, at_under, at_over, at_before, at_append}
+use Rattle.blaze_table.proofs.Canonical.Runs.{canonical, one_per_run}
+use Rattle.blaze_table.proofs.Paints.Splices.{below_more, at-after_over}
 use Rattle.blaze_streams.specs.declared.segmenting.joins.JoinKind.{JoinKind}
 use Rattle.blaze_streams.specs.declared.segmenting.joins.JoinKind.TheVariants.{Inner, Left, Full}
 use Rattle.blaze_streams.specs.Cursors.{first_key, steady_to, lesser}
@@ -20,7 +21,7 @@ use Rattle.blaze_streams.specs.Joins.{is_joined, paired, pair_eq, IsJoinOf, piec
 use Rattle.blaze_streams.specs.JoinAnswers.{AllJoined}
 use Rattle.blaze_streams.proofs.ChosenSoFar.{both_from, none_there, no_first, first_above}
 use Rattle.blaze_streams.proofs.Fewer.{both_less}
-use Rattle.blaze_streams.proofs.FoundSegments.{at_push, or_assoc, or_none, option_same, EndsApart, canonical_push, apart_push}
+use Rattle.blaze_streams.proofs.FoundSegments.{option_same, EndsApart, canonical_push, apart_push}
 use Rattle.blaze_streams.proofs.LengthsLeft.{lengths_left}
 use Rattle.blaze_streams.proofs.Lesser.{at_most_both, at_most_itself, lesser_one}
 use Rattle.blaze_streams.proofs.Steady.{AtMost, at_below_from, at-after_under, steady, steady_far, stops_steady, changes}
@@ -130,7 +131,7 @@ module _ {A B : Type 0} (eqa : A → A → Bool) (eqb : B → B → Bool) (low h
             canonical = canonical_push (pair_eq eqa eqb) out f (pair_at kind L R) h.canonical below in_order h.apart (sym (same_from t in_order (omega (arith, ints))) ∙ e);
             keys = keys_push out h.keys;
             under = λ r g. IsBelow-push r out f (below_more s r out (omega (arith, ints, in_order, first_left r g)) below) (first_left r g);
-            content = λ k. h.content k ∙ ap (option_or (at out k)) (next_pair (Some v) e k) ∙ sym (or_assoc (at out k) (at (f ∷ []) k) (pair_at kind (after t L) (after t R) k)) ∙ ap (λ z. option_or z (pair_at kind (after t L) (after t R) k)) (sym (at_push out f k));
+            content = λ k. h.content k ∙ ap (option_or (at out k)) (next_pair (Some v) e k) ∙ sym (or_assoc (at out k) (at (f ∷ []) k) (pair_at kind (after t L) (after t R) k)) ∙ ap (λ z. option_or z (pair_at kind (after t L) (after t R) k)) (sym (at_append out (f ∷ []) k));
             apart = apart_push (pair_eq eqa eqb) out f (pair_at kind (after t L) (after t R)) (next_changes lawsa lawsb v e);
           }
         where

@@ -6,8 +6,8 @@ use Rattle.std.specs.List.{list_any}
 use Rattle.std.proofs.lemmas.Int.{ints}
 use Rattle.blaze_table.specs.Entries.{Entry, at}
 use Rattle.blaze_table.specs.Splice.{after}
-use Rattle.blaze_table.proofs.Lookup.{IsAbove}
-use Rattle.blaze_table.proofs.Splices.{above_after, canonical_after, at-after_over}
+use Rattle.blaze_table.proofs.Canonical.Lookup.{IsAbove}
+use Rattle.blaze_table.proofs.Paints.Splices.{above_after, canonical_after, at-after_over}
 use Rattle.blaze_streams.specs.Carried.{shown_option}
 use Rattle.blaze_streams.specs.Segments.{row}
 use Rattle.blaze_streams.specs.Cursors.{first_key, steady_to, AllCanonical, first_keys, AllFrom, all_steady_to, AllReach, all_after, IsNextSegment}

@@ -4,12 +4,14 @@ use Rattle.std.specs.Prelude.{◌⊎◌, int_le}
 use Rattle.std.specs.Option.{is_some}
 use Rattle.std.specs.Cmp.{IsEquivalence}
 use Rattle.std.proofs.lemmas.Int.{ints, by_lt_z}
+use Rattle.blaze_int.proofs.Comparisons.{le_true, le_false}
+use Rattle.blaze_entries.proofs.Alike.{same_along}
 use Rattle.blaze_table.specs.Entries.{Entry, at, SameOption}
 use Rattle.blaze_table.specs.Canonical.{IsApart, IsCanonical}
 use Rattle.blaze_table.specs.Splice.{after}
-use Rattle.blaze_table.proofs.Lookup.{at_in, at_over, at_before}
-use Rattle.blaze_table.proofs.Unique.{same_along, breaks}
-use Rattle.blaze_table.proofs.Splices.{le_true, le_false, after_skips, after_keeps, above_after, canonical_after}
+use Rattle.blaze_table.proofs.Canonical.Lookup.{at_in, at_over, at_before}
+use Rattle.blaze_table.proofs.Canonical.Unique.{breaks}
+use Rattle.blaze_table.proofs.Paints.Splices.{after_skips, after_keeps, above_after, canonical_after}
 use Rattle.blaze_streams.specs.Cursors.{first_key, steady_to, IsFrom, Reaches}
 
 -- t is at most the number, where there is one

@@ -12,7 +12,7 @@ use Rattle.std.proofs.lemmas.List.Elements.{All-nil, All-cons, All-head, All-tai
 use Rattle.std.proofs.lemmas.List.Sorted.{IsPermutation-map, All-permutation}
 use Rattle.blaze_table.specs.Canonical.{IsDisjoint, AreKeys, IsRangeMap}
 use Rattle.blaze_table.specs.Entries.{Entry}
-use Rattle.blaze_table.proofs.Orders.{tail_sorted, not_less}
+use Rattle.blaze_table.proofs.Sweeping.Orders.{tail_sorted, not_less}
 use Rattle.blaze_streams.specs.Events.{Event, Starts, Ends}
 use Rattle.blaze_streams.specs.Ranges.{shown_range}
 use Rattle.blaze_streams.specs.Sweeps.{time, AscendInTime, events_of, all_events, IsSweep, shown_event, shown_events, instant}

@@ -3,10 +3,10 @@ use Rattle.std.proofs.Common.{◌≡◌, ℤ, ◌≤ℤ◌, Bool, true, List, Op
 use Rattle.std.specs.Cmp.{IsEquivalence}
 use Rattle.std.specs.Option.{is_some}
 use Rattle.std.proofs.lemmas.Int.{ints}
+use Rattle.blaze_entries.proofs.Alike.{same_along, same_trans}
 use Rattle.blaze_table.specs.Entries.{Entry, at, SameOption}
 use Rattle.blaze_table.specs.Canonical.{IsCanonical}
 use Rattle.blaze_table.specs.Splice.{after}
-use Rattle.blaze_table.proofs.Unique.{same_along, same_trans}
 use Rattle.blaze_streams.specs.Choosing.{IsTaken, PutsAlike, IsChoiceMade}
 use Rattle.blaze_streams.specs.Cursors.{first_key, steady_to, lesser}
 use Rattle.blaze_streams.proofs.ChosenSoFar.{both_from, chosen_at}

@@ -21,6 +21,6 @@ abbrev pub none_before : {V : Type 0} → ℤ → ℤ → List (Entry (Option V)
 none_before n l = map with_none (gap_before n l)
 
 -- the keys from n up to high: the entries, and between them the value `None`
-abbrev pub filled : {V : Type 0} → ℤ → ℤ → List (Entry V) → List (Entry (Option V))
-filled n high [] = none_before n (high +ℤ pos 1)
-filled n high (e ∷ es) = none_before n e.lo ++ entry e.lo e.hi (Some e.value) ∷ filled (e.hi +ℤ pos 1) high es
+abbrev pub filled_entries : {V : Type 0} → ℤ → ℤ → List (Entry V) → List (Entry (Option V))
+filled_entries n high [] = none_before n (high +ℤ pos 1)
+filled_entries n high (e ∷ es) = none_before n e.lo ++ entry e.lo e.hi (Some e.value) ∷ filled_entries (e.hi +ℤ pos 1) high es

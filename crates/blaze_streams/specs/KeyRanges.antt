@@ -16,11 +16,11 @@ TakesEnds {V = V} rank ends old new = MatchOption ends ((old ≡ []) × (new ≡
 -- ---- by structure
 
 -- the range from lo up to hi and the entries after it, joined where they touch
-abbrev pub joined : {V : Type 0} → ℤ → ℤ → List (Entry V) → List (Entry (Unit {0}))
-joined lo hi [] = entry lo hi tt ∷ []
-joined lo hi (e ∷ es) = if int_eq e.lo (hi +ℤ pos 1) then joined lo e.hi es else entry lo hi tt ∷ joined e.lo e.hi es
+abbrev pub joined_ranges : {V : Type 0} → ℤ → ℤ → List (Entry V) → List (Entry (Unit {0}))
+joined_ranges lo hi [] = entry lo hi tt ∷ []
+joined_ranges lo hi (e ∷ es) = if int_eq e.lo (hi +ℤ pos 1) then joined_ranges lo e.hi es else entry lo hi tt ∷ joined_ranges e.lo e.hi es
 
 -- what is left of an iterator with an open range and the entries after it
 abbrev pub joined_left : {T V : Type 0} → (T → ℤ) → Option (T × T) → List (Entry V) → List (Entry (Unit {0}))
 joined_left rank None entries = []
-joined_left rank (Some p) entries = joined (rank p.0) (rank p.1) entries
+joined_left rank (Some p) entries = joined_ranges (rank p.0) (rank p.1) entries

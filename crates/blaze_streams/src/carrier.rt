@@ -22,12 +22,12 @@ pub trait ValueCarrier: Drop {
     fn value_eq(&self, other: &Self) -> bool
         ensures { result ≡ Self.Value.eq (shown self.now) (shown other.now) };
 
-    /// A value that is `==` to the carrier's.
+    /// A value that is `==` to the carrier's. Refused memory drops the carrier.
     fn into_value(self) -> Result<Self::Value, AllocError>
         requires { can_carry }
         ensures { IfOk result (λ value. Self.Value.eq (shown self) value ≡ true) };
 
-    /// Another carrier, of a value that is `==` to this one's.
+    /// Another carrier, of a value that is `==` to this one's. Refused memory leaves this one.
     fn carry(&self) -> Result<Self, AllocError>
         requires { can_carry }
         ensures { IfOk result (λ other. Self.Value.eq (shown self.now) (shown other) ≡ true) };

@@ -36,9 +36,7 @@ pub use multiway::{
     MultiwaySymmetricDifferenceMap, MultiwayUnionMap,
 };
 pub use owned::Owned;
-pub use segmenting::join_answers::{
-    answer_both, answer_either, answer_left, full_join_of, inner_join_of, left_join_of,
-};
+pub use segmenting::join_answers::{full_join_of, inner_join_of, left_join_of};
 pub use segmenting::joins::{JoinKind, join_of};
 pub use segmenting::list_segments::{Segment, segments};
 pub use sorted_disjoint::SortedDisjoint;
@@ -51,13 +49,15 @@ pub use tables::owned_range_values::OwnedRangeValuesIter;
 pub use tables::range_values::RangeValuesIter;
 pub use transforms::transform;
 
-// For `range_map_blaze` alone, whose maps are made of entries that are chosen.
+// For `range_map_blaze` alone, whose maps are made of entries that are chosen, and whose joins answer segments.
 #[doc(hidden)]
 pub use merge::choice::{Choice, ExactlyOne, LeftAlone, LeftWithRight, RightFirst};
 #[doc(hidden)]
 pub use merge::chosen::entries_chosen_of;
 #[doc(hidden)]
 pub use merge::with_unit::WithUnit;
+#[doc(hidden)]
+pub use segmenting::join_answers::{answer_both, answer_either, answer_left};
 // For `range_map_multi` alone, which goes through many streams as this crate does through many lists.
 #[doc(hidden)]
 pub use cursor::Cursor;

@@ -4,7 +4,7 @@ ghost use Rattle.std.specs.Prelude.{reverse, false, None, Ok, IfOk, OnOk, OnErr,
 ghost use Rattle.std.specs.Prelude.{option_map};
 ghost use Rattle.std.specs.List.Retain.{IsFiltered};
 ghost use Rattle.blaze_table.specs.Counted.{uncounted};
-ghost use Rattle.blaze_table.specs.Entries.{Entry, entry, at, entry_at, shown_entry, SameOption};
+ghost use Rattle.blaze_table.specs.Entries.{entry, at, entry_at, shown_entry, SameOption};
 ghost use Rattle.blaze_table.specs.Entries.{SameEntries};
 ghost use Rattle.blaze_table.specs.Canonical.{IsRangeMap};
 ghost use Rattle.blaze_table.specs.Count.{keys_in, mapped_keys};
@@ -25,8 +25,7 @@ use crate::search::{entry_above, entry_below, entry_holding};
 use crate::splice::{paint, paint_by_splice};
 use crate::split::split;
 use blaze_entries::{Entries, IntoIter, Iter};
-use blaze_int::length::differ;
-use blaze_int::{Integer, SafeLength};
+use blaze_int::{Integer, SafeLength, differ};
 use std::alloc::{AllocError, Global};
 use std::marker::Model;
 use std::ops::RangeInclusive;
@@ -182,7 +181,7 @@ impl<T: Integer, V: Eq + Drop> RangeTable<T, V> {
 }
 
 impl<T: Integer, V: Eq + Clone> RangeTable<T, V> {
-    /// A table of the same ranges, each with a clone of its value.
+    /// A table of the same ranges, each with a clone of its value. Refused memory leaves this table unchanged.
     pub fn clone(&self) -> Result<Self, AllocError>
         requires { ClonesAreAlike V.is_clone V.eq }
         ensures same { IfOk result (λ copy. SameEntries V.eq self.now.entries copy.entries) }
@@ -219,6 +218,7 @@ impl<T: Integer, V: Eq + Clone> RangeTable<T, V> {
     }
 
     /// Puts a value on the keys from lo up to hi, as `paint` does: the entries beside the range are found by single looks.
+    /// Refused memory leaves the entries and the count of keys.
     pub fn paint_by_splice(&mut self, lo: T, hi: T, value: V) -> Result<bool, AllocError>
         requires order { T.rank lo ≤ℤ T.rank hi }
         requires clones { ClonesAreAlike V.is_clone V.eq }

@@ -4,9 +4,10 @@ use Rattle.std.specs.Prelude.{IsSome}
 use Rattle.std.specs.Option.{option_eq}
 use Rattle.std.specs.Cmp.{IsEquivalence}
 use Rattle.std.specs.Cmp.Lexicographic.{options_equiv}
+use Rattle.blaze_entries.proofs.Alike.{same_along}
 use Rattle.blaze_table.specs.Entries.{Entry, at, SameOption, SameEntries}
-use Rattle.blaze_table.proofs.Painted.{content_as}
-use Rattle.blaze_table.proofs.Unique.{back, same_along}
+use Rattle.blaze_table.proofs.Paints.Painted.{content_as}
+use Rattle.blaze_table.proofs.Canonical.Unique.{back}
 use Rattle.blaze_streams.specs.Fills.{IsFilled}
 use Rattle.range_map_blaze.specs.GapsFilled.{AreGapsFilled}
 use Rattle.range_map_blaze.proofs.Streams.{range_map_as}

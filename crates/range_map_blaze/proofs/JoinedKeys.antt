@@ -6,12 +6,13 @@ use Rattle.std.specs.Cmp.{IsEquivalence}
 use Rattle.std.specs.Fn.{Mut}
 use Rattle.std.proofs.lemmas.Int.{ints, by_lt_z}
 use Rattle.std.proofs.lemmas.List.{length-map}
+use Rattle.blaze_entries.proofs.Alike.{same_trans}
 use Rattle.blaze_table.specs.Entries.{Entry, at, SameOption}
 use Rattle.blaze_table.specs.Canonical.{AreKeys}
 use Rattle.blaze_table.specs.Count.{mapped}
-use Rattle.blaze_table.proofs.ListLaws.{canonical_is_unique}
-use Rattle.blaze_table.proofs.Lookup.{at_under, at_over}
-use Rattle.blaze_table.proofs.Unique.{same_trans, back}
+use Rattle.blaze_table.proofs.Canonical.ListLaws.{canonical_is_unique}
+use Rattle.blaze_table.proofs.Canonical.Lookup.{at_under, at_over}
+use Rattle.blaze_table.proofs.Canonical.Unique.{back}
 use Rattle.blaze_streams.specs.Answers.{answered}
 use Rattle.blaze_streams.proofs.JoinLaws.{answers_keep_keys, left_join_has_left_keys, full_join_is_inner}
 use Rattle.range_map_blaze.specs.MapLaws.{AnswersAreOnItsKeys, FullJoinIsInnerJoin, HaveSameKeys, IsUniversalMap, LeftJoinIsOnTheLeftKeys}

@@ -5,13 +5,14 @@ use Rattle.std.specs.Prelude.{int_le}
 use Rattle.std.specs.Cmp.{IsEquivalence}
 use Rattle.std.proofs.lemmas.List.{map-append}
 use denote.Ref.{Bor}
+use Rattle.blaze_entries.proofs.Alike.{same_along, same_trans}
 use Rattle.blaze_table.specs.Entries.{Entry, at, holds, shown_entry, SameOption, SameEntries}
 use Rattle.blaze_table.specs.Canonical.{IsApart, IsCanonical, AreKeys, IsRangeMap}
 use Rattle.blaze_table.specs.Listed.{listed}
 use Rattle.blaze_table.specs.Painted.{last_at, painted_in_order}
-use Rattle.blaze_table.proofs.Painted.{content_as, length_as}
-use Rattle.blaze_table.proofs.Runs.{canonical, one_per_run}
-use Rattle.blaze_table.proofs.Unique.{same_along, same_trans, back}
+use Rattle.blaze_table.proofs.Paints.Painted.{content_as, length_as}
+use Rattle.blaze_table.proofs.Canonical.Runs.{canonical, one_per_run}
+use Rattle.blaze_table.proofs.Canonical.Unique.{back}
 use Rattle.blaze_table.specs.CanonicalOf.{keyed, IsCanonicalOf}
 use Rattle.range_map_blaze.proofs.Streams.{range_map_as, same-push}
 

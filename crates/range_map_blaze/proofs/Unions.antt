@@ -1,20 +1,19 @@
 -- A union has few entries: no more than a list that is made by painting the right list's entries over the left list.
 use Rattle.std.specs.Option.{option_or}
-use Rattle.std.proofs.Common.{◌+◌, ◌*◌, ◌≤◌, ℤ, Bool, cond, List, [], ◌∷◌, length, Option, Some, None, refl, ◌∙◌, sym, ap, subst, arith}
+use Rattle.std.proofs.Common.{◌+◌, ◌*◌, ◌≤◌, ℤ, Bool, cond, List, [], ◌∷◌, length, Some, None, refl, ◌∙◌, sym, ap, subst, arith}
 use Rattle.std.specs.Cmp.{IsEquivalence}
+use Rattle.blaze_entries.proofs.Alike.{same_itself, same_trans, same_back, same_or, or_assoc}
 use Rattle.blaze_table.specs.Entries.{Entry, at, holds, SameOption, SameContent}
 use Rattle.blaze_table.specs.Canonical.{IsCanonical, IsRangeMap}
 use Rattle.blaze_table.specs.Chosen.{right_first, IsChosen}
 use Rattle.blaze_table.specs.Painted.{last_at, painted_in_order}
 use Rattle.blaze_table.specs.Splice.{paint, after}
-use Rattle.blaze_table.proofs.Fewest.{fewest}
-use Rattle.blaze_table.proofs.Painted.{entries_themselves, is_painted}
-use Rattle.blaze_table.proofs.Runs.{canonical, one_per_run}
-use Rattle.blaze_table.proofs.Unique.{same_itself, same_trans}
+use Rattle.blaze_table.proofs.Canonical.Fewest.{fewest}
+use Rattle.blaze_table.proofs.Paints.Painted.{entries_themselves, is_painted}
+use Rattle.blaze_table.proofs.Canonical.Runs.{canonical, one_per_run}
 use Rattle.range_map_blaze.specs.Union.{IsUnion}
-use Rattle.range_map_blaze.proofs.PaintedOver.{last_is_first, turned}
-use Rattle.blaze_table.proofs.Lasts.{or_or, painted_one}
-use Rattle.range_map_blaze.proofs.Paintings.{or_alike}
+use Rattle.range_map_blaze.proofs.Paints.PaintedOver.{last_is_first, turned}
+use Rattle.blaze_table.proofs.Pairs.Lasts.{painted_one}
 
 -- a list with the content after the entries are painted in their order, with at most two entries more for each
 record IsManyPainted {V : Type 0} (eq : V → V → Bool) (ps old new : List (Entry V)) : Type 0 where
@@ -33,22 +32,16 @@ module _ {V : Type 0} (eq : V → V → Bool) (laws : IsEquivalence eq) where
         record {
           is_canonical = rest.1.is_canonical;
           content = λ k. same_trans eq laws (at rest.0 k) (option_or (last_at ps k) (at cur k)) _ (rest.1.content k)
-              (subst (SameOption eq (option_or (last_at ps k) (at cur k))) (sym (or_or (last_at ps k) (cond (holds p k) (Some p.value) None) (at old k)))
-              (or_alike eq laws (last_at ps k) (last_at ps k) (at cur k) _ (same_itself eq laws (last_at ps k)) (subst (SameOption eq (at cur k)) (painted_one (holds p k) p.value (at old k)) (one.content k))));
+              (subst (SameOption eq (option_or (last_at ps k) (at cur k))) (sym (or_assoc (last_at ps k) (cond (holds p k) (Some p.value) None) (at old k)))
+              (same_or eq (last_at ps k) (last_at ps k) (at cur k) _ (same_itself eq laws (last_at ps k)) (subst (SameOption eq (at cur k)) (painted_one (holds p k) p.value (at old k)) (one.content k))));
           few = omega (arith, rest.1.few, one.few);
         },
       )
-
-  same_symm : (a b : Option V) → SameOption eq a b → SameOption eq b a
-  same_symm None None s = tt
-  same_symm None (Some y) s = absurd s
-  same_symm (Some x) None s = absurd s
-  same_symm (Some x) (Some y) s = laws.symm y x ∙ s
 
   pub union_of : (low high : ℤ) (left right new : List (Entry V)) → IsRangeMap eq low high left → IsRangeMap eq low high right → IsChosen eq low high right_first left right new → IsUnion eq low high left right new
   union_of low high left right new l r c =
       let over = canonical eq laws right r.runs in
       let many = many_painted right left over (canonical eq laws left l.runs) in
       let same : SameContent eq new many.0 = λ k. same_trans eq laws (at new k) (right_first (at left k) (at right k)) (at many.0 k) (c.content k)
-      (same_symm (at many.0 k) _ (subst (SameOption eq (at many.0 k)) (ap (λ o. option_or o (at left k)) (last_is_first eq right k over) ∙ turned (at right k) (at left k)) (many.1.content k))) in
+      (same_back eq laws (at many.0 k) _ (subst (SameOption eq (at many.0 k)) (ap (λ o. option_or o (at left k)) (last_is_first eq right k over) ∙ turned (at right k) (at left k)) (many.1.content k))) in
       record { chosen = c; few = omega (arith, fewest eq laws new many.0 (canonical eq laws new c.range_map.runs) (one_per_run eq laws many.0 many.1.is_canonical).disjoint same, many.1.few) }

@@ -1,12 +1,10 @@
 -- When every key has a value.
 use Rattle.blaze_int.specs.Unsigned.{nat_of}
-use Rattle.std.proofs.Common.{◌≡◌, ℕ, zero, suc, ◌≤◌, ℤ, pos, ◌+ℤ◌, ◌-ℤ◌, ◌≤ℤ◌, ◌<ℤ◌, Bool, true, false, cond, not, Option, Some, None, refl, ◌∙◌, sym, ap, subst, arith}
-use Rattle.std.specs.Prelude.{is_some, IsSome, IsTrue}
+use Rattle.std.proofs.Common.{◌≡◌, ℕ, zero, suc, ◌≤◌, ℤ, pos, ◌+ℤ◌, ◌-ℤ◌, ◌≤ℤ◌, ◌<ℤ◌, Bool, true, false, not, Option, Some, None, refl, ◌∙◌, sym, ap, subst, arith}
+use Rattle.std.specs.Prelude.{IsSome, IsTrue}
 use Rattle.std.proofs.lemmas.Int.{ints, by_lt_z}
 use Rattle.blaze_table.specs.Count.{mapped, mapped_keys}
-
-abbrev one_if : {V : Type 0} → Option V → ℕ
-one_if o = cond (is_some o) 1 0
+use Rattle.blaze_table.proofs.Canonical.Mapped.{one_if}
 
 module _ {V : Type 0} (content : ℤ → Option V) where
   one_of : (o : Option V) → one_if o ≡ 1 → IsSome o

@@ -1,14 +1,15 @@
 -- One value on the ranges of a set.
 use Rattle.std.proofs.Common.{◌≡◌, ℤ, Bool, true, false, cond, List, [], ◌∷◌, ◌++◌, Option, Some, None, refl, ap}
 use Rattle.std.specs.Cmp.{IsEquivalence}
+use Rattle.blaze_entries.proofs.Alike.{same_trans}
 use Rattle.blaze_table.specs.Entries.{Entry, entry, at, holds, SameOption, SameEntries}
 use Rattle.blaze_table.specs.Canonical.{IsCanonical, IsApart, AreKeys, IsRangeMap}
 use Rattle.blaze_table.specs.Complement.{absent, IsComplement}
 use Rattle.blaze_table.specs.RangeSets.{unit_eq, IsRangeSet}
-use Rattle.blaze_table.proofs.Painted.{content_as}
-use Rattle.blaze_table.proofs.Runs.{canonical, one_per_run}
-use Rattle.blaze_table.proofs.Unique.{same_trans, back}
-use Rattle.blaze_table.proofs.UnitLaws.{unit_laws}
+use Rattle.blaze_table.proofs.Paints.Painted.{content_as}
+use Rattle.blaze_table.proofs.Canonical.Runs.{canonical, one_per_run}
+use Rattle.blaze_table.proofs.Canonical.Unique.{back}
+use Rattle.blaze_table.proofs.Pairs.UnitLaws.{unit_laws}
 use Rattle.range_map_blaze.proofs.Streams.{range_map_as}
 
 -- the ranges with a value

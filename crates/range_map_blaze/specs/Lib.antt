@@ -1,3 +1,27 @@
+-- What contracts say of lists of entries and of streams is passed on, so that who uses the map can cite it.
+pub use Rattle.blaze_table.specs.Entries
+pub use Rattle.blaze_table.specs.Counted
+pub use Rattle.blaze_table.specs.Canonical
+pub use Rattle.blaze_table.specs.CanonicalOf
+pub use Rattle.blaze_table.specs.Chosen
+pub use Rattle.blaze_table.specs.Complement
+pub use Rattle.blaze_table.specs.Count
+pub use Rattle.blaze_table.specs.Cut
+pub use Rattle.blaze_table.specs.Equality
+pub use Rattle.blaze_table.specs.Gap
+pub use Rattle.blaze_table.specs.Painted
+pub use Rattle.blaze_table.specs.RangeSets
+pub use Rattle.blaze_table.specs.Retain
+pub use Rattle.blaze_table.specs.Work
+pub use Rattle.blaze_streams.specs.Answers
+pub use Rattle.blaze_streams.specs.JoinAnswers
+pub use Rattle.blaze_streams.specs.Joins
+pub use Rattle.blaze_streams.specs.KeyRanges
+pub use Rattle.blaze_streams.specs.Ranges
+pub use Rattle.blaze_streams.specs.Segments
+pub use Rattle.blaze_streams.specs.Sweeps
+pub use Rattle.blaze_streams.specs.Events
+pub use Rattle.blaze_streams.specs.Violations
 pub mod Pairs
 pub mod Printed
 pub mod OneRange

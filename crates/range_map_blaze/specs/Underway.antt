@@ -5,19 +5,14 @@ use Rattle.blaze_table.specs.Entries.{Entry, entry, SameOption}
 use Rattle.blaze_table.specs.Canonical.{IsCanonical}
 use Rattle.blaze_table.specs.Painted.{last_at}
 use Rattle.range_map_blaze.specs.Extended.{AreInside, IsExtended}
-use Rattle.range_map_blaze.specs.declared.paint.joining.Pair.{Pair}
-
--- a pair, as an entry
-abbrev pub shown_pair : {T V : Type 0} → (T → ℤ) → Pair T V → Entry V
-shown_pair rank p = record { lo = rank p.start; hi = rank p.end; value = p.value }
 
 -- the ranges touch or overlap, and the values are equal
 abbrev pub are_one_pair : {V : Type 0} → (V → V → Bool) → Entry V → Entry V → Bool
 are_one_pair eq p n = (int_le n.lo (p.hi +ℤ pos 1) && int_le p.lo (n.hi +ℤ pos 1)) && eq p.value n.value
 
 -- from the lesser start to the greater end, with the value of the first
-abbrev pub joined : {V : Type 0} → Entry V → Entry V → Entry V
-joined p n = entry (if int_lt n.lo p.lo then n.lo else p.lo) (if int_lt p.hi n.hi then n.hi else p.hi) p.value
+abbrev pub joined_pair : {V : Type 0} → Entry V → Entry V → Entry V
+joined_pair p n = entry (if int_lt n.lo p.lo then n.lo else p.lo) (if int_lt p.hi n.hi then n.hi else p.hi) p.value
 
 -- Of the pairs the first are painted, and the pending pair, if there is one, stands for the others.
 pub record IsUnderway {V : Type 0} (eq : V → V → Bool) (low high : ℤ) (pairs old new : List (Entry V)) (pending : Option (Entry V)) : Type 0 where

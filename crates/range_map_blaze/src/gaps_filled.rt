@@ -12,7 +12,7 @@ use blaze_table::RangeTable;
 use std::alloc::{AllocError, Global};
 
 /// Every key of the type, with a reference to the value of a table or with none, as a stream.
-fn filled<T: Integer, V: Eq + Clone>(
+fn with_gaps<T: Integer, V: Eq + Clone>(
     alloc: Global,
     table: &RangeTable<T, V>,
 ) -> Result<CanonMapIter<T, Option<&V>>, AllocError>
@@ -32,7 +32,7 @@ impl<T: Integer, V: Eq + Clone> RangeMapBlaze<T, V> {
             → IsSome (at map.entries k)) }
     {
         let alloc = self.allocator();
-        let stream = filled(alloc, &self.table)?;
+        let stream = with_gaps(alloc, &self.table)?;
         let map = RangeMapBlaze::from_sorted_disjoint_map(alloc, stream)?;
         Ok(map)
     }

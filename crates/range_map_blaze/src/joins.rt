@@ -156,7 +156,8 @@ impl<T: Integer, V: Eq + Clone> RangeMapBlaze<T, V> {
         Ok(map)
     }
 
-    /// The same where this map has a value, with the other's where it has one.
+    /// The same where this map has a value, with the other's where it has one. Refused memory leaves both maps unchanged and
+    /// drops the answers.
     pub fn left_join<V2: Eq + Clone, W: Eq + Clone, F: FnMut(&V, Option<&V2>) -> W>(
         &self,
         other: &RangeMapBlaze<T, V2>,
@@ -173,7 +174,7 @@ impl<T: Integer, V: Eq + Clone> RangeMapBlaze<T, V> {
         Ok(map)
     }
 
-    /// The same where at least one map has a value.
+    /// The same where at least one map has a value. Refused memory leaves both maps unchanged and drops the answers.
     pub fn full_join<V2: Eq + Clone, W: Eq + Clone, F: FnMut(Option<&V>, Option<&V2>) -> W>(
         &self,
         other: &RangeMapBlaze<T, V2>,

@@ -6,9 +6,8 @@ ghost use Rattle.blaze_table.specs.Count.{keys_in, mapped_keys};
 ghost use Rattle.blaze_table.specs.Laws.{IsShortest};
 ghost use Rattle.blaze_table.specs.Painted.{ClonesAreAlike};
 
-use blaze_int::Integer;
 use blaze_int::compare::length;
-use blaze_int::length::differ;
+use blaze_int::{Integer, differ};
 use blaze_streams::RangeValuesIter;
 use blaze_table::RangeTable;
 use blaze_table::laws::canonical_is_shortest;
@@ -123,7 +122,7 @@ impl<T: Integer, V: Eq + Drop> RangeMapBlaze<T, V> {
 }
 
 impl<T: Integer, V: Eq + Clone> RangeMapBlaze<T, V> {
-    /// A map of the same ranges, each with a clone of its value.
+    /// A map of the same ranges, each with a clone of its value. Refused memory leaves this map unchanged.
     pub fn clone(&self) -> Result<Self, AllocError>
         requires { ClonesAreAlike V.is_clone V.eq }
         ensures { IfOk result (λ copy. SameEntries V.eq self.now.entries copy.entries) }

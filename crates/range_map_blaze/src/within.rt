@@ -3,20 +3,12 @@ ghost use Rattle.std.specs.Prelude.{◌≡◌, ◌≤ℤ◌, option_map, IfOk};
 ghost use Rattle.blaze_table.specs.Entries.{shown_entry, SameEntries};
 ghost use Rattle.blaze_table.specs.Listed.{listed};
 ghost use Rattle.blaze_table.specs.Painted.{ClonesAreAlike};
-ghost use Rattle.std.specs.Int.{int_min};
 ghost use Rattle.range_map_blaze.specs.Within.{within, following, with_following};
 
 use crate::map::RangeMapBlaze;
 use blaze_int::Integer;
-use blaze_int::compare::{is_at_most, is_below};
+use blaze_int::compare::{is_at_most, lesser};
 use std::alloc::AllocError;
-
-// The lesser of two keys.
-fn lesser<T: Integer>(a: T, b: T) -> T
-    ensures { T.rank result ≡ int_min (T.rank b) (T.rank a) }
-{
-    if is_below(a, b) { a } else { b }
-}
 
 impl<T: Integer, V: Eq> RangeMapBlaze<T, V> {
     // The first entry that starts above a key, without its keys above `end`; `None` where it starts above `end`.

@@ -25,7 +25,7 @@ alike_words None (Some y) e = cc
 alike_words (Some x) None e = cc
 alike_words (Some x) (Some y) e = (bytes_decides (string_bytes x) (string_bytes y)).1 (same_Some (string_bytes x) (string_bytes y) e)
 
-words_if : (t : Bool) (text : String Global) (old : Option (String Global)) → option_map string_bytes (cond t (Some text) old) ≡ cond t (Some (string_bytes text)) (option_map string_bytes old)
+pub words_if : (t : Bool) (text : String Global) (old : Option (String Global)) → option_map string_bytes (cond t (Some text) old) ≡ cond t (Some (string_bytes text)) (option_map string_bytes old)
 words_if true text old = refl
 words_if false text old = refl
 

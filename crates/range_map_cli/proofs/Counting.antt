@@ -4,6 +4,7 @@ use mathlib.Core.Path.{fun_ext}
 use Rattle.std.proofs.lemmas.Bool.{eq-eqb, ne_eqb, cases_eq}
 use Rattle.std.specs.declared.string.String.{String}
 use Rattle.std.specs.declared.alloc.Global.{Global}
+use Rattle.blaze_int.proofs.Naturals.{pos_injective}
 use Rattle.blaze_table.specs.Entries.{Entry, at}
 use Rattle.blaze_table.specs.Count.{keys_in, mapped, mapped_keys}
 use Rattle.blaze_table.specs.Painted.{painted}
@@ -31,11 +32,8 @@ changed_counts changed lo hi word old new counted_old counted_new same says =
     let now : mapped_count (painted lo hi word (content_of old)) ≡ mapped_keys least_key greatest_key (at new) = ap mapped_count (sym (fun_ext same)) ∙ mapped_count-content_of new in
     let before : mapped_count (content_of old) ≡ mapped_keys least_key greatest_key (at old) = mapped_count-content_of old in (
       λ is e. says.0 is (counted_new ∙ ap pos (sym now ∙ e ∙ before) ∙ sym counted_old),
-      λ ne. says.1 (λ e. ne (now ∙ pos_inj _ _ (sym counted_new ∙ e ∙ counted_old) ∙ sym before)),
+      λ ne. says.1 (λ e. ne (now ∙ pos_injective _ _ (sym counted_new ∙ e ∙ counted_old) ∙ sym before)),
     )
-  where
-    pos_inj : (m n : ℕ) → pos m ≡ pos n → m ≡ n
-    pos_inj m n e = cc
 
 -- what is printed says whether two numbers differ
 pub differ_text : (differ : Bool) (m n : ℕ) → (IsTrue differ ↔ (¬ (m ≡ n))) → cond (eqb m n) (codes "false") (codes "true") ≡ cond differ (codes "true") (codes "false")

@@ -5,16 +5,16 @@ use Rattle.std.specs.Cmp.{IsEquivalence, IsTotalOrder}
 use Rattle.std.specs.Ordering.{is_eq}
 use Rattle.std.specs.declared.cmp.Ordering.{Ordering}
 use Rattle.blaze_int.specs.Ranked.{IsKey}
+use Rattle.blaze_entries.proofs.Alike.{same_along}
 use Rattle.blaze_table.specs.Canonical.{AreKeys}
 use Rattle.blaze_table.specs.Entries.{Entry, at, SameContent, SameOption}
 use Rattle.blaze_table.specs.Equality.{same_entries}
-use Rattle.blaze_table.proofs.SameLists.{content_decides}
-use Rattle.blaze_table.proofs.Unique.{same_along}
+use Rattle.blaze_table.proofs.Canonical.SameLists.{content_decides}
 use Rattle.range_map_blaze.specs.Order.{map_cmp}
 use Rattle.range_map_blaze.specs.OrderLaws.{map_cmp_total}
-use Rattle.range_map_blaze.proofs.MapOrder.{order_of_pairs, ties_where_equal}
+use Rattle.range_map_blaze.proofs.Order.MapOrder.{order_of_pairs, ties_where_equal}
 use Rattle.range_map_cli.specs.Laws.{EqualWhereGetsAre, IsOrderOfMaps}
-use Rattle.range_map_cli.proofs.EndKeys.{at_key}
+use Rattle.range_map_cli.proofs.Stepping.EndKeys.{at_key}
 
 -- what is no key has no value
 none_off : {V : Type 0} (low high : ℤ) (es : List (Entry V)) (k : ℤ) → AreKeys low high es → ((low ≤ℤ k) × (k ≤ℤ high) → ⊥) → at es k ≡ None

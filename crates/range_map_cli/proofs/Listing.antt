@@ -9,14 +9,15 @@ use Rattle.std.specs.String.{string_eq}
 use Rattle.std.specs.List.{list_all, flat_map}
 use Rattle.std.specs.Char.{is_ascii_alphanumeric, is_ascii}
 use Rattle.std.specs.Fmt.{debug_escape, debug_str, signed_decimal, option_append, AppendsText}
+use Rattle.std.proofs.lemmas.Bool.{and_parts}
 use Rattle.blaze_table.specs.Entries.{Entry, entry, at, holds, SameOption}
 use Rattle.blaze_table.specs.Canonical.{IsOnePerRun, IsDisjoint, IsAscending, IsClear, HasStart, HasEnd, IsRunStart, IsRunEnd}
+use Rattle.blaze_table.proofs.Canonical.Lookup.{at_clear}
 use Rattle.range_map_blaze.specs.Printed as printed
 use Rattle.range_map_cli.specs.Commands.{is_word, Entries}
 use Rattle.range_map_cli.specs.Replies.{Replies, entry_text, entries_text}
 use Rattle.range_map_cli.specs.States.{content_of, HasWords}
-use Rattle.range_map_cli.proofs.Texts.{both_true}
-use Rattle.range_map_cli.proofs.EntryAt.{clear_at}
+use Rattle.range_map_cli.proofs.Contents.{words_if}
 
 -- the entry with its word, without where it lies
 abbrev word_entry : Entry (String Global) → Entry (List ℕ)
@@ -27,11 +28,7 @@ word_entries es = map word_entry es
 
 at-words : (es : List (Entry (String Global))) (k : ℤ) → at (word_entries es) k ≡ content_of es k
 at-words [] k = refl
-at-words (e ∷ es) k = ap (λ o. cond (holds e k) (Some (string_bytes e.value)) o) (at-words es k) ∙ sym (if_word (holds e k) e.value (at es k))
-  where
-    if_word : (t : Bool) (text : String Global) (o : Option (String Global)) → option_map string_bytes (cond t (Some text) o) ≡ cond t (Some (string_bytes text)) (option_map string_bytes o)
-    if_word true text o = refl
-    if_word false text o = refl
+at-words (e ∷ es) k = ap (λ o. cond (holds e k) (Some (string_bytes e.value)) o) (at-words es k) ∙ sym (words_if (holds e k) e.value (at es k))
 
 clear-words : (e : Entry (String Global)) (es : List (Entry (String Global))) → IsClear e es → IsClear (word_entry e) (word_entries es)
 clear-words e [] h = tt
@@ -99,7 +96,7 @@ holds_lo : (l h : ℤ) → l ≤ℤ h → (int_le l l && int_le l h) ≡ true
 holds_lo l h o = grind (arith, ints)
 
 rest_words : (e : Entry (String Global)) (es : List (Entry (String Global))) → IsClear e es → HasWords (content_of (e ∷ es)) → HasWords (content_of es)
-rest_words e es clear words k = by_cases (holds e k) (words k) (clear_at e es k clear)
+rest_words e es clear words k = by_cases (holds e k) (words k) (at_clear e es k clear)
   where
     by_cases : (t : Bool) → IfSome (option_map string_bytes (cond t (Some e.value) (at es k))) (λ w. is_word w ≡ true) → (t ≡ true → at es k ≡ None) → IfSome (content_of es k) (λ w. is_word w ≡ true)
     by_cases true h none = subst (λ (o : Option (String Global)). IfSome (option_map string_bytes o) (λ w. is_word w ≡ true)) (sym (none refl)) tt
@@ -121,16 +118,16 @@ ascii c h = grind (arith, nat_tests)
 
 all_ascii : (w : List ℕ) → list_all is_ascii_alphanumeric w ≡ true → list_all is_ascii w ≡ true
 all_ascii [] h = refl
-all_ascii (c ∷ w) h = let parts = both_true (is_ascii_alphanumeric c) (list_all is_ascii_alphanumeric w) h in rw (ascii c parts.0) (all_ascii w parts.1)
+all_ascii (c ∷ w) h = let parts = and_parts (is_ascii_alphanumeric c) (list_all is_ascii_alphanumeric w) h in rw (ascii c parts.0) (all_ascii w parts.1)
 
 all_plain : (w : List ℕ) → list_all is_ascii_alphanumeric w ≡ true → flat_map (debug_escape 34) w ≡ w
 all_plain [] h = refl
-all_plain (c ∷ w) h = let parts = both_true (is_ascii_alphanumeric c) (list_all is_ascii_alphanumeric w) h in ap (λ l. l ++ flat_map (debug_escape 34) w) (plain c parts.0) ∙ ap (λ l. c ∷ l) (all_plain w parts.1)
+all_plain (c ∷ w) h = let parts = and_parts (is_ascii_alphanumeric c) (list_all is_ascii_alphanumeric w) h in ap (λ l. l ++ flat_map (debug_escape 34) w) (plain c parts.0) ∙ ap (λ l. c ∷ l) (all_plain w parts.1)
 
 -- the word itself, between quotes
 debug_word : (w : List ℕ) → is_word w ≡ true → debug_str w ≡ Some (34 ∷ (w ++ 34 ∷ []))
 debug_word w good =
-    let h = (both_true (nat_le 1 (length w) && nat_le (length w) 32) (list_all is_ascii_alphanumeric w) good).1 in
+    let h = (and_parts (nat_le 1 (length w) && nat_le (length w) 32) (list_all is_ascii_alphanumeric w) good).1 in
     rw (all_ascii w h) (ap (λ l. Some (34 ∷ (l ++ 34 ∷ []))) (all_plain w h))
 
 abbrev key_text : ℤ → Option (List ℕ)

@@ -3,11 +3,12 @@ use Rattle.blaze_int.specs.Unsigned.{nat_of}
 use Rattle.std.specs.Option.{option_xor}
 use Rattle.std.proofs.Common.{◌≡◌, ℕ, zero, suc, ◌+◌, ℤ, pos, ◌+ℤ◌, ◌-ℤ◌, Bool, cond, Option, Some, None, is_some, refl, arith}
 use Rattle.std.specs.Prelude.{IsSome}
+use Rattle.blaze_entries.proofs.Alike.{or_none, is_some_alike}
 use Rattle.blaze_table.specs.Entries.{at}
 use Rattle.blaze_table.specs.Chosen.{right_first, left_with_right, left_alone}
 use Rattle.blaze_table.specs.Count.{mapped, mapped_keys}
 use Rattle.range_map_cli.specs.Laws.{CountsAddUp, DisjointUnionCommutes, EmptyIsUnit, PartsHaveItsKeys, SetKeeps, UnionIsAssociative, UnionIsIdempotent, UniversalKeeps, XorWithItselfIsEmpty}
-use Rattle.range_map_cli.proofs.EndKeys.{alike_same, mapped_alike}
+use Rattle.range_map_cli.proofs.Stepping.EndKeys.{mapped_alike}
 
 module _ {V : Type 0} where
   -- ---- counts
@@ -28,8 +29,8 @@ module _ {V : Type 0} where
   pub counts_add_up : (eq : V → V → Bool) (low high : ℤ) → CountsAddUp eq low high
   counts_add_up eq low high a b either both union meet =
       let n : ℕ = nat_of (high -ℤ low +ℤ pos 1) in
-      let in_either : mapped_keys low high (at either) ≡ mapped_keys low high (λ k. right_first (at a k) (at b k)) = mapped_alike (at either) (λ k. right_first (at a k) (at b k)) (λ k. alike_same eq _ _ (union.content k)) low n in
-      let in_both : mapped_keys low high (at both) ≡ mapped_keys low high (λ k. left_with_right (at b k) (at a k)) = mapped_alike (at both) (λ k. left_with_right (at b k) (at a k)) (λ k. alike_same eq _ _ (meet.content k)) low n in
+      let in_either : mapped_keys low high (at either) ≡ mapped_keys low high (λ k. right_first (at a k) (at b k)) = mapped_alike (at either) (λ k. right_first (at a k) (at b k)) (λ k. is_some_alike eq _ _ (union.content k)) low n in
+      let in_both : mapped_keys low high (at both) ≡ mapped_keys low high (λ k. left_with_right (at b k) (at a k)) = mapped_alike (at both) (λ k. left_with_right (at b k) (at a k)) (λ k. is_some_alike eq _ _ (meet.content k)) low n in
       let sum = keys_add_up (at a) (at b) low n in
       omega (arith, in_either, in_both, sum)
 
@@ -50,11 +51,7 @@ module _ {V : Type 0} where
       by_value (Some v) = refl
 
   pub empty_is_unit : EmptyIsUnit V
-  empty_is_unit x k = (refl, by_value (x k))
-    where
-      by_value : (a : Option V) → right_first None a ≡ a
-      by_value None = refl
-      by_value (Some v) = refl
+  empty_is_unit x k = (refl, or_none (x k))
 
   pub disjoint_union_commutes : DisjointUnionCommutes V
   disjoint_union_commutes x y apart k = by_values (x k) (y k) (apart k)

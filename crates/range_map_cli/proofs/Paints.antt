@@ -4,21 +4,21 @@ use Rattle.std.proofs.Common.{◌≡◌, ℤ, ◌≤ℤ◌, ◌<ℤ◌, Bool, tr
 use Rattle.std.proofs.lemmas.Int.{ints, by_lt_z}
 use Rattle.std.specs.Cmp.{IsEquivalence, signed_Decides}
 use Rattle.std.specs.Ordering.{int_eq}
+use Rattle.blaze_entries.proofs.Alike.{same_along, same_itself, same_trans, same_or_right, or_assoc}
 use Rattle.blaze_table.specs.Canonical.{IsRangeMap}
 use Rattle.blaze_table.specs.Chosen.{right_first, IsChosen}
 use Rattle.blaze_table.specs.Cut.{below_at, from_at}
 use Rattle.blaze_table.specs.Entries.{Entry, entry, at, holds, SameEntries, SameOption}
 use Rattle.blaze_table.specs.Painted.{last_at, painted_in_order}
 use Rattle.blaze_table.specs.Pairs.{value_at, IsAscendingPairs}
-use Rattle.blaze_table.proofs.Lasts.{or_or, painted_one}
-use Rattle.blaze_table.proofs.ListLaws.{canonical_is_unique}
-use Rattle.blaze_table.proofs.PairLaws.{pairs_are_content}
-use Rattle.blaze_table.proofs.Runs.{canonical}
-use Rattle.blaze_table.proofs.Unique.{same_along, same_itself, same_trans}
+use Rattle.blaze_table.proofs.Pairs.Lasts.{painted_one}
+use Rattle.blaze_table.proofs.Canonical.ListLaws.{canonical_is_unique}
+use Rattle.blaze_table.proofs.Pairs.PairLaws.{pairs_are_content}
+use Rattle.blaze_table.proofs.Canonical.Runs.{canonical}
 use Rattle.range_map_blaze.specs.Order.{ranked_pairs}
-use Rattle.range_map_blaze.proofs.PaintedOver.{last_is_first, painted_over, turned}
+use Rattle.range_map_blaze.proofs.Paints.PaintedOver.{last_is_first, painted_over, turned}
 use Rattle.range_map_cli.specs.Laws.{points_of, AppendUndoesSplit, ArePaintedInTurn, UnionIsPainting}
-use Rattle.range_map_cli.proofs.Stepped.{same_back}
+use Rattle.range_map_cli.proofs.Stepping.Stepped.{same_back}
 
 -- ---- points
 
@@ -58,10 +58,6 @@ module _ {V : Type 0} (eq : V → V → Bool) (laws : IsEquivalence eq) (low hig
 
   -- ---- one by one
 
-  same_or : (x a b : Option V) → SameOption eq a b → SameOption eq (option_or x a) (option_or x b)
-  same_or None a b s = s
-  same_or (Some v) a b s = laws.refl v
-
   -- a range map has the content of the pairs painted in order
   record IsPaintedInOrder (pairs old new : List (Entry V)) : Type 0 where
     range_map : IsRangeMap eq low high new
@@ -75,8 +71,8 @@ module _ {V : Type 0} (eq : V → V → Bool) (laws : IsEquivalence eq) (low hig
         range_map = rest.range_map;
         content = λ k. same_trans eq laws (at new k) (painted_in_order ps (at next) k) (painted_in_order (p ∷ ps) (at old) k) (rest.content k)
             (subst (SameOption eq (option_or (last_at ps k) (at next k)))
-            (ap (option_or (last_at ps k)) (painted_one (holds p k) p.value (at old k)) ∙ sym (or_or (last_at ps k) (cond (holds p k) (Some p.value) None) (at old k)))
-            (same_or (last_at ps k) (at next k) (cond (holds p k) (Some p.value) (at old k)) (one.content k)));
+            (ap (option_or (last_at ps k)) (painted_one (holds p k) p.value (at old k)) ∙ sym (or_assoc (last_at ps k) (cond (holds p k) (Some p.value) None) (at old k)))
+            (same_or_right eq laws (last_at ps k) (at next k) (cond (holds p k) (Some p.value) (at old k)) (one.content k)));
       }
 
   -- ---- unions

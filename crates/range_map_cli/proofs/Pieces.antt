@@ -10,12 +10,13 @@ use Rattle.std.proofs.lemmas.Int.{ints, by_lt_z}
 use Rattle.blaze_table.specs.Entries.{Entry, entry, at, entry_at}
 use Rattle.blaze_table.specs.Canonical.{IsRunStart, IsRunEnd, IsRangeMap}
 use Rattle.blaze_table.specs.Gap.{IsGap}
+use Rattle.blaze_table.proofs.Canonical.Lookup.{holds_in, holds_ends}
 use Rattle.range_map_cli.specs.Commands.{At}
 use Rattle.range_map_cli.specs.Pieces.{IsSameFrom, IsPiece}
 use Rattle.range_map_cli.specs.Replies.{Content, greatest_key, least_key, line, Replies, word_or_dash}
 use Rattle.range_map_cli.specs.States.{content_of}
 use Rattle.range_map_cli.proofs.Contents.{alike_words}
-use Rattle.range_map_cli.proofs.EntryAt.{holds_in, holds_between, entry_holds, entry_starts, entry_ends, entry_keys, entry_value}
+use Rattle.range_map_cli.proofs.Stepping.EntryAt.{entry_holds, entry_starts, entry_ends, entry_keys, entry_value}
 
 -- the entry of a canonical list that holds a key
 module _ (low high : ℤ) (es : List (Entry (String Global))) (k a b : ℤ) (v : String Global) (map : IsRangeMap string_eq low high es) (is : entry_at es k ≡ Some (entry a b v)) where
@@ -23,7 +24,7 @@ module _ (low high : ℤ) (es : List (Entry (String Global))) (k a b : ℤ) (v :
   word_from j l h = ap (option_map string_bytes) (entry_value k (entry a b v) es j map.runs.disjoint is (holds_in (entry a b v) j l h))
 
   within : (a ≤ℤ k) × (k ≤ℤ b)
-  within = holds_between (entry a b v) k (entry_holds k (entry a b v) es is)
+  within = holds_ends (entry a b v) k (entry_holds k (entry a b v) es is)
 
   word_here : content_of es k ≡ Some (string_bytes v)
   word_here = word_from k within.0 within.1

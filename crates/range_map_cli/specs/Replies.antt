@@ -31,15 +31,15 @@ abbrev pub mapped_count : Content → ℕ
 mapped_count content = mapped_keys least_key greatest_key content
 
 -- the content after a command
-abbrev pub after : Command → Content → Content
-after Blank content = content
-after (Paint lo hi word) content = painted lo hi word content
-after (Insert key word) content = painted key key word content
-after (Remove key) content = cut_at key content
-after (Get key) content = content
-after (At key) content = content
-after Len content = content
-after Entries content = content
+abbrev pub content_after : Command → Content → Content
+content_after Blank content = content
+content_after (Paint lo hi word) content = painted lo hi word content
+content_after (Insert key word) content = painted key key word content
+content_after (Remove key) content = cut_at key content
+content_after (Get key) content = content
+content_after (At key) content = content
+content_after Len content = content
+content_after Entries content = content
 
 -- (1..=2, "a")
 abbrev pub entry_text : Entry (List ℕ) → List ℕ

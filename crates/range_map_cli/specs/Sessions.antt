@@ -3,7 +3,7 @@ use Rattle.std.specs.Prelude.{◌≡◌, ℕ, ◌+◌, ◌-◌, ◌≤◌, ◌^�
 use Rattle.std.specs.Io.KnownBytes.{Appends}
 use Rattle.range_map_cli.specs.Lines.{lines_of, ends_in, Lacks}
 use Rattle.range_map_cli.specs.Commands.{Command}
-use Rattle.range_map_cli.specs.Replies.{Content, nothing, after}
+use Rattle.range_map_cli.specs.Replies.{Content, nothing, content_after}
 use Rattle.range_map_cli.specs.Output.{commands_of, has_bad, Answers, Closes}
 use Rattle.range_map_cli.specs.States.{content_of, HasWords}
 use Rattle.range_map_cli.specs.declared.session.Session.{Session}
@@ -12,7 +12,7 @@ use Rattle.range_map_cli.specs.declared.End.{End}
 -- the content after all of the commands
 abbrev pub after_all : List Command → Content → Content
 after_all [] content = content
-after_all (command ∷ commands) content = after_all commands (after command content)
+after_all (command ∷ commands) content = after_all commands (content_after command content)
 
 -- of all these bytes a writer that held and holds what is given took a beginning, and the rest waits
 abbrev pub Forwards : Option (List ℕ) → Option (List ℕ) → List ℕ → List ℕ → Type 0

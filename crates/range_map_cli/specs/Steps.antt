@@ -18,14 +18,14 @@ use Rattle.range_map_cli.specs.declared.step.Answer.TheVariants.{Wrote, Old, Pop
 -- ---- the least and the greatest key
 
 -- the least of the n keys from a on that has a value
-unfoldable pub first_of : {V : Type 0} → (ℤ → Option V) → ℤ → ℕ → Option ℤ
-first_of content a zero = None
-first_of content a (suc n) = if is_some (content a) then Some a else first_of content (a +ℤ pos 1) n
+unfoldable pub least_mapped : {V : Type 0} → (ℤ → Option V) → ℤ → ℕ → Option ℤ
+least_mapped content a zero = None
+least_mapped content a (suc n) = if is_some (content a) then Some a else least_mapped content (a +ℤ pos 1) n
 
 -- the greatest of the n keys from b down that has a value
-unfoldable pub last_of : {V : Type 0} → (ℤ → Option V) → ℤ → ℕ → Option ℤ
-last_of content b zero = None
-last_of content b (suc n) = if is_some (content b) then Some b else last_of content (b -ℤ pos 1) n
+unfoldable pub greatest_mapped : {V : Type 0} → (ℤ → Option V) → ℤ → ℕ → Option ℤ
+greatest_mapped content b zero = None
+greatest_mapped content b (suc n) = if is_some (content b) then Some b else greatest_mapped content (b -ℤ pos 1) n
 
 -- a key with its value, if it has one
 abbrev pub pair_of : {V : Type 0} → ℤ → Option V → Option (ℤ × V)
@@ -44,11 +44,11 @@ without (Some k) content j = cut_at k content j
 
 -- the least key that has a value
 abbrev pub first_key : {V : Type 0} → ℤ → ℤ → (ℤ → Option V) → Option ℤ
-first_key low high content = first_of content low (nat_of (high -ℤ low +ℤ pos 1))
+first_key low high content = least_mapped content low (nat_of (high -ℤ low +ℤ pos 1))
 
 -- the greatest key that has a value
 abbrev pub last_key : {V : Type 0} → ℤ → ℤ → (ℤ → Option V) → Option ℤ
-last_key low high content = last_of content high (nat_of (high -ℤ low +ℤ pos 1))
+last_key low high content = greatest_mapped content high (nat_of (high -ℤ low +ℤ pos 1))
 
 -- a value on the keys that have none, and none on the others
 abbrev pub complemented : {V : Type 0} → ℤ → ℤ → V → (ℤ → Option V) → ℤ → Option V
@@ -63,22 +63,22 @@ module _ {T V L : Type 0} (rank : T → ℤ) (low high : ℤ) where
   -- ---- one step
 
   -- the content after a step
-  abbrev pub after : Step T V L → (ℤ → Option V) → ℤ → Option V
-  after (Paint lo hi v) content = painted (rank lo) (rank hi) v content
-  after (Insert k v) content = painted (rank k) (rank k) v content
-  after (Remove k) content = cut_at (rank k) content
-  after PopFirst content = without (first_key low high content) content
-  after PopLast content = without (last_key low high content) content
-  after Clear content = λ _. None
-  after (KeepBelow k) content = below_at (rank k) content
-  after (KeepFrom k) content = from_at (rank k) content
-  after (Or other) content = λ k. right_first (content k) (at other.entries k)
-  after (And other) content = λ k. left_with_right (at other.entries k) (content k)
-  after (Minus other) content = λ k. left_alone (content k) (at other.entries k)
-  after (Xor other) content = λ k. option_xor (content k) (at other.entries k)
-  after (AndSet keys) content = λ k. left_with_right (content k) (at keys k)
-  after (MinusSet keys) content = λ k. left_alone (content k) (at keys k)
-  after (ComplementWith v) content = complemented low high v content
+  abbrev pub content_after : Step T V L → (ℤ → Option V) → ℤ → Option V
+  content_after (Paint lo hi v) content = painted (rank lo) (rank hi) v content
+  content_after (Insert k v) content = painted (rank k) (rank k) v content
+  content_after (Remove k) content = cut_at (rank k) content
+  content_after PopFirst content = without (first_key low high content) content
+  content_after PopLast content = without (last_key low high content) content
+  content_after Clear content = λ _. None
+  content_after (KeepBelow k) content = below_at (rank k) content
+  content_after (KeepFrom k) content = from_at (rank k) content
+  content_after (Or other) content = λ k. right_first (content k) (at other.entries k)
+  content_after (And other) content = λ k. left_with_right (at other.entries k) (content k)
+  content_after (Minus other) content = λ k. left_alone (content k) (at other.entries k)
+  content_after (Xor other) content = λ k. option_xor (content k) (at other.entries k)
+  content_after (AndSet keys) content = λ k. left_with_right (content k) (at keys k)
+  content_after (MinusSet keys) content = λ k. left_alone (content k) (at keys k)
+  content_after (ComplementWith v) content = complemented low high v content
 
   -- what a step answers on a content: keys are told by their ranks
   abbrev pub answer : Step T V L → (ℤ → Option V) → Answer ℤ V
@@ -103,12 +103,12 @@ module _ {T V L : Type 0} (rank : T → ℤ) (low high : ℤ) where
   -- the content after the steps, one after another
   abbrev pub after_all : List (Step T V L) → (ℤ → Option V) → ℤ → Option V
   after_all [] content = content
-  after_all (step ∷ steps) content = after_all steps (after step content)
+  after_all (step ∷ steps) content = after_all steps (content_after step content)
 
   -- what the steps answer, each on the content that those before it leave
   abbrev pub answers : List (Step T V L) → (ℤ → Option V) → List (Answer ℤ V)
   answers [] content = []
-  answers (step ∷ steps) content = answer step content ∷ answers steps (after step content)
+  answers (step ∷ steps) content = answer step content ∷ answers steps (content_after step content)
 
 -- ---- answers compared
 
@@ -139,7 +139,7 @@ SameAnswers rank eq (a ∷ given) (b ∷ bs) = SameAnswer rank eq a b × SameAns
 -- a range map has the content that the step means on the old one
 pub record IsStepped {T V L : Type 0} (eq : V → V → Bool) (rank : T → ℤ) (low high : ℤ) (step : Step T V L) (old new : List (Entry V)) : Type 0 where
   pub range_map : IsRangeMap eq low high new
-  pub content : (k : ℤ) → SameOption eq (at new k) (after rank low high step (at old) k)
+  pub content : (k : ℤ) → SameOption eq (at new k) (content_after rank low high step (at old) k)
 
 -- the same of all the steps, one after another
 pub record IsSteppedAll {T V L : Type 0} (eq : V → V → Bool) (rank : T → ℤ) (low high : ℤ) (steps : List (Step T V L)) (old new : List (Entry V)) : Type 0 where

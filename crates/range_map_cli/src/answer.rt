@@ -6,7 +6,7 @@ ghost use Rattle.blaze_table.specs.Cut.{cut_at};
 ghost use Rattle.blaze_table.specs.Painted.{painted};
 ghost use Rattle.range_map_cli.specs.Commands.{asked, Blank};
 ghost use Rattle.range_map_cli.specs.Pieces.{IsPiece};
-ghost use Rattle.range_map_cli.specs.Replies.{after, greatest_key, mapped_count, least_key};
+ghost use Rattle.range_map_cli.specs.Replies.{content_after, greatest_key, mapped_count, least_key};
 ghost use Rattle.range_map_cli.specs.Replies.{word_or_dash as shown_word, Replies};
 ghost use Rattle.range_map_cli.specs.States.{content_of, HasWords};
 
@@ -93,7 +93,7 @@ pub fn answer(
     ensures reply { OnOk result (HasWords (content_of map.old.entries)
         → Replies (content_of map.old.entries) (asked request.entry) (string_bytes reply.new)) }
     ensures content { OnOk result ((key : ℤ) → content_of map.new.entries key
-        ≡ after (asked request.entry) (content_of map.old.entries) key) }
+        ≡ content_after (asked request.entry) (content_of map.old.entries) key) }
     ensures refused { OnErr result (asked request.entry ≢ Blank) }
 {
     reply.clear();

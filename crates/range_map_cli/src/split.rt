@@ -9,6 +9,12 @@ pub fn split_once(text: &[u8], byte: u8) -> Option<(&[u8], &[u8])>
     ensures { MatchOption result (Lacks byte text.now) (λ parts. Lacks byte parts.0.now
         × (text.now ≡ parts.0.now ++ byte ∷ parts.1.now)) }
 {
+    // a line without bytes, at a step
+    if let Some((first, after)) = text.split_first() {
+        if *first == byte {
+            return Some((b"", after));
+        }
+    }
     let at = memchr(byte, text)?;
     let (before, rest) = text.split_at(at);
     let (_, after) = rest.split_at(1);

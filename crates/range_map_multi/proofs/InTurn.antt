@@ -4,7 +4,7 @@ use Rattle.std.specs.Cmp.{IsEquivalence, bool_eq_equiv}
 use mathlib.Core.Bool.{beq}
 use Rattle.blaze_table.specs.Entries.{Entry, entry, at, holds}
 use Rattle.blaze_table.specs.Canonical.{IsApart, IsCanonical, AreKeys, IsRangeMap}
-use Rattle.blaze_table.proofs.Runs.{canonical, one_per_run}
+use Rattle.blaze_table.proofs.Canonical.Runs.{canonical, one_per_run}
 use Rattle.blaze_streams.specs.Segments.{row}
 use Rattle.range_map_multi.specs.Many.{has_odd, in_turn}
 

@@ -4,11 +4,11 @@ use Rattle.std.specs.Fn.{Mut}
 use Rattle.std.specs.List.{list_all, list_any}
 use Rattle.std.specs.Cmp.{IsEquivalence}
 use Rattle.std.proofs.lemmas.Int.{by_lt_z}
+use Rattle.blaze_entries.proofs.Alike.{same_itself}
 use Rattle.blaze_table.specs.Entries.{Entry, entry, at, SameOption, SameEntries}
 use Rattle.blaze_table.specs.Canonical.{AreKeys, IsRangeMap}
-use Rattle.blaze_table.proofs.ListLaws.{canonical_is_unique}
-use Rattle.blaze_table.proofs.Runs.{canonical, one_per_run}
-use Rattle.blaze_table.proofs.Unique.{same_itself}
+use Rattle.blaze_table.proofs.Canonical.ListLaws.{canonical_is_unique}
+use Rattle.blaze_table.proofs.Canonical.Runs.{canonical, one_per_run}
 use Rattle.blaze_streams.specs.declared.segmenting.joins.JoinKind.{JoinKind}
 use Rattle.blaze_streams.specs.declared.segmenting.joins.JoinKind.TheVariants.{Inner, Full}
 use Rattle.blaze_streams.specs.Answers.{answered}

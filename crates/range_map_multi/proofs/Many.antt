@@ -5,11 +5,12 @@ use Rattle.std.specs.List.{list_all}
 use Rattle.std.specs.Cmp.{IsEquivalence}
 use Rattle.std.proofs.lemmas.List.{map-append, take-append-drop}
 use Rattle.std.proofs.lemmas.List.Folds.{list_all-append}
+use Rattle.blaze_entries.proofs.Alike.{same_itself, same_trans, or_none, is_some_alike}
 use Rattle.blaze_table.specs.Entries.{Entry, at, SameOption, SameEntries}
 use Rattle.blaze_table.specs.Canonical.{IsRangeMap}
 use Rattle.blaze_table.specs.Chosen.{right_first, left_with_right, IsChosen}
-use Rattle.blaze_table.proofs.Painted.{content_as}
-use Rattle.blaze_table.proofs.Unique.{same_itself, same_trans, back}
+use Rattle.blaze_table.proofs.Paints.Painted.{content_as}
+use Rattle.blaze_table.proofs.Canonical.Unique.{back}
 use Rattle.blaze_streams.specs.Segments.{row}
 use Rattle.range_map_blaze.proofs.Streams.{range_map_as}
 use Rattle.range_map_multi.specs.Many.{last_value, last_of_all, has_odd, last_of_odd, IsChosenOfMany, IsOnly, HasOddKeys}
@@ -47,16 +48,12 @@ row_length [] k = refl
 row_length (L ∷ Ls) k = ap suc (row_length Ls k)
 
 module _ {V : Type 0} where
-  first_none : (y : Option V) → right_first None y ≡ y
-  first_none None = refl
-  first_none (Some y) = refl
-
   first_assoc : (x y z : Option V) → right_first x (right_first y z) ≡ right_first (right_first x y) z
   first_assoc x y None = refl
   first_assoc x y (Some z) = refl
 
   pub last_append : (xs ys : List (Option V)) → last_value (xs ++ ys) ≡ right_first (last_value xs) (last_value ys)
-  last_append [] ys = sym (first_none (last_value ys))
+  last_append [] ys = sym (or_none (last_value ys))
   last_append (x ∷ xs) ys = ap (right_first x) (last_append xs ys) ∙ first_assoc x (last_value xs) (last_value ys)
 
   -- where all of a row that is not empty have a value, there is a last
@@ -95,12 +92,6 @@ module _ {V : Type 0} where
   one_there (Some x) None = refl
   one_there (Some x) (Some y) = refl
 
-  same_there : (eq : V → V → Bool) (x y : Option V) → SameOption eq x y → is_some x ≡ is_some y
-  same_there eq None None s = refl
-  same_there eq None (Some y) s = absurd s
-  same_there eq (Some x) None s = absurd s
-  same_there eq (Some x) (Some y) s = refl
-
   pub odd_only : (lists : List (List (Entry V))) (list : List (Entry V)) → IsOnly lists list → HasOddKeys lists list
   odd_only [] list o k = ap (λ l. is_some (at l k)) o
   odd_only (L ∷ []) list o k = ap (λ l. is_some (at l k)) o ∙ odd_one (at L k)
@@ -112,7 +103,7 @@ module _ {V : Type 0} where
 
   pub odd_both : (eq : V → V → Bool) (low high : ℤ) (Ls Ms : List (List (Entry V))) (left right new : List (Entry V)) → HasOddKeys Ls left → HasOddKeys Ms right → IsChosen eq low high option_xor left right new → HasOddKeys (Ls ++ Ms) new
   odd_both eq low high Ls Ms left right new l r c k =
-      same_there eq (at new k) (option_xor (at left k) (at right k)) (c.content k) ∙ one_there (at left k) (at right k)
+      is_some_alike eq (at new k) (option_xor (at left k) (at right k)) (c.content k) ∙ one_there (at left k) (at right k)
       ∙ ap (λ b. one_of b (is_some (at right k))) (l k) ∙ ap (one_of (has_odd (row Ls k))) (r k)
       ∙ sym (odd_append (row Ls k) (row Ms k)) ∙ ap has_odd (sym (row_append Ls Ms k))
 

@@ -1,12 +1,13 @@
 -- The operations between many maps, where there are two.
 use Rattle.std.specs.Option.{option_xor}
-use Rattle.std.proofs.Common.{◌≡◌, ℤ, Bool, List, [], ◌∷◌, Option, Some, None, refl, ◌∙◌, subst}
+use Rattle.std.proofs.Common.{◌≡◌, ℤ, Bool, List, [], ◌∷◌, Option, Some, None, refl, subst}
 use Rattle.std.specs.Cmp.{IsEquivalence}
+use Rattle.blaze_entries.proofs.Alike.{same_trans, same_back}
 use Rattle.blaze_table.specs.Entries.{Entry, at, SameOption, SameEntries}
 use Rattle.blaze_table.specs.Canonical.{IsRangeMap}
 use Rattle.blaze_table.specs.Chosen.{left_with_right}
-use Rattle.blaze_table.proofs.Runs.{canonical}
-use Rattle.blaze_table.proofs.Unique.{same_trans, unique}
+use Rattle.blaze_table.proofs.Canonical.Runs.{canonical}
+use Rattle.blaze_table.proofs.Canonical.Unique.{unique}
 use Rattle.range_map_multi.specs.Many.{last_of_all, last_of_odd}
 use Rattle.range_map_multi.specs.ManyLaws.{UnionOfTwoIsOr, IntersectionOfTwoIsAnd, SymmetricDifferenceOfTwoIsXor}
 
@@ -27,13 +28,7 @@ module _ {V : Type 0} (eq : V → V → Bool) (laws : IsEquivalence eq) (low hig
   pub one_list : (content : ℤ → Option V) (es fs : List (Entry V)) → IsRangeMap eq low high es → IsRangeMap eq low high fs
       → ((k : ℤ) → SameOption eq (at es k) (content k)) → ((k : ℤ) → SameOption eq (at fs k) (content k)) → SameEntries eq es fs
   one_list content es fs m n s t = unique eq laws es fs (canonical eq laws es m.runs) (canonical eq laws fs n.runs)
-      (λ k. same_trans eq laws (at es k) (content k) (at fs k) (s k) (turned (at fs k) (content k) (t k)))
-    where
-      turned : (a b : Option V) → SameOption eq a b → SameOption eq b a
-      turned None None h = tt
-      turned None (Some y) h = h
-      turned (Some x) None h = h
-      turned (Some x) (Some y) h = laws.symm y x ∙ h
+      (λ k. same_trans eq laws (at es k) (content k) (at fs k) (s k) (same_back eq laws (at fs k) (content k) (t k)))
 
   pub union_of_two : UnionOfTwoIsOr eq low high
   union_of_two left right many two m t = one_list _ many two m.range_map t.range_map m.content t.content

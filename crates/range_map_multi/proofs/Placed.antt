@@ -6,6 +6,7 @@ use Rattle.std.specs.List.{slice_get}
 use Rattle.std.specs.Option.{option_and_then}
 use Rattle.std.proofs.lemmas.List.{length_push}
 use Rattle.std.proofs.lemmas.Simd.{map-map}
+use Rattle.blaze_int.proofs.Naturals.{next_differs}
 use Rattle.blaze_table.specs.Entries.{Entry, entry, at, holds}
 use Rattle.blaze_table.specs.Canonical.{AreKeys, IsCanonical, IsRangeMap}
 use Rattle.blaze_table.specs.Splice.{after}
@@ -48,9 +49,6 @@ module _ {A B : Type 0} (f : A → B) where
   lengths_with : (es : List (Entry A)) → lengths_left (with_values f es) ≡ lengths_left es
   lengths_with [] = refl
   lengths_with (e ∷ es) = ap (λ n. nat_of ((e.hi -ℤ e.lo) +ℤ pos 1) + n) (lengths_with es)
-
-next_differs : (i : ℕ) → nat_eq i (i + 1) ≡ false
-next_differs i = grind arith
 
 module _ {V : Type 0} where
   -- ---- one list

@@ -5,14 +5,16 @@ use Rattle.std.specs.List.{list_any}
 use Rattle.std.specs.Cmp.{IsEquivalence}
 use Rattle.std.specs.Cmp.Lexicographic.{lists_equiv, options_equiv}
 use Rattle.std.proofs.lemmas.Int.{ints}
+use Rattle.blaze_int.proofs.Comparisons.{by_bool}
+use Rattle.blaze_entries.proofs.Alike.{or_none}
 use Rattle.blaze_table.specs.Entries.{Entry, entry, at, holds}
 use Rattle.blaze_table.specs.Canonical.{IsApart, IsCanonical, AreKeys}
-use Rattle.blaze_table.proofs.Counted.{are_keys_after}
-use Rattle.blaze_table.proofs.Lookup.{IsAbove, IsAbove-from_apart, at_in, at_under, at_over, at_before, by_place}
-use Rattle.blaze_table.proofs.Runs.{one_per_run}
+use Rattle.blaze_table.proofs.Canonical.Counted.{are_keys_after}
+use Rattle.blaze_table.proofs.Canonical.Lookup.{IsAbove, IsAbove-from_apart, at_in, at_under, at_over, at_before, by_place}
+use Rattle.blaze_table.proofs.Canonical.Runs.{one_per_run}
 use Rattle.blaze_streams.specs.Cursors.{first_key, steady_to, AllCanonical, first_keys, all_steady_to, all_after, IsNextSegment}
 use Rattle.blaze_streams.specs.Segments.{row, present, row_eq}
-use Rattle.blaze_streams.proofs.FoundSegments.{IsFound, found_none, found_more, next_less, or_none}
+use Rattle.blaze_streams.proofs.FoundSegments.{IsFound, found_none, found_more, next_less, absent}
 use Rattle.blaze_streams.proofs.LengthsLeft.{all_lengths_left}
 use Rattle.blaze_streams.proofs.Lesser.{lesser_one}
 use Rattle.blaze_streams.proofs.Rows.{steady_none, none_left, all_canonical_after}
@@ -22,10 +24,6 @@ use Rattle.range_map_multi.specs.ManyJoins.{asked_row, IsJoinOfMany}
 by_option : {A P : Type 0} (o : Option A) → (o ≡ None → P) → ((x : A) → o ≡ Some x → P) → P
 by_option None f g = f refl
 by_option (Some x) f g = g x refl
-
-by_bool : {P : Type 0} (b : Bool) → (b ≡ true → P) → (b ≡ false → P) → P
-by_bool true f g = f refl
-by_bool false f g = g refl
 
 none_some : {A P : Type 0} (o : Option A) (x : A) → o ≡ None → o ≡ Some x → P
 none_some None x p q = cc
@@ -170,9 +168,6 @@ module _ {A : Type 0} where
           (r.0, (subst (λ l. IsFound eq lists l r.0) (append_assoc out (p ∷ []) ps) r.1.0, r.1.1))
 
       -- ---- those that a join is asked for
-
-      absent : (r : List (Option A)) → list_any is_some r ≡ false → present r ≡ None
-      absent r p = ap (λ b. cond b (Some r) None) p
 
       asked_present : (asks : List (Option A) → Bool) (r : List (Option A)) → (asks r ≡ true → list_any is_some r ≡ true) → keeps asks (present r) ≡ asked_row asks r
       asked_present asks r h = by_bool (list_any is_some r)

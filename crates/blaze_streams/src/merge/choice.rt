@@ -1,5 +1,6 @@
 //! What is chosen from what two streams have at a key.
-ghost use Rattle.std.specs.Prelude.{◌≡◌, ◌≤◌, ◌+◌, ◌&&◌, Bool, true, false, Option, None, refl, IfOk};
+ghost use Rattle.std.specs.Prelude.{◌≡◌, ◌≤◌, ◌+◌, ◌&&◌, Bool, true, false, Option, None, refl};
+ghost use Rattle.std.specs.Prelude.{IfOk};
 ghost use Rattle.std.specs.Option.{option_map, is_some, option_xor};
 ghost use Rattle.blaze_table.specs.Chosen.{right_first, left_with_right, left_alone};
 ghost use Rattle.blaze_table.specs.Entries.{at, SameOption};

@@ -17,11 +17,11 @@ pub trait PieceList<T: Integer, VC: ValueCarrier> {
     // The ranges with their values.
     ghost entries: { Self → List (Entry VC.Value) };
 
-    /// Puts a value that is `==` to the carrier's on the keys from `lo` up to `hi` behind the list, in one range with the last
+    /// Puts a value that is `==` to the carrier's on the keys from `start` up to `end` behind the list, in one range with the last
     /// where the two touch with equal values. After refused memory nothing is said of the list, which callers then drop.
-    fn put(&mut self, lo: T, hi: T, carrier: VC) -> Result<(), AllocError>
+    fn put(&mut self, start: T, end: T, carrier: VC) -> Result<(), AllocError>
         requires { VC.can_carry }
-        ensures { OnOk result (PutsAlike VC.Value.eq (T.rank lo) (T.rank hi)
+        ensures { OnOk result (PutsAlike VC.Value.eq (T.rank start) (T.rank end)
             (Some (VC.shown carrier)) (entries self.old) (entries self.new)) };
 }
 
@@ -29,8 +29,8 @@ pub trait PieceList<T: Integer, VC: ValueCarrier> {
 impl<T: Integer, VC: ValueCarrier> PieceList<T, VC> for Vec<(RangeInclusive<T>, VC)> {
     ghost entries = { λ list. shown_ranges T.rank VC.shown list.items };
 
-    fn put(&mut self, lo: T, hi: T, carrier: VC) -> Result<(), AllocError> {
-        push_joined(self, lo, hi, carrier)?;
+    fn put(&mut self, start: T, end: T, carrier: VC) -> Result<(), AllocError> {
+        push_joined(self, start, end, carrier)?;
         Ok(())
     }
 }
@@ -39,9 +39,9 @@ impl<T: Integer, VC: ValueCarrier> PieceList<T, VC> for Vec<(RangeInclusive<T>, 
 impl<T: Integer, V: Eq + Clone, VC: ValueCarrier<Value = V>> PieceList<T, VC> for Vec<(T, T, V)> {
     ghost entries = { λ list. listed T.rank list.items };
 
-    fn put(&mut self, lo: T, hi: T, carrier: VC) -> Result<(), AllocError> {
+    fn put(&mut self, start: T, end: T, carrier: VC) -> Result<(), AllocError> {
         let value = carrier.into_value()?;
-        push_entry(self, lo, hi, value)?;
+        push_entry(self, start, end, value)?;
         Ok(())
     }
 }

@@ -10,42 +10,42 @@ use blaze_int::compare::is_next;
 use std::alloc::AllocError;
 use std::ops::RangeInclusive;
 
-/// Lets the last range go on up to `hi` where it ends right below `lo` and has an equal value, and answers whether it does.
+/// Lets the last range go on up to `end` where it ends right below `start` and has an equal value, and answers whether it does.
 fn lengthen_last<T: Integer, VC: ValueCarrier>(
     out: &mut Vec<(RangeInclusive<T>, VC)>,
-    lo: T,
-    hi: T,
+    start: T,
+    end: T,
     carrier: &VC,
 ) -> bool
-    ensures { let old = shown_ranges T.rank VC.shown out.old.items in let added = entry (T.rank lo)
-        (T.rank hi) (VC.shown carrier.now) ∷ [] in MatchBool result
+    ensures { let old = shown_ranges T.rank VC.shown out.old.items in let added = entry
+        (T.rank start) (T.rank end) (VC.shown carrier.now) ∷ [] in MatchBool result
         (shown_ranges T.rank VC.shown out.new.items ≡ glue VC.Value.eq old added) ((out.new.items
         ≡ out.old.items) × (glue VC.Value.eq old added ≡ old ++ added)) }
 {
     let Some(last) = out.last_mut() else {
         return false;
     };
-    if !is_next(*last.0.end(), lo) || !last.1.value_eq(carrier) {
+    if !is_next(*last.0.end(), start) || !last.1.value_eq(carrier) {
         return false;
     }
-    last.0 = *last.0.start()..=hi;
+    last.0 = *last.0.start()..=end;
     true
 }
 
 /// Adds a range, in one with the last where the two touch with equal values. Refused memory leaves the list unchanged.
 pub fn push_joined<T: Integer, VC: ValueCarrier>(
     out: &mut Vec<(RangeInclusive<T>, VC)>,
-    lo: T,
-    hi: T,
+    start: T,
+    end: T,
     carrier: VC,
 ) -> Result<(), AllocError>
     ensures ok { OnOk result (shown_ranges T.rank VC.shown out.new.items
         ≡ glue VC.Value.eq (shown_ranges T.rank VC.shown out.old.items)
-        (entry (T.rank lo) (T.rank hi) (VC.shown carrier) ∷ [])) }
+        (entry (T.rank start) (T.rank end) (VC.shown carrier) ∷ [])) }
     ensures err { OnErr result (out.new.items ≡ out.old.items) }
 {
-    if !lengthen_last(out, lo, hi, &carrier) {
-        out.push((lo..=hi, carrier))?;
+    if !lengthen_last(out, start, end, &carrier) {
+        out.push((start..=end, carrier))?;
     }
     Ok(())
 }

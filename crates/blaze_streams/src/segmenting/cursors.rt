@@ -26,24 +26,24 @@ pub fn lesser_of<T: Integer>(a: Option<T>, b: Option<T>) -> Option<T>
 }
 
 /// The first key that is left.
-pub fn first_of<T: Integer>(lists: &[PlaceCursor<T>]) -> Option<T>
+pub fn segment_start<T: Integer>(lists: &[PlaceCursor<T>]) -> Option<T>
     ensures first { option_map T.rank result ≡ first_keys lists.now }
     ensures canonical { AllCanonical nat_eq lists.now }
 {
     match lists.split_first() {
         None => None,
-        Some((list, others)) => lesser_of(list.first(), first_of(others)),
+        Some((list, others)) => lesser_of(list.first(), segment_start(others)),
     }
 }
 
 /// The last key up to which no list changes, from a key below which none is left.
-pub fn last_of<T: Integer>(lists: &[PlaceCursor<T>], start: T) -> Option<T>
+pub fn segment_end<T: Integer>(lists: &[PlaceCursor<T>], start: T) -> Option<T>
     requires { AllFrom (T.rank start) lists.now }
     ensures { option_map T.rank result ≡ all_steady_to (T.rank start) lists.now }
 {
     match lists.split_first() {
         None => None,
-        Some((list, others)) => lesser_of(list.last(start), last_of(others, start)),
+        Some((list, others)) => lesser_of(list.last(start), segment_end(others, start)),
     }
 }
 

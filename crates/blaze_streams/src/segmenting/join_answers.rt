@@ -3,7 +3,8 @@ ghost use Rattle.std.specs.Prelude.{IfOk};
 ghost use Rattle.blaze_streams.specs.Answers.{values, IsCallableAtEach, IsTransformed};
 ghost use Rattle.blaze_streams.specs.JoinAnswers.{either, with_left, both, AllJoined};
 ghost use Rattle.blaze_streams.specs.JoinAnswers.{IsCallableAtSegments, IsJoined};
-ghost use Rattle.blaze_streams.specs.declared.segmenting.joins.JoinKind.TheVariants.{Inner, Left, Full};
+ghost use Rattle.blaze_streams.specs.declared.segmenting.joins.JoinKind.TheVariants.{Inner, Left};
+ghost use Rattle.blaze_streams.specs.declared.segmenting.joins.JoinKind.TheVariants.{Full};
 
 use crate::carrier::ValueCarrier;
 use crate::lists::canon_map::CanonMapIter;

@@ -7,7 +7,7 @@ ghost use Rattle.blaze_table.specs.Canonical.{IsCanonical};
 
 use crate::cursor::Cursor;
 use crate::lists::canon_map::CanonMapIter;
-use crate::segmenting::cursors::{PlaceCursor, advance_all, first_of, last_of, row_at};
+use crate::segmenting::cursors::{PlaceCursor, advance_all, row_at, segment_end, segment_start};
 use blaze_int::Integer;
 use std::alloc::{AllocError, Global};
 
@@ -15,9 +15,9 @@ use std::alloc::{AllocError, Global};
 #[derive(Drop)]
 pub struct Segment<T> {
     /// The first key.
-    pub lo: T,
+    pub start: T,
     /// The last key.
-    pub hi: T,
+    pub end: T,
     /// For each list the place of its range that has these keys, or `None`.
     pub at: Vec<Option<usize>>,
 }
@@ -99,13 +99,13 @@ pub fn next_segment<T: Integer>(
         (λ next. IfSome next (λ segment. IsNextSegment lists.old
         (entry_of T.rank segment) lists.new)) }
 {
-    let Some(lo) = first_of(lists) else {
+    let Some(start) = segment_start(lists) else {
         return Ok(None);
     };
-    let Some(hi) = last_of(lists, lo) else {
+    let Some(end) = segment_end(lists, start) else {
         return Ok(None);
     };
-    let at = row_at(alloc, lists, lo)?;
-    advance_all(lists, hi);
-    Ok(Some(Segment { lo, hi, at }))
+    let at = row_at(alloc, lists, start)?;
+    advance_all(lists, end);
+    Ok(Some(Segment { start, end, at }))
 }

@@ -1,5 +1,5 @@
 //! A set of keys, kept as ranges.
-ghost use Rattle.std.specs.Prelude.{◌≡◌, ◌↔◌, ℤ, pos, List, [], length, IsTrue, IsSome, IfOk, map};
+ghost use Rattle.std.specs.Prelude.{◌≡◌, ◌↔◌, pos, List, [], length, IsTrue, IsSome, IfOk, map};
 ghost use Rattle.std.specs.Iterator.{Drains, IsFinite};
 ghost use Rattle.std.specs.declared.ops.RangeInclusive.{RangeInclusive};
 ghost use Rattle.blaze_table.specs.Entries.{at, shown_entry};

@@ -114,7 +114,7 @@ fn paint_on<T: Integer, V: Eq + Clone>(
 }
 
 // The start of an entry that a painted range is joined with below it.
-fn joined<T: Integer>(left: Option<Found<T>>, lo: T) -> Option<T>
+fn joined_below<T: Integer>(left: Option<Found<T>>, lo: T) -> Option<T>
     ensures { option_map T.rank result
         ≡ joined_start (T.rank lo) (option_map (found_of T.rank) left) }
 {
@@ -165,7 +165,7 @@ pub fn apply<T: Integer, V: Eq + Clone>(
 {
     entries.in_hand();
     let _ = hi;
-    match joined(plan.left, lo) {
+    match joined_below(plan.left, lo) {
         Some(first) => {
             let covered = with_first(plan.first, plan.end, plan.covered);
             paint_on(entries, first, plan.end, plan.rest, covered)?;

@@ -1,6 +1,6 @@
 //! The starts of a paint put in: the painted entry's own, and that of what lies above it. Each growth comes before the first
 //! edit that can't be taken back.
-ghost use Rattle.std.specs.Prelude.{◌≡◌, pos, ◌+ℤ◌, ◌≤ℤ◌, ◌<ℤ◌, None, OnOk, OnErr, IfSome, IsSome};
+ghost use Rattle.std.specs.Prelude.{◌≡◌, ◌≤ℤ◌, ◌<ℤ◌, None, OnOk, OnErr, IfSome, IsSome};
 ghost use Rattle.std.specs.Option.{option_map};
 ghost use Rattle.blaze_entries.specs.Found.{range_in, ranks_of};
 ghost use Rattle.blaze_entries.specs.Starts.{start_at};

@@ -1,5 +1,5 @@
 //! Pairs that are ascending and disjoint already.
-ghost use Rattle.std.specs.Prelude.{◌≡◌, true, ◌≤ℤ◌, IfOk};
+ghost use Rattle.std.specs.Prelude.{◌≤ℤ◌, ◌↔◌, IsTrue, IfOk};
 ghost use Rattle.blaze_table.specs.Listed.{listed};
 ghost use Rattle.blaze_table.specs.CanonicalOf.{IsCanonicalOf};
 ghost use Rattle.blaze_table.specs.Swept.{AreApart, first_from};
@@ -11,8 +11,8 @@ use std::alloc::{AllocError, Global};
 
 /// Whether a pair has a key and starts above the end of the one before it.
 fn follows<T: Integer, V>(last: Option<T>, pair: &(T, T, V)) -> bool
-    ensures { result ≡ true → (first_from T.rank T.low last ≤ℤ T.rank pair.now.0)
-        × (T.rank pair.now.0 ≤ℤ T.rank pair.now.1) }
+    ensures { IsTrue result ↔ ((first_from T.rank T.low last ≤ℤ T.rank pair.now.0)
+        × (T.rank pair.now.0 ≤ℤ T.rank pair.now.1)) }
 {
     pair.0.in_hand();
     match last {
@@ -23,7 +23,7 @@ fn follows<T: Integer, V>(last: Option<T>, pair: &(T, T, V)) -> bool
 
 /// Whether each pair has a key and starts above the end of the one before it.
 pub(crate) fn is_ascending<T: Integer, V>(pairs: &[(T, T, V)]) -> bool
-    ensures { result ≡ true → AreApart T.low (listed T.rank pairs.now) }
+    ensures { IsTrue result ↔ AreApart T.low (listed T.rank pairs.now) }
 {
     let mut last = None;
     let mut rest = pairs;
@@ -38,7 +38,7 @@ pub(crate) fn is_ascending<T: Integer, V>(pairs: &[(T, T, V)]) -> bool
 }
 
 /// The list of pairs that are ascending and disjoint, where touching ones with equal values are joined. Each value is moved.
-pub(crate) fn joined<T: Integer, V: Eq + Clone>(
+pub(crate) fn joined_entries<T: Integer, V: Eq + Clone>(
     alloc: Global,
     pairs: Vec<(T, T, V)>,
 ) -> Result<Vec<(T, T, V)>, AllocError>

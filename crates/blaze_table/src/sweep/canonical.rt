@@ -1,5 +1,5 @@
 //! Pairs that are a canonical list already.
-ghost use Rattle.std.specs.Prelude.{◌≡◌, true, option_map};
+ghost use Rattle.std.specs.Prelude.{◌↔◌, IsTrue, option_map};
 ghost use Rattle.std.specs.Option.{option_copied};
 ghost use Rattle.blaze_table.specs.Canonical.{IsRangeMap};
 ghost use Rattle.blaze_table.specs.Entries.{shown_entry};
@@ -11,8 +11,8 @@ use blaze_int::compare::{is_at_most, is_below, is_next};
 
 /// Whether a pair has a key, starts above the end of the one before it, and has another value where the two touch.
 fn continues<T: Integer, V: Eq>(before: Option<&(T, T, V)>, pair: &(T, T, V)) -> bool
-    ensures { result ≡ true
-        → Continues V.eq T.low T.high (option_map (shown_entry T.rank (λ v. v))
+    ensures { IsTrue result
+        ↔ Continues V.eq T.low T.high (option_map (shown_entry T.rank (λ v. v))
         (option_copied before.entry)) (shown_entry T.rank (λ v. v) pair.now) }
 {
     pair.0.in_hand();
@@ -28,7 +28,7 @@ fn continues<T: Integer, V: Eq>(before: Option<&(T, T, V)>, pair: &(T, T, V)) ->
 
 /// Whether the pairs are a canonical list.
 pub(crate) fn is_canonical<T: Integer, V: Eq>(pairs: &[(T, T, V)]) -> bool
-    ensures { result ≡ true → IsRangeMap V.eq T.low T.high (listed T.rank pairs.now) }
+    ensures { IsTrue result ↔ IsRangeMap V.eq T.low T.high (listed T.rank pairs.now) }
 {
     let mut before = None;
     let mut rest = pairs;

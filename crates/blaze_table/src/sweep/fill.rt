@@ -10,7 +10,7 @@ use std::alloc::{AllocError, Global};
 
 /// The canonical list of pairs, of which the pieces are given. A value is moved for the first piece of its pair, and cloned for
 /// each other one.
-pub(crate) fn filled<T: Integer, V: Eq + Clone>(
+pub(crate) fn entries_of_pieces<T: Integer, V: Eq + Clone>(
     alloc: Global,
     placed: Vec<(T, T, usize, V)>,
     pieces: Vec<(T, T, usize)>,

@@ -5,9 +5,9 @@ ghost use Rattle.blaze_table.specs.Painted.{ClonesAreAlike};
 ghost use Rattle.blaze_table.specs.CanonicalOf.{IsCanonicalOf};
 
 use crate::entry_keys::keys_in_hand;
-use crate::sweep::ascending::{is_ascending, joined};
+use crate::sweep::ascending::{is_ascending, joined_entries};
 use crate::sweep::canonical::is_canonical;
-use crate::sweep::fill::filled;
+use crate::sweep::fill::entries_of_pieces;
 use crate::sweep::pieces::pieces_of;
 use crate::sweep::placed::placed_of;
 use blaze_int::Integer;
@@ -44,12 +44,12 @@ pub fn canonical_of<T: Integer, V: Eq + Clone>(
         return Ok(pairs);
     }
     if is_ascending(pairs.as_slice()) {
-        let entries = joined(alloc, pairs)?;
+        let entries = joined_entries(alloc, pairs)?;
         return Ok(entries);
     }
     keys_in_hand(pairs.as_slice());
     let placed = placed_of(alloc, pairs)?;
     let pieces = pieces_of(alloc, placed.as_slice())?;
-    let entries = filled(alloc, placed, pieces)?;
+    let entries = entries_of_pieces(alloc, placed, pieces)?;
     Ok(entries)
 }

@@ -6,7 +6,7 @@ ghost use Rattle.blaze_table.specs.Pieces.{AreAscending, EndsAreKeys, place_cmp}
 ghost use Rattle.blaze_table.specs.Pieces.{IsWaiting, KeepsReaching, ArePieces};
 
 use crate::sweep::push::push_entry;
-use crate::sweep::waiting::{drop_last, last_of};
+use crate::sweep::waiting::{drop_top, top_of};
 use blaze_int::Integer;
 use blaze_int::compare::{after, before, is_at_most, is_below};
 use std::alloc::{AllocError, Global};
@@ -33,13 +33,13 @@ fn sweep_to<T: Integer, V>(
         (listed T.rank pieces.new.items)) }
 {
     let mut at = from;
-    while let Some(top) = last_of(waiting) {
+    while let Some(top) = top_of(waiting) {
         let pair = &placed[top.1];
         if is_at_most(to, pair.1) {
             push_entry(pieces, at, to, top.1)?;
             return Ok(());
         }
-        drop_last(waiting, top);
+        drop_top(waiting, top);
         if is_below(pair.1, at) {
             continue;
         }

@@ -8,25 +8,25 @@ use blaze_int::Integer;
 use blaze_int::compare::is_next;
 use std::alloc::AllocError;
 
-/// Lets the last entry go on up to `hi` where it ends right below `lo` and has an equal value, and answers whether it does.
+/// Lets the last entry go on up to `end` where it ends right below `start` and has an equal value, and answers whether it does.
 pub(crate) fn lengthen_entry<T: Integer, V: Eq + Clone>(
     out: &mut Vec<(T, T, V)>,
-    lo: T,
-    hi: T,
+    start: T,
+    end: T,
     value: &V,
 ) -> bool
-    ensures { let old = listed T.rank out.old.items in let added = entry (T.rank lo)
-        (T.rank hi) value.now ∷ [] in MatchBool result (listed T.rank out.new.items
+    ensures { let old = listed T.rank out.old.items in let added = entry (T.rank start)
+        (T.rank end) value.now ∷ [] in MatchBool result (listed T.rank out.new.items
         ≡ glue V.eq old added) ((out.new.items ≡ out.old.items)
         × (glue V.eq old added ≡ old ++ added)) }
 {
     let Some(last) = out.last_mut() else {
         return false;
     };
-    if !is_next(last.1, lo) || last.2 != *value {
+    if !is_next(last.1, start) || last.2 != *value {
         return false;
     }
-    last.1 = hi;
+    last.1 = end;
     true
 }
 
@@ -34,16 +34,17 @@ pub(crate) fn lengthen_entry<T: Integer, V: Eq + Clone>(
 /// Refused memory leaves the list unchanged.
 pub fn push_entry<T: Integer, V: Eq + Clone>(
     out: &mut Vec<(T, T, V)>,
-    lo: T,
-    hi: T,
+    start: T,
+    end: T,
     value: V,
 ) -> Result<(), AllocError>
     ensures ok { OnOk result (listed T.rank out.new.items
-        ≡ glue V.eq (listed T.rank out.old.items) (entry (T.rank lo) (T.rank hi) value ∷ [])) }
+        ≡ glue V.eq (listed T.rank out.old.items)
+        (entry (T.rank start) (T.rank end) value ∷ [])) }
     ensures err { OnErr result (out.new.items ≡ out.old.items) }
 {
-    if !lengthen_entry(out, lo, hi, &value) {
-        out.push((lo, hi, value))?;
+    if !lengthen_entry(out, start, end, &value) {
+        out.push((start, end, value))?;
     }
     Ok(())
 }

@@ -1,14 +1,14 @@
 //! The pairs that wait, each by its place and its index; the one with the greatest place on top.
 ghost use Rattle.std.specs.Prelude.{◌≡◌, ◌≤◌, ◌∷◌, ◌+◌, [], All, IfSome, IfNone, IsPermutation};
 ghost use Rattle.std.specs.BinaryHeap.{IsHeap, heap_items, heap_len};
-ghost use Rattle.std.specs.List.{Contains, slice_get};
+ghost use Rattle.std.specs.List.{slice_get};
 ghost use Rattle.blaze_table.specs.Pieces.{place_cmp};
 
 use std::alloc::Global;
 use std::collections::BinaryHeap;
 
 /// The place and the index of the pair with the greatest place.
-pub(crate) fn last_of(waiting: &BinaryHeap<(usize, usize), Global>) -> Option<(usize, usize)>
+pub(crate) fn top_of(waiting: &BinaryHeap<(usize, usize), Global>) -> Option<(usize, usize)>
     requires { IsHeap place_cmp (heap_items waiting.now) }
     ensures top { IfSome result (λ top. slice_get (heap_items waiting.now) 0 ≡ Some top) }
     ensures greatest { IfSome result (λ top. All (λ w. w.0 ≤ top.0) (heap_items waiting.now)) }
@@ -21,7 +21,7 @@ pub(crate) fn last_of(waiting: &BinaryHeap<(usize, usize), Global>) -> Option<(u
 }
 
 /// Takes the pair with the greatest place out.
-pub(crate) fn drop_last(waiting: &mut BinaryHeap<(usize, usize), Global>, top: (usize, usize))
+pub(crate) fn drop_top(waiting: &mut BinaryHeap<(usize, usize), Global>, top: (usize, usize))
     requires heap { IsHeap place_cmp (heap_items waiting.old) }
     requires top { slice_get (heap_items waiting.old) 0 ≡ Some top }
     ensures heap { IsHeap place_cmp (heap_items waiting.new) }

@@ -12,15 +12,8 @@ use crate::compare::entries_left::EntriesLeft;
 use crate::compare::turns::Turns;
 use crate::map::RangeMapBlaze;
 use blaze_int::Integer;
-use blaze_int::compare::is_below;
+use blaze_int::compare::lesser;
 use std::cmp::Ordering;
-
-// The smaller of two keys.
-fn earlier_of<T: Integer>(a: T, b: T) -> T
-    ensures { T.rank result ≡ int_min (T.rank b) (T.rank a) }
-{
-    if is_below(a, b) { a } else { b }
-}
 
 // How the first pairs of two entries compare.
 fn compare_starts<T: Integer, V: Ord>(start: T, value: &V, other_start: T, other: &V) -> Ordering
@@ -47,7 +40,7 @@ fn compare_first<T: Integer, V: Ord>(left: (T, T, &V), other: (T, T, &V)) -> (Or
     let (other_start, other_end, other_value) = other;
     (
         compare_starts(start, value, other_start, other_value),
-        earlier_of(end, other_end),
+        lesser(end, other_end),
     )
 }
 

@@ -32,6 +32,6 @@ impl Turns {
     pub(crate) fn count(&mut self)
         ensures { self.new ≡ self.old + 1 }
     {
-        self.count = self.count.after();
+        self.count = self.count.one_more();
     }
 }

@@ -79,7 +79,8 @@ impl<T: Integer, V: Eq + Clone> RangeMapBlaze<T, V> {
         Ok(new)
     }
 
-    /// The same of keys with lent values: each entry has a clone of its value, and no other value is cloned.
+    /// The same of keys with lent values: each entry has a clone of its value, and no other value is cloned. Refused memory
+    /// drops the clones.
     pub fn from_points_ref_value<'a, I: IntoIterator<Item = (T, &'a V)>>(
         alloc: Global,
         iter: I,
@@ -97,7 +98,7 @@ impl<T: Integer, V: Eq + Clone> RangeMapBlaze<T, V> {
         map_of_lent(alloc, iter)
     }
 
-    /// The same of ranges with lent values.
+    /// The same of ranges with lent values, also where memory is refused.
     pub fn from_ranges_ref_value<'a, I: IntoIterator<Item = (RangeInclusive<T>, &'a V)>>(
         alloc: Global,
         iter: I,
@@ -115,7 +116,7 @@ impl<T: Integer, V: Eq + Clone> RangeMapBlaze<T, V> {
         map_of_lent(alloc, iter)
     }
 
-    /// The same of lent pairs of a key and a value.
+    /// The same of lent pairs of a key and a value, also where memory is refused.
     pub fn from_ref_points<'a, I: IntoIterator<Item = &'a (T, V)>>(
         alloc: Global,
         iter: I,
@@ -133,7 +134,7 @@ impl<T: Integer, V: Eq + Clone> RangeMapBlaze<T, V> {
         map_of_lent(alloc, iter)
     }
 
-    /// The same of lent pairs of a range and a value.
+    /// The same of lent pairs of a range and a value, also where memory is refused.
     pub fn from_ref_ranges<'a, I: IntoIterator<Item = &'a (RangeInclusive<T>, V)>>(
         alloc: Global,
         iter: I,
@@ -151,7 +152,7 @@ impl<T: Integer, V: Eq + Clone> RangeMapBlaze<T, V> {
         map_of_lent(alloc, iter)
     }
 
-    /// The same of lent pairs of a key and a lent value.
+    /// The same of lent pairs of a key and a lent value, also where memory is refused.
     pub fn from_ref_points_ref_value<'a, I: IntoIterator<Item = &'a (T, &'a V)>>(
         alloc: Global,
         iter: I,
@@ -169,7 +170,7 @@ impl<T: Integer, V: Eq + Clone> RangeMapBlaze<T, V> {
         map_of_lent(alloc, iter)
     }
 
-    /// The same of lent pairs of a range and a lent value.
+    /// The same of lent pairs of a range and a lent value, also where memory is refused.
     pub fn from_ref_ranges_ref_value<'a, I: IntoIterator<Item = &'a (RangeInclusive<T>, &'a V)>>(
         alloc: Global,
         iter: I,
@@ -187,7 +188,7 @@ impl<T: Integer, V: Eq + Clone> RangeMapBlaze<T, V> {
         map_of_lent(alloc, iter)
     }
 
-    /// The map of an array of keys with values, in order: the later pair wins.
+    /// The map of an array of keys with values, in order: the later pair wins. Refused memory drops the pairs.
     pub fn from_array<const N: usize>(alloc: Global, items: [(T, V); N]) -> Result<Self, AllocError>
         requires { ClonesAreAlike V.is_clone V.eq }
         ensures { IfOk result (λ new. IsCanonicalOf V.eq T.low T.high

@@ -20,8 +20,8 @@ impl<T: Integer, V: Eq + Clone> RangeMapBlaze<T, V> {
         stream.in_hand();
         let mut entries = Vec::new(alloc);
         for (range, carrier) in stream {
-            let (lo, hi) = range.into_inner();
-            entries.push((lo, hi, carrier.into_value()?))?;
+            let (start, end) = range.into_inner();
+            entries.push((start, end, carrier.into_value()?))?;
         }
         let table = RangeTable::from_canonical(alloc, entries)?;
         Ok(RangeMapBlaze { table })

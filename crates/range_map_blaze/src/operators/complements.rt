@@ -28,7 +28,7 @@ pub fn unmapped_keys<T: Integer, V: Eq>(
 }
 
 impl<T: Integer, V: Eq + Clone> RangeMapBlaze<T, V> {
-    /// The map of a value on every key of the type. It takes memory.
+    /// The map of a clone of a value on every key of the type. Where memory is refused nothing is made.
     pub fn universe_with(alloc: Global, value: &V) -> Result<Self, AllocError>
         requires { ClonesAreAlike V.is_clone V.eq }
         ensures { IfOk result
@@ -48,8 +48,8 @@ impl<T: Integer, V: Eq + Clone> RangeMapBlaze<T, V> {
         stream.in_hand();
         let mut entries = Vec::new(alloc);
         for range in stream {
-            let (lo, hi) = range.into_inner();
-            entries.push((lo, hi, value.clone()?))?;
+            let (start, end) = range.into_inner();
+            entries.push((start, end, value.clone()?))?;
         }
         let table = RangeTable::from_canonical(alloc, entries)?;
         Ok(RangeMapBlaze { table })

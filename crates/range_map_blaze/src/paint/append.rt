@@ -5,7 +5,6 @@ ghost use Rattle.range_map_blaze.specs.Extended.{IsExtended, IsPartlyExtended};
 
 use crate::map::RangeMapBlaze;
 use crate::operators::union::{Path, painted_under, path_for, union};
-use crate::paint::joining::Pair;
 use blaze_int::Integer;
 use std::alloc::AllocError;
 
@@ -42,7 +41,7 @@ impl<T: Integer, V: Eq + Clone> RangeMapBlaze<T, V> {
     {
         self.in_hand();
         for (start, end, value) in other.table {
-            self.paint_pair(Pair { start, end, value })?;
+            self.paint_pair((start, end, value))?;
         }
         Ok(())
     }
@@ -99,7 +98,7 @@ impl<T: Integer, V: Eq + Clone> RangeMapBlaze<T, V> {
         self.in_hand();
         for (start, end, value) in other.table.iter() {
             let value = value.clone()?;
-            self.paint_pair(Pair { start, end, value })?;
+            self.paint_pair((start, end, value))?;
         }
         Ok(())
     }
@@ -122,7 +121,7 @@ impl<T: Integer, V: Eq + Clone> RangeMapBlaze<T, V> {
         Ok(())
     }
 
-    /// The union of two maps, in the place of the first: as `extend_from`.
+    /// The union of two maps, in the place of the first: as `extend_from`, also where memory is refused.
     pub fn bitor_assign(&mut self, other: Self) -> Result<(), AllocError>
         requires { ClonesAreAlike V.is_clone V.eq }
         ensures ok { OnOk result (IsExtended V.eq T.low T.high other.entries self.old.entries
@@ -134,7 +133,7 @@ impl<T: Integer, V: Eq + Clone> RangeMapBlaze<T, V> {
         self.extend_from(other)
     }
 
-    /// The union of two maps, in the place of the first: as `extend_with`.
+    /// The union of two maps, in the place of the first: as `extend_with`, also where memory is refused.
     pub fn bitor_assign_ref(&mut self, other: &Self) -> Result<(), AllocError>
         requires { ClonesAreAlike V.is_clone V.eq }
         ensures ok { OnOk result (IsExtended V.eq T.low T.high other.now.entries self.old.entries

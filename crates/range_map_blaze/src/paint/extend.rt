@@ -6,7 +6,6 @@ ghost use Rattle.blaze_table.specs.Painted.{ClonesAreAlike};
 ghost use Rattle.range_map_blaze.specs.Extended.{shown_point, IsExtended};
 
 use crate::map::RangeMapBlaze;
-use crate::paint::joining::Pair;
 use blaze_int::Integer;
 use std::alloc::AllocError;
 use std::ops::RangeInclusive;
@@ -29,12 +28,7 @@ impl<T: Integer, V: Eq + Clone> RangeMapBlaze<T, V> {
         self.in_hand();
         let mut pending = None;
         for (key, value) in iter {
-            let next = Pair {
-                start: key,
-                end: key,
-                value,
-            };
-            pending = self.take_pair(pending, next)?;
+            pending = self.take_pair(pending, (key, key, value))?;
         }
         self.paint_pending(pending)?;
         Ok(())
@@ -58,7 +52,7 @@ impl<T: Integer, V: Eq + Clone> RangeMapBlaze<T, V> {
         let mut pending = None;
         for (range, value) in iter {
             let (start, end) = range.into_inner();
-            pending = self.take_pair(pending, Pair { start, end, value })?;
+            pending = self.take_pair(pending, (start, end, value))?;
         }
         self.paint_pending(pending)?;
         Ok(())
@@ -80,7 +74,7 @@ impl<T: Integer, V: Eq + Clone> RangeMapBlaze<T, V> {
         self.in_hand();
         for (range, value) in iter {
             let (start, end) = range.into_inner();
-            self.paint_pair(Pair { start, end, value })?;
+            self.paint_pair((start, end, value))?;
         }
         Ok(())
     }

@@ -1,24 +1,17 @@
-//! Successive pairs joined to one before they are painted.
+//! Successive pairs joined to one before they are painted. A pair is of first key, last key and value; where the last key is
+//! below the first it has no key.
 ghost use Rattle.std.specs.Prelude.{◌≡◌, ◌<ℤ◌, ◌+ℤ◌, pos, int_le, [], ◌∷◌, ◌++◌, List, None};
 ghost use Rattle.std.specs.Prelude.{IfOk, OnOk, OnErr, option_map};
 ghost use Rattle.std.specs.Option.{option_to_list};
-ghost use Rattle.blaze_table.specs.Entries.{Entry};
+ghost use Rattle.blaze_table.specs.Entries.{Entry, shown_entry};
 ghost use Rattle.blaze_table.specs.Painted.{ClonesAreAlike};
 ghost use Rattle.range_map_blaze.specs.Extended.{IsExtended};
-ghost use Rattle.range_map_blaze.specs.Underway.{shown_pair, are_one_pair, joined, IsUnderway};
+ghost use Rattle.range_map_blaze.specs.Underway.{are_one_pair, joined_pair, IsUnderway};
 
 use crate::map::RangeMapBlaze;
 use blaze_int::Integer;
 use blaze_int::compare::{is_at_most, is_below, is_next};
 use std::alloc::AllocError;
-
-/// A range with a value. Where the end is below the start it has no key.
-#[derive(Drop)]
-pub struct Pair<T, V> {
-    pub start: T,
-    pub end: T,
-    pub value: V,
-}
 
 // Whether a range that starts at `start` touches one that ends at `end`, or starts below its end.
 fn reaches<T: Integer>(end: T, start: T) -> bool
@@ -28,53 +21,52 @@ fn reaches<T: Integer>(end: T, start: T) -> bool
 }
 
 // Whether two pairs are joined: their ranges touch or overlap, and their values are equal.
-fn are_joinable<T: Integer, V: Eq>(pair: &Pair<T, V>, next: &Pair<T, V>) -> bool
-    ensures { result ≡ are_one_pair V.eq (shown_pair T.rank pair.now) (shown_pair T.rank next.now) }
+fn are_joinable<T: Integer, V: Eq>(pair: &(T, T, V), next: &(T, T, V)) -> bool
+    ensures { result ≡ are_one_pair V.eq (shown_entry T.rank (λ v. v) pair.now)
+        (shown_entry T.rank (λ v. v) next.now) }
 {
-    reaches(pair.end, next.start) && reaches(next.end, pair.start) && pair.value == next.value
+    reaches(pair.1, next.0) && reaches(next.1, pair.0) && pair.2 == next.2
 }
 
 // One pair from the lesser start to the greater end, with the value of the first.
-fn join<T: Integer, V: Drop>(pair: Pair<T, V>, next: Pair<T, V>) -> Pair<T, V>
-    ensures { shown_pair T.rank result ≡ joined (shown_pair T.rank pair) (shown_pair T.rank next) }
+fn join<T: Integer, V: Drop>(pair: (T, T, V), next: (T, T, V)) -> (T, T, V)
+    ensures { shown_entry T.rank (λ v. v) result
+        ≡ joined_pair (shown_entry T.rank (λ v. v) pair) (shown_entry T.rank (λ v. v) next) }
 {
-    let start = if is_below(next.start, pair.start) {
-        next.start
+    let start = if is_below(next.0, pair.0) {
+        next.0
     } else {
-        pair.start
+        pair.0
     };
-    let end = if is_below(pair.end, next.end) {
-        next.end
+    let end = if is_below(pair.1, next.1) {
+        next.1
     } else {
-        pair.end
+        pair.1
     };
-    Pair {
-        start,
-        end,
-        value: pair.value,
-    }
+    (start, end, pair.2)
 }
 
 impl<T: Integer, V: Eq + Clone> RangeMapBlaze<T, V> {
     /// Paints a pair; one without a key paints nothing. Refused memory leaves the map unchanged.
-    pub(crate) fn paint_pair(&mut self, pair: Pair<T, V>) -> Result<(), AllocError>
+    pub(crate) fn paint_pair(&mut self, pair: (T, T, V)) -> Result<(), AllocError>
         requires { ClonesAreAlike V.is_clone V.eq }
-        ensures ok { OnOk result (IsExtended V.eq T.low T.high (shown_pair T.rank pair ∷ [])
-            self.old.entries self.new.entries) }
+        ensures ok { OnOk result (IsExtended V.eq T.low T.high
+            (shown_entry T.rank (λ v. v) pair ∷ []) self.old.entries self.new.entries) }
         ensures err { OnErr result (self.new.entries ≡ self.old.entries) }
     {
         self.in_hand();
-        if is_at_most(pair.start, pair.end) {
-            let _ = self.table.paint(pair.start, pair.end, pair.value)?;
+        if is_at_most(pair.0, pair.1) {
+            let _ = self.table.paint(pair.0, pair.1, pair.2)?;
         }
         Ok(())
     }
 
     /// Paints the pending pair, if there is one. Refused memory leaves the map unchanged.
-    pub(crate) fn paint_pending(&mut self, pending: Option<Pair<T, V>>) -> Result<(), AllocError>
+    pub(crate) fn paint_pending(&mut self, pending: Option<(T, T, V)>) -> Result<(), AllocError>
         requires { ClonesAreAlike V.is_clone V.eq }
         ensures ok { OnOk result
-            (IsExtended V.eq T.low T.high (option_to_list (option_map (shown_pair T.rank) pending))
+            (IsExtended V.eq T.low T.high
+            (option_to_list (option_map (shown_entry T.rank (λ v. v)) pending))
             self.old.entries self.new.entries) }
         ensures err { OnErr result (self.new.entries ≡ self.old.entries) }
     {
@@ -89,19 +81,19 @@ impl<T: Integer, V: Eq + Clone> RangeMapBlaze<T, V> {
     /// pending then, which is none after a reversed pair. Refused memory leaves the map unchanged.
     pub(crate) fn take_pair(
         &mut self,
-        pending: Option<Pair<T, V>>,
-        next: Pair<T, V>,
-    ) -> Result<Option<Pair<T, V>>, AllocError>
+        pending: Option<(T, T, V)>,
+        next: (T, T, V),
+    ) -> Result<Option<(T, T, V)>, AllocError>
         requires { ClonesAreAlike V.is_clone V.eq }
         ensures ok { IfOk result (λ left. (pairs old : List (Entry V))
             → IsUnderway V.eq T.low T.high pairs old self.old.entries
-            (option_map (shown_pair T.rank) pending)
-            → IsUnderway V.eq T.low T.high (pairs ++ shown_pair T.rank next ∷ []) old
-            self.new.entries (option_map (shown_pair T.rank) left)) }
-        ensures ended { T.rank next.end <ℤ T.rank next.start → IfOk result (λ left. left ≡ None) }
+            (option_map (shown_entry T.rank (λ v. v)) pending)
+            → IsUnderway V.eq T.low T.high (pairs ++ shown_entry T.rank (λ v. v) next ∷ []) old
+            self.new.entries (option_map (shown_entry T.rank (λ v. v)) left)) }
+        ensures ended { T.rank next.1 <ℤ T.rank next.0 → IfOk result (λ left. left ≡ None) }
         ensures err { OnErr result (self.new.entries ≡ self.old.entries) }
     {
-        if is_below(next.end, next.start) {
+        if is_below(next.1, next.0) {
             self.paint_pending(pending)?;
             return Ok(None);
         }

@@ -4,10 +4,10 @@ use Rattle.blaze_iters.proofs.iter_map.take_last.Goals as goal
 pub returns-in-Some-next_back-clause-left : goal.returns-in-Some-next_back-clause-left
 returns-in-Some-next_back-clause-left g c =
     let entries = g.met.I.BothEnds.gives_back _ _ _ c.in-Some-next_back.ensures.steps in
-    rw (← c.in_default.ensures.value, c.into_inner-lo.ensures.start, c.into_inner-lo.ensures.end) (moved_last _ _ _ _ entries)
+    rw (← c.in_default.ensures.value, c.into_inner-start.ensures.start, c.into_inner-start.ensures.end) (moved_last _ _ _ _ entries)
 
 pub returns-in-Some-next_back-clause-full : goal.returns-in-Some-next_back-clause-full
 returns-in-Some-next_back-clause-full g c =
     let entries = g.met.I.BothEnds.gives_back _ _ _ c.in-Some-next_back.ensures.steps in
     let full = last_full _ _ (rw entries at c.in_hand.ensures.runs.disjoint) in
-    (c.requires.0, rw (c.into_inner-lo.ensures.start, c.into_inner-lo.ensures.end) full)
+    (c.requires.0, rw (c.into_inner-start.ensures.start, c.into_inner-start.ensures.end) full)

@@ -1,7 +1,7 @@
 use Rattle.std.proofs.Common.{sym, ap, subst}
 use Rattle.blaze_table.specs.RangeSets.{bare_range, unit_eq}
 use Rattle.blaze_table.specs.Complement.{IsComplement}
-use Rattle.blaze_table.proofs.UnitLaws.{unit_laws}
+use Rattle.blaze_table.proofs.Pairs.UnitLaws.{unit_laws}
 use Rattle.blaze_streams.proofs.GapLists.{rank_of_next, gap_more, complement_made}
 use Rattle.blaze_streams.proofs.complements.complement.Goals as goal
 

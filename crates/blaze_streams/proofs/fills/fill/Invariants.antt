@@ -1,6 +1,6 @@
 use Rattle.std.proofs.Common.{◌≡◌, ◌++◌}
 use Rattle.blaze_streams.specs.Carried.{shown_option}
-use Rattle.blaze_streams.specs.Fills.{filled}
+use Rattle.blaze_streams.specs.Fills.{filled_entries}
 use Rattle.blaze_streams.specs.Gaps.{rank_or_end}
 use Rattle.blaze_streams.specs.RangeLists.{shown_ranges}
 use Rattle.blaze_streams.proofs.fills.fill.Given as goal
@@ -8,5 +8,5 @@ use Rattle.blaze_streams.proofs.fills.fill.Given as goal
 -- what is filled so far, and what is left, are all
 abbrev pub invariant-loop-item : goal.invariant-loop-item
 invariant-loop-item g l =
-    shown_ranges g.T.Integer.rank (shown_option g.VC.ValueCarrier.shown) l.out.items ++ filled (rank_or_end g.T.Integer.rank g.T.Integer.high l.next) g.T.Integer.high (g.S.SortedDisjointMap.left l.item-iterator)
-    ≡ filled g.T.Integer.low g.T.Integer.high (g.S.SortedDisjointMap.left l.fn.stream)
+    shown_ranges g.T.Integer.rank (shown_option g.VC.ValueCarrier.shown) l.out.items ++ filled_entries (rank_or_end g.T.Integer.rank g.T.Integer.high l.next) g.T.Integer.high (g.S.SortedDisjointMap.left l.item-iterator)
+    ≡ filled_entries g.T.Integer.low g.T.Integer.high (g.S.SortedDisjointMap.left l.fn.stream)

@@ -2,7 +2,7 @@ use Rattle.std.proofs.Common.{[], subst}
 use Rattle.std.proofs.lemmas.List.{append-nil}
 use Rattle.blaze_table.specs.Entries.{SameEntries}
 use Rattle.blaze_table.specs.Listed.{listed}
-use Rattle.blaze_table.proofs.Clones.{IsCopied}
+use Rattle.blaze_table.proofs.Canonical.Clones.{IsCopied}
 use Rattle.blaze_table.proofs.copy.clone_entries.Goals as goal
 
 pub returns : goal.returns

@@ -1,4 +1,4 @@
-use Rattle.blaze_table.proofs.Clones.{IsCopied}
+use Rattle.blaze_table.proofs.Canonical.Clones.{IsCopied}
 use Rattle.blaze_table.proofs.copy.clone_entries.Given as goal
 
 abbrev pub invariant-loop-start : goal.invariant-loop-start

@@ -2,7 +2,7 @@ use Rattle.std.proofs.Common.{subst, ap, arith}
 use Rattle.std.proofs.lemmas.Int.{ints}
 use Rattle.blaze_table.specs.Canonical.{IsCanonical}
 use Rattle.blaze_table.specs.Count.{keys_in}
-use Rattle.blaze_table.proofs.Counted.{some_keys}
+use Rattle.blaze_table.proofs.Canonical.Counted.{some_keys}
 use Rattle.blaze_table.proofs.count.count.Goals as goal
 
 pub plus-sum-requires : goal.plus-sum-requires

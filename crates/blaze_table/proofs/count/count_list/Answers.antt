@@ -3,8 +3,8 @@ use Rattle.std.proofs.lemmas.Int.{ints}
 use Rattle.blaze_table.specs.Canonical.{IsCanonical}
 use Rattle.blaze_table.specs.Count.{keys_in}
 use Rattle.blaze_table.specs.Listed.{listed}
-use Rattle.blaze_table.proofs.Counted.{some_keys}
-use Rattle.blaze_table.proofs.Indexed.{from_index}
+use Rattle.blaze_table.proofs.Canonical.Counted.{some_keys}
+use Rattle.blaze_table.proofs.Pairs.Indexed.{from_index}
 use Rattle.blaze_table.proofs.count.count_list.Goals as goal
 
 pub plus-sum-requires : goal.plus-sum-requires

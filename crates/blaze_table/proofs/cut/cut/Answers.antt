@@ -1,13 +1,13 @@
 use Rattle.std.proofs.Common.{◌≡◌, ◌∙◌, pos, ◌+ℤ◌, None, Some, Result, Ok, Err, OnErr, sym, subst, ap, arith}
 use Rattle.std.proofs.lemmas.Int.{ints}
+use Rattle.blaze_int.proofs.Comparisons.{le_holds, le_fails}
 use Rattle.blaze_entries.specs.Counted.{CountedEntries}
+use Rattle.blaze_entries.proofs.Alike.{same_none}
 use Rattle.blaze_table.specs.Entries.{at, SameOption}
 use Rattle.blaze_table.specs.Splice.{IsCutOf, IsListCut}
-use Rattle.blaze_table.proofs.CutEdits.{among_others, nothing_held, nothing_below, something_held}
-use Rattle.blaze_table.proofs.Cutting.{cut_nothing, cut_table, cut_is, covered_one, one_fits}
-use Rattle.blaze_table.proofs.Holders.{holder}
-use Rattle.blaze_table.proofs.LooksSay.{le_holds, le_fails}
-use Rattle.blaze_table.proofs.Unique.{same_none}
+use Rattle.blaze_table.proofs.Cuts.CutEdits.{among_others, nothing_held, nothing_below, something_held}
+use Rattle.blaze_table.proofs.Cuts.Cutting.{cut_nothing, cut_table, cut_is, covered_one, one_fits}
+use Rattle.blaze_table.proofs.Neighbours.Holders.{holder}
 use Rattle.blaze_table.proofs.cut.cut.Goals as goal
 use Rattle.blaze_table.proofs.cut.cut.Goals.{in_default-via-in-Some+else-is_at_most, in_default-via-in_default}
 

@@ -2,7 +2,7 @@ use Rattle.std.proofs.Common.{sym, subst}
 use Rattle.std.proofs.lemmas.List.{drop_all}
 use Rattle.blaze_table.specs.Canonical.{AreKeys}
 use Rattle.blaze_table.specs.Listed.{listed}
-use Rattle.blaze_table.proofs.Indexed.{from_index}
+use Rattle.blaze_table.proofs.Pairs.Indexed.{from_index}
 use Rattle.blaze_table.proofs.entry_keys.keys_in_hand.Goals as goal
 
 pub loop-entry-init : goal.loop-entry-init

@@ -1,4 +1,4 @@
-use Rattle.blaze_table.proofs.PairLaws.{pairs_are_content}
+use Rattle.blaze_table.proofs.Pairs.PairLaws.{pairs_are_content}
 use Rattle.blaze_table.proofs.laws.pairs_are_content.Goals as goal
 
 pub returns : goal.returns

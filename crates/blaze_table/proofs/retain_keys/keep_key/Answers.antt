@@ -1,7 +1,7 @@
 use Rattle.std.proofs.Common.{sym, subst, refl, arith}
 use Rattle.std.proofs.lemmas.Int.{ints}
 use Rattle.blaze_table.specs.Retain.{AnswersAtPair}
-use Rattle.blaze_table.proofs.Keeping.{keys_added, more_no, more_yes}
+use Rattle.blaze_table.proofs.Pairs.Keeping.{keys_added, more_no, more_yes}
 use Rattle.blaze_table.proofs.retain_keys.keep_key.Goals as goal
 
 pub f-stays-requires : goal.f-stays-requires

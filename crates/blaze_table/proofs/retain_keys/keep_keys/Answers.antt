@@ -1,27 +1,21 @@
 use Rattle.blaze_int.specs.Unsigned.{nat_of}
-use Rattle.std.proofs.Common.{◌≡◌, sym, ap, subst, ℤ, pos, ◌+ℤ◌, ◌-ℤ◌, ◌≤ℤ◌, ◌<ℤ◌, arith, ◌∙◌, true, false}
-use Rattle.std.specs.Prelude.{int_lt}
+use Rattle.std.proofs.Common.{◌≡◌, sym, ap, subst, ℤ, pos, ◌+ℤ◌, ◌-ℤ◌, arith, ◌∙◌, true, false}
 use Rattle.std.proofs.lemmas.Int.{ints}
+use Rattle.blaze_int.proofs.Naturals.{nat_of-pos}
+use Rattle.blaze_int.proofs.Comparisons.{lt_holds, lt_fails}
 use Rattle.blaze_table.specs.Keeping.{KeepsMore}
 use Rattle.blaze_table.specs.Pairs.{pairs_from}
 use Rattle.blaze_table.specs.Retain.{AnswersAtPair, TakesPair}
 use Rattle.blaze_table.specs.Listed.{listed}
-use Rattle.blaze_table.proofs.AtPairs.{all_at}
-use Rattle.blaze_table.proofs.Keeping.{more_next}
-use Rattle.blaze_table.proofs.PairLists.{nat_of-pos}
+use Rattle.blaze_table.proofs.Pairs.AtPairs.{all_at}
+use Rattle.blaze_table.proofs.Pairs.Keeping.{more_next}
 use Rattle.blaze_table.proofs.retain_keys.keep_keys.Goals as goal
-
-below : (a b : ℤ) → int_lt a b ≡ true → a <ℤ b
-below a b h = grind (arith, ints)
-
-not_below : (a b : ℤ) → int_lt a b ≡ false → b ≤ℤ a
-not_below a b h = grind (arith, ints)
 
 pub keep_key-requires-clause-callable : goal.keep_key-requires-clause-callable
 keep_key-requires-clause-callable g c =
     let rank = g.T.Integer.rank in
     let i = c.loop-end.invariant in
-    let less = below (rank c.loop-end.key) (rank c.args.end) (sym c.is_below.ensures ∙ c.loop-end-test.true) in
+    let less = lt_holds (rank c.loop-end.key) (rank c.args.end) (sym c.is_below.ensures ∙ c.loop-end-test.true) in
     all_at g.T.Integer.of_rank (TakesPair g.F.Fn c.args.f.now) (rank c.args.start) _ c.args.value.now (rank c.loop-end.key) c.requires.callable i.from
     (omega (arith, ints, less, nat_of-pos (rank c.args.end -ℤ rank c.args.start +ℤ pos 1) (omega (arith, ints, c.requires.order))))
 
@@ -36,7 +30,7 @@ pub loop-end-preserved : goal.loop-end-preserved
 loop-end-preserved g c =
     let rank = g.T.Integer.rank in
     let i = c.loop-end.invariant in
-    let less = below (rank c.loop-end.key) (rank c.args.end) (sym c.is_below.ensures ∙ c.loop-end-test.true) in
+    let less = lt_holds (rank c.loop-end.key) (rank c.args.end) (sym c.is_below.ensures ∙ c.loop-end-test.true) in
     record {
       from = omega (arith, ints, i.from, c.after-key.ensures);
       to = omega (arith, ints, less, c.after-key.ensures);
@@ -52,7 +46,7 @@ returns-clause-kept g c =
     let lo = rank c.args.start in
     let hi = rank c.args.end in
     let i = c.loop-end.invariant in
-    let end : rank c.loop-end.key ≡ hi = omega (arith, ints, i.to, not_below (rank c.loop-end.key) hi (sym c.is_below.ensures ∙ c.loop-end-test.false)) in
+    let end : rank c.loop-end.key ≡ hi = omega (arith, ints, i.to, lt_fails (rank c.loop-end.key) hi (sym c.is_below.ensures ∙ c.loop-end-test.false)) in
     let long : (hi +ℤ pos 1) -ℤ lo ≡ hi -ℤ lo +ℤ pos 1 = omega (arith, ints) in
     let all = more_next (AnswersAtPair g.F.Fn) c.args.f.now rank g.V.PartialEq.eq g.T.Integer.low g.T.Integer.high g.T.Integer.of_rank lo (rank c.loop-end.key) (hi +ℤ pos 1) c.args.value.now _ _ _
     i.from (omega (arith, ints, end)) i.kept c.in_ok-left-2.ensures.kept in
@@ -62,5 +56,5 @@ pub returns-clause-counted : goal.returns-clause-counted
 returns-clause-counted g c =
     let rank = g.T.Integer.rank in
     let i = c.loop-end.invariant in
-    let end : rank c.loop-end.key ≡ rank c.args.end = omega (arith, ints, i.to, not_below (rank c.loop-end.key) (rank c.args.end) (sym c.is_below.ensures ∙ c.loop-end-test.false)) in
+    let end : rank c.loop-end.key ≡ rank c.args.end = omega (arith, ints, i.to, lt_fails (rank c.loop-end.key) (rank c.args.end) (sym c.is_below.ensures ∙ c.loop-end-test.false)) in
     omega (arith, ints, end, i.counted, c.in_ok-left-2.ensures.counted)

@@ -3,9 +3,9 @@ use Rattle.std.specs.List.{All, items_where_true}
 use Rattle.blaze_table.specs.Listed.{listed}
 use Rattle.blaze_table.specs.Pairs.{pair_list}
 use Rattle.blaze_table.specs.Retain.{AnswersAtPair, TakesPair}
-use Rattle.blaze_table.proofs.AtPairs.{all_pairs}
-use Rattle.blaze_table.proofs.Keeping.{IsReached, reached_none, reached_order, reached_room, reached_more, reached_table, reached_pairs}
-use Rattle.blaze_table.proofs.RangeMaps.{range_map}
+use Rattle.blaze_table.proofs.Pairs.AtPairs.{all_pairs}
+use Rattle.blaze_table.proofs.Pairs.Keeping.{IsReached, reached_none, reached_order, reached_room, reached_more, reached_table, reached_pairs}
+use Rattle.blaze_table.proofs.Canonical.RangeMaps.{range_map}
 use Rattle.blaze_table.proofs.retain_keys.retain_keys.Goals as goal
 
 pub loop-start-init : goal.loop-start-init

@@ -1,7 +1,7 @@
 use Rattle.std.proofs.Common.{pos}
 use Rattle.blaze_table.specs.Listed.{listed}
 use Rattle.blaze_table.specs.Retain.{AnswersAtPair}
-use Rattle.blaze_table.proofs.Keeping.{IsReached}
+use Rattle.blaze_table.proofs.Pairs.Keeping.{IsReached}
 use Rattle.blaze_table.proofs.retain_keys.retain_keys.Given as goal
 
 abbrev pub invariant-loop-start : goal.invariant-loop-start

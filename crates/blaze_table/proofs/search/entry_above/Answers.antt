@@ -2,7 +2,7 @@ use Rattle.std.proofs.Common.{arith, sym, ap, option_map, ◌∙◌}
 use Rattle.std.proofs.lemmas.Int.{ints}
 use Rattle.blaze_entries.specs.Starts.{first_from}
 use Rattle.blaze_table.specs.Entries.{shown_entry}
-use Rattle.blaze_table.proofs.NextEntries.{above_is, above_none}
+use Rattle.blaze_table.proofs.Neighbours.NextEntries.{above_is, above_none}
 use Rattle.blaze_table.proofs.search.entry_above.Goals as goal
 
 pub returns-in_err-checked_add_one : goal.returns-in_err-checked_add_one

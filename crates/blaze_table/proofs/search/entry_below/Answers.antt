@@ -1,7 +1,7 @@
 use Rattle.std.proofs.Common.{arith, ap, option_map, ◌≤ℤ◌, ◌<ℤ◌, ◌∙◌}
 use Rattle.std.proofs.lemmas.Int.{ints}
 use Rattle.blaze_table.specs.Entries.{shown_entry}
-use Rattle.blaze_table.proofs.NextEntries.{below_none_is, below_here, below_before}
+use Rattle.blaze_table.proofs.Neighbours.NextEntries.{below_none_is, below_here, below_before}
 use Rattle.blaze_table.proofs.search.entry_below.Goals as goal
 
 pub returns-in_err-found : goal.returns-in_err-found

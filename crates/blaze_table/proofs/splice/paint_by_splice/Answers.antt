@@ -5,11 +5,11 @@ use Rattle.blaze_table.specs.Count.{keys_in}
 use Rattle.blaze_table.specs.Entries.{Entry}
 use Rattle.blaze_table.specs.Planned.{ends_in, least, IsPlanOf}
 use Rattle.blaze_table.specs.Splice.{before, after}
-use Rattle.blaze_table.proofs.Covering.{covered_seen}
-use Rattle.blaze_table.proofs.FewLooks.{counted_paint}
-use Rattle.blaze_table.proofs.Outside.{walked_fits, walked_outside}
-use Rattle.blaze_table.proofs.WalkedPlans.{planned}
-use Rattle.blaze_table.proofs.Widened.{end_up}
+use Rattle.blaze_table.proofs.Walks.Covering.{covered_seen}
+use Rattle.blaze_table.proofs.Walks.FewLooks.{counted_paint}
+use Rattle.blaze_table.proofs.Walks.Outside.{walked_fits, walked_outside}
+use Rattle.blaze_table.proofs.Walks.WalkedPlans.{planned}
+use Rattle.blaze_table.proofs.Paints.Widened.{end_up}
 use Rattle.blaze_table.proofs.splice.paint_by_splice.Goals as goal
 
 pub plan-seen-requires : goal.plan-seen-requires

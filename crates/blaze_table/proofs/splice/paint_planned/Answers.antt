@@ -2,10 +2,10 @@ use Rattle.std.proofs.Common.{arith, sym, ◌∙◌}
 use Rattle.std.proofs.lemmas.Int.{ints}
 use Rattle.blaze_entries.specs.Scanned.{seen_of}
 use Rattle.blaze_table.specs.Entries.{entry}
-use Rattle.blaze_table.proofs.Counted.{keys_painted, painted_table}
-use Rattle.blaze_table.proofs.SeenInside.{inside_seen, inside_short, not_reached}
-use Rattle.blaze_table.proofs.Inside.{inside_painted}
-use Rattle.blaze_table.proofs.Painted.{is_painted, painted_short}
+use Rattle.blaze_table.proofs.Canonical.Counted.{keys_painted, painted_table}
+use Rattle.blaze_table.proofs.Neighbours.SeenInside.{inside_seen, inside_short, not_reached}
+use Rattle.blaze_table.proofs.Paints.Inside.{inside_painted}
+use Rattle.blaze_table.proofs.Paints.Painted.{is_painted, painted_short}
 use Rattle.blaze_table.proofs.splice.paint_planned.Goals as goal
 
 pub returns-then-is_inside-clause-painted : goal.returns-then-is_inside-clause-painted

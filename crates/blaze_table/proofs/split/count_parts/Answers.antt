@@ -1,6 +1,6 @@
 use Rattle.std.proofs.Common.{arith}
 use Rattle.std.proofs.lemmas.Int.{ints}
-use Rattle.blaze_table.proofs.Counted.{some_keys}
+use Rattle.blaze_table.proofs.Canonical.Counted.{some_keys}
 use Rattle.blaze_table.proofs.split.count_parts.Goals as goal
 
 pub count-below_len-requires-clause-fits : goal.count-below_len-requires-clause-fits

@@ -1,4 +1,4 @@
-use Rattle.blaze_table.proofs.Splitting.{is_split, split_counted, split_tables}
+use Rattle.blaze_table.proofs.Cuts.Splitting.{is_split, split_counted, split_tables}
 use Rattle.blaze_table.proofs.split.split.Goals as goal
 
 pub count_parts-lens-requires-clause-below : goal.count_parts-lens-requires-clause-below

@@ -1,8 +1,8 @@
 use Rattle.std.proofs.Common.{◌∙◌, ap}
 use Rattle.blaze_entries.specs.Counted.{CountedEntries}
 use Rattle.blaze_entries.specs.Starts.{with_end}
-use Rattle.blaze_table.proofs.Holders.{holder, present, absent_inside}
-use Rattle.blaze_table.proofs.SplitEdits.{starts_under, split_inside, clone_there, clone_removed}
+use Rattle.blaze_table.proofs.Neighbours.Holders.{holder, present, absent_inside}
+use Rattle.blaze_table.proofs.Cuts.SplitEdits.{starts_under, split_inside, clone_there, clone_removed}
 use Rattle.blaze_table.proofs.split.split_across.Goals as goal
 
 pub insert_clone-requires-clause-present : goal.insert_clone-requires-clause-present

@@ -1,9 +1,9 @@
 use Rattle.std.proofs.Common.{◌∙◌, sym, refl}
+use Rattle.blaze_int.proofs.Comparisons.{le_fails}
 use Rattle.blaze_entries.specs.Starts.{below, from}
 use Rattle.blaze_table.specs.Splice.{IsSplitOf}
-use Rattle.blaze_table.proofs.Holders.{holder}
-use Rattle.blaze_table.proofs.LooksSay.{le_fails}
-use Rattle.blaze_table.proofs.SplitEdits.{split_behind, split_above, if_split}
+use Rattle.blaze_table.proofs.Neighbours.Holders.{holder}
+use Rattle.blaze_table.proofs.Cuts.SplitEdits.{split_behind, split_above, if_split}
 use Rattle.blaze_table.proofs.split.split_at.Goals as goal
 use Rattle.blaze_table.proofs.split.split_at.Goals.{in_default-via-in-Some+else-is_at_most, in_default-via-in_default}
 

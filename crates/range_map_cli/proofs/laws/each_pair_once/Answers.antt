@@ -1,4 +1,4 @@
-use Rattle.range_map_cli.proofs.Calls.{each_once}
+use Rattle.range_map_cli.proofs.Stepping.Calls.{each_once}
 use Rattle.range_map_cli.proofs.laws.each_pair_once.Goals as goal
 
 pub returns : goal.returns

@@ -1,4 +1,4 @@
-use Rattle.range_map_cli.proofs.LookUps.{look_ups_cover}
+use Rattle.range_map_cli.proofs.Stepping.LookUps.{look_ups_cover}
 use Rattle.range_map_cli.proofs.laws.look_ups_cover_keys.Goals as goal
 
 pub returns : goal.returns

@@ -5,7 +5,7 @@ use Rattle.std.specs.Str.Parse.{digits_value}
 use Rattle.std.proofs.lemmas.List.Folds.{list_all_more}
 use Rattle.std.proofs.lemmas.Int.Digits.{digits_value_more}
 use Rattle.std.proofs.lemmas.Bool.Decides.{nat_tests}
-use Rattle.range_map_cli.proofs.Texts.{room, top, take_whole, digit_is, digit_from_test, fits_19}
+use Rattle.range_map_cli.proofs.Sessions.Texts.{room, top, take_whole, digit_is, digit_from_test, fits_19}
 use Rattle.range_map_cli.proofs.request.digits.Goals as goal
 
 pub overflow_mul-value : goal.overflow_mul-value

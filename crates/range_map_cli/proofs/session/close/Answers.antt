@@ -1,6 +1,6 @@
 use Rattle.std.proofs.Common.{◌++◌, [], refl}
-use Rattle.range_map_cli.proofs.Forwarding.{Forwards-trans, Forwards-all}
-use Rattle.range_map_cli.proofs.Endings.{closes_all, closes_lost}
+use Rattle.range_map_cli.proofs.Sessions.Forwarding.{Forwards-trans, Forwards-all}
+use Rattle.range_map_cli.proofs.Sessions.Endings.{closes_all, closes_lost}
 use Rattle.range_map_cli.proofs.session.close.Goals as goal
 
 pub returns-in_default-clause-closes : goal.returns-in_default-clause-closes

@@ -4,10 +4,10 @@ use Rattle.range_map_cli.specs.declared.End.TheVariants as ends
 use Rattle.range_map_cli.specs.Commands.{Blank, command_of}
 use Rattle.range_map_cli.specs.Output.{no_memory, Prints}
 use Rattle.range_map_cli.specs.Sessions.{Forwards}
-use Rattle.range_map_cli.proofs.Cuts.{empty_list}
-use Rattle.range_map_cli.proofs.Forwarding.{Forwards-none}
-use Rattle.range_map_cli.proofs.Progress.{next_line}
-use Rattle.range_map_cli.proofs.Endings.{one_more, prints_no_memory, prints_bad, closes_reply, behind}
+use Rattle.range_map_cli.proofs.Sessions.Cuts.{empty_list}
+use Rattle.range_map_cli.proofs.Sessions.Forwarding.{Forwards-none}
+use Rattle.range_map_cli.proofs.Sessions.Progress.{next_line}
+use Rattle.range_map_cli.proofs.Sessions.Endings.{one_more, prints_no_memory, prints_bad, closes_reply, behind}
 use Rattle.range_map_cli.proofs.session.end_line.Goals as goal
 
 pub returns-then-is_empty-clause-ok : goal.returns-then-is_empty-clause-ok

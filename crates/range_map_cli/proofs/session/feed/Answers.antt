@@ -1,8 +1,8 @@
 use Rattle.std.proofs.Common.{◌≡◌, ◌++◌, ◌∷◌, ◌∙◌, arith, refl, ap, subst, append_assoc}
 use Rattle.std.proofs.lemmas.Result.{err_from_is_err_and}
 use Rattle.range_map_cli.specs.Sessions.{IsAt}
-use Rattle.range_map_cli.proofs.Cuts.{ends_in-append}
-use Rattle.range_map_cli.proofs.Progress.{next_part}
+use Rattle.range_map_cli.proofs.Sessions.Cuts.{ends_in-append}
+use Rattle.range_map_cli.proofs.Sessions.Progress.{next_part}
 use Rattle.range_map_cli.proofs.session.feed.Goals as goal
 
 pub returns-in_err-end_line-clause-err : goal.returns-in_err-end_line-clause-err

@@ -2,9 +2,9 @@ use Rattle.std.proofs.Common.{◌≡◌, ◌+◌, [], length, arith, refl, ap, s
 use Rattle.std.proofs.lemmas.Bool.{eqb-true}
 use Rattle.range_map_cli.specs.declared.End.TheVariants as ends
 use Rattle.range_map_cli.specs.Lines.{ends_in}
-use Rattle.range_map_cli.proofs.Cuts.{empty_list}
-use Rattle.range_map_cli.proofs.Progress.{last_line}
-use Rattle.range_map_cli.proofs.Endings.{prints_done, behind}
+use Rattle.range_map_cli.proofs.Sessions.Cuts.{empty_list}
+use Rattle.range_map_cli.proofs.Sessions.Progress.{last_line}
+use Rattle.range_map_cli.proofs.Sessions.Endings.{prints_done, behind}
 use Rattle.range_map_cli.proofs.session.finish.Goals as goal
 
 -- no line ends in nothing

@@ -1,7 +1,7 @@
 use Rattle.std.proofs.Common.{rules}
 use Rattle.blaze_table.specs.Entries.{entry}
 use Rattle.blaze_table.specs.Painted.{IsPainted}
-use Rattle.range_map_cli.proofs.Stepped.{changed_is}
+use Rattle.range_map_cli.proofs.Stepping.Stepped.{changed_is}
 use Rattle.range_map_cli.proofs.steps.paint.Goals as goal
 
 pub returns-clause-changed : goal.returns-clause-changed

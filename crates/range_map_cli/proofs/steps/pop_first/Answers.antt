@@ -1,4 +1,4 @@
-use Rattle.range_map_cli.proofs.Stepped.{first_pair, without_first}
+use Rattle.range_map_cli.proofs.Stepping.Stepped.{first_pair, without_first}
 use Rattle.range_map_cli.proofs.steps.pop_first.Goals as goal
 
 pub returns-clause-ok : goal.returns-clause-ok

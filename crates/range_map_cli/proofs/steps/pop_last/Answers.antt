@@ -1,4 +1,4 @@
-use Rattle.range_map_cli.proofs.Stepped.{last_pair, without_last}
+use Rattle.range_map_cli.proofs.Stepping.Stepped.{last_pair, without_last}
 use Rattle.range_map_cli.proofs.steps.pop_last.Goals as goal
 
 pub returns-clause-ok : goal.returns-clause-ok

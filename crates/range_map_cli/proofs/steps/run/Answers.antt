@@ -1,7 +1,7 @@
 use Rattle.std.proofs.Common.{rules, ◌≡◌, ◌++◌, ◌∷◌, ◌∙◌, [], length, inl, inr, refl, sym, ap, subst, arith, append_assoc}
 use Rattle.std.proofs.lemmas.List.{length-append, nil_from_length}
 use Rattle.std.specs.Vec.Iter.{into_iter_items}
-use Rattle.range_map_cli.proofs.Running.{IsRunning, all_done, counted_run, refused_at, running_more, running_none}
+use Rattle.range_map_cli.proofs.Stepping.Running.{IsRunning, all_done, counted_run, refused_at, running_more, running_none}
 use Rattle.range_map_cli.proofs.steps.run.Goals as goal
 
 pub returns-in_default-clause-refused : goal.returns-in_default-clause-refused

@@ -1,6 +1,6 @@
 use Rattle.range_map_cli.specs.declared.step.Step.TheVariants.{Paint, Insert, Remove, ComplementWith}
 use Rattle.range_map_cli.specs.declared.step.Answer.TheVariants.{Wrote, Old}
-use Rattle.range_map_cli.proofs.Stepped.{answered, complement_is, same_back, stepped}
+use Rattle.range_map_cli.proofs.Stepping.Stepped.{answered, complement_is, same_back, stepped}
 use Rattle.range_map_cli.proofs.steps.take_step.Goals as goal
 
 pub returns-in_ok-changed-in-Paint-clause-stepped : goal.returns-in_ok-changed-in-Paint-clause-stepped

@@ -2,7 +2,7 @@ use Rattle.std.proofs.Common.{◌≡◌, ◌∙◌, ◌++◌, ◌+◌, length, m
 use Rattle.std.proofs.lemmas.List.{length_push}
 use Rattle.std.specs.Cmp.{nat_eq_equiv}
 use Rattle.blaze_table.specs.Canonical.{IsCanonical, AreKeys}
-use Rattle.blaze_table.proofs.Runs.{canonical, one_per_run}
+use Rattle.blaze_table.proofs.Canonical.Runs.{canonical, one_per_run}
 use Rattle.blaze_streams.specs.Answers.{values}
 use Rattle.blaze_streams.specs.RangeLists.{shown_ranges}
 use Rattle.blaze_streams.specs.Ranges.{shown_range}

@@ -49,4 +49,4 @@ returns-clause-ok g c =
     let ps = places rank c.self.inside.tree.entries in
     looked_and_edited (with_end (rank c.args.start) (rank c.args.end)) c.args.self.now _ _ _ (full ps) _ c.self.view_is
     (full_of _ (with_end (rank c.args.start) (rank c.args.end) (full ps)) (edited_places low high (with_end (rank c.args.start) (rank c.args.end)) ps _ (with_end (rank c.args.start) (rank c.args.end) (full ps)) c.self.invariant c.in_ok-value.ensures.moved (with_end-held (rank c.args.start) (rank c.args.end) (full ps))))
-    _ c.after-self-inside.ensures
+    _ c.one_more-self-inside.ensures

@@ -1,6 +1,6 @@
 use Rattle.std.proofs.Common.{◌∙◌, sym, ap, subst}
 use Rattle.blaze_table.specs.Canonical.{IsCanonical}
-use Rattle.blaze_table.proofs.Splices.{canonical_after}
+use Rattle.blaze_table.proofs.Paints.Splices.{canonical_after}
 use Rattle.blaze_streams.specs.Choosing.{ahead_of}
 use Rattle.blaze_streams.proofs.cursor.Cursor.advance.Goals as goal
 

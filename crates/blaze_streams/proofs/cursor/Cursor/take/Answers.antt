@@ -1,8 +1,8 @@
 use Rattle.std.proofs.Common.{◌∙◌, sym, ap, subst, arith, ◌<ℤ◌}
 use Rattle.std.proofs.lemmas.Int.{ints}
+use Rattle.blaze_entries.proofs.Alike.{same_none}
 use Rattle.blaze_table.specs.Entries.{at}
 use Rattle.blaze_table.specs.Canonical.{IsCanonical}
-use Rattle.blaze_table.proofs.Unique.{same_none}
 use Rattle.blaze_streams.specs.Choosing.{ahead_of}
 use Rattle.blaze_streams.proofs.Steady.{at_first}
 use Rattle.blaze_streams.proofs.cursor.Cursor.take.Goals as goal

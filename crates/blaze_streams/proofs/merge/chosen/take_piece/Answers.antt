@@ -1,7 +1,7 @@
 use Rattle.std.proofs.Common.{◌∙◌, sym}
 use Rattle.std.specs.Option.{option_map}
 use Rattle.blaze_streams.proofs.Taken.{taken_steady, taken_right}
-use Rattle.blaze_table.proofs.Glued.{and_both}
+use Rattle.blaze_table.proofs.Neighbours.Glued.{and_both}
 use Rattle.blaze_streams.proofs.ChosenSoFar.{both_from}
 use Rattle.blaze_streams.proofs.Steady.{has_end}
 use Rattle.blaze_streams.proofs.merge.chosen.take_piece.Goals as goal

@@ -1,6 +1,6 @@
 use Rattle.std.proofs.Common.{◌≡◌, ◌∙◌, ◌++◌, ◌+◌, [], ◌∷◌, ap, drop, sym, subst, append_assoc}
 use Rattle.blaze_table.specs.Entries.{at}
-use Rattle.blaze_table.proofs.Indexed.{from_index}
+use Rattle.blaze_table.proofs.Pairs.Indexed.{from_index}
 use Rattle.blaze_streams.specs.Cursors.{AllReach}
 use Rattle.blaze_streams.specs.Segments.{row}
 use Rattle.blaze_streams.proofs.Rows.{shown_itself}

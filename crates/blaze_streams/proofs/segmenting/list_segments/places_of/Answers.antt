@@ -3,8 +3,8 @@ use Rattle.std.proofs.lemmas.List.{append-nil, drop_all}
 use Rattle.std.specs.Cmp.{nat_eq_equiv}
 use Rattle.blaze_table.specs.Canonical.{IsCanonical}
 use Rattle.blaze_table.specs.Entries.{entry}
-use Rattle.blaze_table.proofs.Indexed.{from_index}
-use Rattle.blaze_table.proofs.Runs.{one_per_run}
+use Rattle.blaze_table.proofs.Pairs.Indexed.{from_index}
+use Rattle.blaze_table.proofs.Canonical.Runs.{one_per_run}
 use Rattle.blaze_streams.specs.RangeLists.{shown_ranges}
 use Rattle.blaze_streams.specs.Ranges.{shown_range}
 use Rattle.blaze_streams.specs.Segments.{numbered}

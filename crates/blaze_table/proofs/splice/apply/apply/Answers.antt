@@ -6,10 +6,10 @@ use Rattle.blaze_entries.specs.Found.{found_in}
 use Rattle.blaze_entries.specs.Scanned.{seen_of, least_by}
 use Rattle.blaze_entries.specs.Starts.{start_at}
 use Rattle.blaze_table.specs.Planned.{joined_start, ends_in, least, least_with}
-use Rattle.blaze_table.proofs.Splits.{last_at}
-use Rattle.blaze_table.proofs.StartsIn.{least_on}
-use Rattle.blaze_table.proofs.Plans.{rest_is, rest_above, above_of}
-use Rattle.blaze_table.proofs.Widened.{paint_extends, paint_puts, started_at, started_below, started_there, end_up}
+use Rattle.blaze_table.proofs.Cuts.Splits.{last_at}
+use Rattle.blaze_table.proofs.Paints.StartsIn.{least_on}
+use Rattle.blaze_table.proofs.Walks.Plans.{rest_is, rest_above, above_of}
+use Rattle.blaze_table.proofs.Paints.Widened.{paint_extends, paint_puts, started_at, started_below, started_there, end_up}
 use Rattle.blaze_table.proofs.splice.apply.apply.Goals as goal
 
 pub paint_on-requires-clause-order : goal.paint_on-requires-clause-order

@@ -1,7 +1,7 @@
 use Rattle.std.proofs.Common.{ap, sym, ◌∙◌}
 use Rattle.blaze_table.specs.Planned.{least}
-use Rattle.blaze_table.proofs.Composed.{put_canonical, put_amid, put_at}
-use Rattle.blaze_table.proofs.Plans.{above_rest}
+use Rattle.blaze_table.proofs.Paints.Composed.{put_canonical, put_amid, put_at}
+use Rattle.blaze_table.proofs.Walks.Plans.{above_rest}
 use Rattle.blaze_table.proofs.splice.apply.paint_beside.Goals as goal
 
 pub put-requires-clause-above : goal.put-requires-clause-above

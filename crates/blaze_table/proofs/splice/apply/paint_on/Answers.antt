@@ -2,9 +2,9 @@ use Rattle.std.proofs.Common.{length, ap, sym, ◌∙◌, arith}
 use Rattle.blaze_entries.specs.Counted.{CountedEntries}
 use Rattle.blaze_entries.specs.Starts.{start_at}
 use Rattle.blaze_table.specs.Planned.{least}
-use Rattle.blaze_table.proofs.Composed.{extended}
-use Rattle.blaze_table.proofs.EditLists.{length-with_end}
-use Rattle.blaze_table.proofs.Splits.{some_of}
+use Rattle.blaze_table.proofs.Paints.Composed.{extended}
+use Rattle.blaze_table.proofs.Paints.EditLists.{length-with_end}
+use Rattle.blaze_table.proofs.Cuts.Splits.{some_of}
 use Rattle.blaze_table.proofs.splice.apply.paint_on.Goals as goal
 
 pub clear-requires-clause-covered : goal.clear-requires-clause-covered

@@ -1,7 +1,7 @@
 use Rattle.std.proofs.Common.{ap, sym, ◌∙◌}
 use Rattle.blaze_entries.specs.Counted.{CountedEntries}
 use Rattle.blaze_entries.specs.Scanned.{least_by}
-use Rattle.blaze_table.proofs.FirstOut.{none_out, first_out, others_out}
+use Rattle.blaze_table.proofs.Paints.FirstOut.{none_out, first_out, others_out}
 use Rattle.blaze_table.proofs.splice.edits.clear.Goals as goal
 
 pub remove-requires : goal.remove-requires

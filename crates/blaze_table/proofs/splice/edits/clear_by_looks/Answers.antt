@@ -1,8 +1,8 @@
 use Rattle.std.proofs.Common.{◌<ℤ◌, ◌≤ℤ◌, length, ap, sym, ◌∙◌, arith}
 use Rattle.std.proofs.lemmas.Int.{ints}
+use Rattle.blaze_int.proofs.Comparisons.{lt_holds, lt_fails}
 use Rattle.blaze_entries.specs.Counted.{CountedEntries}
-use Rattle.blaze_table.proofs.Clearing.{stopped, ended, there, whole, kept_below, kept_above}
-use Rattle.blaze_table.proofs.LooksSay.{lt_holds, lt_fails}
+use Rattle.blaze_table.proofs.Paints.Clearing.{stopped, ended, there, whole, kept_below, kept_above}
 use Rattle.blaze_table.proofs.splice.edits.clear_by_looks.Goals as goal
 
 pub returns-then-not-is_below-clause-entries : goal.returns-then-not-is_below-clause-entries

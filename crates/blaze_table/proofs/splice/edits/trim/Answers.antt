@@ -1,10 +1,10 @@
 use Rattle.std.proofs.Common.{length, ap, sym, ◌∙◌, arith}
 use Rattle.std.specs.Option.{option_map}
+use Rattle.blaze_int.proofs.Comparisons.{le_holds, le_fails}
 use Rattle.blaze_entries.specs.Counted.{CountedEntries}
 use Rattle.blaze_table.specs.Planned.{ends_of}
-use Rattle.blaze_table.proofs.EditLists.{length-with_end}
-use Rattle.blaze_table.proofs.Growing.{trim_none, trim_short, trim_long, trim_starts}
-use Rattle.blaze_table.proofs.LooksSay.{le_holds, le_fails}
+use Rattle.blaze_table.proofs.Paints.EditLists.{length-with_end}
+use Rattle.blaze_table.proofs.Neighbours.Growing.{trim_none, trim_short, trim_long, trim_starts}
 use Rattle.blaze_table.proofs.splice.edits.trim.Goals as goal
 
 pub before-end-requires : goal.before-end-requires

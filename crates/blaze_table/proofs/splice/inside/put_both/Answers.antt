@@ -3,8 +3,8 @@ use Rattle.std.proofs.lemmas.Int.{ints}
 use Rattle.blaze_entries.specs.Counted.{CountedEntries}
 use Rattle.blaze_entries.specs.Starts.{start_at}
 use Rattle.blaze_table.specs.Entries.{entry}
-use Rattle.blaze_table.proofs.Placing.{put_there, put_back}
-use Rattle.blaze_table.proofs.PutInside.{absent_then}
+use Rattle.blaze_table.proofs.Paints.Placing.{put_there, put_back}
+use Rattle.blaze_table.proofs.Paints.PutInside.{absent_then}
 use Rattle.blaze_table.proofs.splice.inside.put_both.Goals as goal
 
 pub insert-requires-2 : goal.insert-requires-2

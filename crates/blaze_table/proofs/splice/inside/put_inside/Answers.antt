@@ -3,9 +3,9 @@ use Rattle.std.proofs.lemmas.Int.{ints}
 use Rattle.blaze_entries.specs.Counted.{CountedEntries}
 use Rattle.blaze_entries.specs.Starts.{start_at, with_end}
 use Rattle.blaze_table.specs.Entries.{Entry}
-use Rattle.blaze_table.proofs.EditLists.{length-with_end}
-use Rattle.blaze_table.proofs.Holders.{holder, present, absent_behind, end_back}
-use Rattle.blaze_table.proofs.PutInside.{inside_put}
+use Rattle.blaze_table.proofs.Paints.EditLists.{length-with_end}
+use Rattle.blaze_table.proofs.Neighbours.Holders.{holder, present, absent_behind, end_back}
+use Rattle.blaze_table.proofs.Paints.PutInside.{inside_put}
 use Rattle.blaze_table.proofs.splice.inside.put_inside.Goals as goal
 
 pub before-requires : goal.before-requires

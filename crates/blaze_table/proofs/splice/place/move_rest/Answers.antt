@@ -4,7 +4,7 @@ use Rattle.blaze_entries.specs.Found.{ranks_of}
 use Rattle.blaze_table.specs.Planned.{IsRest}
 use Rattle.std.specs.Prelude.{IfSome}
 use Rattle.std.specs.Prelude.{◌<ℤ◌}
-use Rattle.blaze_table.proofs.Placing.{kept_none, kept_moved}
+use Rattle.blaze_table.proofs.Paints.Placing.{kept_none, kept_moved}
 use Rattle.blaze_table.proofs.splice.place.move_rest.Goals as goal
 
 pub returns-in-None-clause-kept : goal.returns-in-None-clause-kept

@@ -5,7 +5,7 @@ use Rattle.blaze_entries.specs.Counted.{CountedEntries}
 use Rattle.blaze_entries.specs.Found.{ranks_of}
 use Rattle.blaze_table.specs.Entries.{entry}
 use Rattle.blaze_table.specs.Planned.{IsRest}
-use Rattle.blaze_table.proofs.Placing.{put_there, put_back, new_alone, new_present, new_absent, new_with_rest}
+use Rattle.blaze_table.proofs.Paints.Placing.{put_there, put_back, new_alone, new_present, new_absent, new_with_rest}
 use Rattle.blaze_table.proofs.splice.place.put_new.Goals as goal
 
 pub move_start-requires-clause-present : goal.move_start-requires-clause-present

@@ -1,11 +1,11 @@
 use Rattle.std.proofs.Common.{length, sym, subst, ap, ◌∙◌, arith}
 use Rattle.std.specs.Option.{option_map}
+use Rattle.blaze_int.proofs.Comparisons.{lt_holds, lt_fails}
 use Rattle.blaze_entries.specs.Counted.{CountedEntries}
 use Rattle.blaze_entries.specs.Found.{ranks_of}
+use Rattle.blaze_entries.proofs.Moves.{length-with_end_value}
 use Rattle.blaze_table.specs.Planned.{IsRest}
-use Rattle.blaze_table.proofs.EditLists.{length-with_end_value}
-use Rattle.blaze_table.proofs.LooksSay.{lt_holds, lt_fails}
-use Rattle.blaze_table.proofs.Placing.{kept_none, kept_moved, over_kept, over_front}
+use Rattle.blaze_table.proofs.Paints.Placing.{kept_none, kept_moved, over_kept, over_front}
 use Rattle.blaze_table.proofs.splice.place.put_over.Goals as goal
 
 pub returns-in-None-clause-ok : goal.returns-in-None-clause-ok

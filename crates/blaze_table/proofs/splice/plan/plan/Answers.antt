@@ -9,7 +9,7 @@ use Rattle.blaze_entries.specs.Starts.{below, last_below}
 use Rattle.blaze_entries.proofs.Halves.{below_next}
 use Rattle.blaze_entries.proofs.Scans.{step_fits, last_walked, last_covered, last_answers, last_keys, next_walked, next_covered, next_answers, next_keys}
 use Rattle.blaze_table.specs.Entries.{Entry}
-use Rattle.blaze_table.proofs.Descents.{down_to, at_bottom, rounds_fall}
+use Rattle.blaze_table.proofs.Walks.Descents.{down_to, at_bottom, rounds_fall}
 use Rattle.blaze_table.proofs.splice.plan.plan.Goals as goal
 
 pub loop-last-init : goal.loop-last-init

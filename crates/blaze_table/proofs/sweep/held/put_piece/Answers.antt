@@ -4,7 +4,7 @@ use Rattle.blaze_table.specs.Entries.{entry, shown_entry, SameOption}
 use Rattle.blaze_table.specs.Listed.{listed}
 use Rattle.blaze_table.specs.Held.{moved_to, value_in}
 use Rattle.blaze_table.specs.declared.sweep.held.Held.TheVariants.{Moved}
-use Rattle.blaze_table.proofs.Held.{within_held, glue_some}
+use Rattle.blaze_table.proofs.Sweeping.Held.{within_held, glue_some}
 use Rattle.blaze_table.proofs.sweep.held.put_piece.Goals as goal
 
 pub overflow_sub-len : goal.overflow_sub-len

@@ -4,7 +4,7 @@ use Rattle.std.proofs.lemmas.Option.{slice_get_read}
 use Rattle.blaze_table.specs.Entries.{SameOption}
 use Rattle.blaze_table.specs.Listed.{listed}
 use Rattle.blaze_table.specs.declared.sweep.held.Held.TheVariants.{Moved}
-use Rattle.blaze_table.proofs.Held.{within_held, moved_value}
+use Rattle.blaze_table.proofs.Sweeping.Held.{within_held, moved_value}
 use Rattle.blaze_table.proofs.sweep.held.value_at.Goals as goal
 
 pub returns-in_ok-value-in-Moved-clause-value : goal.returns-in_ok-value-in-Moved-clause-value

@@ -1,7 +1,7 @@
 use Rattle.std.proofs.Common.{sym, ◌∙◌, ◌-ℤ◌, pos}
 use Rattle.std.specs.BinaryHeap.{heap_items}
-use Rattle.blaze_table.proofs.Orders.{not_at_most}
-use Rattle.blaze_table.proofs.Waitings.{waiting_kept, waiting_from, waiting_moved}
+use Rattle.blaze_int.proofs.Comparisons.{le_fails}
+use Rattle.blaze_table.proofs.Sweeping.Waitings.{waiting_kept, waiting_from, waiting_moved}
 use Rattle.blaze_table.proofs.sweep.pieces.advance.Goals as goal
 
 pub returns-then-is_at_most-clause-waits : goal.returns-then-is_at_most-clause-waits
@@ -20,4 +20,4 @@ returns-clause-kept g c =
     let placed = c.args.placed.now in
     waiting_kept rank placed (rank c.args.from) (rank c.args.start -ℤ pos 1) (rank c.args.start) (heap_items c.args.waiting.now) (heap_items c.sweep_to.new.waiting) c.requires.waits
     (waiting_moved rank placed (heap_items c.sweep_to.new.waiting) (rank c.before-2.result) (rank c.args.start) c.before-2.ensures c.in_ok-sweep_to.ensures.waits)
-    (not_at_most (rank c.args.start) (rank c.args.from) (sym c.is_at_most.ensures ∙ c.if-is_at_most.false))
+    (le_fails (rank c.args.start) (rank c.args.from) (sym c.is_at_most.ensures ∙ c.if-is_at_most.false))

@@ -3,7 +3,7 @@ use Rattle.std.specs.Prelude.{slice_get}
 use Rattle.std.specs.BinaryHeap.{heap_items}
 use Rattle.std.proofs.lemmas.Option.{slice_get_read}
 use Rattle.blaze_table.specs.Listed.{listed}
-use Rattle.blaze_table.proofs.Underway.{underway_none, waits_for, all_wait, underway_more}
+use Rattle.blaze_table.proofs.Sweeping.Underway.{underway_none, waits_for, all_wait, underway_more}
 use Rattle.blaze_table.proofs.sweep.pieces.pieces_of.Goals as goal
 
 pub loop-i-init : goal.loop-i-init

@@ -1,11 +1,12 @@
 use Rattle.std.proofs.Common.{◌≡◌, ◌≤ℤ◌, ◌<ℤ◌, ◌+ℤ◌, pos, ◌∙◌, sym, subst, arith}
 use Rattle.std.specs.BinaryHeap.{heap_items}
 use Rattle.std.proofs.lemmas.Int.{ints}
+use Rattle.blaze_int.proofs.Comparisons.{le_holds, le_fails, lt_holds, lt_fails}
 use Rattle.blaze_table.specs.Listed.{listed}
 use Rattle.blaze_table.specs.Pieces.{ArePieces}
-use Rattle.blaze_table.proofs.Orders.{at_most, not_at_most, below, not_below, step_up, step_to, step_past, weaker}
-use Rattle.blaze_table.proofs.Pieces.{pieces_to, pieces_rest}
-use Rattle.blaze_table.proofs.Waitings.{top_read, waiting_from, waiting_less}
+use Rattle.blaze_table.proofs.Sweeping.Orders.{step_up, step_to, step_past, weaker}
+use Rattle.blaze_table.proofs.Sweeping.Pieces.{pieces_to, pieces_rest}
+use Rattle.blaze_table.proofs.Sweeping.Waitings.{top_read, waiting_from, waiting_less}
 use Rattle.blaze_table.proofs.sweep.pieces.sweep_to.Goals as goal
 
 pub returns-then-is_at_most-clause-waits : goal.returns-then-is_at_most-clause-waits
@@ -26,7 +27,7 @@ returns-then-is_at_most-clause-made g c =
     let pair = c.index-placed-top.result in
     let is = top_read rank placed at to waits i.waits c.in-Some.top pair top.top c.index-placed-top.is in
     pieces_to rank placed g.T.Integer.low at to i.order waits i.waits (listed rank c.loop-top.pieces.items) i.made c.in-Some.top pair top.top top.greatest is
-    to i.order (omega (arith, ints)) (at_most _ _ (sym c.is_at_most.ensures ∙ c.if-is_at_most.true)) (listed rank c.push_entry.new.out.items) c.in_ok-push_entry.ensures.ok
+    to i.order (omega (arith, ints)) (le_holds _ _ (sym c.is_at_most.ensures ∙ c.if-is_at_most.true)) (listed rank c.push_entry.new.out.items) c.in_ok-push_entry.ensures.ok
 
 pub loop-top-preserved-then-is_below : goal.loop-top-preserved-then-is_below
 loop-top-preserved-then-is_below g c =
@@ -41,8 +42,8 @@ loop-top-preserved-then-is_below g c =
     let is = top_read rank placed at to waits i.waits c.in-Some.top pair top.top c.index-placed-top.is in
     record {
       order = i.order;
-      heap = c.drop_last.ensures.heap;
-      waits = waiting_less rank placed at to waits i.waits c.in-Some.top pair (heap_items c.drop_last.new.waiting) is (below _ _ (sym c.is_below.ensures ∙ c.if-is_below.true)) c.drop_last.ensures.permutation;
+      heap = c.drop_top.ensures.heap;
+      waits = waiting_less rank placed at to waits i.waits c.in-Some.top pair (heap_items c.drop_top.new.waiting) is (lt_holds _ _ (sym c.is_below.ensures ∙ c.if-is_below.true)) c.drop_top.ensures.permutation;
       made = i.made;
     }
 
@@ -59,14 +60,14 @@ loop-top-preserved g c =
     let is = top_read rank placed at to waits i.waits c.in-Some.top pair top.top c.index-placed-top.is in
     let next = rank c.after-at.result in
     let e = rank pair.1 in
-    let h : at ≤ℤ e = not_below _ _ (sym c.is_below.ensures ∙ c.if-is_below.false) in
-    let u : e <ℤ to = not_at_most _ _ (sym c.is_at_most.ensures ∙ c.if-is_at_most.false) in
+    let h : at ≤ℤ e = lt_fails _ _ (sym c.is_below.ensures ∙ c.if-is_below.false) in
+    let u : e <ℤ to = le_fails _ _ (sym c.is_at_most.ensures ∙ c.if-is_at_most.false) in
     let step : next ≡ e +ℤ pos 1 = c.after-at.ensures in
     let l : at ≤ℤ next = step_up at e next h step in
     record {
       order = step_to e to next u step;
-      heap = c.drop_last.ensures.heap;
-      waits = waiting_less rank placed next to waits (waiting_from rank placed at to waits i.waits next l) c.in-Some.top pair (heap_items c.drop_last.new.waiting) is (step_past e next step) c.drop_last.ensures.permutation;
+      heap = c.drop_top.ensures.heap;
+      waits = waiting_less rank placed next to waits (waiting_from rank placed at to waits i.waits next l) c.in-Some.top pair (heap_items c.drop_top.new.waiting) is (step_past e next step) c.drop_top.ensures.permutation;
       made = subst (λ k. ArePieces rank placed g.T.Integer.low k (listed rank c.push_entry-in-Some.new.out.items)) (sym step)
           (pieces_to rank placed g.T.Integer.low at to i.order waits i.waits (listed rank c.loop-top.pieces.items) i.made c.in-Some.top pair top.top top.greatest is
           e h (weaker e to u) (omega (arith, ints)) (listed rank c.push_entry-in-Some.new.out.items) c.in_ok-push_entry-2.ensures.ok);

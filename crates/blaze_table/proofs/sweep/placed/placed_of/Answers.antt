@@ -3,11 +3,11 @@ use Rattle.std.proofs.lemmas.List.{length-map, nil_from_length}
 use Rattle.std.proofs.lemmas.List.Elements.{All-weaker}
 use Rattle.std.proofs.lemmas.List.Sorted.{answers_always}
 use Rattle.std.specs.Vec.Iter.{into_iter_items}
+use Rattle.blaze_int.proofs.Comparisons.{le_holds, le_fails}
 use Rattle.blaze_table.specs.Entries.{shown_entry}
 use Rattle.blaze_table.specs.Listed.{listed}
 use Rattle.blaze_table.specs.Pieces.{IsPlaced}
-use Rattle.blaze_table.proofs.Orders.{at_most, not_at_most}
-use Rattle.blaze_table.proofs.Placed.{head_of_drop, placed_none, placed_skip, placed_more, placed_sorted, ends_are_keys, ascends}
+use Rattle.blaze_table.proofs.Sweeping.Placed.{head_of_drop, placed_none, placed_skip, placed_more, placed_sorted, ends_are_keys, ascends}
 use Rattle.blaze_table.proofs.sweep.placed.placed_of.Goals as goal
 
 pub loop-start-init : goal.loop-start-init
@@ -33,7 +33,7 @@ loop-start-preserved-then-not-is_at_most g c =
     record {
       in_all = omega (arith, ap length split, i.in_all);
       rest = head.1;
-      so_far = placed_skip rank ps c.loop-start.count c.loop-start.placed.items i.so_far e head.0 (not_at_most _ _ (sym c.is_at_most.ensures ∙ c.if-not-is_at_most.true));
+      so_far = placed_skip rank ps c.loop-start.count c.loop-start.placed.items i.so_far e head.0 (le_fails _ _ (sym c.is_at_most.ensures ∙ c.if-not-is_at_most.true));
     }
 
 pub loop-start-preserved : goal.loop-start-preserved
@@ -50,7 +50,7 @@ loop-start-preserved g c =
       in_all = omega (arith, ap length split, i.in_all);
       rest = head.1;
       so_far = placed_more rank ps c.loop-start.count c.loop-start.placed.items i.so_far e head.0
-          pair.0 pair.1 pair.2 c.push.new.self.items c.in_ok-push.ensures.items (λ _. e) (at_most _ _ (sym c.is_at_most.ensures ∙ c.if-not-is_at_most.false));
+          pair.0 pair.1 pair.2 c.push.new.self.items c.in_ok-push.ensures.items (λ _. e) (le_holds _ _ (sym c.is_at_most.ensures ∙ c.if-not-is_at_most.false));
     }
 
 pub returns-clause-placed : goal.returns-clause-placed

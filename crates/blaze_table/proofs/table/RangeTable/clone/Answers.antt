@@ -1,8 +1,8 @@
 use Rattle.std.proofs.Common.{sym, subst}
 use Rattle.blaze_table.specs.Counted.{CountedEntries}
 use Rattle.blaze_table.specs.Table.{IsTable}
-use Rattle.blaze_table.proofs.Clones.{table_as}
-use Rattle.blaze_table.proofs.RangeMaps.{starts_ascend}
+use Rattle.blaze_table.proofs.Canonical.Clones.{table_as}
+use Rattle.blaze_table.proofs.Canonical.RangeMaps.{starts_ascend}
 use Rattle.blaze_table.proofs.table.RangeTable.clone.Goals as goal
 
 pub from_sorted-requires : goal.from_sorted-requires

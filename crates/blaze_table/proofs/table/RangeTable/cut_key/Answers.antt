@@ -1,7 +1,7 @@
 use Rattle.std.proofs.Common.{subst, ap, ◌∙◌}
 use Rattle.blaze_table.specs.Counted.{CountedEntries}
 use Rattle.blaze_table.specs.Cut.{IsCut}
-use Rattle.blaze_table.proofs.RangeMaps.{cut_map}
+use Rattle.blaze_table.proofs.Canonical.RangeMaps.{cut_map}
 use Rattle.blaze_table.proofs.table.RangeTable.cut_key.Goals as goal
 
 pub returns-clause-ok : goal.returns-clause-ok

@@ -1,7 +1,7 @@
 use Rattle.std.proofs.Common.{◌≡◌, ◌∙◌, ℤ, ap, refl, Bor, Option, Some, None, option_map}
 use Rattle.blaze_table.specs.Counted.{CountedEntries}
 use Rattle.blaze_table.specs.Entries.{Entry, at, shown_entry}
-use Rattle.blaze_table.proofs.Lookup.{value-entry_at}
+use Rattle.blaze_table.proofs.Canonical.Lookup.{value-entry_at}
 use Rattle.blaze_table.proofs.table.RangeTable.find.Goals as goal
 
 value_shown : {T R V : Type 0} (rank : T → ℤ) (shown : R → V) (o : Option (T × T × R)) → option_map (λ p. shown p.2) o ≡ option_map (λ (e : Entry V). e.value) (option_map (shown_entry rank shown) o)

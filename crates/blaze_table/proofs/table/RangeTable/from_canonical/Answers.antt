@@ -4,9 +4,9 @@ use Rattle.blaze_table.specs.Canonical.{IsCanonical, AreKeys}
 use Rattle.blaze_table.specs.Count.{keys_in}
 use Rattle.blaze_table.specs.Counted.{CountedEntries}
 use Rattle.blaze_table.specs.Listed.{listed}
-use Rattle.blaze_table.proofs.Counted.{keys_among}
-use Rattle.blaze_table.proofs.RangeMaps.{starts_ascend}
-use Rattle.blaze_table.proofs.Runs.{canonical}
+use Rattle.blaze_table.proofs.Canonical.Counted.{keys_among}
+use Rattle.blaze_table.proofs.Canonical.RangeMaps.{starts_ascend}
+use Rattle.blaze_table.proofs.Canonical.Runs.{canonical}
 use Rattle.blaze_table.proofs.table.RangeTable.from_canonical.Goals as goal
 
 pub count_list-len-requires-clause-canonical : goal.count_list-len-requires-clause-canonical

@@ -2,7 +2,7 @@ use Rattle.std.proofs.Common.{subst, ap, ◌∙◌}
 use Rattle.blaze_table.specs.Counted.{CountedEntries}
 use Rattle.blaze_table.specs.Entries.{entry}
 use Rattle.blaze_table.specs.Painted.{IsPainted}
-use Rattle.blaze_table.proofs.RangeMaps.{painted_map}
+use Rattle.blaze_table.proofs.Canonical.RangeMaps.{painted_map}
 use Rattle.blaze_table.proofs.table.RangeTable.paint.Goals as goal
 
 pub returns-clause-ok : goal.returns-clause-ok

@@ -1,8 +1,8 @@
 use Rattle.std.proofs.Common.{arith}
 use Rattle.std.proofs.lemmas.Int.{ints}
-use Rattle.blaze_table.proofs.Counted.{keys_among}
-use Rattle.blaze_table.proofs.Kept.{canonical_filtered, are_keys_filtered}
-use Rattle.blaze_table.proofs.RangeMaps.{range_map}
+use Rattle.blaze_table.proofs.Canonical.Counted.{keys_among}
+use Rattle.blaze_table.proofs.Canonical.Kept.{canonical_filtered, are_keys_filtered}
+use Rattle.blaze_table.proofs.Canonical.RangeMaps.{range_map}
 use Rattle.blaze_table.proofs.table.RangeTable.retain_entries.Goals as goal
 
 pub count-len-requires-clause-canonical : goal.count-len-requires-clause-canonical

@@ -1,4 +1,4 @@
-use Rattle.blaze_table.proofs.RangeMaps.{starts_ascend}
+use Rattle.blaze_table.proofs.Canonical.RangeMaps.{starts_ascend}
 use Rattle.blaze_table.proofs.table.RangeTable.retain_keys.Goals as goal
 
 pub set_sorted-requires : goal.set_sorted-requires

@@ -1,7 +1,7 @@
 use Rattle.std.proofs.Common.{subst}
 use Rattle.blaze_table.specs.Counted.{CountedEntries}
 use Rattle.blaze_table.specs.Cut.{IsSplit}
-use Rattle.blaze_table.proofs.RangeMaps.{split_maps}
+use Rattle.blaze_table.proofs.Canonical.RangeMaps.{split_maps}
 use Rattle.blaze_table.proofs.table.RangeTable.split_at.Goals as goal
 
 pub returns-clause-ok : goal.returns-clause-ok

@@ -3,7 +3,7 @@ use Rattle.blaze_table.specs.Entries.{Entry, shown_entry}
 use Rattle.std.specs.Int.{int_min}
 use Rattle.blaze_table.specs.Splice.{after}
 use Rattle.range_map_blaze.specs.Order.{IsComparedOn}
-use Rattle.range_map_blaze.proofs.PairOrder.{not_Equal, is_Equal, both_at_end, left_at_end, other_at_end, decided_at_first, compared_after, reaches_first, earlier_left, earlier_right}
+use Rattle.range_map_blaze.proofs.Order.PairOrder.{not_Equal, is_Equal, both_at_end, left_at_end, other_at_end, decided_at_first, compared_after, reaches_first, earlier_left, earlier_right}
 use Rattle.range_map_blaze.proofs.compare.order.look.Goals as goal
 
 pub returns-in-None-first-clause-answer : goal.returns-in-None-first-clause-answer

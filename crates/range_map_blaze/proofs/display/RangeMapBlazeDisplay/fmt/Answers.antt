@@ -4,7 +4,7 @@ use Rattle.std.specs.Fmt.{HasWritten, ◌++?◌}
 use Rattle.std.specs.Range.{range_inclusive_start, range_inclusive_end}
 use Rattle.blaze_table.specs.Entries.{Entry}
 use Rattle.range_map_blaze.specs.Printed.{entries_text}
-use Rattle.blaze_table.proofs.Texts.{split_some}
+use Rattle.blaze_table.proofs.Pairs.Texts.{split_some}
 use Rattle.range_map_blaze.proofs.Texts.{entry_shown}
 use Rattle.range_map_blaze.proofs.display.RangeMapBlazeDisplay.fmt.Goals as goal
 

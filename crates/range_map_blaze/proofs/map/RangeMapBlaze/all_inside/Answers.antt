@@ -1,7 +1,7 @@
 use Rattle.std.proofs.Common.{[], ◌++◌, ◌∷◌, ◌∙◌, sym, ap, subst, append_assoc}
 use Rattle.blaze_table.specs.Entries.{shown_entry}
 use Rattle.range_map_blaze.specs.Extended.{AreInside}
-use Rattle.range_map_blaze.proofs.Insides.{inside_more, not_inside, with_key}
+use Rattle.range_map_blaze.proofs.Paints.Insides.{inside_more, not_inside, with_key}
 use Rattle.range_map_blaze.proofs.map.RangeMapBlaze.all_inside.Goals as goal
 
 pub loop-start-init : goal.loop-start-init

@@ -1,8 +1,8 @@
 use Rattle.std.proofs.Common.{subst, option_map, refl}
 use Rattle.blaze_table.specs.Entries.{shown_entry}
-use Rattle.blaze_table.proofs.Clones.{IsCopied}
+use Rattle.blaze_table.proofs.Canonical.Clones.{IsCopied}
 use Rattle.range_map_blaze.specs.Within.{within, following, with_following}
-use Rattle.range_map_blaze.proofs.Following.{copied_none, copied_more, copied_all}
+use Rattle.range_map_blaze.proofs.Paints.Following.{copied_none, copied_more, copied_all}
 use Rattle.range_map_blaze.proofs.map.RangeMapBlaze.clones_within.Goals as goal
 
 pub loop-next-init : goal.loop-next-init

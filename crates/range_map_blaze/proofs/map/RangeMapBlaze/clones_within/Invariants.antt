@@ -1,6 +1,6 @@
 use Rattle.std.proofs.Common.{length, option_map}
 use Rattle.blaze_table.specs.Entries.{shown_entry}
-use Rattle.blaze_table.proofs.Clones.{IsCopied}
+use Rattle.blaze_table.proofs.Canonical.Clones.{IsCopied}
 use Rattle.range_map_blaze.specs.Within.{within, with_following}
 use Rattle.range_map_blaze.proofs.map.RangeMapBlaze.clones_within.Given as goal
 

@@ -1,6 +1,6 @@
 use Rattle.std.proofs.Common.{refl}
 use Rattle.range_map_blaze.specs.Extended.{shown_point}
-use Rattle.range_map_blaze.proofs.Joinings.{underway_begun, underway_painted, underway_item, front_painted}
+use Rattle.range_map_blaze.proofs.Paints.Joinings.{underway_begun, underway_painted, underway_item, front_painted}
 use Rattle.range_map_blaze.proofs.map.RangeMapBlaze.extend_points.Goals as goal
 
 pub loop-key-init : goal.loop-key-init

@@ -1,9 +1,10 @@
 use Rattle.std.proofs.Common.{map}
 use Rattle.std.specs.Prelude.{option_map}
+use Rattle.blaze_table.specs.Entries.{shown_entry}
 use Rattle.range_map_blaze.specs.Extended.{shown_point}
-use Rattle.range_map_blaze.specs.Underway.{shown_pair, IsUnderway}
+use Rattle.range_map_blaze.specs.Underway.{IsUnderway}
 use Rattle.range_map_blaze.proofs.map.RangeMapBlaze.extend_points.Given as goal
 
 abbrev pub invariant-loop-key : goal.invariant-loop-key
 invariant-loop-key g l =
-    IsUnderway g.V.PartialEq.eq g.T.Integer.low g.T.Integer.high (map (shown_point g.T.Integer.rank (λ v. v)) l.yielded) l.fn.self.entries l.self.entries (option_map (shown_pair g.T.Integer.rank) l.pending)
+    IsUnderway g.V.PartialEq.eq g.T.Integer.low g.T.Integer.high (map (shown_point g.T.Integer.rank (λ v. v)) l.yielded) l.fn.self.entries l.self.entries (option_map (shown_entry g.T.Integer.rank (λ v. v)) l.pending)

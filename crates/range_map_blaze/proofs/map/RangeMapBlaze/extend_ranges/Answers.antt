@@ -1,6 +1,6 @@
 use Rattle.std.proofs.Common.{ap, refl}
 use Rattle.blaze_streams.specs.Ranges.{shown_range}
-use Rattle.range_map_blaze.proofs.Joinings.{underway_begun, underway_painted, underway_item, front_painted}
+use Rattle.range_map_blaze.proofs.Paints.Joinings.{underway_begun, underway_painted, underway_item, front_painted}
 use Rattle.range_map_blaze.proofs.map.RangeMapBlaze.extend_ranges.Goals as goal
 
 pub loop-range-init : goal.loop-range-init

@@ -1,6 +1,6 @@
 use Rattle.std.proofs.Common.{ap, refl}
 use Rattle.blaze_streams.specs.Ranges.{shown_range}
-use Rattle.range_map_blaze.proofs.Paintings.{extended_none, extended_item}
+use Rattle.range_map_blaze.proofs.Paints.Paintings.{extended_none, extended_item}
 use Rattle.range_map_blaze.proofs.map.RangeMapBlaze.extend_simple.Goals as goal
 
 pub loop-range-init : goal.loop-range-init

@@ -1,7 +1,7 @@
 use Rattle.std.proofs.Common.{ap, sym, subst}
 use Rattle.std.proofs.lemmas.Result.{on_err_weaker}
 use Rattle.range_map_blaze.specs.Extended.{IsExtended}
-use Rattle.range_map_blaze.proofs.Paintings.{extended_none, partly_none}
+use Rattle.range_map_blaze.proofs.Paints.Paintings.{extended_none, partly_none}
 use Rattle.range_map_blaze.proofs.map.RangeMapBlaze.extend_with.Goals as goal
 
 pub returns-then-is_empty-clause-ok : goal.returns-then-is_empty-clause-ok

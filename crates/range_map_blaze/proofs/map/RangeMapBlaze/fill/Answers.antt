@@ -3,8 +3,8 @@ use Rattle.std.proofs.lemmas.Int.{ints}
 use Rattle.std.proofs.lemmas.Result.{MatchResult-from_err}
 use Rattle.blaze_table.specs.Entries.{entry}
 use Rattle.blaze_table.specs.Painted.{IsPainted}
-use Rattle.range_map_blaze.proofs.Fillings.{filling_first, filling_next, filling_last, filling_none, filling_partly, partly_kept}
-use Rattle.range_map_blaze.proofs.Gaps.{nearer}
+use Rattle.range_map_blaze.proofs.Paints.Fillings.{filling_first, filling_next, filling_last, filling_none, filling_partly, partly_kept}
+use Rattle.range_map_blaze.proofs.Paints.Gaps.{nearer}
 use Rattle.range_map_blaze.proofs.map.RangeMapBlaze.fill.Goals as goal
 
 pub returns-in_default-clause-ok : goal.returns-in_default-clause-ok

@@ -1,6 +1,6 @@
 use Rattle.blaze_int.specs.Unsigned.{nat_of}
 use Rattle.std.proofs.Common.{◌-ℤ◌}
-use Rattle.range_map_blaze.proofs.Fillings.{IsFilling}
+use Rattle.range_map_blaze.proofs.Paints.Fillings.{IsFilling}
 use Rattle.range_map_blaze.proofs.map.RangeMapBlaze.fill.Given as goal
 
 -- the gaps before the pending one are filled

@@ -1,7 +1,7 @@
 use Rattle.std.proofs.Common.{◌≡◌, pos, ◌-ℤ◌, ◌<ℤ◌, ◌≤ℤ◌, Some, arith, subst}
 use Rattle.std.proofs.lemmas.Int.{ints}
 use Rattle.blaze_table.specs.Entries.{entry_at, shown_entry}
-use Rattle.range_map_blaze.proofs.Gaps.{entry_has, held_more, nearer}
+use Rattle.range_map_blaze.proofs.Paints.Gaps.{entry_has, held_more, nearer}
 use Rattle.range_map_blaze.proofs.map.RangeMapBlaze.first_gap.Goals as goal
 
 pub returns-then-not-is_below : goal.returns-then-not-is_below

@@ -1,7 +1,7 @@
 use Rattle.std.proofs.Common.{◌≡◌, None, Some, subst}
 use Rattle.blaze_table.specs.Entries.{at, entry_at, shown_entry}
-use Rattle.blaze_table.proofs.Runs.{canonical}
-use Rattle.range_map_blaze.proofs.Following.{first_none, first_some}
+use Rattle.blaze_table.proofs.Canonical.Runs.{canonical}
+use Rattle.range_map_blaze.proofs.Paints.Following.{first_none, first_some}
 use Rattle.range_map_blaze.proofs.map.RangeMapBlaze.first_within.Goals as goal
 
 pub returns-in-Some : goal.returns-in-Some

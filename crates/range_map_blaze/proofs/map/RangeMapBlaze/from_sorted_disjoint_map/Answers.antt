@@ -17,7 +17,7 @@ loop-range-preserved g c =
     let i = c.loop-range.invariant in
     let step = g.met.I.SortedDisjointMap.gives _ _ _ c.in-Some.ensures.steps in
     let e = shown_range g.T.Integer.rank g.VC.ValueCarrier.shown (c.in-Some.range, c.in-Some.carrier) in
-    let more = taken_more g.T.Integer.rank g.V.PartialEq.eq _ i.0 _ _ e c.loop-range.entries.items _ _ i.1 step c.in_ok-push.ensures.items (sym (ap g.T.Integer.rank c.into_inner-lo.ensures.start)) (sym (ap g.T.Integer.rank c.into_inner-lo.ensures.end)) c.in_ok-into_value.ensures i.2 in
+    let more = taken_more g.T.Integer.rank g.V.PartialEq.eq _ i.0 _ _ e c.loop-range.entries.items _ _ i.1 step c.in_ok-push.ensures.items (sym (ap g.T.Integer.rank c.into_inner-start.ensures.start)) (sym (ap g.T.Integer.rank c.into_inner-start.ensures.end)) c.in_ok-into_value.ensures i.2 in
     (i.0 ++ e ∷ [], more.0, more.1)
 
 pub from_canonical-requires : goal.from_canonical-requires

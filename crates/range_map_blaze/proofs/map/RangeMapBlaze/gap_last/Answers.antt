@@ -2,7 +2,7 @@ use Rattle.std.proofs.Common.{◌≡◌, ℤ, ◌<ℤ◌, None, Some, arith, inr
 use Rattle.std.proofs.lemmas.Int.{ints}
 use Rattle.std.specs.Prelude.{IsSome, find, int_lt}
 use Rattle.blaze_table.specs.Entries.{at, shown_entry}
-use Rattle.range_map_blaze.proofs.Gaps.{above_key}
+use Rattle.range_map_blaze.proofs.Paints.Gaps.{above_key}
 use Rattle.range_map_blaze.proofs.map.RangeMapBlaze.gap_last.Goals as goal
 
 pub before-requires : goal.before-requires

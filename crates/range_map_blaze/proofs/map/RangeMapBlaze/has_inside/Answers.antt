@@ -1,8 +1,8 @@
 use Rattle.std.proofs.Common.{◌≡◌, ◌≤ℤ◌, Some, None, arith, subst}
 use Rattle.std.proofs.lemmas.Int.{ints}
 use Rattle.blaze_table.specs.Entries.{entry_at, shown_entry}
-use Rattle.blaze_table.proofs.Inside.{inside_entry}
-use Rattle.blaze_table.proofs.Runs.{canonical}
+use Rattle.blaze_table.proofs.Paints.Inside.{inside_entry}
+use Rattle.blaze_table.proofs.Canonical.Runs.{canonical}
 use Rattle.range_map_blaze.proofs.map.RangeMapBlaze.has_inside.Goals as goal
 
 pub returns-then-is_at_most : goal.returns-then-is_at_most

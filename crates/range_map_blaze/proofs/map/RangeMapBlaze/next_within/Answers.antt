@@ -2,8 +2,8 @@ use Rattle.std.proofs.Common.{◌≡◌, ◌≤ℤ◌, ◌<ℤ◌, None, Some, a
 use Rattle.std.proofs.lemmas.Int.{ints}
 use Rattle.std.specs.Prelude.{find, int_lt}
 use Rattle.blaze_table.specs.Entries.{shown_entry}
-use Rattle.blaze_table.proofs.Runs.{canonical}
-use Rattle.range_map_blaze.proofs.Following.{next_none, next_over, next_some}
+use Rattle.blaze_table.proofs.Canonical.Runs.{canonical}
+use Rattle.range_map_blaze.proofs.Paints.Following.{next_none, next_over, next_some}
 use Rattle.range_map_blaze.proofs.map.RangeMapBlaze.next_within.Goals as goal
 
 pub returns-then-is_at_most : goal.returns-then-is_at_most

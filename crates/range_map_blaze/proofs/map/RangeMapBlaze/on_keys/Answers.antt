@@ -1,5 +1,5 @@
 use Rattle.blaze_table.specs.Listed.{listed}
-use Rattle.range_map_blaze.proofs.Following.{clones_chosen}
+use Rattle.range_map_blaze.proofs.Paints.Following.{clones_chosen}
 use Rattle.range_map_blaze.proofs.map.RangeMapBlaze.on_keys.Goals as goal
 
 pub from_canonical-requires : goal.from_canonical-requires

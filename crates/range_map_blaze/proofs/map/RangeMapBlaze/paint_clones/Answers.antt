@@ -1,6 +1,6 @@
 use Rattle.std.proofs.Common.{[], ◌++◌, ◌∷◌, ◌∙◌, sym, ap, refl, append_assoc}
 use Rattle.blaze_table.specs.Entries.{entry, shown_entry}
-use Rattle.range_map_blaze.proofs.Paintings.{extended_none, extended_by}
+use Rattle.range_map_blaze.proofs.Paints.Paintings.{extended_none, extended_by}
 use Rattle.range_map_blaze.proofs.map.RangeMapBlaze.paint_clones.Goals as goal
 
 pub loop-start-init : goal.loop-start-init

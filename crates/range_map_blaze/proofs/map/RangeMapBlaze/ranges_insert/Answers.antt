@@ -1,6 +1,6 @@
 use Rattle.std.proofs.Common.{arith}
 use Rattle.std.proofs.lemmas.Int.{ints}
-use Rattle.range_map_blaze.proofs.Nowhere.{painted_nowhere}
+use Rattle.range_map_blaze.proofs.Paints.Nowhere.{painted_nowhere}
 use Rattle.range_map_blaze.proofs.map.RangeMapBlaze.ranges_insert.Goals as goal
 
 pub returns-in-Some-clause-none : goal.returns-in-Some-clause-none

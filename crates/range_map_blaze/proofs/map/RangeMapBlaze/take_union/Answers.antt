@@ -1,4 +1,4 @@
-use Rattle.range_map_blaze.proofs.Unpainted.{extended_inside, extended_union}
+use Rattle.range_map_blaze.proofs.Paints.Unpainted.{extended_inside, extended_union}
 use Rattle.range_map_blaze.proofs.map.RangeMapBlaze.take_union.Goals as goal
 
 pub returns-then-all_inside-clause-ok : goal.returns-then-all_inside-clause-ok

@@ -1,4 +1,4 @@
-use Rattle.range_map_blaze.proofs.PaintedOver.{painted_over}
+use Rattle.range_map_blaze.proofs.Paints.PaintedOver.{painted_over}
 use Rattle.range_map_blaze.proofs.operators.union.painted_over.Goals as goal
 
 pub returns : goal.returns

@@ -1,7 +1,7 @@
 use Rattle.std.proofs.Common.{[], ◌++◌, ◌∷◌, ◌∙◌, sym, ap, append-nil, append_assoc, subst}
 use Rattle.blaze_table.specs.Entries.{shown_entry}
-use Rattle.range_map_blaze.proofs.FilledUnder.{IsUnder, under_none, under_more, under_all}
-use Rattle.range_map_blaze.proofs.Insides.{with_key}
+use Rattle.range_map_blaze.proofs.Paints.FilledUnder.{IsUnder, under_none, under_more, under_all}
+use Rattle.range_map_blaze.proofs.Paints.Insides.{with_key}
 use Rattle.range_map_blaze.proofs.operators.union.painted_under.Goals as goal
 
 pub loop-start-init : goal.loop-start-init

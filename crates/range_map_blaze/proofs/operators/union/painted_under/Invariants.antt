@@ -1,6 +1,6 @@
 use Rattle.std.proofs.Common.{◌≡◌, ◌++◌, List}
 use Rattle.blaze_table.specs.Entries.{Entry}
-use Rattle.range_map_blaze.proofs.FilledUnder.{IsUnder}
+use Rattle.range_map_blaze.proofs.Paints.FilledUnder.{IsUnder}
 use Rattle.range_map_blaze.proofs.operators.union.painted_under.Given as goal
 
 -- the entries that were taken fill the gaps of the right map

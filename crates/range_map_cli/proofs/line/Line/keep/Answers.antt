@@ -1,6 +1,6 @@
 use Rattle.std.proofs.Common.{◌≡◌, ◌+◌, ◌++◌, length, take, ap, ◌∙◌, arith, length-take}
 use Rattle.std.proofs.lemmas.Slice.{take-put_mid}
-use Rattle.range_map_cli.proofs.Kept.{keep_room}
+use Rattle.range_map_cli.proofs.Sessions.Kept.{keep_room}
 use Rattle.range_map_cli.proofs.line.Line.keep.Goals as goal
 
 pub returns : goal.returns

@@ -1,6 +1,6 @@
 use Rattle.blaze_table.specs.RangeSets.{unit_eq}
-use Rattle.blaze_table.proofs.Parts.{IsRangeMap-rest}
-use Rattle.blaze_table.proofs.UnitLaws.{unit_laws}
+use Rattle.blaze_table.proofs.Canonical.Parts.{IsRangeMap-rest}
+use Rattle.blaze_table.proofs.Pairs.UnitLaws.{unit_laws}
 use Rattle.blaze_streams.proofs.lists.canon.CanonIterIterator.next.Goals as goal
 
 pub invariant_of-self-2 : goal.invariant_of-self-2

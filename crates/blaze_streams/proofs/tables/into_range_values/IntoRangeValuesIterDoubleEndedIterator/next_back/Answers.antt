@@ -3,7 +3,7 @@ use Rattle.std.proofs.lemmas.List.{map-append}
 use Rattle.std.specs.Rc.{rc_value}
 use Rattle.blaze_table.specs.Canonical.{IsRangeMap}
 use Rattle.blaze_table.specs.Entries.{shown_entry}
-use Rattle.blaze_table.proofs.Parts.{IsRangeMap-front}
+use Rattle.blaze_table.proofs.Canonical.Parts.{IsRangeMap-front}
 use Rattle.blaze_streams.proofs.tables.into_range_values.IntoRangeValuesIterDoubleEndedIterator.next_back.Goals as goal
 
 pub invariant_of-self-2 : goal.invariant_of-self-2

@@ -4,7 +4,7 @@ use Rattle.std.specs.Fmt.{HasWritten, ◌++?◌}
 use Rattle.std.specs.Range.{range_inclusive_start, range_inclusive_end}
 use Rattle.blaze_table.specs.Printed.{ranges_text}
 use Rattle.blaze_table.specs.RangeSets.{bare_range}
-use Rattle.blaze_table.proofs.Texts.{split_some, range_shown}
+use Rattle.blaze_table.proofs.Pairs.Texts.{split_some, range_shown}
 use Rattle.blaze_table.proofs.set.display.RangeSetBlazeDisplay.fmt.Goals as goal
 
 pub loop-range-init : goal.loop-range-init

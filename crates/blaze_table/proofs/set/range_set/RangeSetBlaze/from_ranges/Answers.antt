@@ -1,7 +1,7 @@
 use Rattle.std.proofs.Common.{subst}
 use Rattle.blaze_table.specs.Listed.{listed}
 use Rattle.blaze_table.specs.RangeSets.{IsSetOf}
-use Rattle.blaze_table.proofs.KeySets.{set_of}
+use Rattle.blaze_table.proofs.Pairs.KeySets.{set_of}
 use Rattle.blaze_table.proofs.set.range_set.RangeSetBlaze.from_ranges.Goals as goal
 
 pub returns : goal.returns

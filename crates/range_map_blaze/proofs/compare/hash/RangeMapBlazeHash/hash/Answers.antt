@@ -1,7 +1,7 @@
 use Rattle.std.proofs.Common.{◌≡◌, ◌∙◌, ap, sym}
 use Rattle.std.specs.List.{flat_map, fold}
 use Rattle.range_map_blaze.specs.Hashed.{entry_input}
-use Rattle.range_map_blaze.proofs.Hashes.{fed_entry}
+use Rattle.range_map_blaze.proofs.Order.Hashes.{fed_entry}
 use Rattle.range_map_blaze.proofs.compare.hash.RangeMapBlazeHash.hash.Goals as goal
 
 pub loop-start-preserved : goal.loop-start-preserved

@@ -1,5 +1,5 @@
 use Rattle.std.proofs.Common.{◌∙◌}
-use Rattle.range_map_blaze.proofs.MapOrder.{order_of_pairs, ties_where_equal}
+use Rattle.range_map_blaze.proofs.Order.MapOrder.{order_of_pairs, ties_where_equal}
 use Rattle.range_map_blaze.proofs.compare.order.RangeMapBlazeOrd.cmp.Goals as goal
 
 pub returns-clause-member : goal.returns-clause-member

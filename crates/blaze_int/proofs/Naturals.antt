@@ -1,0 +1,14 @@
+-- Natural numbers, and whole numbers that are not negative.
+use Rattle.std.proofs.Common.{◌≡◌, ℕ, ◌+◌, ℤ, pos, negsuc, ◌≤ℤ◌, false, refl, nat_eq, arith}
+use Rattle.std.proofs.lemmas.Int.{ints}
+use Rattle.blaze_int.specs.Unsigned.{nat_of}
+
+pub nat_of-pos : (z : ℤ) → pos 0 ≤ℤ z → pos (nat_of z) ≡ z
+nat_of-pos (pos n) h = refl
+nat_of-pos (negsuc n) h = absurd (omega (arith, ints))
+
+pub pos_injective : (m n : ℕ) → pos m ≡ pos n → m ≡ n
+pos_injective m n e = cc
+
+pub next_differs : (n : ℕ) → nat_eq n (n + 1) ≡ false
+next_differs n = grind arith

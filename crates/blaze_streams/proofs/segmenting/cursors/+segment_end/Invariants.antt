@@ -1,0 +1,5 @@
+use Rattle.std.proofs.Common.{length}
+use Rattle.blaze_streams.proofs.segmenting.cursors.+segment_end.Given as goal
+
+abbrev pub decreases-segment_end : goal.decreases-segment_end
+decreases-segment_end g l = length l.lists.now

@@ -1,0 +1,13 @@
+pub mod Lookup
+pub mod Unique
+pub mod Runs
+pub mod Fewest
+pub mod ListLaws
+pub mod Shortest
+pub mod Mapped
+pub mod Counted
+pub mod Kept
+pub mod RangeMaps
+pub mod Clones
+pub mod SameLists
+pub mod Parts

@@ -1,0 +1,20 @@
+-- A list of clones is the same as its source, position by position.
+use Rattle.std.proofs.Common.{◌∙◌, ℕ, Bool, List, ◌++◌, ℤ}
+use Rattle.std.specs.Cmp.{IsEquivalence}
+use Rattle.blaze_table.specs.Entries.{Entry, SameEntries}
+use Rattle.blaze_table.specs.Listed.{listed}
+use Rattle.blaze_table.specs.Table.{IsTable}
+use Rattle.blaze_table.proofs.Paints.Painted.{canonical_as}
+use Rattle.blaze_table.proofs.Canonical.Counted.{are_keys_as, same_keys_in}
+
+-- all is the same as the clones, once the same entries are behind them as are left
+abbrev pub IsCopied : {T V : Type 0} → (T → ℤ) → (V → V → Bool) → List (Entry V) → List (Entry V) → List (T × T × V) → Type 0
+IsCopied {T} {V} rank eq all left copy = (fs : List (Entry V)) → SameEntries eq left fs → SameEntries eq all (listed rank copy ++ fs)
+
+-- and a table again, with the same count
+pub table_as : {V : Type 0} (eq : V → V → Bool) → IsEquivalence eq → (low high : ℤ) (n : ℕ) (es fs : List (Entry V)) → SameEntries eq es fs → IsTable eq low high n es → IsTable eq low high n fs
+table_as eq laws low high n es fs s t = record {
+  canonical = canonical_as eq laws es fs s t.canonical;
+  are_keys = are_keys_as eq low high es fs s t.are_keys;
+  counted = t.counted ∙ same_keys_in eq es fs s;
+}

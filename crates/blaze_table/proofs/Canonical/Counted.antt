@@ -1,0 +1,152 @@
+-- How many keys the pieces of a list have.
+use Rattle.std.proofs.Common.{◌≡◌, ℕ, ℤ, pos, ◌+ℤ◌, ◌-ℤ◌, ◌≤ℤ◌, ◌<ℤ◌, Bool, List, [], ◌∷◌, refl, ◌∙◌, sym, ap, subst, arith}
+use Rattle.std.specs.Cmp.{IsEquivalence}
+use Rattle.std.proofs.lemmas.Int.{ints}
+use Rattle.blaze_table.specs.Entries.{Entry, SameEntries, entry}
+use Rattle.blaze_table.specs.Canonical.{IsApart, IsCanonical, AreKeys}
+use Rattle.blaze_table.specs.Count.{keys_in}
+use Rattle.blaze_table.specs.Splice.{before, after, glue, IsPaintOf, overlap, covered}
+use Rattle.blaze_table.specs.Table.{IsTable}
+use Rattle.blaze_table.proofs.Canonical.Lookup.{IsAbove, IsAbove-from_apart, above_by}
+use Rattle.blaze_table.proofs.Paints.Splices.{by_before, by_after, by_join, canonical_paint}
+
+module _ {V : Type 0} where
+  pub overlap_none : (l h : ℤ) (e : Entry V) → e.lo ≤ℤ e.hi → e.hi <ℤ l → overlap l h e ≡ pos 0
+  overlap_none l h e w u = grind (arith, ints)
+
+  pub overlap_over : (l h : ℤ) (e : Entry V) → e.lo ≤ℤ e.hi → h <ℤ e.lo → overlap l h e ≡ pos 0
+  overlap_over l h e w u = grind (arith, ints)
+
+  pub overlap_left : (l h : ℤ) (e : Entry V) → e.lo ≤ℤ l → l ≤ℤ e.hi → e.hi ≤ℤ h → overlap l h e ≡ (e.hi -ℤ l) +ℤ pos 1
+  overlap_left l h e a b d = grind (arith, ints)
+
+  pub overlap_whole : (l h : ℤ) (e : Entry V) → e.lo ≤ℤ l → l ≤ℤ h → h ≤ℤ e.hi → overlap l h e ≡ (h -ℤ l) +ℤ pos 1
+  overlap_whole l h e a b d = grind (arith, ints)
+
+  pub overlap_all : (l h : ℤ) (e : Entry V) → e.lo ≤ℤ e.hi → l ≤ℤ e.lo → e.hi ≤ℤ h → overlap l h e ≡ (e.hi -ℤ e.lo) +ℤ pos 1
+  overlap_all l h e w a b = grind (arith, ints)
+
+  pub overlap_right : (l h : ℤ) (e : Entry V) → l ≤ℤ e.lo → e.lo ≤ℤ h → h ≤ℤ e.hi → overlap l h e ≡ (h -ℤ e.lo) +ℤ pos 1
+  overlap_right l h e a b d = grind (arith, ints)
+
+  pub overlap_most : (l h : ℤ) (e : Entry V) → e.lo ≤ℤ e.hi → overlap l h e ≤ℤ (e.hi -ℤ e.lo +ℤ pos 1)
+  overlap_most l h e w = grind (arith, ints)
+
+  pub same_keys_in : (eq : V → V → Bool) (es fs : List (Entry V)) → SameEntries eq es fs → keys_in es ≡ keys_in fs
+  same_keys_in eq [] [] s = refl
+  same_keys_in eq [] (f ∷ fs) s = absurd s
+  same_keys_in eq (e ∷ es) [] s = absurd s
+  same_keys_in eq (e ∷ es) (f ∷ fs) s = omega (arith, ints, s.0, s.1, same_keys_in eq es fs s.3)
+
+module _ {V : Type 0} (eq : V → V → Bool) where
+  pub some_keys : (es : List (Entry V)) → IsCanonical eq es → pos 0 ≤ℤ keys_in es
+  some_keys [] c = omega (arith, ints)
+  some_keys (e ∷ es) c = omega (arith, ints, c.0, some_keys es c.2)
+
+  pub covered_none : (l h : ℤ) (es : List (Entry V)) → IsCanonical eq es → IsAbove h es → covered l h es ≡ pos 0
+  covered_none l h [] c a = refl
+  covered_none l h (e ∷ es) c a = omega (arith, ints, overlap_over l h e c.0 a, covered_none l h es c.2 (above_more e es c.1 (omega (arith, ints, c.0))))
+    where
+      above_more : (e : Entry V) (es : List (Entry V)) → IsApart eq e es → h ≤ℤ e.hi → IsAbove h es
+      above_more e [] p q = tt
+      above_more e (f ∷ fs) p q = omega (arith, ints, p.0)
+
+  pub before_none : (l : ℤ) (es : List (Entry V)) → IsCanonical eq es → IsAbove (l -ℤ pos 1) es → before l es ≡ []
+  before_none l [] c a = refl
+  before_none l (e ∷ es) c a = by_before l e es (λ h p. absurd (omega (arith, ints, c.0))) (λ h m p. absurd (omega (arith, ints))) (λ h m p. p)
+
+  pub keys_glue : (L M : List (Entry V)) → keys_in (glue eq L M) ≡ keys_in L +ℤ keys_in M
+  keys_glue [] M = omega (arith, ints)
+  keys_glue (e ∷ []) [] = omega (arith, ints)
+  keys_glue (e ∷ []) (f ∷ fs) = by_join eq e f fs (λ q v p. rw p (omega (arith, ints))) (λ n p. rw p (omega (arith, ints)))
+  keys_glue (e ∷ f ∷ L) M = omega (arith, ints, keys_glue (f ∷ L) M)
+
+  -- what lies below, what is covered and what lies above are the whole
+  pub keys_apart : (l h : ℤ) (es : List (Entry V)) → l ≤ℤ h → IsCanonical eq es → (keys_in (before l es) +ℤ covered l h es) +ℤ keys_in (after h es) ≡ keys_in es
+  keys_apart l h [] w c = refl
+  keys_apart l h (e ∷ es) w c =
+      let i = keys_apart l h es w c.2 in
+      let a = IsAbove-from_apart eq e es c.1 in
+      let here = c.0 in
+      by_before l e es
+      (λ u p. by_after h e es
+      (λ m q. rw (p, q) (omega (arith, ints, i, overlap_none l h e c.0 u)))
+      (λ m n q. absurd (omega (arith, ints)))
+      (λ m n q. absurd (omega (arith, ints))))
+      (λ u v p.
+      let none = ap keys_in (before_none l es c.2 (above_by e.hi (l -ℤ pos 1) es (omega (arith, ints)) a)) in
+      by_after h e es
+      (λ m q. rw (p, q) (omega (arith, ints, i, none, overlap_left l h e (omega (arith, ints)) u m)))
+      (λ m n q. rw (p, q) (omega (arith, ints, overlap_whole l h e (omega (arith, ints)) w (omega (arith, ints)), covered_none l h es c.2 (above_by e.hi h es (omega (arith, ints)) a))))
+      (λ m n q. absurd (omega (arith, ints))))
+      (λ u v p.
+      let none = ap keys_in (before_none l es c.2 (above_by e.hi (l -ℤ pos 1) es (omega (arith, ints)) a)) in
+      by_after h e es
+      (λ m q. rw (p, q) (omega (arith, ints, i, none, overlap_all l h e c.0 v m)))
+      (λ m n q. rw (p, q) (omega (arith, ints, overlap_right l h e v n (omega (arith, ints)), covered_none l h es c.2 (above_by e.hi h es (omega (arith, ints)) a))))
+      (λ m n q. rw (p, q) (omega (arith, ints, overlap_over l h e c.0 n, covered_none l h es c.2 (above_by e.hi h es (omega (arith, ints)) a)))))
+
+  -- the keys from a on are no fewer than those of a list among them
+  pub keys_bound : (a high : ℤ) (es : List (Entry V)) → a ≤ℤ (high +ℤ pos 1) → IsCanonical eq es → IsAbove (a -ℤ pos 1) es → (low : ℤ) → AreKeys low high es → keys_in es ≤ℤ ((high -ℤ a) +ℤ pos 1)
+  keys_bound a high [] w c f low k = omega (arith, ints)
+  keys_bound a high (e ∷ es) w c f low k =
+      omega (arith, ints, c.0, k.1, f, keys_bound (e.hi +ℤ pos 1) high es (omega (arith, ints, k.1)) c.2 (above_by e.hi (e.hi +ℤ pos 1 -ℤ pos 1) es (omega (arith, ints)) (IsAbove-from_apart eq e es c.1)) low k.2)
+
+  pub keys_among : (low high : ℤ) (es : List (Entry V)) → low ≤ℤ high → IsCanonical eq es → AreKeys low high es → keys_in es ≤ℤ ((high -ℤ low) +ℤ pos 1)
+  keys_among low high [] w c k = omega (arith, ints)
+  keys_among low high (e ∷ es) w c k = keys_bound low high (e ∷ es) (omega (arith, ints)) c (omega (arith, ints, k.0)) low k
+
+  pub are_keys_before : (low high k : ℤ) (es : List (Entry V)) → AreKeys low high es → AreKeys low high (before k es)
+  are_keys_before low high k [] a = tt
+  are_keys_before low high k (e ∷ es) a = by_before k e es
+      (λ h p. rw p (a.0, a.1, are_keys_before low high k es a.2))
+      (λ h l p. rw p (a.0, omega (arith, ints, a.1), tt))
+      (λ h l p. rw p tt)
+
+  pub are_keys_after : (low high k : ℤ) (es : List (Entry V)) → AreKeys low high es → AreKeys low high (after k es)
+  are_keys_after low high k [] a = tt
+  are_keys_after low high k (e ∷ es) a = by_after k e es
+      (λ h p. rw p (are_keys_after low high k es a.2))
+      (λ h l p. rw p (omega (arith, ints, a.0), a.1, a.2))
+      (λ h l p. rw p a)
+
+  pub are_keys_glue : (low high : ℤ) (L M : List (Entry V)) → AreKeys low high L → AreKeys low high M → AreKeys low high (glue eq L M)
+  are_keys_glue low high [] M l m = m
+  are_keys_glue low high (e ∷ []) [] l m = l
+  are_keys_glue low high (e ∷ []) (f ∷ fs) l m = by_join eq e f fs (λ q v p. rw p (l.0, m.1, m.2)) (λ n p. rw p (l.0, l.1, m))
+  are_keys_glue low high (e ∷ f ∷ L) M l m = (l.0, l.1, are_keys_glue low high (f ∷ L) M l.2 m)
+
+  pub are_keys_as : (low high : ℤ) (es fs : List (Entry V)) → SameEntries eq es fs → AreKeys low high es → AreKeys low high fs
+  are_keys_as low high [] [] s a = tt
+  are_keys_as low high [] (f ∷ fs) s a = absurd s
+  are_keys_as low high (e ∷ es) [] s a = absurd s
+  are_keys_as low high (e ∷ es) (f ∷ fs) s a = (omega (arith, ints, s.0, a.0), omega (arith, ints, s.1, a.1), are_keys_as low high es fs s.3 a.2)
+
+  module _ (laws : IsEquivalence eq) where
+    -- a painted list has no more keys than there are
+    with_value : (low high l h : ℤ) (v : V) (es : List (Entry V)) → l ≤ℤ h → low ≤ℤ l → h ≤ℤ high → IsCanonical eq es → AreKeys low high es
+        → ((keys_in (before l es) +ℤ keys_in (after h es)) +ℤ ((h -ℤ l) +ℤ pos 1)) ≤ℤ ((high -ℤ low) +ℤ pos 1)
+    with_value low high l h v es w f t c a =
+        let p = entry l h v in
+        let left = glue eq (before l es) (p ∷ []) in
+        let new = glue eq left (after h es) in
+        let canonical = canonical_paint eq laws l h v es w c in
+        let keys = are_keys_glue low high left (after h es) (are_keys_glue low high (before l es) (p ∷ []) (are_keys_before low high l es a) (f, t, tt)) (are_keys_after low high h es a) in
+        omega (arith, ints, keys_among low high new (omega (arith, ints)) canonical keys, keys_glue left (after h es), keys_glue (before l es) (p ∷ []))
+
+    pub keys_painted : (low high l h : ℤ) (es : List (Entry V)) → l ≤ℤ h → low ≤ℤ l → h ≤ℤ high → IsCanonical eq es → AreKeys low high es
+        → ((keys_in (before l es) +ℤ keys_in (after h es)) +ℤ ((h -ℤ l) +ℤ pos 1)) ≤ℤ ((high -ℤ low) +ℤ pos 1)
+    keys_painted low high l h [] w f t c a = omega (arith, ints)
+    keys_painted low high l h (e ∷ es) w f t c a = with_value low high l h e.value (e ∷ es) w f t c a
+
+    -- a list painted by the code is a table's, with its count
+    pub painted_table : (low high : ℤ) (n : ℕ) (p : Entry V) (es new : List (Entry V)) → low ≤ℤ p.lo → p.hi ≤ℤ high → AreKeys low high es
+        → pos n ≡ (keys_in (before p.lo es) +ℤ keys_in (after p.hi es)) +ℤ ((p.hi -ℤ p.lo) +ℤ pos 1)
+        → IsPaintOf eq p es new → IsCanonical eq new → IsTable eq low high n new
+    painted_table low high n p es new f t a k r c =
+        let left = glue eq (before p.lo es) (p ∷ []) in
+        record {
+          canonical = c;
+          are_keys = subst (AreKeys low high) (sym r.glued) (are_keys_glue low high left r.above (are_keys_glue low high (before p.lo es) (p ∷ []) (are_keys_before low high p.lo es a) (f, t, tt)) (are_keys_as low high (after p.hi es) r.above r.like (are_keys_after low high p.hi es a)));
+          counted = k ∙ sym (ap keys_in r.glued ∙ omega (arith, ints, keys_glue left r.above, keys_glue (before p.lo es) (p ∷ []), same_keys_in eq (after p.hi es) r.above r.like));
+        }

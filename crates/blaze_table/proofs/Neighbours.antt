@@ -1,0 +1,6 @@
+pub mod Between
+pub mod Holders
+pub mod SeenInside
+pub mod NextEntries
+pub mod Growing
+pub mod Glued

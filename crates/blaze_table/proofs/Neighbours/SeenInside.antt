@@ -1,0 +1,99 @@
+-- Whether a range lies inside an entry with an equal value, by the entry that starts there or below it.
+use Rattle.std.proofs.Common.{◌≡◌, ◌+◌, ◌≤◌, ℤ, pos, ◌+ℤ◌, ◌≤ℤ◌, ◌<ℤ◌, Bool, true, false, cond, List, [], ◌∷◌, ◌++◌, length, Option, Some, None, refl, ◌∙◌, sym, subst, ap, arith, inl, inr}
+use Rattle.std.specs.Prelude.{◌↔◌, int_le}
+use Rattle.std.specs.List.{last_or}
+use Rattle.std.specs.Option.{option_map, option_or}
+use Rattle.std.proofs.lemmas.Int.{ints, by_lt_z}
+use Rattle.std.proofs.lemmas.Bool.{and_parts, and_from}
+use Rattle.blaze_int.proofs.Comparisons.{le_true, le_false, le_holds, not_both}
+use Rattle.blaze_entries.specs.Found.{found_in}
+use Rattle.blaze_entries.specs.Scanned.{Seen}
+use Rattle.blaze_entries.specs.Starts.{StartsAscend, below, last_below, start_at}
+use Rattle.blaze_entries.proofs.Ascending.{start_none}
+use Rattle.blaze_table.specs.Entries.{Entry}
+use Rattle.blaze_table.specs.Canonical.{IsCanonical}
+use Rattle.blaze_table.specs.Painted.{IsInside}
+use Rattle.blaze_table.specs.Planned.{IsPlanOf, reaches}
+use Rattle.blaze_table.specs.Splice.{before, after, IsBelow}
+use Rattle.blaze_table.proofs.Paints.Clearing.{below_below}
+use Rattle.blaze_table.proofs.Neighbours.Growing.{last_there}
+use Rattle.blaze_table.proofs.Paints.Inside.{inside_above}
+use Rattle.blaze_table.proofs.Canonical.Lookup.{IsAbove-from_apart, above_by}
+use Rattle.blaze_table.proofs.Walks.Plans.{first_is, not_below}
+use Rattle.blaze_table.proofs.Paints.Splices.{by_after, before_keeps, after_skips}
+use Rattle.blaze_table.proofs.Cuts.Splits.{last_at, no_last, no_last_from, ends_below}
+use Rattle.blaze_table.proofs.Walks.Walked.{same_below}
+use Rattle.blaze_table.proofs.Paints.Widened.{after_over}
+
+module _ {V : Type 0} (eq : V → V → Bool) (v : V) (l h : ℤ) (w : l ≤ℤ h) where
+  -- a list in which a range lies inside an entry is no longer than what lies below and above, and one entry
+  pub inside_short : (es : List (Entry V)) → IsCanonical eq es → IsInside eq l h v es → length es ≤ length (before l es) + length (after h es) + 1
+  inside_short [] c i = absurd i
+  inside_short (e ∷ es) c (inl p) = by_after h e es
+      (λ u q. rw (q, after_over eq h es (above_by e.hi h es p.1 (IsAbove-from_apart eq e es c.1)) c.2) (omega arith))
+      (λ u m q. rw q (omega arith))
+      (λ u m q. rw q (omega arith))
+  inside_short (e ∷ es) c (inr p) =
+      let over = inside_above eq l h v e.hi es c.2 (IsAbove-from_apart eq e es c.1) p in
+      rw (before_keeps l e es over, after_skips h e es (omega (arith, ints))) (omega (arith, inside_short es c.2 p))
+
+  not_inside : (b high : ℤ) (es : List (Entry V)) → l <ℤ b → StartsAscend b high es → IsInside eq l h v es → ⊥
+  not_inside b high [] u s i = i
+  not_inside b high (e ∷ es) u s (inl p) = absurd (omega (arith, ints, s.0, p.0))
+  not_inside b high (e ∷ es) u s (inr p) = not_inside (e.lo +ℤ pos 1) high es (omega (arith, ints, s.0)) s.2 p
+
+  inside_part : (xs : List (Entry V)) (e : Entry V) (ys : List (Entry V)) → e.lo ≤ℤ l → h ≤ℤ e.hi → eq e.value v ≡ true → IsInside eq l h v (xs ++ e ∷ ys)
+  inside_part [] e ys a b q = inl (a, b, q)
+  inside_part (x ∷ xs) e ys a b q = inr (inside_part xs e ys a b q)
+
+  part_inside : (high : ℤ) (xs : List (Entry V)) (e : Entry V) (ys : List (Entry V)) → e.lo ≤ℤ l → IsBelow e.lo xs → StartsAscend (l +ℤ pos 1) high ys → IsInside eq l h v (xs ++ e ∷ ys) → (h ≤ℤ e.hi) × (eq e.value v ≡ true)
+  part_inside high [] e ys a b s (inl p) = (p.1, p.2)
+  part_inside high [] e ys a b s (inr p) = absurd (not_inside (l +ℤ pos 1) high ys (omega (arith, ints)) s p)
+  part_inside high (x ∷ xs) e ys a b s (inl p) = absurd (omega (arith, ints, b.0, p.1))
+  part_inside high (x ∷ xs) e ys a b s (inr p) = part_inside high xs e ys a b.1 s p
+
+  module _ (low high : ℤ) (es : List (Entry V)) (s : StartsAscend low high es) (c : IsCanonical eq es) where
+    -- by the last entry that starts up to the range's first key
+    inside_last : (o : Option (Entry V)) → last_below (l +ℤ pos 1) es ≡ o → (reaches h (option_map (found_in eq v) o) ≡ true) ↔ IsInside eq l h v es
+    inside_last None q = ((λ r. cc), (λ i. absurd (not_inside (l +ℤ pos 1) high es (omega (arith, ints)) (no_last_from (l +ℤ pos 1) low high es s q) i)))
+    inside_last (Some e) q =
+        let i = last_at (l +ℤ pos 1) low high e es s q in
+        let up = i.starts in (
+          (λ r.
+              let t = and_parts (eq e.value v) (int_le h e.hi) r in
+              subst (IsInside eq l h v) (sym i.parts) (inside_part i.front e i.back (omega (arith, ints)) (le_holds h e.hi t.1) t.0)),
+          (λ j.
+              let t = part_inside high i.front e i.back (omega (arith, ints)) (ends_below eq i.front e i.back (subst (IsCanonical eq) i.parts c)) i.back_from (subst (IsInside eq l h v) i.parts j) in
+              and_from (eq e.value v) (int_le h e.hi) t.1 (le_true h e.hi t.0)),
+        )
+
+    -- it starts there, or is the last below
+    holder_is : option_map (found_in eq v) (last_below (l +ℤ pos 1) es) ≡ option_or (option_map (found_in eq v) (start_at l es)) (option_map (found_in eq v) (last_below l es))
+    holder_is = by_last (last_below (l +ℤ pos 1) es) refl
+      where
+        by_last : (o : Option (Entry V)) → last_below (l +ℤ pos 1) es ≡ o → option_map (found_in eq v) o ≡ option_or (option_map (found_in eq v) (start_at l es)) (option_map (found_in eq v) (last_below l es))
+        by_last None q =
+            let no_start = start_none l (l +ℤ pos 1) high es (omega (arith, ints)) (no_last_from (l +ℤ pos 1) low high es s q) in
+            let no_left : last_below l es ≡ None = ap (last_or None) (sym (below_below l (l +ℤ pos 1) es (omega (arith, ints))) ∙ ap (below l) (no_last (l +ℤ pos 1) low high es s q)) in
+            sym (ap (λ x. option_or (option_map (found_in eq v) x) (option_map (found_in eq v) (last_below l es))) no_start ∙ ap (option_map (found_in eq v)) no_left)
+        by_last (Some e) q =
+            let i = last_at (l +ℤ pos 1) low high e es s q in
+            let up = i.starts in
+            by_lt_z e.lo l
+            (λ u.
+            let left : last_below l es ≡ Some e = ap (last_or None) (same_below eq v l h low high es s c (l +ℤ pos 1) e i l u (omega (arith, ints))) ∙ q in
+            let no_start : option_map (found_in eq v) (start_at l es) ≡ None = sym (first_is eq v l low high es s) ∙ ap (λ x. not_below l (option_map (found_in eq v) x)) q ∙ ap (λ b. cond b (Some (found_in eq v e)) None) (le_false l e.lo u) in
+            sym (ap (λ x. option_or x (option_map (found_in eq v) (last_below l es))) no_start ∙ ap (option_map (found_in eq v)) left))
+            (λ u.
+            let same : e.lo ≡ l = omega (arith, ints) in
+            let here : start_at l es ≡ Some e = ap (λ x. start_at x es) (sym same) ∙ last_there (l +ℤ pos 1) high e es i in
+            sym (ap (λ x. option_or (option_map (found_in eq v) x) (option_map (found_in eq v) (last_below l es))) here))
+
+    pub inside_seen : (p : Seen) → IsPlanOf eq l h v es p → (reaches h (option_or p.first p.left) ≡ true) ↔ IsInside eq l h v es
+    inside_seen p r =
+        let holder : option_map (found_in eq v) (last_below (l +ℤ pos 1) es) ≡ option_or p.first p.left = holder_is ∙ sym (ap (λ x. option_or x p.left) r.first ∙ ap (option_or (option_map (found_in eq v) (start_at l es))) r.left) in
+        let last = inside_last (last_below (l +ℤ pos 1) es) refl in
+        ((λ t. last.0 (ap (reaches h) holder ∙ t)), (λ i. sym (ap (reaches h) holder) ∙ last.1 i))
+
+    pub not_reached : (p : Seen) → IsPlanOf eq l h v es p → reaches h (option_or p.first p.left) ≡ false → IsInside eq l h v es → ⊥
+    not_reached p r n i = not_both (reaches h (option_or p.first p.left)) ((inside_seen p r).1 i) n

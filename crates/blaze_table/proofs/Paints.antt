@@ -1,0 +1,11 @@
+pub mod Splices
+pub mod Painted
+pub mod Inside
+pub mod PutInside
+pub mod EditLists
+pub mod Clearing
+pub mod StartsIn
+pub mod FirstOut
+pub mod Placing
+pub mod Widened
+pub mod Composed

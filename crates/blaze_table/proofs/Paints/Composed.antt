@@ -1,0 +1,100 @@
+-- The steps of a paint in place one after another.
+use Rattle.std.proofs.Common.{◌≡◌, ℤ, pos, ◌+ℤ◌, ◌≤ℤ◌, Bool, List, [], ◌∷◌, ◌++◌, Some, refl, ◌∙◌, sym, subst, ap, arith}
+use Rattle.std.specs.Prelude.{int_lt, int_le}
+use Rattle.std.proofs.lemmas.Int.{ints, by_lt_z}
+use Rattle.std.proofs.lemmas.List.{append_assoc}
+use Rattle.std.proofs.lemmas.List.Elements.{filter-append}
+use Rattle.blaze_entries.specs.Starts.{StartsAscend, below, from, start_at, with_end}
+use Rattle.blaze_entries.proofs.Halves.{StartsBelow, below_takes, from_skips, below_all, below_none, from_none, more_below}
+use Rattle.blaze_table.specs.Entries.{Entry, entry}
+use Rattle.blaze_table.specs.Canonical.{IsCanonical}
+use Rattle.blaze_table.specs.Planned.{starts_in, ends_in, IsRestKept, IsStartPut, IsPutAt, IsExtended}
+use Rattle.blaze_table.specs.Splice.{before}
+use Rattle.blaze_table.proofs.Paints.Splices.{by_before, before_ends, before_keeps, before_cuts}
+use Rattle.blaze_table.proofs.Cuts.Splits.{starts_below, halves, from_at}
+use Rattle.blaze_table.proofs.Paints.EditLists.{end_put}
+use Rattle.blaze_table.proofs.Paints.Clearing.{below_from, from_from}
+use Rattle.blaze_table.proofs.Paints.StartsIn.{amid_same}
+
+module _ {V : Type 0} (eq : V → V → Bool) where
+  canonical_first : (xs ys : List (Entry V)) → IsCanonical eq (xs ++ ys) → IsCanonical eq xs
+  canonical_first [] ys c = tt
+  canonical_first (x ∷ []) ys c = (c.0, tt, tt)
+  canonical_first (x ∷ y ∷ xs) ys c = (c.0, c.1, canonical_first (y ∷ xs) ys c.2)
+
+  pub canonical_below : (k b high : ℤ) (es : List (Entry V)) → StartsAscend b high es → IsCanonical eq es → IsCanonical eq (below k es)
+  canonical_below k b high es s c = canonical_first (below k es) (from k es) (subst (IsCanonical eq) (halves k b high es s) c)
+
+  before_below : (k b high : ℤ) (es : List (Entry V)) → StartsAscend b high es → IsCanonical eq es → before k (below k es) ≡ before k es
+  before_below k b high [] s c = refl
+  before_below k b high (e ∷ es) s c = by_lt_z e.lo k
+      (λ l. rw (below_takes k e es l) (by_before k e es
+      (λ u p. before_keeps k e (below k es) u ∙ ap (λ t. e ∷ t) (before_below k (e.lo +ℤ pos 1) high es s.2 c.2) ∙ sym p)
+      (λ u m p. before_cuts k e (below k es) u m ∙ sym p)
+      (λ u m p. absurd (omega (arith, ints)))))
+      (λ l. ap (before k) (below_none k e.lo high (e ∷ es) l (omega (arith, ints), s.1, s.2)) ∙ sym (before_ends k e es (omega (arith, ints, c.0)) l))
+
+  starts_before : (k : ℤ) (es : List (Entry V)) → IsCanonical eq es → StartsBelow k (before k es)
+  starts_before k [] c = tt
+  starts_before k (e ∷ es) c = by_before k e es
+      (λ u p. rw p (omega (arith, ints, c.0), starts_before k es c.2))
+      (λ u m p. rw p (m, tt))
+      (λ u m p. rw p tt)
+
+  module _ (low high : ℤ) (es : List (Entry V)) (s : StartsAscend low high es) (c : IsCanonical eq es) where
+    -- the painted entry put in at l
+    module _ (l z : ℤ) (v : V) (w : l ≤ℤ z) (c2 : List (Entry V)) (r : IsStartPut eq (entry l z v) es c2) where
+      abbrev p : Entry V
+      p = entry l z v
+
+      pub put_canonical : IsCanonical eq (below l c2)
+      put_canonical = subst (IsCanonical eq) (sym r.below) (canonical_below l low high es s c)
+
+      -- what starts in it, once the entry below it is shortened
+      pub put_amid : (c3 : List (Entry V)) → c3 ≡ before l (below l c2) ++ from l c2 → starts_in l z c3 ≡ ends_in l z es
+      put_amid c3 q =
+          let front = before l (below l c2) in
+          let front_below = more_below l (l +ℤ pos 1) front (omega (arith, ints)) (starts_before l (below l c2) put_canonical) in
+          amid_same (l +ℤ pos 1) (z +ℤ pos 1) c3 c2 (ap (from (l +ℤ pos 1)) q ∙ filter-append (λ x. int_le (l +ℤ pos 1) x.lo) front (from l c2)
+          ∙ ap (λ x. x ++ from (l +ℤ pos 1) (from l c2)) (from_none (l +ℤ pos 1) front front_below) ∙ from_from l (l +ℤ pos 1) c2 (omega (arith, ints))) ∙ r.amid
+
+      pub put_at : StartsAscend low high c2 → (c3 c4 : List (Entry V)) → c3 ≡ before l (below l c2) ++ from l c2 → c4 ≡ below (l +ℤ pos 1) c3 ++ from (z +ℤ pos 1) c3 → IsPutAt eq p es c4
+      put_at s2 c3 c4 q t =
+          let front = before l (below l es) in
+          let above = from (z +ℤ pos 1) c2 in
+          let front_below = starts_before l (below l es) (canonical_below l low high es s c) in
+          let third : c3 ≡ front ++ p ∷ from (l +ℤ pos 1) c2 = q ∙ ap (λ x. before l x ++ from l c2) r.below ∙ ap (λ x. front ++ x) (from_at l low high p c2 s2 r.here).1 in
+          let low_part : below (l +ℤ pos 1) c3 ≡ front ++ p ∷ [] =
+          ap (below (l +ℤ pos 1)) third ∙ filter-append (λ x. int_lt x.lo (l +ℤ pos 1)) front (p ∷ from (l +ℤ pos 1) c2)
+          ∙ ap (λ x. x ++ below (l +ℤ pos 1) (p ∷ from (l +ℤ pos 1) c2)) (below_all (l +ℤ pos 1) front (more_below l (l +ℤ pos 1) front (omega (arith, ints)) front_below))
+          ∙ ap (λ x. front ++ x) (below_takes (l +ℤ pos 1) p (from (l +ℤ pos 1) c2) (omega (arith, ints)) ∙ ap (λ x. p ∷ x) (below_from (l +ℤ pos 1) (l +ℤ pos 1) c2 (omega (arith, ints)))) in
+          let high_part : from (z +ℤ pos 1) c3 ≡ above =
+          ap (from (z +ℤ pos 1)) third ∙ filter-append (λ x. int_le (z +ℤ pos 1) x.lo) front (p ∷ from (l +ℤ pos 1) c2)
+          ∙ ap (λ x. x ++ from (z +ℤ pos 1) (p ∷ from (l +ℤ pos 1) c2)) (from_none (z +ℤ pos 1) front (more_below l (z +ℤ pos 1) front (omega (arith, ints)) front_below))
+          ∙ from_skips (z +ℤ pos 1) p (from (l +ℤ pos 1) c2) (omega (arith, ints)) ∙ from_from (l +ℤ pos 1) (z +ℤ pos 1) c2 (omega (arith, ints)) in
+          record {
+            above = above;
+            like = r.like;
+            put = t ∙ ap (λ x. x ++ from (z +ℤ pos 1) c3) low_part ∙ ap (λ x. (front ++ p ∷ []) ++ x) high_part ∙ append_assoc front (p ∷ []) above
+                ∙ ap (λ x. x ++ p ∷ above) (before_below l low high es s c);
+          }
+
+    -- an entry made longer
+    pub extended : (f z : ℤ) (e : Entry V) → f ≤ℤ z → start_at f es ≡ Some e → (c1 c2 c3 : List (Entry V)) → IsRestKept eq f z es c1 → c2 ≡ below (f +ℤ pos 1) c1 ++ from (z +ℤ pos 1) c1 → c3 ≡ with_end f z c2 → IsExtended eq f z es c3
+    extended f z e w h c1 c2 c3 r q t =
+        let i = from_at f low high e es s h in
+        let here = i.0 in
+        let above = from (z +ℤ pos 1) c1 in
+        let whole : below (f +ℤ pos 1) es ≡ below f es ++ e ∷ [] =
+        ap (below (f +ℤ pos 1)) (halves f low high es s) ∙ filter-append (λ x. int_lt x.lo (f +ℤ pos 1)) (below f es) (from f es)
+        ∙ ap (λ x. x ++ below (f +ℤ pos 1) (from f es)) (below_all (f +ℤ pos 1) (below f es) (more_below f (f +ℤ pos 1) (below f es) (omega (arith, ints)) (starts_below f es)))
+        ∙ ap (λ x. below f es ++ below (f +ℤ pos 1) x) i.1
+        ∙ ap (λ x. below f es ++ x) (below_takes (f +ℤ pos 1) e (from (f +ℤ pos 1) es) (omega (arith, ints)) ∙ ap (λ x. e ∷ x) (below_from (f +ℤ pos 1) (f +ℤ pos 1) es (omega (arith, ints)))) in
+        let parts : c2 ≡ below f es ++ e ∷ above = q ∙ ap (λ x. x ++ above) (r.below ∙ whole) ∙ append_assoc (below f es) (e ∷ []) above in
+        record {
+          of = e;
+          found = h;
+          above = above;
+          like = r.like;
+          put = t ∙ ap (with_end f z) parts ∙ end_put f z e (below f es) above here (starts_below f es) ∙ ap (λ x. below f es ++ entry x z e.value ∷ above) here;
+        }

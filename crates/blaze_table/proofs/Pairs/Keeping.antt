@@ -1,0 +1,176 @@
+-- Keys put one after another behind a list: what is kept of the pairs asked at.
+use Rattle.blaze_int.specs.Unsigned.{nat_of}
+use Rattle.std.specs.Option.{option_or}
+use Rattle.std.proofs.Common.{◌≡◌, ℕ, ◌+◌, ℤ, pos, ◌+ℤ◌, ◌-ℤ◌, ◌≤ℤ◌, Bool, true, false, cond, List, [], ◌∷◌, ◌++◌, Some, None, refl, ap, sym, ◌∙◌, subst, arith, append_assoc, append-nil}
+use Rattle.std.specs.Ordering.{int_eq}
+use Rattle.std.specs.Cmp.{IsEquivalence}
+use Rattle.std.specs.List.{items_where_true}
+use Rattle.std.proofs.lemmas.Int.{ints, by_lt_z}
+use Rattle.std.proofs.lemmas.List.{length-append}
+use Rattle.blaze_int.proofs.Naturals.{nat_of-pos}
+use Rattle.blaze_entries.proofs.InTurn.{returns-push, picked-push_true, picked-push_false}
+use Rattle.blaze_entries.proofs.Alike.{same_along, same_trans, same_or}
+use Rattle.blaze_table.specs.Entries.{Entry, entry, at, SameOption}
+use Rattle.blaze_table.specs.Canonical.{IsCanonical, AreKeys}
+use Rattle.blaze_table.specs.Count.{keys_in}
+use Rattle.blaze_table.specs.Keeping.{AddsKey, IsKept, KeepsMore}
+use Rattle.blaze_table.specs.Pairs.{pairs_from, pairs_of, pair_list, value_at}
+use Rattle.blaze_table.specs.Splice.{glue, IsBelow}
+use Rattle.blaze_table.specs.Table.{IsTable}
+use Rattle.blaze_table.proofs.Canonical.Counted.{keys_glue, are_keys_glue, some_keys}
+use Rattle.blaze_table.proofs.Canonical.Lookup.{IsAbove, IsAbove-from_apart, at_in, at_under, at_over, above_low}
+use Rattle.blaze_table.proofs.Pairs.PairLists.{pairs_append, pair_list-push}
+use Rattle.blaze_table.proofs.Paints.Splices.{canonical_glue, at_glue, below_glue, below_more}
+use Rattle.blaze_table.proofs.Cuts.Splits.{canonical_part}
+
+-- the count of a list with one key more
+pub keys_added : {V : Type 0} (eq : V → V → Bool) (k : ℤ) (v : V) (old new : List (Entry V)) → AddsKey eq k v old new → keys_in new ≡ keys_in old +ℤ pos 1
+keys_added eq k v old new a = ap keys_in a.glued ∙ omega (arith, ints, keys_glue eq old (entry k k a.value ∷ []))
+
+value_at-push : {T V : Type 0} (rank : T → ℤ) (ps : List (T × V)) (p : T × V) (k : ℤ) → value_at rank (ps ++ p ∷ []) k ≡ option_or (value_at rank ps k) (cond (int_eq k (rank p.0)) (Some p.1) None)
+value_at-push rank [] p k = refl
+value_at-push rank (q ∷ ps) p k = first (int_eq k (rank q.0)) (value_at-push rank ps p k)
+  where
+    first : (b : Bool) → value_at rank (ps ++ p ∷ []) k ≡ option_or (value_at rank ps k) (cond (int_eq k (rank p.0)) (Some p.1) None) → cond b (Some q.1) (value_at rank (ps ++ p ∷ []) k) ≡ option_or (cond b (Some q.1) (value_at rank ps k)) (cond (int_eq k (rank p.0)) (Some p.1) None)
+    first true e = refl
+    first false e = e
+
+module _ {F T V : Type 0} (R : F → T × V → Bool → F → Type 0) (f : F) (rank : T → ℤ) (eq : V → V → Bool) (low high : ℤ) where
+  pub kept_none : (b : ℤ) → IsKept R f rank eq low high [] b []
+  kept_none b = record {
+    answers = [];
+    long = refl;
+    returns = refl;
+    canonical = tt;
+    are_keys = tt;
+    below = tt;
+    content = λ k. tt;
+  }
+
+  pub kept_below : (pairs : List (T × V)) (b c : ℤ) (es : List (Entry V)) → b ≤ℤ c → IsKept R f rank eq low high pairs b es → IsKept R f rank eq low high pairs c es
+  kept_below pairs b c es l h = record {
+    answers = h.answers;
+    long = h.long;
+    returns = h.returns;
+    canonical = h.canonical;
+    are_keys = h.are_keys;
+    below = below_more b c es l h.below;
+    content = h.content;
+  }
+
+  -- one part of the pairs, and then another
+  pub more_both : (xs ys : List (T × V)) (a b c d : ℤ) (old mid new : List (Entry V)) → b ≤ℤ c → KeepsMore R f rank eq low high xs a b old mid → KeepsMore R f rank eq low high ys c d mid new → KeepsMore R f rank eq low high (xs ++ ys) a d old new
+  more_both xs ys a b c d old mid new l p q pairs h = subst (λ ps. IsKept R f rank eq low high ps d new) (append_assoc pairs xs ys) (q (pairs ++ xs) (kept_below (pairs ++ xs) b c mid l (p pairs h)))
+
+  -- the closure answers false at one pair more
+  pub more_no : (p : T × V) (b : ℤ) (es : List (Entry V)) → R f p false f → KeepsMore R f rank eq low high (p ∷ []) b (b +ℤ pos 1) es es
+  more_no p b es r pairs h = record {
+    answers = h.answers ++ false ∷ [];
+    long = omega (arith, h.long, length-append h.answers (false ∷ []), length-append pairs (p ∷ []));
+    returns = returns-push R f f f h.answers pairs false p h.long h.returns r;
+    canonical = h.canonical;
+    are_keys = h.are_keys;
+    below = below_more b (b +ℤ pos 1) es (omega (arith, ints)) h.below;
+    content = λ k. subst (λ ps. SameOption eq (at es k) (value_at rank ps k)) (sym (picked-push_false h.answers pairs p h.long)) (h.content k);
+  }
+
+  module _ (laws : IsEquivalence eq) where
+    one_key : (k j : ℤ) (v w : V) → eq v w ≡ true → SameOption eq (at (entry k k w ∷ []) j) (cond (int_eq j k) (Some v) None)
+    one_key k j v w e = by_lt_z j k
+        (λ l. same_along eq (sym (at_under (entry k k w) [] j l)) (none_there (omega (arith, ints))) tt)
+        (λ l. by_lt_z k j
+        (λ m. same_along eq (sym (at_over (entry k k w) [] j m)) (none_there (omega (arith, ints))) tt)
+        (λ m. same_along eq (sym (at_in (entry k k w) [] j l m)) (some_there (omega (arith, ints))) (laws.symm w v ∙ e)))
+      where
+        none_there : (j ≡ k → ⊥) → None ≡ cond (int_eq j k) (Some v) None
+        none_there n = grind (arith, ints)
+
+        some_there : j ≡ k → Some v ≡ cond (int_eq j k) (Some v) None
+        some_there p = grind (arith, ints)
+
+    -- the closure answers true at one pair more, whose key k is put behind the list
+    pub more_yes : (p : T × V) (k : ℤ) (es new : List (Entry V)) → rank p.0 ≡ k → low ≤ℤ k → k ≤ℤ high → R f p true f → AddsKey eq k p.1 es new → KeepsMore R f rank eq low high (p ∷ []) k (k +ℤ pos 1) es new
+    more_yes p k es new is from to r a pairs h =
+        let one = entry k k a.value ∷ [] in
+        let canonical = canonical_glue eq laws (k -ℤ pos 1) es one h.canonical (omega (arith, ints), tt, tt) (below_more k (k -ℤ pos 1 +ℤ pos 1) es (omega (arith, ints)) h.below) (omega (arith, ints)) in
+        let like : (j : ℤ) → SameOption eq (at (glue eq es one) j) (option_or (value_at rank (items_where_true h.answers pairs) j) (cond (int_eq j k) (Some p.1) None)) = λ j.
+        same_trans eq laws _ _ _ (at_glue eq laws es one j h.canonical (omega (arith, ints), tt, tt)) (same_or eq (at es j) _ (at one j) _ (h.content j) (one_key k j p.1 a.value a.like)) in
+        let value : (j : ℤ) → value_at rank (items_where_true (h.answers ++ true ∷ []) (pairs ++ p ∷ [])) j ≡ option_or (value_at rank (items_where_true h.answers pairs) j) (cond (int_eq j k) (Some p.1) None) = λ j.
+        ap (λ ps. value_at rank ps j) (picked-push_true h.answers pairs p h.long) ∙ value_at-push rank (items_where_true h.answers pairs) p j ∙ ap (λ z. option_or (value_at rank (items_where_true h.answers pairs) j) (cond (int_eq j z) (Some p.1) None)) is in
+        record {
+          answers = h.answers ++ true ∷ [];
+          long = omega (arith, h.long, length-append h.answers (true ∷ []), length-append pairs (p ∷ []));
+          returns = returns-push R f f f h.answers pairs true p h.long h.returns r;
+          canonical = subst (IsCanonical eq) (sym a.glued) canonical;
+          are_keys = subst (AreKeys low high) (sym a.glued) (are_keys_glue eq low high es one h.are_keys (from, to, tt));
+          below = subst (IsBelow (k +ℤ pos 1)) (sym a.glued) (below_glue eq (k +ℤ pos 1) es one (below_more k (k +ℤ pos 1) es (omega (arith, ints)) h.below) (omega (arith, ints), tt));
+          content = λ j. same_along eq (ap (λ l. at l j) (sym a.glued)) (sym (value j)) (like j);
+        }
+
+  -- the keys from lo up to before k, and then k
+  pub more_next : (of_rank : ℤ → T) (lo k next : ℤ) (v : V) (old mid new : List (Entry V)) → lo ≤ℤ k → next ≡ k +ℤ pos 1
+      → KeepsMore R f rank eq low high (pairs_from of_rank lo (nat_of (k -ℤ lo)) v) lo k old mid → KeepsMore R f rank eq low high (pairs_from of_rank k 1 v) k (k +ℤ pos 1) mid new
+      → KeepsMore R f rank eq low high (pairs_from of_rank lo (nat_of (next -ℤ lo)) v) lo next old new
+  more_next of_rank lo k next v old mid new l e p q =
+      let m : ℕ = nat_of (k -ℤ lo) in
+      let is : pos m ≡ k -ℤ lo = nat_of-pos (k -ℤ lo) (omega (arith, ints)) in
+      let here : lo +ℤ pos m ≡ k = omega (arith, ints) in
+      let long : next -ℤ lo ≡ pos (1 + m) = omega (arith, ints) in
+      let all : pairs_from of_rank lo (nat_of (next -ℤ lo)) v ≡ pairs_from of_rank lo m v ++ pairs_from of_rank k 1 v =
+      ap (λ n. pairs_from of_rank lo n v) (ap nat_of long) ∙ pairs_append of_rank lo m 1 v ∙ ap (λ b. pairs_from of_rank lo m v ++ pairs_from of_rank b 1 v) here in
+      subst (λ b. KeepsMore R f rank eq low high (pairs_from of_rank lo (nat_of (next -ℤ lo)) v) lo b old new) (sym e)
+      (subst (λ ps. KeepsMore R f rank eq low high ps lo (k +ℤ pos 1) old new) (sym all)
+      (more_both (pairs_from of_rank lo m v) (pairs_from of_rank k 1 v) lo k k (k +ℤ pos 1) old mid new (omega (arith, ints)) p q))
+
+  -- the entries before those that are left were gone over, and the list is what is kept of them
+  pub record IsReached (of_rank : ℤ → T) (all left : List (Entry V)) (len : ℤ) (es : List (Entry V)) : Type 0 where
+    pub done : List (Entry V)
+    pub parts : all ≡ done ++ left
+    pub end : ℤ
+    pub kept : IsKept R f rank eq low high (pair_list of_rank done) end es
+    pub above : IsAbove (end -ℤ pos 1) left
+    pub counted : len ≡ keys_in es +ℤ keys_in left
+
+  pub reached_none : (of_rank : ℤ → T) (all : List (Entry V)) (len : ℤ) → AreKeys low high all → len ≡ keys_in all → IsReached of_rank all all len []
+  reached_none of_rank all len a e = record {
+    done = [];
+    parts = refl;
+    end = low;
+    kept = kept_none low;
+    above = above_low low high all a;
+    counted = omega (arith, ints);
+  }
+
+  module _ (of_rank : ℤ → T) (all : List (Entry V)) (e : Entry V) (rest : List (Entry V)) (len : ℤ) (es : List (Entry V)) (h : IsReached of_rank all (e ∷ rest) len es) (c : IsCanonical eq all) where
+    here : IsCanonical eq (e ∷ rest)
+    here = canonical_part eq h.done (e ∷ rest) (subst (IsCanonical eq) h.parts c)
+
+    pub reached_order : e.lo ≤ℤ e.hi
+    reached_order = here.0
+
+    pub reached_room : (e.hi -ℤ e.lo +ℤ pos 1) ≤ℤ len
+    reached_room = omega (arith, ints, h.counted, some_keys eq es h.kept.canonical, some_keys eq rest here.2)
+
+    pub reached_more : (next : ℤ) (new : List (Entry V)) → KeepsMore R f rank eq low high (pairs_of of_rank e) e.lo (e.hi +ℤ pos 1) es new
+        → next +ℤ keys_in es +ℤ (e.hi -ℤ e.lo +ℤ pos 1) ≡ len +ℤ keys_in new → IsReached of_rank all rest next new
+    reached_more next new m q = record {
+      done = h.done ++ e ∷ [];
+      parts = h.parts ∙ sym (append_assoc h.done (e ∷ []) rest);
+      end = e.hi +ℤ pos 1;
+      kept = subst (λ ps. IsKept R f rank eq low high ps (e.hi +ℤ pos 1) new) (sym (pair_list-push of_rank h.done e))
+          (m (pair_list of_rank h.done) (kept_below _ h.end e.lo es (omega (arith, ints, h.above)) h.kept));
+      above = subst (λ b. IsAbove b rest) (omega (arith, ints)) (IsAbove-from_apart eq e rest here.1);
+      counted = omega (arith, ints, h.counted);
+    }
+
+  -- all entries were gone over
+  module _ (of_rank : ℤ → T) (all : List (Entry V)) (len : ℤ) (es : List (Entry V)) (h : IsReached of_rank all [] len es) where
+    pub reached_table : (n : ℕ) → pos n ≡ len → IsTable eq low high n es
+    reached_table n p = record {
+      canonical = h.kept.canonical;
+      are_keys = h.kept.are_keys;
+      counted = omega (arith, ints, p, h.counted);
+    }
+
+    pub reached_pairs : IsKept R f rank eq low high (pair_list of_rank all) h.end es
+    reached_pairs = subst (λ l. IsKept R f rank eq low high (pair_list of_rank l) h.end es) (sym (h.parts ∙ append-nil h.done)) h.kept

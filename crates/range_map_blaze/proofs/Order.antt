@@ -1,0 +1,4 @@
+pub mod EndPairs
+pub mod PairOrder
+pub mod MapOrder
+pub mod Hashes

@@ -1,0 +1,60 @@
+-- The first and the last entry have the least and the greatest key.
+use Rattle.std.proofs.Common.{◌≡◌, ℕ, zero, suc, ◌-◌, ◌≤◌, ℤ, ◌≤ℤ◌, ◌<ℤ◌, List, [], ◌∷◌, length, Some, None, refl, ◌∙◌, subst, arith}
+use Rattle.std.specs.List.{slice_get}
+use Rattle.std.proofs.lemmas.Int.{ints}
+use Rattle.blaze_table.specs.Entries.{Entry, at}
+use Rattle.blaze_table.specs.Canonical.{IsDisjoint, IsAscending}
+use Rattle.blaze_table.proofs.Canonical.Lookup.{at_in, at_under, at_over}
+use Rattle.blaze_table.proofs.Canonical.Runs.{in_order}
+use Rattle.range_map_blaze.specs.Pairs.{IsFirstPair, IsLastPair}
+
+module _ {V : Type 0} where
+  nothing_under : (e : Entry V) (es : List (Entry V)) (j : ℤ) → IsAscending (e ∷ es) → j <ℤ e.lo → at (e ∷ es) j ≡ None
+  nothing_under e [] j a l = at_under e [] j l
+  nothing_under e (f ∷ fs) j a l = at_under e (f ∷ fs) j l ∙ nothing_under f fs j a.1 (omega (arith, ints, a.0))
+
+  pub first_pair : (e : Entry V) (es : List (Entry V)) → IsDisjoint (e ∷ es) → IsAscending (e ∷ es) → IsFirstPair (at (e ∷ es)) e.lo e.value
+  first_pair e es d a = record {
+    here = at_in e es e.lo (omega (arith, ints)) d.0;
+    none_below = λ j l. nothing_under e es j a l;
+  }
+
+  last_from : (e : Entry V) (es : List (Entry V)) (l : Entry V) → IsDisjoint (e ∷ es) → IsAscending (e ∷ es) → slice_get (e ∷ es) (length es) ≡ Some l → (e.lo ≤ℤ l.hi) × IsLastPair (at (e ∷ es)) l.hi l.value
+  last_from e [] l d a p =
+      let same : e ≡ l = cc in
+      subst (λ (f : Entry V). (e.lo ≤ℤ f.hi) × IsLastPair (at (e ∷ [])) f.hi f.value) same
+      (d.0, record { here = at_in e [] e.hi d.0 (omega (arith, ints)); none_above = λ j u. at_over e [] j u })
+  last_from e (f ∷ fs) l d a p =
+      let rest = last_from f fs l d.2 a.1 p in
+      let gap = in_order e f fs d a in (
+        omega (arith, ints, a.0, rest.0),
+        record {
+          here = at_over e (f ∷ fs) l.hi (omega (arith, ints, rest.0)) ∙ rest.1.here;
+          none_above = λ j u. at_over e (f ∷ fs) j (omega (arith, ints, rest.0)) ∙ rest.1.none_above j u;
+        },
+      )
+
+  -- what the first entry says of the least key
+  pub first_of : (es : List (Entry V)) (e : Entry V) → IsDisjoint es → IsAscending es → slice_get es 0 ≡ Some e → IsFirstPair (at es) e.lo e.value
+  first_of [] e d a p = absurd (cc)
+  first_of (f ∷ fs) e d a p = let same : f ≡ e = cc in subst (λ (g : Entry V). IsFirstPair (at (f ∷ fs)) g.lo g.value) same (first_pair f fs d a)
+
+  -- what the last entry says of the greatest key
+  pub last_of : (es : List (Entry V)) (e : Entry V) → IsDisjoint es → IsAscending es → slice_get es (length es - 1) ≡ Some e → IsLastPair (at es) e.hi e.value
+  last_of [] e d a p = absurd (cc)
+  last_of (f ∷ fs) e d a p =
+      let place : length (f ∷ fs) - 1 ≡ length fs = omega arith in
+      (last_from f fs e d a (subst (λ n. slice_get (f ∷ fs) n ≡ Some e) place p)).1
+
+  pub none_of : (es : List (Entry V)) (n : ℕ) → n ≡ length es - 1 → slice_get es n ≡ None → es ≡ []
+  none_of [] n p q = refl
+  none_of (e ∷ es) n p q = absurd (inside (e ∷ es) n (omega arith) q)
+    where
+      inside : (xs : List (Entry V)) (i : ℕ) → suc i ≤ length xs → slice_get xs i ≡ None → ⊥
+      inside [] i l r = omega arith
+      inside (x ∷ xs) zero l r = cc
+      inside (x ∷ xs) (suc i) l r = inside xs i (omega arith) r
+
+  pub none_first : (es : List (Entry V)) → slice_get es 0 ≡ None → es ≡ []
+  none_first [] q = refl
+  none_first (e ∷ es) q = absurd (cc)

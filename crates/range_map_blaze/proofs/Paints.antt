@@ -1,0 +1,10 @@
+pub mod Nowhere
+pub mod PaintedOver
+pub mod Insides
+pub mod Paintings
+pub mod Joinings
+pub mod Gaps
+pub mod Fillings
+pub mod FilledUnder
+pub mod Unpainted
+pub mod Following

@@ -1,0 +1,21 @@
+-- A paint of no key changes nothing.
+use Rattle.std.proofs.Common.{◌≡◌, ℤ, ◌<ℤ◌, Bool, false, ◌&&◌, cond, List, length, Some, sym, subst, ap, arith}
+use Rattle.std.specs.Prelude.{int_le}
+use Rattle.std.specs.Cmp.{IsEquivalence}
+use Rattle.std.proofs.lemmas.Int.{ints}
+use Rattle.blaze_entries.proofs.Alike.{same_itself}
+use Rattle.blaze_table.specs.Entries.{Entry, at, SameOption}
+use Rattle.blaze_table.specs.Canonical.{IsRangeMap}
+use Rattle.blaze_table.specs.Painted.{IsPainted}
+
+no_key : (l h k : ℤ) → h <ℤ l → (int_le l k && int_le k h) ≡ false
+no_key l h k w = grind (arith, ints)
+
+module _ {V : Type 0} (eq : V → V → Bool) (laws : IsEquivalence eq) where
+  pub painted_nowhere : (low high : ℤ) (p : Entry V) (es : List (Entry V)) → p.hi <ℤ p.lo → IsRangeMap eq low high es → IsPainted eq low high p es es
+  painted_nowhere low high p es w r = record {
+    range_map = r;
+    content = λ k. subst (λ b. SameOption eq (at es k) (cond b (Some p.value) (at es k))) (sym (no_key p.lo p.hi k w)) (same_itself eq laws (at es k));
+    few = omega arith;
+    alone = λ e. omega (arith, ap length e);
+  }

@@ -1,0 +1,110 @@
+-- Pairs painted in parts, one part after another.
+use Rattle.std.specs.Option.{option_or}
+use Rattle.std.proofs.Common.{◌≡◌, ◌-◌, ◌*◌, ◌≤◌, ℤ, ◌≤ℤ◌, ◌<ℤ◌, Bool, true, false, ◌&&◌, cond, List, [], ◌∷◌, ◌++◌, length, map, Some, None, refl, ◌∙◌, sym, ap, subst, arith, inl, inr}
+use Rattle.std.specs.Prelude.{int_le}
+use Rattle.std.specs.Cmp.{IsEquivalence}
+use Rattle.std.proofs.lemmas.Int.{ints}
+use Rattle.std.proofs.lemmas.List.{length-append, map-append}
+use Rattle.blaze_entries.proofs.Alike.{same_itself, same_trans, same_or, or_none, or_assoc}
+use Rattle.blaze_table.specs.Entries.{Entry, at, holds, SameOption}
+use Rattle.blaze_table.specs.Painted.{IsInside, IsPainted, last_at, painted_in_order}
+use Rattle.blaze_table.proofs.Pairs.Lasts.{painted_one}
+use Rattle.blaze_table.specs.Canonical.{IsCanonical, IsRangeMap}
+use Rattle.blaze_table.proofs.Canonical.Runs.{canonical}
+use Rattle.range_map_blaze.specs.Extended.{AreInside, IsExtended, IsPartlyExtended}
+use Rattle.range_map_blaze.proofs.Paints.Insides.{inside_equal, inside_parts}
+
+module _ {V : Type 0} where
+  -- the last of two lists is that of the second, where it has one
+  pub last_append : (ps qs : List (Entry V)) (k : ℤ) → last_at (ps ++ qs) k ≡ option_or (last_at qs k) (last_at ps k)
+  last_append [] qs k = sym (or_none (last_at qs k))
+  last_append (p ∷ ps) qs k = ap (λ o. option_or o (cond (holds p k) (Some p.value) None)) (last_append ps qs k) ∙ or_assoc (last_at qs k) (last_at ps k) (cond (holds p k) (Some p.value) None)
+
+  no_key : (p : Entry V) (k : ℤ) → p.hi <ℤ p.lo → holds p k ≡ false
+  no_key p k w = grind (arith, ints)
+
+  pub last_nowhere : (p : Entry V) (k : ℤ) → p.hi <ℤ p.lo → last_at (p ∷ []) k ≡ None
+  last_nowhere p k w = ap (λ b. cond b (Some p.value) None) (no_key p k w)
+
+module _ {V : Type 0} (eq : V → V → Bool) (laws : IsEquivalence eq) where
+  module _ (low high : ℤ) where
+    -- no pair
+    pub extended_none : (es : List (Entry V)) → IsRangeMap eq low high es → IsExtended eq low high [] es es
+    extended_none es r = record { range_map = r; content = λ k. same_itself eq laws (at es k); few = omega arith; alone = λ e. omega (arith, ap length e); inside = λ _. refl }
+
+    -- none of the pairs is painted
+    pub partly_none : (pairs es new : List (Entry V)) → IsRangeMap eq low high es → new ≡ es → IsPartlyExtended eq low high pairs es new
+    partly_none pairs es new r same = record { done = []; rest = pairs; parts = refl; extended = subst (IsExtended eq low high [] es) (sym same) (extended_none es r) }
+
+    -- one pair
+    pub extended_one : (p : Entry V) (old new : List (Entry V)) → IsPainted eq low high p old new → p.lo ≤ℤ p.hi → (IsInside eq p.lo p.hi p.value old → new ≡ old) → IsExtended eq low high (p ∷ []) old new
+    extended_one p old new i w u = record {
+      range_map = i.range_map;
+      content = λ k. subst (SameOption eq (at new k)) (painted_one (holds p k) p.value (at old k)) (i.content k);
+      few = omega (arith, i.few);
+      alone = λ e. omega (arith, i.alone e);
+      inside = λ a. elim a.0 [ inl h ↦ absurd (omega (arith, ints)) | inr h ↦ u h ];
+    }
+
+    empty : (es : List (Entry V)) → length es ≤ 0 → es ≡ []
+    empty [] h = refl
+    empty (e ∷ es) h = absurd (omega arith)
+
+    alone_more : (done others part old cur new : List (Entry V)) → IsExtended eq low high done old cur → IsExtended eq low high part cur new → length part ≤ length others
+        → old ≡ [] → length new ≤ 2 * length (done ++ others) - 1
+    alone_more [] others part old cur new d p l e =
+        let none = empty cur (omega (arith, d.few, ap length e)) in
+        omega (arith, p.alone none, l)
+    alone_more (q ∷ done) others part old cur new d p l e = omega (arith, d.alone e, p.few, l, length-append done others)
+
+    -- a part, and then a part that stands for others
+    pub extended_more : (done others part old cur new : List (Entry V)) → IsExtended eq low high done old cur → IsExtended eq low high part cur new
+        → ((k : ℤ) → SameOption eq (last_at part k) (last_at others k)) → length part ≤ length others → ((es : List (Entry V)) → IsCanonical eq es → AreInside eq others es → AreInside eq part es)
+        → IsExtended eq low high (done ++ others) old new
+    extended_more done others part old cur new d p s l f = record {
+      range_map = p.range_map;
+      content = λ k. subst (SameOption eq (at new k)) (sym (or_assoc (last_at others k) (last_at done k) (at old k)) ∙ ap (λ o. option_or o (at old k)) (sym (last_append done others k)))
+          (same_trans eq laws (at new k) (painted_in_order part (at cur) k) (option_or (last_at others k) (painted_in_order done (at old) k)) (p.content k)
+          (same_or eq (last_at part k) (last_at others k) (at cur k) (painted_in_order done (at old) k) (s k) (d.content k)));
+      few = omega (arith, d.few, p.few, length-append done others);
+      alone = alone_more done others part old cur new d p l;
+      inside = λ a.
+          let b = inside_parts eq done others old a in
+          let same = d.inside b.0 in
+          p.inside (f cur (canonical eq laws cur d.range_map.runs) (subst (AreInside eq others) (sym same) b.1)) ∙ same;
+    }
+
+    -- a part, and then one pair, of which an equal one is painted
+    pub extended_by : (p q : Entry V) (done old cur new : List (Entry V)) → IsExtended eq low high done old cur → IsExtended eq low high (q ∷ []) cur new
+        → q.lo ≡ p.lo → q.hi ≡ p.hi → eq q.value p.value ≡ true → IsExtended eq low high (done ++ p ∷ []) old new
+    extended_by p q done old cur new d e lo hi v = extended_more done (p ∷ []) (q ∷ []) old cur new d e alike (omega arith) inside
+      where
+        either : (b : Bool) → SameOption eq (cond b (Some q.value) None) (cond b (Some p.value) None)
+        either true = v
+        either false = tt
+
+        alike : (k : ℤ) → SameOption eq (last_at (q ∷ []) k) (last_at (p ∷ []) k)
+        alike k =
+            let same : holds q k ≡ holds p k = λ i. int_le (lo i) k && int_le k (hi i) in
+            subst (λ b. SameOption eq (cond b (Some q.value) None) (cond (holds p k) (Some p.value) None)) (sym same) (either (holds p k))
+
+        inside : (es : List (Entry V)) → IsCanonical eq es → AreInside eq (p ∷ []) es → AreInside eq (q ∷ []) es
+        inside es c a = (
+          elim a.0 [
+            | inl h ↦ inl (omega (arith, ints, lo, hi))
+            | inr h ↦ inr (subst (λ z. IsInside eq z q.hi q.value es) (sym lo) (subst (λ z. IsInside eq p.lo z q.value es) (sym hi) (inside_equal eq laws p.lo p.hi p.value q.value es (laws.symm p.value q.value ∙ v) h)))
+          ],
+          tt,
+        )
+
+    -- the same of items that show the pairs
+    pub extended_item : {A : Type 0} (shown : A → Entry V) (items : List A) (x : A) (q : Entry V) (old cur new : List (Entry V)) → IsExtended eq low high (map shown items) old cur
+        → IsExtended eq low high (q ∷ []) cur new → q.lo ≡ (shown x).lo → q.hi ≡ (shown x).hi → q.value ≡ (shown x).value → IsExtended eq low high (map shown (items ++ x ∷ [])) old new
+    extended_item shown items x q old cur new d e lo hi v =
+        subst (λ ps. IsExtended eq low high ps old new) (sym (map-append shown items (x ∷ [])))
+        (extended_by (shown x) q (map shown items) old cur new d e lo hi (subst (λ w. eq q.value w ≡ true) v (laws.refl q.value)))
+
+    -- a pair without a key
+    pub extended_nowhere : (p : Entry V) (done old new : List (Entry V)) → IsExtended eq low high done old new → p.hi <ℤ p.lo → IsExtended eq low high (done ++ p ∷ []) old new
+    extended_nowhere p done old new d w = extended_more done (p ∷ []) [] old new new d (extended_none new d.range_map)
+        (λ k. subst (SameOption eq None) (sym (last_nowhere p k w)) tt) (omega arith) (λ es c a. tt)

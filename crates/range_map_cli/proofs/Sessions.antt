@@ -1,0 +1,12 @@
+pub mod Texts
+pub mod Words
+pub mod Kept
+pub mod Lengths
+pub mod Cuts
+pub mod Good
+pub mod Forwarding
+pub mod Progress
+pub mod Determined
+pub mod Faults
+pub mod Endings
+pub mod Serving

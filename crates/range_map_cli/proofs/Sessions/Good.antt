@@ -1,0 +1,79 @@
+-- The word of a good line is a word.
+use Rattle.std.proofs.Common.{◌≡◌, ℕ, ℤ, List, [], ◌∷◌, true, false, cond, refl, subst, Option, Some, None, Bool, ◌&&◌, codes, option_map, bytes_eq, IfSome, int_le}
+use Rattle.std.specs.Ordering.{int_eq}
+use Rattle.range_map_cli.specs.Commands.{Command, Blank, Paint, Insert, Remove, Get, At, Len, Entries, command_of, command_of_words, paint_of, insert_of, words_of, number_of, is_word}
+use Rattle.blaze_table.specs.Painted.{painted}
+use Rattle.range_map_cli.specs.Replies.{Content, content_after}
+use Rattle.range_map_cli.specs.States.{HasWords}
+
+abbrev IsGood : Command → Type 0
+IsGood Blank = Unit {0}
+IsGood (Paint lo hi word) = is_word word ≡ true
+IsGood (Insert key word) = is_word word ≡ true
+IsGood (Remove key) = Unit {0}
+IsGood (Get key) = Unit {0}
+IsGood (At key) = Unit {0}
+IsGood Len = Unit {0}
+IsGood Entries = Unit {0}
+
+abbrev IfGood : Option Command → Type 0
+IfGood None = Unit {0}
+IfGood (Some command) = IsGood command
+
+choose : (t : Bool) (o p : Option Command) → (t ≡ true → IfGood o) → IfGood p → IfGood (cond t o p)
+choose true o p h n = h refl
+choose false o p h n = n
+
+-- a command of a key alone
+key_good : (f : ℤ → Command) (key : Option ℤ) → ((k : ℤ) → IsGood (f k)) → IfGood (option_map f key)
+key_good f None h = tt
+key_good f (Some key) h = h key
+
+paint_good : (lo hi : Option ℤ) (word : List ℕ) → IfGood (paint_of lo hi word)
+paint_good None hi word = tt
+paint_good (Some l) None word = tt
+paint_good (Some l) (Some h) word = choose (is_word word) (Some (Paint l h word)) None (λ good. good) tt
+
+insert_good : (key : Option ℤ) (word : List ℕ) → IfGood (insert_of key word)
+insert_good None word = tt
+insert_good (Some k) word = choose (is_word word) (Some (Insert k word)) None (λ good. good) tt
+
+words_good : (ws : List (List ℕ)) → IfGood (command_of_words ws)
+words_good [] = tt
+words_good (n ∷ []) = choose (bytes_eq n (codes "len")) (Some Len) _ (λ e. tt) (choose (bytes_eq n (codes "list")) (Some Entries) None (λ e. tt) tt)
+words_good (n ∷ k ∷ []) =
+    choose (bytes_eq n (codes "get")) (option_map Get (number_of k)) _ (λ e. key_good Get (number_of k) (λ key. tt))
+    (choose (bytes_eq n (codes "remove")) (option_map Remove (number_of k)) _ (λ e. key_good Remove (number_of k) (λ key. tt))
+    (choose (bytes_eq n (codes "at")) (option_map At (number_of k)) None (λ e. key_good At (number_of k) (λ key. tt)) tt))
+words_good (n ∷ k ∷ w ∷ []) = choose (bytes_eq n (codes "insert")) (insert_of (number_of k) w) None (λ e. insert_good (number_of k) w) tt
+words_good (n ∷ l ∷ k ∷ w ∷ []) = choose (bytes_eq n (codes "paint")) (paint_of (number_of l) (number_of k) w) None (λ e. paint_good (number_of l) (number_of k) w) tt
+words_good (a ∷ b ∷ c ∷ d ∷ e ∷ ws) = tt
+
+line_good : (line : List ℕ) → IfGood (command_of line)
+line_good [] = tt
+line_good (b ∷ bs) = words_good (words_of (b ∷ bs))
+
+painted_good : (lo hi : ℤ) (word : List ℕ) (content : Content) → is_word word ≡ true → HasWords content → HasWords (painted lo hi word content)
+painted_good lo hi word content good words = λ key. place (int_le lo key && int_le key hi) (content key) (words key)
+  where
+    place : (t : Bool) (old : Option (List ℕ)) → IfSome old (λ w. is_word w ≡ true) → IfSome (cond t (Some word) old) (λ w. is_word w ≡ true)
+    place true old h = good
+    place false old h = h
+
+after_good : (command : Command) (content : Content) → IsGood command → HasWords content → HasWords (content_after command content)
+after_good Blank content good words = words
+after_good (Paint lo hi word) content good words = painted_good lo hi word content good words
+after_good (Insert key word) content good words = painted_good key key word content good words
+after_good (Remove key) content good words = λ j. take (int_eq j key) (content j) (words j)
+  where
+    take : (t : Bool) (old : Option (List ℕ)) → IfSome old (λ w. is_word w ≡ true) → IfSome (cond t None old) (λ w. is_word w ≡ true)
+    take true old h = tt
+    take false old h = h
+after_good (Get key) content good words = words
+after_good (At key) content good words = words
+after_good Len content good words = words
+after_good Entries content good words = words
+
+-- a good line leaves words
+pub HasWords-after : (line : List ℕ) (command : Command) (content : Content) → command_of line ≡ Some command → HasWords content → HasWords (content_after command content)
+HasWords-after line command content is words = after_good command content (subst IfGood is (line_good line)) words

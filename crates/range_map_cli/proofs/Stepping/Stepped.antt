@@ -1,0 +1,124 @@
+-- What a step does, from what the call that takes it does.
+use Rattle.std.proofs.Common.{◌≡◌, ◌↔◌, ℕ, ℤ, pos, ◌≤ℤ◌, Bool, true, false, not, eqb, cond, IsTrue, List, [], Option, Some, None, MatchOption, refl, ◌∙◌, sym, ap, subst, arith, ⊎_elim}
+use Rattle.std.specs.Prelude.{int_le, ◌&&◌}
+use Rattle.std.specs.Cmp.{IsEquivalence}
+use Rattle.std.proofs.lemmas.Bool.{eq-eqb, ne_eqb, cases_eq}
+use Rattle.std.proofs.lemmas.Int.{ints}
+use Rattle.blaze_int.proofs.Naturals.{pos_injective}
+use Rattle.blaze_entries.proofs.Alike.{same_itself, is_some_alike}
+use Rattle.blaze_table.specs.Entries.{Entry, at, SameOption}
+use Rattle.blaze_table.specs.Counted.{CountedEntries}
+use Rattle.blaze_table.specs.Canonical.{IsRangeMap}
+use Rattle.blaze_table.specs.Complement.{absent, IsComplement}
+use Rattle.blaze_table.specs.Count.{keys_in, mapped_keys}
+use Rattle.range_map_blaze.specs.Pairs.{PopsFirst, PopsLast}
+use Rattle.range_map_cli.specs.Steps.{answer, complemented, first_key, last_key, with_value, pair_of, IsStepped, IsWithout, SameAnswer, SamePair}
+use Rattle.range_map_cli.specs.declared.step.Step.{Step}
+use Rattle.range_map_cli.specs.declared.step.Answer.{Answer}
+use Rattle.range_map_cli.proofs.Stepping.EndKeys.{at_key, first_key_is, first_none, last_key_is, last_none, mapped_alike}
+
+module _ {T V L : Type 0} (eq : V → V → Bool) (rank : T → ℤ) (low high : ℤ) where
+  -- what is so of a step is so of its other name
+  pub stepped : (s t : Step T V L) (old new : List (Entry V)) → s ≡ t → IsStepped eq rank low high t old new → IsStepped eq rank low high s old new
+  stepped s t old new e p = subst (λ u. IsStepped eq rank low high u old new) (sym e) p
+
+  pub answered : (s t : Step T V L) (content : ℤ → Option V) (given : Answer T V) → s ≡ t → SameAnswer rank eq given (answer rank low high t content) → SameAnswer rank eq given (answer rank low high s content)
+  answered s t content given e p = subst (λ u. SameAnswer rank eq given (answer rank low high u content)) (sym e) p
+
+-- whether two numbers differ
+differ_is : (b : Bool) (m n : ℕ) → (IsTrue b ↔ (¬ (m ≡ n))) → b ≡ not (eqb m n)
+differ_is true m n says = ap not (sym (ne_eqb m n (says.0 refl)))
+differ_is false m n says = ⊎_elim (λ e. ap not (sym (eq-eqb m n e))) (λ ne. absurd (refuse (says.1 ne))) (cases_eq m n)
+  where
+    refuse : IsTrue false → ⊥
+    refuse e = cc
+
+-- equal values the other way round
+pub same_back : {V : Type 0} (eq : V → V → Bool) (laws : IsEquivalence eq) (a b : Option V) → SameOption eq a b → SameOption eq b a
+same_back eq laws None None s = tt
+same_back eq laws None (Some y) s = s
+same_back eq laws (Some x) None s = s
+same_back eq laws (Some x) (Some y) s = laws.symm y x ∙ s
+
+module _ {V : Type 0} (eq : V → V → Bool) (low high : ℤ) where
+  -- the number of keys that have a value changes where the lengths do
+  pub changed_is : (changed : Bool) (old new : List (Entry V)) (meant : ℤ → Option V) → keys_in old ≡ pos (mapped_keys low high (at old)) → keys_in new ≡ pos (mapped_keys low high (at new))
+      → ((k : ℤ) → SameOption eq (at new k) (meant k)) → (IsTrue changed ↔ (¬ (keys_in new ≡ keys_in old))) → changed ≡ not (eqb (mapped_keys low high meant) (mapped_keys low high (at old)))
+  changed_is changed old new meant counted_old counted_new same says =
+      let now : mapped_keys low high (at new) ≡ mapped_keys low high meant = mapped_alike (at new) meant (λ k. is_some_alike eq (at new k) (meant k) (same k)) low _ in
+      differ_is changed _ _ (
+        λ is e. says.0 is (counted_new ∙ ap pos (now ∙ e) ∙ sym counted_old),
+        λ ne. says.1 (λ e. ne (sym now ∙ pos_injective _ _ (sym counted_new ∙ e ∙ counted_old))),
+      )
+
+  -- a complement has nothing off the keys
+  pub complement_is : (v : V) (old new : List (Entry V)) → IsComplement eq low high v old new → (k : ℤ) → SameOption eq (at new k) (complemented low high v (at old) k)
+  complement_is v old new c k = by_tests (int_le low k) (int_le k high) refl refl
+    where
+      off : (o : Option V) → at new k ≡ o → ((low ≤ℤ k) × (k ≤ℤ high) → ⊥) → SameOption eq o None
+      off None p out = tt
+      off (Some v) p out = absurd (out (at_key low high new k v c.range_map.keys p))
+
+      by_tests : (a b : Bool) → int_le low k ≡ a → int_le k high ≡ b → SameOption eq (at new k) (cond (a && b) (absent v (at old k)) None)
+      by_tests true true p q = c.content k (omega (arith, ints, p)) (omega (arith, ints, q))
+      by_tests true false p q = off (at new k) refl (λ l. omega (arith, ints, q, l.1))
+      by_tests false b p q = off (at new k) refl (λ l. omega (arith, ints, p, l.0))
+
+  same_pair : {T : Type 0} (rank : T → ℤ) (laws : IsEquivalence eq) (pair : T × V) (o : Option V) → SameOption eq o (Some pair.1) → SamePair rank eq (Some pair) (pair_of (rank pair.0) o)
+  same_pair rank laws pair None s = absurd s
+  same_pair rank laws pair (Some x) s = (refl, laws.symm pair.1 x ∙ s)
+
+  module _ {T : Type 0} (rank : T → ℤ) (laws : IsEquivalence eq) where
+    -- what taking the least key out leaves
+    pub without_first : (popped : Option (T × V)) (old new : CountedEntries V) → IsRangeMap eq low high old.entries
+        → MatchOption popped ((old.entries ≡ []) × (new ≡ old)) (λ pair. PopsFirst eq low high (rank pair.0) pair.1 old.entries new.entries)
+        → IsWithout eq low high (first_key low high (at old.entries)) old.entries new.entries
+    without_first None old new map m =
+        let none : first_key low high (at old.entries) ≡ None = first_none (at old.entries) low _ (λ k. ap (λ es. at es k) m.0) in
+        subst (λ key. IsWithout eq low high key old.entries new.entries) (sym none) (subst (λ s. IsWithout eq low high None old.entries s.entries) (sym m.1) (record {
+          range_map = map;
+          content = λ k. same_itself eq laws (at old.entries k);
+        }))
+    without_first (Some pair) old new map m =
+        subst (λ key. IsWithout eq low high key old.entries new.entries) (sym (first_key_is low high old.entries (rank pair.0) m.stored map.keys m.first.here m.first.none_below)) (record {
+          range_map = m.cut.range_map;
+          content = m.cut.content;
+        })
+
+    -- the pair that is answered is the least key with its value
+    pub first_pair : (popped : Option (T × V)) (old new : CountedEntries V) → IsRangeMap eq low high old.entries
+        → MatchOption popped ((old.entries ≡ []) × (new ≡ old)) (λ pair. PopsFirst eq low high (rank pair.0) pair.1 old.entries new.entries)
+        → SamePair rank eq popped (with_value (at old.entries) (first_key low high (at old.entries)))
+    first_pair None old new map m =
+        let none : Option (T × V) = None in
+        subst (λ key. SamePair rank eq none (with_value (at old.entries) key)) (sym (first_none (at old.entries) low _ (λ k. ap (λ es. at es k) m.0))) tt
+    first_pair (Some pair) old new map m =
+        subst (λ key. SamePair rank eq (Some pair) (with_value (at old.entries) key)) (sym (first_key_is low high old.entries (rank pair.0) m.stored map.keys m.first.here m.first.none_below))
+        (same_pair rank laws pair (at old.entries (rank pair.0)) m.equal)
+
+    -- what taking the greatest key out leaves
+    pub without_last : (popped : Option (T × V)) (old new : CountedEntries V) → IsRangeMap eq low high old.entries
+        → MatchOption popped ((old.entries ≡ []) × (new ≡ old)) (λ pair. PopsLast eq low high (rank pair.0) pair.1 old.entries new.entries)
+        → IsWithout eq low high (last_key low high (at old.entries)) old.entries new.entries
+    without_last None old new map m =
+        let none : last_key low high (at old.entries) ≡ None = last_none (at old.entries) high _ (λ k. ap (λ es. at es k) m.0) in
+        subst (λ key. IsWithout eq low high key old.entries new.entries) (sym none) (subst (λ s. IsWithout eq low high None old.entries s.entries) (sym m.1) (record {
+          range_map = map;
+          content = λ k. same_itself eq laws (at old.entries k);
+        }))
+    without_last (Some pair) old new map m =
+        subst (λ key. IsWithout eq low high key old.entries new.entries) (sym (last_key_is low high old.entries (rank pair.0) m.stored map.keys m.last.here m.last.none_above)) (record {
+          range_map = m.cut.range_map;
+          content = m.cut.content;
+        })
+
+    -- the pair that is answered is the greatest key with its value
+    pub last_pair : (popped : Option (T × V)) (old new : CountedEntries V) → IsRangeMap eq low high old.entries
+        → MatchOption popped ((old.entries ≡ []) × (new ≡ old)) (λ pair. PopsLast eq low high (rank pair.0) pair.1 old.entries new.entries)
+        → SamePair rank eq popped (with_value (at old.entries) (last_key low high (at old.entries)))
+    last_pair None old new map m =
+        let none : Option (T × V) = None in
+        subst (λ key. SamePair rank eq none (with_value (at old.entries) key)) (sym (last_none (at old.entries) high _ (λ k. ap (λ es. at es k) m.0))) tt
+    last_pair (Some pair) old new map m =
+        subst (λ key. SamePair rank eq (Some pair) (with_value (at old.entries) key)) (sym (last_key_is low high old.entries (rank pair.0) m.stored map.keys m.last.here m.last.none_above))
+        (same_pair rank laws pair (at old.entries (rank pair.0)) m.equal)
