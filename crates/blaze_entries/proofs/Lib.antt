@@ -8,6 +8,7 @@ pub mod Moves
 pub mod NodeLists
 pub mod Views
 pub mod Steps
+pub mod Clones
 pub mod Collected
 pub mod Scans
 pub mod InTurn

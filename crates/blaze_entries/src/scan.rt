@@ -11,12 +11,13 @@ ghost use Rattle.blaze_entries.specs.Starts.{below};
 
 use crate::count::Count;
 use crate::found::Found;
-use crate::nodes::EndValue;
+use crate::nodes::{EndValue, Tree};
 use crate::overlap::less;
 use crate::places::found;
+use crate::start::Start;
 use blaze_int::Integer;
 use blaze_int::compare::{is_at_most, is_below};
-use std::collections::{BTreeMap, btree_map};
+use std::collections::btree_map;
 
 /// What a walk down the entries from above a range has seen.
 #[derive(Clone, Copy)]
@@ -125,7 +126,7 @@ impl<T: Integer> Plan<T> {
 
 // The last of the nodes that are left, counted.
 fn next_found<'a, T: Integer, V: Eq>(
-    nodes: &mut btree_map::Range<'a, T, EndValue<T, Option<V>>>,
+    nodes: &mut btree_map::Range<'a, Start<T>, EndValue<T, Option<V>>>,
     value: &V,
     looks: &mut Count,
 ) -> Option<Found<T>>
@@ -144,7 +145,7 @@ fn next_found<'a, T: Integer, V: Eq>(
 /// Walks down the entries from a key on, to the first that starts below a range. A length loses how many of their keys lie
 /// in the range.
 pub fn walk<T: Integer, V: Eq>(
-    tree: &BTreeMap<T, EndValue<T, Option<V>>>,
+    tree: &Tree<T, Option<V>>,
     top: T,
     len: T::SafeLen,
     lo: T,
@@ -173,7 +174,7 @@ pub fn walk<T: Integer, V: Eq>(
     top.in_hand();
     let mut plan = Plan::new(hi);
     let mut left = len;
-    let mut nodes = tree.range(..=top);
+    let mut nodes = tree.range(..=Start(top));
     while let Some(found) = next_found(&mut nodes, value, looks) {
         left = less(left, found, lo, hi);
         plan = plan.past(lo, hi, found);
