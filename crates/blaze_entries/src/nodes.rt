@@ -12,7 +12,7 @@ use crate::places::end_cloned;
 use crate::start::Start;
 use blaze_int::Integer;
 use std::alloc::AllocError;
-use std::collections::BTreeMap;
+use std::collections::{BTreeMap, btree_map};
 use std::mem;
 
 /// Where an entry ends, and its value.
@@ -95,6 +95,24 @@ pub fn node_below<T: Integer, V>(
     tree.range(..Start(key)).next_back()
 }
 
+/// The nodes that start up to a key. They are bounded by the key after it, which a search takes fewer steps to compare.
+pub fn nodes_up_to<'a, T: Integer, V>(
+    tree: &'a Tree<T, V>,
+    key: T,
+) -> btree_map::Range<'a, Start<T>, EndValue<T, V>>
+    requires { StartsAscend T.low T.high (places T.rank tree.now.entries) }
+    ensures { places T.rank result ≡ below (T.rank key +ℤ pos 1) (places T.rank tree.now.entries) }
+{
+    key.in_hand();
+    match key.checked_add_one() {
+        Some(next) => {
+            next.in_hand();
+            tree.range(..Start(next))
+        }
+        None => tree.range(..),
+    }
+}
+
 /// The node with the greatest start up to a key.
 pub fn node_at_or_below<T: Integer, V>(
     tree: &Tree<T, V>,
@@ -104,8 +122,7 @@ pub fn node_at_or_below<T: Integer, V>(
     ensures { option_map (place_lent T.rank) result
         ≡ last_below (T.rank key +ℤ pos 1) (places T.rank tree.now.entries) }
 {
-    key.in_hand();
-    tree.range(..=Start(key)).next_back()
+    nodes_up_to(tree, key).next_back()
 }
 
 /// The node with the least start from a key on.

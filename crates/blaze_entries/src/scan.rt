@@ -11,7 +11,7 @@ ghost use Rattle.blaze_entries.specs.Starts.{below};
 
 use crate::count::Count;
 use crate::found::Found;
-use crate::nodes::{EndValue, Tree};
+use crate::nodes::{EndValue, Tree, nodes_up_to};
 use crate::overlap::less;
 use crate::places::found;
 use crate::start::Start;
@@ -171,10 +171,9 @@ pub fn walk<T: Integer, V: Eq>(
         ≡ looks.old.number + answers (T.rank lo)
         (reverse (below (T.rank top +ℤ pos 1) (entries_of T.rank tree.now.entries))) }
 {
-    top.in_hand();
     let mut plan = Plan::new(hi);
     let mut left = len;
-    let mut nodes = tree.range(..=Start(top));
+    let mut nodes = nodes_up_to(tree, top);
     while let Some(found) = next_found(&mut nodes, value, looks) {
         left = less(left, found, lo, hi);
         plan = plan.past(lo, hi, found);
