@@ -55,9 +55,11 @@ module _ {T V : Type 0} (rank : T → ℤ) (is_clone : V → V → Type 0) (opti
   copies_ascend low high [] [] z a = tt
   copies_ascend low high [] (c ∷ cs) z a = elim z [ ]
   copies_ascend low high (e ∷ es) [] z a = elim z [ ]
-  copies_ascend low high (e ∷ es) (c ∷ cs) z a =
-      (subst (λ x. low ≤ℤ x) (sym z.0.0) a.0, subst (λ x. x ≤ℤ high) (sym z.0.0) a.1,
-      subst (λ x. StartsAscend (x +ℤ pos 1) high cs) (sym z.0.0) (copies_ascend (e.lo +ℤ pos 1) high es cs z.1 a.2))
+  copies_ascend low high (e ∷ es) (c ∷ cs) z a = (
+    subst (λ x. low ≤ℤ x) (sym z.0.0) a.0,
+    subst (λ x. x ≤ℤ high) (sym z.0.0) a.1,
+    subst (λ x. StartsAscend (x +ℤ pos 1) high cs) (sym z.0.0) (copies_ascend (e.lo +ℤ pos 1) high es cs z.1 a.2),
+  )
 
   -- the places of the clone are full and ascend too, and its entries are clones
   pub cloned_held : (low high : ℤ) (ns ms : List (T × EndValue T (Option V))) → AreHeld low high (places rank ns) → AllZip IsNodeCloned ns ms → AreHeld low high (places rank ms)

@@ -1,7 +1,7 @@
 -- What the map's own edits and searches are on the entries that it shows.
 use Rattle.std.proofs.Common.{◌≡◌, ℤ, pos, ◌+ℤ◌, ◌≤ℤ◌, Bool, true, false, cond, not, ◌&&◌, List, [], ◌∷◌, ◌++◌, Option, Some, None, refl, ◌∙◌, sym, ap, arith}
 use Rattle.std.specs.Prelude.{int_lt, int_le, map}
-use Rattle.std.specs.Ordering.{int_cmp, int_eq, is_eq, is_gt, is_le, is_lt, match_ordering}
+use Rattle.std.specs.Ordering.{int_cmp, int_eq, is_eq, is_gt, is_le, match_ordering}
 use Rattle.std.specs.declared.cmp.Ordering.{Ordering}
 use Rattle.std.specs.declared.cmp.Ordering.TheVariants.{Less, Equal, Greater}
 use Rattle.std.specs.List.{filter, last_or}

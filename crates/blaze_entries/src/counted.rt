@@ -20,8 +20,8 @@ use crate::count::Count;
 use crate::found::Found;
 use crate::into_iter::IntoIter;
 use crate::nodes::{
-    EndValue, Tree, insert, move_node, node_at, node_at_or_above, node_at_or_below, node_below, remove,
-    replace, replace_front, set_end, set_end_cloned, split_off,
+    EndValue, Tree, insert, move_node, node_at, node_at_or_above, node_at_or_below, node_below,
+    remove, replace, replace_front, set_end, set_end_cloned, split_off,
 };
 use crate::places::{cloned, found, range_of, value_of};
 use crate::retain::retain;

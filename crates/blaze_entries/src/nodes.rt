@@ -83,10 +83,7 @@ fn exchange<T: Integer, V: Drop>(
 }
 
 /// The node with the greatest start below a key.
-pub fn node_below<T: Integer, V>(
-    tree: &Tree<T, V>,
-    key: T,
-) -> Option<(&Start<T>, &EndValue<T, V>)>
+pub fn node_below<T: Integer, V>(tree: &Tree<T, V>, key: T) -> Option<(&Start<T>, &EndValue<T, V>)>
     requires { StartsAscend T.low T.high (places T.rank tree.now.entries) }
     ensures { option_map (place_lent T.rank) result
         ≡ last_below (T.rank key) (places T.rank tree.now.entries) }
@@ -139,10 +136,7 @@ pub fn node_at_or_above<T: Integer, V>(
 }
 
 /// The node at a start.
-pub fn node_at<T: Integer, V>(
-    tree: &Tree<T, V>,
-    start: T,
-) -> Option<&EndValue<T, V>>
+pub fn node_at<T: Integer, V>(tree: &Tree<T, V>, start: T) -> Option<&EndValue<T, V>>
     requires { StartsAscend T.low T.high (places T.rank tree.now.entries) }
     ensures { option_map (place_at T.rank start) (option_copied result)
         ≡ start_at (T.rank start) (places T.rank tree.now.entries) }
@@ -168,10 +162,7 @@ pub fn insert<T: Integer, V: Drop>(
 }
 
 /// Takes the node at a start out.
-pub fn remove<T: Integer, V>(
-    tree: &mut Tree<T, V>,
-    start: T,
-) -> Option<EndValue<T, V>>
+pub fn remove<T: Integer, V>(tree: &mut Tree<T, V>, start: T) -> Option<EndValue<T, V>>
     requires { StartsAscend T.low T.high (places T.rank tree.old.entries) }
     ensures nodes { places T.rank tree.new.entries
         ≡ without (T.rank start) (places T.rank tree.old.entries) }
@@ -231,10 +222,7 @@ pub fn replace<T: Integer, V: Drop>(
 }
 
 /// Keeps the nodes that start below a key, and answers the others.
-pub fn split_off<T: Integer, V>(
-    tree: &mut Tree<T, V>,
-    key: T,
-) -> Result<Tree<T, V>, AllocError>
+pub fn split_off<T: Integer, V>(tree: &mut Tree<T, V>, key: T) -> Result<Tree<T, V>, AllocError>
     requires { StartsAscend T.low T.high (places T.rank tree.old.entries) }
     ensures below { OnOk result (places T.rank tree.new.entries
         ≡ below (T.rank key) (places T.rank tree.old.entries)) }

@@ -12,10 +12,7 @@ use blaze_int::Integer;
 use std::ops::RangeInclusive;
 
 // The entry with the least start from a key on: its first key, last key and value.
-fn entry_from<T: Integer, V>(
-    tree: &Tree<T, Option<V>>,
-    key: T,
-) -> Option<(T, T, &V)>
+fn entry_from<T: Integer, V>(tree: &Tree<T, Option<V>>, key: T) -> Option<(T, T, &V)>
     requires { AreHeld T.low T.high (places T.rank tree.now.entries) }
     ensures { option_map (shown_entry T.rank (λ v. v.now)) result
         ≡ first_from (T.rank key) (entries_of T.rank tree.now.entries) }
