@@ -5,6 +5,7 @@ ghost use Rattle.range_map_cli.specs.Lines.{Lacks};
 use memchr::memchr;
 
 /// What stands before the first such byte, and what stands after it; none where the text has no such byte.
+#[inline]
 pub fn split_once(text: &[u8], byte: u8) -> Option<(&[u8], &[u8])>
     ensures { MatchOption result (Lacks byte text.now) (λ parts. Lacks byte parts.0.now
         × (text.now ≡ parts.0.now ++ byte ∷ parts.1.now)) }
