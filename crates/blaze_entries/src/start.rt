@@ -44,9 +44,8 @@ fn is_same<T: Ord + Copy>(key: T, other: T) -> bool
     key == other
 }
 
-/// The order of the keys. A search of the tree goes on while what it seeks is above a key, which is told first; what is asked
-/// once for each node stands out of line. A search then takes a third fewer instructions than by the order of the number
-/// types.
+/// The order of the keys. Greater and less are told at once, and the same out of line: so the compiler keeps a search of the
+/// tree to one branch for each key, where by the order of the number types it works out all three answers for each.
 impl<T: Ord + Copy> Ord for Start<T> {
     ghost cmp = { T.cmp };
 
@@ -59,6 +58,8 @@ impl<T: Ord + Copy> Ord for Start<T> {
     fn cmp(&self, other: &Self) -> Ordering {
         if other.0 < self.0 {
             Ordering::Greater
+        } else if self.0 < other.0 {
+            Ordering::Less
         } else if is_same(self.0, other.0) {
             Ordering::Equal
         } else {
