@@ -43,7 +43,7 @@ pub returns-then-is_below-clause-covered : goal.returns-then-is_below-clause-cov
 returns-then-is_below-clause-covered g c =
     let rank = g.T.Integer.rank in
     let seen = c.in-Some.ensures.found in
-    c.past-plan.ensures.covered
+    c.see.ensures.covered
     ∙ sym (last_covered (rank c.args.lo) (rank c.args.hi) g.V.PartialEq.eq c.args.value.now _ seen.0 seen.1 _ _ (down_from seen.0 _ _ seen.2) (sym c.is_below.ensures ∙ c.if-is_below.true) (least_by rank c.loop-found.plan.covered))
     ∙ c.loop-found.invariant.covered
 
@@ -68,9 +68,9 @@ loop-found-preserved g c =
     let looks = next_answers l h eq v _ seen.0 seen.1 _ _ down over in
     record {
       full = c.in-Some.ensures.full;
-      plan = ap (λ s. walked eq v l h s (reverse (full (places rank c.next_found.new.nodes)))) c.past-plan.ensures.seen
+      plan = ap (λ s. walked eq v l h s (reverse (full (places rank c.next_found.new.nodes)))) c.see.ensures.seen
           ∙ sym (next_walked l h eq v _ seen.0 seen.1 _ _ down over (seen_of rank c.loop-found.plan)) ∙ c.loop-found.invariant.plan;
-      covered = ap (λ s. walked_covered eq v l h s (reverse (full (places rank c.next_found.new.nodes)))) c.past-plan.ensures.covered
+      covered = ap (λ s. walked_covered eq v l h s (reverse (full (places rank c.next_found.new.nodes)))) c.see.ensures.covered
           ∙ sym (next_covered l h eq v _ seen.0 seen.1 _ _ down over (least_by rank c.loop-found.plan.covered)) ∙ c.loop-found.invariant.covered;
       looks = omega (arith, looks, c.in-Some.ensures.looked, c.loop-found.invariant.looks);
       room = omega (arith, ints, keys, c.less-left.ensures, c.loop-found.invariant.room);
