@@ -110,7 +110,9 @@ pub fn close<W: Write>(waiting: &mut Vec<u8>, output: &mut W, text: &[u8], end: 
     end
 }
 
-/// Answers the line, which ends here, and puts the answer behind the others.
+/// Answers the line, which ends here, and puts the answer behind the others. It stands out of line, so that the loop over lines
+/// stays short where they are empty.
+#[inline(never)]
 fn answer_line<W: Write>(session: &mut Session, alloc: Global, output: &mut W) -> Result<(), End>
     ensures ok { OnOk result ((held : Option (List ℕ)) (text rest : List ℕ) (lines : ℕ)
         → IsAt held (W.contents output.old) text session.old (10 ∷ rest) lines
