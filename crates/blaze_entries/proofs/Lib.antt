@@ -1,6 +1,7 @@
 pub mod Alike
 pub mod Ascending
 pub mod Changes
+pub mod FirstNodes
 pub mod Halves
 pub mod Held
 pub mod Lent
