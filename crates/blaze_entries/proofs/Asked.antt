@@ -32,7 +32,7 @@ module _ {V : Type 0} where
       (λ o p q. absurd (omega (arith, ints, h.0)))
       (λ o p q. rw q (ap (λ l. x ∷ l) (without_past k xs ys h.1)))
 
-  without_first : (e : Entry V) (es : List (Entry V)) → without e.lo (e ∷ es) ≡ es
+  pub without_first : (e : Entry V) (es : List (Entry V)) → without e.lo (e ∷ es) ≡ es
   without_first e es = by_order e.lo e.lo (λ o p q. absurd (omega (arith, ints))) (λ o p q. rw q refl) (λ o p q. absurd (omega (arith, ints)))
 
   below_picked : (k : ℤ) (bs : List Bool) (xs : List (Entry V)) → StartsBelow k xs → StartsBelow k (items_where_true bs xs)

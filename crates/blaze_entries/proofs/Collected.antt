@@ -24,7 +24,7 @@ use Rattle.blaze_entries.proofs.NodeLists.{places_lookup}
 
 -- lists in the order of their starts that have the same entry at each start
 module _ {V : Type 0} where
-  start_first : (e : Entry V) (es : List (Entry V)) → start_at e.lo (e ∷ es) ≡ Some e
+  pub start_first : (e : Entry V) (es : List (Entry V)) → start_at e.lo (e ∷ es) ≡ Some e
   start_first e es = by_order e.lo e.lo (λ o q r. absurd (omega (arith, ints))) (λ o q r. rw r refl) (λ o q r. absurd (omega (arith, ints)))
 
   start_later : (k : ℤ) (e : Entry V) (es : List (Entry V)) → e.lo <ℤ k → start_at k (e ∷ es) ≡ start_at k es

@@ -1,6 +1,7 @@
 pub mod Alike
 pub mod Ascending
 pub mod Changes
+pub mod FirstNodes
 pub mod Halves
 pub mod Held
 pub mod Lent
@@ -8,6 +9,7 @@ pub mod Moves
 pub mod NodeLists
 pub mod Views
 pub mod Steps
+pub mod Clones
 pub mod Collected
 pub mod Scans
 pub mod InTurn

@@ -1,7 +1,7 @@
 -- What the map's own edits and searches are on the entries that it shows.
 use Rattle.std.proofs.Common.{◌≡◌, ℤ, pos, ◌+ℤ◌, ◌≤ℤ◌, Bool, true, false, cond, not, ◌&&◌, List, [], ◌∷◌, ◌++◌, Option, Some, None, refl, ◌∙◌, sym, ap, arith}
 use Rattle.std.specs.Prelude.{int_lt, int_le, map}
-use Rattle.std.specs.Ordering.{int_cmp, int_eq, is_eq, is_gt, is_le, is_lt, match_ordering}
+use Rattle.std.specs.Ordering.{int_cmp, int_eq, is_eq, is_gt, is_le, match_ordering}
 use Rattle.std.specs.declared.cmp.Ordering.{Ordering}
 use Rattle.std.specs.declared.cmp.Ordering.TheVariants.{Less, Equal, Greater}
 use Rattle.std.specs.List.{filter, last_or}
@@ -32,7 +32,7 @@ pub first_taken : {A X : Type 0} (shows : A → X) (s t : List X) (r : Option A)
 first_taken shows s t None h = rw h.0 refl
 first_taken shows s t (Some x) h = rw h refl
 
-last_shown : {A B : Type 0} (f : A → B) (o : Option A) (xs : List A) → option_map f (last_or o xs) ≡ last_or (option_map f o) (map f xs)
+pub last_shown : {A B : Type 0} (f : A → B) (o : Option A) (xs : List A) → option_map f (last_or o xs) ≡ last_or (option_map f o) (map f xs)
 last_shown f o [] = refl
 last_shown f o (x ∷ xs) = last_shown f (Some x) xs
 
@@ -51,10 +51,6 @@ IsOrder {T} rank low high cmp = (a b : T) → low ≤ℤ rank a → rank a ≤�
 module _ {T : Type 0} (rank : T → ℤ) (cmp : T → T → Ordering) (low high : ℤ) (order : IsOrder rank low high cmp) (k : T) (kl : low ≤ℤ rank k) (kh : rank k ≤ℤ high) where
   below_is : (q : T) → low ≤ℤ rank q → rank q ≤ℤ high → not (is_le (cmp k q)) ≡ int_lt (rank q) (rank k)
   below_is q l u = rw (order k q kl kh l u) (by_order (rank k) (rank q)
-      (λ o p e. rw p (sym (grind (arith, ints)))) (λ o p e. rw p (sym (grind (arith, ints)))) (λ o p e. rw p (sym (grind (arith, ints)))))
-
-  up_to_is : (q : T) → low ≤ℤ rank q → rank q ≤ℤ high → not (is_lt (cmp k q)) ≡ int_lt (rank q) (rank k +ℤ pos 1)
-  up_to_is q l u = rw (order k q kl kh l u) (by_order (rank k) (rank q)
       (λ o p e. rw p (sym (grind (arith, ints)))) (λ o p e. rw p (sym (grind (arith, ints)))) (λ o p e. rw p (sym (grind (arith, ints)))))
 
   pub split_below_is : (q : T) → low ≤ℤ rank q → rank q ≤ℤ high → is_gt (cmp k q) ≡ int_lt (rank q) (rank k)
@@ -146,18 +142,19 @@ module _ {T V : Type 0} (rank : T → ℤ) (cmp : T → T → Ordering) (low hig
     low_low : low ≤ℤ low
     low_low = omega (arith, ints)
 
-    pub places_before : option_map (place_of rank) (last_or None (entries_between cmp Unbounded (Excluded k) m)) ≡ last_below (rank k) (places rank m)
-    places_before = last_shown (place_of rank) None (entries_between cmp Unbounded (Excluded k) m) ∙ ap (last_or None) (places_filter (λ q. not (is_le (cmp k q))) (λ z. int_lt z (rank k)) (below_is rank cmp low high order k kl kh) low low_low m h)
+    -- the nodes that start below a key
+    pub places_between : places rank (entries_between cmp Unbounded (Excluded k) m) ≡ below (rank k) (places rank m)
+    places_between = places_filter (λ q. not (is_le (cmp k q))) (λ z. int_lt z (rank k)) (below_is rank cmp low high order k kl kh) low low_low m h
 
-    pub places_up_to : option_map (place_of rank) (last_or None (entries_between cmp Unbounded (Included k) m)) ≡ last_below (rank k +ℤ pos 1) (places rank m)
-    places_up_to = last_shown (place_of rank) None (entries_between cmp Unbounded (Included k) m) ∙ ap (last_or None) (places_filter (λ q. not (is_lt (cmp k q))) (λ z. int_lt z (rank k +ℤ pos 1)) (up_to_is rank cmp low high order k kl kh) low low_low m h)
+    pub places_before : option_map (place_of rank) (last_or None (entries_between cmp Unbounded (Excluded k) m)) ≡ last_below (rank k) (places rank m)
+    places_before = last_shown (place_of rank) None (entries_between cmp Unbounded (Excluded k) m) ∙ ap (last_or None) places_between
 
     pub places_at_or_above : option_map (place_of rank) (first_entry (entries_between cmp (Included k) Unbounded m)) ≡ first_from (rank k) (places rank m)
     places_at_or_above = first_shown (place_of rank) (entries_between cmp (Included k) Unbounded m) ∙ ap first_entry (places_filter (λ q. is_le (cmp k q) && true) (λ z. int_le (rank k) z) (at_or_above_is rank cmp low high order k kl kh) low low_low m h)
 
-    -- the nodes that start up to a key
-    pub places_between : places rank (entries_between cmp Unbounded (Included k) m) ≡ below (rank k +ℤ pos 1) (places rank m)
-    places_between = places_filter (λ q. not (is_lt (cmp k q))) (λ z. int_lt z (rank k +ℤ pos 1)) (up_to_is rank cmp low high order k kl kh) low low_low m h
+    -- all nodes start up to the greatest key
+    pub places_all : places rank (entries_between cmp Unbounded Unbounded m) ≡ below (high +ℤ pos 1) (places rank m)
+    places_all = places_filter (λ q. true) (λ z. int_lt z (high +ℤ pos 1)) (λ q l u. sym (grind (arith, ints))) low low_low m h
 
     -- the parts below a key and from it on
     pub places_below : places rank (entries_below (cmp k) m) ≡ below (rank k) (places rank m)

@@ -4,6 +4,7 @@ pub mod Places
 pub mod Counted
 pub mod Found
 pub mod Changed
+pub mod Cloned
 pub mod Overlap
 pub mod Scanned
 pub mod Answers

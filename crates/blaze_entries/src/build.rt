@@ -6,7 +6,8 @@ ghost use Rattle.blaze_entries.specs.Places.{places, held, node_of};
 ghost use Rattle.blaze_entries.specs.Starts.{StartsAscend};
 ghost use Rattle.blaze_int.specs.Ranked.{IsKey};
 
-use crate::nodes::EndValue;
+use crate::nodes::{EndValue, Tree};
+use crate::start::Start;
 use blaze_int::Integer;
 use std::alloc::{AllocError, Global};
 use std::collections::BTreeMap;
@@ -15,18 +16,18 @@ use std::collections::BTreeMap;
 fn collect<T: Integer, V: Drop>(
     alloc: Global,
     entries: Vec<(T, T, V)>,
-) -> Result<BTreeMap<T, EndValue<T, Option<V>>>, AllocError>
+) -> Result<Tree<T, Option<V>>, AllocError>
     ensures { IfOk result (IsFromIterResult T.cmp (map node_of entries.items)) }
 {
     let nodes = entries.into_iter().map(|(start, end, value)| {
         let value = Some(value);
-        (start, EndValue { end, value })
+        (Start(start), EndValue { end, value })
     });
     nodes.collect(alloc)
 }
 
 // Walks over the starts, and does nothing; its contract says that they are keys.
-fn starts_in_hand<T: Integer, V>(tree: &BTreeMap<T, V>)
+fn starts_in_hand<T: Integer, V>(tree: &BTreeMap<Start<T>, V>)
     ensures { All (IsKey T.rank T.low T.high) (keys tree.now) }
 {
     for start in tree.keys() {
@@ -38,7 +39,7 @@ fn starts_in_hand<T: Integer, V>(tree: &BTreeMap<T, V>)
 pub fn tree_of<T: Integer, V: Drop>(
     alloc: Global,
     entries: Vec<(T, T, V)>,
-) -> Result<BTreeMap<T, EndValue<T, Option<V>>>, AllocError>
+) -> Result<Tree<T, Option<V>>, AllocError>
     requires { StartsAscend T.low T.high (map (shown_entry T.rank (λ v. v)) entries.items) }
     ensures { IfOk result (λ tree. places T.rank tree.entries
         ≡ map held (map (shown_entry T.rank (λ v. v)) entries.items)) }

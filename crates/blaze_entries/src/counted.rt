@@ -6,6 +6,7 @@ ghost use Rattle.std.specs.Option.{option_map};
 ghost use Rattle.blaze_entries.specs.Answers.{AnswersAt, IsCallableAtEach};
 ghost use Rattle.blaze_entries.specs.Entries.{entry, shown_entry};
 ghost use Rattle.blaze_entries.specs.Counted.{uncounted};
+ghost use Rattle.blaze_entries.specs.Cloned.{AreCloned};
 ghost use Rattle.blaze_entries.specs.Found.{found_in, found_of, range_in, ranks_of};
 ghost use Rattle.blaze_entries.specs.Scanned.{seen_of, unseen, walked, least_by, walked_covered};
 ghost use Rattle.blaze_entries.specs.Scanned.{answers, walked_keys};
@@ -19,8 +20,8 @@ use crate::count::Count;
 use crate::found::Found;
 use crate::into_iter::IntoIter;
 use crate::nodes::{
-    EndValue, insert, move_node, node_at, node_at_or_above, node_at_or_below, node_below, remove,
-    replace, replace_front, set_end, set_end_cloned, split_off,
+    EndValue, Tree, insert, move_node, node_at, node_at_or_above, node_at_or_below, node_below,
+    remove, replace, replace_front, set_end, set_end_cloned, split_off,
 };
 use crate::places::{cloned, found, range_of, value_of};
 use crate::retain::retain;
@@ -34,7 +35,7 @@ use std::ops::RangeInclusive;
 /// Entries by their starts, and how much work was done on them.
 #[derive(Drop)]
 pub struct Counted<T: Integer, V> {
-    pub(crate) tree: BTreeMap<T, EndValue<T, Option<V>>>,
+    pub(crate) tree: Tree<T, Option<V>>,
     alloc: Global,
     looks: Count,
     put_in: Count,
@@ -382,6 +383,22 @@ impl<T: Integer, V: Eq> Counted<T, V> {
 }
 
 impl<T: Integer, V: Clone> Counted<T, V> {
+    /// The same ranges, each with a clone of its value. Nothing is counted.
+    pub(crate) fn clone(&self) -> Result<Self, AllocError>
+        ensures clones { IfOk result
+            (λ copy. AreCloned V.is_clone self.now.entries copy.entries) }
+        ensures uncounted { IfOk result (λ copy. copy ≡ uncounted copy.entries) }
+    {
+        let tree = self.tree.clone()?;
+        Ok(Counted {
+            tree,
+            alloc: self.alloc,
+            looks: Count::new(),
+            put_in: Count::new(),
+            taken_out: Count::new(),
+        })
+    }
+
     /// A clone of the value of the entry at a start. Refused memory leaves the entries.
     pub fn clone_value(&mut self, start: T) -> Result<V, AllocError>
         requires { IsSome (start_at (T.rank start) self.old.entries) }

@@ -5,6 +5,7 @@ ghost use Rattle.std.specs.List.Retain.{IsFiltered};
 ghost use Rattle.std.specs.Option.{option_map};
 ghost use Rattle.blaze_entries.specs.Answers.{AnswersAt, IsCallableAtEach};
 ghost use Rattle.blaze_entries.specs.Counted.{uncounted};
+ghost use Rattle.blaze_entries.specs.Cloned.{AreCloned};
 ghost use Rattle.blaze_entries.specs.Entries.{shown_entry};
 ghost use Rattle.blaze_entries.specs.Starts.{StartsAscend, last_below, first_from, start_at, below};
 ghost use Rattle.blaze_entries.specs.Starts.{from, without, with_end, IsCloneInserted};
@@ -204,6 +205,16 @@ impl<T: Integer, V: Drop> Entries<T, V> {
 }
 
 impl<T: Integer, V: Clone + Drop> Entries<T, V> {
+    /// The same ranges, each with a clone of its value. Refused memory leaves these entries.
+    pub fn clone(&self) -> Result<Self, AllocError>
+        ensures clones { IfOk result
+            (λ copy. AreCloned V.is_clone self.now.entries copy.entries) }
+        ensures uncounted { IfOk result (λ copy. copy ≡ uncounted copy.entries) }
+    {
+        let counted = self.counted.clone()?;
+        Ok(Entries { counted })
+    }
+
     /// Puts an entry in that starts at `start`, where none is, ends where the entry at `of` ends and has a clone of its
     /// value. It is not counted. Refused memory leaves the entries.
     pub fn insert_clone(&mut self, of: T, start: T) -> Result<(), AllocError>

@@ -7,6 +7,7 @@ ghost use Rattle.blaze_entries.specs.Places.{places, entries_of, AreFull};
 
 use crate::nodes::EndValue;
 use crate::places::given;
+use crate::start::Start;
 use blaze_int::Integer;
 use std::collections::btree_map;
 use std::iter::FusedIterator;
@@ -15,7 +16,7 @@ use std::marker::Model;
 /// Entries by value, ascending: first key, last key and value.
 #[derive(Drop)]
 pub struct IntoIter<T: Integer, V> {
-    rest: btree_map::IntoIter<T, EndValue<T, Option<V>>>,
+    rest: btree_map::IntoIter<Start<T>, EndValue<T, Option<V>>>,
 }
 
 impl<T: Integer, V> Model for IntoIter<T, V> {
@@ -35,7 +36,7 @@ impl<T: Integer, V> Model for IntoIter<T, V> {
 }
 
 impl<T: Integer, V> IntoIter<T, V> {
-    pub(crate) fn new(rest: btree_map::IntoIter<T, EndValue<T, Option<V>>>) -> Self
+    pub(crate) fn new(rest: btree_map::IntoIter<Start<T>, EndValue<T, Option<V>>>) -> Self
         requires { AreFull (places T.rank rest) }
         ensures { result ≡ entries_of T.rank rest }
     {

@@ -7,6 +7,7 @@ ghost use Rattle.blaze_entries.specs.Places.{places, entries_of, AreFull};
 
 use crate::nodes::EndValue;
 use crate::places::shown;
+use crate::start::Start;
 use blaze_int::Integer;
 use std::collections::btree_map;
 use std::iter::FusedIterator;
@@ -15,7 +16,7 @@ use std::marker::Model;
 /// Entries, ascending: first key, last key and value.
 #[derive(Drop)]
 pub struct Iter<'a, T: Integer, V> {
-    rest: btree_map::Iter<'a, T, EndValue<T, Option<V>>>,
+    rest: btree_map::Iter<'a, Start<T>, EndValue<T, Option<V>>>,
 }
 
 impl<'a, T: Integer, V> Model for Iter<'a, T, V> {
@@ -35,7 +36,7 @@ impl<'a, T: Integer, V> Model for Iter<'a, T, V> {
 }
 
 impl<'a, T: Integer, V> Iter<'a, T, V> {
-    pub(crate) fn new(rest: btree_map::Iter<'a, T, EndValue<T, Option<V>>>) -> Self
+    pub(crate) fn new(rest: btree_map::Iter<'a, Start<T>, EndValue<T, Option<V>>>) -> Self
         requires { AreFull (places T.rank rest) }
         ensures { result ≡ entries_of T.rank rest.entry }
     {

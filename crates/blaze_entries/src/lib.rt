@@ -13,6 +13,7 @@ mod overlap;
 mod places;
 mod retain;
 mod scan;
+mod start;
 
 pub use count::Count;
 pub use counted::Counted;

@@ -1,17 +1,21 @@
 //! The tree: from each start to its end and value. Searches, and edits of its nodes.
 ghost use Rattle.std.specs.BTreeMap.{is_at, get};
-ghost use Rattle.std.specs.Prelude.{◌≡◌, ℤ, pos, ◌+ℤ◌, None, IsSome, IfSome, OnOk, OnErr, IfOk};
+ghost use Rattle.std.specs.Prelude.{◌≡◌, ℤ, pos, ◌+ℤ◌, Some, None, IsTrue, IsSome, IfSome, OnOk, OnErr};
+ghost use Rattle.std.specs.Prelude.{IfOk, slice_get};
 ghost use Rattle.std.specs.Option.{option_map, option_copied};
 ghost use Rattle.blaze_entries.specs.Changed.{changed};
 ghost use Rattle.blaze_entries.specs.Places.{places, place_lent, place_at};
-ghost use Rattle.blaze_entries.specs.Starts.{StartsAscend, below, from, last_below, first_from};
+ghost use Rattle.blaze_entries.specs.Starts.{StartsAscend, below, from, first_entry, last_below};
+ghost use Rattle.blaze_entries.specs.Starts.{first_from};
 ghost use Rattle.blaze_entries.specs.Starts.{start_at, with_entry, without, with_end};
 ghost use Rattle.blaze_entries.specs.Starts.{with_end_value, IsStartMoved, IsFrontReplaced};
 
 use crate::places::end_cloned;
+use crate::start::Start;
 use blaze_int::Integer;
+use blaze_int::compare::is_at_most;
 use std::alloc::AllocError;
-use std::collections::BTreeMap;
+use std::collections::{BTreeMap, btree_map};
 use std::mem;
 
 /// Where an entry ends, and its value.
@@ -21,19 +25,33 @@ pub struct EndValue<T, V> {
     pub value: V,
 }
 
+impl<T: Copy, V: Clone> Clone for EndValue<T, V> {
+    ghost is_clone = { λ node copy. (copy.end ≡ node.end) × V.is_clone node.value copy.value };
+
+    fn clone(&self) -> Result<Self, AllocError> {
+        Ok(EndValue {
+            end: self.end,
+            value: self.value.clone()?,
+        })
+    }
+}
+
+/// Nodes by their starts.
+pub type Tree<T, V> = BTreeMap<Start<T>, EndValue<T, V>>;
+
 // Moves the end of the node at a start.
-fn change_end<T: Integer, V>(tree: &mut BTreeMap<T, EndValue<T, V>>, start: T, end: T)
+fn change_end<T: Integer, V>(tree: &mut Tree<T, V>, start: T, end: T)
     ensures { tree.new.entries
         ≡ changed (is_at (T.cmp start)) (λ node. record node { end = end }) tree.old.entries }
 {
-    if let Some(node) = tree.get_mut(&start) {
+    if let Some(node) = tree.get_mut(&Start(start)) {
         node.end = end;
     }
 }
 
 // Moves the end of the node at a start, and answers a clone of its value. A refused clone leaves the node.
 fn change_end_cloned<T: Integer, V: Clone>(
-    tree: &mut BTreeMap<T, EndValue<T, Option<V>>>,
+    tree: &mut Tree<T, Option<V>>,
     start: T,
     end: T,
 ) -> Result<V, AllocError>
@@ -45,7 +63,7 @@ fn change_end_cloned<T: Integer, V: Clone>(
         ≡ changed (is_at (T.cmp start)) (λ node. record node { end = end }) tree.old.entries) }
     ensures err { OnErr result (tree.new.entries ≡ tree.old.entries) }
 {
-    match tree.get_mut(&start) {
+    match tree.get_mut(&Start(start)) {
         Some(node) => end_cloned(node, end),
         None => unreachable!(),
     }
@@ -53,7 +71,7 @@ fn change_end_cloned<T: Integer, V: Clone>(
 
 // Puts a node in place of that at a start, and answers the old one.
 fn exchange<T: Integer, V: Drop>(
-    tree: &mut BTreeMap<T, EndValue<T, V>>,
+    tree: &mut Tree<T, V>,
     start: T,
     node: EndValue<T, V>,
 ) -> Option<EndValue<T, V>>
@@ -61,67 +79,101 @@ fn exchange<T: Integer, V: Drop>(
     ensures old { option_map (place_at T.rank start) result
         ≡ option_map (place_at T.rank start) (get T.cmp tree.old start) }
 {
-    match tree.get_mut(&start) {
+    match tree.get_mut(&Start(start)) {
         Some(old) => Some(mem::replace(old, node)),
         None => None,
     }
 }
 
 /// The node with the greatest start below a key.
-pub fn node_below<T: Integer, V>(
-    tree: &BTreeMap<T, EndValue<T, V>>,
-    key: T,
-) -> Option<(&T, &EndValue<T, V>)>
+pub fn node_below<T: Integer, V>(tree: &Tree<T, V>, key: T) -> Option<(&Start<T>, &EndValue<T, V>)>
     requires { StartsAscend T.low T.high (places T.rank tree.now.entries) }
     ensures { option_map (place_lent T.rank) result
         ≡ last_below (T.rank key) (places T.rank tree.now.entries) }
 {
     key.in_hand();
-    tree.range(..key).next_back()
+    tree.range(..Start(key)).next_back()
+}
+
+/// The nodes that start up to a key. They are bounded by the key after it, which a search takes fewer steps to compare.
+pub fn nodes_up_to<'a, T: Integer, V>(
+    tree: &'a Tree<T, V>,
+    key: T,
+) -> btree_map::Range<'a, Start<T>, EndValue<T, V>>
+    requires { StartsAscend T.low T.high (places T.rank tree.now.entries) }
+    ensures { places T.rank result ≡ below (T.rank key +ℤ pos 1) (places T.rank tree.now.entries) }
+{
+    key.in_hand();
+    match key.checked_add_one() {
+        Some(next) => {
+            next.in_hand();
+            tree.range(..Start(next))
+        }
+        None => tree.range(..),
+    }
 }
 
 /// The node with the greatest start up to a key.
 pub fn node_at_or_below<T: Integer, V>(
-    tree: &BTreeMap<T, EndValue<T, V>>,
+    tree: &Tree<T, V>,
     key: T,
-) -> Option<(&T, &EndValue<T, V>)>
+) -> Option<(&Start<T>, &EndValue<T, V>)>
     requires { StartsAscend T.low T.high (places T.rank tree.now.entries) }
     ensures { option_map (place_lent T.rank) result
         ≡ last_below (T.rank key +ℤ pos 1) (places T.rank tree.now.entries) }
 {
-    key.in_hand();
-    tree.range(..=key).next_back()
+    nodes_up_to(tree, key).next_back()
 }
 
 /// The node with the least start from a key on.
 pub fn node_at_or_above<T: Integer, V>(
-    tree: &BTreeMap<T, EndValue<T, V>>,
+    tree: &Tree<T, V>,
     key: T,
-) -> Option<(&T, &EndValue<T, V>)>
+) -> Option<(&Start<T>, &EndValue<T, V>)>
     requires { StartsAscend T.low T.high (places T.rank tree.now.entries) }
     ensures { option_map (place_lent T.rank) result
         ≡ first_from (T.rank key) (places T.rank tree.now.entries) }
 {
     key.in_hand();
-    tree.range(key..).next()
+    tree.range(Start(key)..).next()
+}
+
+// Whether a start is that of the first node, which is told without a search.
+fn is_first<T: Integer, V>(tree: &Tree<T, V>, start: T) -> bool
+    ensures { IsTrue result → option_map (λ e. e.lo) (first_entry (places T.rank tree.now.entries))
+        ≡ Some (T.rank start) }
+{
+    match tree.first_key_value() {
+        Some((first, _)) => is_at_most(first.0, start) && is_at_most(start, first.0),
+        None => false,
+    }
+}
+
+// The node with the least start.
+fn first_node<T: Integer, V>(tree: &Tree<T, V>) -> Option<&EndValue<T, V>>
+    ensures { option_copied result ≡ option_map (λ p. p.1) (slice_get tree.now.entries 0) }
+{
+    let (_, node) = tree.first_key_value()?;
+    Some(node)
 }
 
 /// The node at a start.
-pub fn node_at<T: Integer, V>(
-    tree: &BTreeMap<T, EndValue<T, V>>,
-    start: T,
-) -> Option<&EndValue<T, V>>
+pub fn node_at<T: Integer, V>(tree: &Tree<T, V>, start: T) -> Option<&EndValue<T, V>>
     requires { StartsAscend T.low T.high (places T.rank tree.now.entries) }
     ensures { option_map (place_at T.rank start) (option_copied result)
         ≡ start_at (T.rank start) (places T.rank tree.now.entries) }
 {
     start.in_hand();
-    tree.get(&start)
+    if is_first(tree, start) {
+        first_node(tree)
+    } else {
+        tree.get(&Start(start))
+    }
 }
 
 /// Puts a node in.
 pub fn insert<T: Integer, V: Drop>(
-    tree: &mut BTreeMap<T, EndValue<T, V>>,
+    tree: &mut Tree<T, V>,
     start: T,
     node: EndValue<T, V>,
 ) -> Result<(), AllocError>
@@ -131,15 +183,25 @@ pub fn insert<T: Integer, V: Drop>(
     ensures err { OnErr result (tree.new.entries ≡ tree.old.entries) }
 {
     start.in_hand();
-    tree.insert(start, node)?;
+    tree.insert(Start(start), node)?;
     Ok(())
 }
 
+// Takes the first node out, which starts at `start`.
+fn take_first<T: Integer, V>(tree: &mut Tree<T, V>, start: T) -> Option<EndValue<T, V>>
+    requires { option_map (λ e. e.lo) (first_entry (places T.rank tree.old.entries))
+        ≡ Some (T.rank start) }
+    ensures nodes { places T.rank tree.new.entries
+        ≡ without (T.rank start) (places T.rank tree.old.entries) }
+    ensures old { option_map (place_at T.rank start) result
+        ≡ start_at (T.rank start) (places T.rank tree.old.entries) }
+{
+    let (_, node) = tree.pop_first()?;
+    Some(node)
+}
+
 /// Takes the node at a start out.
-pub fn remove<T: Integer, V>(
-    tree: &mut BTreeMap<T, EndValue<T, V>>,
-    start: T,
-) -> Option<EndValue<T, V>>
+pub fn remove<T: Integer, V>(tree: &mut Tree<T, V>, start: T) -> Option<EndValue<T, V>>
     requires { StartsAscend T.low T.high (places T.rank tree.old.entries) }
     ensures nodes { places T.rank tree.new.entries
         ≡ without (T.rank start) (places T.rank tree.old.entries) }
@@ -147,11 +209,15 @@ pub fn remove<T: Integer, V>(
         ≡ start_at (T.rank start) (places T.rank tree.old.entries) }
 {
     start.in_hand();
-    tree.remove(&start)
+    if is_first(tree, start) {
+        take_first(tree, start)
+    } else {
+        tree.remove(&Start(start))
+    }
 }
 
 /// Moves the end of the node at a start.
-pub fn set_end<T: Integer, V>(tree: &mut BTreeMap<T, EndValue<T, V>>, start: T, end: T)
+pub fn set_end<T: Integer, V>(tree: &mut Tree<T, V>, start: T, end: T)
     requires { StartsAscend T.low T.high (places T.rank tree.old.entries) }
     ensures { places T.rank tree.new.entries
         ≡ with_end (T.rank start) (T.rank end) (places T.rank tree.old.entries) }
@@ -162,7 +228,7 @@ pub fn set_end<T: Integer, V>(tree: &mut BTreeMap<T, EndValue<T, V>>, start: T, 
 
 /// Moves the end of the node at a start, and answers a clone of its value. A refused clone leaves the node.
 pub fn set_end_cloned<T: Integer, V: Clone>(
-    tree: &mut BTreeMap<T, EndValue<T, Option<V>>>,
+    tree: &mut Tree<T, Option<V>>,
     start: T,
     end: T,
 ) -> Result<V, AllocError>
@@ -183,7 +249,7 @@ pub fn set_end_cloned<T: Integer, V: Clone>(
 
 /// Puts a node in place of that at a start, and answers the old one.
 pub fn replace<T: Integer, V: Drop>(
-    tree: &mut BTreeMap<T, EndValue<T, V>>,
+    tree: &mut Tree<T, V>,
     start: T,
     node: EndValue<T, V>,
 ) -> Option<EndValue<T, V>>
@@ -199,10 +265,7 @@ pub fn replace<T: Integer, V: Drop>(
 }
 
 /// Keeps the nodes that start below a key, and answers the others.
-pub fn split_off<T: Integer, V>(
-    tree: &mut BTreeMap<T, EndValue<T, V>>,
-    key: T,
-) -> Result<BTreeMap<T, EndValue<T, V>>, AllocError>
+pub fn split_off<T: Integer, V>(tree: &mut Tree<T, V>, key: T) -> Result<Tree<T, V>, AllocError>
     requires { StartsAscend T.low T.high (places T.rank tree.old.entries) }
     ensures below { OnOk result (places T.rank tree.new.entries
         ≡ below (T.rank key) (places T.rank tree.old.entries)) }
@@ -211,13 +274,13 @@ pub fn split_off<T: Integer, V>(
     ensures err { OnErr result (tree.new.entries ≡ tree.old.entries) }
 {
     key.in_hand();
-    let others = tree.split_off(&key)?;
+    let others = tree.split_off(&Start(key))?;
     Ok(others)
 }
 
 /// Moves the node at a start to another start, where none is. The place there is made before the node is taken.
 pub fn move_node<T: Integer, V: Drop>(
-    tree: &mut BTreeMap<T, EndValue<T, V>>,
+    tree: &mut Tree<T, V>,
     from: T,
     to: T,
     place: EndValue<T, V>,
@@ -242,7 +305,7 @@ pub fn move_node<T: Integer, V: Drop>(
 /// Replaces the front of the node at a start, and moves the rest of it to another start, where none is. The place there
 /// is made before the node is replaced.
 pub fn replace_front<T: Integer, V: Drop>(
-    tree: &mut BTreeMap<T, EndValue<T, V>>,
+    tree: &mut Tree<T, V>,
     start: T,
     front: EndValue<T, V>,
     to: T,

@@ -7,12 +7,13 @@ ghost use Rattle.blaze_entries.specs.Places.{held, place_lent, place_of};
 
 use crate::found::Found;
 use crate::nodes::EndValue;
+use crate::start::Start;
 use blaze_int::Integer;
 use std::alloc::AllocError;
 
 /// A node's first key, last key and value.
 pub fn shown<'a, T: Integer, V>(
-    node: Option<(&'a T, &'a EndValue<T, Option<V>>)>,
+    node: Option<(&'a Start<T>, &'a EndValue<T, Option<V>>)>,
 ) -> Option<(T, T, &'a V)>
     requires { IfSome node (λ p. IsSome p.1.now.value) }
     ensures { (e : Option (Entry V)) → option_map (place_lent T.rank) node.entry
@@ -20,13 +21,13 @@ pub fn shown<'a, T: Integer, V>(
 {
     let (start, node) = node?;
     match &node.value {
-        Some(value) => Some((*start, node.end, value)),
+        Some(value) => Some((start.0, node.end, value)),
         None => unreachable!(),
     }
 }
 
 /// A node's first key, last key and value, by value.
-pub fn given<T: Integer, V>(node: Option<(T, EndValue<T, Option<V>>)>) -> Option<(T, T, V)>
+pub fn given<T: Integer, V>(node: Option<(Start<T>, EndValue<T, Option<V>>)>) -> Option<(T, T, V)>
     requires { IfSome node (λ p. IsSome p.1.value) }
     ensures { (e : Option (Entry V)) → option_map (place_of T.rank) node ≡ option_map held e
         → option_map (shown_entry T.rank (λ v. v)) result ≡ e }
@@ -34,14 +35,14 @@ pub fn given<T: Integer, V>(node: Option<(T, EndValue<T, Option<V>>)>) -> Option
     let (start, node) = node?;
     let EndValue { end, value } = node;
     match value {
-        Some(value) => Some((start, end, value)),
+        Some(value) => Some((start.0, end, value)),
         None => unreachable!(),
     }
 }
 
 /// A node's first and last key, and whether its value is equal to another.
 pub fn found<T: Integer, V: Eq>(
-    node: Option<(&T, &EndValue<T, Option<V>>)>,
+    node: Option<(&Start<T>, &EndValue<T, Option<V>>)>,
     value: &V,
 ) -> Option<Found<T>>
     requires { IfSome node (λ p. IsSome p.1.now.value) }
@@ -52,7 +53,7 @@ pub fn found<T: Integer, V: Eq>(
     let (start, node) = node?;
     match &node.value {
         Some(other) => Some(Found {
-            start: *start,
+            start: start.0,
             end: node.end,
             is_equal: *other == *value,
         }),
@@ -61,12 +62,12 @@ pub fn found<T: Integer, V: Eq>(
 }
 
 /// A node's first and last key.
-pub fn range_of<T: Integer, V>(node: Option<(&T, &EndValue<T, Option<V>>)>) -> Option<(T, T)>
+pub fn range_of<T: Integer, V>(node: Option<(&Start<T>, &EndValue<T, Option<V>>)>) -> Option<(T, T)>
     ensures { (e : Option (Entry V)) → option_map (place_lent T.rank) node.entry
         ≡ option_map held e → option_map (ranks_of T.rank) result ≡ option_map range_in e }
 {
     let (start, node) = node?;
-    Some((*start, node.end))
+    Some((start.0, node.end))
 }
 
 /// A node's value.

@@ -6,17 +6,13 @@ ghost use Rattle.blaze_entries.specs.Entries.{shown_entry};
 ghost use Rattle.blaze_entries.specs.Places.{places, entries_of, AreHeld};
 ghost use Rattle.blaze_entries.specs.Starts.{first_from, without};
 
-use crate::nodes::{EndValue, node_at_or_above, remove};
+use crate::nodes::{Tree, node_at_or_above, remove};
 use crate::places::shown;
 use blaze_int::Integer;
-use std::collections::BTreeMap;
 use std::ops::RangeInclusive;
 
 // The entry with the least start from a key on: its first key, last key and value.
-fn entry_from<T: Integer, V>(
-    tree: &BTreeMap<T, EndValue<T, Option<V>>>,
-    key: T,
-) -> Option<(T, T, &V)>
+fn entry_from<T: Integer, V>(tree: &Tree<T, Option<V>>, key: T) -> Option<(T, T, &V)>
     requires { AreHeld T.low T.high (places T.rank tree.now.entries) }
     ensures { option_map (shown_entry T.rank (λ v. v.now)) result
         ≡ first_from (T.rank key) (entries_of T.rank tree.now.entries) }
@@ -25,7 +21,7 @@ fn entry_from<T: Integer, V>(
 }
 
 // Lets the entry at a start go.
-fn drop_entry<T: Integer, V: Drop>(tree: &mut BTreeMap<T, EndValue<T, Option<V>>>, start: T)
+fn drop_entry<T: Integer, V: Drop>(tree: &mut Tree<T, Option<V>>, start: T)
     requires { AreHeld T.low T.high (places T.rank tree.old.entries) }
     ensures held { AreHeld T.low T.high (places T.rank tree.new.entries) }
     ensures entries { entries_of T.rank tree.new.entries
@@ -36,7 +32,7 @@ fn drop_entry<T: Integer, V: Drop>(tree: &mut BTreeMap<T, EndValue<T, Option<V>>
 
 /// Keeps the entries that a closure answers true at: one call for each, ascending, at its range and value.
 pub fn retain<T: Integer, V: Drop, F: FnMut(&RangeInclusive<T>, &V) -> bool>(
-    tree: &mut BTreeMap<T, EndValue<T, Option<V>>>,
+    tree: &mut Tree<T, Option<V>>,
     mut f: F,
 )
     requires held { AreHeld T.low T.high (places T.rank tree.old.entries) }

@@ -11,12 +11,13 @@ ghost use Rattle.blaze_entries.specs.Starts.{below};
 
 use crate::count::Count;
 use crate::found::Found;
-use crate::nodes::EndValue;
+use crate::nodes::{EndValue, Tree, nodes_up_to};
 use crate::overlap::less;
 use crate::places::found;
+use crate::start::Start;
 use blaze_int::Integer;
 use blaze_int::compare::{is_at_most, is_below};
-use std::collections::{BTreeMap, btree_map};
+use std::collections::btree_map;
 
 /// What a walk down the entries from above a range has seen.
 #[derive(Clone, Copy)]
@@ -49,83 +50,63 @@ impl<T: Integer> Plan<T> {
         }
     }
 
-    // The plan after an entry, by its end.
-    fn past_end(self, hi: T, found: Found<T>) -> Plan<T>
-        ensures seen { seen_of T.rank result
-            ≡ seen_end (T.rank hi) (seen_of T.rank self) (found_of T.rank found) }
-        ensures covered { result.covered ≡ self.covered }
+    // Takes in an entry's end.
+    fn see_end(&mut self, hi: T, found: Found<T>)
+        ensures seen { seen_of T.rank self.new
+            ≡ seen_end (T.rank hi) (seen_of T.rank self.old) (found_of T.rank found) }
+        ensures covered { self.new.covered ≡ self.old.covered }
     {
         if is_below(hi, found.end) {
             if found.is_equal {
-                return Plan {
-                    end: found.end,
-                    ..self
-                };
-            }
-            if is_at_most(found.start, hi) {
-                return Plan {
-                    rest: Some((found.start, found.end)),
-                    ..self
-                };
+                self.end = found.end;
+            } else if is_at_most(found.start, hi) {
+                self.rest = Some((found.start, found.end));
             }
         }
-        self
     }
 
-    // The plan after an entry, by its start.
-    fn past_start(self, lo: T, found: Found<T>) -> Plan<T>
-        ensures seen { seen_of T.rank result
-            ≡ seen_start (T.rank lo) (seen_of T.rank self) (found_of T.rank found) }
-        ensures covered { result.covered ≡ self.covered }
+    // Takes in an entry's start.
+    fn see_start(&mut self, lo: T, found: Found<T>)
+        ensures seen { seen_of T.rank self.new
+            ≡ seen_start (T.rank lo) (seen_of T.rank self.old) (found_of T.rank found) }
+        ensures covered { self.new.covered ≡ self.old.covered }
     {
         if is_below(found.start, lo) {
-            return Plan {
-                left: Some(found),
-                ..self
-            };
+            self.left = Some(found);
+        } else if is_at_most(found.start, lo) {
+            self.first = Some(found);
         }
-        if is_at_most(found.start, lo) {
-            return Plan {
-                first: Some(found),
-                ..self
-            };
-        }
-        self
     }
 
-    // The plan after an entry, by whether the range covers it.
-    fn past_covered(self, lo: T, hi: T, found: Found<T>) -> Plan<T>
-        ensures seen { seen_of T.rank result ≡ seen_of T.rank self }
-        ensures covered { least_by T.rank result.covered
-            ≡ seen_covered (T.rank lo) (T.rank hi) (least_by T.rank self.covered)
+    // Takes in whether the range covers an entry.
+    fn see_covered(&mut self, lo: T, hi: T, found: Found<T>)
+        ensures seen { seen_of T.rank self.new ≡ seen_of T.rank self.old }
+        ensures covered { least_by T.rank self.new.covered
+            ≡ seen_covered (T.rank lo) (T.rank hi) (least_by T.rank self.old.covered)
             (found_of T.rank found) }
     {
         if is_below(lo, found.start) && (found.is_equal || is_at_most(found.end, hi)) {
-            return Plan {
-                covered: Some((found.start, self.covered.is_some())),
-                ..self
-            };
+            self.covered = Some((found.start, self.covered.is_some()));
         }
-        self
     }
 
-    /// The plan after an entry.
-    pub fn past(self, lo: T, hi: T, found: Found<T>) -> Plan<T>
-        ensures seen { seen_of T.rank result
-            ≡ seen (T.rank lo) (T.rank hi) (seen_of T.rank self) (found_of T.rank found) }
-        ensures covered { least_by T.rank result.covered
-            ≡ seen_covered (T.rank lo) (T.rank hi) (least_by T.rank self.covered)
+    /// Takes in an entry.
+    pub fn see(&mut self, lo: T, hi: T, found: Found<T>)
+        ensures seen { seen_of T.rank self.new
+            ≡ seen (T.rank lo) (T.rank hi) (seen_of T.rank self.old) (found_of T.rank found) }
+        ensures covered { least_by T.rank self.new.covered
+            ≡ seen_covered (T.rank lo) (T.rank hi) (least_by T.rank self.old.covered)
             (found_of T.rank found) }
     {
-        self.past_end(hi, found)
-            .past_start(lo, found)
-            .past_covered(lo, hi, found)
+        self.see_end(hi, found);
+        self.see_start(lo, found);
+        self.see_covered(lo, hi, found);
     }
 }
 
 // The last of the nodes that are left, counted.
 fn next_found<'a, T: Integer, V: Eq>(
-    nodes: &mut btree_map::Range<'a, T, EndValue<T, Option<V>>>,
+    nodes: &mut btree_map::Range<'a, Start<T>, EndValue<T, Option<V>>>,
     value: &V,
     looks: &mut Count,
 ) -> Option<Found<T>>
@@ -144,7 +125,7 @@ fn next_found<'a, T: Integer, V: Eq>(
 /// Walks down the entries from a key on, to the first that starts below a range. A length loses how many of their keys lie
 /// in the range.
 pub fn walk<T: Integer, V: Eq>(
-    tree: &BTreeMap<T, EndValue<T, Option<V>>>,
+    tree: &Tree<T, Option<V>>,
     top: T,
     len: T::SafeLen,
     lo: T,
@@ -170,13 +151,12 @@ pub fn walk<T: Integer, V: Eq>(
         ≡ looks.old.number + answers (T.rank lo)
         (reverse (below (T.rank top +ℤ pos 1) (entries_of T.rank tree.now.entries))) }
 {
-    top.in_hand();
     let mut plan = Plan::new(hi);
     let mut left = len;
-    let mut nodes = tree.range(..=top);
+    let mut nodes = nodes_up_to(tree, top);
     while let Some(found) = next_found(&mut nodes, value, looks) {
         left = less(left, found, lo, hi);
-        plan = plan.past(lo, hi, found);
+        plan.see(lo, hi, found);
         if is_below(found.start, lo) {
             return (plan, left);
         }

@@ -18,6 +18,3 @@ pub use bounds::{bounds_of, names_a_key};
 pub use integer::Integer;
 pub use length::{SafeLength, differ};
 pub use uint_plus_one::UIntPlusOne;
-
-#[cfg(test)]
-mod tests;

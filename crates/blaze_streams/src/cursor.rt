@@ -1,5 +1,5 @@
 //! What is left of a stream that is gone through from its start.
-ghost use Rattle.std.specs.Prelude.{◌≡◌, [], Some, IfSome, IfNone, IfOk};
+ghost use Rattle.std.specs.Prelude.{◌≡◌, false, [], Some, IfSome, IfNone, IfOk};
 ghost use Rattle.std.specs.Option.{option_map, is_some};
 ghost use Rattle.blaze_table.specs.Entries.{at, SameOption};
 ghost use Rattle.blaze_table.specs.Canonical.{IsCanonical};
@@ -14,6 +14,7 @@ use blaze_int::Integer;
 use blaze_int::compare::{after, before, is_at_most};
 use std::alloc::AllocError;
 use std::marker::Model;
+use std::mem;
 
 /// The ranges that are left of a stream, with their carriers: what is left of the first, and the stream of the others.
 #[derive(Drop)]
@@ -94,10 +95,11 @@ impl<T: Integer, VC: ValueCarrier, I: SortedDisjointMap<T, VC>> Cursor<T, VC, I>
         }
     }
 
-    /// Whether a range has the key, which is not above the end of the first range.
+    /// Whether a range has the key, which is not above the end of the first range. If none has it, no key up to it is left.
     pub fn has(&self, key: T) -> bool
         requires { Reaches (T.rank key) self.now }
-        ensures { result ≡ is_some (at self.now (T.rank key)) }
+        ensures has { result ≡ is_some (at self.now (T.rank key)) }
+        ensures none_up_to { result ≡ false → after (T.rank key) self.now ≡ self.now }
     {
         match &self.head {
             None => false,
@@ -126,14 +128,13 @@ impl<T: Integer, VC: ValueCarrier, I: SortedDisjointMap<T, VC>> Cursor<T, VC, I>
     pub fn advance(&mut self, end: T)
         ensures { self.new ≡ after (T.rank end) self.old }
     {
-        if let Some((lo, hi, carrier)) = self.head.take() {
-            if is_at_most(hi, end) {
-                self.head = take_above(&mut self.rest, end);
-            } else if is_at_most(lo, end) {
-                self.head = Some((after(end, hi), hi, carrier));
-            } else {
-                self.head = Some((lo, hi, carrier));
-            }
+        let Some((lo, hi, _)) = &mut self.head else {
+            return;
+        };
+        if is_at_most(*hi, end) {
+            self.head = take_above(&mut self.rest, end);
+        } else if is_at_most(*lo, end) {
+            *lo = after(end, *hi);
         }
     }
 
@@ -165,20 +166,22 @@ impl<T: Integer, VC: ValueCarrier, I: SortedDisjointMap<T, VC>> Cursor<T, VC, I>
             (option_map VC.shown carrier)) }
         ensures rest { self.new ≡ after (T.rank end) self.old }
     {
-        let Some((lo, hi, carrier)) = self.head.take() else {
+        let Some((lo, hi, carrier)) = &mut self.head else {
             return Ok(None);
         };
-        if is_at_most(hi, end) {
-            self.head = take_first(&mut self.rest);
-            Ok(Some(carrier))
-        } else if is_at_most(lo, end) {
-            let other = carrier.carry();
-            self.head = Some((after(end, hi), hi, carrier));
-            Ok(Some(other?))
-        } else {
-            self.head = Some((lo, hi, carrier));
-            Ok(None)
+        if is_at_most(*hi, end) {
+            let next = take_first(&mut self.rest);
+            return match mem::replace(&mut self.head, next) {
+                Some((_, _, carrier)) => Ok(Some(carrier)),
+                None => Ok(None),
+            };
         }
+        if is_at_most(*lo, end) {
+            let other = carrier.carry();
+            *lo = after(end, *hi);
+            return Ok(Some(other?));
+        }
+        Ok(None)
     }
 }
 

@@ -102,8 +102,8 @@ fn cut_start<T: Integer, V: Eq + Clone>(
 {
     entries.in_hand();
     let value = entries.clone_value(key)?;
-    entries.move_start(key, after(key, end))?;
-    Ok(value)
+    entries.insert(after(key, end), end, value)?;
+    Ok(entries.remove(key))
 }
 
 // Takes the entry out that has the key alone.

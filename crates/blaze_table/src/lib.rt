@@ -1,7 +1,6 @@
 //! A table of ranges: a map from keys to values, kept as the shortest ascending list of disjoint ranges.
 #![tactic(auto)]
 
-mod copy;
 mod count;
 mod cut;
 mod entry_keys;

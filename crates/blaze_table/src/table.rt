@@ -16,7 +16,6 @@ ghost use Rattle.blaze_table.specs.Work.{IsCountedPaint, IsCountedCut};
 ghost use Rattle.blaze_table.specs.Retain.{AnswersAt, IsCallableAtEach, IsCallableAtPairs};
 ghost use Rattle.blaze_table.specs.Retain.{IsKeyRetained};
 
-use crate::copy::clone_entries;
 use crate::count::{count, count_list};
 use crate::cut::cut;
 use crate::gaps::gap_round;
@@ -187,8 +186,7 @@ impl<T: Integer, V: Eq + Clone> RangeTable<T, V> {
         ensures same { IfOk result (λ copy. SameEntries V.eq self.now.entries copy.entries) }
         ensures uncounted { IfOk result (λ copy. copy ≡ uncounted copy.entries) }
     {
-        let copy = clone_entries(&self.entries)?;
-        let entries = Entries::from_sorted(self.entries.allocator(), copy)?;
+        let entries = self.entries.clone()?;
         Ok(RangeTable {
             entries,
             len: self.len,

@@ -16,9 +16,6 @@ pub use server::serve;
 pub use step::{Answer, Refused, Step};
 pub use steps::run;
 
-#[cfg(test)]
-mod tests;
-
 /// How a session ended.
 #[derive(Clone, Copy, Debug, PartialEq, Eq)]
 pub enum End {

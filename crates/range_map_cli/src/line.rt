@@ -59,6 +59,9 @@ impl Line {
     {
         let start = self.count;
         let count = bytes.len().min(ROOM - start);
+        if count == 0 {
+            return;
+        }
         let end = start + count;
         self.bytes[start..end].copy_from_slice(&bytes[..count]);
         self.count = end;

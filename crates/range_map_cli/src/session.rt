@@ -110,8 +110,10 @@ pub fn close<W: Write>(waiting: &mut Vec<u8>, output: &mut W, text: &[u8], end: 
     end
 }
 
-/// Answers the line, which ends here. An empty line has no answer.
-fn end_line<W: Write>(session: &mut Session, alloc: Global, output: &mut W) -> Result<(), End>
+/// Answers the line, which ends here, and puts the answer behind the others. It stands out of line, so that the loop over lines
+/// stays short where they are empty.
+#[inline(never)]
+fn answer_line<W: Write>(session: &mut Session, alloc: Global, output: &mut W) -> Result<(), End>
     ensures ok { OnOk result ((held : Option (List ℕ)) (text rest : List ℕ) (lines : ℕ)
         → IsAt held (W.contents output.old) text session.old (10 ∷ rest) lines
         → IsAt held (W.contents output.new) text session.new rest lines) }
@@ -121,10 +123,6 @@ fn end_line<W: Write>(session: &mut Session, alloc: Global, output: &mut W) -> R
         → IsAt held (W.contents output.old) text session.old (10 ∷ rest) lines
         → ClosesBefore held (W.contents output.new) text rest lines end) }
 {
-    if session.line.is_empty() {
-        session.number = session.number.saturating_add(1);
-        return Ok(());
-    }
     match session.answer(alloc) {
         Ok(()) => match put(&mut session.waiting, output, session.reply.as_bytes()) {
             Ok(()) => Ok(()),
@@ -139,6 +137,24 @@ fn end_line<W: Write>(session: &mut Session, alloc: Global, output: &mut W) -> R
             }
         }
     }
+}
+
+/// Ends the line here. An empty line has no answer.
+fn end_line<W: Write>(session: &mut Session, alloc: Global, output: &mut W) -> Result<(), End>
+    ensures ok { OnOk result ((held : Option (List ℕ)) (text rest : List ℕ) (lines : ℕ)
+        → IsAt held (W.contents output.old) text session.old (10 ∷ rest) lines
+        → IsAt held (W.contents output.new) text session.new rest lines) }
+    ensures line { OnOk result (session.new.line ≡ []) }
+    ensures kind { IfErr result (λ end. end ≢ End.ReadFault) }
+    ensures err { IfErr result (λ end. (held : Option (List ℕ)) (text rest : List ℕ) (lines : ℕ)
+        → IsAt held (W.contents output.old) text session.old (10 ∷ rest) lines
+        → ClosesBefore held (W.contents output.new) text rest lines end) }
+{
+    if session.line.is_empty() {
+        session.number = session.number.saturating_add(1);
+        return Ok(());
+    }
+    answer_line(session, alloc, output)
 }
 
 /// Takes the next bytes of the text: answers the lines that end in them, and keeps the beginning of the next.

@@ -82,7 +82,6 @@ impl<VC: ValueCarrier> Choice<VC, VC> for RightFirst {
             left.advance(end);
             right.take(end)
         } else {
-            right.advance(end);
             left.take(end)
         }
     }
@@ -115,10 +114,8 @@ impl<VC: ValueCarrier> Choice<VC, VC> for ExactlyOne {
         end: T,
     ) -> Result<Option<VC>, AllocError> {
         if !right.has(end) {
-            right.advance(end);
             left.take(end)
         } else if !left.has(end) {
-            left.advance(end);
             right.take(end)
         } else {
             left.advance(end);
@@ -154,9 +151,8 @@ impl<VCL: ValueCarrier, VCR: ValueCarrier> Choice<VCL, VCR> for LeftWithRight {
         right: &mut Cursor<T, VCR, R>,
         end: T,
     ) -> Result<Option<VCL>, AllocError> {
-        let is_there = right.has(end);
-        right.advance(end);
-        if is_there {
+        if right.has(end) {
+            right.advance(end);
             left.take(end)
         } else {
             left.advance(end);
@@ -191,9 +187,8 @@ impl<VCL: ValueCarrier, VCR: ValueCarrier> Choice<VCL, VCR> for LeftAlone {
         right: &mut Cursor<T, VCR, R>,
         end: T,
     ) -> Result<Option<VCL>, AllocError> {
-        let is_there = right.has(end);
-        right.advance(end);
-        if is_there {
+        if right.has(end) {
+            right.advance(end);
             left.advance(end);
             Ok(None)
         } else {

@@ -5,7 +5,7 @@ use Rattle.std.specs.Prelude.{IfSome}
 use Rattle.std.specs.Option.{option_map}
 use Rattle.std.proofs.lemmas.Int.{ints}
 use Rattle.blaze_entries.specs.Found.{range_in}
-use Rattle.blaze_entries.specs.Starts.{StartsAscend, last_below, start_at, with_entry, without, with_end, IsStartMoved}
+use Rattle.blaze_entries.specs.Starts.{StartsAscend, last_below, start_at, with_entry, without, with_end}
 use Rattle.blaze_entries.proofs.Alike.{same_along, none_from_map}
 use Rattle.blaze_table.specs.Entries.{Entry, entry, at, entry_at, SameOption}
 use Rattle.blaze_table.specs.Canonical.{IsCanonical}
@@ -13,7 +13,7 @@ use Rattle.blaze_table.specs.Cut.{IsAmongOthers}
 use Rattle.blaze_table.specs.Painted.{ClonesAreAlike}
 use Rattle.blaze_table.specs.Splice.{IsBelow, IsCutOf}
 use Rattle.blaze_table.proofs.Cuts.Cutting.{cut_whole, cut_end, cut_start, cut_inside, at_cut}
-use Rattle.blaze_table.proofs.Neighbours.Holders.{Holder, there, is_holder, taken_out, put_in_place, end_moved, put_behind}
+use Rattle.blaze_table.proofs.Neighbours.Holders.{Holder, there, taken_out, taken_from, put_inside, end_moved, put_behind}
 use Rattle.blaze_table.proofs.Canonical.Lookup.{IsAbove, IsAbove-from_apart, at_over, at_before, entry_in, entry_over}
 use Rattle.blaze_table.proofs.Paints.Splices.{below_more}
 use Rattle.blaze_table.proofs.Cuts.Splits.{no_last_from}
@@ -54,8 +54,12 @@ module _ {V : Type 0} (eq : V → V → Bool) (laws : IsEquivalence eq) (k high 
   pub value_held : (v : V) → k ≤ℤ z → eq e.value v ≡ true → SameOption eq (at es k) (Some v)
   value_held v u q = same_along eq (sym (at_held u)) refl q
 
+  -- a clone of the entry's value is equal to it
+  like_holder : (is_clone : V → V → Type 0) → ClonesAreAlike is_clone eq → (v : V) → IfSome (start_at s es) (λ f. is_clone f.value v) → eq e.value v ≡ true
+  like_holder is_clone alike v i = alike e.value v (subst (λ o. IfSome o (λ f. is_clone f.value v)) (there eq b high es s z h) i)
+
   pub value_cloned : (is_clone : V → V → Type 0) → ClonesAreAlike is_clone eq → (v : V) → k ≤ℤ z → IfSome (start_at s es) (λ f. is_clone f.value v) → SameOption eq (at es k) (Some v)
-  value_cloned is_clone alike v u q = value_held v u (alike e.value v (subst (λ o. IfSome o (λ f. is_clone f.value v)) (there eq b high es s z h) q))
+  value_cloned is_clone alike v u q = value_held v u (like_holder is_clone alike v q)
 
   pub value_removed : (v : V) → k ≤ℤ z → option_map (λ f. f.value) (start_at s es) ≡ Some v → SameOption eq (at es k) (Some v)
   value_removed v u q = same_along eq (sym (at_held u ∙ sym (ap (option_map (λ f. f.value)) (there eq b high es s z h)) ∙ q)) refl (laws.refl v)
@@ -94,15 +98,18 @@ module _ {V : Type 0} (eq : V → V → Bool) (laws : IsEquivalence eq) (k high 
       let new_is : new ≡ h.front ++ entry e.lo (k -ℤ pos 1) e.value ∷ h.back = n ∙ ap (with_end s y) h.parts ∙ end_moved eq b high es s z h y h.back ∙ ap (λ x. h.front ++ entry e.lo x e.value ∷ h.back) q in
       parted new (h.front ++ entry e.lo (k -ℤ pos 1) e.value ∷ h.back) new_is (cut_end eq laws k h.front under e h.back h.here.2 over (omega (arith, ints)) (omega (arith, ints)))
 
-  pub start_cut : s ≡ k → (n : ℤ) (new : List (Entry V)) → k <ℤ z → n ≡ k +ℤ pos 1 → IsStartMoved s n es new → IsCutOf eq k es new
-  start_cut u n new w q m =
+  pub start_cut : (is_clone : V → V → Type 0) → ClonesAreAlike is_clone eq → (n : ℤ) (v : V) (new : List (Entry V)) → s ≡ k → k <ℤ z → n ≡ k +ℤ pos 1
+      → IfSome (start_at s es) (λ f. is_clone f.value v) → new ≡ without s (with_entry (entry n z v) es) → IsCutOf eq k es new
+  start_cut is_clone alike n v new u w q i m =
       let l = h.lo in
       let r = h.hi in
-      let one = is_holder eq b high es s z h m.found in
-      let p = entry n m.of.hi m.of.value in
-      let new_is : new ≡ h.front ++ entry (k +ℤ pos 1) e.hi e.value ∷ h.back =
-      m.moved ∙ put_in_place eq b high es s z h p (omega (arith, ints)) (omega (arith, ints)) ∙ ap (λ (x : Entry V). h.front ++ entry n x.hi x.value ∷ h.back) (sym one) ∙ ap (λ x. h.front ++ entry x e.hi e.value ∷ h.back) q in
-      parted new (h.front ++ entry (k +ℤ pos 1) e.hi e.value ∷ h.back) new_is (cut_start eq laws k h.front under e h.back (omega (arith, ints)) (omega (arith, ints)))
+      let p = entry n z v in
+      let new_is : new ≡ h.front ++ entry (k +ℤ pos 1) e.hi v ∷ h.back =
+      m ∙ ap (without s) (put_inside eq b high es s z h n (omega (arith, ints)) (omega (arith, ints)) p refl)
+      ∙ taken_from eq b high es s z h (p ∷ h.back)
+      ∙ ap (λ x. h.front ++ entry n x v ∷ h.back) (sym h.hi)
+      ∙ ap (λ x. h.front ++ entry x e.hi v ∷ h.back) q in
+      parted new (h.front ++ entry (k +ℤ pos 1) e.hi v ∷ h.back) new_is (cut_start eq laws k h.front under e h.back v (omega (arith, ints)) (omega (arith, ints)) (like_holder is_clone alike v i))
 
   pub inside_cut : (is_clone : V → V → Type 0) → ClonesAreAlike is_clone eq → (n y : ℤ) (v w : V) (mid new : List (Entry V)) → s <ℤ k → k <ℤ z → n ≡ k +ℤ pos 1 → y ≡ k -ℤ pos 1
       → IfSome (start_at s es) (λ f. is_clone f.value v) → is_clone v w → mid ≡ with_end s y es → new ≡ with_entry (entry n z w) mid → IsCutOf eq k es new
@@ -115,7 +122,7 @@ module _ {V : Type 0} (eq : V → V → Bool) (laws : IsEquivalence eq) (k high 
       ∙ ap (λ x. h.front ++ entry e.lo x e.value ∷ p ∷ h.back) r
       ∙ ap (λ x. h.front ++ entry e.lo (k -ℤ pos 1) e.value ∷ entry n x w ∷ h.back) (sym h.hi)
       ∙ ap (λ x. h.front ++ entry e.lo (k -ℤ pos 1) e.value ∷ entry x e.hi w ∷ h.back) q in
-      let like : eq e.value v ≡ true = alike e.value v (subst (λ o. IfSome o (λ f. is_clone f.value v)) (there eq b high es s z h) i) in
+      let like = like_holder is_clone alike v i in
       let both : eq e.value w ≡ true = sym (laws.congr v e.value w (laws.symm v e.value ∙ like)) ∙ alike v w j in
       parted new (h.front ++ entry e.lo (k -ℤ pos 1) e.value ∷ entry (k +ℤ pos 1) e.hi w ∷ h.back) new_is (cut_inside eq laws k h.front under e h.back w (omega (arith, ints)) (omega (arith, ints)) both)
 

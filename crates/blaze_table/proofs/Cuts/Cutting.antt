@@ -79,14 +79,14 @@ module _ {V : Type 0} (eq : V → V → Bool) where
           one x [] ys = refl
           one x (y ∷ xs) ys = ap (λ l. y ∷ l) (one x xs ys)
 
-      pub cut_start : (k ≡ e.lo) → k <ℤ e.hi → IsCutOf eq k (A ++ e ∷ C) (A ++ entry (k +ℤ pos 1) e.hi e.value ∷ C)
-      cut_start l h =
-          let M = entry (k +ℤ pos 1) e.hi e.value ∷ C in
-          let above_is : after k (A ++ e ∷ C) ≡ M = after_past k k A (e ∷ C) (omega (arith, ints)) b ∙ after_cuts k e C h (omega (arith, ints)) in
+      pub cut_start : (v : V) → (k ≡ e.lo) → k <ℤ e.hi → eq e.value v ≡ true → IsCutOf eq k (A ++ e ∷ C) (A ++ entry (k +ℤ pos 1) e.hi v ∷ C)
+      cut_start v l h q =
+          let M = entry (k +ℤ pos 1) e.hi v ∷ C in
+          let above_is : after k (A ++ e ∷ C) ≡ entry (k +ℤ pos 1) e.hi e.value ∷ C = after_past k k A (e ∷ C) (omega (arith, ints)) b ∙ after_cuts k e C h (omega (arith, ints)) in
           let below_is : before k (A ++ e ∷ C) ≡ A = before_past k A (e ∷ C) b ∙ ap (λ l. A ++ l) (before_ends k e C (omega (arith, ints)) (omega (arith, ints))) ∙ append-nil A in
           record {
             above = M;
-            like = subst (λ l. SameEntries eq l M) (sym above_is) (entries_themselves eq laws M);
+            like = subst (λ l. SameEntries eq l M) (sym above_is) (refl, refl, q, entries_themselves eq laws C);
             joined = ap (λ l. l ++ M) (sym below_is);
           }
 

@@ -125,17 +125,11 @@ module _ {V : Type 0} (eq : V → V → Bool) (b high : ℤ) (es : List (Entry V
           ∙ with_entry-between p (h.of.hi +ℤ pos 1) high (h.front ++ h.of ∷ []) h.back (subst (λ x. StartsBelow x (h.front ++ h.of ∷ [])) (sym q) starts_before) (omega (arith, ints)) h.back_over
           ∙ append_assoc h.front (h.of ∷ []) (p ∷ h.back)
 
-    pub taken_out : without s es ≡ h.front ++ h.back
-    taken_out =
-        ap (without s) h.parts ∙ ap (λ k. without k (h.front ++ h.of ∷ h.back)) (sym h.lo)
-        ∙ without-between h.of.lo h.of h.front h.back refl h.front_starts
+    pub taken_from : (ys : List (Entry V)) → without s (h.front ++ h.of ∷ ys) ≡ h.front ++ ys
+    taken_from ys = ap (λ k. without k (h.front ++ h.of ∷ ys)) (sym h.lo) ∙ without-between h.of.lo h.of h.front ys refl h.front_starts
 
-    pub put_in_place : (p : Entry V) → s ≤ℤ p.lo → p.lo ≤ℤ z → with_entry p (without s es) ≡ h.front ++ p ∷ h.back
-    put_in_place p l u =
-        let at_lo = h.lo in
-        let at_hi = h.hi in
-        ap (with_entry p) taken_out
-        ∙ with_entry-between p (h.of.hi +ℤ pos 1) high h.front h.back (more_below h.of.lo p.lo h.front (omega (arith, ints)) h.front_starts) (omega (arith, ints)) h.back_over
+    pub taken_out : without s es ≡ h.front ++ h.back
+    taken_out = ap (without s) h.parts ∙ taken_from h.back
 
     pub end_moved : (y : ℤ) (ys : List (Entry V)) → with_end s y (h.front ++ h.of ∷ ys) ≡ h.front ++ entry h.of.lo y h.of.value ∷ ys
     end_moved y ys = ap (λ k. with_end k y (h.front ++ h.of ∷ ys)) (sym h.lo) ∙ end_put h.of.lo y h.of h.front ys refl h.front_starts

@@ -40,7 +40,7 @@ pub fn plan<T: Integer, V: Eq>(
     let mut last = entries.at_or_below(next_or_last(hi), value);
     while let Some(found) = last {
         left = less(left, found, lo, hi);
-        plan = plan.past(lo, hi, found);
+        plan.see(lo, hi, found);
         if is_below(found.start, lo) {
             return (plan, left);
         }

@@ -1,15 +1,16 @@
 use Rattle.std.proofs.Common.{ap, ◌∙◌}
 use Rattle.std.specs.Map.Iter.{deref_pair}
 use Rattle.std.specs.Option.{option_map}
-use Rattle.blaze_entries.specs.Places.{place_of}
 use Rattle.std.specs.Prelude.{None}
 use Rattle.std.specs.List.{last_or}
-use Rattle.blaze_entries.proofs.NodeLists.{last_taken, map_twice, places_up_to}
+use Rattle.blaze_entries.specs.Places.{place_of}
+use Rattle.blaze_entries.proofs.NodeLists.{last_taken, last_shown, map_twice}
 use Rattle.blaze_entries.proofs.nodes.node_at_or_below.Goals as goal
 
 pub returns : goal.returns
 returns g c =
     let rank = g.T.Integer.rank in
     map_twice deref_pair (place_of rank) c.next_back.result
-    ∙ ap (option_map (place_of rank)) (last_taken deref_pair c.range.result c.next_back.new.self c.next_back.result c.next_back.ensures.steps ∙ ap (last_or None) (c.range.ensures.between tt))
-    ∙ places_up_to rank g.T.Ord.cmp g.T.Integer.low g.T.Integer.high g.met.T.Integer.ranked.order c.args.key c.in_hand.ensures.from c.in_hand.ensures.to c.args.tree.now.entries c.requires
+    ∙ ap (option_map (place_of rank)) (last_taken deref_pair c.nodes_up_to.result c.next_back.new.self c.next_back.result c.next_back.ensures.steps)
+    ∙ last_shown (place_of rank) None c.nodes_up_to.result
+    ∙ ap (last_or None) c.nodes_up_to.ensures

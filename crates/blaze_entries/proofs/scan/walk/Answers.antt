@@ -5,7 +5,6 @@ use Rattle.blaze_entries.specs.Places.{places, full, held}
 use Rattle.blaze_entries.specs.Scanned.{seen_of, unseen, walked, least_by, walked_covered, answers, walked_keys}
 use Rattle.blaze_entries.specs.Starts.{below}
 use Rattle.blaze_entries.proofs.Held.{places_ascend, full_of, full_held, below-held}
-use Rattle.blaze_entries.proofs.NodeLists.{places_between}
 use Rattle.blaze_entries.proofs.Scans.{down_from, step_fits, last_covered, last_keys, next_walked, next_covered, next_answers, next_keys}
 use Rattle.blaze_entries.proofs.scan.walk.Goals as goal
 
@@ -16,21 +15,23 @@ loop-found-init g c =
     let high = g.T.Integer.high in
     let k = rank c.args.top +ℤ pos 1 in
     let ps = places rank c.args.tree.now.entries in
-    let q : places rank c.range-nodes.result ≡ map held (below k (full ps)) =
-    ap (places rank) (c.range-nodes.ensures.between tt)
-    ∙ places_between rank g.T.Ord.cmp low high g.met.T.Integer.ranked.order c.args.top c.in_hand.ensures.from c.in_hand.ensures.to c.args.tree.now.entries (places_ascend low high ps c.requires.held)
+    let q : places rank c.nodes_up_to-nodes.result ≡ map held (below k (full ps)) =
+    c.nodes_up_to-nodes.ensures
     ∙ ap (below k) c.requires.held.full.held ∙ below-held k (full ps) in
-    let e = full_of (places rank c.range-nodes.result) (below k (full ps)) q in
+    let e = full_of (places rank c.nodes_up_to-nodes.result) (below k (full ps)) q in
     record {
-      full = full_held (places rank c.range-nodes.result) (below k (full ps)) q;
-      plan = ap (λ s. walked g.V.PartialEq.eq c.args.value.now (rank c.args.lo) (rank c.args.hi) s (reverse (full (places rank c.range-nodes.result)))) c.new-plan.ensures.seen
+      full = full_held (places rank c.nodes_up_to-nodes.result) (below k (full ps)) q;
+      plan = ap (λ s. walked g.V.PartialEq.eq c.args.value.now (rank c.args.lo) (rank c.args.hi) s (reverse (full (places rank c.nodes_up_to-nodes.result)))) c.new-plan.ensures.seen
           ∙ ap (λ es. walked g.V.PartialEq.eq c.args.value.now (rank c.args.lo) (rank c.args.hi) (unseen (rank c.args.hi)) (reverse es)) e;
-      covered = ap (λ s. walked_covered g.V.PartialEq.eq c.args.value.now (rank c.args.lo) (rank c.args.hi) s (reverse (full (places rank c.range-nodes.result)))) c.new-plan.ensures.covered
+      covered = ap (λ s. walked_covered g.V.PartialEq.eq c.args.value.now (rank c.args.lo) (rank c.args.hi) s (reverse (full (places rank c.nodes_up_to-nodes.result)))) c.new-plan.ensures.covered
           ∙ ap (λ es. walked_covered g.V.PartialEq.eq c.args.value.now (rank c.args.lo) (rank c.args.hi) None (reverse es)) e;
       room = subst (λ es. walked_keys (rank c.args.lo) (rank c.args.hi) (reverse es) ≤ℤ pos (g.T.SafeLen.SafeLength.number c.args.len)) (sym e) c.requires.len;
       left = ap (λ es. pos (g.T.SafeLen.SafeLength.number c.args.len) +ℤ walked_keys (rank c.args.lo) (rank c.args.hi) (reverse es)) (sym e);
       looks = ap (λ es. c.args.looks.now.number + answers (rank c.args.lo) (reverse es)) e;
     }
+
+pub nodes_up_to-nodes-requires : goal.nodes_up_to-nodes-requires
+nodes_up_to-nodes-requires g c = places_ascend g.T.Integer.low g.T.Integer.high _ c.requires.held
 
 pub less-left-requires : goal.less-left-requires
 less-left-requires g c =
@@ -42,7 +43,7 @@ pub returns-then-is_below-clause-covered : goal.returns-then-is_below-clause-cov
 returns-then-is_below-clause-covered g c =
     let rank = g.T.Integer.rank in
     let seen = c.in-Some.ensures.found in
-    c.past-plan.ensures.covered
+    c.see.ensures.covered
     ∙ sym (last_covered (rank c.args.lo) (rank c.args.hi) g.V.PartialEq.eq c.args.value.now _ seen.0 seen.1 _ _ (down_from seen.0 _ _ seen.2) (sym c.is_below.ensures ∙ c.if-is_below.true) (least_by rank c.loop-found.plan.covered))
     ∙ c.loop-found.invariant.covered
 
@@ -67,9 +68,9 @@ loop-found-preserved g c =
     let looks = next_answers l h eq v _ seen.0 seen.1 _ _ down over in
     record {
       full = c.in-Some.ensures.full;
-      plan = ap (λ s. walked eq v l h s (reverse (full (places rank c.next_found.new.nodes)))) c.past-plan.ensures.seen
+      plan = ap (λ s. walked eq v l h s (reverse (full (places rank c.next_found.new.nodes)))) c.see.ensures.seen
           ∙ sym (next_walked l h eq v _ seen.0 seen.1 _ _ down over (seen_of rank c.loop-found.plan)) ∙ c.loop-found.invariant.plan;
-      covered = ap (λ s. walked_covered eq v l h s (reverse (full (places rank c.next_found.new.nodes)))) c.past-plan.ensures.covered
+      covered = ap (λ s. walked_covered eq v l h s (reverse (full (places rank c.next_found.new.nodes)))) c.see.ensures.covered
           ∙ sym (next_covered l h eq v _ seen.0 seen.1 _ _ down over (least_by rank c.loop-found.plan.covered)) ∙ c.loop-found.invariant.covered;
       looks = omega (arith, looks, c.in-Some.ensures.looked, c.loop-found.invariant.looks);
       room = omega (arith, ints, keys, c.less-left.ensures, c.loop-found.invariant.room);

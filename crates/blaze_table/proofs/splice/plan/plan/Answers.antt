@@ -51,7 +51,7 @@ returns-then-is_below-clause-plan g c =
     let eq = g.V.PartialEq.eq in
     let i = c.loop-last.invariant in
     let d = down_to eq c.args.value.now g.T.Integer.low g.T.Integer.high c.args.entries.now.entries c.in_hand.ensures i.key (found_of rank c.in-Some.found) (sym (ap (option_map (found_of rank)) c.in-Some.is) ∙ i.found) in
-    c.past-plan.ensures.seen ∙ sym (last_walked (rank c.args.lo) (rank c.args.hi) eq c.args.value.now _ d.found d.is _ _ d.down (sym c.is_below.ensures ∙ c.if-is_below.true) (seen_of rank c.loop-last.plan)) ∙ i.plan
+    c.see.ensures.seen ∙ sym (last_walked (rank c.args.lo) (rank c.args.hi) eq c.args.value.now _ d.found d.is _ _ d.down (sym c.is_below.ensures ∙ c.if-is_below.true) (seen_of rank c.loop-last.plan)) ∙ i.plan
 
 pub returns-then-is_below-clause-covered : goal.returns-then-is_below-clause-covered
 returns-then-is_below-clause-covered g c =
@@ -59,7 +59,7 @@ returns-then-is_below-clause-covered g c =
     let eq = g.V.PartialEq.eq in
     let i = c.loop-last.invariant in
     let d = down_to eq c.args.value.now g.T.Integer.low g.T.Integer.high c.args.entries.now.entries c.in_hand.ensures i.key (found_of rank c.in-Some.found) (sym (ap (option_map (found_of rank)) c.in-Some.is) ∙ i.found) in
-    c.past-plan.ensures.covered ∙ sym (last_covered (rank c.args.lo) (rank c.args.hi) eq c.args.value.now _ d.found d.is _ _ d.down (sym c.is_below.ensures ∙ c.if-is_below.true) (least_by rank c.loop-last.plan.covered)) ∙ i.covered
+    c.see.ensures.covered ∙ sym (last_covered (rank c.args.lo) (rank c.args.hi) eq c.args.value.now _ d.found d.is _ _ d.down (sym c.is_below.ensures ∙ c.if-is_below.true) (least_by rank c.loop-last.plan.covered)) ∙ i.covered
 
 pub returns-then-is_below-clause-len : goal.returns-then-is_below-clause-len
 returns-then-is_below-clause-len g c =
@@ -106,9 +106,9 @@ loop-last-preserved g c =
       key = rank c.in-Some.found.start;
       same = c.below-last.ensures.looked ∙ ap (λ (s : CountedEntries g.row.V.Denot). record s { looks = c.loop-last.entries.looks + 1 }) i.same ∙ ap (λ (n : ℕ). record c.args.entries.now { looks = n }) (sym looks);
       found = c.below-last.ensures.found ∙ ap (λ (xs : List (Entry g.row.V.Denot)). option_map (found_in eq v) (last_below (rank c.in-Some.found.start) xs)) same;
-      plan = ap (λ s. walked eq v l h s (reverse (below (rank c.in-Some.found.start) es))) c.past-plan.ensures.seen
+      plan = ap (λ s. walked eq v l h s (reverse (below (rank c.in-Some.found.start) es))) c.see.ensures.seen
           ∙ sym (next_walked l h eq v _ d.found d.is _ _ d.down over (seen_of rank c.loop-last.plan)) ∙ i.plan;
-      covered = ap (λ s. walked_covered eq v l h s (reverse (below (rank c.in-Some.found.start) es))) c.past-plan.ensures.covered
+      covered = ap (λ s. walked_covered eq v l h s (reverse (below (rank c.in-Some.found.start) es))) c.see.ensures.covered
           ∙ sym (next_covered l h eq v _ d.found d.is _ _ d.down over (least_by rank c.loop-last.plan.covered)) ∙ i.covered;
       looks = omega (arith, looks, more, i.looks);
       room = omega (arith, ints, keys, c.less-left.ensures, i.room);

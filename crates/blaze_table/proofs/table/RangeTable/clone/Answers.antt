@@ -1,18 +1,16 @@
-use Rattle.std.proofs.Common.{sym, subst}
+use Rattle.std.proofs.Common.{subst}
 use Rattle.blaze_table.specs.Counted.{CountedEntries}
-use Rattle.blaze_table.specs.Table.{IsTable}
-use Rattle.blaze_table.proofs.Canonical.Clones.{table_as}
-use Rattle.blaze_table.proofs.Canonical.RangeMaps.{starts_ascend}
+use Rattle.blaze_table.specs.Entries.{SameEntries}
+use Rattle.blaze_table.proofs.Canonical.Clones.{same_cloned, table_as}
 use Rattle.blaze_table.proofs.table.RangeTable.clone.Goals as goal
-
-pub from_sorted-requires : goal.from_sorted-requires
-from_sorted-requires g c =
-    let eq = g.V.PartialEq.eq in
-    let copied = table_as eq g.met.V.Eq.laws g.T.Integer.low g.T.Integer.high _ _ _ c.in_ok-copy.ensures c.self.invariant in
-    starts_ascend eq g.T.Integer.low g.T.Integer.high _ copied.canonical copied.are_keys
 
 pub invariant_of-result : goal.invariant_of-result
 invariant_of-result g c =
     let eq = g.V.PartialEq.eq in
-    subst (λ (s : CountedEntries g.row.V.Denot). IsTable eq g.T.Integer.low g.T.Integer.high (g.T.SafeLen.SafeLength.number c.self.inside.len) s.entries) (sym c.in_ok-entries.ensures)
-    (table_as eq g.met.V.Eq.laws g.T.Integer.low g.T.Integer.high _ _ _ c.in_ok-copy.ensures c.self.invariant)
+    table_as eq g.met.V.Eq.laws g.T.Integer.low g.T.Integer.high _ c.self.inside.entries.entries c.in_ok-entries.entries.entries
+    (same_cloned eq g.V.Clone.is_clone c.requires _ _ c.in_ok-entries.ensures.clones) c.self.invariant
+
+pub returns-clause-same : goal.returns-clause-same
+returns-clause-same g c =
+    subst (λ (s : CountedEntries g.row.V.Denot). SameEntries g.V.PartialEq.eq s.entries c.in_ok-entries.entries.entries) c.self.view_is
+    (same_cloned g.V.PartialEq.eq g.V.Clone.is_clone c.requires _ _ c.in_ok-entries.ensures.clones)

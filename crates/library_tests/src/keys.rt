@@ -1,9 +1,6 @@
 //! Lengths, neighbours and bounds at the ends of key types.
-use crate::bounds::{bounds_of, names_a_key};
-use crate::compare::{is_next, length};
-use crate::integer::Integer;
-use crate::length::{SafeLength, differ};
-use crate::uint_plus_one::UIntPlusOne;
+use blaze_int::compare::{is_next, length};
+use blaze_int::{Integer, SafeLength, UIntPlusOne, bounds_of, differ, names_a_key};
 use std::ops::Bound;
 use std::process::Abort;
 use std::test::Fail;

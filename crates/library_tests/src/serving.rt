@@ -1,7 +1,7 @@
 //! The program's engine over readers and writers that fail.
 ghost use Rattle.std.specs.Prelude.{Some};
 
-use crate::{End, serve};
+use range_map_cli::{End, serve};
 use std::alloc::{AllocError, Global};
 use std::io;
 use std::io::{Read, Write};
