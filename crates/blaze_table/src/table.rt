@@ -17,7 +17,7 @@ ghost use Rattle.blaze_table.specs.Retain.{AnswersAt, IsCallableAtEach, IsCallab
 ghost use Rattle.blaze_table.specs.Retain.{IsKeyRetained};
 
 use crate::count::{count, count_list};
-use crate::cut::cut;
+use crate::cut::{cut, cut_first};
 use crate::gaps::gap_round;
 use crate::retain_keys::retain_keys;
 use crate::search::{entry_above, entry_below, entry_holding};
