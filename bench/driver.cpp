@@ -1,4 +1,5 @@
-// Measures the works of a range map on the library, on plain Rust and on Boost, and prints the tables. Each side does a work
+// Measures the works of a range map on the library, on plain Rust, on Boost and on plain Rust under the library's conditions
+// (`planned.rs`), and prints the tables. Each side does a work
 // with no operation and with many; the difference of the least processor times of several rounds, in which the sides take
 // turns, is the time of the operations alone. A checksum of what they leave must be the same on each side.
 #include <fcntl.h>
@@ -28,6 +29,7 @@ extern "C" {
 std::uint64_t plain_run(std::uint32_t work, std::uint64_t size, std::uint64_t count);
 std::uint64_t library_run(std::uint32_t work, std::uint64_t size, std::uint64_t count);
 std::uint64_t boost_run(std::uint32_t work, std::uint64_t size, std::uint64_t count);
+std::uint64_t planned_run(std::uint32_t work, std::uint64_t size, std::uint64_t count);
 }
 
 namespace {
@@ -36,9 +38,9 @@ constexpr std::uint32_t checked = 100;
 
 using Run = std::uint64_t (*)(std::uint32_t, std::uint64_t, std::uint64_t);
 
-constexpr Run runs[] = {plain_run, library_run, boost_run};
-constexpr const char* side_names[] = {"plain Rust", "library", "Boost"};
-constexpr std::size_t sides = 3;
+constexpr Run runs[] = {plain_run, library_run, planned_run, boost_run};
+constexpr const char* side_names[] = {"plain Rust", "library", "planned Rust", "Boost"};
+constexpr std::size_t sides = 4;
 constexpr std::size_t plain = 0;
 constexpr std::size_t library = 1;
 
@@ -214,8 +216,8 @@ string ratio_text(double ratio, double limit) {
 }
 
 void print_head() {
-    std::printf("| work | entries | time of one | plain Rust, ns | library, ns | library / plain | limit | Boost, ns | Boost / plain |\n");
-    std::printf("|---|---|---|---|---|---|---|---|---|\n");
+    std::printf("| work | entries | time of one | plain Rust, ns | library, ns | library / plain | limit | planned, ns | planned / plain | Boost, ns | Boost / plain |\n");
+    std::printf("|---|---|---|---|---|---|---|---|---|---|---|\n");
 }
 
 void print_row(const string& name, const string& size, const string& part, double parts, double limit,

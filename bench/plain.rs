@@ -249,7 +249,8 @@ fn union_of_many(check: bool, maps: u64, count: u64) -> u64 {
 }
 
 /// Does a work and answers a checksum, which is not 0; 0 where there is no such work.
-#[unsafe(no_mangle)]
+#[cfg_attr(planned, unsafe(export_name = "planned_run"))]
+#[cfg_attr(not(planned), unsafe(no_mangle))]
 pub extern "C" fn plain_run(work: u32, size: u64, count: u64) -> u64 {
     let check = work >= CHECKED;
     let sum = match work % CHECKED {

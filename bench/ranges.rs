@@ -1,12 +1,17 @@
 //! The yardstick: a map from ranges of integers to values over std's `BTreeMap`, with a kept number of keys, in plain Rust.
+#[cfg_attr(planned, path = "planned.rs")]
+#[cfg_attr(not(planned), path = "one_pass.rs")]
+mod splice;
+
+use splice::{Held, give, held, hold};
 use std::collections::BTreeMap;
-use std::mem::{replace, take};
+use std::mem::take;
 use std::ops::Bound::{Excluded, Unbounded};
 
 /// The entries by their first keys: the last key and the value.
 #[derive(Clone)]
 pub struct RangeMap<V> {
-    tree: BTreeMap<i64, (i64, V)>,
+    tree: BTreeMap<i64, (i64, Held<V>)>,
     len: u128,
 }
 
@@ -19,34 +24,6 @@ impl<V> Default for RangeMap<V> {
 /// How many keys lie from `start` up to `end`.
 fn length(start: i64, end: i64) -> u128 {
     (i128::from(end) - i128::from(start) + 1) as u128
-}
-
-/// First keys of entries to be taken out: few as a rule, which then take no memory.
-#[derive(Default)]
-struct Gone {
-    few: [i64; 4],
-    count: usize,
-    more: Vec<i64>,
-}
-
-impl Gone {
-    fn push(&mut self, start: i64) {
-        if self.count < self.few.len() {
-            self.few[self.count] = start;
-            self.count += 1;
-        } else {
-            self.more.push(start);
-        }
-    }
-}
-
-/// What a paint leaves of an entry on its right.
-enum Rest<V> {
-    Nothing,
-    /// An entry that is cut in two.
-    Copy(i64, V),
-    /// An entry that starts among the painted keys: its first key.
-    Moved(i64),
 }
 
 impl<V: Eq + Clone> RangeMap<V> {
@@ -66,106 +43,7 @@ impl<V: Eq + Clone> RangeMap<V> {
 
     /// The entries, ascending.
     pub fn entries(&self) -> impl Iterator<Item = (i64, i64, &V)> {
-        self.tree.iter().map(|(start, (end, value))| (*start, *end, value))
-    }
-
-    /// Puts a value on the keys from `lo` up to `hi`, and says whether the number of keys changed. One pass backward over
-    /// the entries that touch the keys edits ends in place; what it found is then taken out and put in.
-    pub fn paint(&mut self, lo: i64, hi: i64, value: V) -> bool {
-        if lo > hi {
-            return false;
-        }
-        let mut end = hi;
-        let mut covered = 0;
-        let mut joined = false;
-        let mut place = None;
-        let mut rest = Rest::Nothing;
-        let mut gone = Gone::default();
-        for (&start, entry) in self.tree.range_mut(..=hi.saturating_add(1)).rev() {
-            if start > hi {
-                if entry.1 == value {
-                    end = entry.0;
-                    gone.push(start);
-                }
-            } else if start > lo {
-                covered += length(start, entry.0.min(hi));
-                if entry.0 <= hi {
-                    gone.push(start);
-                } else if entry.1 == value {
-                    end = entry.0;
-                    gone.push(start);
-                } else {
-                    rest = Rest::Moved(start);
-                }
-            } else if start == lo {
-                if entry.0 >= hi && entry.1 == value {
-                    return false;
-                }
-                covered += length(lo, entry.0.min(hi));
-                place = Some(entry);
-            } else {
-                if entry.1 == value {
-                    if entry.0 >= hi {
-                        return false;
-                    }
-                    if entry.0 >= lo - 1 {
-                        covered += length(lo, entry.0);
-                        entry.0 = end;
-                        joined = true;
-                    }
-                } else if entry.0 >= lo {
-                    covered += length(lo, entry.0.min(hi));
-                    if entry.0 > hi {
-                        rest = Rest::Copy(entry.0, entry.1.clone());
-                    }
-                    entry.0 = lo - 1;
-                }
-                break;
-            }
-        }
-        match place {
-            Some(entry) if joined => {
-                if entry.0 > hi {
-                    rest = Rest::Copy(entry.0, entry.1.clone());
-                }
-                gone.push(lo);
-            }
-            Some(entry) => {
-                let (old_end, old) = replace(entry, (end, value));
-                if old_end > hi {
-                    rest = Rest::Copy(old_end, old);
-                }
-            }
-            None if joined => {}
-            None => {
-                self.tree.insert(lo, (end, value));
-            }
-        }
-        self.settle(hi, gone, rest);
-        let painted = length(lo, hi);
-        self.len = self.len - covered + painted;
-        painted != covered
-    }
-
-    /// Takes the covered entries out, and puts in what is left on the right of `hi`.
-    fn settle(&mut self, hi: i64, gone: Gone, rest: Rest<V>) {
-        for start in &gone.few[..gone.count] {
-            self.tree.remove(start);
-        }
-        for start in &gone.more {
-            self.tree.remove(start);
-        }
-        match rest {
-            Rest::Nothing => {}
-            Rest::Copy(end, value) => {
-                self.tree.insert(hi + 1, (end, value));
-            }
-            Rest::Moved(start) => {
-                if let Some(entry) = self.tree.remove(&start) {
-                    self.tree.insert(hi + 1, entry);
-                }
-            }
-        }
+        self.tree.iter().map(|(start, (end, value))| (*start, *end, held(value)))
     }
 
     /// Puts a value on a key, and answers the value that was there.
@@ -178,37 +56,7 @@ impl<V: Eq + Clone> RangeMap<V> {
     /// The value at a key.
     pub fn get(&self, key: i64) -> Option<&V> {
         let (_, (end, value)) = self.tree.range(..=key).next_back()?;
-        if key <= *end { Some(value) } else { None }
-    }
-
-    /// Takes a key out, and answers the value that was there.
-    pub fn remove(&mut self, key: i64) -> Option<V> {
-        let (&start, entry) = self.tree.range_mut(..=key).next_back()?;
-        let end = entry.0;
-        if end < key {
-            return None;
-        }
-        self.len -= 1;
-        let value = if start < key {
-            entry.0 = key - 1;
-            entry.1.clone()
-        } else {
-            self.tree.remove(&key)?.1
-        };
-        if key < end {
-            self.tree.insert(key + 1, (end, value.clone()));
-        }
-        Some(value)
-    }
-
-    /// Takes the least key out, and answers it with its value.
-    pub fn pop_first(&mut self) -> Option<(i64, V)> {
-        let (key, (end, value)) = self.tree.pop_first()?;
-        self.len -= 1;
-        if key < end {
-            self.tree.insert(key + 1, (end, value.clone()));
-        }
-        Some((key, value))
+        if key <= *end { Some(held(value)) } else { None }
     }
 
     /// Keeps the keys below one, and answers the map of the keys from it on.
@@ -251,8 +99,8 @@ impl<V: Eq + Clone> RangeMap<V> {
             return self;
         }
         let mut gathered = Gathered::with_capacity(self.tree.len() + other.tree.len());
-        let left = self.tree.into_iter().map(|(start, (end, value))| (start, end, value));
-        let right = other.tree.into_iter().map(|(start, (end, value))| (start, end, value));
+        let left = self.tree.into_iter().map(|(start, (end, value))| (start, end, give(value)));
+        let right = other.tree.into_iter().map(|(start, (end, value))| (start, end, give(value)));
         gathered.unite(left, right);
         gathered.build()
     }
@@ -348,7 +196,7 @@ impl<V: Eq + Clone> RangeMap<V> {
         let mut first = i64::MIN;
         if let Some((start, (end, value))) = self.tree.range(..=key).next_back() {
             if key <= *end {
-                return (*start, *end, Some(value));
+                return (*start, *end, Some(held(value)));
             }
             first = end + 1;
         }
@@ -365,7 +213,7 @@ fn are_few(few: usize, len: usize) -> bool {
 
 /// Entries on their way into a map, ascending.
 struct Gathered<V> {
-    entries: Vec<(i64, (i64, V))>,
+    entries: Vec<(i64, (i64, Held<V>))>,
     len: u128,
 }
 
@@ -379,11 +227,11 @@ impl<V: Eq> Gathered<V> {
         self.len += length(start, end);
         if let Some((_, last)) = self.entries.last_mut()
             && last.0 == start.wrapping_sub(1)
-            && last.1 == value
+            && *held(&last.1) == value
         {
             last.0 = end;
         } else {
-            self.entries.push((start, (end, value)));
+            self.entries.push((start, (end, hold(value))));
         }
     }
 

@@ -1,5 +1,6 @@
 #!/usr/bin/env bash
-# Measures the library beside plain Rust (`ranges.rs`) and Boost's interval_map, and prints tables in Markdown.
+# Measures the library beside plain Rust (`ranges.rs`, `one_pass.rs`) and Boost's interval_map, and prints tables in Markdown.
+# `planned.rs` is plain Rust under the library's conditions: what is refused leaves the map, and an end is moved by a search.
 #
 #     bench/run.sh                    every work: some minutes on a machine that does nothing else
 #     bench/run.sh --quick            few operations and rounds: a look, no result
@@ -29,9 +30,11 @@ done
 
 echo "bench: building the other sides" >&2
 rust=(rustc --edition 2024 -O -C target-cpu=x86-64-v2 -C panic=abort -A dead_code)
-rustc --edition 2024 -O -C debug-assertions -A dead_code --test -o out/plain_test plain.rs
-out/plain_test --quiet >&2
-"${rust[@]}" --crate-type staticlib -o out/libplain.a plain.rs
+for way in one_pass planned; do
+    rustc --edition 2024 -O -C debug-assertions -A dead_code --cfg "$way" --test -o out/plain_test plain.rs
+    out/plain_test --quiet >&2
+    "${rust[@]}" --cfg "$way" --crate-name "$way" --crate-type staticlib -o "out/lib$way.a" plain.rs
+done
 "${rust[@]}" -o out/plain_lines plain_lines.rs
 if echo '#include <boost/icl/interval_map.hpp>' | g++ -E -x c++ - >/dev/null 2>&1; then
     g++ -std=c++17 -O2 -Wall -Wextra -c -o out/boost.o boost.cpp
@@ -40,8 +43,9 @@ else
     echo 'extern "C" unsigned long long boost_run(unsigned, unsigned long long, unsigned long long) { return 0; }' \
         | g++ -O2 -c -o out/boost.o -x c++ -
 fi
-g++ -std=c++17 -O2 -Wall -Wextra -o out/driver driver.cpp out/boost.o out/libplain.a \
-    "$root/crates/bench_library/out/libbench_library.a" "$kit/c/liblibc_c.a"
+# (both sides in Rust bring std)
+g++ -std=c++17 -O2 -Wall -Wextra -Wl,--allow-multiple-definition -o out/driver driver.cpp out/boost.o out/libone_pass.a \
+    out/libplanned.a "$root/crates/bench_library/out/libbench_library.a" "$kit/c/liblibc_c.a"
 
 folder="$(mktemp -d)"
 trap 'rm -rf "$folder"' EXIT

@@ -1,6 +1,6 @@
 //! The entries with their counters. Each look here is counted: there is no other way to read an entry.
 ghost use Rattle.std.specs.Prelude.{◌≡◌, ◌+◌, [], pos, ◌+ℤ◌, ◌≤ℤ◌, length, map, reverse, Some};
-ghost use Rattle.std.specs.Prelude.{None, IsSome, IfSome, OnOk, OnErr, IfOk};
+ghost use Rattle.std.specs.Prelude.{None, IsSome, IfSome, OnOk, OnErr, IfOk, slice_get};
 ghost use Rattle.std.specs.List.Retain.{IsFiltered};
 ghost use Rattle.std.specs.Option.{option_map};
 ghost use Rattle.blaze_entries.specs.Answers.{AnswersAt, IsCallableAtEach};
@@ -131,6 +131,16 @@ impl<T: Integer, V> Counted<T, V> {
     {
         self.looks = self.looks.one_more();
         range_of(node_at_or_above(&self.tree, key))
+    }
+
+    /// The first and last key of the first entry. No search is made.
+    pub fn first_range(&mut self) -> Option<(T, T)>
+        ensures found { option_map (ranks_of T.rank) result
+            ≡ option_map range_in (slice_get self.old.entries 0) }
+        ensures looked { self.new ≡ record self.old { looks = self.old.looks + 1 } }
+    {
+        self.looks = self.looks.one_more();
+        range_of(self.tree.first_key_value())
     }
 
     /// Moves the end of the entry at a start.

@@ -93,9 +93,11 @@ module _ {A B V : Type 0} (eq : V → V → Bool) (laws : IsEquivalence eq) (low
         content = λ k. same_along eq (ap (option_or (at out k)) (ap (λ x. choose x (at R k)) (none_there L k n.0) ∙ ap (choose None) (none_there R k n.1) ∙ nothing) ∙ or_none (at out k)) refl (c.content k);
       }
 
-  module _ (eqa : A → A → Bool) (eqb : B → B → Bool) (nothing : choose None None ≡ None) (L L' : List (Entry A)) (R R' : List (Entry B)) (s t : ℤ) (value : Option V) (ca : IsCanonical eqa L) (cb : IsCanonical eqb R) (starts : lesser (first_key L) (first_key R) ≡ Some s) (taken : IsTaken eq choose s L L' R R' t value) where
-    none_under : (k : ℤ) → k <ℤ s → chosen_at choose L R k ≡ None
-    none_under k l = let from = both_from s L R starts in ap (λ x. choose x (at R k)) (at_below_from eqa L s k ca from.0 l) ∙ ap (choose None) (at_below_from eqb R s k cb from.1 l) ∙ nothing
+  module _ (eqa : A → A → Bool) (eqb : B → B → Bool) (nothing : choose None None ≡ None) (L L' : List (Entry A)) (R R' : List (Entry B)) (s f t : ℤ) (value : Option V) (ca : IsCanonical eqa L) (cb : IsCanonical eqb R) (starts : lesser (first_key L) (first_key R) ≡ Some s) (taken : IsTaken eq choose s L L' R R' f t value) where
+    none_under : (k : ℤ) → k <ℤ f → chosen_at choose L R k ≡ None
+    none_under k l = by_lt_z k s
+        (λ h. let from = both_from s L R starts in ap (λ x. choose x (at R k)) (at_below_from eqa L s k ca from.0 h) ∙ ap (choose None) (at_below_from eqb R s k cb from.1 h) ∙ nothing)
+        (λ h. taken.none k h l)
 
     none_after : (k : ℤ) → k ≤ℤ t → chosen_at choose L' R' k ≡ None
     none_after k h =
@@ -107,17 +109,17 @@ module _ {A B V : Type 0} (eq : V → V → Bool) (laws : IsEquivalence eq) (low
         rw (taken.left_is, taken.right_is)
         (ap (λ x. choose x (at (after t R) k)) (at-after_over eqa t k L ca l) ∙ ap (choose (at L k)) (at-after_over eqb t k R cb l))
 
-    -- a piece has on the keys from s to t what is chosen at s, and nothing elsewhere
-    piece_content : (piece : List (Entry V)) → ((k : ℤ) → k <ℤ s → at piece k ≡ None) → ((k : ℤ) → t <ℤ k → at piece k ≡ None) → ((k : ℤ) → s ≤ℤ k → k ≤ℤ t → SameOption eq (at piece k) (chosen_at choose L R s))
+    -- a piece has on the keys from f to t what is chosen at f, and nothing elsewhere
+    piece_content : (piece : List (Entry V)) → ((k : ℤ) → k <ℤ f → at piece k ≡ None) → ((k : ℤ) → t <ℤ k → at piece k ≡ None) → ((k : ℤ) → f ≤ℤ k → k ≤ℤ t → SameOption eq (at piece k) (chosen_at choose L R f))
         → (k : ℤ) → SameOption eq (option_or (at piece k) (chosen_at choose L' R' k)) (chosen_at choose L R k)
-    piece_content piece under over here k = by_lt_z k s
+    piece_content piece under over here k = by_lt_z k f
         (λ l. nothing_before eq laws (at piece k) _ (chosen_at choose L R k) (under k l) (none_after k (omega (arith, ints, taken.order)) ∙ sym (none_under k l)))
         (λ l. by_lt_z t k
         (λ h. nothing_before eq laws (at piece k) _ (chosen_at choose L R k) (over k h) (same_over k h))
         (λ h. nothing_after eq laws (at piece k) _ (chosen_at choose L R k) (none_after k h) (same_along eq {a = at piece k} refl (sym (taken.same k l h)) (here k l h))))
 
-    piece_of : (o : Option V) (out new : List (Entry V)) → low ≤ℤ s → t ≤ℤ high → SameOption eq (chosen_at choose L R s) o → PutsValue eq s t o out new → (piece : List (Entry V)) × (new ≡ glue eq out piece) × IsPiece eq low high choose L L' R R' s t piece
-    piece_of None out new f u alike p = (
+    piece_of : (o : Option V) (out new : List (Entry V)) → low ≤ℤ f → t ≤ℤ high → SameOption eq (chosen_at choose L R f) o → PutsValue eq f t o out new → (piece : List (Entry V)) × (new ≡ glue eq out piece) × IsPiece eq low high choose L L' R R' s t piece
+    piece_of None out new w u alike p = (
       [],
       p ∙ sym (glue-nil eq laws out),
       record {
@@ -128,14 +130,14 @@ module _ {A B V : Type 0} (eq : V → V → Bool) (laws : IsEquivalence eq) (low
         content = piece_content [] (λ k l. refl) (λ k l. refl) (λ k l h. same_back eq laws _ None alike);
       },
     )
-    piece_of (Some v) out new f u alike p =
-        let e = entry s t v in (
+    piece_of (Some v) out new w u alike p =
+        let e = entry f t v in (
           e ∷ [],
           p,
           record {
             canonical = (taken.order, tt, tt);
-            keys = (f, u, tt);
-            above = omega (arith, ints);
+            keys = (w, u, tt);
+            above = omega (arith, ints, taken.from);
             below = (omega (arith, ints), tt);
             content = piece_content (e ∷ []) (λ k l. at_under e [] k l) (λ k l. at_over e [] k l)
                 (λ k l h. same_along eq {a = Some v} (sym (at_in e [] k l h)) refl (same_back eq laws _ (Some v) alike));
@@ -143,17 +145,17 @@ module _ {A B V : Type 0} (eq : V → V → Bool) (laws : IsEquivalence eq) (low
         )
 
   module _ (eqa : A → A → Bool) (eqb : B → B → Bool) (nothing : choose None None ≡ None) (left L L' : List (Entry A)) (right R R' : List (Entry B)) (out new : List (Entry V)) (s : ℤ) (ca : IsCanonical eqa L) (cb : IsCanonical eqb R) (starts : lesser (first_key L) (first_key R) ≡ Some s) where
-    more_of : (t : ℤ) (value : Option V) (piece : List (Entry V)) → IsTaken eq choose s L L' R R' t value → IsChosenSoFar eq low high choose left right L R out → IsPiece eq low high choose L L' R R' s t piece → IsChosenSoFar eq low high choose left right L' R' (glue eq out piece)
-    more_of t value piece taken c p =
+    more_of : (f t : ℤ) (value : Option V) (piece : List (Entry V)) → IsTaken eq choose s L L' R R' f t value → IsChosenSoFar eq low high choose left right L R out → IsPiece eq low high choose L L' R R' s t piece → IsChosenSoFar eq low high choose left right L' R' (glue eq out piece)
+    more_of f t value piece taken c p =
         let under = c.under s starts in
-        let below = below_glue eq (t +ℤ pos 1) out piece (below_more s (t +ℤ pos 1) out (omega (arith, ints, taken.order)) under) p.below in
+        let below = below_glue eq (t +ℤ pos 1) out piece (below_more s (t +ℤ pos 1) out (omega (arith, ints, taken.from, taken.order)) under) p.below in
         record {
           canonical = canonical_glue eq laws (s -ℤ pos 1) out piece c.canonical p.canonical (below_more s (s -ℤ pos 1 +ℤ pos 1) out (omega (arith, ints)) under) p.above;
           keys = are_keys_glue eq low high out piece c.keys p.keys;
-          under = λ r f. let above = ⊎_elim
+          under = λ r q. let above = ⊎_elim
               (λ e. first_above t r L (sym (ap first_key taken.left_is) ∙ e))
               (λ e. first_above t r R (sym (ap first_key taken.right_is) ∙ e))
-              (lesser_one (first_key L') (first_key R') r f) in
+              (lesser_one (first_key L') (first_key R') r q) in
               below_more (t +ℤ pos 1) r (glue eq out piece) (omega (arith, ints)) below;
           content = λ k. let rest = chosen_at choose L' R' k in
               same_trans eq laws _ (option_or (option_or (at out k) (at piece k)) rest) _
@@ -166,5 +168,5 @@ module _ {A B V : Type 0} (eq : V → V → Bool) (laws : IsEquivalence eq) (low
     -- one step more
     pub chosen_more : IsChosenSoFar eq low high choose left right L R out → IsChoiceMade eq low high choose s L L' R R' out new → IsChosenSoFar eq low high choose left right L' R' new
     chosen_more c m =
-        let p = piece_of eqa eqb nothing L L' R R' s m.end m.value ca cb starts m.taken m.value out new m.from m.to m.taken.alike m.put in
-        rw p.1 (more_of m.end m.value p.0 m.taken c p.2)
+        let p = piece_of eqa eqb nothing L L' R R' s m.first m.end m.value ca cb starts m.taken m.value out new m.low_is m.high_is m.taken.alike m.put in
+        rw p.1 (more_of m.first m.end m.value p.0 m.taken c p.2)

@@ -32,4 +32,4 @@ both_less eqa eqb s t L R ca cb starts order = ⊎_elim
 pub step_less : {A B V : Type 0} (eqa : A → A → Bool) (eqb : B → B → Bool) (eq : V → V → Bool) (low high : ℤ) (choose : Option A → Option B → Option V) (s : ℤ) (L L' : List (Entry A)) (R R' : List (Entry B)) (out new : List (Entry V))
     → IsCanonical eqa L → IsCanonical eqb R → lesser (first_key L) (first_key R) ≡ Some s → IsChoiceMade eq low high choose s L L' R R' out new → lengths_left L' + lengths_left R' < lengths_left L + lengths_left R
 step_less eqa eqb eq low high choose s L L' R R' out new ca cb starts m =
-    rw (m.taken.left_is, m.taken.right_is) (both_less eqa eqb s m.end L R ca cb starts m.taken.order)
+    rw (m.taken.left_is, m.taken.right_is) (both_less eqa eqb s m.end L R ca cb starts (omega (arith, ints, m.taken.from, m.taken.order)))

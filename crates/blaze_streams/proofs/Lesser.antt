@@ -1,5 +1,5 @@
 -- The lesser of two keys.
-use Rattle.std.proofs.Common.{◌≡◌, ℤ, ◌≤ℤ◌, cond, Option, Some, None, ◌∙◌, sym, subst, ap, arith, inl, inr}
+use Rattle.std.proofs.Common.{◌≡◌, ℤ, ◌≤ℤ◌, cond, Option, Some, None, refl, ◌∙◌, sym, subst, ap, arith, inl, inr}
 use Rattle.std.specs.Prelude.{◌⊎◌}
 use Rattle.std.proofs.lemmas.Int.{ints, by_lt_z}
 use Rattle.blaze_int.proofs.Comparisons.{le_true, le_false}
@@ -27,3 +27,14 @@ lesser_one (Some a) (Some b) s e = by_lt_z b a
 pub some_lesser : (a : ℤ) (o : Option ℤ) → lesser (Some a) o ≡ None → ⊥
 some_lesser a None p = cc
 some_lesser a (Some b) p = cc
+
+-- the order of the two does not matter
+pub lesser_exchanged : (p q : Option ℤ) → lesser p q ≡ lesser q p
+lesser_exchanged None None = refl
+lesser_exchanged None (Some b) = refl
+lesser_exchanged (Some a) None = refl
+lesser_exchanged (Some a) (Some b) = by_lt_z b a
+    (λ l. ap (λ t. Some (cond t a b)) (le_false a b l) ∙ sym (ap (λ t. Some (cond t b a)) (le_true b a (omega (arith, ints)))))
+    (λ l. ap (λ t. Some (cond t a b)) (le_true a b l) ∙ sym (by_lt_z a b
+    (λ h. ap (λ t. Some (cond t b a)) (le_false b a h))
+    (λ h. let same : b ≡ a = omega (arith, ints) in ap (λ t. Some (cond t b a)) (le_true b a h) ∙ ap (λ z. Some z) same)))

@@ -1,5 +1,5 @@
 -- How far a list stays as it is.
-use Rattle.std.proofs.Common.{◌≡◌, ℤ, pos, ◌+ℤ◌, ◌-ℤ◌, ◌≤ℤ◌, ◌<ℤ◌, Bool, true, cond, List, [], ◌∷◌, Option, Some, None, refl, ◌∙◌, sym, subst, ap, arith, inl, inr, ⊎_elim}
+use Rattle.std.proofs.Common.{◌≡◌, ℤ, pos, ◌+ℤ◌, ◌-ℤ◌, ◌≤ℤ◌, ◌<ℤ◌, Bool, cond, List, [], ◌∷◌, Option, Some, None, refl, ◌∙◌, sym, subst, ap, arith, inl, inr, ⊎_elim}
 use Rattle.std.specs.Prelude.{◌⊎◌, int_le}
 use Rattle.std.specs.Option.{is_some}
 use Rattle.std.specs.Cmp.{IsEquivalence}
@@ -51,11 +51,11 @@ module _ {A : Type 0} where
     pub at_first : (e : Entry A) (es : List (Entry A)) (k : ℤ) → IsCanonical eq (e ∷ es) → k <ℤ e.lo → at (e ∷ es) k ≡ None
     at_first e es k c l = at_before eq (e ∷ es) k k c l (omega (arith, ints))
 
-    -- where the first range does not end below the key, the list has the key if that range does not start above it
-    pub has_first : (e : Entry A) (es : List (Entry A)) (k : ℤ) → IsCanonical eq (e ∷ es) → k ≤ℤ e.hi → is_some (at (e ∷ es) k) ≡ int_le e.lo k
+    -- where no range starts below the key, the list has the key if its first range starts there
+    pub has_first : (e : Entry A) (es : List (Entry A)) (k : ℤ) → IsCanonical eq (e ∷ es) → k ≤ℤ e.lo → is_some (at (e ∷ es) k) ≡ int_le e.lo k
     has_first e es k c h = by_lt_z k e.lo
         (λ l. ap is_some (at_first e es k c l) ∙ sym (le_false e.lo k l))
-        (λ l. ap is_some (at_in e es k l h) ∙ sym (le_true e.lo k l))
+        (λ l. ap is_some (at_in e es k l (omega (arith, ints, c.0, h))) ∙ sym (le_true e.lo k l))
 
     pub at_below_from : (es : List (Entry A)) (s k : ℤ) → IsCanonical eq es → IsFrom s es → k <ℤ s → at es k ≡ None
     at_below_from [] s k c f h = refl
@@ -91,12 +91,6 @@ module _ {A : Type 0} where
         (λ b q. let u : t ≡ e.hi = same_some t e.hi (sym p ∙ q) in omega (arith, ints, c.0, f))
         (λ b q. let u : t ≡ (e.lo -ℤ pos 1) = same_some t (e.lo -ℤ pos 1) (sym p ∙ q) in omega (arith, ints))
 
-    -- the range that has s has its end
-    pub has_end : (s t : ℤ) (es : List (Entry A)) → IsCanonical eq es → IsFrom s es → steady_to s es ≡ Some t → is_some (at es s) ≡ true → is_some (at es t) ≡ true
-    has_end s t es c f e h =
-        let u : t ≤ℤ t = omega (arith, ints) in
-        ap is_some (steady s t t es c f (subst (AtMost t) (sym e) u) (steady_far s t es c f e) u) ∙ h
-
     pub starts_there : (s : ℤ) (es : List (Entry A)) → IsCanonical eq es → first_key es ≡ Some s → (v : A) × (at es s ≡ Some v)
     starts_there s [] c p = cc
     starts_there s (e ∷ es) c p = let u : e.lo ≡ s = same_some e.lo s p in (e.value, at_in e es s (omega (arith, ints)) (omega (arith, ints, c.0)))
@@ -114,3 +108,10 @@ module _ {A : Type 0} where
         other : (x : Option A) → at es (e.hi +ℤ pos 1) ≡ x → SameOption eq (Some e.value) x → ⊥
         other None q v = v
         other (Some w) q v = breaks eq laws e es w c v (same_along eq (sym q) refl (laws.refl w))
+
+    -- where nothing is at the first key and nothing changes up to t, nothing is left out up to t
+    pub after_alone : (s t : ℤ) (es : List (Entry A)) → IsCanonical eq es → IsFrom s es → at es s ≡ None → AtMost t (steady_to s es) → es ≡ after t es
+    after_alone s t [] c f n m = refl
+    after_alone s t (e ∷ es) c f n m = by_steady s e es
+        (λ b p. absurd (cc (sym (at_in e es s b (omega (arith, ints, c.0, f))) ∙ n)))
+        (λ b p. let u : t ≤ℤ (e.lo -ℤ pos 1) = subst (AtMost t) p m in sym (after_keeps t e es (omega (arith, ints, c.0)) (omega (arith, ints))))

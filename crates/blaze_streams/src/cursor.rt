@@ -1,11 +1,13 @@
 //! What is left of a stream that is gone through from its start.
-ghost use Rattle.std.specs.Prelude.{◌≡◌, false, [], Some, IfSome, IfNone, IfOk};
+ghost use Rattle.std.specs.Prelude.{◌≡◌, [], None, IfSome, IfNone, IfOk};
 ghost use Rattle.std.specs.Option.{option_map, is_some};
+ghost use Rattle.blaze_entries.specs.Found.{range_in, ranks_of};
+ghost use Rattle.blaze_entries.specs.Starts.{first_entry};
 ghost use Rattle.blaze_table.specs.Entries.{at, SameOption};
 ghost use Rattle.blaze_table.specs.Canonical.{IsCanonical};
 ghost use Rattle.blaze_table.specs.Splice.{after};
 ghost use Rattle.blaze_streams.specs.Carried.{shown_option};
-ghost use Rattle.blaze_streams.specs.Choosing.{ahead_of};
+ghost use Rattle.blaze_streams.specs.Choosing.{ahead_of, IsRangeTaken};
 ghost use Rattle.blaze_streams.specs.Cursors.{first_key, steady_to, IsFrom, Reaches};
 
 use crate::carrier::ValueCarrier;
@@ -95,15 +97,26 @@ impl<T: Integer, VC: ValueCarrier, I: SortedDisjointMap<T, VC>> Cursor<T, VC, I>
         }
     }
 
-    /// Whether a range has the key, which is not above the end of the first range. If none has it, no key up to it is left.
-    pub fn has(&self, key: T) -> bool
-        requires { Reaches (T.rank key) self.now }
-        ensures has { result ≡ is_some (at self.now (T.rank key)) }
-        ensures none_up_to { result ≡ false → after (T.rank key) self.now ≡ self.now }
+    /// The first key and the last key of the first range.
+    pub fn range(&self) -> Option<(T, T)>
+        ensures ends { option_map (ranks_of T.rank) result
+            ≡ option_map range_in (first_entry self.now) }
+        ensures canonical { IsCanonical VC.Value.eq self.now }
+    {
+        match &self.head {
+            None => None,
+            Some((lo, hi, _)) => Some((*lo, *hi)),
+        }
+    }
+
+    /// Whether a range has a key below which none is left.
+    pub fn has(&self, start: T) -> bool
+        requires { IsFrom (T.rank start) self.now }
+        ensures { result ≡ is_some (at self.now (T.rank start)) }
     {
         match &self.head {
             None => false,
-            Some((lo, _, _)) => is_at_most(*lo, key),
+            Some((lo, _, _)) => is_at_most(*lo, start),
         }
     }
 
@@ -138,22 +151,24 @@ impl<T: Integer, VC: ValueCarrier, I: SortedDisjointMap<T, VC>> Cursor<T, VC, I>
         }
     }
 
-    /// The last key of the range that has a key below which none is left.
-    pub fn end_at(&self, start: T) -> Option<T>
-        requires { IsFrom (T.rank start) self.now }
-        ensures has { is_some (at self.now (T.rank start)) ≡ is_some result }
-        ensures end { IfSome result (λ end. steady_to (T.rank start) self.now ≡ Some (T.rank end)) }
-        ensures reaches { IfSome result (λ end. Reaches (T.rank end) self.now) }
+    /// Takes the range that has a key below which none is left: its last key and its carrier.
+    pub fn take_at(&mut self, start: T) -> Option<(T, VC)>
+        requires { IsFrom (T.rank start) self.old }
+        ensures none { IfNone result
+            ((at self.old (T.rank start) ≡ None) × (self.new ≡ self.old)) }
+        ensures some { IfSome result (λ taken. IsRangeTaken (T.rank start) (T.rank taken.0)
+            (VC.shown taken.1) self.old self.new) }
     {
-        match &self.head {
+        let Some((lo, _, _)) = &self.head else {
+            return None;
+        };
+        if !is_at_most(*lo, start) {
+            return None;
+        }
+        let next = take_first(&mut self.rest);
+        match mem::replace(&mut self.head, next) {
+            Some((_, end, carrier)) => Some((end, carrier)),
             None => None,
-            Some((lo, hi, _)) => {
-                if is_at_most(*lo, start) {
-                    Some(*hi)
-                } else {
-                    None
-                }
-            }
         }
     }
 

@@ -1,5 +1,7 @@
 //! A key taken out of entries, in place. Each clone and each growth comes before the first edit that can't be taken back.
 ghost use Rattle.std.specs.Prelude.{◌≡◌, Some, None, pos, ◌+ℤ◌, ◌≤ℤ◌, ◌<ℤ◌, Ok, OnOk, OnErr, IfOk};
+ghost use Rattle.std.specs.Prelude.{slice_get};
+ghost use Rattle.std.specs.Option.{option_map};
 ghost use Rattle.blaze_entries.specs.Starts.{start_at};
 ghost use Rattle.blaze_table.specs.Canonical.{IsCanonical};
 ghost use Rattle.blaze_table.specs.Work.{IsCountedCut};
@@ -152,6 +154,36 @@ fn cut_holder<T: Integer, V: Eq + Clone>(
     }
 }
 
+// Takes a key out of the entry that has it, and answers the value that was there and the new count of keys, where `len` is
+// the old.
+fn cut_counted<T: Integer, V: Eq + Clone>(
+    entries: &mut Counted<T, V>,
+    len: T::SafeLen,
+    key: T,
+    start: T,
+    end: T,
+) -> Result<(V, T::SafeLen), AllocError>
+    requires clones { ClonesAreAlike V.is_clone V.eq }
+    requires table { IsTable V.eq T.low T.high (T.SafeLen.number len) entries.old.entries }
+    requires found { IsLastBelow
+        (T.rank key +ℤ pos 1) (T.rank start) (T.rank end) entries.old.entries }
+    requires ends { T.rank key ≤ℤ T.rank end }
+    ensures table { IfOk result
+        (λ r. IsTable V.eq T.low T.high (T.SafeLen.number r.1) entries.new.entries) }
+    ensures cut { OnOk result
+        (IsListCut V.eq (T.rank key) entries.old.entries entries.new.entries) }
+    ensures value { IfOk result
+        (λ r. SameOption V.eq (at entries.old.entries (T.rank key)) (Some r.0)) }
+    ensures worked { OnOk result (IsWorked 1 1 entries.old entries.new) }
+    ensures refused { OnErr result (IsAmongOthers (T.rank key) entries.old.entries) }
+    ensures err { OnErr result (entries.new.entries ≡ entries.old.entries) }
+{
+    entries.in_hand();
+    let value = cut_holder(entries, key, start, end)?;
+    let rest = len.minus(T::SafeLen::one());
+    Ok((value, rest))
+}
+
 /// Takes a key out, and answers the value that was there and the new count of keys, where `len` is the old. Refused memory
 /// leaves the entries as they are.
 pub fn cut<T: Integer, V: Eq + Clone>(
@@ -175,10 +207,37 @@ pub fn cut<T: Integer, V: Eq + Clone>(
     entries.in_hand();
     match entries.range_at_or_below(key) {
         Some(ends) if is_at_most(key, ends.1) => {
-            let value = cut_holder(entries, key, ends.0, ends.1)?;
-            let rest = len.minus(T::SafeLen::one());
+            let (value, rest) = cut_counted(entries, len, key, ends.0, ends.1)?;
             Ok((Some(value), rest))
         }
         _ => Ok((None, len)),
+    }
+}
+
+/// Takes the first key out, and answers the value that was there and the new count of keys, where `len` is the old. No search
+/// is made for it. Refused memory leaves the entries as they are.
+pub fn cut_first<T: Integer, V: Eq + Clone>(
+    entries: &mut Counted<T, V>,
+    len: T::SafeLen,
+    key: T,
+) -> Result<(V, T::SafeLen), AllocError>
+    requires clones { ClonesAreAlike V.is_clone V.eq }
+    requires table { IsTable V.eq T.low T.high (T.SafeLen.number len) entries.old.entries }
+    requires first { option_map (λ e. e.lo) (slice_get entries.old.entries 0)
+        ≡ Some (T.rank key) }
+    ensures table { IfOk result
+        (λ r. IsTable V.eq T.low T.high (T.SafeLen.number r.1) entries.new.entries) }
+    ensures cut { OnOk result
+        (IsListCut V.eq (T.rank key) entries.old.entries entries.new.entries) }
+    ensures value { IfOk result
+        (λ r. SameOption V.eq (at entries.old.entries (T.rank key)) (Some r.0)) }
+    ensures counted { OnOk result (IsCountedCut entries.old entries.new) }
+    ensures refused { OnErr result (IsAmongOthers (T.rank key) entries.old.entries) }
+    ensures err { OnErr result (entries.new.entries ≡ entries.old.entries) }
+{
+    entries.in_hand();
+    match entries.first_range() {
+        Some(ends) => cut_counted(entries, len, key, ends.0, ends.1),
+        None => unreachable!(),
     }
 }

@@ -17,7 +17,7 @@ ghost use Rattle.blaze_table.specs.Retain.{AnswersAt, IsCallableAtEach, IsCallab
 ghost use Rattle.blaze_table.specs.Retain.{IsKeyRetained};
 
 use crate::count::{count, count_list};
-use crate::cut::cut;
+use crate::cut::{cut, cut_first};
 use crate::gaps::gap_round;
 use crate::retain_keys::retain_keys;
 use crate::search::{entry_above, entry_below, entry_holding};
@@ -251,6 +251,26 @@ impl<T: Integer, V: Eq + Clone> RangeTable<T, V> {
     {
         let old_len = self.len;
         let (value, len) = cut(&mut self.entries.counted, old_len, key)?;
+        self.len = len;
+        Ok(value)
+    }
+
+    /// Takes the first key out, and answers the value that was there. No search is made for it. Refused memory leaves the
+    /// entries unchanged. No memory is taken where the key is an entry of its own.
+    pub fn cut_first(&mut self, key: T) -> Result<V, AllocError>
+        requires clones { ClonesAreAlike V.is_clone V.eq }
+        requires first { option_map (λ e. e.lo) (slice_get self.old.entries 0)
+            ≡ Some (T.rank key) }
+        ensures ok { OnOk result
+            (IsCut V.eq T.low T.high (T.rank key) self.old.entries self.new.entries) }
+        ensures value { IfOk result
+            (λ value. SameOption V.eq (at self.old.entries (T.rank key)) (Some value)) }
+        ensures counted { OnOk result (IsCountedCut self.old self.new) }
+        ensures refused { OnErr result (IsAmongOthers (T.rank key) self.old.entries) }
+        ensures err { OnErr result (self.new.entries ≡ self.old.entries) }
+    {
+        let old_len = self.len;
+        let (value, len) = cut_first(&mut self.entries.counted, old_len, key)?;
         self.len = len;
         Ok(value)
     }

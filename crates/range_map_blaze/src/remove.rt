@@ -42,13 +42,12 @@ impl<T: Integer, V: Eq + Clone> RangeMapBlaze<T, V> {
             × IsFirstPair (at self.old.entries) key value × IsAmongOthers key self.old.entries) }
         ensures err { OnErr result (self.new.entries ≡ self.old.entries) }
     {
+        self.in_hand();
         let Some(first) = self.first_key() else {
             return Ok(None);
         };
-        match self.remove(first)? {
-            Some(value) => Ok(Some((first, value))),
-            None => unreachable!(),
-        }
+        let value = self.table.cut_first(first)?;
+        Ok(Some((first, value)))
     }
 
     /// Takes the greatest key out, and answers it with the value that was there; `None` on the empty map. Refused memory

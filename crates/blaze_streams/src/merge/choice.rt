@@ -1,16 +1,14 @@
 //! What is chosen from what two streams have at a key.
-ghost use Rattle.std.specs.Prelude.{◌≡◌, ◌≤◌, ◌+◌, ◌&&◌, Bool, true, false, Option, None, refl};
-ghost use Rattle.std.specs.Prelude.{IfOk};
-ghost use Rattle.std.specs.Option.{option_map, is_some, option_xor};
+ghost use Rattle.std.specs.Prelude.{◌≡◌, ◌≤◌, ◌+◌, Option, None, Some, refl, IfOk};
+ghost use Rattle.std.specs.Option.{option_map, option_xor};
+ghost use Rattle.blaze_table.specs.Canonical.{IsCanonical};
 ghost use Rattle.blaze_table.specs.Chosen.{right_first, left_with_right, left_alone};
-ghost use Rattle.blaze_table.specs.Entries.{at, SameOption};
-ghost use Rattle.blaze_table.specs.Splice.{after};
-ghost use Rattle.blaze_streams.specs.Cursors.{Reaches};
-ghost use Rattle.blaze_streams.specs.Decided.{IsDecided, right_first_decided, left_alone_decided};
-ghost use Rattle.blaze_streams.specs.Decided.{undecided};
+ghost use Rattle.blaze_streams.specs.Choosing.{IsTaken};
+ghost use Rattle.blaze_streams.specs.Cursors.{first_key, lesser};
 
 use crate::carrier::ValueCarrier;
 use crate::cursor::Cursor;
+use crate::merge::pieces::{skip, take_alone, take_both};
 use crate::sorted_disjoint_map::SortedDisjointMap;
 use blaze_int::Integer;
 use std::alloc::AllocError;
@@ -20,40 +18,28 @@ pub trait Choice<VCL: ValueCarrier, VCR: ValueCarrier> {
     // The value that is chosen.
     ghost choice: { Option VCL.Value → Option VCR.Value → Option VCL.Value };
 
-    // Whether the left one does not matter where the right one is there.
-    ghost by_right: { Bool };
-
-    /// Whether the left one does not matter where the right one is there.
-    fn is_by_right(&self) -> bool
-        ensures { result ≡ by_right };
-
     /// For how many entries room is asked at first, where the streams have so many ranges at least.
     fn room(&self, left: usize, right: usize) -> usize
         ensures { result ≤ left + right };
 
-    /// Lets the keys up to `end` go in both streams, and answers the carrier of the value that is chosen at `end`, which is
-    /// above the end of neither's first range, but for a left one that does not matter.
+    /// Takes the first piece that is chosen from two streams, of which `start` is the first key: its first key, its last key and
+    /// a carrier of its value, or none where nothing is chosen. The keys up to its end go in both.
     fn take<T: Integer, L: SortedDisjointMap<T, VCL>, R: SortedDisjointMap<T, VCR>>(
         &self,
+        start: T,
         left: &mut Cursor<T, VCL, L>,
         right: &mut Cursor<T, VCR, R>,
-        end: T,
-    ) -> Result<Option<VCL>, AllocError>
+    ) -> Result<(T, T, Option<VCL>), AllocError>
         requires can { VCL.can_carry }
-        requires left { (by_right && is_some (at right.old (T.rank end))) ≡ false
-            → Reaches (T.rank end) left.old }
-        requires right { Reaches (T.rank end) right.old }
-        ensures carrier { IfOk result (λ carrier. SameOption VCL.Value.eq
-            (choice (at left.old (T.rank end)) (at right.old (T.rank end)))
-            (option_map VCL.shown carrier)) }
-        ensures left { left.new ≡ after (T.rank end) left.old }
-        ensures right { right.new ≡ after (T.rank end) right.old };
+        requires left { IsCanonical VCL.Value.eq left.old }
+        requires right { IsCanonical VCR.Value.eq right.old }
+        requires starts { lesser (first_key left.old) (first_key right.old) ≡ Some (T.rank start) }
+        ensures { IfOk result (λ piece. IsTaken VCL.Value.eq choice (T.rank start) left.old left.new
+            right.old right.new (T.rank piece.0) (T.rank piece.1)
+            (option_map VCL.shown piece.2)) };
 
     // Nothing is chosen from nothing.
     ghost from_nothing: { choice None None ≡ None };
-
-    // Where the choice is by the right one, the left one does not matter.
-    ghost decided: { IsDecided by_right choice };
 }
 
 /// The right one where it is there, else the left.
@@ -62,33 +48,25 @@ pub struct RightFirst;
 impl<VC: ValueCarrier> Choice<VC, VC> for RightFirst {
     ghost choice = { right_first };
 
-    ghost by_right = { true };
-
-    fn is_by_right(&self) -> bool {
-        true
-    }
-
     fn room(&self, left: usize, right: usize) -> usize {
         left.max(right)
     }
 
     fn take<T: Integer, L: SortedDisjointMap<T, VC>, R: SortedDisjointMap<T, VC>>(
         &self,
+        start: T,
         left: &mut Cursor<T, VC, L>,
         right: &mut Cursor<T, VC, R>,
-        end: T,
-    ) -> Result<Option<VC>, AllocError> {
-        if right.has(end) {
+    ) -> Result<(T, T, Option<VC>), AllocError> {
+        if let Some((end, carrier)) = right.take_at(start) {
             left.advance(end);
-            right.take(end)
-        } else {
-            left.take(end)
+            return Ok((start, end, Some(carrier)));
         }
+        let (end, carrier) = take_alone(start, left, right)?;
+        Ok((start, end, carrier))
     }
 
     ghost from_nothing = { refl };
-
-    ghost decided = { right_first_decided };
 }
 
 /// The one that is there, where exactly one is.
@@ -97,36 +75,29 @@ pub struct ExactlyOne;
 impl<VC: ValueCarrier> Choice<VC, VC> for ExactlyOne {
     ghost choice = { option_xor };
 
-    ghost by_right = { false };
-
-    fn is_by_right(&self) -> bool {
-        false
-    }
-
     fn room(&self, left: usize, right: usize) -> usize {
         left.max(right)
     }
 
     fn take<T: Integer, L: SortedDisjointMap<T, VC>, R: SortedDisjointMap<T, VC>>(
         &self,
+        start: T,
         left: &mut Cursor<T, VC, L>,
         right: &mut Cursor<T, VC, R>,
-        end: T,
-    ) -> Result<Option<VC>, AllocError> {
-        if !right.has(end) {
-            left.take(end)
-        } else if !left.has(end) {
-            right.take(end)
-        } else {
-            left.advance(end);
-            right.advance(end);
-            Ok(None)
+    ) -> Result<(T, T, Option<VC>), AllocError> {
+        if !right.has(start) {
+            let (end, carrier) = take_alone(start, left, right)?;
+            return Ok((start, end, carrier));
         }
+        if !left.has(start) {
+            let (end, carrier) = take_alone(start, right, left)?;
+            return Ok((start, end, carrier));
+        }
+        let end = skip(start, left, right);
+        Ok((start, end, None))
     }
 
     ghost from_nothing = { refl };
-
-    ghost decided = { undecided option_xor };
 }
 
 /// The left one, where the right is there too.
@@ -135,34 +106,24 @@ pub struct LeftWithRight;
 impl<VCL: ValueCarrier, VCR: ValueCarrier> Choice<VCL, VCR> for LeftWithRight {
     ghost choice = { left_with_right };
 
-    ghost by_right = { false };
-
-    fn is_by_right(&self) -> bool {
-        false
-    }
-
     fn room(&self, left: usize, right: usize) -> usize {
         if right == 0 { 0 } else { left }
     }
 
     fn take<T: Integer, L: SortedDisjointMap<T, VCL>, R: SortedDisjointMap<T, VCR>>(
         &self,
+        start: T,
         left: &mut Cursor<T, VCL, L>,
         right: &mut Cursor<T, VCR, R>,
-        end: T,
-    ) -> Result<Option<VCL>, AllocError> {
-        if right.has(end) {
-            right.advance(end);
-            left.take(end)
-        } else {
-            left.advance(end);
-            Ok(None)
+    ) -> Result<(T, T, Option<VCL>), AllocError> {
+        if let Some(piece) = take_both(start, left, right)? {
+            return Ok(piece);
         }
+        let end = skip(start, left, right);
+        Ok((start, end, None))
     }
 
     ghost from_nothing = { refl };
-
-    ghost decided = { undecided left_with_right };
 }
 
 /// The left one, where the right is not there.
@@ -171,32 +132,23 @@ pub struct LeftAlone;
 impl<VCL: ValueCarrier, VCR: ValueCarrier> Choice<VCL, VCR> for LeftAlone {
     ghost choice = { left_alone };
 
-    ghost by_right = { true };
-
-    fn is_by_right(&self) -> bool {
-        true
-    }
-
     fn room(&self, left: usize, _right: usize) -> usize {
         left
     }
 
     fn take<T: Integer, L: SortedDisjointMap<T, VCL>, R: SortedDisjointMap<T, VCR>>(
         &self,
+        start: T,
         left: &mut Cursor<T, VCL, L>,
         right: &mut Cursor<T, VCR, R>,
-        end: T,
-    ) -> Result<Option<VCL>, AllocError> {
-        if right.has(end) {
-            right.advance(end);
-            left.advance(end);
-            Ok(None)
-        } else {
-            left.take(end)
+    ) -> Result<(T, T, Option<VCL>), AllocError> {
+        if let Some(covered) = right.take_at(start) {
+            left.advance(covered.0);
+            return Ok((start, covered.0, None));
         }
+        let (end, carrier) = take_alone(start, left, right)?;
+        Ok((start, end, carrier))
     }
 
     ghost from_nothing = { refl };
-
-    ghost decided = { left_alone_decided };
 }

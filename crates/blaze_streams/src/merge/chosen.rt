@@ -4,8 +4,8 @@ ghost use Rattle.std.specs.Option.{option_map};
 ghost use Rattle.blaze_table.specs.Canonical.{IsCanonical};
 ghost use Rattle.blaze_table.specs.Chosen.{IsChosen};
 ghost use Rattle.blaze_table.specs.Listed.{listed};
-ghost use Rattle.blaze_streams.specs.Choosing.{IsTaken, PutsAlike, IsChoiceMade};
-ghost use Rattle.blaze_streams.specs.Cursors.{first_key, steady_to, Reaches, lesser};
+ghost use Rattle.blaze_streams.specs.Choosing.{PutsAlike, IsChoiceMade};
+ghost use Rattle.blaze_streams.specs.Cursors.{first_key, lesser};
 
 use crate::carrier::ValueCarrier;
 use crate::cursor::Cursor;
@@ -35,63 +35,7 @@ fn put_value<T: Integer, VC: ValueCarrier, P: PieceList<T, VC>>(
     Ok(())
 }
 
-/// The last key up to which neither of two streams changes, from their first key on.
-pub fn steady_end<
-    T: Integer,
-    VCL: ValueCarrier,
-    VCR: ValueCarrier,
-    L: SortedDisjointMap<T, VCL>,
-    R: SortedDisjointMap<T, VCR>,
->(start: T, left: &Cursor<T, VCL, L>, right: &Cursor<T, VCR, R>) -> T
-    requires left { IsCanonical VCL.Value.eq left.now }
-    requires right { IsCanonical VCR.Value.eq right.now }
-    requires starts { lesser (first_key left.now) (first_key right.now) ≡ Some (T.rank start) }
-    ensures ends { lesser (steady_to (T.rank start) left.now) (steady_to (T.rank start) right.now)
-        ≡ Some (T.rank result) }
-    ensures left { Reaches (T.rank result) left.now }
-    ensures right { Reaches (T.rank result) right.now }
-{
-    let Some(end) = lesser_of(left.last(start), right.last(start)) else {
-        unreachable!()
-    };
-    end
-}
-
-/// From the first key of two streams on, lets the keys go up to one up to which the same is chosen, and answers that key and
-/// the carrier of the value that is chosen. Where the choice is by the right one, a range of it is one piece.
-fn take_piece<
-    T: Integer,
-    VCL: ValueCarrier,
-    VCR: ValueCarrier,
-    L: SortedDisjointMap<T, VCL>,
-    R: SortedDisjointMap<T, VCR>,
-    C: Choice<VCL, VCR>,
->(
-    start: T,
-    left: &mut Cursor<T, VCL, L>,
-    right: &mut Cursor<T, VCR, R>,
-    choice: &C,
-) -> Result<(T, Option<VCL>), AllocError>
-    requires can { VCL.can_carry }
-    requires left { IsCanonical VCL.Value.eq left.old }
-    requires right { IsCanonical VCR.Value.eq right.old }
-    requires starts { lesser (first_key left.old) (first_key right.old) ≡ Some (T.rank start) }
-    ensures { IfOk result (λ taken. IsTaken VCL.Value.eq C.choice (T.rank start) left.old left.new
-        right.old right.new (T.rank taken.0) (option_map VCL.shown taken.1)) }
-{
-    if choice.is_by_right() {
-        if let Some(end) = right.end_at(start) {
-            let carrier = choice.take(left, right, end)?;
-            return Ok((end, carrier));
-        }
-    }
-    let end = steady_end(start, left, right);
-    let carrier = choice.take(left, right, end)?;
-    Ok((end, carrier))
-}
-
-/// Puts what is chosen from the first key of two streams up to a key up to which it stays the same behind a list, and lets
-/// those keys go.
+/// Puts the first piece that is chosen from two streams behind a list, and lets the keys up to its end go.
 fn choose_next<
     T: Integer,
     VCL: ValueCarrier,
@@ -114,10 +58,10 @@ fn choose_next<
     ensures { OnOk result (IsChoiceMade VCL.Value.eq T.low T.high C.choice (T.rank start) left.old
         left.new right.old right.new (P.entries out.old) (P.entries out.new)) }
 {
-    let (end, carrier) = take_piece(start, left, right, choice)?;
-    start.in_hand();
+    let (first, end, carrier) = choice.take(start, left, right)?;
+    first.in_hand();
     end.in_hand();
-    put_value(out, start, end, carrier)?;
+    put_value(out, first, end, carrier)?;
     Ok(())
 }
 

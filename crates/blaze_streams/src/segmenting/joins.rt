@@ -9,7 +9,7 @@ ghost use Rattle.blaze_streams.specs.RangeLists.{shown_ranges};
 use crate::carrier::ValueCarrier;
 use crate::cursor::Cursor;
 use crate::lists::canon_map::CanonMapIter;
-use crate::merge::chosen::steady_end;
+use crate::merge::pieces::steady_end;
 use crate::segmenting::cursors::lesser_of;
 use crate::sorted_disjoint_map::SortedDisjointMap;
 use blaze_int::Integer;

@@ -1,7 +1,8 @@
 -- The first and the last entry have the least and the greatest key.
-use Rattle.std.proofs.Common.{◌≡◌, ℕ, zero, suc, ◌-◌, ◌≤◌, ℤ, ◌≤ℤ◌, ◌<ℤ◌, List, [], ◌∷◌, length, Some, None, refl, ◌∙◌, subst, arith}
+use Rattle.std.proofs.Common.{◌≡◌, ℕ, zero, suc, ◌-◌, ◌≤◌, ℤ, ◌≤ℤ◌, ◌<ℤ◌, List, [], ◌∷◌, length, Some, None, refl, ◌∙◌, sym, ap, subst, arith}
 use Rattle.std.specs.List.{slice_get}
-use Rattle.std.proofs.lemmas.Int.{ints}
+use Rattle.std.specs.Option.{option_map}
+use Rattle.std.proofs.lemmas.Int.{ints, by_lt_z}
 use Rattle.blaze_table.specs.Entries.{Entry, at}
 use Rattle.blaze_table.specs.Canonical.{IsDisjoint, IsAscending}
 use Rattle.blaze_table.proofs.Canonical.Lookup.{at_in, at_under, at_over}
@@ -9,6 +10,9 @@ use Rattle.blaze_table.proofs.Canonical.Runs.{in_order}
 use Rattle.range_map_blaze.specs.Pairs.{IsFirstPair, IsLastPair}
 
 module _ {V : Type 0} where
+  none_some : (v : V) → None ≡ Some v → ⊥
+  none_some v p = cc
+
   nothing_under : (e : Entry V) (es : List (Entry V)) (j : ℤ) → IsAscending (e ∷ es) → j <ℤ e.lo → at (e ∷ es) j ≡ None
   nothing_under e [] j a l = at_under e [] j l
   nothing_under e (f ∷ fs) j a l = at_under e (f ∷ fs) j l ∙ nothing_under f fs j a.1 (omega (arith, ints, a.0))
@@ -38,6 +42,15 @@ module _ {V : Type 0} where
   pub first_of : (es : List (Entry V)) (e : Entry V) → IsDisjoint es → IsAscending es → slice_get es 0 ≡ Some e → IsFirstPair (at es) e.lo e.value
   first_of [] e d a p = absurd (cc)
   first_of (f ∷ fs) e d a p = let same : f ≡ e = cc in subst (λ (g : Entry V). IsFirstPair (at (f ∷ fs)) g.lo g.value) same (first_pair f fs d a)
+
+  -- what the least key says of the first entry
+  pub first_start : (es : List (Entry V)) (k : ℤ) (v : V) → IsDisjoint es → IsAscending es → IsFirstPair (at es) k v → option_map (λ e. e.lo) (slice_get es 0) ≡ Some k
+  first_start [] k v d a f = absurd (none_some v f.here)
+  first_start (e ∷ es) k v d a f = by_lt_z k e.lo
+      (λ l. absurd (none_some v (sym (nothing_under e es k a l) ∙ f.here)))
+      (λ l. by_lt_z e.lo k
+      (λ h. absurd (none_some e.value (sym (f.none_below e.lo h) ∙ at_in e es e.lo (omega (arith, ints)) d.0)))
+      (λ h. let same : e.lo ≡ k = omega (arith, ints) in ap (λ z. Some z) same))
 
   -- what the last entry says of the greatest key
   pub last_of : (es : List (Entry V)) (e : Entry V) → IsDisjoint es → IsAscending es → slice_get es (length es - 1) ≡ Some e → IsLastPair (at es) e.hi e.value

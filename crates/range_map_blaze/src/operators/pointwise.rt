@@ -34,9 +34,7 @@ pub fn difference<T: Integer, V: Eq + Clone>(
     ensures { IfOk result (λ map. IsChosen V.eq T.low T.high left_alone left.now.entries
         right.now.entries map.entries) }
 {
-    let keys = WithUnit::new(right.ranges());
-    let new = lent_chosen(left, left.range_values(), keys, &LeftAlone)?;
-    Ok(new)
+    lent_chosen(left, left.range_values(), right.range_values(), &LeftAlone)
 }
 
 /// The values on the keys that exactly one of the two maps has.

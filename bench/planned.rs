@@ -1,0 +1,189 @@
+//! Paints and removals as the library has to make them: what the range touches is seen first, places are made before anything
+//! is moved, and an end is moved by a search of its own. So a node can have an empty place for its value.
+use super::{RangeMap, length};
+
+/// What a node has as its value: none while one is on its way.
+pub type Held<V> = Option<V>;
+
+pub fn hold<V>(value: V) -> Held<V> {
+    Some(value)
+}
+
+pub fn held<V>(value: &Held<V>) -> &V {
+    value.as_ref().expect("a value")
+}
+
+pub fn give<V>(value: Held<V>) -> V {
+    value.expect("a value")
+}
+
+/// What a paint has to know of the entries that its range touches.
+struct Plan {
+    /// Where the range ends, joined with what is above it.
+    end: i64,
+    /// The first key of the entry that keeps a rest above the range.
+    rest: Option<i64>,
+    /// The end of the entry that starts where the range does, and whether its value is the same.
+    first: Option<(i64, bool)>,
+    /// The entry that starts below the range: first key, last key, and whether its value is the same.
+    left: Option<(i64, i64, bool)>,
+    /// The least start among the covered entries above the first, and whether there are more.
+    covered: Option<(i64, bool)>,
+    /// How many keys of the range have a value.
+    keys: u128,
+}
+
+impl<V: Eq + Clone> RangeMap<V> {
+    fn plan(&self, lo: i64, hi: i64, value: &V) -> Plan {
+        let mut plan = Plan { end: hi, rest: None, first: None, left: None, covered: None, keys: 0 };
+        for (&start, node) in self.tree.range(..=hi.saturating_add(1)).rev() {
+            let is_same = held(&node.1) == value;
+            if start <= hi && node.0 >= lo {
+                plan.keys += length(start.max(lo), node.0.min(hi));
+            }
+            if node.0 > hi && is_same {
+                plan.end = node.0;
+            } else if node.0 > hi && start <= hi {
+                plan.rest = Some(start);
+            }
+            if start > lo && (is_same || node.0 <= hi) {
+                plan.covered = Some((start, plan.covered.is_some()));
+            } else if start < lo {
+                plan.left = Some((start, node.0, is_same));
+                break;
+            } else if start == lo {
+                plan.first = Some((node.0, is_same));
+            }
+        }
+        plan
+    }
+
+    /// Puts a value on the keys from `lo` up to `hi`, and says whether the number of keys changed.
+    pub fn paint(&mut self, lo: i64, hi: i64, value: V) -> bool {
+        if lo > hi {
+            return false;
+        }
+        let plan = self.plan(lo, hi, &value);
+        let holder = plan.first.or(plan.left.map(|(_, end, is_same)| (end, is_same)));
+        if holder.is_some_and(|(end, is_same)| is_same && end >= hi) {
+            return false;
+        }
+        let painted = length(lo, hi);
+        self.len = self.len - plan.keys + painted;
+        let is_changed = plan.keys != painted;
+        match plan.left {
+            Some((start, end, true)) if end >= lo - 1 => self.paint_on(start, lo, plan),
+            Some((start, end, _)) if end > plan.end => {
+                let copy = self.set_end(start, lo - 1, |node| node.clone());
+                self.tree.insert(plan.end + 1, (end, copy));
+                self.tree.insert(lo, (plan.end, Some(value)));
+            }
+            _ => self.paint_beside(lo, value, plan),
+        }
+        is_changed
+    }
+
+    /// Lengthens the entry that starts at `start` over the range.
+    fn paint_on(&mut self, start: i64, lo: i64, plan: Plan) {
+        if let Some(rest) = plan.rest {
+            self.move_start(rest, plan.end + 1);
+        }
+        let covered = match plan.first {
+            Some((end, _)) if end <= plan.end => Some((lo, plan.covered.is_some())),
+            _ => plan.covered,
+        };
+        self.clear(start, plan.end, covered);
+        self.set_end(start, plan.end, |_| ());
+    }
+
+    /// Puts the value in an entry of its own.
+    fn paint_beside(&mut self, lo: i64, value: V, plan: Plan) {
+        let front = (plan.end, Some(value));
+        match plan.rest {
+            Some(rest) if rest == lo => {
+                self.tree.insert(plan.end + 1, (0, None));
+                if let Some(node) = self.tree.insert(lo, front) {
+                    self.fill(plan.end + 1, node);
+                }
+            }
+            rest => {
+                self.tree.insert(lo, front);
+                if let Some(rest) = rest {
+                    self.move_start(rest, plan.end + 1);
+                }
+            }
+        }
+        if let Some((start, end, _)) = plan.left
+            && end >= lo
+        {
+            self.set_end(start, lo - 1, |_| ());
+        }
+        self.clear(lo, plan.end, plan.covered);
+    }
+
+    fn set_end<R>(&mut self, start: i64, end: i64, answer: impl Fn(&Held<V>) -> R) -> R {
+        let node = self.tree.get_mut(&start).expect("an entry");
+        node.0 = end;
+        answer(&node.1)
+    }
+
+    fn move_start(&mut self, from: i64, to: i64) {
+        self.tree.insert(to, (0, None));
+        if let Some(node) = self.tree.remove(&from) {
+            self.fill(to, node);
+        }
+    }
+
+    fn fill(&mut self, start: i64, node: (i64, Held<V>)) {
+        if let Some(place) = self.tree.get_mut(&start) {
+            *place = node;
+        }
+    }
+
+    /// Takes out what starts above `first`, up to `end`.
+    fn clear(&mut self, first: i64, end: i64, covered: Option<(i64, bool)>) {
+        let Some((least, has_more)) = covered else { return };
+        self.tree.remove(&least);
+        while has_more && let Some((&start, _)) = self.tree.range(first + 1..=end).next() {
+            self.tree.remove(&start);
+        }
+    }
+
+    /// Takes a key out, and answers the value that was there.
+    pub fn remove(&mut self, key: i64) -> Option<V> {
+        let (&start, &(end, _)) = self.tree.range(..=key).next_back()?;
+        if end < key {
+            return None;
+        }
+        self.len -= 1;
+        if start == key {
+            return self.remove_first(key, end);
+        }
+        let value = self.set_end(start, key - 1, |value| value.clone());
+        if key < end {
+            self.tree.insert(key + 1, (end, value.clone()));
+        }
+        value
+    }
+
+    /// Takes the first key of an entry out.
+    fn remove_first(&mut self, key: i64, end: i64) -> Option<V> {
+        if key < end {
+            let copy = self.tree.get(&key)?.1.clone();
+            self.tree.insert(key + 1, (end, copy));
+        }
+        self.tree.remove(&key)?.1
+    }
+
+    /// Takes the least key out, and answers it with its value.
+    pub fn pop_first(&mut self) -> Option<(i64, V)> {
+        let (&key, &(end, ref value)) = self.tree.first_key_value()?;
+        if key < end {
+            let copy = value.clone();
+            self.tree.insert(key + 1, (end, copy));
+        }
+        self.len -= 1;
+        let (_, node) = self.tree.pop_first()?;
+        Some((key, give(node.1)))
+    }
+}
