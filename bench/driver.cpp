@@ -1,4 +1,4 @@
-// Measures the works of a range map on the library, on plain Rust, on Boost and on plain Rust under the library's conditions
+// Measures the works of a range map on the library, on plain Rust, on Boost and on plain Rust the library's way
 // (`planned.rs`), and prints the tables. Each side does a work
 // with no operation and with many; the difference of the least processor times of several rounds, in which the sides take
 // turns, is the time of the operations alone. A checksum of what they leave must be the same on each side.

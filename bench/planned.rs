@@ -1,4 +1,4 @@
-//! Paints and removals as the library has to make them: what the range touches is seen first, places are made before anything
+//! Paints and removals the library's way: what the range touches is seen first, places are made before anything
 //! is moved, and an end is moved by a search of its own. So a node can have an empty place for its value.
 use super::{RangeMap, length};
 

@@ -1,6 +1,6 @@
 #!/usr/bin/env bash
 # Measures the library beside plain Rust (`ranges.rs`, `one_pass.rs`) and Boost's interval_map, and prints tables in Markdown.
-# `planned.rs` is plain Rust under the library's conditions: what is refused leaves the map, and an end is moved by a search.
+# `planned.rs` is the library's way of a paint in plain Rust: places are made first, and an end is moved by a search.
 #
 #     bench/run.sh                    every work: some minutes on a machine that does nothing else
 #     bench/run.sh --quick            few operations and rounds: a look, no result
