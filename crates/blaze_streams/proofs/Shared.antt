@@ -89,11 +89,11 @@ module _ {A B : Type 0} where
           }
 
     -- where the first ranges share no key, the keys up to the first change are skipped
-    pub nothing_taken : (t : ℤ) (L L1 L' : List (Entry A)) (R R1 R' : List (Entry B)) → IsCanonical eqa L → IsCanonical eqb R → lesser (first_key L) (first_key R) ≡ Some s → (L1 ≡ L) × (R1 ≡ R) × (chosen_at left_with_right L R s ≡ None) → lesser (steady_to s L1) (steady_to s R1) ≡ Some t → L' ≡ after t L1 → R' ≡ after t R1
+    pub nothing_taken : (t : ℤ) (L Lk L' : List (Entry A)) (R Rk R' : List (Entry B)) → IsCanonical eqa L → IsCanonical eqb R → lesser (first_key L) (first_key R) ≡ Some s → (Lk ≡ L) × (Rk ≡ R) × (chosen_at left_with_right L R s ≡ None) → lesser (steady_to s Lk) (steady_to s Rk) ≡ Some t → L' ≡ after t Lk → R' ≡ after t Rk
         → IsTaken eqa left_with_right s L L' R R' s t None
-    nothing_taken t L L1 L' R R1 R' ca cb starts same ends left_is right_is =
+    nothing_taken t L Lk L' R Rk R' ca cb starts same ends left_is right_is =
         taken_steady eqa eqb eqa left_with_right L L' R R' s t None ca cb starts
-        (subst (λ l. lesser (steady_to s l) (steady_to s R) ≡ Some t) same.0 (subst (λ r. lesser (steady_to s L1) (steady_to s r) ≡ Some t) same.1 ends))
+        (subst (λ l. lesser (steady_to s l) (steady_to s R) ≡ Some t) same.0 (subst (λ r. lesser (steady_to s Lk) (steady_to s r) ≡ Some t) same.1 ends))
         (same_none eqa (chosen_at left_with_right L R s) same.2)
         (left_is ∙ ap (after t) same.0) (right_is ∙ ap (after t) same.1)
 

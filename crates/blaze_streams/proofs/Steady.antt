@@ -1,7 +1,7 @@
 -- How far a list stays as it is.
 use Rattle.std.proofs.Common.{◌≡◌, ℤ, pos, ◌+ℤ◌, ◌-ℤ◌, ◌≤ℤ◌, ◌<ℤ◌, Bool, cond, List, [], ◌∷◌, Option, Some, None, refl, ◌∙◌, sym, subst, ap, arith, inl, inr, ⊎_elim}
 use Rattle.std.specs.Prelude.{◌⊎◌, int_le}
-use Rattle.std.specs.Option.{is_some}
+use Rattle.std.specs.Option.{is_some, option_map}
 use Rattle.std.specs.Cmp.{IsEquivalence}
 use Rattle.std.proofs.lemmas.Int.{ints, by_lt_z}
 use Rattle.blaze_int.proofs.Comparisons.{le_true, le_false}
@@ -115,3 +115,17 @@ module _ {A : Type 0} where
     after_alone s t (e ∷ es) c f n m = by_steady s e es
         (λ b p. absurd (cc (sym (at_in e es s b (omega (arith, ints, c.0, f))) ∙ n)))
         (λ b p. let u : t ≤ℤ (e.lo -ℤ pos 1) = subst (AtMost t) p m in sym (after_keeps t e es (omega (arith, ints, c.0)) (omega (arith, ints))))
+
+    -- where nothing is at s, nothing changes up to the key before the first
+    pub steady_alone : (s : ℤ) (es : List (Entry A)) → IsCanonical eq es → IsFrom s es → at es s ≡ None → steady_to s es ≡ option_map (λ k. k -ℤ pos 1) (first_key es)
+    steady_alone s [] c f n = refl
+    steady_alone s (e ∷ es) c f n = by_steady s e es
+        (λ b p. absurd (cc (sym (at_in e es s b (omega (arith, ints, c.0, f))) ∙ n)))
+        (λ b p. p)
+
+    -- and the first key is above s
+    pub first_over : (s k : ℤ) (es : List (Entry A)) → IsCanonical eq es → IsFrom s es → at es s ≡ None → first_key es ≡ Some k → s <ℤ k
+    first_over s k [] c f n p = cc
+    first_over s k (e ∷ es) c f n p = by_lt_z s e.lo
+        (λ l. let same = same_some e.lo k p in omega (arith, ints))
+        (λ l. absurd (cc (sym (at_in e es s l (omega (arith, ints, c.0, f))) ∙ n)))

@@ -1,7 +1,8 @@
 -- What is taken of two lists.
-use Rattle.std.proofs.Common.{◌≡◌, ℤ, ◌≤ℤ◌, Bool, true, false, List, Option, Some, None, refl, ◌∙◌, sym, subst, ap, arith, ⊎_elim}
+use Rattle.std.proofs.Common.{◌≡◌, ℤ, pos, ◌-ℤ◌, ◌≤ℤ◌, ◌<ℤ◌, Bool, true, false, List, Option, Some, None, refl, ◌∙◌, sym, subst, ap, arith, ⊎_elim}
 use Rattle.std.specs.Cmp.{IsEquivalence}
-use Rattle.std.specs.Option.{is_some, option_xor}
+use Rattle.std.specs.Prelude.{IfSome}
+use Rattle.std.specs.Option.{is_some, option_map, option_xor}
 use Rattle.std.proofs.lemmas.Int.{ints}
 use Rattle.blaze_entries.proofs.Alike.{same_along, same_none, same_trans}
 use Rattle.blaze_table.specs.Entries.{Entry, entry, at, SameOption}
@@ -12,7 +13,7 @@ use Rattle.blaze_streams.specs.Choosing.{IsRangeTaken, IsTaken, PutsAlike, IsCho
 use Rattle.blaze_streams.specs.Cursors.{first_key, steady_to, IsFrom, lesser}
 use Rattle.blaze_streams.proofs.ChosenSoFar.{both_from, chosen_at}
 use Rattle.blaze_streams.proofs.Lesser.{at_most_both, at_most_itself, lesser_exchanged, lesser_one}
-use Rattle.blaze_streams.proofs.Steady.{AtMost, after_alone, after_first, steady, steady_far}
+use Rattle.blaze_streams.proofs.Steady.{AtMost, after_alone, after_first, first_over, starts_there, steady, steady_alone, steady_far}
 
 pub none_of : {A : Type 0} (o : Option A) → is_some o ≡ false → o ≡ None
 none_of None p = refl
@@ -60,12 +61,27 @@ module _ {A B : Type 0} (eqa : A → A → Bool) (eqb : B → B → Bool) (s t :
   to : AtMost t (steady_to s L) × AtMost t (steady_to s R)
   to = at_most_both (steady_to s L) (steady_to s R) t (at_most_itself _ t ends)
 
-  pub same_at_end : at L t ≡ at L s
-  same_at_end = steady eqa s t t L ca from.0 to.0
-      (⊎_elim (λ e. steady_far eqa s t L ca from.0 e) (λ e. steady_far eqb s t R cb from.1 e) (lesser_one (steady_to s L) (steady_to s R) t ends)) (omega (arith, ints))
-
   pub other_kept : at R s ≡ None → R ≡ after t R
   other_kept alone = after_alone eqb s t R cb from.1 alone to.1
+
+-- of two lists, what the one has at their first key and the other has not
+module _ {A B : Type 0} (eqa : A → A → Bool) (eqb : B → B → Bool) (s : ℤ) (L : List (Entry A)) (R : List (Entry B)) (cb : IsCanonical eqb R) (starts : lesser (first_key L) (first_key R) ≡ Some s) (alone : at R s ≡ None) where
+  pub starts_alone : first_key L ≡ Some s
+  starts_alone = ⊎_elim (λ e. e) (λ e. let there = starts_there eqb s R cb e in absurd (some_none there.0 (sym there.1 ∙ alone))) (lesser_one (first_key L) (first_key R) s starts)
+    where
+      some_none : (v : B) → Some v ≡ None → ⊥
+      some_none v p = cc
+
+  pub over_alone : {T : Type 0} (rank : T → ℤ) (bound : Option T) → option_map rank bound ≡ first_key R → IfSome bound (λ b. s <ℤ rank b)
+  over_alone rank None p = tt
+  over_alone rank (Some b) p = first_over eqb s (rank b) R cb (both_from s L R starts).1 alone (sym p)
+
+  pub ends_alone : {T : Type 0} (rank : T → ℤ) (bound : Option T) (t : ℤ) → option_map rank bound ≡ first_key R → lesser (steady_to s L) (option_map (λ b. rank b -ℤ pos 1) bound) ≡ Some t → lesser (steady_to s L) (steady_to s R) ≡ Some t
+  ends_alone {T = T} rank bound t p q = ap (lesser (steady_to s L)) (steady_alone eqb s R cb (both_from s L R starts).1 alone ∙ sym (ap (option_map (λ k. k -ℤ pos 1)) p) ∙ before_all bound) ∙ q
+    where
+      before_all : (o : Option T) → option_map (λ k. k -ℤ pos 1) (option_map rank o) ≡ option_map (λ b. rank b -ℤ pos 1) o
+      before_all None = refl
+      before_all (Some b) = refl
 
 -- what one of two lists has alone is chosen
 module _ {A B : Type 0} (eqa : A → A → Bool) (eqb : B → B → Bool) (s t : ℤ) (value : Option A) (L L' : List (Entry A)) (R R' : List (Entry B)) (ca : IsCanonical eqa L) (cb : IsCanonical eqb R) (starts : lesser (first_key L) (first_key R) ≡ Some s) (alone : at R s ≡ None) (kept : R' ≡ R) (ends : lesser (steady_to s L) (steady_to s R') ≡ Some t) (alike : SameOption eqa (at L s) value) (left_is : L' ≡ after t L) (right_is : R' ≡ after t R') where

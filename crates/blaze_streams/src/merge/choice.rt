@@ -63,7 +63,7 @@ impl<VC: ValueCarrier> Choice<VC, VC> for RightFirst {
             return Ok((start, end, Some(carrier)));
         }
         let (end, carrier) = take_alone(start, left, right)?;
-        Ok((start, end, carrier))
+        Ok((start, end, Some(carrier)))
     }
 
     ghost from_nothing = { refl };
@@ -87,11 +87,11 @@ impl<VC: ValueCarrier> Choice<VC, VC> for ExactlyOne {
     ) -> Result<(T, T, Option<VC>), AllocError> {
         if !right.has(start) {
             let (end, carrier) = take_alone(start, left, right)?;
-            return Ok((start, end, carrier));
+            return Ok((start, end, Some(carrier)));
         }
         if !left.has(start) {
             let (end, carrier) = take_alone(start, right, left)?;
-            return Ok((start, end, carrier));
+            return Ok((start, end, Some(carrier)));
         }
         let end = skip(start, left, right);
         Ok((start, end, None))
@@ -147,7 +147,7 @@ impl<VCL: ValueCarrier, VCR: ValueCarrier> Choice<VCL, VCR> for LeftAlone {
             return Ok((start, covered.0, None));
         }
         let (end, carrier) = take_alone(start, left, right)?;
-        Ok((start, end, carrier))
+        Ok((start, end, Some(carrier)))
     }
 
     ghost from_nothing = { refl };

@@ -67,11 +67,7 @@ pub fn take_alone<
     VCO: ValueCarrier,
     I: SortedDisjointMap<T, VC>,
     O: SortedDisjointMap<T, VCO>,
->(
-    start: T,
-    cursor: &mut Cursor<T, VC, I>,
-    other: &Cursor<T, VCO, O>,
-) -> Result<(T, Option<VC>), AllocError>
+>(start: T, cursor: &mut Cursor<T, VC, I>, other: &Cursor<T, VCO, O>) -> Result<(T, VC), AllocError>
     requires can { VC.can_carry }
     requires cursor { IsCanonical VC.Value.eq cursor.old }
     requires other { IsCanonical VCO.Value.eq other.now }
@@ -80,12 +76,11 @@ pub fn take_alone<
     ensures ends { IfOk result (λ taken. lesser (steady_to (T.rank start) cursor.old)
         (steady_to (T.rank start) other.now) ≡ Some (T.rank taken.0)) }
     ensures carrier { IfOk result (λ taken. SameOption VC.Value.eq
-        (at cursor.old (T.rank start)) (option_map VC.shown taken.1)) }
+        (at cursor.old (T.rank start)) (Some (VC.shown taken.1))) }
     ensures left { IfOk result (λ taken. cursor.new ≡ after (T.rank taken.0) cursor.old) }
     ensures other { IfOk result (λ taken. other.now ≡ after (T.rank taken.0) other.now) }
 {
-    let end = steady_end(start, cursor, other);
-    let carrier = cursor.take(end)?;
+    let (end, carrier) = cursor.take_below(start, other.first())?;
     Ok((end, carrier))
 }
 

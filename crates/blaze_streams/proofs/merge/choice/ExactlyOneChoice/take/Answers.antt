@@ -1,5 +1,5 @@
-use Rattle.std.specs.Option.{option_map, option_xor}
-use Rattle.std.proofs.Common.{refl, ◌∙◌, sym}
+use Rattle.std.specs.Option.{option_xor}
+use Rattle.std.proofs.Common.{Some, refl, ◌∙◌, sym}
 use Rattle.blaze_streams.specs.Cursors.{first_key}
 use Rattle.blaze_streams.proofs.Lesser.{lesser_exchanged}
 use Rattle.blaze_streams.proofs.Taken.{both_skipped, left_taken, none_of, none_xor, right_taken, xor_none}
@@ -9,7 +9,7 @@ pub returns-then-not-has : goal.returns-then-not-has
 returns-then-not-has g c =
     let rank = g.T.Integer.rank in
     let eq = g.VC.Value.PartialEq.eq in
-    left_taken eq eq (rank c.args.start) (rank c.in_ok-end.end) (option_map g.VC.ValueCarrier.shown c.in_ok-end.carrier) c.args.left.now c.take_alone.new.cursor c.args.right.now c.args.right.now
+    left_taken eq eq (rank c.args.start) (rank c.in_ok-end.end) (Some (g.VC.ValueCarrier.shown c.in_ok-end.carrier)) c.args.left.now c.take_alone.new.cursor c.args.right.now c.args.right.now
     c.requires.left c.requires.right c.requires.starts (none_of _ (sym c.has.ensures ∙ c.if-not-has.true)) refl c.in_ok-end.ensures.ends c.in_ok-end.ensures.carrier c.in_ok-end.ensures.left c.in_ok-end.ensures.other
     option_xor xor_none
 
@@ -23,7 +23,7 @@ pub returns-then-not-has-2 : goal.returns-then-not-has-2
 returns-then-not-has-2 g c =
     let rank = g.T.Integer.rank in
     let eq = g.VC.Value.PartialEq.eq in
-    right_taken eq eq (rank c.args.start) (rank c.in_ok-end-2.end) (option_map g.VC.ValueCarrier.shown c.in_ok-end-2.carrier) c.args.right.now c.take_alone-then-not-has-2.new.cursor c.args.left.now c.args.left.now
+    right_taken eq eq (rank c.args.start) (rank c.in_ok-end-2.end) (Some (g.VC.ValueCarrier.shown c.in_ok-end-2.carrier)) c.args.right.now c.take_alone-then-not-has-2.new.cursor c.args.left.now c.args.left.now
     c.requires.right c.requires.left (lesser_exchanged (first_key c.args.right.now) (first_key c.args.left.now) ∙ c.requires.starts) (none_of _ (sym c.has-2.ensures ∙ c.if-not-has-2.true)) refl
     c.in_ok-end-2.ensures.ends c.in_ok-end-2.ensures.carrier c.in_ok-end-2.ensures.left c.in_ok-end-2.ensures.other
     option_xor none_xor
