@@ -43,6 +43,8 @@ fn run(rt: &HostRuntime) -> Result<(), Fault> {
     many_joins::of_streams(rt)?;
     many_joins::sweeps(rt)?;
     moved::merged(rt)?;
+    moved::operated(rt)?;
+    moved::operated_with_set(rt)?;
     moved::painted(rt)?;
     labelled::coarse(rt)?;
     labelled::refused_append(rt)?;

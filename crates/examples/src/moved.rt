@@ -1,4 +1,4 @@
-//! Values that are moved and not cloned: a merge of streams by value, pairs painted in order.
+//! Values that are moved and not cloned: a merge of streams by value, operators on maps by value, pairs painted in order.
 ghost use Rattle.std.specs.Prelude.{◌≡◌, nat_eq};
 ghost use Rattle.std.proofs.Common.{rules};
 ghost use Rattle.std.specs.Cmp.Rules.{comparing};
@@ -6,6 +6,7 @@ ghost use Rattle.std.specs.Ordering.{on};
 
 use blaze_streams::{Owned, OwnedRangeValuesIter, SortedDisjointMap, canonical_of, union_of};
 use blaze_table::RangeTable;
+use range_map_blaze::{RangeMapBlaze, RangeSetBlaze};
 use std::alloc::{AllocError, Global};
 
 /// A number whose clone is refused.
@@ -59,6 +60,70 @@ pub fn merged(rt: &HostRuntime) -> Result<(), AllocError> {
     let left = stream_of(alloc, &[(0, 9, 1)])?;
     let cut = union_of(alloc, left, stream_of(alloc, &[(4, 4, 2)])?);
     let _ = println!(rt; "refused: {}", cut.is_err());
+    Ok(())
+}
+
+/// A map whose values refuse to be cloned.
+type Map = RangeMapBlaze<i64, Uncloned>;
+
+/// A map of ranges.
+fn map_of(alloc: Global, ranges: &[(i64, i64, u32)]) -> Result<Map, AllocError> {
+    let mut map = RangeMapBlaze::new(alloc);
+    for (start, end, number) in ranges {
+        let _ = map.ranges_insert(*start..=*end, Uncloned(*number))?;
+    }
+    Ok(map)
+}
+
+/// A map with the keys 0..=9 and 20..=29.
+fn left(alloc: Global) -> Result<Map, AllocError> {
+    map_of(alloc, &[(0, 9, 1), (20, 29, 2)])
+}
+
+/// A map with the keys 0..=9 and 40..=49.
+fn right(alloc: Global) -> Result<Map, AllocError> {
+    map_of(alloc, &[(0, 9, 3), (40, 49, 4)])
+}
+
+/// A set with the keys 0..=9.
+fn set(alloc: Global) -> Result<RangeSetBlaze<i64>, AllocError> {
+    RangeSetBlaze::from_ranges(alloc, vec![in alloc; 0..=9]?)
+}
+
+/// Prints the entries of a map.
+fn show(rt: &HostRuntime, call: &str, map: Result<Map, AllocError>) {
+    let Ok(map) = map else {
+        let _ = println!(rt; "{call}: refused");
+        return;
+    };
+    for (range, value) in map.range_values() {
+        let _ = println!(rt; "{call}: {range:?} {}", value.0);
+    }
+}
+
+/// Operators on maps by value, in which no piece leaves a rest of its range behind; the same on maps that are lent.
+pub fn operated(rt: &HostRuntime) -> Result<(), AllocError> {
+    let alloc = rt.alloc();
+    show(rt, "a & b", left(alloc)? & right(alloc)?);
+    show(rt, "&a & b", &left(alloc)? & right(alloc)?);
+    show(rt, "a & &b", left(alloc)? & &right(alloc)?);
+    show(rt, "a - b", left(alloc)? - right(alloc)?);
+    show(rt, "a - &b", left(alloc)? - &right(alloc)?);
+    show(rt, "&a - b", &left(alloc)? - right(alloc)?);
+    show(rt, "a ^ b", left(alloc)? ^ right(alloc)?);
+    show(rt, "a ^ &b", left(alloc)? ^ &right(alloc)?);
+    Ok(())
+}
+
+/// The same with a set.
+pub fn operated_with_set(rt: &HostRuntime) -> Result<(), AllocError> {
+    let alloc = rt.alloc();
+    show(rt, "a & s", left(alloc)? & set(alloc)?);
+    show(rt, "a & &s", left(alloc)? & &set(alloc)?);
+    show(rt, "&a & s", &left(alloc)? & set(alloc)?);
+    show(rt, "a - s", left(alloc)? - set(alloc)?);
+    show(rt, "a - &s", left(alloc)? - &set(alloc)?);
+    show(rt, "&a - s", &left(alloc)? - set(alloc)?);
     Ok(())
 }
 

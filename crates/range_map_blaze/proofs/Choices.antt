@@ -3,7 +3,7 @@ use Rattle.std.proofs.Common.{◌≡◌, ℤ, Bool, List, Option, Some, None, is
 use Rattle.std.specs.Cmp.{IsEquivalence}
 use Rattle.blaze_entries.proofs.Alike.{same_trans}
 use Rattle.blaze_table.specs.Entries.{Entry, at, SameOption, SameEntries}
-use Rattle.blaze_table.specs.Chosen.{right_first, left_with_right, IsChosen}
+use Rattle.blaze_table.specs.Chosen.{right_first, left_with_right, left_alone, IsChosen}
 use Rattle.blaze_table.specs.Complement.{absent, IsComplement}
 use Rattle.blaze_table.proofs.Paints.Painted.{content_as}
 use Rattle.blaze_table.proofs.Canonical.Unique.{back}
@@ -15,6 +15,12 @@ with_keys x None None p = refl
 with_keys x None (Some b) p = cc
 with_keys x (Some a) None p = cc
 with_keys x (Some a) (Some b) p = refl
+
+without_keys : {V A B : Type 0} (x : Option V) (y : Option A) (z : Option B) → is_some y ≡ is_some z → left_alone x y ≡ left_alone x z
+without_keys x None None p = refl
+without_keys x None (Some b) p = cc
+without_keys x (Some a) None p = cc
+without_keys x (Some a) (Some b) p = refl
 
 absent_keys : {V A B : Type 0} (w : V) (y : Option A) (z : Option B) → is_some y ≡ is_some z → absent w y ≡ absent w z
 absent_keys w None None p = refl
@@ -42,6 +48,12 @@ module _ {V : Type 0} (eq : V → V → Bool) (laws : IsEquivalence eq) (low hig
   chosen_with left ranges right new same c = record {
     range_map = c.range_map;
     content = λ k. subst (SameOption eq (at new k)) (with_keys (at left k) (at ranges k) (at right k) (same k)) (c.content k);
+  }
+
+  pub chosen_without : {A B : Type 0} (left : List (Entry V)) (ranges : List (Entry A)) (right : List (Entry B)) (new : List (Entry V)) → ((k : ℤ) → is_some (at ranges k) ≡ is_some (at right k)) → IsChosen eq low high left_alone left ranges new → IsChosen eq low high left_alone left right new
+  chosen_without left ranges right new same c = record {
+    range_map = c.range_map;
+    content = λ k. subst (SameOption eq (at new k)) (without_keys (at left k) (at ranges k) (at right k) (same k)) (c.content k);
   }
 
   -- painted over a map that is like the left one

@@ -5,7 +5,9 @@ ghost use Rattle.blaze_table.specs.Chosen.{left_with_right, IsChosen};
 ghost use Rattle.blaze_table.specs.Painted.{ClonesAreAlike};
 
 use crate::map::RangeMapBlaze;
-use crate::operators::pointwise::{intersection, intersection_with_set};
+use crate::operators::pointwise::{
+    intersection, intersection_by_value, intersection_by_value_with_set, intersection_with_set,
+};
 use blaze_int::Integer;
 use blaze_table::RangeSetBlaze;
 use std::alloc::AllocError;
@@ -21,7 +23,7 @@ impl<T: Integer, V: Eq + Clone> BitAnd for RangeMapBlaze<T, V> {
         left.entries map.entries) };
 
     fn bitand(self, right: RangeMapBlaze<T, V>) -> Result<RangeMapBlaze<T, V>, AllocError> {
-        intersection(&self, &right)
+        intersection_by_value(&self, right)
     }
 }
 
@@ -49,7 +51,7 @@ impl<'a, T: Integer, V: Eq + Clone> BitAnd<RangeMapBlaze<T, V>> for &'a RangeMap
         left.now.entries map.entries) };
 
     fn bitand(self, right: RangeMapBlaze<T, V>) -> Result<RangeMapBlaze<T, V>, AllocError> {
-        intersection(self, &right)
+        intersection_by_value(self, right)
     }
 }
 
@@ -77,7 +79,7 @@ impl<T: Integer, V: Eq + Clone> BitAnd<RangeSetBlaze<T>> for RangeMapBlaze<T, V>
         (λ map. IsChosen V.eq T.low T.high left_with_right left.entries right map.entries) };
 
     fn bitand(self, right: RangeSetBlaze<T>) -> Result<RangeMapBlaze<T, V>, AllocError> {
-        intersection_with_set(&self, &right)
+        intersection_by_value_with_set(self, &right)
     }
 }
 
@@ -90,7 +92,7 @@ impl<'b, T: Integer, V: Eq + Clone> BitAnd<&'b RangeSetBlaze<T>> for RangeMapBla
         (λ map. IsChosen V.eq T.low T.high left_with_right left.entries right.now map.entries) };
 
     fn bitand(self, right: &'b RangeSetBlaze<T>) -> Result<RangeMapBlaze<T, V>, AllocError> {
-        intersection_with_set(&self, right)
+        intersection_by_value_with_set(self, right)
     }
 }
 

@@ -6,7 +6,7 @@ ghost use Rattle.blaze_table.specs.Chosen.{IsChosen};
 ghost use Rattle.blaze_table.specs.Painted.{ClonesAreAlike};
 
 use crate::map::RangeMapBlaze;
-use crate::operators::pointwise::symmetric_difference;
+use crate::operators::pointwise::{symmetric_difference, symmetric_difference_by_value};
 use blaze_int::Integer;
 use std::alloc::AllocError;
 use std::ops::BitXor;
@@ -20,7 +20,7 @@ impl<T: Integer, V: Eq + Clone> BitXor for RangeMapBlaze<T, V> {
         (λ map. IsChosen V.eq T.low T.high option_xor left.entries right.entries map.entries) };
 
     fn bitxor(self, right: RangeMapBlaze<T, V>) -> Result<RangeMapBlaze<T, V>, AllocError> {
-        symmetric_difference(&self, &right)
+        symmetric_difference_by_value(self, right)
     }
 }
 

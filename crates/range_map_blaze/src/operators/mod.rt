@@ -5,6 +5,7 @@ mod bit_xor;
 pub mod complements;
 pub mod lent;
 mod not;
+pub mod owned;
 pub mod pointwise;
 mod sub;
 pub mod union;

@@ -6,8 +6,9 @@ ghost use Rattle.blaze_table.specs.Painted.{ClonesAreAlike};
 
 use crate::map::RangeMapBlaze;
 use crate::operators::lent::lent_chosen;
+use crate::operators::owned::owned_chosen;
 use blaze_int::Integer;
-use blaze_streams::{ExactlyOne, LeftAlone, LeftWithRight, WithUnit};
+use blaze_streams::{ExactlyOne, LeftAlone, LeftWithRight, OwnedRangeValuesIter, WithUnit};
 use blaze_table::RangeSetBlaze;
 use std::alloc::AllocError;
 
@@ -25,6 +26,20 @@ pub fn intersection<T: Integer, V: Eq + Clone>(
     Ok(new)
 }
 
+/// The same, with the right map's own values.
+pub fn intersection_by_value<T: Integer, V: Eq + Clone>(
+    left: &RangeMapBlaze<T, V>,
+    right: RangeMapBlaze<T, V>,
+) -> Result<RangeMapBlaze<T, V>, AllocError>
+    requires { ClonesAreAlike V.is_clone V.eq }
+    ensures { IfOk result (λ map. IsChosen V.eq T.low T.high left_with_right right.entries
+        left.now.entries map.entries) }
+{
+    let keys = WithUnit::new(left.ranges());
+    let new = owned_chosen(right, keys, &LeftWithRight)?;
+    Ok(new)
+}
+
 /// The values of the left map off the keys of the right.
 pub fn difference<T: Integer, V: Eq + Clone>(
     left: &RangeMapBlaze<T, V>,
@@ -37,6 +52,20 @@ pub fn difference<T: Integer, V: Eq + Clone>(
     lent_chosen(left, left.range_values(), right.range_values(), &LeftAlone)
 }
 
+/// The same, with the left map's own values.
+pub fn difference_by_value<T: Integer, V: Eq + Clone>(
+    left: RangeMapBlaze<T, V>,
+    right: &RangeMapBlaze<T, V>,
+) -> Result<RangeMapBlaze<T, V>, AllocError>
+    requires { ClonesAreAlike V.is_clone V.eq }
+    ensures { IfOk result (λ map. IsChosen V.eq T.low T.high left_alone left.entries
+        right.now.entries map.entries) }
+{
+    let keys = WithUnit::new(right.ranges());
+    let new = owned_chosen(left, keys, &LeftAlone)?;
+    Ok(new)
+}
+
 /// The values on the keys that exactly one of the two maps has.
 pub fn symmetric_difference<T: Integer, V: Eq + Clone>(
     left: &RangeMapBlaze<T, V>,
@@ -47,6 +76,19 @@ pub fn symmetric_difference<T: Integer, V: Eq + Clone>(
         right.now.entries map.entries) }
 {
     lent_chosen(left, left.range_values(), right.range_values(), &ExactlyOne)
+}
+
+/// The same, with both maps' own values.
+pub fn symmetric_difference_by_value<T: Integer, V: Eq + Clone>(
+    left: RangeMapBlaze<T, V>,
+    right: RangeMapBlaze<T, V>,
+) -> Result<RangeMapBlaze<T, V>, AllocError>
+    requires { ClonesAreAlike V.is_clone V.eq }
+    ensures { IfOk result (λ map. IsChosen V.eq T.low T.high option_xor left.entries
+        right.entries map.entries) }
+{
+    let new = owned_chosen(left, OwnedRangeValuesIter::new(right.table), &ExactlyOne)?;
+    Ok(new)
 }
 
 /// The values of a map on the keys of a set.
@@ -63,6 +105,20 @@ pub fn intersection_with_set<T: Integer, V: Eq + Clone>(
     Ok(new)
 }
 
+/// The same, with the map's own values.
+pub fn intersection_by_value_with_set<T: Integer, V: Eq + Clone>(
+    map: RangeMapBlaze<T, V>,
+    set: &RangeSetBlaze<T>,
+) -> Result<RangeMapBlaze<T, V>, AllocError>
+    requires { ClonesAreAlike V.is_clone V.eq }
+    ensures { IfOk result (λ new. IsChosen V.eq T.low T.high left_with_right map.entries
+        set.now new.entries) }
+{
+    let keys = WithUnit::new(set.ranges());
+    let new = owned_chosen(map, keys, &LeftWithRight)?;
+    Ok(new)
+}
+
 /// The values of a map off the keys of a set.
 pub fn difference_with_set<T: Integer, V: Eq + Clone>(
     map: &RangeMapBlaze<T, V>,
@@ -74,5 +130,19 @@ pub fn difference_with_set<T: Integer, V: Eq + Clone>(
 {
     let keys = WithUnit::new(set.ranges());
     let new = lent_chosen(map, map.range_values(), keys, &LeftAlone)?;
+    Ok(new)
+}
+
+/// The same, with the map's own values.
+pub fn difference_by_value_with_set<T: Integer, V: Eq + Clone>(
+    map: RangeMapBlaze<T, V>,
+    set: &RangeSetBlaze<T>,
+) -> Result<RangeMapBlaze<T, V>, AllocError>
+    requires { ClonesAreAlike V.is_clone V.eq }
+    ensures { IfOk result (λ new. IsChosen V.eq T.low T.high left_alone map.entries
+        set.now new.entries) }
+{
+    let keys = WithUnit::new(set.ranges());
+    let new = owned_chosen(map, keys, &LeftAlone)?;
     Ok(new)
 }

@@ -5,7 +5,9 @@ ghost use Rattle.blaze_table.specs.Chosen.{left_alone, IsChosen};
 ghost use Rattle.blaze_table.specs.Painted.{ClonesAreAlike};
 
 use crate::map::RangeMapBlaze;
-use crate::operators::pointwise::{difference, difference_with_set};
+use crate::operators::pointwise::{
+    difference, difference_by_value, difference_by_value_with_set, difference_with_set,
+};
 use blaze_int::Integer;
 use blaze_table::RangeSetBlaze;
 use std::alloc::AllocError;
@@ -20,7 +22,7 @@ impl<T: Integer, V: Eq + Clone> Sub for RangeMapBlaze<T, V> {
         (λ map. IsChosen V.eq T.low T.high left_alone left.entries right.entries map.entries) };
 
     fn sub(self, right: RangeMapBlaze<T, V>) -> Result<RangeMapBlaze<T, V>, AllocError> {
-        difference(&self, &right)
+        difference_by_value(self, &right)
     }
 }
 
@@ -33,7 +35,7 @@ impl<'b, T: Integer, V: Eq + Clone> Sub<&'b RangeMapBlaze<T, V>> for RangeMapBla
         (λ map. IsChosen V.eq T.low T.high left_alone left.entries right.now.entries map.entries) };
 
     fn sub(self, right: &'b RangeMapBlaze<T, V>) -> Result<RangeMapBlaze<T, V>, AllocError> {
-        difference(&self, right)
+        difference_by_value(self, right)
     }
 }
 
@@ -73,7 +75,7 @@ impl<T: Integer, V: Eq + Clone> Sub<RangeSetBlaze<T>> for RangeMapBlaze<T, V> {
         (λ map. IsChosen V.eq T.low T.high left_alone left.entries right map.entries) };
 
     fn sub(self, right: RangeSetBlaze<T>) -> Result<RangeMapBlaze<T, V>, AllocError> {
-        difference_with_set(&self, &right)
+        difference_by_value_with_set(self, &right)
     }
 }
 
@@ -86,7 +88,7 @@ impl<'b, T: Integer, V: Eq + Clone> Sub<&'b RangeSetBlaze<T>> for RangeMapBlaze<
         (λ map. IsChosen V.eq T.low T.high left_alone left.entries right.now map.entries) };
 
     fn sub(self, right: &'b RangeSetBlaze<T>) -> Result<RangeMapBlaze<T, V>, AllocError> {
-        difference_with_set(&self, right)
+        difference_by_value_with_set(self, right)
     }
 }
 

@@ -5,9 +5,9 @@ ghost use Rattle.range_map_blaze.specs.Union.{IsUnion};
 
 use crate::map::RangeMapBlaze;
 use crate::operators::lent::lent_chosen;
+use crate::operators::owned::owned_chosen;
 use blaze_int::Integer;
-use blaze_streams::{OwnedRangeValuesIter, RightFirst, entries_chosen_of};
-use blaze_table::RangeTable;
+use blaze_streams::{OwnedRangeValuesIter, RightFirst};
 use std::alloc::AllocError;
 
 /// How a union is made, which changes nothing of what it is.
@@ -93,14 +93,8 @@ fn merged_by_value<T: Integer, V: Eq + Clone>(
 {
     left.in_hand();
     right.in_hand();
-    let alloc = left.allocator();
-    let (left, right) = (
-        OwnedRangeValuesIter::new(left.table),
-        OwnedRangeValuesIter::new(right.table),
-    );
-    let entries = entries_chosen_of(alloc, left, right, &RightFirst)?;
-    let table = RangeTable::from_canonical(alloc, entries)?;
-    Ok(RangeMapBlaze { table })
+    let map = owned_chosen(left, OwnedRangeValuesIter::new(right.table), &RightFirst)?;
+    Ok(map)
 }
 
 /// The same, where the left map may be painted over.
