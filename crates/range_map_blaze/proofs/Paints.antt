@@ -8,3 +8,4 @@ pub mod Fillings
 pub mod FilledUnder
 pub mod Unpainted
 pub mod Following
+pub mod OnRanges

@@ -3,6 +3,7 @@ mod bit_and;
 mod bit_or;
 mod bit_xor;
 pub mod complements;
+pub mod few;
 pub mod lent;
 mod not;
 pub mod owned;

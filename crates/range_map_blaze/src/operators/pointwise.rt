@@ -5,6 +5,7 @@ ghost use Rattle.blaze_table.specs.Chosen.{left_with_right, left_alone, IsChosen
 ghost use Rattle.blaze_table.specs.Painted.{ClonesAreAlike};
 
 use crate::map::RangeMapBlaze;
+use crate::operators::few::{are_few, values_on};
 use crate::operators::lent::lent_chosen;
 use crate::operators::owned::owned_chosen;
 use blaze_int::Integer;
@@ -12,7 +13,7 @@ use blaze_streams::{ExactlyOne, LeftAlone, LeftWithRight, OwnedRangeValuesIter, 
 use blaze_table::RangeSetBlaze;
 use std::alloc::AllocError;
 
-/// The values of the right map on the keys of both.
+/// The values of the right map on the keys of both: by look-ups where the left map has few entries, else in one pass.
 pub fn intersection<T: Integer, V: Eq + Clone>(
     left: &RangeMapBlaze<T, V>,
     right: &RangeMapBlaze<T, V>,
@@ -21,6 +22,10 @@ pub fn intersection<T: Integer, V: Eq + Clone>(
     ensures { IfOk result (λ map. IsChosen V.eq T.low T.high left_with_right right.now.entries
         left.now.entries map.entries) }
 {
+    if are_few(left.ranges_len(), right.ranges_len()) {
+        let few = values_on(right, left.ranges())?;
+        return Ok(few);
+    }
     let keys = WithUnit::new(left.ranges());
     let new = lent_chosen(right, right.range_values(), keys, &LeftWithRight)?;
     Ok(new)
@@ -91,7 +96,7 @@ pub fn symmetric_difference_by_value<T: Integer, V: Eq + Clone>(
     Ok(new)
 }
 
-/// The values of a map on the keys of a set.
+/// The values of a map on the keys of a set: by look-ups where the set has few ranges, else in one pass.
 pub fn intersection_with_set<T: Integer, V: Eq + Clone>(
     map: &RangeMapBlaze<T, V>,
     set: &RangeSetBlaze<T>,
@@ -100,6 +105,10 @@ pub fn intersection_with_set<T: Integer, V: Eq + Clone>(
     ensures { IfOk result (λ new. IsChosen V.eq T.low T.high left_with_right map.now.entries
         set.now new.entries) }
 {
+    if are_few(set.ranges_len(), map.ranges_len()) {
+        let few = values_on(map, set.ranges())?;
+        return Ok(few);
+    }
     let keys = WithUnit::new(set.ranges());
     let new = lent_chosen(map, map.range_values(), keys, &LeftWithRight)?;
     Ok(new)

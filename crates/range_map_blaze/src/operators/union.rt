@@ -4,6 +4,7 @@ ghost use Rattle.blaze_table.specs.Painted.{ClonesAreAlike};
 ghost use Rattle.range_map_blaze.specs.Union.{IsUnion};
 
 use crate::map::RangeMapBlaze;
+use crate::operators::few::are_few;
 use crate::operators::lent::lent_chosen;
 use crate::operators::owned::owned_chosen;
 use blaze_int::Integer;
@@ -30,12 +31,6 @@ pub fn path_for(left_len: usize, right_len: usize) -> Path {
     } else {
         Path::Merge
     }
-}
-
-/// Whether so few entries take less time to paint into a map of `len` entries than a pass over both: a paint takes about as
-/// long as a pass over sixteen entries.
-fn are_few(few: usize, len: usize) -> bool {
-    few <= len / 16
 }
 
 /// The values of the right map where it has some, and else those of the left.
