@@ -81,6 +81,8 @@ const Work works[] = {
     {"`a \\| b`, b of 100, by value", 11, 100'000, 1'000, 1, "call", 0},
     {"`a \\| b`, b of 100, by value", 11, 1'000'000, 1'000, 1, "call", 0},
     {"`a & b`, equal sizes", 12, 100'000, 1'000, 200 * thousand, "entry", 1.2},
+    {"`a & b`, a of 100, lent", 21, 100'000, 1'000, 1, "call", 0},
+    {"`a & b`, a of 100, lent", 21, 1'000'000, 1'000, 1, "call", 0},
     {"`a - b`, equal sizes", 13, 100'000, 1'000, 200 * thousand, "entry", 1.2},
     {"`a ^ b`, equal sizes", 14, 100'000, 1'000, 200 * thousand, "entry", 1.2},
     {"all keys, 100 an entry", 15, 100'000, 100, 1e7, "key", 2.0},

@@ -274,6 +274,7 @@ pub extern "C" fn plain_run(work: u32, size: u64, count: u64) -> u64 {
         17 | 19 => paint_all(check, size, count),
         18 => copy_sorted(check, size, count),
         20 => union_of_many(check, size, count),
+        21 => combine(check, size, 100, count, |map, few| few.intersection(map)),
         _ => return 0,
     };
     sum | 1

@@ -59,6 +59,7 @@ fn run(alloc: Global, work: u32, size: u64, count: u64) -> Result<Option<u64>, A
         18 => make(alloc, check, Making::Sorted, size, count)?,
         19 => make(alloc, check, Making::OneByOne, size, count)?,
         20 => union_of_many(alloc, check, size, count)?,
+        21 => combine(alloc, check, Combination::Restriction, size, 100, count)?,
         _ => return Ok(None),
     };
     Ok(Some(sum))

@@ -7,6 +7,8 @@ use std::alloc::{AllocError, Global};
 pub enum Combination {
     Union,
     Intersection,
+    /// The first map's values on the keys of the second.
+    Restriction,
     Difference,
     SymmetricDifference,
 }
@@ -73,6 +75,7 @@ pub fn combine(
         let made = match combination {
             Combination::Union => (&map | &other)?,
             Combination::Intersection => (&map & &other)?,
+            Combination::Restriction => (&other & &map)?,
             Combination::Difference => (&map - &other)?,
             Combination::SymmetricDifference => (&map ^ &other)?,
         };
