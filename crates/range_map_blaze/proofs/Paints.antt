@@ -9,3 +9,4 @@ pub mod FilledUnder
 pub mod Unpainted
 pub mod Following
 pub mod OnRanges
+pub mod KeptValues

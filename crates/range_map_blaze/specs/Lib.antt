@@ -27,6 +27,7 @@ pub mod Printed
 pub mod OneRange
 pub mod Somewhere
 pub mod Within
+pub mod Kept
 pub mod Extended
 pub mod Collected
 pub mod Underway

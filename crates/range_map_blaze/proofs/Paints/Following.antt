@@ -22,7 +22,7 @@ use Rattle.range_map_blaze.proofs.Paints.Gaps.{entry_has}
 use Rattle.range_map_blaze.specs.OneRange.{one_range}
 use Rattle.range_map_blaze.specs.Within.{within, starting_above, following, with_following}
 
-by_earlier : {P : Type 0} (a b : ℤ) → (a ≤ℤ b → int_min b a ≡ a → P) → (b <ℤ a → int_min b a ≡ b → P) → P
+pub by_earlier : {P : Type 0} (a b : ℤ) → (a ≤ℤ b → int_min b a ≡ a → P) → (b <ℤ a → int_min b a ≡ b → P) → P
 by_earlier a b l r = by_lt_z a b
     (λ u. l (omega (arith, ints)) (ap (λ t. cond t a b) (lt_true a b u)))
     (λ u. by_lt_z b a

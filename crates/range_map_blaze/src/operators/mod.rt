@@ -4,6 +4,7 @@ mod bit_or;
 mod bit_xor;
 pub mod complements;
 pub mod few;
+pub mod kept;
 pub mod lent;
 mod not;
 pub mod owned;

@@ -6,6 +6,7 @@ ghost use Rattle.blaze_table.specs.Painted.{ClonesAreAlike};
 
 use crate::map::RangeMapBlaze;
 use crate::operators::few::{are_few, values_on};
+use crate::operators::kept::values_kept;
 use crate::operators::lent::lent_chosen;
 use crate::operators::owned::owned_chosen;
 use blaze_int::Integer;
@@ -13,7 +14,7 @@ use blaze_streams::{ExactlyOne, LeftAlone, LeftWithRight, OwnedRangeValuesIter, 
 use blaze_table::RangeSetBlaze;
 use std::alloc::AllocError;
 
-/// The values of the right map on the keys of both: by look-ups where the left map has few entries, else in one pass.
+/// The values of the right map on the keys of both: by look-ups where either map has few entries, else in one pass.
 pub fn intersection<T: Integer, V: Eq + Clone>(
     left: &RangeMapBlaze<T, V>,
     right: &RangeMapBlaze<T, V>,
@@ -24,6 +25,10 @@ pub fn intersection<T: Integer, V: Eq + Clone>(
 {
     if are_few(left.ranges_len(), right.ranges_len()) {
         let few = values_on(right, left.ranges())?;
+        return Ok(few);
+    }
+    if are_few(right.ranges_len(), left.ranges_len()) {
+        let few = values_kept(true, right, left)?;
         return Ok(few);
     }
     let keys = WithUnit::new(left.ranges());
@@ -45,7 +50,7 @@ pub fn intersection_by_value<T: Integer, V: Eq + Clone>(
     Ok(new)
 }
 
-/// The values of the left map off the keys of the right.
+/// The values of the left map off the keys of the right: by look-ups where the left map has few entries, else in one pass.
 pub fn difference<T: Integer, V: Eq + Clone>(
     left: &RangeMapBlaze<T, V>,
     right: &RangeMapBlaze<T, V>,
@@ -54,7 +59,12 @@ pub fn difference<T: Integer, V: Eq + Clone>(
     ensures { IfOk result (λ map. IsChosen V.eq T.low T.high left_alone left.now.entries
         right.now.entries map.entries) }
 {
-    lent_chosen(left, left.range_values(), right.range_values(), &LeftAlone)
+    if are_few(left.ranges_len(), right.ranges_len()) {
+        let few = values_kept(false, left, right)?;
+        return Ok(few);
+    }
+    let new = lent_chosen(left, left.range_values(), right.range_values(), &LeftAlone)?;
+    Ok(new)
 }
 
 /// The same, with the left map's own values.

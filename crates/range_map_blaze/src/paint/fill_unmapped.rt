@@ -13,7 +13,7 @@ use std::alloc::AllocError;
 
 impl<T: Integer, V: Eq> RangeMapBlaze<T, V> {
     // The last key, up to the end, of the gap that starts at a key without a value.
-    fn gap_last(&self, key: T, end: T) -> T
+    pub(crate) fn gap_last(&self, key: T, end: T) -> T
         requires order { T.rank key ≤ℤ T.rank end }
         requires unmapped { at self.now.entries (T.rank key) ≡ None }
         ensures from { T.rank key ≤ℤ T.rank result }

@@ -1,0 +1,13 @@
+-- Values kept by the keys of a map: the words of this crate's own functions. No public clause names them.
+use Rattle.std.specs.Prelude.{ℤ, pos, ◌+ℤ◌, Bool, true, false, Option, None, Some}
+use Rattle.blaze_table.specs.Chosen.{left_with_right, left_alone}
+
+-- the first, where the second is there or where it is not
+abbrev pub kept : {V A : Type 0} → Bool → Option V → Option A → Option V
+kept true = left_with_right
+kept false = left_alone
+
+-- the first key of what is left up to an end, or the key after the end
+abbrev pub reach : {T : Type 0} → (T → ℤ) → ℤ → Option T → ℤ
+reach rank end None = end +ℤ pos 1
+reach rank end (Some key) = rank key
