@@ -1,7 +1,7 @@
-// Measures the works of a range map on the library, on plain Rust, on Boost and on plain Rust the library's way
-// (`planned.rs`), and prints the tables. Each side does a work
-// with no operation and with many; the difference of the least processor times of several rounds, in which the sides take
-// turns, is the time of the operations alone. A checksum of what they leave must be the same on each side.
+// Measures the works of a range map on the library, on plain Rust, on plain Rust the Rust crate's way (`as_crate.rs`) and
+// the library's way (`planned.rs`), and on Boost, and prints the tables. Each side does a work with no operation and with
+// many; the difference of the least processor times of several rounds, in which the sides take turns, is the time of the
+// operations alone. A checksum of what they leave must be the same on each side.
 #include <fcntl.h>
 #include <malloc.h>
 #include <sys/resource.h>
@@ -30,6 +30,7 @@ std::uint64_t plain_run(std::uint32_t work, std::uint64_t size, std::uint64_t co
 std::uint64_t library_run(std::uint32_t work, std::uint64_t size, std::uint64_t count);
 std::uint64_t boost_run(std::uint32_t work, std::uint64_t size, std::uint64_t count);
 std::uint64_t planned_run(std::uint32_t work, std::uint64_t size, std::uint64_t count);
+std::uint64_t as_crate_run(std::uint32_t work, std::uint64_t size, std::uint64_t count);
 }
 
 namespace {
@@ -38,11 +39,12 @@ constexpr std::uint32_t checked = 100;
 
 using Run = std::uint64_t (*)(std::uint32_t, std::uint64_t, std::uint64_t);
 
-constexpr Run runs[] = {plain_run, library_run, planned_run, boost_run};
-constexpr const char* side_names[] = {"plain Rust", "library", "planned Rust", "Boost"};
-constexpr std::size_t sides = 4;
+constexpr Run runs[] = {plain_run, library_run, as_crate_run, planned_run, boost_run};
+constexpr const char* side_names[] = {"plain Rust", "library", "the crate's way", "planned Rust", "Boost"};
+constexpr std::size_t sides = 5;
 constexpr std::size_t plain = 0;
 constexpr std::size_t library = 1;
+constexpr std::size_t as_crate = 2;
 
 struct Work {
     const char* name;
@@ -218,8 +220,9 @@ string ratio_text(double ratio, double limit) {
 }
 
 void print_head() {
-    std::printf("| work | entries | time of one | plain Rust, ns | library, ns | library / plain | limit | planned, ns | planned / plain | Boost, ns | Boost / plain |\n");
-    std::printf("|---|---|---|---|---|---|---|---|---|---|---|\n");
+    std::printf("| work | entries | time of one | plain Rust, ns | library, ns | library / plain | limit ");
+    std::printf("| the crate's way, ns | library / the crate's way | planned, ns | planned / plain | Boost, ns | Boost / plain |\n");
+    std::printf("|---|---|---|---|---|---|---|---|---|---|---|---|---|\n");
 }
 
 void print_row(const string& name, const string& size, const string& part, double parts, double limit,
@@ -237,7 +240,9 @@ void print_row(const string& name, const string& size, const string& part, doubl
         } else {
             const char* fewer = measured[side].count < measured[plain].count / 4 ? " (fewer)" : "";
             std::printf(" | %s%s", number(times[side]).c_str(), fewer);
-            if (side != plain) {
+            if (side == as_crate) {
+                std::printf(" | %s", ratio_text(times[library] / times[side], 0).c_str());
+            } else if (side != plain) {
                 std::printf(" | %s", ratio_text(times[side] / times[plain], side == library ? limit : 0).c_str());
             }
         }

@@ -250,9 +250,14 @@ fn union_of_many(check: bool, maps: u64, count: u64) -> u64 {
 
 /// Does a work and answers a checksum, which is not 0; 0 where there is no such work.
 #[cfg_attr(planned, unsafe(export_name = "planned_run"))]
-#[cfg_attr(not(planned), unsafe(no_mangle))]
+#[cfg_attr(as_crate, unsafe(export_name = "as_crate_run"))]
+#[cfg_attr(not(any(planned, as_crate)), unsafe(no_mangle))]
 pub extern "C" fn plain_run(work: u32, size: u64, count: u64) -> u64 {
     let check = work >= CHECKED;
+    // (only what the Rust crate's way differs in)
+    if cfg!(as_crate) && !matches!(work % CHECKED, 0..=3 | 6..=11 | 19) {
+        return 0;
+    }
     let sum = match work % CHECKED {
         0 => change(check, size, count, paint),
         1 => change(check, size, count, insert),

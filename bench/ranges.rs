@@ -1,7 +1,11 @@
 //! The yardstick: a map from ranges of integers to values over std's `BTreeMap`, with a kept number of keys, in plain Rust.
 #[cfg_attr(planned, path = "planned.rs")]
-#[cfg_attr(not(planned), path = "one_pass.rs")]
+#[cfg_attr(as_crate, path = "as_crate.rs")]
+#[cfg_attr(not(any(planned, as_crate)), path = "one_pass.rs")]
 mod splice;
+#[cfg_attr(as_crate, path = "streamed.rs")]
+#[cfg_attr(not(as_crate), path = "unite.rs")]
+mod unite;
 
 use splice::{Held, give, held, hold};
 use std::collections::BTreeMap;
@@ -75,7 +79,12 @@ impl<V: Eq + Clone> RangeMap<V> {
 
     /// Takes the entries of another map over; where both have a value, the other's wins.
     pub fn append(&mut self, other: &mut Self) {
-        *self = take(self).union_by_value(take(other));
+        let other = take(other);
+        if cfg!(as_crate) {
+            self.paint_all(&other);
+        } else {
+            *self = take(self).union_by_value(other);
+        }
     }
 
     /// The values of `other` where it has some, and else those of `self`.
@@ -208,6 +217,11 @@ impl<V: Eq + Clone> RangeMap<V> {
 
 /// Whether so few entries take less time to paint into a map of `len` entries than a pass over both.
 fn are_few(few: usize, len: usize) -> bool {
+    if cfg!(as_crate) {
+        // (the crate's own measure)
+        let descent = len.checked_ilog2().unwrap_or(0) as usize + 1;
+        return few * descent < 10 * len + few;
+    }
     few * 16 < len
 }
 
@@ -232,43 +246,6 @@ impl<V: Eq> Gathered<V> {
             last.0 = end;
         } else {
             self.entries.push((start, (end, hold(value))));
-        }
-    }
-
-    /// Puts in the values of `right` where it has some, and else those of `left`.
-    fn unite(&mut self, left: impl Iterator<Item = (i64, i64, V)>, right: impl Iterator<Item = (i64, i64, V)>)
-    where
-        V: Clone,
-    {
-        let mut left = left;
-        let mut a = left.next();
-        for (b_start, b_end, b_value) in right {
-            // what lies before the right entry
-            while let Some((start, end, value)) = a.take() {
-                if end < b_start {
-                    self.push(start, end, value);
-                    a = left.next();
-                } else if start < b_start {
-                    self.push(start, b_start - 1, value.clone());
-                    a = Some((b_start, end, value));
-                } else {
-                    a = Some((start, end, value));
-                    break;
-                }
-            }
-            // what lies under it
-            while let Some((_, end, value)) = a.take_if(|(start, _, _)| *start <= b_end) {
-                if end > b_end {
-                    a = Some((b_end + 1, end, value));
-                    break;
-                }
-                a = left.next();
-            }
-            self.push(b_start, b_end, b_value);
-        }
-        while let Some((start, end, value)) = a {
-            self.push(start, end, value);
-            a = left.next();
         }
     }
 

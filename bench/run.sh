@@ -1,6 +1,7 @@
 #!/usr/bin/env bash
 # Measures the library beside plain Rust (`ranges.rs`, `one_pass.rs`) and Boost's interval_map, and prints tables in Markdown.
-# `planned.rs` is the library's way of a paint in plain Rust: places are made first, and an end is moved by a search.
+# `as_crate.rs` and `streamed.rs` are the Rust crate's way of a paint and of a union in plain Rust; `planned.rs` is the
+# library's way of a paint: places are made first, and an end is moved by a search.
 #
 #     bench/run.sh                    every work: some minutes on a machine that does nothing else
 #     bench/run.sh --quick            few operations and rounds: a look, no result
@@ -30,7 +31,7 @@ done
 
 echo "bench: building the other sides" >&2
 rust=(rustc --edition 2024 -O -C target-cpu=x86-64-v2 -C panic=abort -A dead_code)
-for way in one_pass planned; do
+for way in one_pass planned as_crate; do
     rustc --edition 2024 -O -C debug-assertions -A dead_code --cfg "$way" --test -o out/plain_test plain.rs
     out/plain_test --quiet >&2
     "${rust[@]}" --cfg "$way" --crate-name "$way" --crate-type staticlib -o "out/lib$way.a" plain.rs
@@ -43,9 +44,9 @@ else
     echo 'extern "C" unsigned long long boost_run(unsigned, unsigned long long, unsigned long long) { return 0; }' \
         | g++ -O2 -c -o out/boost.o -x c++ -
 fi
-# (both sides in Rust bring std)
+# (each side in Rust brings std)
 g++ -std=c++17 -O2 -Wall -Wextra -Wl,--allow-multiple-definition -o out/driver driver.cpp out/boost.o out/libone_pass.a \
-    out/libplanned.a "$root/crates/bench_library/out/libbench_library.a" "$kit/c/liblibc_c.a"
+    out/libplanned.a out/libas_crate.a "$root/crates/bench_library/out/libbench_library.a" "$kit/c/liblibc_c.a"
 
 folder="$(mktemp -d)"
 trap 'rm -rf "$folder"' EXIT
