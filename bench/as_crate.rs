@@ -1,23 +1,13 @@
 //! Paints and removals the way of the Rust crate `range-set-blaze` 0.8.0 as it is built without its nightly feature: the
 //! entry before the range is looked at and trimmed, the range is put in, and what it covers is walked over, listed and
 //! taken out. Each of these is a search of its own. Written anew after its published algorithm.
+#[path = "bare.rs"]
+mod bare;
+
+pub use bare::{Held, give, held, hold};
+
 use super::{RangeMap, length};
 use std::mem::replace;
-
-/// What a node has as its value.
-pub type Held<V> = V;
-
-pub fn hold<V>(value: V) -> Held<V> {
-    value
-}
-
-pub fn held<V>(value: &Held<V>) -> &V {
-    value
-}
-
-pub fn give<V>(value: Held<V>) -> V {
-    value
-}
 
 impl<V: Eq + Clone> RangeMap<V> {
     /// Puts a value on the keys from `lo` up to `hi`, and says whether the number of keys changed.

@@ -1,21 +1,11 @@
 //! Paints and removals in one pass: a walk over the entries that a range touches moves their ends as it meets them.
+#[path = "bare.rs"]
+mod bare;
+
+pub use bare::{Held, give, held, hold};
+
 use super::{RangeMap, length};
 use std::mem::replace;
-
-/// What a node has as its value.
-pub type Held<V> = V;
-
-pub fn hold<V>(value: V) -> Held<V> {
-    value
-}
-
-pub fn held<V>(value: &Held<V>) -> &V {
-    value
-}
-
-pub fn give<V>(value: Held<V>) -> V {
-    value
-}
 
 /// First keys of entries to be taken out: few as a rule, which then take no memory.
 #[derive(Default)]
