@@ -1,6 +1,6 @@
 //! Paints and removals the way of the Rust crate `range-set-blaze` 0.8.0 as it is built without its nightly feature: the
 //! entry before the range is looked at and trimmed, the range is put in, and what it covers is walked over, listed and
-//! taken out. Each of these is a search of its own. Written anew after its published algorithm.
+//! taken out. Each of these is a search of its own. Written anew after its published source.
 #[path = "bare.rs"]
 mod bare;
 

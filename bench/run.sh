@@ -1,6 +1,6 @@
 #!/usr/bin/env bash
 # Measures the library beside plain Rust (`ranges.rs`, `one_pass.rs`) and Boost's interval_map, and prints tables in Markdown.
-# `as_crate.rs` and `streamed.rs` are the Rust crate's way of a paint and of a union in plain Rust; `planned.rs` is the
+# `as_crate.rs` is the Rust crate's way of a paint in plain Rust, `streamed.rs` a union as a stream; `planned.rs` is the
 # library's way of a paint: places are made first, and an end is moved by a search.
 #
 #     bench/run.sh                    every work: some minutes on a machine that does nothing else
