@@ -45,6 +45,8 @@ fn run(rt: &HostRuntime) -> Result<(), Fault> {
     moved::merged(rt)?;
     moved::operated(rt)?;
     moved::operated_with_set(rt)?;
+    moved::cut_from_many(rt)?;
+    moved::kept_by_many(rt)?;
     moved::painted(rt)?;
     labelled::coarse(rt)?;
     labelled::refused_append(rt)?;

@@ -8,6 +8,7 @@ use blaze_streams::{Owned, OwnedRangeValuesIter, SortedDisjointMap, canonical_of
 use blaze_table::RangeTable;
 use range_map_blaze::{RangeMapBlaze, RangeSetBlaze};
 use std::alloc::{AllocError, Global};
+use std::ops::RangeInclusive;
 
 /// A number whose clone is refused.
 #[derive(Drop)]
@@ -124,6 +125,67 @@ pub fn operated_with_set(rt: &HostRuntime) -> Result<(), AllocError> {
     show(rt, "a - s", left(alloc)? - set(alloc)?);
     show(rt, "a - &s", left(alloc)? - &set(alloc)?);
     show(rt, "&a - s", &left(alloc)? - set(alloc)?);
+    Ok(())
+}
+
+/// The even keys up to 30.
+fn even_keys(alloc: Global) -> Result<Vec<RangeInclusive<i64>>, AllocError> {
+    let mut ranges = Vec::new(alloc);
+    for half in 0..16i64 {
+        ranges.push(2 * half..=2 * half)?;
+    }
+    Ok(ranges)
+}
+
+/// A map of many entries: the even keys up to 30, and 40..=49.
+fn many(alloc: Global) -> Result<Map, AllocError> {
+    let mut map = map_of(alloc, &[(40, 49, 1)])?;
+    for range in even_keys(alloc)? {
+        let _ = map.ranges_insert(range, Uncloned(1))?;
+    }
+    Ok(map)
+}
+
+/// A map with the keys 28..=29.
+fn few(alloc: Global) -> Result<Map, AllocError> {
+    map_of(alloc, &[(28, 29, 2)])
+}
+
+/// Prints how many entries a map has.
+fn show_count(rt: &HostRuntime, call: &str, map: Result<Map, AllocError>) {
+    let Ok(map) = map else {
+        let _ = println!(rt; "{call}: refused");
+        return;
+    };
+    let count = map.ranges_len();
+    let _ = println!(rt; "{call}: {count} entries");
+}
+
+/// A whole entry cut out of a map of many, by value and lent; then a range inside an entry, whose value is cloned.
+pub fn cut_from_many(rt: &HostRuntime) -> Result<(), AllocError> {
+    let alloc = rt.alloc();
+    show_count(rt, "many - a", many(alloc)? - few(alloc)?);
+    show_count(rt, "many - &a", many(alloc)? - &few(alloc)?);
+    show_count(rt, "&many - &a", &many(alloc)? - &few(alloc)?);
+    let set = RangeSetBlaze::from_ranges(alloc, vec![in alloc; 40..=49]?)?;
+    show_count(rt, "many - &s", many(alloc)? - &set);
+    show_count(rt, "many - s", many(alloc)? - set);
+    let inside = map_of(alloc, &[(43, 44, 2)])?;
+    show_count(rt, "many - b", many(alloc)? - inside);
+    Ok(())
+}
+
+/// A map of few entries, by value, on the keys of a map or a set of many and off them; then lent.
+pub fn kept_by_many(rt: &HostRuntime) -> Result<(), AllocError> {
+    let alloc = rt.alloc();
+    show(rt, "many & a", many(alloc)? & few(alloc)?);
+    show(rt, "&many & a", &many(alloc)? & few(alloc)?);
+    show(rt, "a - many", few(alloc)? - many(alloc)?);
+    show(rt, "a - &many", few(alloc)? - &many(alloc)?);
+    let set = RangeSetBlaze::from_ranges(alloc, even_keys(alloc)?)?;
+    show(rt, "a & &t", few(alloc)? & &set);
+    show(rt, "a - &t", few(alloc)? - &set);
+    show(rt, "&a - &t", &few(alloc)? - &set);
     Ok(())
 }
 

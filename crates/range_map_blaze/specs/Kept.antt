@@ -1,6 +1,7 @@
 -- Values kept by the keys of a map: the words of this crate's own functions. No public clause names them.
-use Rattle.std.specs.Prelude.{ℤ, pos, ◌+ℤ◌, Bool, true, false, Option, None, Some}
+use Rattle.std.specs.Prelude.{ℤ, pos, ◌+ℤ◌, Bool, true, false, List, [], ◌∷◌, Option, None, Some}
 use Rattle.blaze_table.specs.Chosen.{left_with_right, left_alone}
+use Rattle.blaze_table.specs.Entries.{Entry, entry}
 
 -- the first, where the second is there or where it is not
 abbrev pub kept : {V A : Type 0} → Bool → Option V → Option A → Option V
@@ -11,3 +12,8 @@ kept false = left_alone
 abbrev pub reach : {T : Type 0} → (T → ℤ) → ℤ → Option T → ℤ
 reach rank end None = end +ℤ pos 1
 reach rank end (Some key) = rank key
+
+-- a piece, by its first and last key, as an entry with the value
+abbrev pub piece_with : {T V : Type 0} → (T → ℤ) → V → Option (T × T) → List (Entry V)
+piece_with rank v None = []
+piece_with rank v (Some p) = entry (rank p.0) (rank p.1) v ∷ []

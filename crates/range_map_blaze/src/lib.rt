@@ -3,6 +3,7 @@
 
 mod compare;
 mod display;
+mod gap;
 mod gaps_filled;
 mod iter;
 mod joins;

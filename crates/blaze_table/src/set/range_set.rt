@@ -105,6 +105,13 @@ impl<T: Integer> RangeSetBlaze<T> {
         self.table.find(key).is_some()
     }
 
+    /// The set as a table, whose values are the unit: its keys and gaps are looked up there. No memory is taken.
+    pub fn as_table(&self) -> &RangeTable<T, ()>
+        ensures { result.now.entries ≡ self.now }
+    {
+        &self.table
+    }
+
     /// The ranges, ascending. No memory is taken.
     pub fn ranges(&self) -> RangesIter<'_, T>
         ensures { result ≡ self.now }

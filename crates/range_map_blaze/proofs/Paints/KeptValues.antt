@@ -4,7 +4,7 @@ use Rattle.std.proofs.Common.{◌≡◌, ℤ, pos, ◌+ℤ◌, ◌-ℤ◌, ◌�
 use mathlib.Core.Bool.{beq}
 use Rattle.std.specs.Cmp.{IsEquivalence}
 use Rattle.std.proofs.lemmas.Int.{ints, by_lt_z}
-use Rattle.blaze_entries.proofs.Alike.{same_along, same_itself, same_or_right, same_trans, or_none}
+use Rattle.blaze_entries.proofs.Alike.{same_along, same_itself, same_or_left, same_or_right, same_trans, or_none}
 use Rattle.blaze_table.specs.Entries.{Entry, entry, at, SameOption}
 use Rattle.blaze_table.specs.Canonical.{IsRangeMap}
 use Rattle.blaze_table.specs.CanonicalOf.{IsCanonicalOf}
@@ -72,6 +72,18 @@ at_longer {V} l t s u k v a b e n = by_place short k
         (λ r. at_over long [] k (omega (arith, ints)))
         (λ r. absurd (n (omega (arith, ints)) (omega (arith, ints))))
 
+-- pairs behind others that are alike
+alike_more : {V : Type 0} (eq : V → V → Bool) (laws : IsEquivalence eq) (xs ys more : List (Entry V)) → ((k : ℤ) → SameOption eq (last_at xs k) (last_at ys k)) → (k : ℤ) → SameOption eq (last_at (xs ++ more) k) (last_at (ys ++ more) k)
+alike_more eq laws xs ys more alike k = same_along eq (sym (last_append xs more k)) (sym (last_append ys more k)) (same_or_right eq laws (last_at more k) (last_at xs k) (last_at ys k) (alike k))
+
+-- an equal value in a pair behind others
+pub alike_last : {V : Type 0} (eq : V → V → Bool) (laws : IsEquivalence eq) (xs : List (Entry V)) (l h : ℤ) (v w : V) → eq v w ≡ true → (k : ℤ) → SameOption eq (last_at (xs ++ entry l h w ∷ []) k) (last_at (xs ++ entry l h v ∷ []) k)
+alike_last eq laws xs l h v w e k = same_along eq (sym (last_append xs (entry l h w ∷ []) k)) (sym (last_append xs (entry l h v ∷ []) k))
+    (same_or_left eq laws (last_at (entry l h w ∷ []) k) (last_at (entry l h v ∷ []) k) (last_at xs k) (by_place (entry l h w) k
+    (λ a b. same_along eq (sym (at_in (entry l h w) [] k a b)) (sym (at_in (entry l h v) [] k a b)) (laws.symm w v ∙ e))
+    (λ a. same_along eq (sym (at_under (entry l h w) [] k a)) (sym (at_under (entry l h v) [] k a)) tt)
+    (λ b. same_along eq (sym (at_over (entry l h w) [] k b)) (sym (at_over (entry l h v) [] k b)) tt)))
+
 -- a value is kept on the keys from l up to the key before t
 pub record IsKeptTo {V A : Type 0} (eq : V → V → Bool) (m : Bool) (es : List (Entry A)) (l t : ℤ) (v : V) (old new : List (Entry V)) : Type 0 where
   pub order : l ≤ℤ t
@@ -120,6 +132,14 @@ module _ {V A : Type 0} (eq : V → V → Bool) (laws : IsEquivalence eq) (m : B
 
         outside : (k : ℤ) → at (piece ∷ []) k ≡ None → (t ≤ℤ k → k ≤ℤ s → ⊥) → SameOption eq (option_or (last_at (piece ∷ []) k) (last_at cur k)) (wanted k)
         outside k a n = same_along eq (sym (ap (λ x. option_or x (last_at cur k)) a)) refl (beside k n)
+
+    -- the same, where the other pairs are alike
+    pub kept_piece : (pairs : List (Entry V)) → ((k : ℤ) → SameOption eq (last_at pairs k) (last_at cur k)) → ((k : ℤ) → t ≤ℤ k → k ≤ℤ s → is_some (at es k) ≡ m) → IsKeptTo eq m es l u v old (pairs ++ entry t s v ∷ [])
+    kept_piece pairs alike steady =
+        let more = kept_more v (cur ++ entry t s v ∷ []) refl (laws.refl v) steady in record {
+          order = more.order;
+          content = λ k. same_trans eq laws (last_at (pairs ++ entry t s v ∷ []) k) _ _ (alike_more eq laws pairs cur (entry t s v ∷ []) alike k) (more.content k);
+        }
 
     -- a piece whose keys are not gets none
     pub kept_skip : ((k : ℤ) → t ≤ℤ k → k ≤ℤ s → is_some (at es k) ≡ m → ⊥) → IsKeptTo eq m es l u v old cur

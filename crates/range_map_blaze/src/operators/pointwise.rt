@@ -5,8 +5,9 @@ ghost use Rattle.blaze_table.specs.Chosen.{left_with_right, left_alone, IsChosen
 ghost use Rattle.blaze_table.specs.Painted.{ClonesAreAlike};
 
 use crate::map::RangeMapBlaze;
+use crate::operators::cut::cut_ranges;
 use crate::operators::few::{are_few, values_on};
-use crate::operators::kept::values_kept;
+use crate::operators::kept::{values_kept, values_kept_by_value};
 use crate::operators::lent::lent_chosen;
 use crate::operators::owned::owned_chosen;
 use blaze_int::Integer;
@@ -28,7 +29,7 @@ pub fn intersection<T: Integer, V: Eq + Clone>(
         return Ok(few);
     }
     if are_few(right.ranges_len(), left.ranges_len()) {
-        let few = values_kept(true, right, left)?;
+        let few = values_kept(true, right, &left.table)?;
         return Ok(few);
     }
     let keys = WithUnit::new(left.ranges());
@@ -36,7 +37,7 @@ pub fn intersection<T: Integer, V: Eq + Clone>(
     Ok(new)
 }
 
-/// The same, with the right map's own values.
+/// The same, with the right map's own values: by look-ups where it has few entries, else in one pass.
 pub fn intersection_by_value<T: Integer, V: Eq + Clone>(
     left: &RangeMapBlaze<T, V>,
     right: RangeMapBlaze<T, V>,
@@ -45,12 +46,17 @@ pub fn intersection_by_value<T: Integer, V: Eq + Clone>(
     ensures { IfOk result (λ map. IsChosen V.eq T.low T.high left_with_right right.entries
         left.now.entries map.entries) }
 {
+    if are_few(right.ranges_len(), left.ranges_len()) {
+        let few = values_kept_by_value(true, right, &left.table)?;
+        return Ok(few);
+    }
     let keys = WithUnit::new(left.ranges());
     let new = owned_chosen(right, keys, &LeftWithRight)?;
     Ok(new)
 }
 
-/// The values of the left map off the keys of the right: by look-ups where the left map has few entries, else in one pass.
+/// The values of the left map off the keys of the right: by look-ups where the left map has few entries, by cuts of a clone
+/// of it where the right map has few, else in one pass.
 pub fn difference<T: Integer, V: Eq + Clone>(
     left: &RangeMapBlaze<T, V>,
     right: &RangeMapBlaze<T, V>,
@@ -60,14 +66,18 @@ pub fn difference<T: Integer, V: Eq + Clone>(
         right.now.entries map.entries) }
 {
     if are_few(left.ranges_len(), right.ranges_len()) {
-        let few = values_kept(false, left, right)?;
+        let few = values_kept(false, left, &right.table)?;
         return Ok(few);
+    }
+    if are_few(right.ranges_len(), left.ranges_len()) {
+        let most = cut_ranges(left.clone()?, right.ranges())?;
+        return Ok(most);
     }
     let new = lent_chosen(left, left.range_values(), right.range_values(), &LeftAlone)?;
     Ok(new)
 }
 
-/// The same, with the left map's own values.
+/// The same, with the left map's own values. Where the right map has few entries, the left one is cut in place.
 pub fn difference_by_value<T: Integer, V: Eq + Clone>(
     left: RangeMapBlaze<T, V>,
     right: &RangeMapBlaze<T, V>,
@@ -76,6 +86,14 @@ pub fn difference_by_value<T: Integer, V: Eq + Clone>(
     ensures { IfOk result (λ map. IsChosen V.eq T.low T.high left_alone left.entries
         right.now.entries map.entries) }
 {
+    if are_few(left.ranges_len(), right.ranges_len()) {
+        let few = values_kept_by_value(false, left, &right.table)?;
+        return Ok(few);
+    }
+    if are_few(right.ranges_len(), left.ranges_len()) {
+        let most = cut_ranges(left, right.ranges())?;
+        return Ok(most);
+    }
     let keys = WithUnit::new(right.ranges());
     let new = owned_chosen(left, keys, &LeftAlone)?;
     Ok(new)
@@ -106,7 +124,7 @@ pub fn symmetric_difference_by_value<T: Integer, V: Eq + Clone>(
     Ok(new)
 }
 
-/// The values of a map on the keys of a set: by look-ups where the set has few ranges, else in one pass.
+/// The values of a map on the keys of a set: by look-ups where either has few ranges, else in one pass.
 pub fn intersection_with_set<T: Integer, V: Eq + Clone>(
     map: &RangeMapBlaze<T, V>,
     set: &RangeSetBlaze<T>,
@@ -119,12 +137,16 @@ pub fn intersection_with_set<T: Integer, V: Eq + Clone>(
         let few = values_on(map, set.ranges())?;
         return Ok(few);
     }
+    if are_few(map.ranges_len(), set.ranges_len()) {
+        let few = values_kept(true, map, set.as_table())?;
+        return Ok(few);
+    }
     let keys = WithUnit::new(set.ranges());
     let new = lent_chosen(map, map.range_values(), keys, &LeftWithRight)?;
     Ok(new)
 }
 
-/// The same, with the map's own values.
+/// The same, with the map's own values: by look-ups where it has few entries, else in one pass.
 pub fn intersection_by_value_with_set<T: Integer, V: Eq + Clone>(
     map: RangeMapBlaze<T, V>,
     set: &RangeSetBlaze<T>,
@@ -133,12 +155,17 @@ pub fn intersection_by_value_with_set<T: Integer, V: Eq + Clone>(
     ensures { IfOk result (λ new. IsChosen V.eq T.low T.high left_with_right map.entries
         set.now new.entries) }
 {
+    if are_few(map.ranges_len(), set.ranges_len()) {
+        let few = values_kept_by_value(true, map, set.as_table())?;
+        return Ok(few);
+    }
     let keys = WithUnit::new(set.ranges());
     let new = owned_chosen(map, keys, &LeftWithRight)?;
     Ok(new)
 }
 
-/// The values of a map off the keys of a set.
+/// The values of a map off the keys of a set: by look-ups where the map has few entries, by cuts of a clone of it where the
+/// set has few ranges, else in one pass.
 pub fn difference_with_set<T: Integer, V: Eq + Clone>(
     map: &RangeMapBlaze<T, V>,
     set: &RangeSetBlaze<T>,
@@ -147,12 +174,20 @@ pub fn difference_with_set<T: Integer, V: Eq + Clone>(
     ensures { IfOk result (λ new. IsChosen V.eq T.low T.high left_alone map.now.entries
         set.now new.entries) }
 {
+    if are_few(map.ranges_len(), set.ranges_len()) {
+        let few = values_kept(false, map, set.as_table())?;
+        return Ok(few);
+    }
+    if are_few(set.ranges_len(), map.ranges_len()) {
+        let most = cut_ranges(map.clone()?, set.ranges())?;
+        return Ok(most);
+    }
     let keys = WithUnit::new(set.ranges());
     let new = lent_chosen(map, map.range_values(), keys, &LeftAlone)?;
     Ok(new)
 }
 
-/// The same, with the map's own values.
+/// The same, with the map's own values. Where the set has few ranges, the map is cut in place.
 pub fn difference_by_value_with_set<T: Integer, V: Eq + Clone>(
     map: RangeMapBlaze<T, V>,
     set: &RangeSetBlaze<T>,
@@ -161,6 +196,14 @@ pub fn difference_by_value_with_set<T: Integer, V: Eq + Clone>(
     ensures { IfOk result (λ new. IsChosen V.eq T.low T.high left_alone map.entries
         set.now new.entries) }
 {
+    if are_few(map.ranges_len(), set.ranges_len()) {
+        let few = values_kept_by_value(false, map, set.as_table())?;
+        return Ok(few);
+    }
+    if are_few(set.ranges_len(), map.ranges_len()) {
+        let most = cut_ranges(map, set.ranges())?;
+        return Ok(most);
+    }
     let keys = WithUnit::new(set.ranges());
     let new = owned_chosen(map, keys, &LeftAlone)?;
     Ok(new)

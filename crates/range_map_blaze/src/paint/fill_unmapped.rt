@@ -1,40 +1,16 @@
 //! A value on those keys of a range that have none, by look-ups within the range.
-ghost use Rattle.std.specs.Prelude.{◌≡◌, ◌⊎◌, ◌≤ℤ◌, ◌+ℤ◌, pos, None, IsSome, MatchOption, OnOk};
-ghost use Rattle.std.specs.Prelude.{OnErr};
+ghost use Rattle.std.specs.Prelude.{◌≤ℤ◌, ◌+ℤ◌, pos, MatchOption, OnOk, OnErr};
 ghost use Rattle.blaze_table.specs.Entries.{entry, at};
-ghost use Rattle.blaze_table.specs.Gap.{IsClearFrom};
 ghost use Rattle.blaze_table.specs.Painted.{ClonesAreAlike};
 ghost use Rattle.range_map_blaze.specs.Filled.{IsFilled, IsPartlyFilled, IsFirstGap, IsHeldFrom};
 
+use crate::gap::gap_last;
 use crate::map::RangeMapBlaze;
 use blaze_int::Integer;
-use blaze_int::compare::{after, before, is_at_most, is_below};
+use blaze_int::compare::{after, is_below};
 use std::alloc::AllocError;
 
 impl<T: Integer, V: Eq> RangeMapBlaze<T, V> {
-    // The last key, up to the end, of the gap that starts at a key without a value.
-    pub(crate) fn gap_last(&self, key: T, end: T) -> T
-        requires order { T.rank key ≤ℤ T.rank end }
-        requires unmapped { at self.now.entries (T.rank key) ≡ None }
-        ensures from { T.rank key ≤ℤ T.rank result }
-        ensures to { T.rank result ≤ℤ T.rank end }
-        ensures clear { IsClearFrom (at self.now.entries) (T.rank key) (T.rank result) }
-        ensures greatest { (T.rank result
-            ≡ T.rank end) ⊎ IsSome (at self.now.entries (T.rank result +ℤ pos 1)) }
-    {
-        self.in_hand();
-        match self.table.next_above(key) {
-            Some(found) => {
-                if is_at_most(found.0, end) {
-                    before(found.0, key)
-                } else {
-                    end
-                }
-            }
-            None => end,
-        }
-    }
-
     // The first gap among the keys from start up to end: its first and last key.
     fn first_gap(&self, start: T, end: T) -> Option<(T, T)>
         requires { T.rank start ≤ℤ T.rank end }
@@ -50,7 +26,7 @@ impl<T: Integer, V: Eq> RangeMapBlaze<T, V> {
             }
             key = after(found.1, end);
         }
-        Some((key, self.gap_last(key, end)))
+        Some((key, gap_last(&self.table, key, end)))
     }
 
     // The first gap among the keys above one up to end: its first and last key.

@@ -1,4 +1,5 @@
 use Rattle.std.proofs.Common.{[], ◌++◌, ◌∷◌, ◌∙◌, sym, ap, append-nil, append_assoc, subst}
+use Rattle.blaze_entries.proofs.Alike.{same_trans}
 use Rattle.blaze_table.specs.Entries.{shown_entry}
 use Rattle.blaze_table.specs.Listed.{listed}
 use Rattle.range_map_blaze.proofs.Paints.Insides.{with_key}
@@ -13,20 +14,21 @@ loop-start-init g c =
       subst (λ ps. AreKept eq c.args.mapped c.args.keys.now.entries [] (listed g.T.Integer.rank ps)) (sym c.new-pairs.ensures.items) (are_none eq g.met.V.Eq.laws c.args.mapped c.args.keys.now.entries),
     )
 
-pub push_kept-requires-clause-order : goal.push_kept-requires-clause-order
-push_kept-requires-clause-order g c =
+pub push_all_but_last-requires-clause-order : goal.push_all_but_last-requires-clause-order
+push_all_but_last-requires-clause-order g c =
     let i = c.loop-start.invariant in
     let e = shown_entry g.T.Integer.rank (λ v. v.now) (c.in-Some.start, c.in-Some.end, c.in-Some.value) in
     with_key g.V.PartialEq.eq g.met.V.Eq.laws g.T.Integer.low g.T.Integer.high i.0 e _ _ (i.1 ∙ ap (λ es. i.0 ++ es) c.in-Some.ensures.steps) c.in_hand.ensures
 
 pub loop-start-preserved : goal.loop-start-preserved
 loop-start-preserved g c =
+    let eq = g.V.PartialEq.eq in
     let i = c.loop-start.invariant in
     let e = shown_entry g.T.Integer.rank (λ v. v.now) (c.in-Some.start, c.in-Some.end, c.in-Some.value) in (
       i.0 ++ e ∷ [],
       i.1 ∙ ap (λ es. i.0 ++ es) c.in-Some.ensures.steps ∙ sym (append_assoc i.0 (e ∷ []) _),
-      are_more g.V.PartialEq.eq g.met.V.Eq.laws c.args.mapped c.args.keys.now.entries e i.0 (listed g.T.Integer.rank c.loop-start.pairs.items) (listed g.T.Integer.rank c.push_kept.new.pairs.items) i.2
-          c.in_ok-push_kept.ensures,
+      are_more eq g.met.V.Eq.laws c.args.mapped c.args.keys.now.entries e i.0 (listed g.T.Integer.rank c.loop-start.pairs.items) (listed g.T.Integer.rank c.push_clone.new.pairs.items) i.2
+          (λ k. same_trans eq g.met.V.Eq.laws _ _ _ (c.in_ok-push_clone.ensures k) (c.in_ok-last.ensures k)),
     )
 
 pub returns : goal.returns

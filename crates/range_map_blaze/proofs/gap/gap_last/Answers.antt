@@ -1,16 +1,16 @@
 use Rattle.std.proofs.Common.{◌≡◌, ℤ, ◌<ℤ◌, None, Some, arith, inr, subst, sym}
 use Rattle.std.proofs.lemmas.Int.{ints}
-use Rattle.std.specs.Prelude.{IsSome, find, int_lt}
+use Rattle.std.specs.Prelude.{IsSome}
 use Rattle.blaze_table.specs.Entries.{at, shown_entry}
 use Rattle.range_map_blaze.proofs.Paints.Gaps.{above_key}
-use Rattle.range_map_blaze.proofs.map.RangeMapBlaze.gap_last.Goals as goal
+use Rattle.range_map_blaze.proofs.gap.gap_last.Goals as goal
 
 pub before-requires : goal.before-requires
 before-requires g c =
     let rank = g.T.Integer.rank in
     let k = rank c.args.key in
     let found = shown_entry rank (λ v. v.now) c.in-Some.found in
-    let is = subst (λ s. find (λ e. int_lt k e.lo) s.entries ≡ Some found) c.self.view_is (sym c.in-Some.ensures) in
+    let is = sym c.in-Some.ensures in
     (above_key g.V.PartialEq.eq g.met.V.Eq.laws g.T.Integer.low g.T.Integer.high k _ c.in_hand.ensures c.requires.unmapped).starts found is
 
 pub returns-then-is_at_most-clause-from : goal.returns-then-is_at_most-clause-from
@@ -18,7 +18,7 @@ returns-then-is_at_most-clause-from g c =
     let rank = g.T.Integer.rank in
     let k = rank c.args.key in
     let found = shown_entry rank (λ v. v.now) c.in-Some.found in
-    let is = subst (λ s. find (λ e. int_lt k e.lo) s.entries ≡ Some found) c.self.view_is (sym c.in-Some.ensures) in
+    let is = sym c.in-Some.ensures in
     let starts = (above_key g.V.PartialEq.eq g.met.V.Eq.laws g.T.Integer.low g.T.Integer.high k _ c.in_hand.ensures c.requires.unmapped).starts found is in
     omega (arith, ints, starts, c.before-then-is_at_most.ensures)
 
@@ -27,7 +27,7 @@ returns-then-is_at_most-clause-clear g c j l h =
     let rank = g.T.Integer.rank in
     let k = rank c.args.key in
     let found = shown_entry rank (λ v. v.now) c.in-Some.found in
-    let is = subst (λ s. find (λ e. int_lt k e.lo) s.entries ≡ Some found) c.self.view_is (sym c.in-Some.ensures) in
+    let is = sym c.in-Some.ensures in
     (above_key g.V.PartialEq.eq g.met.V.Eq.laws g.T.Integer.low g.T.Integer.high k _ c.in_hand.ensures c.requires.unmapped).clear found is j l
     (omega (arith, ints, c.before-then-is_at_most.ensures))
 
@@ -36,21 +36,21 @@ returns-then-is_at_most-clause-greatest g c =
     let rank = g.T.Integer.rank in
     let k = rank c.args.key in
     let found = shown_entry rank (λ v. v.now) c.in-Some.found in
-    let is = subst (λ s. find (λ e. int_lt k e.lo) s.entries ≡ Some found) c.self.view_is (sym c.in-Some.ensures) in
+    let is = sym c.in-Some.ensures in
     let there = (above_key g.V.PartialEq.eq g.met.V.Eq.laws g.T.Integer.low g.T.Integer.high k _ c.in_hand.ensures c.requires.unmapped).there found is in
-    inr (subst (λ (i : ℤ). IsSome (at c.args.self.now.entries i)) (omega (arith, ints, c.before-then-is_at_most.ensures)) there)
+    inr (subst (λ (i : ℤ). IsSome (at c.args.table.now.entries i)) (omega (arith, ints, c.before-then-is_at_most.ensures)) there)
 
 pub returns-else-is_at_most-clause-clear : goal.returns-else-is_at_most-clause-clear
 returns-else-is_at_most-clause-clear g c j l h =
     let rank = g.T.Integer.rank in
     let k = rank c.args.key in
     let found = shown_entry rank (λ v. v.now) c.in-Some.found in
-    let is = subst (λ s. find (λ e. int_lt k e.lo) s.entries ≡ Some found) c.self.view_is (sym c.in-Some.ensures) in
+    let is = sym c.in-Some.ensures in
     let more : rank c.args.end <ℤ rank c.in-Some.found.0 = grind (arith, ints, c.is_at_most.ensures, c.if-is_at_most.false) in
     (above_key g.V.PartialEq.eq g.met.V.Eq.laws g.T.Integer.low g.T.Integer.high k _ c.in_hand.ensures c.requires.unmapped).clear found is j l (omega (arith, ints, more))
 
 pub returns-in-None-clause-clear : goal.returns-in-None-clause-clear
 returns-in-None-clause-clear g c j l h =
     let k = g.T.Integer.rank c.args.key in
-    let is = subst (λ s. find (λ e. int_lt k e.lo) s.entries ≡ None) c.self.view_is (sym c.in-None.ensures) in
+    let is = sym c.in-None.ensures in
     (above_key g.V.PartialEq.eq g.met.V.Eq.laws g.T.Integer.low g.T.Integer.high k _ c.in_hand.ensures c.requires.unmapped).none is j l
