@@ -9,4 +9,5 @@ pub mod FilledUnder
 pub mod Unpainted
 pub mod Following
 pub mod OnRanges
+pub mod CutRanges
 pub mod KeptValues

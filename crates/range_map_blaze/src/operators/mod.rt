@@ -3,6 +3,7 @@ mod bit_and;
 mod bit_or;
 mod bit_xor;
 pub mod complements;
+pub mod cut;
 pub mod few;
 pub mod kept;
 pub mod lent;

@@ -1,0 +1,30 @@
+-- The content of a list that ranges are cut from, one after another.
+use Rattle.std.specs.Option.{option_or}
+use Rattle.std.proofs.Common.{◌≡◌, ℤ, Bool, true, false, List, [], ◌∷◌, ◌++◌, Option, Some, None, if◌then◌else◌, refl, sym, ap}
+use Rattle.std.specs.Cmp.{IsEquivalence}
+use Rattle.blaze_entries.proofs.Alike.{same_along, same_itself, same_trans}
+use Rattle.blaze_table.specs.Entries.{Entry, at, holds, SameOption}
+use Rattle.blaze_table.specs.Canonical.{IsRangeMap}
+use Rattle.blaze_table.specs.Chosen.{left_alone, IsChosen}
+use Rattle.blaze_table.specs.Cut.{IsRangeCut}
+use Rattle.blaze_table.proofs.Canonical.Lookup.{at_append}
+
+-- what is left at a key when one range more is cut out, which has the key or not
+less : {V A : Type 0} (eq : V → V → Bool) (has : Bool) (unit : A) (x left : Option V) (cut : Option A) → SameOption eq left (left_alone x cut) → SameOption eq (if has then None else left) (left_alone x (option_or cut (if has then Some unit else None)))
+less eq true unit x left None s = tt
+less eq true unit x left (Some c) s = tt
+less eq false unit x left None s = s
+less eq false unit x left (Some c) s = s
+
+module _ {V : Type 0} (eq : V → V → Bool) (laws : IsEquivalence eq) (low high : ℤ) (es : List (Entry V)) where
+  pub cut_none : IsRangeMap eq low high es → IsChosen eq low high left_alone es [] es
+  cut_none r = record { range_map = r; content = λ k. same_itself eq laws (at es k) }
+
+  -- one range more
+  pub cut_more : (r : Entry (Unit {0})) (done : List (Entry (Unit {0}))) (old new : List (Entry V)) → IsChosen eq low high left_alone es done old → IsRangeCut eq low high r.lo r.hi old new → IsChosen eq low high left_alone es (done ++ r ∷ []) new
+  cut_more r done old new a c = record {
+    range_map = c.range_map;
+    content = λ k. same_trans eq laws (at new k) _ _ (c.content k)
+        (same_along eq refl (sym (ap (left_alone (at es k)) (at_append done (r ∷ []) k)))
+        (less eq (holds r k) r.value (at es k) (at old k) (at done k) (a.content k)));
+  }

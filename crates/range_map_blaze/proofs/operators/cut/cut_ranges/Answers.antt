@@ -1,0 +1,42 @@
+use Rattle.std.proofs.Common.{[], ◌++◌, ◌∷◌, ◌∙◌, sym, ap, append-nil, append_assoc, subst}
+use Rattle.std.specs.Iterator.{IsFinite}
+use Rattle.blaze_table.proofs.Pairs.UnitLaws.{unit_laws}
+use Rattle.blaze_table.specs.Chosen.{left_alone, IsChosen}
+use Rattle.blaze_table.specs.RangeSets.{bare_range, unit_eq}
+use Rattle.range_map_blaze.proofs.Paints.CutRanges.{cut_none, cut_more}
+use Rattle.range_map_blaze.proofs.Paints.Insides.{with_key}
+use Rattle.range_map_blaze.proofs.operators.cut.cut_ranges.Goals as goal
+
+pub loop-range-init-derived : goal.loop-range-init-derived
+loop-range-init-derived g c = (g.met.S.SortedDisjoint.ready _, subst IsFinite (sym (g.met.S.SortedDisjoint.counted _)) tt)
+
+pub loop-range-init : goal.loop-range-init
+loop-range-init g c = (
+      [],
+      ap g.S.SortedDisjoint.left (sym c.into_iter-range-iterator.ensures.into_iter_gives),
+      cut_none g.V.PartialEq.eq g.met.V.Eq.laws g.T.Integer.low g.T.Integer.high c.args.map.entries c.in_hand.ensures,
+    )
+
+pub cut_range-requires-clause-order : goal.cut_range-requires-clause-order
+cut_range-requires-clause-order g c =
+    let i = c.loop-range.invariant in
+    let took = g.met.S.SortedDisjoint.gives _ _ _ c.in-Some.ensures.steps in
+    rw (c.into_inner-start.ensures.start, c.into_inner-start.ensures.end)
+    (with_key unit_eq unit_laws g.T.Integer.low g.T.Integer.high i.0 (bare_range g.T.Integer.rank c.in-Some.range) _ _ (i.1 ∙ ap (λ rs. i.0 ++ rs) took) c.in_hand-2.ensures)
+
+pub loop-range-preserved : goal.loop-range-preserved
+loop-range-preserved g c =
+    let i = c.loop-range.invariant in
+    let r = bare_range g.T.Integer.rank c.in-Some.range in
+    let took = g.met.S.SortedDisjoint.gives _ _ _ c.in-Some.ensures.steps in (
+      i.0 ++ r ∷ [],
+      i.1 ∙ ap (λ rs. i.0 ++ rs) took ∙ sym (append_assoc i.0 (r ∷ []) _),
+      cut_more g.V.PartialEq.eq g.met.V.Eq.laws g.T.Integer.low g.T.Integer.high c.args.map.entries r i.0 _ _ i.2
+          (rw (c.into_inner-start.ensures.start, c.into_inner-start.ensures.end) at c.in_ok-cut_range.ensures.ok),
+    )
+
+pub returns : goal.returns
+returns g c =
+    let i = c.loop-range.invariant in
+    let all = i.1 ∙ ap (λ rs. i.0 ++ rs) (g.met.S.SortedDisjoint.gives _ _ _ c.in-None.ensures.steps).0 ∙ append-nil i.0 in
+    subst (λ rs. IsChosen g.V.PartialEq.eq g.T.Integer.low g.T.Integer.high left_alone c.args.map.entries rs c.loop-range.map.entries) (sym all) i.2
