@@ -1,5 +1,5 @@
--- What taking keys out gives: one key, or all below or from a key on.
-use Rattle.std.specs.Prelude.{◌≡◌, ℤ, ◌<ℤ◌, int_le, int_lt, Bool, if◌then◌else◌, List, Option, Some, None}
+-- What taking keys out gives: one key, a range of keys, or all below or from a key on.
+use Rattle.std.specs.Prelude.{◌≡◌, ℤ, ◌<ℤ◌, int_le, int_lt, Bool, ◌&&◌, if◌then◌else◌, List, Option, Some, None}
 use Rattle.std.specs.Ordering.{int_eq}
 use Rattle.blaze_table.specs.Entries.{Entry, at, entry_at, SameOption}
 use Rattle.blaze_table.specs.Canonical.{IsRangeMap}
@@ -7,6 +7,10 @@ use Rattle.blaze_table.specs.Canonical.{IsRangeMap}
 -- the content without the key k
 abbrev pub cut_at : {V : Type 0} → ℤ → (ℤ → Option V) → ℤ → Option V
 cut_at k content j = if int_eq j k then None else content j
+
+-- the content without the keys from l up to h
+abbrev pub cut_range_at : {V : Type 0} → ℤ → ℤ → (ℤ → Option V) → ℤ → Option V
+cut_range_at l h content j = if int_le l j && int_le j h then None else content j
 
 -- the content at the keys below k alone
 abbrev pub below_at : {V : Type 0} → ℤ → (ℤ → Option V) → ℤ → Option V
@@ -26,6 +30,17 @@ pub record IsAmongOthers {V : Type 0} (k : ℤ) (entries : List (Entry V)) : Typ
   pub entry : Entry V
   pub here : entry_at entries k ≡ Some entry
   pub long : entry.lo <ℤ entry.hi
+
+-- what a cut of the keys from l up to h does to a range map
+pub record IsRangeCut {V : Type 0} (eq : V → V → Bool) (low high : ℤ) (l h : ℤ) (old new : List (Entry V)) : Type 0 where
+  pub range_map : IsRangeMap eq low high new
+  pub content : (j : ℤ) → SameOption eq (at new j) (cut_range_at l h (at old) j)
+
+-- the entry that has the key h has keys above it too
+pub record GoesOnAbove {V : Type 0} (h : ℤ) (entries : List (Entry V)) : Type 0 where
+  pub entry : Entry V
+  pub here : entry_at entries h ≡ Some entry
+  pub above : h <ℤ entry.hi
 
 -- what a split at k makes of a range map: the part below k, and the part from k on
 pub record IsSplit {V : Type 0} (eq : V → V → Bool) (low high : ℤ) (k : ℤ) (old below from : List (Entry V)) : Type 0 where

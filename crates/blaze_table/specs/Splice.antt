@@ -55,11 +55,20 @@ pub record IsListPainted {V : Type 0} (eq : V → V → Bool) (p : Entry V) (old
   pub few : length new ≤ length old + 2
   pub alone : old ≡ [] → length new ≤ 1
 
--- the list without the key k, where the part above may have values that are only equal to the old
-pub record IsCutOf {V : Type 0} (eq : V → V → Bool) (k : ℤ) (es new : List (Entry V)) : Type 0 where
+-- the list without the keys from l up to h, where the part above may have values that are only equal to the old
+pub record IsRangeCutOf {V : Type 0} (eq : V → V → Bool) (l h : ℤ) (es new : List (Entry V)) : Type 0 where
   pub above : List (Entry V)
-  pub like : SameEntries eq (after k es) above
-  pub joined : new ≡ before k es ++ above
+  pub like : SameEntries eq (after h es) above
+  pub joined : new ≡ before l es ++ above
+
+-- the list without the key k
+abbrev pub IsCutOf : {V : Type 0} → (V → V → Bool) → ℤ → List (Entry V) → List (Entry V) → Type 0
+IsCutOf eq k es new = IsRangeCutOf eq k k es new
+
+-- what lies below l and what lies above h is as before
+pub record IsKeptAround {V : Type 0} (l h : ℤ) (es new : List (Entry V)) : Type 0 where
+  pub below : before l new ≡ before l es
+  pub above : after h new ≡ after h es
 
 -- a list cut at a key, by structure
 pub record IsListCut {V : Type 0} (eq : V → V → Bool) (k : ℤ) (old new : List (Entry V)) : Type 0 where

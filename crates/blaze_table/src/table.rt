@@ -9,7 +9,7 @@ ghost use Rattle.blaze_table.specs.Entries.{SameEntries};
 ghost use Rattle.blaze_table.specs.Canonical.{IsRangeMap};
 ghost use Rattle.blaze_table.specs.Count.{keys_in, mapped_keys};
 ghost use Rattle.blaze_table.specs.Painted.{IsPainted, ClonesAreAlike, IsInside};
-ghost use Rattle.blaze_table.specs.Cut.{IsCut, IsSplit, IsAmongOthers};
+ghost use Rattle.blaze_table.specs.Cut.{IsCut, IsRangeCut, IsSplit, IsAmongOthers, GoesOnAbove};
 ghost use Rattle.blaze_table.specs.Gap.{IsGap};
 ghost use Rattle.blaze_table.specs.Listed.{listed};
 ghost use Rattle.blaze_table.specs.Work.{IsCountedPaint, IsCountedCut};
@@ -18,6 +18,7 @@ ghost use Rattle.blaze_table.specs.Retain.{IsKeyRetained};
 
 use crate::count::{count, count_list};
 use crate::cut::{cut, cut_first};
+use crate::cut_range::cut_range;
 use crate::gaps::gap_round;
 use crate::retain_keys::retain_keys;
 use crate::search::{entry_above, entry_below, entry_holding};
@@ -273,6 +274,23 @@ impl<T: Integer, V: Eq + Clone> RangeTable<T, V> {
         let (value, len) = cut_first(&mut self.entries.counted, old_len, key)?;
         self.len = len;
         Ok(value)
+    }
+
+    /// Takes the keys from lo up to hi out. Refused memory leaves the entries unchanged. Memory is taken only where an entry
+    /// with keys of the range goes on above it.
+    pub fn cut_range(&mut self, lo: T, hi: T) -> Result<(), AllocError>
+        requires order { T.rank lo ≤ℤ T.rank hi }
+        requires clones { ClonesAreAlike V.is_clone V.eq }
+        ensures ok { OnOk result (IsRangeCut V.eq T.low T.high (T.rank lo) (T.rank hi)
+            self.old.entries self.new.entries) }
+        ensures counted { OnOk result (IsCountedCut self.old self.new) }
+        ensures refused { OnErr result (GoesOnAbove (T.rank hi) self.old.entries) }
+        ensures err { OnErr result (self.new.entries ≡ self.old.entries) }
+    {
+        let old_len = self.len;
+        let len = cut_range(&mut self.entries.counted, old_len, lo, hi)?;
+        self.len = len;
+        Ok(())
     }
 
     /// Keeps the keys that a closure answers true at: one call for each key that has a value, ascending, with the stored

@@ -1,22 +1,28 @@
--- Edits at the entry that has a key, as the list without the key.
-use Rattle.std.proofs.Common.{◌≡◌, Bool, ℤ, pos, ◌+ℤ◌, ◌-ℤ◌, ◌≤ℤ◌, ◌<ℤ◌, true, List, [], ◌∷◌, ◌++◌, Option, Some, None, refl, ◌∙◌, sym, subst, ap, arith}
+-- Edits at the last entry that starts up to a key, as the list without a range of keys that ends there.
+use Rattle.std.proofs.Common.{◌≡◌, Bool, ℤ, pos, ◌+ℤ◌, ◌-ℤ◌, ◌≤ℤ◌, ◌<ℤ◌, true, List, [], ◌∷◌, ◌++◌, Option, Some, None, Result, Ok, Err, OnErr, refl, ◌∙◌, sym, subst, ap, arith}
 use Rattle.std.specs.Cmp.{IsEquivalence}
 use Rattle.std.specs.Prelude.{IfSome}
 use Rattle.std.specs.Option.{option_map}
 use Rattle.std.proofs.lemmas.Int.{ints}
 use Rattle.blaze_entries.specs.Found.{range_in}
-use Rattle.blaze_entries.specs.Starts.{StartsAscend, last_below, start_at, with_entry, without, with_end}
+use Rattle.blaze_entries.specs.Starts.{StartsAscend, last_below, start_at, with_entry, without, with_end, IsStartMoved}
+use Rattle.blaze_entries.proofs.Halves.{more_below}
 use Rattle.blaze_entries.proofs.Alike.{same_along, none_from_map}
 use Rattle.blaze_table.specs.Entries.{Entry, entry, at, entry_at, SameOption}
 use Rattle.blaze_table.specs.Canonical.{IsCanonical}
-use Rattle.blaze_table.specs.Cut.{IsAmongOthers}
+use Rattle.blaze_table.specs.Cut.{IsAmongOthers, GoesOnAbove}
 use Rattle.blaze_table.specs.Painted.{ClonesAreAlike}
-use Rattle.blaze_table.specs.Splice.{IsBelow, IsCutOf}
-use Rattle.blaze_table.proofs.Cuts.Cutting.{cut_whole, cut_end, cut_start, cut_inside, at_cut}
-use Rattle.blaze_table.proofs.Neighbours.Holders.{Holder, there, taken_out, taken_from, put_inside, end_moved, put_behind}
-use Rattle.blaze_table.proofs.Canonical.Lookup.{IsAbove, IsAbove-from_apart, at_over, at_before, entry_in, entry_over}
+use Rattle.blaze_table.specs.Splice.{IsBelow, IsCutOf, IsRangeCutOf, overlap, covered}
+use Rattle.blaze_table.proofs.Cuts.Cutting.{cut_whole, cut_end, cut_start, cut_inside, at_cut, covered_past}
+use Rattle.blaze_table.proofs.Neighbours.Holders.{Holder, there, is_holder, taken_out, taken_from, put_inside, end_moved, put_behind, with_entry-between}
+use Rattle.blaze_table.proofs.Canonical.Lookup.{IsAbove, at_over, at_before, entry_in, entry_over}
 use Rattle.blaze_table.proofs.Paints.Splices.{below_more}
+use Rattle.blaze_table.proofs.Canonical.Counted.{overlap_whole}
 use Rattle.blaze_table.proofs.Cuts.Splits.{no_last_from}
+
+pub on_err : {A E P : Type 0} (r : Result A E) → P → OnErr r P
+on_err (Ok x) p = tt
+on_err (Err e) p = p
 
 module _ {V : Type 0} where
   -- the entry at a key behind others
@@ -28,6 +34,10 @@ module _ {V : Type 0} where
   at_past k [] ys b = refl
   at_past k (x ∷ xs) ys b = at_over x (xs ++ ys) k b.0 ∙ at_past k xs ys b.1
 
+  pub above_from : (k j high : ℤ) (es : List (Entry V)) → j <ℤ k → StartsAscend k high es → IsAbove j es
+  above_from k j high [] l a = tt
+  above_from k j high (e ∷ es) l a = omega (arith, ints, a.0)
+
 module _ {V : Type 0} (eq : V → V → Bool) (laws : IsEquivalence eq) (k high : ℤ) (es : List (Entry V)) (s z : ℤ) (h : Holder eq (k +ℤ pos 1) high es s z) where
   abbrev b : ℤ
   b = k +ℤ pos 1
@@ -35,27 +45,27 @@ module _ {V : Type 0} (eq : V → V → Bool) (laws : IsEquivalence eq) (k high 
   abbrev e : Entry V
   e = h.of
 
-  up_to : e.lo ≤ℤ k
+  pub up_to : e.lo ≤ℤ k
   up_to = let u = h.starts in omega (arith, ints)
 
-  under : IsBelow k h.front
-  under = below_more e.lo k h.front up_to h.front_ends
+  pub under : (l : ℤ) → s ≤ℤ l → IsBelow l h.front
+  under l u = let q = h.lo in below_more e.lo l h.front (omega (arith, ints)) h.front_ends
 
-  over : IsAbove e.hi h.back
-  over = IsAbove-from_apart eq e h.back h.here.1
+  pub over : IsAbove k h.back
+  over = above_from b k high h.back (omega (arith, ints)) h.back_starts
 
-  parted : (new made : List (Entry V)) → new ≡ made → IsCutOf eq k (h.front ++ e ∷ h.back) made → IsCutOf eq k es new
-  parted new made q r = subst (λ x. IsCutOf eq k es x) (sym q) (subst (λ x. IsCutOf eq k x made) (sym h.parts) r)
+  parted : (l : ℤ) (new made : List (Entry V)) → new ≡ made → IsRangeCutOf eq l k (h.front ++ e ∷ h.back) made → IsRangeCutOf eq l k es new
+  parted l new made q r = subst (λ x. IsRangeCutOf eq l k es x) (sym q) (subst (λ x. IsRangeCutOf eq l k x made) (sym h.parts) r)
 
   -- what is at the key
   pub at_held : k ≤ℤ z → at es k ≡ Some e.value
-  at_held u = let r = h.hi in ap (λ l. at l k) h.parts ∙ at_cut eq k h.front under e h.back up_to (omega (arith, ints))
+  at_held u = let l = h.lo in let r = h.hi in ap (λ l. at l k) h.parts ∙ at_cut eq k h.front (under k (omega (arith, ints))) e h.back up_to (omega (arith, ints))
 
   pub value_held : (v : V) → k ≤ℤ z → eq e.value v ≡ true → SameOption eq (at es k) (Some v)
   value_held v u q = same_along eq (sym (at_held u)) refl q
 
   -- a clone of the entry's value is equal to it
-  like_holder : (is_clone : V → V → Type 0) → ClonesAreAlike is_clone eq → (v : V) → IfSome (start_at s es) (λ f. is_clone f.value v) → eq e.value v ≡ true
+  pub like_holder : (is_clone : V → V → Type 0) → ClonesAreAlike is_clone eq → (v : V) → IfSome (start_at s es) (λ f. is_clone f.value v) → eq e.value v ≡ true
   like_holder is_clone alike v i = alike e.value v (subst (λ o. IfSome o (λ f. is_clone f.value v)) (there eq b high es s z h) i)
 
   pub value_cloned : (is_clone : V → V → Type 0) → ClonesAreAlike is_clone eq → (v : V) → k ≤ℤ z → IfSome (start_at s es) (λ f. is_clone f.value v) → SameOption eq (at es k) (Some v)
@@ -64,15 +74,13 @@ module _ {V : Type 0} (eq : V → V → Bool) (laws : IsEquivalence eq) (k high 
   pub value_removed : (v : V) → k ≤ℤ z → option_map (λ f. f.value) (start_at s es) ≡ Some v → SameOption eq (at es k) (Some v)
   value_removed v u q = same_along eq (sym (at_held u ∙ sym (ap (option_map (λ f. f.value)) (there eq b high es s z h)) ∙ q)) refl (laws.refl v)
 
-  pub nothing_held : z <ℤ k → at es k ≡ None
-  nothing_held u =
+  pub nothing_held : (j : ℤ) → z <ℤ j → j ≤ℤ k → at es j ≡ None
+  nothing_held j u w =
+      let l = h.lo in
       let r = h.hi in
-      ap (λ l. at l k) h.parts ∙ at_past k h.front (e ∷ h.back) under ∙ at_over e h.back k (omega (arith, ints))
-      ∙ at_before eq h.back k k h.here.2 (above_from h.back h.back_starts) (omega (arith, ints))
-    where
-      above_from : (ys : List (Entry V)) → StartsAscend (k +ℤ pos 1) high ys → IsAbove k ys
-      above_from [] a = tt
-      above_from (y ∷ ys) a = omega (arith, ints, a.0)
+      let c = h.here.0 in
+      ap (λ l. at l j) h.parts ∙ at_past j h.front (e ∷ h.back) (under j (omega (arith, ints))) ∙ at_over e h.back j (omega (arith, ints))
+      ∙ at_before eq h.back k j h.here.2 over w
 
   pub something_held : k ≤ℤ z → at es k ≡ None → ⊥
   something_held u n = some_none e.value (at es k) (at_held u) n
@@ -80,23 +88,29 @@ module _ {V : Type 0} (eq : V → V → Bool) (laws : IsEquivalence eq) (k high 
       some_none : (v : V) (o : Option V) → o ≡ Some v → o ≡ None → ⊥
       some_none v o p q = cc
 
-  pub among_others : s <ℤ z → k ≤ℤ z → IsAmongOthers k es
-  among_others u w =
-      let l = h.lo in
-      let r = h.hi in
-      record {
-        entry = e;
-        here = ap (λ l. entry_at l k) h.parts ∙ entry_past k h.front under e h.back up_to (omega (arith, ints));
-        long = omega (arith, ints);
-      }
+  held : k ≤ℤ z → entry_at es k ≡ Some e
+  held w = let l = h.lo in let r = h.hi in ap (λ l. entry_at l k) h.parts ∙ entry_past k h.front (under k (omega (arith, ints))) e h.back up_to (omega (arith, ints))
 
-  -- the edits, where it starts below the key or at it, and ends at the key or above it
-  pub end_cut : z ≡ k → (y : ℤ) (new : List (Entry V)) → s <ℤ k → y ≡ k -ℤ pos 1 → new ≡ with_end s y es → IsCutOf eq k es new
-  end_cut w y new u q n =
-      let l = h.lo in
+  pub among_others : s <ℤ z → k ≤ℤ z → IsAmongOthers k es
+  among_others u w = let l = h.lo in let r = h.hi in record { entry = e; here = held w; long = omega (arith, ints) }
+
+  pub goes_on_above : k <ℤ z → GoesOnAbove k es
+  goes_on_above u = let r = h.hi in record { entry = e; here = held (omega (arith, ints)); above = omega (arith, ints) }
+
+  -- of the keys from l up to k only those of the entry are covered
+  pub covered_held : IsCanonical eq es → (l : ℤ) → s ≤ℤ l → l ≤ℤ k → covered l k es ≡ overlap l k e
+  covered_held c l u w = ap (covered l k) h.parts ∙ covered_past eq l k w h.front (under l u) e h.back (subst (IsCanonical eq) h.parts c) over
+
+  pub one_covered : IsCanonical eq es → k ≤ℤ z → covered k k es ≡ pos 1
+  one_covered c w = let l = h.lo in let r = h.hi in let u = up_to in omega (arith, ints, covered_held c k (omega (arith, ints)) (omega (arith, ints)), overlap_whole k k e u (omega (arith, ints)) (omega (arith, ints)))
+
+  -- the edits, of the keys from l up to k
+  pub end_cut : (l : ℤ) → l ≤ℤ k → l ≤ℤ z → z ≤ℤ k → (y : ℤ) (new : List (Entry V)) → s <ℤ l → y ≡ l -ℤ pos 1 → new ≡ with_end s y es → IsRangeCutOf eq l k es new
+  end_cut l m v w y new u q n =
+      let f = h.lo in
       let r = h.hi in
-      let new_is : new ≡ h.front ++ entry e.lo (k -ℤ pos 1) e.value ∷ h.back = n ∙ ap (with_end s y) h.parts ∙ end_moved eq b high es s z h y h.back ∙ ap (λ x. h.front ++ entry e.lo x e.value ∷ h.back) q in
-      parted new (h.front ++ entry e.lo (k -ℤ pos 1) e.value ∷ h.back) new_is (cut_end eq laws k h.front under e h.back h.here.2 over (omega (arith, ints)) (omega (arith, ints)))
+      let new_is : new ≡ h.front ++ entry e.lo (l -ℤ pos 1) e.value ∷ h.back = n ∙ ap (with_end s y) h.parts ∙ end_moved eq b high es s z h y h.back ∙ ap (λ x. h.front ++ entry e.lo x e.value ∷ h.back) q in
+      parted l new (h.front ++ entry e.lo (l -ℤ pos 1) e.value ∷ h.back) new_is (cut_end eq laws l k m h.front (under l (omega (arith, ints))) e h.back h.here.2 over (omega (arith, ints)) (omega (arith, ints)) (omega (arith, ints)))
 
   pub start_cut : (is_clone : V → V → Type 0) → ClonesAreAlike is_clone eq → (n : ℤ) (v : V) (new : List (Entry V)) → s ≡ k → k <ℤ z → n ≡ k +ℤ pos 1
       → IfSome (start_at s es) (λ f. is_clone f.value v) → new ≡ without s (with_entry (entry n z v) es) → IsCutOf eq k es new
@@ -109,33 +123,55 @@ module _ {V : Type 0} (eq : V → V → Bool) (laws : IsEquivalence eq) (k high 
       ∙ taken_from eq b high es s z h (p ∷ h.back)
       ∙ ap (λ x. h.front ++ entry n x v ∷ h.back) (sym h.hi)
       ∙ ap (λ x. h.front ++ entry x e.hi v ∷ h.back) q in
-      parted new (h.front ++ entry (k +ℤ pos 1) e.hi v ∷ h.back) new_is (cut_start eq laws k h.front under e h.back v (omega (arith, ints)) (omega (arith, ints)) (like_holder is_clone alike v i))
+      parted k new (h.front ++ entry (k +ℤ pos 1) e.hi v ∷ h.back) new_is (cut_start eq laws k k (omega (arith, ints)) h.front (under k (omega (arith, ints))) e h.back v (omega (arith, ints)) (omega (arith, ints)) (omega (arith, ints)) (like_holder is_clone alike v i))
 
+  pub hole_cut : (l : ℤ) → l ≤ℤ k → (n y : ℤ) (w : V) (mid new : List (Entry V)) → s <ℤ l → k <ℤ z → n ≡ k +ℤ pos 1 → y ≡ l -ℤ pos 1 → eq e.value w ≡ true
+      → mid ≡ with_end s y es → new ≡ with_entry (entry n z w) mid → IsRangeCutOf eq l k es new
+  hole_cut l f n y w mid new u t q r like a m =
+      let low = h.lo in
+      let up = h.hi in
+      let p = entry n z w in
+      let new_is : new ≡ h.front ++ entry e.lo (l -ℤ pos 1) e.value ∷ entry (k +ℤ pos 1) e.hi w ∷ h.back =
+      m ∙ ap (with_entry p) a ∙ put_behind eq b high es s z h y n (omega (arith, ints)) (omega (arith, ints)) p refl
+      ∙ ap (λ x. h.front ++ entry e.lo x e.value ∷ p ∷ h.back) r
+      ∙ ap (λ x. h.front ++ entry e.lo (l -ℤ pos 1) e.value ∷ entry n x w ∷ h.back) (sym h.hi)
+      ∙ ap (λ x. h.front ++ entry e.lo (l -ℤ pos 1) e.value ∷ entry x e.hi w ∷ h.back) q in
+      parted l new (h.front ++ entry e.lo (l -ℤ pos 1) e.value ∷ entry (k +ℤ pos 1) e.hi w ∷ h.back) new_is (cut_inside eq laws l k f h.front (under l (omega (arith, ints))) e h.back w (omega (arith, ints)) (omega (arith, ints)) like)
+
+  -- with a clone of a clone
   pub inside_cut : (is_clone : V → V → Type 0) → ClonesAreAlike is_clone eq → (n y : ℤ) (v w : V) (mid new : List (Entry V)) → s <ℤ k → k <ℤ z → n ≡ k +ℤ pos 1 → y ≡ k -ℤ pos 1
       → IfSome (start_at s es) (λ f. is_clone f.value v) → is_clone v w → mid ≡ with_end s y es → new ≡ with_entry (entry n z w) mid → IsCutOf eq k es new
   inside_cut is_clone alike n y v w mid new u t q r i j a m =
-      let l = h.lo in
-      let up = h.hi in
-      let p = entry n z w in
-      let new_is : new ≡ h.front ++ entry e.lo (k -ℤ pos 1) e.value ∷ entry (k +ℤ pos 1) e.hi w ∷ h.back =
-      m ∙ ap (with_entry p) a ∙ put_behind eq b high es s z h y n (omega (arith, ints)) (omega (arith, ints)) p refl
-      ∙ ap (λ x. h.front ++ entry e.lo x e.value ∷ p ∷ h.back) r
-      ∙ ap (λ x. h.front ++ entry e.lo (k -ℤ pos 1) e.value ∷ entry n x w ∷ h.back) (sym h.hi)
-      ∙ ap (λ x. h.front ++ entry e.lo (k -ℤ pos 1) e.value ∷ entry x e.hi w ∷ h.back) q in
-      let like = like_holder is_clone alike v i in
-      let both : eq e.value w ≡ true = sym (laws.congr v e.value w (laws.symm v e.value ∙ like)) ∙ alike v w j in
-      parted new (h.front ++ entry e.lo (k -ℤ pos 1) e.value ∷ entry (k +ℤ pos 1) e.hi w ∷ h.back) new_is (cut_inside eq laws k h.front under e h.back w (omega (arith, ints)) (omega (arith, ints)) both)
+      hole_cut k (omega (arith, ints)) n y w mid new u t q r (sym (laws.congr v e.value w (laws.symm v e.value ∙ like_holder is_clone alike v i)) ∙ alike v w j) a m
 
-  pub whole_cut : s ≡ k → z ≡ k → (new : List (Entry V)) → new ≡ without s es → IsCutOf eq k es new
-  whole_cut u w new n =
-      let l = h.lo in
+  pub whole_cut : (l : ℤ) → l ≤ℤ k → l ≤ℤ s → z ≤ℤ k → s ≤ℤ l → (new : List (Entry V)) → new ≡ without s es → IsRangeCutOf eq l k es new
+  whole_cut l f u w v new n =
+      let q = h.lo in
       let r = h.hi in
-      parted new (h.front ++ h.back) (n ∙ taken_out eq b high es s z h) (cut_whole eq laws k h.front under e h.back h.here.2 over (omega (arith, ints)) (omega (arith, ints)))
+      let c = h.here.0 in
+      parted l new (h.front ++ h.back) (n ∙ taken_out eq b high es s z h) (cut_whole eq laws l k f h.front (under l v) e h.back h.here.2 over (omega (arith, ints)) (omega (arith, ints)) (omega (arith, ints)))
+
+  -- the entry starts at k + 1 instead
+  module _ (n : ℤ) (l : s ≤ℤ k) (u : k <ℤ z) (at : n ≡ k +ℤ pos 1) (new : List (Entry V)) (m : IsStartMoved s n es new) where
+    abbrev pub moved : Entry V
+    moved = entry (k +ℤ pos 1) e.hi e.value
+
+    pub moved_is : new ≡ h.front ++ moved ∷ h.back
+    moved_is =
+        let q = h.lo in
+        let r = h.hi in
+        m.moved ∙ ap (λ (x : Entry V). with_entry (entry n x.hi x.value) (without s es)) (sym (is_holder eq b high es s z h m.found))
+        ∙ ap (λ x. with_entry (entry x e.hi e.value) (without s es)) at
+        ∙ ap (with_entry moved) (taken_out eq b high es s z h)
+        ∙ with_entry-between moved (e.hi +ℤ pos 1) high h.front h.back (more_below e.lo (k +ℤ pos 1) h.front (omega (arith, ints)) h.front_starts) (omega (arith, ints)) h.back_over
+
+    pub moved_cut : IsRangeCutOf eq s k es new
+    moved_cut =
+        let q = h.lo in
+        let r = h.hi in
+        parted s new (h.front ++ moved ∷ h.back) moved_is
+        (cut_start eq laws s k l h.front (under s (omega (arith, ints))) e h.back e.value (omega (arith, ints)) (omega (arith, ints)) (omega (arith, ints)) (laws.refl e.value))
 
 -- no entry starts up to the key
-pub nothing_below : {V : Type 0} (eq : V → V → Bool) (k low high : ℤ) (es : List (Entry V)) → StartsAscend low high es → IsCanonical eq es → None ≡ option_map range_in (last_below (k +ℤ pos 1) es) → at es k ≡ None
-nothing_below {V} eq k low high es a c p = at_before eq es k k c (above_from es (no_last_from (k +ℤ pos 1) low high es a (none_from_map range_in (last_below (k +ℤ pos 1) es) p))) (omega (arith, ints))
-  where
-    above_from : (ys : List (Entry V)) → StartsAscend (k +ℤ pos 1) high ys → IsAbove k ys
-    above_from [] a = tt
-    above_from (y ∷ ys) a = omega (arith, ints, a.0)
+pub nothing_below : {V : Type 0} (eq : V → V → Bool) (k low high : ℤ) (es : List (Entry V)) → StartsAscend low high es → IsCanonical eq es → None ≡ option_map range_in (last_below (k +ℤ pos 1) es) → (j : ℤ) → j ≤ℤ k → at es j ≡ None
+nothing_below eq k low high es a c p j u = at_before eq es k j c (above_from (k +ℤ pos 1) k high es (omega (arith, ints)) (no_last_from (k +ℤ pos 1) low high es a (none_from_map range_in (last_below (k +ℤ pos 1) es) p))) u

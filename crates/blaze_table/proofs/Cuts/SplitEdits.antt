@@ -16,10 +16,10 @@ use Rattle.blaze_table.specs.Canonical.{IsCanonical}
 use Rattle.blaze_table.specs.Painted.{ClonesAreAlike}
 use Rattle.blaze_table.specs.Splice.{IsBelow, IsSplitOf}
 use Rattle.blaze_table.proofs.Neighbours.Holders.{Holder, is_holder, put_inside, starts_behind, end_moved}
-use Rattle.blaze_table.proofs.Canonical.Lookup.{IsAbove}
 use Rattle.blaze_table.proofs.Paints.Placing.{put_back, put_there}
 use Rattle.blaze_table.proofs.Paints.Splices.{below_more}
 use Rattle.blaze_table.proofs.Cuts.Splits.{no_last, no_last_from}
+use Rattle.blaze_table.proofs.Cuts.CutEdits.{above_from}
 use Rattle.blaze_table.proofs.Cuts.Splitting.{split_here, split_between}
 
 module _ {V : Type 0} where
@@ -28,10 +28,6 @@ module _ {V : Type 0} where
 
   from_back : (k : ℤ) (xs ys : List (Entry V)) → StartsBelow k xs → from k ys ≡ ys → from k (xs ++ ys) ≡ ys
   from_back k xs ys u n = filter-append (λ e. int_le k e.lo) xs ys ∙ ap (λ l. l ++ from k ys) (from_none k xs u) ∙ n
-
-  above_from : (k j high : ℤ) (es : List (Entry V)) → j <ℤ k → StartsAscend k high es → IsAbove j es
-  above_from k j high [] l a = tt
-  above_from k j high (e ∷ es) l a = omega (arith, ints, a.0)
 
 module _ {V : Type 0} (eq : V → V → Bool) (laws : IsEquivalence eq) (k high : ℤ) (es : List (Entry V)) where
   module _ (s z : ℤ) (h : Holder eq k high es s z) where

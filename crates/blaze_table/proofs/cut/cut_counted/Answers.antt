@@ -1,7 +1,7 @@
-use Rattle.std.proofs.Common.{pos, ◌+ℤ◌, Result, Ok, Err, OnErr, arith}
+use Rattle.std.proofs.Common.{pos, ◌+ℤ◌, arith}
 use Rattle.std.proofs.lemmas.Int.{ints}
-use Rattle.blaze_table.proofs.Cuts.CutEdits.{among_others}
-use Rattle.blaze_table.proofs.Cuts.Cutting.{cut_table, cut_is, covered_one, one_fits}
+use Rattle.blaze_table.proofs.Cuts.CutEdits.{on_err, among_others, one_covered}
+use Rattle.blaze_table.proofs.Cuts.Cutting.{cut_table, cut_is, covered_fits}
 use Rattle.blaze_table.proofs.Neighbours.Holders.{holder}
 use Rattle.blaze_table.proofs.cut.cut_counted.Goals as goal
 
@@ -11,10 +11,6 @@ cut_holder-requires-clause-starts g c =
     let lo = h.lo in
     let starts = h.starts in
     omega (arith, ints)
-
-on_err : {A E P : Type 0} (r : Result A E) → P → OnErr r P
-on_err (Ok x) p = tt
-on_err (Err e) p = p
 
 pub returns-in_err-value-clause-refused : goal.returns-in_err-value-clause-refused
 returns-in_err-value-clause-refused g c =
@@ -28,8 +24,9 @@ minus-rest-requires g c =
     let eq = g.V.PartialEq.eq in
     let key = g.T.Integer.rank c.args.key in
     let es = c.args.entries.now.entries in
-    let one = covered_one eq key es c.requires.table.canonical c.in_ok-value.value c.in_ok-value.ensures.value in
-    let fits = one_fits eq key es c.requires.table.canonical in
+    let h = holder eq (key +ℤ pos 1) g.T.Integer.high es g.T.Integer.low _ _ c.in_hand.ensures c.requires.table.canonical c.requires.found in
+    let one = one_covered eq g.met.V.Eq.laws key g.T.Integer.high es _ _ h c.requires.table.canonical c.requires.ends in
+    let fits = covered_fits eq key key es c.requires.table.canonical in
     omega (arith, ints, one, fits, c.requires.table.counted, c.one.ensures)
 
 pub returns-clause-table : goal.returns-clause-table
@@ -37,8 +34,9 @@ returns-clause-table g c =
     let eq = g.V.PartialEq.eq in
     let key = g.T.Integer.rank c.args.key in
     let es = c.args.entries.now.entries in
-    let one = covered_one eq key es c.requires.table.canonical c.in_ok-value.value c.in_ok-value.ensures.value in
-    cut_table eq g.met.V.Eq.laws key es c.cut_holder.new.entries.entries c.requires.table.canonical c.in_ok-value.ensures.cut
+    let h = holder eq (key +ℤ pos 1) g.T.Integer.high es g.T.Integer.low _ _ c.in_hand.ensures c.requires.table.canonical c.requires.found in
+    let one = one_covered eq g.met.V.Eq.laws key g.T.Integer.high es _ _ h c.requires.table.canonical c.requires.ends in
+    cut_table eq g.met.V.Eq.laws key key (omega (arith, ints)) es c.cut_holder.new.entries.entries c.requires.table.canonical c.in_ok-value.ensures.cut
     g.T.Integer.low g.T.Integer.high _ _ c.requires.table (omega (arith, ints, one, c.minus-rest.ensures, c.one.ensures))
 
 pub returns-clause-cut : goal.returns-clause-cut
