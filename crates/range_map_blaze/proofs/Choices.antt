@@ -1,7 +1,7 @@
 -- What is chosen from two lists, carried along lists that are alike.
 use Rattle.std.proofs.Common.{◌≡◌, ℤ, Bool, List, Option, Some, None, is_some, refl, subst, ◌∙◌}
 use Rattle.std.specs.Cmp.{IsEquivalence}
-use Rattle.blaze_entries.proofs.Alike.{same_trans}
+use Rattle.blaze_entries.proofs.Alike.{same_back, same_trans}
 use Rattle.blaze_table.specs.Entries.{Entry, at, SameOption, SameEntries}
 use Rattle.blaze_table.specs.Chosen.{right_first, left_with_right, left_alone, IsChosen}
 use Rattle.blaze_table.specs.Complement.{absent, IsComplement}
@@ -83,4 +83,15 @@ module _ {V : Type 0} (eq : V → V → Bool) (laws : IsEquivalence eq) (low hig
   chosen_into left right old new s c = record {
     range_map = c.range_map;
     content = λ k. same_trans eq laws (at new k) (right_first (at left k) (at old k)) _ (c.content k) (right_like (at left k) (at right k) (at old k) (content_as eq laws right old s k));
+  }
+
+  -- cut from a map that is like the left one
+  alone_like : {B : Type 0} (x y : Option V) (z : Option B) → SameOption eq x y → SameOption eq (left_alone y z) (left_alone x z)
+  alone_like x y None s = same_back eq laws x y s
+  alone_like x y (Some z) s = tt
+
+  pub chosen_from : {B : Type 0} (left old : List (Entry V)) (right : List (Entry B)) (new : List (Entry V)) → SameEntries eq left old → IsChosen eq low high left_alone old right new → IsChosen eq low high left_alone left right new
+  chosen_from left old right new s c = record {
+    range_map = c.range_map;
+    content = λ k. same_trans eq laws (at new k) (left_alone (at old k) (at right k)) _ (c.content k) (alone_like (at left k) (at old k) (at right k) (content_as eq laws left old s k));
   }

@@ -1,5 +1,5 @@
 use Rattle.blaze_int.specs.Unsigned.{nat_of}
-use Rattle.std.proofs.Common.{◌≡◌, sym, ap, subst, ℤ, pos, ◌+ℤ◌, ◌-ℤ◌, arith, ◌∙◌, true, false}
+use Rattle.std.proofs.Common.{◌≡◌, sym, ap, subst, pos, ◌+ℤ◌, ◌-ℤ◌, arith, ◌∙◌}
 use Rattle.std.proofs.lemmas.Int.{ints}
 use Rattle.blaze_int.proofs.Naturals.{nat_of-pos}
 use Rattle.blaze_int.proofs.Comparisons.{lt_holds, lt_fails}
