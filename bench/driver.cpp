@@ -86,6 +86,9 @@ const Work works[] = {
     {"`a & b`, a of 100, lent", 21, 100'000, 1'000, 1, "call", 0},
     {"`a & b`, a of 100, lent", 21, 1'000'000, 1'000, 1, "call", 0},
     {"`a - b`, equal sizes", 13, 100'000, 1'000, 200 * thousand, "entry", 1.2},
+    {"`a - b`, b of 100, lent", 22, 100'000, 1'000, 1, "call", 0},
+    {"`a - b`, b of 100, by value", 23, 100'000, 1'000, 1, "call", 0},
+    {"`a - b`, b of 100, by value", 23, 1'000'000, 1'000, 1, "call", 0},
     {"`a ^ b`, equal sizes", 14, 100'000, 1'000, 200 * thousand, "entry", 1.2},
     {"all keys, 100 an entry", 15, 100'000, 100, 1e7, "key", 2.0},
     {"all keys, 1 an entry", 16, 1'000'000, 1'000, 1e6, "key", 1.0},
@@ -306,6 +309,7 @@ void print_growths(const Times& times) {
     print_growth(times, "`a \\| b`, b of 100, by value at 10^5, of 100 paints", 11, 100'000, 100, 0, 100'000, 1);
     print_growth(times, "a map of 10^6 unsorted ranges, of painting them", 17, 1'000'000, 1, 19, 1'000'000, 0.25);
     print_growth(times, "`a \\| b`, b of 100, by value at 10^6, of that at 10^5", 11, 1'000'000, 1, 11, 100'000, 4);
+    print_growth(times, "`a - b`, b of 100, by value at 10^6, of that at 10^5", 23, 1'000'000, 1, 23, 100'000, 4);
     print_growth(times, "the union of 4,096 maps, of that of 16", 20, 4'096, 1, 20, 16, 3);
 }
 

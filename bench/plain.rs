@@ -155,12 +155,12 @@ fn combine(check: bool, size: u64, other: u64, count: u64, operation: fn(&Map, &
     sum
 }
 
-/// Small maps, each taken over by value.
-fn union_by_value(check: bool, size: u64, count: u64) -> u64 {
+/// A map that small maps are combined with, one after another, all by value.
+fn combine_by_value(check: bool, size: u64, count: u64, operation: fn(Map, Map) -> Map) -> u64 {
     let mut map = prepared(1, size, 16, 0);
     let others: Vec<Map> = (3..1003).map(|seed| prepared(seed, 100, 16 * (size / 100), 0)).collect();
     for other in others.into_iter().take(count as usize) {
-        map = map.union_by_value(other);
+        map = operation(map, other);
     }
     checksum(check, 0, &map)
 }
@@ -270,7 +270,7 @@ pub extern "C" fn plain_run(work: u32, size: u64, count: u64) -> u64 {
         8 => combine(check, size, size, count, Map::union),
         9 => combine(check, size, size / 10, count, Map::union),
         10 => combine(check, size, 100, count, Map::union),
-        11 => union_by_value(check, size, count),
+        11 => combine_by_value(check, size, count, Map::union_by_value),
         12 => combine(check, size, size, count, Map::intersection),
         13 => combine(check, size, size, count, Map::difference),
         14 => combine(check, size, size, count, Map::symmetric_difference),
@@ -280,6 +280,8 @@ pub extern "C" fn plain_run(work: u32, size: u64, count: u64) -> u64 {
         18 => copy_sorted(check, size, count),
         20 => union_of_many(check, size, count),
         21 => combine(check, size, 100, count, |map, few| few.intersection(map)),
+        22 => combine(check, size, 100, count, Map::difference),
+        23 => combine_by_value(check, size, count, |map, other| map.difference_by_value(&other)),
         _ => return 0,
     };
     sum | 1

@@ -9,7 +9,7 @@ mod unite;
 
 use splice::{Held, give, held, hold};
 use std::collections::BTreeMap;
-use std::mem::take;
+use std::mem::{replace, take};
 use std::ops::Bound::{Excluded, Unbounded};
 
 /// The entries by their first keys: the last key and the value.
@@ -139,8 +139,46 @@ impl<V: Eq + Clone> RangeMap<V> {
         gathered.build()
     }
 
+    /// Takes the keys from `lo` up to `hi` out; an entry that goes on below or above them keeps the rest.
+    fn cut(&mut self, lo: i64, hi: i64) {
+        if let Some((_, entry)) = self.tree.range_mut(..lo).next_back()
+            && entry.0 >= lo
+        {
+            let end = replace(&mut entry.0, lo - 1);
+            self.len -= length(lo, end.min(hi));
+            if end > hi {
+                let rest = (end, entry.1.clone());
+                self.tree.insert(hi + 1, rest);
+                return;
+            }
+        }
+        while let Some((&start, _)) = self.tree.range(lo..=hi).next()
+            && let Some(entry) = self.tree.remove(&start)
+        {
+            self.len -= length(start, entry.0.min(hi));
+            if entry.0 > hi {
+                self.tree.insert(hi + 1, entry);
+                return;
+            }
+        }
+    }
+
+    /// The values of `self` off the keys of `other`, where `self` may be used up.
+    pub fn difference_by_value(mut self, other: &Self) -> Self {
+        if cfg!(as_crate) || !are_few(other.tree.len(), self.tree.len()) {
+            return self.difference(other);
+        }
+        for (start, end, _) in other.entries() {
+            self.cut(start, end);
+        }
+        self
+    }
+
     /// The values of `self` off the keys of `other`.
     pub fn difference(&self, other: &Self) -> Self {
+        if !cfg!(as_crate) && are_few(other.tree.len(), self.tree.len()) {
+            return self.clone().difference_by_value(other);
+        }
         let mut gathered = Gathered::with_capacity(self.tree.len());
         let mut right = other.entries();
         let mut b = right.next();
@@ -351,7 +389,9 @@ mod tests {
             assert_same(&a.union(&b), &either);
             assert_same(&a.clone().union_by_value(b.clone()), &either);
             assert_same(&a.intersection(&b), &chosen(&first, &second, |a, b| a.and(b)));
-            assert_same(&a.difference(&b), &chosen(&first, &second, |a, b| if b.is_none() { a } else { None }));
+            let rest = chosen(&first, &second, |a, b| if b.is_none() { a } else { None });
+            assert_same(&a.difference(&b), &rest);
+            assert_same(&a.clone().difference_by_value(&b), &rest);
             assert_same(&a.symmetric_difference(&b), &chosen(&first, &second, |a, b| a.xor(b)));
             let key = draw.below(KEYS as u64) as usize;
             let upper = a.clone().split_off(key as i64);

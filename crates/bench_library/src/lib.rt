@@ -11,7 +11,7 @@ mod whole;
 use crate::changes::{Change, change_maps, clumps, get, pop_first};
 use crate::makes::{Making, make};
 use crate::many::union_of_many;
-use crate::whole::{Combination, append, combine, split_off, union_by_value, walk};
+use crate::whole::{Combination, append, combine, combine_by_value, split_off, walk};
 use std::alloc::{AllocError, Global};
 
 /// Added to a work's number where the entries that are left are to be in the checksum.
@@ -42,7 +42,7 @@ fn run(alloc: Global, work: u32, size: u64, count: u64) -> Result<Option<u64>, A
         8 => combine(alloc, check, Combination::Union, size, size, count)?,
         9 => combine(alloc, check, Combination::Union, size, size / 10, count)?,
         10 => combine(alloc, check, Combination::Union, size, 100, count)?,
-        11 => union_by_value(alloc, check, size, count)?,
+        11 => combine_by_value(alloc, check, Combination::Union, size, count)?,
         12 => combine(alloc, check, Combination::Intersection, size, size, count)?,
         13 => combine(alloc, check, Combination::Difference, size, size, count)?,
         14 => combine(
@@ -60,6 +60,8 @@ fn run(alloc: Global, work: u32, size: u64, count: u64) -> Result<Option<u64>, A
         19 => make(alloc, check, Making::OneByOne, size, count)?,
         20 => union_of_many(alloc, check, size, count)?,
         21 => combine(alloc, check, Combination::Restriction, size, 100, count)?,
+        22 => combine(alloc, check, Combination::Difference, size, 100, count)?,
+        23 => combine_by_value(alloc, check, Combination::Difference, size, count)?,
         _ => return Ok(None),
     };
     Ok(Some(sum))

@@ -84,10 +84,11 @@ pub fn combine(
     Ok(sum)
 }
 
-/// Small maps, each taken over by value, of a thousand.
-pub fn union_by_value(
+/// A map that small maps, of a thousand, are combined with, one after another, all by value.
+pub fn combine_by_value(
     alloc: Global,
     check: bool,
+    combination: Combination,
     size: u64,
     count: u64,
 ) -> Result<u64, AllocError> {
@@ -103,7 +104,13 @@ pub fn union_by_value(
             break;
         }
         left -= 1;
-        map = (map | other)?;
+        map = match combination {
+            Combination::Union => (map | other)?,
+            Combination::Intersection => (map & other)?,
+            Combination::Restriction => (other & map)?,
+            Combination::Difference => (map - other)?,
+            Combination::SymmetricDifference => (map ^ other)?,
+        };
     }
     Ok(checksum(check, 0, &map))
 }

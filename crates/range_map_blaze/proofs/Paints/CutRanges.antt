@@ -1,6 +1,6 @@
 -- The content of a list that ranges are cut from, one after another.
 use Rattle.std.specs.Option.{option_or}
-use Rattle.std.proofs.Common.{◌≡◌, ℤ, Bool, true, false, List, [], ◌∷◌, ◌++◌, Option, Some, None, if◌then◌else◌, refl, sym, ap}
+use Rattle.std.proofs.Common.{◌≡◌, ℤ, Bool, true, false, List, [], ◌∷◌, ◌++◌, Option, Some, None, if◌then◌else◌, refl, sym, ap, subst}
 use Rattle.std.specs.Cmp.{IsEquivalence}
 use Rattle.blaze_entries.proofs.Alike.{same_along, same_itself, same_trans}
 use Rattle.blaze_table.specs.Entries.{Entry, at, holds, SameOption}
@@ -17,8 +17,8 @@ less eq false unit x left None s = s
 less eq false unit x left (Some c) s = s
 
 module _ {V : Type 0} (eq : V → V → Bool) (laws : IsEquivalence eq) (low high : ℤ) (es : List (Entry V)) where
-  pub cut_none : IsRangeMap eq low high es → IsChosen eq low high left_alone es [] es
-  cut_none r = record { range_map = r; content = λ k. same_itself eq laws (at es k) }
+  pub cut_none : (new : List (Entry V)) → es ≡ new → IsRangeMap eq low high es → IsChosen {B = Unit {0}} eq low high left_alone es [] new
+  cut_none new p r = record { range_map = subst (IsRangeMap eq low high) p r; content = λ k. same_along eq (ap (λ es'. at es' k) p) refl (same_itself eq laws (at es k)) }
 
   -- one range more
   pub cut_more : (r : Entry (Unit {0})) (done : List (Entry (Unit {0}))) (old new : List (Entry V)) → IsChosen eq low high left_alone es done old → IsRangeCut eq low high r.lo r.hi old new → IsChosen eq low high left_alone es (done ++ r ∷ []) new

@@ -18,12 +18,12 @@ pub fn cut_ranges<T: Integer, V: Eq + Clone, S: SortedDisjoint<T>>(
     ensures { IfOk result (λ new. IsChosen V.eq T.low T.high left_alone map.entries
         (S.left ranges) new.entries) }
 {
-    let mut map = map;
     map.in_hand();
     ranges.in_hand();
+    let mut table = map.table;
     for range in ranges {
         let (start, end) = range.into_inner();
-        map.table.cut_range(start, end)?;
+        table.cut_range(start, end)?;
     }
-    Ok(map)
+    Ok(RangeMapBlaze { table })
 }

@@ -12,10 +12,10 @@ loop-range-init-derived g c = (g.met.S.SortedDisjoint.ready _, subst IsFinite (s
 
 pub loop-range-init : goal.loop-range-init
 loop-range-init g c = (
-      [],
-      ap g.S.SortedDisjoint.left (sym c.into_iter-range-iterator.ensures.into_iter_gives),
-      cut_none g.V.PartialEq.eq g.met.V.Eq.laws g.T.Integer.low g.T.Integer.high c.args.map.entries c.in_hand.ensures,
-    )
+  [],
+  ap g.S.SortedDisjoint.left (sym c.into_iter-range-iterator.ensures.into_iter_gives),
+  cut_none g.V.PartialEq.eq g.met.V.Eq.laws g.T.Integer.low g.T.Integer.high c.args.map.entries _ (sym (ap (λ s. s.entries) c.map.view_is)) c.in_hand.ensures,
+)
 
 pub cut_range-requires-clause-order : goal.cut_range-requires-clause-order
 cut_range-requires-clause-order g c =
@@ -39,4 +39,4 @@ pub returns : goal.returns
 returns g c =
     let i = c.loop-range.invariant in
     let all = i.1 ∙ ap (λ rs. i.0 ++ rs) (g.met.S.SortedDisjoint.gives _ _ _ c.in-None.ensures.steps).0 ∙ append-nil i.0 in
-    subst (λ rs. IsChosen g.V.PartialEq.eq g.T.Integer.low g.T.Integer.high left_alone c.args.map.entries rs c.loop-range.map.entries) (sym all) i.2
+    subst (λ rs. IsChosen g.V.PartialEq.eq g.T.Integer.low g.T.Integer.high left_alone c.args.map.entries rs c.loop-range.table.entries) (sym all) i.2

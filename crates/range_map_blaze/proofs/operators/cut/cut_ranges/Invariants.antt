@@ -3,9 +3,9 @@ use Rattle.blaze_table.specs.Chosen.{left_alone, IsChosen}
 use Rattle.blaze_table.specs.Entries.{Entry}
 use Rattle.range_map_blaze.proofs.operators.cut.cut_ranges.Given as goal
 
--- the map lacks the keys of the ranges that were taken, and the others are left
+-- the table lacks the keys of the ranges that were taken, and the others are left
 abbrev pub invariant-loop-range : goal.invariant-loop-range
 invariant-loop-range g l =
     (done : List (Entry (Unit {0})))
     × (g.S.SortedDisjoint.left l.fn.ranges ≡ done ++ g.S.SortedDisjoint.left l.range-iterator)
-    × IsChosen g.V.PartialEq.eq g.T.Integer.low g.T.Integer.high left_alone l.fn.map.entries done l.map.entries
+    × IsChosen g.V.PartialEq.eq g.T.Integer.low g.T.Integer.high left_alone l.fn.map.entries done l.table.entries
