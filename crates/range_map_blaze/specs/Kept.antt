@@ -1,5 +1,5 @@
--- Values kept by the keys of a map: the words of this crate's own functions. No public clause names them.
-use Rattle.std.specs.Prelude.{ℤ, pos, ◌+ℤ◌, Bool, true, false, List, [], ◌∷◌, Option, None, Some}
+-- Values kept by the keys of a table: the words of this crate's own functions. No public clause names them.
+use Rattle.std.specs.Prelude.{ℤ, pos, ◌+ℤ◌, Bool, true, false, Option, None, Some, List, [], ◌∷◌}
 use Rattle.blaze_table.specs.Chosen.{left_with_right, left_alone}
 use Rattle.blaze_table.specs.Entries.{Entry, entry}
 
@@ -13,7 +13,7 @@ abbrev pub reach : {T : Type 0} → (T → ℤ) → ℤ → Option T → ℤ
 reach rank end None = end +ℤ pos 1
 reach rank end (Some key) = rank key
 
--- a piece, by its first and last key, as an entry with the value
-abbrev pub piece_with : {T V : Type 0} → (T → ℤ) → V → Option (T × T) → List (Entry V)
-piece_with rank v None = []
-piece_with rank v (Some p) = entry (rank p.0) (rank p.1) v ∷ []
+-- a value on the keys of a piece, given by its first and last key, if there is one
+abbrev pub on_piece : {T V : Type 0} → (T → ℤ) → V → Option (T × T) → List (Entry V)
+on_piece rank value None = []
+on_piece rank value (Some piece) = entry (rank piece.0) (rank piece.1) value ∷ []

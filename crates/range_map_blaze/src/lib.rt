@@ -3,7 +3,6 @@
 
 mod compare;
 mod display;
-mod gap;
 mod gaps_filled;
 mod iter;
 mod joins;

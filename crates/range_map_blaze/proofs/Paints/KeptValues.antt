@@ -4,7 +4,7 @@ use Rattle.std.proofs.Common.{◌≡◌, ℤ, pos, ◌+ℤ◌, ◌-ℤ◌, ◌�
 use mathlib.Core.Bool.{beq}
 use Rattle.std.specs.Cmp.{IsEquivalence}
 use Rattle.std.proofs.lemmas.Int.{ints, by_lt_z}
-use Rattle.blaze_entries.proofs.Alike.{same_along, same_itself, same_or_left, same_or_right, same_trans, or_none}
+use Rattle.blaze_entries.proofs.Alike.{same_along, same_itself, same_or_left, same_or_right, same_trans, or_assoc, or_none}
 use Rattle.blaze_table.specs.Entries.{Entry, entry, at, SameOption}
 use Rattle.blaze_table.specs.Canonical.{IsRangeMap}
 use Rattle.blaze_table.specs.CanonicalOf.{IsCanonicalOf}
@@ -72,17 +72,50 @@ at_longer {V} l t s u k v a b e n = by_place short k
         (λ r. at_over long [] k (omega (arith, ints)))
         (λ r. absurd (n (omega (arith, ints)) (omega (arith, ints))))
 
--- pairs behind others that are alike
-alike_more : {V : Type 0} (eq : V → V → Bool) (laws : IsEquivalence eq) (xs ys more : List (Entry V)) → ((k : ℤ) → SameOption eq (last_at xs k) (last_at ys k)) → (k : ℤ) → SameOption eq (last_at (xs ++ more) k) (last_at (ys ++ more) k)
-alike_more eq laws xs ys more alike k = same_along eq (sym (last_append xs more k)) (sym (last_append ys more k)) (same_or_right eq laws (last_at more k) (last_at xs k) (last_at ys k) (alike k))
+-- a piece that is held back, and what it is put behind
+module _ {V : Type 0} (eq : V → V → Bool) (laws : IsEquivalence eq) (ps : List (Entry V)) where
+  -- an equal value serves as well
+  pub like_last : (a b : ℤ) (v w : V) → eq v w ≡ true → (k : ℤ) → SameOption eq (last_at (ps ++ entry a b w ∷ []) k) (last_at (ps ++ entry a b v ∷ []) k)
+  like_last a b v w e k = same_along eq (sym (last_append ps (entry a b w ∷ []) k)) (sym (last_append ps (entry a b v ∷ []) k))
+      (same_or_left eq laws (at (entry a b w ∷ []) k) (at (entry a b v ∷ []) k) (last_at ps k)
+      (by_place (entry a b v) k
+      (λ p q. same_along eq (sym (at_in (entry a b w) [] k p q)) (sym (at_in (entry a b v) [] k p q)) (laws.symm w v ∙ e))
+      (λ p. same_along eq (sym (at_under (entry a b w) [] k p)) (sym (at_under (entry a b v) [] k p)) tt)
+      (λ q. same_along eq (sym (at_over (entry a b w) [] k q)) (sym (at_over (entry a b v) [] k q)) tt)))
 
--- an equal value in a pair behind others
-pub alike_last : {V : Type 0} (eq : V → V → Bool) (laws : IsEquivalence eq) (xs : List (Entry V)) (l h : ℤ) (v w : V) → eq v w ≡ true → (k : ℤ) → SameOption eq (last_at (xs ++ entry l h w ∷ []) k) (last_at (xs ++ entry l h v ∷ []) k)
-alike_last eq laws xs l h v w e k = same_along eq (sym (last_append xs (entry l h w ∷ []) k)) (sym (last_append xs (entry l h v ∷ []) k))
-    (same_or_left eq laws (last_at (entry l h w ∷ []) k) (last_at (entry l h v ∷ []) k) (last_at xs k) (by_place (entry l h w) k
-    (λ a b. same_along eq (sym (at_in (entry l h w) [] k a b)) (sym (at_in (entry l h v) [] k a b)) (laws.symm w v ∙ e))
-    (λ a. same_along eq (sym (at_under (entry l h w) [] k a)) (sym (at_under (entry l h v) [] k a)) tt)
-    (λ b. same_along eq (sym (at_over (entry l h w) [] k b)) (sym (at_over (entry l h v) [] k b)) tt)))
+  -- a piece that starts right above
+  pub held_on : (a b t s : ℤ) (v : V) → a ≤ℤ b → t ≡ b +ℤ pos 1 → t ≤ℤ s → (k : ℤ) → SameOption eq (last_at (ps ++ entry a s v ∷ []) k) (last_at ((ps ++ entry a b v ∷ []) ++ entry t s v ∷ []) k)
+  held_on a b t s v w n o k = same_along eq
+      (sym (last_append ps (both ∷ []) k))
+      (sym (last_append (ps ++ first ∷ []) (next ∷ []) k ∙ ap (λ x. option_or (last_at (next ∷ []) k) x) (last_append ps (first ∷ []) k)))
+      (subst (SameOption eq (option_or (at (both ∷ []) k) (last_at ps k))) (or_assoc (at (next ∷ []) k) (at (first ∷ []) k) (last_at ps k))
+      (subst (λ x. SameOption eq (option_or (at (both ∷ []) k) (last_at ps k)) (option_or x (last_at ps k))) one (same_itself eq laws _)))
+    where
+      both : Entry V
+      both = entry a s v
+
+      first : Entry V
+      first = entry a b v
+
+      next : Entry V
+      next = entry t s v
+
+      under : k <ℤ t → at (both ∷ []) k ≡ at (first ∷ []) k
+      under p = by_place first k
+          (λ l h. at_in both [] k l (omega (arith, ints)) ∙ sym (at_in first [] k l h))
+          (λ l. at_under both [] k l ∙ sym (at_under first [] k l))
+          (λ h. absurd (omega (arith, ints)))
+
+      one : at (both ∷ []) k ≡ option_or (at (next ∷ []) k) (at (first ∷ []) k)
+      one = by_place next k
+          (λ l h. at_in both [] k (omega (arith, ints)) h ∙ sym (ap (λ x. option_or x (at (first ∷ []) k)) (at_in next [] k l h)))
+          (λ l. under l ∙ sym (ap (λ x. option_or x (at (first ∷ []) k)) (at_under next [] k l)))
+          (λ h. at_over both [] k h ∙ sym (ap (λ x. option_or x (at (first ∷ []) k)) (at_over next [] k h) ∙ at_over first [] k (omega (arith, ints))))
+
+  -- another piece, where the one that was held back is put behind the list with an equal value
+  pub held_put : (a b t s : ℤ) (v w : V) → eq v w ≡ true → (k : ℤ) → SameOption eq (last_at ((ps ++ entry a b w ∷ []) ++ entry t s v ∷ []) k) (last_at ((ps ++ entry a b v ∷ []) ++ entry t s v ∷ []) k)
+  held_put a b t s v w e k = same_along eq (sym (last_append (ps ++ entry a b w ∷ []) (entry t s v ∷ []) k)) (sym (last_append (ps ++ entry a b v ∷ []) (entry t s v ∷ []) k))
+      (same_or_right eq laws (last_at (entry t s v ∷ []) k) _ _ (like_last a b v w e k))
 
 -- a value is kept on the keys from l up to the key before t
 pub record IsKeptTo {V A : Type 0} (eq : V → V → Bool) (m : Bool) (es : List (Entry A)) (l t : ℤ) (v : V) (old new : List (Entry V)) : Type 0 where
@@ -94,32 +127,20 @@ pub record AreKept {V A : Type 0} (eq : V → V → Bool) (m : Bool) (es : List 
   pub content : (k : ℤ) → SameOption eq (last_at pairs k) (kept m (last_at done k) (at es k))
 
 module _ {V A : Type 0} (eq : V → V → Bool) (laws : IsEquivalence eq) (m : Bool) (es : List (Entry A)) where
-  pub kept_start : (l : ℤ) (v : V) (old : List (Entry V)) → IsKeptTo eq m es l l v old old
-  kept_start l v old = record {
-    order = omega (arith, ints);
-    content = λ k. subst (λ x. SameOption eq (last_at old k) (option_or x (last_at old k))) (sym (ap (λ x. kept m x (at es k)) (nowhere k) ∙ kept_none m (at es k))) (same_itself eq laws (last_at old k));
-  }
-    where
-      none : Entry V
-      none = entry l (l -ℤ pos 1) v
-
-      nowhere : (k : ℤ) → at (none ∷ []) k ≡ None
-      nowhere k = by_place none k (λ p q. absurd (omega (arith, ints))) (λ p. at_under none [] k p) (λ q. at_over none [] k q)
-
   module _ (l t s u : ℤ) (v : V) (old cur : List (Entry V)) (before : IsKeptTo eq m es l t v old cur) (order : t ≤ℤ s) (next : u ≡ s +ℤ pos 1) where
     beside : (k : ℤ) → (t ≤ℤ k → k ≤ℤ s → ⊥) → SameOption eq (last_at cur k) (option_or (kept m (at (entry l (u -ℤ pos 1) v ∷ []) k) (at es k)) (last_at old k))
     beside k n = same_along eq refl (sym (ap (λ x. option_or (kept m x (at es k)) (last_at old k)) (at_longer l t s u k v before.order order next n))) (before.content k)
 
-    -- a piece whose keys are as wanted gets an equal value
-    pub kept_more : (w : V) (new : List (Entry V)) → new ≡ cur ++ entry t s w ∷ [] → eq v w ≡ true → ((k : ℤ) → t ≤ℤ k → k ≤ℤ s → is_some (at es k) ≡ m) → IsKeptTo eq m es l u v old new
-    kept_more w new n like steady = record {
+    -- a piece whose keys are as wanted gets the value, or an equal one
+    pub kept_more : (new : List (Entry V)) → ((k : ℤ) → SameOption eq (last_at new k) (last_at (cur ++ entry t s v ∷ []) k)) → ((k : ℤ) → t ≤ℤ k → k ≤ℤ s → is_some (at es k) ≡ m) → IsKeptTo eq m es l u v old new
+    kept_more new same steady = record {
       order = omega (arith, ints, before.order);
-      content = λ k. subst (λ es'. SameOption eq (last_at es' k) (wanted k)) (sym n)
+      content = λ k. same_trans eq laws (last_at new k) (last_at (cur ++ piece ∷ []) k) (wanted k) (same k)
           (same_along eq (sym (last_append cur (piece ∷ []) k)) refl (by_place piece k (within k) (λ p. outside k (at_under piece [] k p) (λ a b. omega (arith, ints))) (λ q. outside k (at_over piece [] k q) (λ a b. omega (arith, ints)))));
     }
       where
         piece : Entry V
-        piece = entry t s w
+        piece = entry t s v
 
         wanted : ℤ → Option V
         wanted k = option_or (kept m (at (entry l (u -ℤ pos 1) v ∷ []) k) (at es k)) (last_at old k)
@@ -128,18 +149,10 @@ module _ {V A : Type 0} (eq : V → V → Bool) (laws : IsEquivalence eq) (m : B
         within k a b = same_along eq
             (sym (ap (λ x. option_or x (last_at cur k)) (at_in piece [] k a b)))
             (sym (ap (λ x. option_or x (last_at old k)) (ap (λ x. kept m x (at es k)) (at_in (entry l (u -ℤ pos 1) v) [] k (omega (arith, ints, before.order)) (omega (arith, ints))) ∙ kept_here m (Some v) (at es k) (steady k a b))))
-            (laws.symm w v ∙ like)
+            (laws.refl v)
 
         outside : (k : ℤ) → at (piece ∷ []) k ≡ None → (t ≤ℤ k → k ≤ℤ s → ⊥) → SameOption eq (option_or (last_at (piece ∷ []) k) (last_at cur k)) (wanted k)
         outside k a n = same_along eq (sym (ap (λ x. option_or x (last_at cur k)) a)) refl (beside k n)
-
-    -- the same, where the other pairs are alike
-    pub kept_piece : (pairs : List (Entry V)) → ((k : ℤ) → SameOption eq (last_at pairs k) (last_at cur k)) → ((k : ℤ) → t ≤ℤ k → k ≤ℤ s → is_some (at es k) ≡ m) → IsKeptTo eq m es l u v old (pairs ++ entry t s v ∷ [])
-    kept_piece pairs alike steady =
-        let more = kept_more v (cur ++ entry t s v ∷ []) refl (laws.refl v) steady in record {
-          order = more.order;
-          content = λ k. same_trans eq laws (last_at (pairs ++ entry t s v ∷ []) k) _ _ (alike_more eq laws pairs cur (entry t s v ∷ []) alike k) (more.content k);
-        }
 
     -- a piece whose keys are not gets none
     pub kept_skip : ((k : ℤ) → t ≤ℤ k → k ≤ℤ s → is_some (at es k) ≡ m → ⊥) → IsKeptTo eq m es l u v old cur
@@ -151,6 +164,16 @@ module _ {V A : Type 0} (eq : V → V → Bool) (laws : IsEquivalence eq) (m : B
           (λ p. beside k (λ a b. omega (arith, ints)))
           (λ q. beside k (λ a b. omega (arith, ints)));
     }
+
+  -- all keys of an entry
+  kept_all : (l h : ℤ) (v : V) (old new : List (Entry V)) → IsKeptTo eq m es l (h +ℤ pos 1) v old new → (k : ℤ) → SameOption eq (last_at new k) (option_or (kept m (at (entry l h v ∷ []) k) (at es k)) (last_at old k))
+  kept_all l h v old new a k = subst (λ (x : ℤ). SameOption eq (last_at new k) (option_or (kept m (at (entry l x v ∷ []) k) (at es k)) (last_at old k))) (omega (arith, ints)) (a.content k)
+
+  -- the piece that was held back is put behind the list, with an equal value
+  pub kept_last : (l h a b : ℤ) (v w : V) (old ps new : List (Entry V)) → IsKeptTo eq m es l (h +ℤ pos 1) v old (ps ++ entry a b v ∷ []) → eq v w ≡ true → new ≡ ps ++ entry a b w ∷ []
+      → (k : ℤ) → SameOption eq (last_at new k) (option_or (kept m (at (entry l h v ∷ []) k) (at es k)) (last_at old k))
+  kept_last l h a b v w old ps new before e n k = subst (λ qs. SameOption eq (last_at qs k) (option_or (kept m (at (entry l h v ∷ []) k) (at es k)) (last_at old k))) (sym n)
+      (same_trans eq laws _ _ _ (like_last eq laws ps a b v w e k) (kept_all l h v old (ps ++ entry a b v ∷ []) before k))
 
   pub are_none : AreKept eq m es [] []
   are_none = record { content = λ k. subst (SameOption eq None) (sym (kept_none m (at es k))) tt }

@@ -1,19 +1,21 @@
 //! The values of few entries on the keys that a table has, or on those that it lacks, by look-ups.
-ghost use Rattle.std.specs.Prelude.{◌≡◌, ◌∷◌, ◌++◌, [], pos, ◌+ℤ◌, ◌≤ℤ◌, ℤ, IfSome, IfOk, OnOk};
+ghost use Rattle.std.specs.Prelude.{◌≡◌, ◌∷◌, ◌++◌, [], pos, ◌+ℤ◌, ◌≤ℤ◌, ℤ, Some, IfSome, IfOk};
+ghost use Rattle.std.specs.Prelude.{OnOk};
 ghost use Rattle.std.specs.Option.{is_some, option_or};
 ghost use Rattle.blaze_table.specs.Chosen.{IsChosen};
 ghost use Rattle.blaze_table.specs.Entries.{entry, at, SameOption};
 ghost use Rattle.blaze_table.specs.Listed.{listed};
 ghost use Rattle.blaze_table.specs.Painted.{ClonesAreAlike, last_at};
-ghost use Rattle.range_map_blaze.specs.Kept.{kept, reach, piece_with};
+ghost use Rattle.range_map_blaze.specs.Kept.{kept, on_piece, reach};
 
-use crate::gap::gap_last;
+use crate::lookup::gap_last;
 use crate::make::pair_maps::map_of_pairs;
 use crate::map::RangeMapBlaze;
 use blaze_int::Integer;
-use blaze_int::compare::{after, is_below, lesser};
+use blaze_int::compare::{after, is_below, is_next, lesser};
+use blaze_streams::{OwnedRangeValuesIter, SortedDisjointMap, ValueCarrier};
 use blaze_table::RangeTable;
-use std::alloc::AllocError;
+use std::alloc::{AllocError, Global};
 
 // The key after one, if it is not above the end.
 fn key_after<T: Integer>(key: T, end: T) -> Option<T>
@@ -28,87 +30,114 @@ fn key_after<T: Integer>(key: T, end: T) -> Option<T>
     }
 }
 
-// A key, up to the end, such that from the first key up to it all keys are in a table or none is, and whether they are.
-fn steady_from<T: Integer, W: Eq>(keys: &RangeTable<T, W>, key: T, end: T) -> (T, bool)
+// A key, up to the end, such that from the first key up to it the table has all keys or none, and whether it has them.
+fn steady_from<T: Integer, W: Eq>(table: &RangeTable<T, W>, key: T, end: T) -> (T, bool)
     requires { T.rank key ≤ℤ T.rank end }
     ensures from { T.rank key ≤ℤ T.rank result.0 }
     ensures to { T.rank result.0 ≤ℤ T.rank end }
     ensures steady { (k : ℤ) → T.rank key ≤ℤ k → k ≤ℤ T.rank result.0
-        → is_some (at keys.now.entries k) ≡ result.1 }
+        → is_some (at table.now.entries k) ≡ result.1 }
 {
-    keys.in_hand();
-    match keys.find(key) {
+    match table.find(key) {
         Some(found) => (lesser(found.1, end), true),
-        None => (gap_last(keys, key, end), false),
+        None => (gap_last(table, key, end), false),
     }
 }
 
-// Puts a value behind a list of pairs, on the keys of a piece, where there is one.
-fn push_value<T: Integer, V: Drop>(
-    piece: Option<(T, T)>,
-    value: V,
-    pairs: &mut Vec<(T, T, V)>,
-) -> Result<(), AllocError>
-    ensures { OnOk result (listed T.rank pairs.new.items
-        ≡ listed T.rank pairs.old.items ++ piece_with T.rank value piece) }
+// Holds back the next piece of an entry's keys, and answers the piece that is then held back. Where it starts right above the
+// one that was, both are one piece; else that one goes behind the list, with the value of another carrier.
+fn hold_back<T: Integer, VC: ValueCarrier>(
+    held: Option<(T, T)>,
+    start: T,
+    end: T,
+    carrier: &VC,
+    pairs: &mut Vec<(T, T, VC::Value)>,
+) -> Result<(T, T), AllocError>
+    requires can { VC.can_carry }
+    requires order { T.rank start ≤ℤ T.rank end }
+    requires held_order { IfSome held (λ piece. T.rank piece.0 ≤ℤ T.rank piece.1) }
+    ensures order { IfOk result (λ piece. T.rank piece.0 ≤ℤ T.rank piece.1) }
+    ensures content { IfOk result (λ piece. let value = VC.shown carrier.now in (k : ℤ)
+        → SameOption VC.Value.eq
+        (last_at (listed T.rank pairs.new.items ++ on_piece T.rank value (Some piece)) k)
+        (last_at ((listed T.rank pairs.old.items ++ on_piece T.rank value held)
+        ++ entry (T.rank start) (T.rank end) value ∷ []) k)) }
 {
-    match piece {
-        Some(ends) => {
-            pairs.push((ends.0, ends.1, value))?;
-            Ok(())
+    match held {
+        Some(piece) => {
+            if is_next(piece.1, start) {
+                return Ok((piece.0, end));
+            }
+            let value = carrier.carry()?.into_value()?;
+            pairs.push((piece.0, piece.1, value))?;
+            Ok((start, end))
         }
-        None => Ok(()),
+        None => Ok((start, end)),
     }
 }
 
-// Puts a clone of a value behind a list of pairs, on the keys of a piece, where there is one.
-fn push_clone<T: Integer, V: Eq + Clone>(
-    piece: Option<(T, T)>,
-    value: &V,
-    pairs: &mut Vec<(T, T, V)>,
+// Puts an entry behind a list of pairs, on those of its keys that a table has, where `mapped`, or else on those that it lacks.
+// The last piece takes the value of the carrier, and each piece before it that of another carrier.
+fn push_kept<T: Integer, VC: ValueCarrier, W: Eq>(
+    mapped: bool,
+    start: T,
+    end: T,
+    carrier: VC,
+    keys: &RangeTable<T, W>,
+    pairs: &mut Vec<(T, T, VC::Value)>,
 ) -> Result<(), AllocError>
-    requires { ClonesAreAlike V.is_clone V.eq }
-    ensures { OnOk result ((k : ℤ) → SameOption V.eq (last_at (listed T.rank pairs.new.items) k)
-        (last_at (listed T.rank pairs.old.items ++ piece_with T.rank value.now piece) k)) }
+    requires can { VC.can_carry }
+    requires order { T.rank start ≤ℤ T.rank end }
+    ensures { OnOk result ((k : ℤ) → SameOption VC.Value.eq
+        (last_at (listed T.rank pairs.new.items) k)
+        (option_or (kept mapped (at (entry (T.rank start) (T.rank end) (VC.shown carrier) ∷ []) k)
+        (at keys.now.entries k)) (last_at (listed T.rank pairs.old.items) k))) }
 {
-    if let Some(ends) = piece {
-        pairs.push((ends.0, ends.1, value.clone()?))?;
+    let mut held = None;
+    let mut next = Some(start);
+    while let Some(key) = next {
+        let (last, has) = steady_from(keys, key, end);
+        if has == mapped {
+            held = Some(hold_back(held, key, last, &carrier, pairs)?);
+        }
+        next = key_after(last, end);
+    }
+    if let Some(piece) = held {
+        pairs.push((piece.0, piece.1, carrier.into_value()?))?;
     }
     Ok(())
 }
 
-// Puts clones of a value behind a list of pairs, on those keys from `start` up to `end` that a table has, where `mapped`, or
-// else on those that it lacks: all but the last piece of them, which is answered.
-fn push_all_but_last<T: Integer, V: Eq + Clone, W: Eq>(
+// The map of a stream's values on the keys that a table has, where `mapped`, or else on those that it lacks.
+fn map_kept<
+    T: Integer,
+    V: Eq + Clone,
+    VC: ValueCarrier<Value = V>,
+    S: SortedDisjointMap<T, VC>,
+    W: Eq,
+>(
+    alloc: Global,
     mapped: bool,
+    entries: S,
     keys: &RangeTable<T, W>,
-    start: T,
-    end: T,
-    value: &V,
-    pairs: &mut Vec<(T, T, V)>,
-) -> Result<Option<(T, T)>, AllocError>
-    requires order { T.rank start ≤ℤ T.rank end }
+) -> Result<RangeMapBlaze<T, V>, AllocError>
+    requires can { VC.can_carry }
     requires clones { ClonesAreAlike V.is_clone V.eq }
-    ensures { IfOk result (λ last. (k : ℤ) → SameOption V.eq
-        (last_at (listed T.rank pairs.new.items ++ piece_with T.rank value.now last) k)
-        (option_or (kept mapped (at (entry (T.rank start) (T.rank end) value.now ∷ []) k)
-        (at keys.now.entries k)) (last_at (listed T.rank pairs.old.items) k))) }
+    ensures { IfOk result (λ new. IsChosen V.eq T.low T.high (kept mapped) (S.left entries)
+        keys.now.entries new.entries) }
 {
-    let mut last = None;
-    let mut next = Some(start);
-    while let Some(key) = next {
-        let (steady, has) = steady_from(keys, key, end);
-        if has == mapped {
-            push_clone(last, value, pairs)?;
-            last = Some((key, steady));
-        }
-        next = key_after(steady, end);
+    entries.in_hand();
+    let mut pairs = Vec::new(alloc);
+    for (range, carrier) in entries {
+        let (start, end) = range.into_inner();
+        push_kept(mapped, start, end, carrier, keys, &mut pairs)?;
     }
-    Ok(last)
+    let new = map_of_pairs(alloc, pairs)?;
+    Ok(new)
 }
 
 /// The values of a map on the keys that a table has, where `mapped`, or else on those that it lacks: one look-up or two for
-/// each range within an entry on which the table has all keys or none, however many entries the table has elsewhere.
+/// each range on which the table has all keys or none, however many entries the table has elsewhere.
 pub fn values_kept<T: Integer, V: Eq + Clone, W: Eq>(
     mapped: bool,
     map: &RangeMapBlaze<T, V>,
@@ -118,18 +147,11 @@ pub fn values_kept<T: Integer, V: Eq + Clone, W: Eq>(
     ensures { IfOk result (λ new. IsChosen V.eq T.low T.high (kept mapped) map.now.entries
         keys.now.entries new.entries) }
 {
-    map.in_hand();
-    let alloc = map.allocator();
-    let mut pairs = Vec::new(alloc);
-    for (start, end, value) in map.table.iter() {
-        let last = push_all_but_last(mapped, keys, start, end, value, &mut pairs)?;
-        push_clone(last, value, &mut pairs)?;
-    }
-    let new = map_of_pairs(alloc, pairs)?;
+    let new = map_kept(map.allocator(), mapped, map.range_values(), keys)?;
     Ok(new)
 }
 
-/// The same, with the map's own values. A value is cloned only where its entry is kept in several pieces.
+/// The same, with the map's own values: one is cloned only where several pieces of its range are left.
 pub fn values_kept_by_value<T: Integer, V: Eq + Clone, W: Eq>(
     mapped: bool,
     map: RangeMapBlaze<T, V>,
@@ -139,13 +161,7 @@ pub fn values_kept_by_value<T: Integer, V: Eq + Clone, W: Eq>(
     ensures { IfOk result (λ new. IsChosen V.eq T.low T.high (kept mapped) map.entries
         keys.now.entries new.entries) }
 {
-    map.in_hand();
     let alloc = map.allocator();
-    let mut pairs = Vec::new(alloc);
-    for (start, end, value) in map.table {
-        let last = push_all_but_last(mapped, keys, start, end, &value, &mut pairs)?;
-        push_value(last, value, &mut pairs)?;
-    }
-    let new = map_of_pairs(alloc, pairs)?;
+    let new = map_kept(alloc, mapped, OwnedRangeValuesIter::new(map.table), keys)?;
     Ok(new)
 }

@@ -2,6 +2,7 @@
 mod bit_and;
 mod bit_or;
 mod bit_xor;
+pub mod by_keys;
 pub mod complements;
 pub mod cut;
 pub mod few;

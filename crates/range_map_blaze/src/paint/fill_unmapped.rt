@@ -4,7 +4,7 @@ ghost use Rattle.blaze_table.specs.Entries.{entry, at};
 ghost use Rattle.blaze_table.specs.Painted.{ClonesAreAlike};
 ghost use Rattle.range_map_blaze.specs.Filled.{IsFilled, IsPartlyFilled, IsFirstGap, IsHeldFrom};
 
-use crate::gap::gap_last;
+use crate::lookup::gap_last;
 use crate::map::RangeMapBlaze;
 use blaze_int::Integer;
 use blaze_int::compare::{after, is_below};

@@ -1,5 +1,4 @@
-use Rattle.std.specs.Option.{is_some}
-use Rattle.std.proofs.Common.{◌≤ℤ◌, ap, arith}
+use Rattle.std.proofs.Common.{◌≤ℤ◌, arith}
 use Rattle.std.proofs.lemmas.Int.{ints}
 use Rattle.std.specs.Int.{int_min}
 use Rattle.blaze_table.specs.Entries.{shown_entry}
@@ -11,8 +10,7 @@ pub returns-in-Some-clause-from : goal.returns-in-Some-clause-from
 returns-in-Some-clause-from g c =
     let rank = g.T.Integer.rank in
     let found = shown_entry rank (λ v. v.now) c.in-Some.found in
-    let is = c.in-Some.ensures.entry in
-    let has = entry_has found c.args.keys.now.entries (rank c.args.key) is in
+    let has = entry_has found c.args.table.now.entries (rank c.args.key) c.in-Some.ensures.entry in
     let reaches : rank c.args.key ≤ℤ int_min (rank c.args.end) found.hi = by_earlier found.hi (rank c.args.end) (λ u q. rw q has.1) (λ u q. rw q c.requires) in
     rw c.lesser.ensures reaches
 
@@ -20,10 +18,6 @@ pub returns-in-Some-clause-steady : goal.returns-in-Some-clause-steady
 returns-in-Some-clause-steady g c k l h =
     let rank = g.T.Integer.rank in
     let found = shown_entry rank (λ v. v.now) c.in-Some.found in
-    let is = c.in-Some.ensures.entry in
-    let has = entry_has found c.args.keys.now.entries (rank c.args.key) is in
+    let has = entry_has found c.args.table.now.entries (rank c.args.key) c.in-Some.ensures.entry in
     let under : int_min (rank c.args.end) found.hi ≤ℤ found.hi = by_earlier found.hi (rank c.args.end) (λ u q. rw q (omega (arith, ints))) (λ u q. rw q (omega (arith, ints))) in
-    entry_held found c.args.keys.now.entries (rank c.args.key) is k (omega (arith, ints, has, l)) (omega (arith, ints, h, under, c.lesser.ensures))
-
-pub returns-in-None-clause-steady : goal.returns-in-None-clause-steady
-returns-in-None-clause-steady g c k l h = ap is_some (c.gap_last.ensures.clear k l h)
+    entry_held found c.args.table.now.entries (rank c.args.key) c.in-Some.ensures.entry k (omega (arith, ints, has, l)) (omega (arith, ints, h, under, c.lesser.ensures))
