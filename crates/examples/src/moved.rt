@@ -151,6 +151,11 @@ fn few(alloc: Global) -> Result<Map, AllocError> {
     map_of(alloc, &[(28, 29, 2)])
 }
 
+/// A map with the keys 40..=59.
+fn apart(alloc: Global) -> Result<Map, AllocError> {
+    map_of(alloc, &[(40, 59, 2)])
+}
+
 /// Prints how many entries a map has.
 fn show_count(rt: &HostRuntime, call: &str, map: Result<Map, AllocError>) {
     let Ok(map) = map else {
@@ -161,7 +166,8 @@ fn show_count(rt: &HostRuntime, call: &str, map: Result<Map, AllocError>) {
     let _ = println!(rt; "{call}: {count} entries");
 }
 
-/// A whole entry cut out of a map of many, by value and lent; then a range inside an entry, whose value is cloned.
+/// A whole entry cut out of a map of many, by value and lent; then a range inside an entry, whose value is cloned; then the
+/// keys of exactly one.
 pub fn cut_from_many(rt: &HostRuntime) -> Result<(), AllocError> {
     let alloc = rt.alloc();
     show_count(rt, "many - a", many(alloc)? - few(alloc)?);
@@ -172,6 +178,9 @@ pub fn cut_from_many(rt: &HostRuntime) -> Result<(), AllocError> {
     show_count(rt, "many - s", many(alloc)? - set);
     let inside = map_of(alloc, &[(43, 44, 2)])?;
     show_count(rt, "many - b", many(alloc)? - inside);
+    show_count(rt, "many ^ c", many(alloc)? ^ apart(alloc)?);
+    show_count(rt, "c ^ many", apart(alloc)? ^ many(alloc)?);
+    show_count(rt, "many ^ &c", many(alloc)? ^ &apart(alloc)?);
     Ok(())
 }
 

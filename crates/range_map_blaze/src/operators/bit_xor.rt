@@ -6,7 +6,9 @@ ghost use Rattle.blaze_table.specs.Chosen.{IsChosen};
 ghost use Rattle.blaze_table.specs.Painted.{ClonesAreAlike};
 
 use crate::map::RangeMapBlaze;
-use crate::operators::pointwise::{symmetric_difference, symmetric_difference_by_value};
+use crate::operators::pointwise::{
+    symmetric_difference, symmetric_difference_by_value, symmetric_difference_with,
+};
 use blaze_int::Integer;
 use std::alloc::AllocError;
 use std::ops::BitXor;
@@ -34,7 +36,7 @@ impl<'b, T: Integer, V: Eq + Clone> BitXor<&'b RangeMapBlaze<T, V>> for RangeMap
         right.now.entries map.entries) };
 
     fn bitxor(self, right: &'b RangeMapBlaze<T, V>) -> Result<RangeMapBlaze<T, V>, AllocError> {
-        symmetric_difference(&self, right)
+        symmetric_difference_with(self, right)
     }
 }
 
@@ -48,7 +50,8 @@ impl<'a, T: Integer, V: Eq + Clone> BitXor<RangeMapBlaze<T, V>> for &'a RangeMap
         right.entries map.entries) };
 
     fn bitxor(self, right: RangeMapBlaze<T, V>) -> Result<RangeMapBlaze<T, V>, AllocError> {
-        symmetric_difference(self, &right)
+        let new = symmetric_difference_with(right, self)?;
+        Ok(new)
     }
 }
 

@@ -108,8 +108,8 @@ fn push_kept<T: Integer, VC: ValueCarrier, W: Eq>(
     Ok(())
 }
 
-// The map of a stream's values on the keys that a table has, where `mapped`, or else on those that it lacks.
-fn map_kept<
+/// The map of a stream's values on the keys that a table has, where `mapped`, or else on those that it lacks.
+pub fn map_kept<
     T: Integer,
     V: Eq + Clone,
     VC: ValueCarrier<Value = V>,

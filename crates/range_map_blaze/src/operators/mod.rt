@@ -13,3 +13,4 @@ pub mod owned;
 pub mod pointwise;
 mod sub;
 pub mod union;
+pub mod xor_into;

@@ -172,7 +172,7 @@ pub fn painted_under<T: Integer, V: Eq + Clone>(
 }
 
 /// The left map's entries filled into the right map, with their own values.
-fn painted_under_by<T: Integer, V: Eq + Clone>(
+pub fn painted_under_by<T: Integer, V: Eq + Clone>(
     left: RangeMapBlaze<T, V>,
     right: RangeMapBlaze<T, V>,
 ) -> Result<RangeMapBlaze<T, V>, AllocError>
