@@ -21,6 +21,7 @@ use std::process::ExitCode;
 /// Makes all calls.
 fn run(rt: &HostRuntime) -> Result<(), Fault> {
     tables::paints(rt)?;
+    tables::cuts(rt)?;
     tables::neighbours(rt)?;
     tables::kept(rt)?;
     tables::canonical_lists(rt)?;

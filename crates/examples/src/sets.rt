@@ -35,6 +35,8 @@ fn canonical_ranges(rt: &HostRuntime) -> Result<(), AllocError> {
         set.contains(5),
         set.contains(3)
     );
+    let table = set.as_table();
+    let _ = println!(rt; "as_table: {:?} {:?}", table.find(5), table.next_above(2));
     Ok(())
 }
 

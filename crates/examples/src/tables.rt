@@ -67,6 +67,21 @@ fn whole_key_type(rt: &HostRuntime) -> Result<(), AllocError> {
     Ok(())
 }
 
+/// Ranges taken out: over several entries, inside one, at the ends of the key type.
+pub fn cuts(rt: &HostRuntime) -> Result<(), AllocError> {
+    let entries = [(0, 9, 'a'), (20, 29, 'b'), (30, 30, 'c'), (40, 49, 'd')];
+    let mut table = table_of(rt.alloc(), &entries)?;
+    table.cut_range(5, 44)?;
+    show(rt, &table);
+    table.cut_range(46, 47)?;
+    show(rt, &table);
+    table.cut_range(i64::MIN, 1)?;
+    show(rt, &table);
+    table.cut_range(3, i64::MAX)?;
+    show(rt, &table);
+    Ok(())
+}
+
 /// The entries above and below keys.
 pub fn neighbours(rt: &HostRuntime) -> Result<(), AllocError> {
     let table = table_of(rt.alloc(), &[(1, 3, 'a'), (6, 8, 'b'), (20, 20, 'c')])?;
