@@ -131,8 +131,9 @@ pub fn operated_with_set(rt: &HostRuntime) -> Result<(), AllocError> {
 /// The even keys up to 30.
 fn even_keys(alloc: Global) -> Result<Vec<RangeInclusive<i64>>, AllocError> {
     let mut ranges = Vec::new(alloc);
-    for half in 0..16i64 {
-        ranges.push(2 * half..=2 * half)?;
+    for half in 0..16u8 {
+        let key = i64::from(half.wrapping_mul(2));
+        ranges.push(key..=key)?;
     }
     Ok(ranges)
 }
