@@ -90,6 +90,7 @@ const Work works[] = {
     {"`a - b`, b of 100, by value", 23, 100'000, 1'000, 1, "call", 0},
     {"`a - b`, b of 100, by value", 23, 1'000'000, 1'000, 1, "call", 0},
     {"`a ^ b`, equal sizes", 14, 100'000, 1'000, 200 * thousand, "entry", 1.2},
+    {"a range of the lower half of the keys", 24, 100'000, 1'000, 5e4, "entry", 0},
     {"all keys, 100 an entry", 15, 100'000, 100, 1e7, "key", 2.0},
     {"all keys, 1 an entry", 16, 1'000'000, 1'000, 1e6, "key", 1.0},
     {"a map of unsorted ranges; plain paints them", 17, 1'000'000, 10, 1e6, "range", 0.25},

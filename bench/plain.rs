@@ -119,6 +119,20 @@ fn split_off(check: bool, size: u64, count: u64) -> u64 {
     sum
 }
 
+/// The map on the lower half of the keys, made again and again.
+fn within(size: u64, count: u64) -> u64 {
+    let map = prepared(1, size, 16, 0);
+    let middle = (SPACING * size / 2) as i64;
+    let mut sum = 0;
+    for _ in 0..count {
+        let lower = map.within(0, middle);
+        if let Some((start, _, value)) = lower.entries().next() {
+            sum = mix(mix(sum, start as u64), *value);
+        }
+    }
+    sum
+}
+
 fn append(check: bool, size: u64, count: u64) -> u64 {
     let map = prepared(1, size, 16, 0);
     let other = prepared(3, size, 16, 0);
@@ -282,6 +296,7 @@ pub extern "C" fn plain_run(work: u32, size: u64, count: u64) -> u64 {
         21 => combine(check, size, 100, count, |map, few| few.intersection(map)),
         22 => combine(check, size, 100, count, Map::difference),
         23 => combine_by_value(check, size, count, |map, other| map.difference_by_value(&other)),
+        24 => within(size, count),
         _ => return 0,
     };
     sum | 1

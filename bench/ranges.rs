@@ -63,6 +63,17 @@ impl<V: Eq + Clone> RangeMap<V> {
         if key <= *end { Some(held(value)) } else { None }
     }
 
+    /// The map on the keys from `lo` up to `hi`.
+    pub fn within(&self, lo: i64, hi: i64) -> Self {
+        let first = match self.tree.range(..=lo).next_back() {
+            Some((start, (end, _))) if *end >= lo => *start,
+            _ => lo,
+        };
+        let entries = self.tree.range(first..=hi);
+        let pieces = entries.map(|(start, (end, value))| (lo.max(*start), hi.min(*end), held(value).clone()));
+        Self::from_ascending(0, pieces)
+    }
+
     /// Keeps the keys below one, and answers the map of the keys from it on.
     pub fn split_off(&mut self, key: i64) -> Self {
         let mut tree = self.tree.split_off(&key);

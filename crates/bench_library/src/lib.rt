@@ -11,7 +11,7 @@ mod whole;
 use crate::changes::{Change, change_maps, clumps, get, pop_first};
 use crate::makes::{Making, make};
 use crate::many::union_of_many;
-use crate::whole::{Combination, append, combine, combine_by_value, split_off, walk};
+use crate::whole::{Combination, append, combine, combine_by_value, split_off, walk, within};
 use std::alloc::{AllocError, Global};
 
 /// Added to a work's number where the entries that are left are to be in the checksum.
@@ -62,6 +62,7 @@ fn run(alloc: Global, work: u32, size: u64, count: u64) -> Result<Option<u64>, A
         21 => combine(alloc, check, Combination::Restriction, size, 100, count)?,
         22 => combine(alloc, check, Combination::Difference, size, 100, count)?,
         23 => combine_by_value(alloc, check, Combination::Difference, size, count)?,
+        24 => within(alloc, size, count)?,
         _ => return Ok(None),
     };
     Ok(Some(sum))

@@ -1,5 +1,6 @@
 //! Works on whole maps.
-use crate::prepared::{Map, checksum, prepared, spread};
+use crate::prepared::{Map, checksum, mix, prepared, spread};
+use range_map_blaze::names_a_key;
 use std::alloc::{AllocError, Global};
 
 /// What is made of two maps.
@@ -31,6 +32,22 @@ pub fn split_off(alloc: Global, check: bool, size: u64, count: u64) -> Result<u6
             sum = checksum(check, sum, &upper);
         }
         sum = checksum(check, sum, &map);
+    }
+    Ok(sum)
+}
+
+/// The keys in the lower half of a map, given by value again and again: the first of them.
+pub fn within(alloc: Global, size: u64, count: u64) -> Result<u64, AllocError> {
+    let map = prepared(alloc, 1, size, 16, 0)?;
+    let lower = 0..=(spread(size) / 2).cast_signed();
+    let mut sum = 0;
+    if !names_a_key(&lower) {
+        return Ok(sum);
+    }
+    for _ in 0..count {
+        if let Some(Ok((key, value))) = map.range(lower.clone()?)?.next() {
+            sum = mix(mix(sum, key.cast_unsigned()), value);
+        }
     }
     Ok(sum)
 }

@@ -16,7 +16,7 @@ use Rattle.blaze_entries.specs.Entries.{entry}
 use Rattle.blaze_entries.specs.Changed.{changed}
 use Rattle.blaze_entries.specs.declared.nodes.EndValue.{EndValue}
 use Rattle.blaze_entries.specs.Places.{places, place_of, place_at}
-use Rattle.blaze_entries.specs.Starts.{StartsAscend, below, from, first_entry, last_below, first_from, start_at, with_entry, without, with_end, with_end_value}
+use Rattle.blaze_entries.specs.Starts.{StartsAscend, below, from, first_entry, last_below, start_at, with_entry, without, with_end, with_end_value}
 use Rattle.blaze_entries.proofs.Ascending.{by_order}
 
 last_of_append : {X : Type 0} (o : Option X) (t : List X) (e : X) → last_or o (t ++ e ∷ []) ≡ Some e
@@ -36,7 +36,7 @@ pub last_shown : {A B : Type 0} (f : A → B) (o : Option A) (xs : List A) → o
 last_shown f o [] = refl
 last_shown f o (x ∷ xs) = last_shown f (Some x) xs
 
-first_shown : {A B : Type 0} (f : A → B) (xs : List A) → option_map f (first_entry xs) ≡ first_entry (map f xs)
+pub first_shown : {A B : Type 0} (f : A → B) (xs : List A) → option_map f (first_entry xs) ≡ first_entry (map f xs)
 first_shown f [] = refl
 first_shown f (x ∷ xs) = refl
 
@@ -149,8 +149,9 @@ module _ {T V : Type 0} (rank : T → ℤ) (cmp : T → T → Ordering) (low hig
     pub places_before : option_map (place_of rank) (last_or None (entries_between cmp Unbounded (Excluded k) m)) ≡ last_below (rank k) (places rank m)
     places_before = last_shown (place_of rank) None (entries_between cmp Unbounded (Excluded k) m) ∙ ap (last_or None) places_between
 
-    pub places_at_or_above : option_map (place_of rank) (first_entry (entries_between cmp (Included k) Unbounded m)) ≡ first_from (rank k) (places rank m)
-    places_at_or_above = first_shown (place_of rank) (entries_between cmp (Included k) Unbounded m) ∙ ap first_entry (places_filter (λ q. is_le (cmp k q) && true) (λ z. int_le (rank k) z) (at_or_above_is rank cmp low high order k kl kh) low low_low m h)
+    -- the nodes that start from a key on
+    pub places_at_or_above : places rank (entries_between cmp (Included k) Unbounded m) ≡ from (rank k) (places rank m)
+    places_at_or_above = places_filter (λ q. is_le (cmp k q) && true) (λ z. int_le (rank k) z) (at_or_above_is rank cmp low high order k kl kh) low low_low m h
 
     -- all nodes start up to the greatest key
     pub places_all : places rank (entries_between cmp Unbounded Unbounded m) ≡ below (high +ℤ pos 1) (places rank m)

@@ -13,8 +13,9 @@ ghost use Rattle.blaze_entries.specs.Starts.{from, without, with_end, IsCloneIns
 use crate::counted::Counted;
 use crate::into_iter::IntoIter;
 use crate::iter::Iter;
-use crate::nodes::{node_at_or_above, node_at_or_below, node_below};
+use crate::nodes::{node_at_or_above, node_at_or_below, node_below, nodes_from};
 use crate::places::shown;
+use crate::range::Range;
 use blaze_int::Integer;
 use std::alloc::{AllocError, Global};
 use std::marker::Model;
@@ -129,6 +130,14 @@ impl<T: Integer, V> Entries<T, V> {
     {
         let counted = &self.counted;
         Iter::new(counted.tree.iter())
+    }
+
+    /// The entries that start from a key on, ascending: first key, last key and value. One search finds the first.
+    pub fn iter_from(&self, key: T) -> Range<'_, T, V>
+        ensures { result ≡ from (T.rank key) self.now.entries }
+    {
+        let counted = &self.counted;
+        Range::new(nodes_from(&counted.tree, key))
     }
 
     /// Moves the end of the entry at a start.

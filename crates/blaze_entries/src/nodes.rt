@@ -125,6 +125,18 @@ pub fn node_at_or_below<T: Integer, V>(
     nodes_up_to(tree, key).next_back()
 }
 
+/// The nodes that start from a key on.
+pub fn nodes_from<'a, T: Integer, V>(
+    tree: &'a Tree<T, V>,
+    key: T,
+) -> btree_map::Range<'a, Start<T>, EndValue<T, V>>
+    requires { StartsAscend T.low T.high (places T.rank tree.now.entries) }
+    ensures { places T.rank result ≡ from (T.rank key) (places T.rank tree.now.entries) }
+{
+    key.in_hand();
+    tree.range(Start(key)..)
+}
+
 /// The node with the least start from a key on.
 pub fn node_at_or_above<T: Integer, V>(
     tree: &Tree<T, V>,
@@ -134,8 +146,7 @@ pub fn node_at_or_above<T: Integer, V>(
     ensures { option_map (place_lent T.rank) result
         ≡ first_from (T.rank key) (places T.rank tree.now.entries) }
 {
-    key.in_hand();
-    tree.range(Start(key)..).next()
+    nodes_from(tree, key).next()
 }
 
 // Whether a start is that of the first node, which is told without a search.

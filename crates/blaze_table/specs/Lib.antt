@@ -21,6 +21,7 @@ pub mod Whole
 pub mod Planned
 pub mod Work
 pub mod LastBelow
+pub mod Ending
 pub mod Swept
 pub mod CanonicalOf
 pub mod Pieces

@@ -16,7 +16,7 @@ mod split;
 mod sweep;
 mod table;
 
-pub use blaze_entries::{Count, IntoIter, Iter};
+pub use blaze_entries::{Count, IntoIter, Iter, Range};
 pub use entry_keys::keys_in_hand;
 pub use set::into_ranges_iter::IntoRangesIter;
 pub use set::range_set::RangeSetBlaze;

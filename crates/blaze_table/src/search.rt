@@ -1,9 +1,10 @@
 //! Entries found by a key.
 ghost use Rattle.std.specs.Prelude.{◌≡◌, int_lt, find, reverse, option_map};
 ghost use Rattle.blaze_table.specs.Canonical.{IsCanonical};
+ghost use Rattle.blaze_table.specs.Ending.{ending_from};
 ghost use Rattle.blaze_table.specs.Entries.{entry_at, shown_entry};
 
-use blaze_entries::Entries;
+use blaze_entries::{Entries, Range};
 use blaze_int::Integer;
 use blaze_int::compare::{is_at_most, is_below};
 
@@ -44,5 +45,16 @@ pub fn entry_below<T: Integer, V: Eq>(entries: &Entries<T, V>, key: T) -> Option
         Some(found)
     } else {
         entries.below(found.0)
+    }
+}
+
+/// The entries that end at a key or above it, ascending: first key, last key and value.
+pub fn entries_ending_from<T: Integer, V: Eq>(entries: &Entries<T, V>, key: T) -> Range<'_, T, V>
+    requires { IsCanonical V.eq entries.now.entries }
+    ensures { result ≡ ending_from (T.rank key) entries.now.entries }
+{
+    match entry_holding(entries, key) {
+        Some(found) => entries.iter_from(found.0),
+        None => entries.iter_from(key),
     }
 }

@@ -10,6 +10,7 @@ ghost use Rattle.blaze_table.specs.Canonical.{IsRangeMap};
 ghost use Rattle.blaze_table.specs.Count.{keys_in, mapped_keys};
 ghost use Rattle.blaze_table.specs.Painted.{IsPainted, ClonesAreAlike, IsInside};
 ghost use Rattle.blaze_table.specs.Cut.{IsCut, IsRangeCut, IsSplit, IsAmongOthers, GoesOnAbove};
+ghost use Rattle.blaze_table.specs.Ending.{ending_from};
 ghost use Rattle.blaze_table.specs.Gap.{IsGap};
 ghost use Rattle.blaze_table.specs.Listed.{listed};
 ghost use Rattle.blaze_table.specs.Work.{IsCountedPaint, IsCountedCut};
@@ -21,10 +22,10 @@ use crate::cut::{cut, cut_first};
 use crate::cut_range::cut_range;
 use crate::gaps::gap_round;
 use crate::retain_keys::retain_keys;
-use crate::search::{entry_above, entry_below, entry_holding};
+use crate::search::{entries_ending_from, entry_above, entry_below, entry_holding};
 use crate::splice::{paint, paint_by_splice};
 use crate::split::split;
-use blaze_entries::{Entries, IntoIter, Iter};
+use blaze_entries::{Entries, IntoIter, Iter, Range};
 use blaze_int::{Integer, SafeLength, differ};
 use std::alloc::{AllocError, Global};
 use std::marker::Model;
@@ -135,6 +136,13 @@ impl<T: Integer, V: Eq> RangeTable<T, V> {
         ensures { result ≡ self.now.entries }
     {
         self.entries.iter()
+    }
+
+    /// The entries that end at a key or above it, ascending: first key, last key and value. It takes two searches.
+    pub fn iter_from(&self, key: T) -> Range<'_, T, V>
+        ensures { result ≡ ending_from (T.rank key) self.now.entries }
+    {
+        entries_ending_from(&self.entries, key)
     }
 
     /// The greatest range of keys without a value that holds a key without one: its first and last key.

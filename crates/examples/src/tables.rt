@@ -91,6 +91,10 @@ pub fn neighbours(rt: &HostRuntime) -> Result<(), AllocError> {
     for key in [6, 21, 3] {
         let _ = println!(rt; "below {key}: {:?}", table.next_below(key));
     }
+    for key in [2, 4, 8, 21] {
+        let mut entries = table.iter_from(key);
+        let _ = println!(rt; "from {key}: {:?}, {:?}", entries.next(), entries.next());
+    }
     Ok(())
 }
 

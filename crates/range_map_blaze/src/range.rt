@@ -18,8 +18,8 @@ use std::ops::RangeBounds;
 
 impl<T: Integer, V: Eq + Clone> RangeMapBlaze<T, V> {
     /// The keys within a range that have a value, ascending, each with a value of its own. The bounds name a key, as
-    /// `names_a_key` tells. It takes a look-up for each entry within the range, and at most two more, however many entries
-    /// the map has. Refused memory leaves the map unchanged.
+    /// `names_a_key` tells. It takes two searches, and a step for each entry within the range and at most one more, however
+    /// many entries the map has. Refused memory leaves the map unchanged.
     pub fn range<R: RangeBounds<T> + Drop>(&self, range: R) -> Result<IntoIterMap<T, V>, AllocError>
         requires named { R.has_bounds range
             → start_rank T.rank T.low (R.start_bound range) ≤ℤ end_rank T.rank T.high

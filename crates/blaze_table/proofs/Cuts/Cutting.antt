@@ -21,7 +21,7 @@ use Rattle.blaze_table.proofs.Paints.Painted.{before_past, after_past, entries_t
 use Rattle.blaze_table.proofs.Canonical.Counted.{keys_apart, covered_none, overlap_none, overlap_most, keys_glue, are_keys_glue, are_keys_before, are_keys_after, are_keys_as, same_keys_in}
 
 module _ {V : Type 0} (eq : V → V → Bool) where
-  after_all : (k : ℤ) (es : List (Entry V)) → IsCanonical eq es → IsAbove k es → after k es ≡ es
+  pub after_all : (k : ℤ) (es : List (Entry V)) → IsCanonical eq es → IsAbove k es → after k es ≡ es
   after_all k [] c a = refl
   after_all k (e ∷ es) c a = by_after k e es (λ h p. absurd (omega (arith, ints, c.0))) (λ h l p. absurd (omega (arith, ints))) (λ h l p. p)
 

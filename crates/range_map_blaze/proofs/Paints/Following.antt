@@ -1,6 +1,5 @@
--- The entries on the keys of a range, found one after another.
-use Rattle.std.proofs.Common.{◌≡◌, ℤ, pos, ◌+ℤ◌, ◌-ℤ◌, ◌≤ℤ◌, ◌<ℤ◌, Bool, true, cond, List, [], ◌∷◌, ◌++◌, Some, None, refl, ◌∙◌, sym, ap, subst, arith, option_map, append_assoc, append-nil}
-use Rattle.std.specs.Prelude.{find, int_lt}
+-- The entries on the keys of a range, as a walk meets them.
+use Rattle.std.proofs.Common.{◌≡◌, ℤ, pos, ◌+ℤ◌, ◌-ℤ◌, ◌≤ℤ◌, ◌<ℤ◌, Bool, true, cond, List, [], ◌∷◌, ◌++◌, None, refl, ◌∙◌, sym, ap, subst, arith, append_assoc, append-nil}
 use Rattle.std.specs.Cmp.{IsEquivalence}
 use Rattle.std.proofs.lemmas.Int.{ints, by_lt_z}
 use Rattle.std.proofs.lemmas.List.{map-append}
@@ -8,19 +7,21 @@ use Rattle.blaze_int.proofs.Comparisons.{lt_true, lt_false}
 use Rattle.blaze_entries.proofs.Alike.{same_itself}
 use Rattle.blaze_table.specs.Canonical.{IsCanonical, IsRangeMap}
 use Rattle.blaze_table.specs.Chosen.{left_with_right, IsChosen}
-use Rattle.blaze_table.specs.Entries.{Entry, entry, at, entry_at, shown_entry, SameEntries, SameOption}
+use Rattle.blaze_table.specs.Ending.{ending_from}
+use Rattle.blaze_table.specs.Entries.{Entry, entry, at, shown_entry, SameEntries, SameOption}
 use Rattle.blaze_table.specs.Listed.{listed}
-use Rattle.std.specs.Int.{int_min}
+use Rattle.std.specs.Int.{int_max, int_min}
 use Rattle.blaze_table.specs.Splice.{before, after}
 use Rattle.blaze_table.proofs.Canonical.Clones.{IsCopied}
 use Rattle.blaze_table.proofs.Canonical.Counted.{before_none, are_keys_before, are_keys_after}
-use Rattle.blaze_table.proofs.Canonical.Lookup.{IsAbove, IsAbove-from_apart, at_before, at_in, at_under, at_over, by_place, entry_in, entry_over, value-entry_at, above_by}
+use Rattle.blaze_table.proofs.Canonical.Lookup.{IsAbove-from_apart, at_before, at_in, at_under, at_over, by_place, above_by}
 use Rattle.blaze_table.proofs.Canonical.Runs.{canonical, one_per_run}
+use Rattle.blaze_table.proofs.Cuts.Cutting.{after_all}
+use Rattle.blaze_table.proofs.Neighbours.Ending.{ending_takes, ending_skips, ending_all}
 use Rattle.blaze_table.proofs.Paints.Splices.{after_skips, after_keeps, before_keeps, before_cuts, by_after, canonical_after, canonical_before, above_after, at-after_over, at-before_over, at-before_under}
 use Rattle.range_map_blaze.proofs.Choices.{chosen_as}
-use Rattle.range_map_blaze.proofs.Paints.Gaps.{entry_has}
 use Rattle.range_map_blaze.specs.OneRange.{one_range}
-use Rattle.range_map_blaze.specs.Within.{within, starting_above, following, with_following}
+use Rattle.range_map_blaze.specs.Within.{within}
 
 pub by_earlier : {P : Type 0} (a b : ℤ) → (a ≤ℤ b → int_min b a ≡ a → P) → (b <ℤ a → int_min b a ≡ b → P) → P
 by_earlier a b l r = by_lt_z a b
@@ -29,125 +30,81 @@ by_earlier a b l r = by_lt_z a b
     (λ v. r v (ap (λ t. cond t a b) (lt_false a b u)))
     (λ v. l v (ap (λ t. cond t a b) (lt_false a b u) ∙ omega (arith, ints))))
 
-module _ {V : Type 0} where
-  -- ---- the entries from the first on that starts above a key
+-- the first ends at l or above
+abbrev pub EndsFrom : {V : Type 0} → ℤ → List (Entry V) → Type 0
+EndsFrom l [] = Unit {0}
+EndsFrom l (e ∷ es) = l ≤ℤ e.hi
 
-  starting_takes : (k : ℤ) (e : Entry V) (es : List (Entry V)) → k <ℤ e.lo → starting_above k (e ∷ es) ≡ e ∷ es
-  starting_takes k e es l = ap (λ t. cond t (e ∷ es) (starting_above k es)) (lt_true k e.lo l)
+max_under : (a b : ℤ) → b <ℤ a → int_max a b ≡ a
+max_under a b l = grind (arith, ints)
 
-  starting_skips : (k : ℤ) (e : Entry V) (es : List (Entry V)) → e.lo ≤ℤ k → starting_above k (e ∷ es) ≡ starting_above k es
-  starting_skips k e es l = ap (λ t. cond t (e ∷ es) (starting_above k es)) (lt_false k e.lo l)
-
-  starting_all : (k : ℤ) (es : List (Entry V)) → IsAbove k es → starting_above k es ≡ es
-  starting_all k [] a = refl
-  starting_all k (e ∷ es) a = starting_takes k e es a
-
-  following_skips : (k h : ℤ) (e : Entry V) (es : List (Entry V)) → e.lo ≤ℤ k → following k h (e ∷ es) ≡ following k h es
-  following_skips k h e es l = ap (before (h +ℤ pos 1)) (starting_skips k e es l)
-
-  -- where the first entry that starts above k stands
-  record IsFirstAbove (eq : V → V → Bool) (k : ℤ) (f : Entry V) (es : List (Entry V)) : Type 0 where
-    rest : List (Entry V)
-    above : k <ℤ f.lo
-    here : starting_above k es ≡ f ∷ rest
-    canonical : IsCanonical eq (f ∷ rest)
-    later : (m : ℤ) → f.lo ≤ℤ m → starting_above m es ≡ starting_above m rest
+max_over : (a b : ℤ) → a ≤ℤ b → int_max a b ≡ b
+max_over a b l = grind (arith, ints)
 
 module _ {V : Type 0} (eq : V → V → Bool) where
-  first_above : (k : ℤ) (f : Entry V) (es : List (Entry V)) → IsCanonical eq es → Some f ≡ find (λ e. int_lt k e.lo) es → IsFirstAbove eq k f es
-  first_above k f [] c p = cc
-  first_above k f (e ∷ es) c p = by_lt_z k e.lo
-      (λ l.
-      let same : e ≡ f = cc (p, ap (λ t. cond t (Some e) (find (λ x. int_lt k x.lo) es)) (lt_true k e.lo l)) in
-      subst (λ x. IsFirstAbove eq k x (e ∷ es)) same (record {
-        rest = es;
-        above = l;
-        here = starting_takes k e es l;
-        canonical = c;
-        later = λ m u. starting_skips m e es u;
+  -- ---- a walk over the entries from the key l on
+
+  -- what is left of it
+  pub record IsOnward (l : ℤ) (es : List (Entry V)) : Type 0 where
+    pub canonical : IsCanonical eq es
+    pub ends : EndsFrom l es
+
+  -- at first it has all on the keys from l up to h
+  pub record IsWhole (l h : ℤ) (es left : List (Entry V)) : Type 0 where
+    pub onward : IsOnward l left
+    pub same : within l h left ≡ within l h es
+
+  pub whole_first : (l h : ℤ) (es : List (Entry V)) → IsCanonical eq es → IsWhole l h es (ending_from l es)
+  whole_first l h [] c = record { onward = record { canonical = tt; ends = tt }; same = refl }
+  whole_first l h (e ∷ es) c = by_lt_z e.hi l
+      (λ u.
+      let later = whole_first l h es c.2 in
+      rw (ending_skips l e es u) (record {
+        onward = later.onward;
+        same = later.same ∙ sym (ap (before (h +ℤ pos 1)) (after_skips (l -ℤ pos 1) e es (omega (arith, ints))));
       }))
-      (λ l.
-      let i = first_above k f es c.2 (p ∙ ap (λ t. cond t (Some e) (find (λ x. int_lt k x.lo) es)) (lt_false k e.lo l)) in
-      record {
-        rest = i.rest;
-        above = i.above;
-        here = starting_skips k e es l ∙ i.here;
-        canonical = i.canonical;
-        later = λ m u. starting_skips m e es (omega (arith, ints, i.above)) ∙ i.later m u;
-      })
+      (λ u. rw (ending_takes l e es u, ending_all eq l e.hi es c.2 u (IsAbove-from_apart eq e es c.1)) (record {
+        onward = record { canonical = c; ends = u };
+        same = refl;
+      }))
 
-  none_above : (k : ℤ) (es : List (Entry V)) → None ≡ find (λ e. int_lt k e.lo) es → starting_above k es ≡ []
-  none_above k [] p = refl
-  none_above k (e ∷ es) p = by_lt_z k e.lo
-      (λ l. cc (p, ap (λ t. cond t (Some e) (find (λ x. int_lt k x.lo) es)) (lt_true k e.lo l)))
-      (λ l. starting_skips k e es l ∙ none_above k es (p ∙ ap (λ t. cond t (Some e) (find (λ x. int_lt k x.lo) es)) (lt_false k e.lo l)))
+  module _ (l h : ℤ) (e : Entry V) (es : List (Entry V)) (o : IsOnward l (e ∷ es)) where
+    -- the next entry, if its range starts up to h, without its keys off the range
+    pub within_next : l ≤ℤ h → e.lo ≤ℤ h → within l h (e ∷ es) ≡ entry (int_max l e.lo) (int_min h e.hi) e.value ∷ within l h es
+    within_next w u =
+        let later = IsAbove-from_apart eq e es o.canonical.1 in
+        let all = after_all eq (l -ℤ pos 1) es o.canonical.2 (above_by e.hi (l -ℤ pos 1) es (omega (arith, ints, o.ends)) later) in
+        ap (before (h +ℤ pos 1)) starts
+        ∙ by_earlier e.hi h
+        (λ v p. rw (p, all) (before_keeps (h +ℤ pos 1) (entry (int_max l e.lo) e.hi e.value) es (omega (arith, ints))))
+        (λ v p.
+        let none = before_none eq (h +ℤ pos 1) es o.canonical.2 (above_by e.hi (h +ℤ pos 1 -ℤ pos 1) es (omega (arith, ints)) later) in
+        before_cuts (h +ℤ pos 1) (entry (int_max l e.lo) e.hi e.value) es (omega (arith, ints)) under
+        ∙ ap (λ x. entry (int_max l e.lo) x e.value ∷ []) (omega (arith, ints))
+        ∙ ap (λ t. entry (int_max l e.lo) h e.value ∷ t) (sym (ap (before (h +ℤ pos 1)) all ∙ none))
+        ∙ ap (λ x. entry (int_max l e.lo) x e.value ∷ within l h es) (sym p))
+      where
+        starts : after (l -ℤ pos 1) (e ∷ es) ≡ entry (int_max l e.lo) e.hi e.value ∷ es
+        starts = by_after (l -ℤ pos 1) e es
+            (λ a p. absurd (omega (arith, ints, o.ends)))
+            (λ a b p. p ∙ ap (λ x. entry x e.hi e.value ∷ es) (omega (arith, ints, max_under l e.lo (omega (arith, ints)))))
+            (λ a b p. p ∙ ap (λ x. entry x e.hi e.value ∷ es) (sym (max_over l e.lo (omega (arith, ints)))))
 
-  -- up to h the first is cut off, and then come those above its end
-  cut_first : (h : ℤ) (e : Entry V) (es : List (Entry V)) → IsCanonical eq (e ∷ es) → e.lo ≤ℤ h → before (h +ℤ pos 1) (e ∷ es) ≡ entry e.lo (int_min h e.hi) e.value ∷ following (int_min h e.hi) h es
-  cut_first h e es c l = by_earlier e.hi h
-      (λ u p. rw (p, before_keeps (h +ℤ pos 1) e es (omega (arith, ints)), starting_all e.hi es (IsAbove-from_apart eq e es c.1)) refl)
-      (λ u p.
-      let over = above_by e.hi h es (omega (arith, ints)) (IsAbove-from_apart eq e es c.1) in
-      let none = before_none eq (h +ℤ pos 1) es c.2 (above_by h (h +ℤ pos 1 -ℤ pos 1) es (omega (arith, ints)) over) in
-      before_cuts (h +ℤ pos 1) e es (omega (arith, ints)) (omega (arith, ints))
-      ∙ ap (λ x. entry e.lo x e.value ∷ []) (omega (arith, ints))
-      ∙ ap (λ t. entry e.lo h e.value ∷ t) (sym (ap (before (h +ℤ pos 1)) (starting_all h es over) ∙ none))
-      ∙ ap (λ x. entry e.lo x e.value ∷ following x h es) (sym p))
+        under : int_max l e.lo <ℤ (h +ℤ pos 1)
+        under = grind (arith, ints)
 
-  -- ---- the first of the entries on the keys of a range
+    -- none, if it starts above
+    pub within_over : l ≤ℤ h → h <ℤ e.lo → within l h (e ∷ es) ≡ []
+    within_over w u =
+        ap (before (h +ℤ pos 1)) (after_keeps (l -ℤ pos 1) e es (omega (arith, ints, o.ends)) (omega (arith, ints)))
+        ∙ before_none eq (h +ℤ pos 1) (e ∷ es) o.canonical (omega (arith, ints))
 
-  module _ (h : ℤ) (es : List (Entry V)) where
-    pub next_none : (k : ℤ) → None ≡ find (λ e. int_lt k e.lo) es → with_following h es None ≡ following k h es
-    next_none k p = sym (ap (before (h +ℤ pos 1)) (none_above k es p))
-
-    module _ (k : ℤ) (f : Entry V) (c : IsCanonical eq es) (p : Some f ≡ find (λ e. int_lt k e.lo) es) where
-      pub next_over : h <ℤ f.lo → with_following h es None ≡ following k h es
-      next_over l =
-          let i = first_above k f es c p in
-          sym (ap (before (h +ℤ pos 1)) i.here ∙ before_none eq (h +ℤ pos 1) (f ∷ i.rest) i.canonical (omega (arith, ints)))
-
-      pub next_some : f.lo ≤ℤ h → with_following h es (Some (entry f.lo (int_min h f.hi) f.value)) ≡ following k h es
-      next_some l =
-          let i = first_above k f es c p in
-          let ordered : f.lo ≤ℤ f.hi = i.canonical.0 in
-          let reaches : f.lo ≤ℤ int_min h f.hi = by_earlier f.hi h (λ u q. rw q ordered) (λ u q. rw q l) in
-          ap (λ t. entry f.lo (int_min h f.hi) f.value ∷ before (h +ℤ pos 1) t) (i.later (int_min h f.hi) reaches)
-          ∙ sym (ap (before (h +ℤ pos 1)) i.here ∙ cut_first h f i.rest i.canonical l)
-
-  pub first_none : (l h : ℤ) (es : List (Entry V)) → IsCanonical eq es → None ≡ at es l → following l h es ≡ within l h es
-  first_none l h es c n = ap (before (h +ℤ pos 1)) (all_above es c n)
-    where
-      all_above : (es : List (Entry V)) → IsCanonical eq es → None ≡ at es l → starting_above l es ≡ after (l -ℤ pos 1) es
-      all_above [] c n = refl
-      all_above (e ∷ es) c n = by_place e l
-          (λ a b. cc (n, at_in e es l a b))
-          (λ a. starting_takes l e es a ∙ sym (after_keeps (l -ℤ pos 1) e es (omega (arith, ints, c.0)) (omega (arith, ints))))
-          (λ b. starting_skips l e es (omega (arith, ints, c.0)) ∙ all_above es c.2 (n ∙ at_over e es l b) ∙ sym (after_skips (l -ℤ pos 1) e es (omega (arith, ints))))
-
-  pub first_some : (l h : ℤ) (e : Entry V) (es : List (Entry V)) → IsCanonical eq es → l ≤ℤ h → Some e ≡ entry_at es l → with_following h es (Some (entry l (int_min h e.hi) e.value)) ≡ within l h es
-  first_some l h e [] c o p = cc
-  first_some l h e (d ∷ ds) c o p = by_place d l
-      (λ a b.
-      let same : d ≡ e = cc (p, entry_in d ds l a b) in
-      let cut = cut_after d ds a b in
-      let reaches : l ≤ℤ int_min h d.hi = by_earlier d.hi h (λ u q. rw q b) (λ u q. rw q o) in
-      subst (λ (x : Entry V). with_following h (d ∷ ds) (Some (entry l (int_min h x.hi) x.value)) ≡ within l h (d ∷ ds)) same
-      (ap (λ t. entry l (int_min h d.hi) d.value ∷ t) (following_skips (int_min h d.hi) h d ds (omega (arith, ints)))
-      ∙ sym (ap (before (h +ℤ pos 1)) cut ∙ cut_first h (entry l d.hi d.value) ds (subst (IsCanonical eq) cut (canonical_after eq (l -ℤ pos 1) (d ∷ ds) c)) o)))
-      (λ a. cc (ap (option_map (λ (x : Entry V). x.value)) p, value-entry_at (d ∷ ds) l, at_before eq (d ∷ ds) l l c a (omega (arith, ints))))
-      (λ b.
-      let q = p ∙ entry_over d ds l b in
-      let has = entry_has e ds l q in
-      let reaches : l ≤ℤ int_min h e.hi = by_earlier e.hi h (λ u r. rw r has.1) (λ u r. rw r o) in
-      ap (λ t. entry l (int_min h e.hi) e.value ∷ t) (following_skips (int_min h e.hi) h d ds (omega (arith, ints, c.0)))
-      ∙ first_some l h e ds c.2 o q
-      ∙ sym (ap (before (h +ℤ pos 1)) (after_skips (l -ℤ pos 1) d ds (omega (arith, ints)))))
-    where
-      cut_after : (d : Entry V) (ds : List (Entry V)) → d.lo ≤ℤ l → l ≤ℤ d.hi → after (l -ℤ pos 1) (d ∷ ds) ≡ entry l d.hi d.value ∷ ds
-      cut_after d ds a b = by_after (l -ℤ pos 1) d ds
-          (λ u q. absurd (omega (arith, ints)))
-          (λ u v q. q ∙ ap (λ x. entry x d.hi d.value ∷ ds) (omega (arith, ints)))
-          (λ u v q. q ∙ ap (λ x. entry x d.hi d.value ∷ ds) (omega (arith, ints)))
+    pub onward_next : IsOnward l es
+    onward_next = by_rest es o.canonical
+      where
+        by_rest : (es : List (Entry V)) → IsCanonical eq (e ∷ es) → IsOnward l es
+        by_rest [] c = record { canonical = tt; ends = tt }
+        by_rest (f ∷ fs) c = record { canonical = c.2; ends = omega (arith, ints, o.ends, c.1.0, c.2.0) }
 
   -- ---- what they have at each key
 

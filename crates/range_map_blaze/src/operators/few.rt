@@ -15,8 +15,8 @@ pub fn are_few(few: usize, len: usize) -> bool {
     few <= len / 16
 }
 
-/// The values of a map on the keys of ranges. It takes a look-up for each entry within a range, and at most two more for each
-/// range, however many entries the map has.
+/// The values of a map on the keys of ranges. For each range it takes two searches, and a step for each entry within it and
+/// at most one more, however many entries the map has.
 pub fn values_on<T: Integer, V: Eq + Clone, S: SortedDisjoint<T>>(
     map: &RangeMapBlaze<T, V>,
     ranges: S,

@@ -27,8 +27,9 @@ fn shared_keys<T: Integer, V: Eq>(
     Ok(shared)
 }
 
-/// The few entries' values are cloned. It takes a look-up or two for each range on which the other map has all their keys or
-/// none, and as many paints and cuts, however many entries it has elsewhere.
+/// The values on the keys that exactly one of the two maps has; those of the few entries are cloned. It takes a look-up or
+/// two for each range on which the other map has all their keys or none, and as many paints and cuts, however many entries
+/// it has elsewhere. Refused memory drops the other map.
 pub fn xor_into<T: Integer, V: Eq + Clone>(
     few: &RangeMapBlaze<T, V>,
     many: RangeMapBlaze<T, V>,

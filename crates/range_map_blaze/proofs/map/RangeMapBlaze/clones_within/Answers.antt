@@ -1,41 +1,74 @@
-use Rattle.std.proofs.Common.{subst, option_map, refl}
-use Rattle.blaze_table.specs.Entries.{shown_entry}
+use Rattle.std.proofs.Common.{◌≤ℤ◌, ◌<ℤ◌, ◌∙◌, refl, ap, sym, subst, arith}
+use Rattle.std.proofs.lemmas.Int.{ints}
+use Rattle.std.specs.Int.{int_max, int_min}
+use Rattle.blaze_table.specs.Counted.{CountedEntries}
+use Rattle.blaze_table.specs.Ending.{ending_from}
+use Rattle.blaze_table.specs.Entries.{entry, shown_entry}
 use Rattle.blaze_table.proofs.Canonical.Clones.{IsCopied}
-use Rattle.range_map_blaze.specs.Within.{within, following, with_following}
-use Rattle.range_map_blaze.proofs.Paints.Following.{copied_none, copied_more, copied_all}
+use Rattle.blaze_table.proofs.Canonical.Runs.{canonical}
+use Rattle.range_map_blaze.specs.Within.{within}
+use Rattle.range_map_blaze.proofs.Paints.Following.{IsOnward, whole_first, within_next, within_over, onward_next, copied_none, copied_more, copied_all}
 use Rattle.range_map_blaze.proofs.map.RangeMapBlaze.clones_within.Goals as goal
 
-pub loop-next-init : goal.loop-next-init
-loop-next-init g c =
-    let rank = g.T.Integer.rank in
-    let es = c.args.self.now.entries in
-    let end = rank c.args.end in
-    let all = within (rank c.args.start) end es in
-    let left = with_following end es (option_map (shown_entry rank (λ v. v.now)) c.first_within-next.result) in
-    copied_none rank g.V.PartialEq.eq all left c.new-list.result.items c.first_within-next.ensures c.new-list.ensures.items
-
-pub loop-next-preserved : goal.loop-next-preserved
-loop-next-preserved g c =
+pub loop-first-init : goal.loop-first-init
+loop-first-init g c =
     let rank = g.T.Integer.rank in
     let eq = g.V.PartialEq.eq in
     let es = c.args.self.now.entries in
-    let end = rank c.args.end in
-    let all = within (rank c.args.start) end es in
-    let items = c.loop-next.list.items in
-    let found = c.in-Some.found in
-    let e = shown_entry rank (λ v. v.now) found in
-    let some = subst (λ o. IsCopied rank eq all (with_following end es (option_map (shown_entry rank (λ v. v.now)) o)) items) c.in-Some.is c.loop-next.invariant in
-    let left = with_following end es (option_map (shown_entry rank (λ v. v.now)) c.next_within-next.result) in
-    let clone = c.in_ok-clone.field-0 in
-    copied_more rank eq all (following e.hi end es) left e (found.0, found.1, clone) items c.push.new.self.items some c.next_within-next.ensures
-    refl refl (c.requires.clones e.value clone c.in_ok-clone.ensures.cases) c.in_ok-push.ensures.items
+    let l = rank c.args.start in
+    let h = rank c.args.end in
+    let whole = whole_first eq l h es (canonical eq g.met.V.Eq.laws es c.in_hand.ensures.runs) in
+    let is = c.into_iter-first-iterator.ensures.into_iter_gives ∙ c.iter_from-first-items.ensures ∙ ap (λ (s : CountedEntries g.row.V.Denot). ending_from l s.entries) c.self.view_is in (
+      tt,
+      tt,
+      subst (IsOnward eq l) (sym is) whole.onward,
+      copied_none rank eq (within l h es) _ c.new-list.result.items (ap (within l h) is ∙ whole.same) c.new-list.ensures.items,
+    )
+
+pub loop-first-preserved : goal.loop-first-preserved
+loop-first-preserved g c =
+    let rank = g.T.Integer.rank in
+    let eq = g.V.PartialEq.eq in
+    let l = rank c.args.start in
+    let h = rank c.args.end in
+    let all = within l h c.args.self.now.entries in
+    let items = c.loop-first.list.items in
+    let i = c.loop-first.invariant in
+    let e = shown_entry rank (λ v. v.now) (c.in-Some.first, c.in-Some.last, c.in-Some.value) in
+    let rest = c.next.new.self in
+    let onward = subst (IsOnward eq l) c.in-Some.ensures.steps i.2 in
+    let under : e.lo ≤ℤ h = grind (arith, ints, c.is_below.ensures, c.if-is_below.false) in
+    let next = ap (within l h) c.in-Some.ensures.steps ∙ within_next eq l h e rest onward c.requires.order under in
+    let clone = c.in_ok-clone.field-0 in (
+      tt,
+      tt,
+      onward_next eq l h e rest onward,
+      copied_more rank eq all (within l h rest) (within l h rest) (entry (int_max l e.lo) (int_min h e.hi) e.value) (c.greater.result, c.lesser.result, clone) items c.push.new.self.items
+          (subst (λ left. IsCopied rank eq all left items) next i.3) refl (sym c.greater.ensures) (sym c.lesser.ensures)
+          (c.requires.clones e.value clone c.in_ok-clone.ensures.cases) c.in_ok-push.ensures.items,
+    )
+
+pub returns-then-is_below : goal.returns-then-is_below
+returns-then-is_below g c =
+    let rank = g.T.Integer.rank in
+    let eq = g.V.PartialEq.eq in
+    let l = rank c.args.start in
+    let h = rank c.args.end in
+    let all = within l h c.args.self.now.entries in
+    let items = c.loop-first.list.items in
+    let i = c.loop-first.invariant in
+    let e = shown_entry rank (λ v. v.now) (c.in-Some.first, c.in-Some.last, c.in-Some.value) in
+    let onward = subst (IsOnward eq l) c.in-Some.ensures.steps i.2 in
+    let over : h <ℤ e.lo = grind (arith, ints, c.is_below.ensures, c.if-is_below.true) in
+    let none = ap (within l h) c.in-Some.ensures.steps ∙ within_over eq l h e c.next.new.self onward c.requires.order over in
+    copied_all rank eq all items (subst (λ left. IsCopied rank eq all left items) none i.3)
 
 pub returns : goal.returns
 returns g c =
     let rank = g.T.Integer.rank in
     let eq = g.V.PartialEq.eq in
-    let es = c.args.self.now.entries in
-    let end = rank c.args.end in
-    let all = within (rank c.args.start) end es in
-    let items = c.loop-next.list.items in
-    copied_all rank eq all items (subst (λ o. IsCopied rank eq all (with_following end es (option_map (shown_entry rank (λ v. v.now)) o)) items) c.in_default.is c.loop-next.invariant)
+    let l = rank c.args.start in
+    let h = rank c.args.end in
+    let all = within l h c.args.self.now.entries in
+    let items = c.loop-first.list.items in
+    copied_all rank eq all items (subst (λ left. IsCopied rank eq all left items) (ap (within l h) c.in-None.ensures.steps.0) c.loop-first.invariant.3)

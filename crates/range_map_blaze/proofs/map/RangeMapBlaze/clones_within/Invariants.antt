@@ -1,15 +1,15 @@
-use Rattle.std.proofs.Common.{length, option_map}
-use Rattle.blaze_table.specs.Entries.{shown_entry}
 use Rattle.blaze_table.proofs.Canonical.Clones.{IsCopied}
-use Rattle.range_map_blaze.specs.Within.{within, with_following}
+use Rattle.range_map_blaze.specs.Within.{within}
+use Rattle.range_map_blaze.proofs.Paints.Following.{IsOnward}
 use Rattle.range_map_blaze.proofs.map.RangeMapBlaze.clones_within.Given as goal
 
--- the next entry and those that follow are left
-abbrev pub invariant-loop-next : goal.invariant-loop-next
-invariant-loop-next g l =
+-- what is within the range of the entries that are left is still to be put behind the list
+abbrev pub invariant-loop-first : goal.invariant-loop-first
+invariant-loop-first g l =
     let rank = g.T.Integer.rank in
-    let es = l.fn.self.entries in
-    IsCopied rank g.V.PartialEq.eq (within (rank l.fn.start) (rank l.end) es) (with_following (rank l.end) es (option_map (shown_entry rank (λ v. v.now)) l.next)) l.list.items
-
-abbrev pub decreases-loop-next : goal.decreases-loop-next
-decreases-loop-next g l = length (with_following (g.T.Integer.rank l.end) l.fn.self.entries (option_map (shown_entry g.T.Integer.rank (λ v. v.now)) l.next))
+    let eq = g.V.PartialEq.eq in
+    let left = l.first-iterator in
+    (goal.iterator-loop-first g).can_next left
+    × (goal.iterator-loop-first g).is_finite left
+    × IsOnward eq (rank l.start) left
+    × IsCopied rank eq (within (rank l.fn.start) (rank l.fn.end) l.fn.self.entries) (within (rank l.start) (rank l.end) left) l.list.items
