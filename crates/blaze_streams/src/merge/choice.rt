@@ -49,7 +49,7 @@ impl<VC: ValueCarrier> Choice<VC, VC> for RightFirst {
     ghost choice = { right_first };
 
     fn room(&self, left: usize, right: usize) -> usize {
-        left.max(right)
+        left.saturating_add(right)
     }
 
     fn take<T: Integer, L: SortedDisjointMap<T, VC>, R: SortedDisjointMap<T, VC>>(
@@ -76,7 +76,7 @@ impl<VC: ValueCarrier> Choice<VC, VC> for ExactlyOne {
     ghost choice = { option_xor };
 
     fn room(&self, left: usize, right: usize) -> usize {
-        left.max(right)
+        left.saturating_add(right)
     }
 
     fn take<T: Integer, L: SortedDisjointMap<T, VC>, R: SortedDisjointMap<T, VC>>(
