@@ -22,11 +22,6 @@ module _ {T V : Type 0} (rank : T → ℤ) where
   full_lent (Some p) None q = cc
   full_lent (Some p) (Some e) q = let s : place_lent rank p ≡ held e = cc in is_full (place_lent rank p) e s
 
-  pub full_given : (r : Option (T × EndValue T (Option V))) (o : Option (Entry V)) → option_map (place_of rank) r ≡ option_map held o → IfSome r (λ p. IsSome p.1.value)
-  full_given None o q = tt
-  full_given (Some p) None q = cc
-  full_given (Some p) (Some e) q = let s : place_of rank p ≡ held e = cc in is_full (place_of rank p) e s
-
   -- the node at a start
   module _ (k : T) (r : Option (EndValue T (Option V))) (o : Option (Entry V)) (q : option_map (place_at rank k) r ≡ option_map held o) where
     pub some_taken : IsSome o → IsSome r

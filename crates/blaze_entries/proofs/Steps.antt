@@ -1,15 +1,16 @@
 -- One step of an iterator over full places.
 use Rattle.std.proofs.Common.{◌≡◌, ◌+◌, length, List, [], ◌∷◌, ◌++◌, Option, Some, None, refl, ◌∙◌, sym, subst, ap, arith, length-append}
-use Rattle.std.specs.Prelude.{map, MatchOption}
+use Rattle.std.specs.Prelude.{ℤ, map, IsSome, IfSome, MatchOption}
 use Rattle.std.specs.Iterator.{MakesProgress, item_count}
 use Rattle.std.specs.Map.Iter.{TakesFirst, TakesLast}
 use Rattle.std.specs.Option.{option_map}
 use Rattle.blaze_entries.specs.Entries.{Entry}
-use Rattle.blaze_entries.specs.Places.{held, full, AreFull}
+use Rattle.blaze_entries.specs.Places.{held, full, place_of, places, entries_of, AreFull}
+use Rattle.blaze_entries.specs.declared.nodes.EndValue.{EndValue}
 use Rattle.blaze_entries.proofs.Held.{full-held}
 
 -- the steps of a list, as those of what is shown of it
-pub takes_first_shown : {A X Y : Type 0} (f : X → Y) (shows : A → X) (s : List X) (r : Option A) (t : List X) → TakesFirst shows s r t → TakesFirst (λ x. f (shows x)) (map f s) r (map f t)
+takes_first_shown : {A X Y : Type 0} (f : X → Y) (shows : A → X) (s : List X) (r : Option A) (t : List X) → TakesFirst shows s r t → TakesFirst (λ x. f (shows x)) (map f s) r (map f t)
 takes_first_shown f shows s None t h = (ap (map f) h.0, ap (map f) h.1)
 takes_first_shown f shows s (Some x) t h = ap (map f) h
 
@@ -17,22 +18,22 @@ map-append : {X Y : Type 0} (f : X → Y) (xs ys : List X) → map f (xs ++ ys) 
 map-append f [] ys = refl
 map-append f (x ∷ xs) ys = ap (λ l. f x ∷ l) (map-append f xs ys)
 
-pub takes_last_shown : {A X Y : Type 0} (f : X → Y) (shows : A → X) (s : List X) (r : Option A) (t : List X) → TakesLast shows s r t → TakesLast (λ x. f (shows x)) (map f s) r (map f t)
+takes_last_shown : {A X Y : Type 0} (f : X → Y) (shows : A → X) (s : List X) (r : Option A) (t : List X) → TakesLast shows s r t → TakesLast (λ x. f (shows x)) (map f s) r (map f t)
 takes_last_shown f shows s None t h = (ap (map f) h.0, ap (map f) h.1)
 takes_last_shown f shows s (Some x) t h = ap (map f) h ∙ map-append f t (shows x ∷ [])
 
 module _ {A V : Type 0} (shows : A → Entry (Option V)) where
-  -- a place was taken off the front of places that are full
-  pub record FirstTaken (es : List (Entry V)) (r : Option A) (qs : List (Entry (Option V))) : Type 0 where
+  -- a place was taken off an end of places that are full: join puts its entry back among the others
+  pub record Taken (join : List (Entry V) → Entry V → List (Entry V)) (es : List (Entry V)) (r : Option A) (qs : List (Entry (Option V))) : Type 0 where
     pub entry : Option (Entry V)
     pub is : option_map shows r ≡ option_map held entry
     pub others : AreFull qs
-    pub yields : MatchOption entry ((es ≡ []) × (full qs ≡ [])) (λ e. es ≡ e ∷ full qs)
+    pub yields : MatchOption entry ((es ≡ []) × (full qs ≡ [])) (λ e. es ≡ join (full qs) e)
 
-  pub first_taken : (ps : List (Entry (Option V))) (r : Option A) (qs : List (Entry (Option V))) → AreFull ps → TakesFirst shows ps r qs → FirstTaken (full ps) r qs
+  first_taken : (ps : List (Entry (Option V))) (r : Option A) (qs : List (Entry (Option V))) → AreFull ps → TakesFirst shows ps r qs → Taken (λ fs e. e ∷ fs) (full ps) r qs
   first_taken ps r qs h t = by_list (full ps) ps r qs h.held t
     where
-      by_list : (es : List (Entry V)) (ps : List (Entry (Option V))) (r : Option A) (qs : List (Entry (Option V))) → ps ≡ map held es → TakesFirst shows ps r qs → FirstTaken es r qs
+      by_list : (es : List (Entry V)) (ps : List (Entry (Option V))) (r : Option A) (qs : List (Entry (Option V))) → ps ≡ map held es → TakesFirst shows ps r qs → Taken (λ fs e. e ∷ fs) es r qs
       by_list [] ps None qs q t = record { entry = None; is = refl; others = subst AreFull (sym t.1) (record { held = refl }); yields = (refl, ap full t.1) }
       by_list (e ∷ es) ps None qs q t = let no : [] ≡ held e ∷ map held es = sym t.0 ∙ q in cc
       by_list [] ps (Some x) qs q t = let no : shows x ∷ qs ≡ [] = sym t ∙ q in cc
@@ -46,13 +47,6 @@ module _ {A V : Type 0} (shows : A → Entry (Option V)) where
             others = record { held = rest ∙ ap (map held) (sym entries) };
             yields = ap (λ l. e ∷ l) (sym entries);
           }
-
-  -- a place was taken off the back
-  pub record LastTaken (es : List (Entry V)) (r : Option A) (qs : List (Entry (Option V))) : Type 0 where
-    pub entry : Option (Entry V)
-    pub is : option_map shows r ≡ option_map held entry
-    pub others : AreFull qs
-    pub yields : MatchOption entry ((es ≡ []) × (full qs ≡ [])) (λ e. es ≡ full qs ++ e ∷ [])
 
   record SplitLast (es : List (Entry V)) (x : Entry (Option V)) (qs : List (Entry (Option V))) : Type 0 where
     front : List (Entry V)
@@ -72,7 +66,7 @@ module _ {A V : Type 0} (shows : A → Entry (Option V)) where
       let s = split_last es x qs rest in
       record { front = e ∷ s.front; last = s.last; whole = ap (λ l. e ∷ l) s.whole; is = s.is; others = ap (λ y. y ∷ qs) first ∙ ap (λ l. held e ∷ l) s.others }
 
-  pub last_taken : (ps : List (Entry (Option V))) (r : Option A) (qs : List (Entry (Option V))) → AreFull ps → TakesLast shows ps r qs → LastTaken (full ps) r qs
+  last_taken : (ps : List (Entry (Option V))) (r : Option A) (qs : List (Entry (Option V))) → AreFull ps → TakesLast shows ps r qs → Taken (λ fs e. fs ++ e ∷ []) (full ps) r qs
   last_taken ps None qs h t = record { entry = None; is = refl; others = subst AreFull (sym t.1) (record { held = refl }); yields = (ap full t.0, ap full t.1) }
   last_taken ps (Some x) qs h t =
       let s = split_last (full ps) (shows x) qs (sym t ∙ h.held) in
@@ -84,10 +78,36 @@ module _ {A V : Type 0} (shows : A → Entry (Option V)) where
         yields = s.whole ∙ ap (λ l. l ++ s.last ∷ []) (sym entries);
       }
 
--- what a call answers, by what was taken
-pub by_view : {B X : Type 0} (view : B → X) (r : Option B) (o : Option X) (P : Type 0) (Q : X → Type 0) → option_map view r ≡ o → MatchOption o P Q → MatchOption r P (λ x. Q (view x))
+-- a node was taken off an end of nodes whose places are full
+module _ {T V A : Type 0} (rank : T → ℤ) (shows : A → T × EndValue T (Option V)) (nodes : List (T × EndValue T (Option V))) (r : Option A) (rest : List (T × EndValue T (Option V))) (h : AreFull (places rank nodes)) where
+  -- what the step off the front took
+  pub first_node_taken : TakesFirst shows nodes r rest → Taken (λ a. place_of rank (shows a)) (λ fs e. e ∷ fs) (entries_of rank nodes) r (places rank rest)
+  first_node_taken t = first_taken (λ a. place_of rank (shows a)) (places rank nodes) r (places rank rest) h (takes_first_shown (place_of rank) shows nodes r rest t)
+
+  -- what the step off the back took
+  pub last_node_taken : TakesLast shows nodes r rest → Taken (λ a. place_of rank (shows a)) (λ fs e. fs ++ e ∷ []) (entries_of rank nodes) r (places rank rest)
+  last_node_taken t = last_taken (λ a. place_of rank (shows a)) (places rank nodes) r (places rank rest) h (takes_last_shown (place_of rank) shows nodes r rest t)
+
+-- what holds of an option holds of the one that it is the view of
+by_view : {B X : Type 0} (view : B → X) (r : Option B) (o : Option X) (P : Type 0) (Q : X → Type 0) → option_map view r ≡ o → MatchOption o P Q → MatchOption r P (λ x. Q (view x))
 by_view view None o P Q q h = subst (λ (o : Option _). MatchOption o P Q) (sym q) h
 by_view view (Some x) o P Q q h = subst (λ (o : Option _). MatchOption o P Q) (sym q) h
+
+module _ {A V : Type 0} {shows : A → Entry (Option V)} {join : List (Entry V) → Entry V → List (Entry V)} {es : List (Entry V)} {r : Option A} {qs : List (Entry (Option V))} (t : Taken shows join es r qs) where
+  -- the place that was taken is full
+  pub taken_is_full : IfSome r (λ a. IsSome (shows a).value)
+  taken_is_full = by_cases r t.entry t.is
+    where
+      by_cases : (r : Option A) (o : Option (Entry V)) → option_map shows r ≡ option_map held o → IfSome r (λ a. IsSome (shows a).value)
+      by_cases None o q = tt
+      by_cases (Some a) None q = cc
+      by_cases (Some a) (Some e) q = let s : shows a ≡ held e = cc in subst (λ (x : Entry (Option V)). IsSome x.value) (sym s) refl
+
+  -- a call that answers the entry of what was taken takes a step of the list
+  pub answers_taken : {B : Type 0} (view : B → Entry V) (answer : Option B) {fs : List (Entry V)} → ((o : Option (Entry V)) → option_map shows r ≡ option_map held o → option_map view answer ≡ o) → es ≡ fs
+      → MatchOption answer ((fs ≡ []) × (full qs ≡ [])) (λ x. fs ≡ join (full qs) (view x))
+  answers_taken view answer {fs} f q =
+      subst (λ l. MatchOption answer ((l ≡ []) × (full qs ≡ [])) (λ x. l ≡ join (full qs) (view x))) q (by_view view answer t.entry _ _ (f t.entry t.is) t.yields)
 
 -- what was taken leaves a shorter list
 pub goes_first : {B X : Type 0} (can : List X → Type 0) (all : (s : List X) → can s) (view : B → X) (r : Option B) (es fs : List X) → MatchOption r ((es ≡ []) × (fs ≡ [])) (λ x. es ≡ view x ∷ fs) → MakesProgress can (item_count (λ s. s)) es r fs

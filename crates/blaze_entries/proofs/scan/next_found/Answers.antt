@@ -1,31 +1,21 @@
 use Rattle.std.proofs.Common.{◌≡◌}
 use Rattle.std.specs.Map.Iter.{deref_pair}
 use Rattle.blaze_entries.specs.Found.{found_in, found_of}
-use Rattle.blaze_entries.specs.Places.{place_of, place_lent, places, full}
-use Rattle.blaze_entries.proofs.Lent.{full_lent}
+use Rattle.blaze_entries.specs.Places.{places, full}
 use Rattle.blaze_entries.proofs.Scans.{found_last, length-nodes, shorter_last}
-use Rattle.blaze_entries.proofs.Steps.{takes_last_shown, last_taken}
+use Rattle.blaze_entries.proofs.Steps.{last_node_taken, taken_is_full}
 use Rattle.blaze_entries.proofs.scan.next_found.Goals as goal
 
 pub found-requires : goal.found-requires
-found-requires g c =
-    let rank = g.T.Integer.rank in
-    let t = last_taken (place_lent rank) (places rank c.args.nodes.now) c.next_back.result _ c.requires
-    (takes_last_shown (place_of rank) deref_pair c.args.nodes.now c.next_back.result c.next_back.new.self c.next_back.ensures.steps) in
-    full_lent rank c.next_back.result t.entry t.is
+found-requires g c = taken_is_full (last_node_taken g.T.Integer.rank deref_pair _ c.next_back.result _ c.requires c.next_back.ensures.steps)
 
 pub returns-clause-full : goal.returns-clause-full
-returns-clause-full g c =
-    let rank = g.T.Integer.rank in
-    (last_taken (place_lent rank) (places rank c.args.nodes.now) c.next_back.result _ c.requires
-    (takes_last_shown (place_of rank) deref_pair c.args.nodes.now c.next_back.result c.next_back.new.self c.next_back.ensures.steps)).others
+returns-clause-full g c = (last_node_taken g.T.Integer.rank deref_pair _ c.next_back.result _ c.requires c.next_back.ensures.steps).others
 
 pub returns-clause-found : goal.returns-clause-found
 returns-clause-found g c =
-    let rank = g.T.Integer.rank in
-    let t = last_taken (place_lent rank) (places rank c.args.nodes.now) c.next_back.result _ c.requires
-    (takes_last_shown (place_of rank) deref_pair c.args.nodes.now c.next_back.result c.next_back.new.self c.next_back.ensures.steps) in
-    found_last rank g.V.PartialEq.eq c.args.value.now c.found.result t.entry _ _ (c.found.ensures t.entry t.is) t.yields
+    let t = last_node_taken g.T.Integer.rank deref_pair _ c.next_back.result _ c.requires c.next_back.ensures.steps in
+    found_last g.T.Integer.rank g.V.PartialEq.eq c.args.value.now c.found.result t.entry _ _ (c.found.ensures t.entry t.is) t.yields
 
 pub returns-clause-shorter : goal.returns-clause-shorter
 returns-clause-shorter g c =

@@ -1,32 +1,17 @@
-use Rattle.std.proofs.Common.{◌≡◌, List, [], ◌∷◌, subst}
-use Rattle.std.specs.Prelude.{MatchOption}
-use Rattle.blaze_entries.specs.Entries.{Entry, shown_entry}
-use Rattle.blaze_entries.specs.Places.{place_of, places, full}
-use Rattle.blaze_entries.proofs.Lent.{full_given}
-use Rattle.blaze_entries.proofs.Steps.{takes_first_shown, first_taken, by_view, goes_first}
+use Rattle.blaze_entries.specs.Entries.{shown_entry}
+use Rattle.blaze_entries.proofs.Steps.{first_node_taken, taken_is_full, answers_taken, goes_first}
 use Rattle.blaze_entries.proofs.into_iter.IntoIterIterator.next.Goals as goal
 
 pub given-requires : goal.given-requires
-given-requires g c =
-    let rank = g.T.Integer.rank in
-    let t = first_taken (place_of rank) (places rank c.self.inside.rest) c.next.result _ c.self.invariant
-    (takes_first_shown (place_of rank) (λ p. p) c.self.inside.rest c.next.result c.next.new.self c.next.ensures.steps) in
-    full_given rank c.next.result t.entry t.is
+given-requires g c = taken_is_full (first_node_taken g.T.Integer.rank (λ p. p) _ c.next.result _ c.self.invariant c.next.ensures.steps)
 
 pub invariant_of-self : goal.invariant_of-self
-invariant_of-self g c =
-    let rank = g.T.Integer.rank in
-    (first_taken (place_of rank) (places rank c.self.inside.rest) c.next.result _ c.self.invariant
-    (takes_first_shown (place_of rank) (λ p. p) c.self.inside.rest c.next.result c.next.new.self c.next.ensures.steps)).others
+invariant_of-self g c = (first_node_taken g.T.Integer.rank (λ p. p) _ c.next.result _ c.self.invariant c.next.ensures.steps).others
 
 pub returns-clause-steps : goal.returns-clause-steps
 returns-clause-steps g c =
-    let rank = g.T.Integer.rank in
-    let qs = places rank c.next.new.self in
-    let t = first_taken (place_of rank) (places rank c.self.inside.rest) c.next.result _ c.self.invariant
-    (takes_first_shown (place_of rank) (λ p. p) c.self.inside.rest c.next.result c.next.new.self c.next.ensures.steps) in
-    subst (λ (es : List (Entry g.row.V.Denot)). MatchOption c.given.result ((es ≡ []) × (full qs ≡ [])) (λ x. es ≡ shown_entry rank (λ v. v) x ∷ full qs)) c.self.view_is
-    (by_view (shown_entry rank (λ v. v)) c.given.result t.entry _ _ (c.given.ensures t.entry t.is) t.yields)
+    answers_taken (first_node_taken g.T.Integer.rank (λ p. p) _ c.next.result _ c.self.invariant c.next.ensures.steps)
+    (shown_entry g.T.Integer.rank (λ v. v)) c.given.result c.given.ensures c.self.view_is
 
 pub returns-clause-goes : goal.returns-clause-goes
 returns-clause-goes g c = goes_first _ (λ _. tt) (shown_entry g.T.Integer.rank (λ v. v)) c.given.result _ _ (returns-clause-steps g c)

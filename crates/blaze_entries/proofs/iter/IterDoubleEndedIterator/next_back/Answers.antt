@@ -1,33 +1,18 @@
-use Rattle.std.proofs.Common.{◌≡◌, List, [], ◌∷◌, ◌++◌, subst}
-use Rattle.std.specs.Prelude.{MatchOption}
 use Rattle.std.specs.Map.Iter.{deref_pair}
-use Rattle.blaze_entries.specs.Entries.{Entry, shown_entry}
-use Rattle.blaze_entries.specs.Places.{place_of, place_lent, places, full}
-use Rattle.blaze_entries.proofs.Lent.{full_lent}
-use Rattle.blaze_entries.proofs.Steps.{takes_last_shown, last_taken, by_view, goes_last}
+use Rattle.blaze_entries.specs.Entries.{shown_entry}
+use Rattle.blaze_entries.proofs.Steps.{last_node_taken, taken_is_full, answers_taken, goes_last}
 use Rattle.blaze_entries.proofs.iter.IterDoubleEndedIterator.next_back.Goals as goal
 
 pub shown-requires : goal.shown-requires
-shown-requires g c =
-    let rank = g.T.Integer.rank in
-    let t = last_taken (place_lent rank) (places rank c.self.inside.rest) c.next_back.result _ c.self.invariant
-    (takes_last_shown (place_of rank) deref_pair c.self.inside.rest c.next_back.result c.next_back.new.self c.next_back.ensures.steps) in
-    full_lent rank c.next_back.result t.entry t.is
+shown-requires g c = taken_is_full (last_node_taken g.T.Integer.rank deref_pair _ c.next_back.result _ c.self.invariant c.next_back.ensures.steps)
 
 pub invariant_of-self : goal.invariant_of-self
-invariant_of-self g c =
-    let rank = g.T.Integer.rank in
-    (last_taken (place_lent rank) (places rank c.self.inside.rest) c.next_back.result _ c.self.invariant
-    (takes_last_shown (place_of rank) deref_pair c.self.inside.rest c.next_back.result c.next_back.new.self c.next_back.ensures.steps)).others
+invariant_of-self g c = (last_node_taken g.T.Integer.rank deref_pair _ c.next_back.result _ c.self.invariant c.next_back.ensures.steps).others
 
 pub returns-clause-steps : goal.returns-clause-steps
 returns-clause-steps g c =
-    let rank = g.T.Integer.rank in
-    let qs = places rank c.next_back.new.self in
-    let t = last_taken (place_lent rank) (places rank c.self.inside.rest) c.next_back.result _ c.self.invariant
-    (takes_last_shown (place_of rank) deref_pair c.self.inside.rest c.next_back.result c.next_back.new.self c.next_back.ensures.steps) in
-    subst (λ (es : List (Entry g.row.V.Denot)). MatchOption c.shown.result ((es ≡ []) × (full qs ≡ [])) (λ x. es ≡ full qs ++ shown_entry rank (λ v. v.now) x ∷ [])) c.self.view_is
-    (by_view (shown_entry rank (λ v. v.now)) c.shown.result t.entry _ _ (c.shown.ensures t.entry t.is) t.yields)
+    answers_taken (last_node_taken g.T.Integer.rank deref_pair _ c.next_back.result _ c.self.invariant c.next_back.ensures.steps)
+    (shown_entry g.T.Integer.rank (λ v. v.now)) c.shown.result c.shown.ensures c.self.view_is
 
 pub returns-clause-goes : goal.returns-clause-goes
 returns-clause-goes g c = goes_last _ (λ _. tt) (shown_entry g.T.Integer.rank (λ v. v.now)) c.shown.result _ _ (returns-clause-steps g c)
