@@ -1,5 +1,5 @@
 -- Entries joined where they touch have their keys, and are a set's.
-use Rattle.std.proofs.Common.{◌≡◌, ℤ, pos, ◌+ℤ◌, ◌≤ℤ◌, ◌<ℤ◌, Bool, true, false, List, [], ◌∷◌, Option, Some, None, refl, sym, ◌∙◌, ap, arith, if◌then◌else◌}
+use Rattle.std.proofs.Common.{◌≡◌, ℤ, pos, ◌+ℤ◌, ◌≤ℤ◌, ◌<ℤ◌, Bool, true, false, List, [], ◌∷◌, length, min, ℕ, ◌≤◌, Option, Some, None, refl, sym, ◌∙◌, ap, arith, if◌then◌else◌}
 use Rattle.std.specs.Prelude.{int_le, ◌&&◌, ◌||◌, is_some}
 use Rattle.std.specs.Ordering.{int_eq}
 use Rattle.std.specs.Cmp.{IsEquivalence}
@@ -96,3 +96,14 @@ pub after_gap : {V : Type 0} (low high lo hi : ℤ) (e : Entry V) (es rest : Lis
 after_gap low high lo hi e es rest old m j p n =
     let first : joined_ranges lo hi es ≡ entry lo hi tt ∷ joined_ranges e.lo e.hi rest = rw (p, n) refl in
     IsRangeMap-rest unit_eq unit_laws low high (entry lo hi tt) (joined_ranges e.lo e.hi rest) (rw (sym j ∙ first) at m)
+
+some_joined : {V : Type 0} (lo hi : ℤ) (es : List (Entry V)) → 1 ≤ length (joined_ranges lo hi es)
+some_joined lo hi [] = omega arith
+some_joined lo hi (e ∷ es) = pick (λ (l : List (Entry (Unit {0}))). 1 ≤ length l) (int_eq e.lo (hi +ℤ pos 1)) _ _ (λ t. some_joined lo e.hi es) (λ f. omega arith)
+
+-- a range is left, where the first of them is open
+pub some_left : {T V : Type 0} (rank : T → ℤ) (first : Option (T × T)) (p : T × T) (es : List (Entry V)) → first ≡ Some p → 1 ≤ length (joined_left rank first es)
+some_left rank first p es q = rw q (some_joined (rank p.0) (rank p.1) es)
+
+pub one_of : (n : ℕ) → 1 ≤ n → 1 ≡ min 1 n
+one_of n l = omega (arith, l)

@@ -150,6 +150,13 @@ pub fn of_tables(rt: &HostRuntime) -> Result<(), AllocError> {
     let _ = map.paint(0, 255, 'a')?;
     let mut last = RangeTable::<u8, char>::new(alloc);
     let _ = last.paint(255, 255, 'b')?;
+    let mut keys = ranges_of(&last);
+    let _ = println!(rt;
+        "ranges_of: {:?} {:?} {:?}",
+        keys.size_hint(),
+        keys.next(),
+        keys.size_hint()
+    );
     let keys = ranges_of(&last);
     show(
         rt,

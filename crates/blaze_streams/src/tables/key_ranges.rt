@@ -1,5 +1,5 @@
 //! A map's keys as ranges.
-ghost use Rattle.std.specs.Prelude.{◌≡◌, refl, None, IfSome};
+ghost use Rattle.std.specs.Prelude.{◌≡◌, refl, length, min, None, IfSome};
 ghost use Rattle.std.specs.Iterator.{item_count, UpTo};
 ghost use Rattle.std.specs.Iterator.SizeHint.{IsWithinCount};
 ghost use Rattle.blaze_streams.specs.KeyRanges.{AreKeyRanges};
@@ -94,13 +94,16 @@ impl<T: Integer, I: EntryEnds<T>> Iterator for KeyRanges<T, I> {
         Some(start..=end)
     }
 
-    /// No bound: how many of the ranges touch is seen only where they come.
+    /// At least one, where any is left: how many of the entries touch is seen only where they come.
     fn size_hint(&self) -> (usize, Option<usize>)
         ensures lower { IsWithinCount result.0 (item_count (λ s. s) self.now) }
         ensures upper { IfSome result.1 (UpTo (item_count (λ s. s) self.now)) }
-        ensures exact { result ≡ (0, None) }
+        ensures exact { result ≡ (min 1 (length self.now), None) }
     {
-        (0, None)
+        match &self.open {
+            Some(_) => (1, None),
+            None => (0, None),
+        }
     }
 }
 
@@ -109,7 +112,7 @@ impl<T: Integer, I: EntryEnds<T>> FusedIterator for KeyRanges<T, I> {}
 impl<T: Integer, I: EntryEnds<T>> SortedDisjoint<T> for KeyRanges<T, I> {
     ghost left = { λ s. s };
 
-    ghost least = { λ _. 0 };
+    ghost least = { λ s. min 1 (length s) };
 
     fn in_hand(&self) {
         let _ = &self.open;
