@@ -1,8 +1,8 @@
 -- The keys that the first ranges of two lists share.
-use Rattle.std.specs.Prelude.{IfNone}
 use Rattle.std.specs.Int.{int_max, int_min}
+use Rattle.std.specs.Prelude.{◌⊎◌}
 use Rattle.std.specs.Option.{option_map}
-use Rattle.std.proofs.Common.{◌≡◌, ℤ, ◌≤ℤ◌, ◌<ℤ◌, Bool, List, [], ◌∷◌, Option, Some, None, refl, ◌∙◌, sym, subst, ap, arith}
+use Rattle.std.proofs.Common.{◌≡◌, ℤ, ◌≤ℤ◌, ◌<ℤ◌, Bool, List, [], ◌∷◌, Option, Some, None, refl, ◌∙◌, sym, subst, ap, arith, ⊎_elim}
 use Rattle.std.proofs.lemmas.Int.{ints, by_lt_z}
 use Rattle.blaze_entries.specs.Found.{range_in}
 use Rattle.blaze_entries.specs.Starts.{first_entry}
@@ -12,11 +12,12 @@ use Rattle.blaze_table.specs.Canonical.{IsCanonical}
 use Rattle.blaze_table.specs.Chosen.{left_with_right}
 use Rattle.blaze_table.specs.Splice.{after}
 use Rattle.blaze_table.proofs.Canonical.Lookup.{at_in}
+use Rattle.blaze_table.proofs.Paints.Splices.{after_keeps}
 use Rattle.blaze_streams.specs.Choosing.{IsTaken}
-use Rattle.blaze_streams.specs.Cursors.{first_key, steady_to, Reaches, lesser}
+use Rattle.blaze_streams.specs.Cursors.{first_key, steady_to, FirstHas, lesser}
 use Rattle.blaze_streams.proofs.ChosenSoFar.{both_from, chosen_at}
 use Rattle.blaze_streams.proofs.Steady.{at_first}
-use Rattle.blaze_streams.proofs.Taken.{taken_steady}
+use Rattle.blaze_streams.proofs.Taken.{taken_to, taken_steady}
 
 ends : {C : Type 0} (e : Entry C) (l x : ℤ) → Some (l, x) ≡ Some (range_in e) → (e.lo ≡ l) × (e.hi ≡ x)
 ends e l x p =
@@ -28,10 +29,6 @@ at_most_max a b = grind (arith, ints)
 
 min_at_most : (a b : ℤ) → int_min a b ≤ℤ b
 min_at_most a b = grind (arith, ints)
-
-pub reaches_first : {A : Type 0} (l x y end : ℤ) (L : List (Entry A)) → Some (l, x) ≡ option_map range_in (first_entry L) → end ≡ int_min y x → Reaches end L
-reaches_first l x y end [] p q = tt
-reaches_first l x y end (e ∷ es) p q = let hi = (ends e l x p).1 in grind (arith, ints, hi, q)
 
 module _ {A B : Type 0} where
   none_with : (y : Option B) → left_with_right {A = A} None y ≡ None
@@ -52,27 +49,58 @@ module _ {A B : Type 0} where
           ap (λ x. left_with_right x (at (f ∷ fs) k)) (at_in e es k (grind (arith, ints, l)) (grind (arith, ints, h)))
           ∙ ap (left_with_right (Some e.value)) (at_in f fs k (grind (arith, ints, l)) (grind (arith, ints, h)))
 
-    module _ (l x r y first end : ℤ) (first_is : first ≡ int_max r l) (end_is : end ≡ int_min y x) where
-      -- where they share none, nothing is chosen at the first key
-      pub apart_none : (L : List (Entry A)) (R : List (Entry B)) → IsCanonical eqa L → IsCanonical eqb R → lesser (first_key L) (first_key R) ≡ Some s → Some (l, x) ≡ option_map range_in (first_entry L) → Some (r, y) ≡ option_map range_in (first_entry R) → end <ℤ first → chosen_at left_with_right L R s ≡ None
-      apart_none [] R ca cb starts p q u = cc
-      apart_none (e ∷ es) [] ca cb starts p q u = cc
-      apart_none (e ∷ es) (f ∷ fs) ca cb starts p q u =
-          let from = both_from s (e ∷ es) (f ∷ fs) starts in
-          none_before e es f fs ca cb s (under (ends e l x p).0 (ends e l x p).1 (ends f r y q).0 (ends f r y q).1 from.0 from.1)
-        where
-          under : e.lo ≡ l → e.hi ≡ x → f.lo ≡ r → f.hi ≡ y → s ≤ℤ e.lo → s ≤ℤ f.lo → s <ℤ int_max f.lo e.lo
-          under a b c d g h = grind (arith, ints, a, b, c, d, g, h, u, first_is, end_is, ca.0, cb.0)
+    -- up to a key up to which nothing is chosen
+    nothing_to : (t : ℤ) (L L' : List (Entry A)) (R R' : List (Entry B)) → IsCanonical eqa L → IsCanonical eqb R → s ≤ℤ t → ((k : ℤ) → k ≤ℤ t → chosen_at left_with_right L R k ≡ None) → L' ≡ after t L → R' ≡ after t R → IsTaken eqa left_with_right s L L' R R' s t None
+    nothing_to t L L' R R' ca cb order nothing = taken_to eqa eqb eqa left_with_right L L' R R' s t None ca cb order (λ k a b. nothing k b ∙ sym (nothing s order)) (same_none eqa (chosen_at left_with_right L R s) (nothing s order))
 
-      pub shared_taken : (L L' : List (Entry A)) (R R' : List (Entry B)) (value : Option A) → IsCanonical eqa L → IsCanonical eqb R → lesser (first_key L) (first_key R) ≡ Some s → Some (l, x) ≡ option_map range_in (first_entry L) → Some (r, y) ≡ option_map range_in (first_entry R) → first ≤ℤ end → SameOption eqa (at L end) value → L' ≡ after end L → R' ≡ after end R
+    module _ (l x r y first end : ℤ) (first_is : first ≡ int_max r l) (end_is : end ≡ int_min y x) where
+      -- the left range goes, which ends below the right one
+      pub left_gone : (L L' : List (Entry A)) (R : List (Entry B)) → IsCanonical eqa L → IsCanonical eqb R → lesser (first_key L) (first_key R) ≡ Some s → Some (l, x) ≡ option_map range_in (first_entry L) → Some (r, y) ≡ option_map range_in (first_entry R) → x <ℤ r → L' ≡ after x L
+          → IsTaken eqa left_with_right s L L' R R s x None
+      left_gone [] L' R ca cb starts p q u left_is = cc
+      left_gone (e ∷ es) L' [] ca cb starts p q u left_is = cc
+      left_gone (e ∷ es) L' (f ∷ fs) ca cb starts p q u left_is =
+          let from = both_from s (e ∷ es) (f ∷ fs) starts in
+          let left = ends e l x p in
+          let right = ends f r y q in
+          nothing_to x (e ∷ es) L' (f ∷ fs) (f ∷ fs) ca cb (omega (arith, ints, from.0, ca.0, left.1))
+          (λ k h. none_before e es f fs ca cb k (grind (arith, ints, h, u, right.0)))
+          left_is (sym (after_keeps x f fs (omega (arith, ints, u, cb.0, right.0)) (omega (arith, ints, u, right.0))))
+
+      -- the right range goes, which ends below the left one
+      pub right_gone : (L : List (Entry A)) (R R' : List (Entry B)) → IsCanonical eqa L → IsCanonical eqb R → lesser (first_key L) (first_key R) ≡ Some s → Some (l, x) ≡ option_map range_in (first_entry L) → Some (r, y) ≡ option_map range_in (first_entry R) → y <ℤ l → R' ≡ after y R
+          → IsTaken eqa left_with_right s L L R R' s y None
+      right_gone [] R R' ca cb starts p q u right_is = cc
+      right_gone (e ∷ es) [] R' ca cb starts p q u right_is = cc
+      right_gone (e ∷ es) (f ∷ fs) R' ca cb starts p q u right_is =
+          let from = both_from s (e ∷ es) (f ∷ fs) starts in
+          let left = ends e l x p in
+          let right = ends f r y q in
+          nothing_to y (e ∷ es) (e ∷ es) (f ∷ fs) R' ca cb (omega (arith, ints, from.1, cb.0, right.1))
+          (λ k h. none_before e es f fs ca cb k (grind (arith, ints, h, u, left.0)))
+          (sym (after_keeps y e es (omega (arith, ints, u, ca.0, left.0)) (omega (arith, ints, u, left.0)))) right_is
+
+      in_order : l ≤ℤ x → r ≤ℤ y → r ≤ℤ x → l ≤ℤ y → first ≤ℤ end
+      in_order a b u v = grind (arith, ints, first_is, end_is, a, b, u, v)
+
+      -- where neither ends below the other, the left one has the last key that they share
+      pub left_has : (L : List (Entry A)) (R : List (Entry B)) → IsCanonical eqa L → IsCanonical eqb R → Some (l, x) ≡ option_map range_in (first_entry L) → Some (r, y) ≡ option_map range_in (first_entry R) → r ≤ℤ x → l ≤ℤ y → FirstHas end L
+      left_has [] R ca cb p q u v = cc
+      left_has (e ∷ es) [] ca cb p q u v = cc
+      left_has (e ∷ es) (f ∷ fs) ca cb p q u v =
+          let left = ends e l x p in
+          (grind (arith, ints, end_is, left.0, left.1, ca.0, v), grind (arith, ints, end_is, left.1))
+
+      pub shared_taken : (L L' : List (Entry A)) (R R' : List (Entry B)) (value : Option A) → IsCanonical eqa L → IsCanonical eqb R → lesser (first_key L) (first_key R) ≡ Some s → Some (l, x) ≡ option_map range_in (first_entry L) → Some (r, y) ≡ option_map range_in (first_entry R) → r ≤ℤ x → l ≤ℤ y → SameOption eqa (at L end) value → L' ≡ after end L → R' ≡ after end R
           → IsTaken eqa left_with_right s L L' R R' first end value
-      shared_taken [] L' R R' value ca cb starts p q u alike left_is right_is = cc
-      shared_taken (e ∷ es) L' [] R' value ca cb starts p q u alike left_is right_is = cc
-      shared_taken (e ∷ es) L' (f ∷ fs) R' value ca cb starts p q u alike left_is right_is =
+      shared_taken [] L' R R' value ca cb starts p q c d alike left_is right_is = cc
+      shared_taken (e ∷ es) L' [] R' value ca cb starts p q c d alike left_is right_is = cc
+      shared_taken (e ∷ es) L' (f ∷ fs) R' value ca cb starts p q c d alike left_is right_is =
           let from = both_from s (e ∷ es) (f ∷ fs) starts in
           let left = ends e l x p in
           let right = ends f r y q in
           let first_at : first ≡ int_max f.lo e.lo = first_is ∙ ap (λ z. int_max z l) (sym right.0) ∙ ap (int_max f.lo) (sym left.0) in
+          let u = in_order (omega (arith, ints, ca.0, left.0, left.1)) (omega (arith, ints, cb.0, right.0, right.1)) c d in
           let end_at : end ≡ int_min f.hi e.hi = end_is ∙ ap (λ z. int_min z x) (sym right.1) ∙ ap (int_min f.hi) (sym left.1) in
           let inside : (k : ℤ) → first ≤ℤ k → k ≤ℤ end → chosen_at left_with_right (e ∷ es) (f ∷ fs) k ≡ Some e.value = λ k a b. chosen_inside e es f fs ca cb k (subst (λ z. z ≤ℤ k) first_at a) (subst (λ z. k ≤ℤ z) end_at b) in
           let here = inside first (omega (arith, ints)) u in
@@ -88,15 +116,16 @@ module _ {A B : Type 0} where
             right_is = right_is;
           }
 
-    -- where the first ranges share no key, the keys up to the first change are skipped
-    pub nothing_taken : (t : ℤ) (L Lk L' : List (Entry A)) (R Rk R' : List (Entry B)) → IsCanonical eqa L → IsCanonical eqb R → lesser (first_key L) (first_key R) ≡ Some s → (Lk ≡ L) × (Rk ≡ R) × (chosen_at left_with_right L R s ≡ None) → lesser (steady_to s Lk) (steady_to s Rk) ≡ Some t → L' ≡ after t Lk → R' ≡ after t Rk
+    -- where one list has no range, nothing is chosen, and the keys up to the first change are skipped
+    pub nothing_taken : (t : ℤ) (L L' : List (Entry A)) (R R' : List (Entry B)) → IsCanonical eqa L → IsCanonical eqb R → lesser (first_key L) (first_key R) ≡ Some s → (None ≡ option_map range_in (first_entry L)) ⊎ (None ≡ option_map range_in (first_entry R)) → lesser (steady_to s L) (steady_to s R) ≡ Some t → L' ≡ after t L → R' ≡ after t R
         → IsTaken eqa left_with_right s L L' R R' s t None
-    nothing_taken t L Lk L' R Rk R' ca cb starts same ends left_is right_is =
-        taken_steady eqa eqb eqa left_with_right L L' R R' s t None ca cb starts
-        (subst (λ l. lesser (steady_to s l) (steady_to s R) ≡ Some t) same.0 (subst (λ r. lesser (steady_to s Lk) (steady_to s r) ≡ Some t) same.1 ends))
-        (same_none eqa (chosen_at left_with_right L R s) same.2)
-        (left_is ∙ ap (after t) same.0) (right_is ∙ ap (after t) same.1)
+    nothing_taken t L L' R R' ca cb starts none stops left_is right_is = taken_steady eqa eqb eqa left_with_right L L' R R' s t None ca cb starts stops (same_none eqa (chosen_at left_with_right L R s) (nothing_there L R none)) left_is right_is
+      where
+        without_right : (x : Option A) → left_with_right {B = B} x None ≡ None
+        without_right None = refl
+        without_right (Some x) = refl
 
-pub by_none : {X P : Type 0} (o : Option X) → o ≡ None → IfNone o P → P
-by_none None p i = i
-by_none (Some x) p i = cc
+        nothing_there : (L : List (Entry A)) (R : List (Entry B)) → (None ≡ option_map range_in (first_entry L)) ⊎ (None ≡ option_map range_in (first_entry R)) → chosen_at left_with_right L R s ≡ None
+        nothing_there [] R n = none_with (at R s)
+        nothing_there (e ∷ es) [] n = without_right (at (e ∷ es) s)
+        nothing_there (e ∷ es) (f ∷ fs) n = ⊎_elim (λ q. cc) (λ q. cc) n

@@ -21,7 +21,7 @@ none_of (Some x) p = cc
 
 module _ {A B V : Type 0} (eqa : A → A → Bool) (eqb : B → B → Bool) (eq : V → V → Bool) (choose : Option A → Option B → Option V) (L L' : List (Entry A)) (R R' : List (Entry B)) (s t : ℤ) (value : Option V) (ca : IsCanonical eqa L) (cb : IsCanonical eqb R) where
   -- up to a key up to which the same is chosen
-  taken_to : s ≤ℤ t → ((k : ℤ) → s ≤ℤ k → k ≤ℤ t → chosen_at choose L R k ≡ chosen_at choose L R s) → SameOption eq (chosen_at choose L R s) value → L' ≡ after t L → R' ≡ after t R → IsTaken eq choose s L L' R R' s t value
+  pub taken_to : s ≤ℤ t → ((k : ℤ) → s ≤ℤ k → k ≤ℤ t → chosen_at choose L R k ≡ chosen_at choose L R s) → SameOption eq (chosen_at choose L R s) value → L' ≡ after t L → R' ≡ after t R → IsTaken eq choose s L L' R R' s t value
   taken_to order same alike left_is right_is = record {
     from = omega (arith, ints);
     order = order;

@@ -25,6 +25,11 @@ abbrev pub Reaches : {A : Type 0} → ℤ → List (Entry A) → Type 0
 Reaches t [] = Unit {0}
 Reaches t (e ∷ es) = t ≤ℤ e.hi
 
+-- the first range has t
+abbrev pub FirstHas : {A : Type 0} → ℤ → List (Entry A) → Type 0
+FirstHas t [] = ⊥
+FirstHas t (e ∷ es) = (e.lo ≤ℤ t) × (t ≤ℤ e.hi)
+
 -- the lesser of two keys, where there are two
 abbrev pub lesser : Option ℤ → Option ℤ → Option ℤ
 lesser None o = o

@@ -8,12 +8,13 @@ ghost use Rattle.blaze_table.specs.Canonical.{IsCanonical};
 ghost use Rattle.blaze_table.specs.Splice.{after};
 ghost use Rattle.blaze_streams.specs.Carried.{shown_option};
 ghost use Rattle.blaze_streams.specs.Choosing.{ahead_of, IsRangeTaken};
-ghost use Rattle.blaze_streams.specs.Cursors.{first_key, steady_to, IsFrom, Reaches, lesser};
+ghost use Rattle.blaze_streams.specs.Cursors.{first_key, steady_to, IsFrom, Reaches, FirstHas};
+ghost use Rattle.blaze_streams.specs.Cursors.{lesser};
 
 use crate::carrier::ValueCarrier;
 use crate::sorted_disjoint_map::SortedDisjointMap;
 use blaze_int::Integer;
-use blaze_int::compare::{after, before, is_at_most};
+use blaze_int::compare::{after, before, is_at_most, is_below};
 use std::alloc::AllocError;
 use std::marker::Model;
 use std::mem;
@@ -151,6 +152,21 @@ impl<T: Integer, VC: ValueCarrier, I: SortedDisjointMap<T, VC>> Cursor<T, VC, I>
         }
     }
 
+    /// The same, where `end` is not above the end of the first range.
+    pub fn advance_in_first(&mut self, end: T)
+        requires { Reaches (T.rank end) self.old }
+        ensures { self.new ≡ after (T.rank end) self.old }
+    {
+        let Some((lo, hi, _)) = &mut self.head else {
+            return;
+        };
+        if is_at_most(*hi, end) {
+            self.head = take_first(&mut self.rest);
+        } else if is_at_most(*lo, end) {
+            *lo = after(end, *hi);
+        }
+    }
+
     /// Takes the range that has a key below which none is left: its last key and its carrier.
     pub fn take_at(&mut self, start: T) -> Option<(T, VC)>
         requires { IsFrom (T.rank start) self.old }
@@ -202,31 +218,28 @@ impl<T: Integer, VC: ValueCarrier, I: SortedDisjointMap<T, VC>> Cursor<T, VC, I>
         }
     }
 
-    /// Lets the keys up to `end` go, which is not above the end of the first range, and answers the carrier of the value at
-    /// `end`: the range's own where the range ends there, else another, and refused memory then lets the keys go all the same.
-    pub fn take(&mut self, end: T) -> Result<Option<VC>, AllocError>
+    /// Takes what the first range has up to `end`, which is one of its keys: a carrier of its value, the range's own where it
+    /// ends there, else another. Refused memory then lets the keys go all the same.
+    pub fn take(&mut self, end: T) -> Result<VC, AllocError>
         requires can { VC.can_carry }
-        requires reaches { Reaches (T.rank end) self.old }
+        requires has { FirstHas (T.rank end) self.old }
         ensures carrier { IfOk result (λ carrier. SameOption VC.Value.eq (at self.old (T.rank end))
-            (option_map VC.shown carrier)) }
+            (Some (VC.shown carrier))) }
         ensures rest { self.new ≡ after (T.rank end) self.old }
     {
         let Some((lo, hi, carrier)) = &mut self.head else {
-            return Ok(None);
+            unreachable!()
         };
-        if is_at_most(*hi, end) {
-            let next = take_first(&mut self.rest);
-            return match mem::replace(&mut self.head, next) {
-                Some((_, _, carrier)) => Ok(Some(carrier)),
-                None => Ok(None),
-            };
-        }
-        if is_at_most(*lo, end) {
+        if is_below(end, *hi) {
             let other = carrier.carry();
             *lo = after(end, *hi);
-            return Ok(Some(other?));
+            return other;
         }
-        Ok(None)
+        let next = take_first(&mut self.rest);
+        match mem::replace(&mut self.head, next) {
+            Some((_, _, carrier)) => Ok(carrier),
+            None => unreachable!(),
+        }
     }
 }
 

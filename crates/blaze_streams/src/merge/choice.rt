@@ -116,11 +116,7 @@ impl<VCL: ValueCarrier, VCR: ValueCarrier> Choice<VCL, VCR> for LeftWithRight {
         left: &mut Cursor<T, VCL, L>,
         right: &mut Cursor<T, VCR, R>,
     ) -> Result<(T, T, Option<VCL>), AllocError> {
-        if let Some(piece) = take_both(start, left, right)? {
-            return Ok(piece);
-        }
-        let end = skip(start, left, right);
-        Ok((start, end, None))
+        take_both(start, left, right)
     }
 
     ghost from_nothing = { refl };

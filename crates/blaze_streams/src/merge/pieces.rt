@@ -1,5 +1,5 @@
 //! Pieces of two streams: ranges of keys on which neither changes.
-ghost use Rattle.std.specs.Prelude.{◌≡◌, None, Some, IfSome, IfNone, IfOk};
+ghost use Rattle.std.specs.Prelude.{◌≡◌, None, Some, IfOk};
 ghost use Rattle.std.specs.Option.{option_map};
 ghost use Rattle.blaze_table.specs.Canonical.{IsCanonical};
 ghost use Rattle.blaze_table.specs.Chosen.{left_with_right};
@@ -54,8 +54,8 @@ pub fn skip<
     ensures right { right.new ≡ after (T.rank result) right.old }
 {
     let end = steady_end(start, left, right);
-    left.advance(end);
-    right.advance(end);
+    left.advance_in_first(end);
+    right.advance_in_first(end);
     end
 }
 
@@ -85,7 +85,7 @@ pub fn take_alone<
 }
 
 /// Takes the keys that the first ranges of two streams share: the first of them, the last, and a carrier of the left one's value.
-/// Where they share none, nothing is taken, and the left one's value is chosen nowhere before either changes.
+/// Where they share none, the range that ends below the other goes, and nothing is chosen on its keys.
 pub fn take_both<
     T: Integer,
     VCL: ValueCarrier,
@@ -96,28 +96,30 @@ pub fn take_both<
     start: T,
     left: &mut Cursor<T, VCL, L>,
     right: &mut Cursor<T, VCR, R>,
-) -> Result<Option<(T, T, Option<VCL>)>, AllocError>
+) -> Result<(T, T, Option<VCL>), AllocError>
     requires can { VCL.can_carry }
+    requires left { IsCanonical VCL.Value.eq left.old }
+    requires right { IsCanonical VCR.Value.eq right.old }
     requires starts { lesser (first_key left.old) (first_key right.old) ≡ Some (T.rank start) }
-    ensures none { IfOk result (λ piece. IfNone piece ((left.new ≡ left.old)
-        × (right.new ≡ right.old)
-        × (left_with_right (at left.old (T.rank start)) (at right.old (T.rank start)) ≡ None))) }
-    ensures some { IfOk result (λ piece. IfSome piece (λ piece. IsTaken VCL.Value.eq
-        left_with_right (T.rank start) left.old left.new right.old right.new
-        (T.rank piece.0) (T.rank piece.1) (option_map VCL.shown piece.2))) }
+    ensures { IfOk result (λ piece. IsTaken VCL.Value.eq left_with_right (T.rank start) left.old
+        left.new right.old right.new (T.rank piece.0) (T.rank piece.1)
+        (option_map VCL.shown piece.2)) }
 {
-    let Some((left_start, left_end)) = left.range() else {
-        return Ok(None);
+    let (Some(ours), Some(theirs)) = (left.range(), right.range()) else {
+        let end = skip(start, left, right);
+        return Ok((start, end, None));
     };
-    let Some((right_start, right_end)) = right.range() else {
-        return Ok(None);
-    };
-    let first = compare::greater(left_start, right_start);
-    let end = compare::lesser(left_end, right_end);
-    if compare::is_below(end, first) {
-        return Ok(None);
+    if compare::is_below(ours.1, theirs.0) {
+        left.advance_in_first(ours.1);
+        return Ok((start, ours.1, None));
     }
+    if compare::is_below(theirs.1, ours.0) {
+        right.advance_in_first(theirs.1);
+        return Ok((start, theirs.1, None));
+    }
+    let first = compare::greater(ours.0, theirs.0);
+    let end = compare::lesser(ours.1, theirs.1);
     let carrier = left.take(end)?;
-    right.advance(end);
-    Ok(Some((first, end, carrier)))
+    right.advance_in_first(end);
+    Ok((first, end, Some(carrier)))
 }

@@ -83,8 +83,8 @@ fn join_next<
     start.in_hand();
     end.in_hand();
     put_pair(out, start, end, left.here(end), right.here(end), kind)?;
-    left.advance(end);
-    right.advance(end);
+    left.advance_in_first(end);
+    right.advance_in_first(end);
     Ok(())
 }
 

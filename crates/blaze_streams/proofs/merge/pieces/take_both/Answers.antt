@@ -1,23 +1,44 @@
 use Rattle.std.specs.Option.{option_map}
-use Rattle.std.proofs.Common.{refl, ◌∙◌, sym}
+use Rattle.std.proofs.Common.{Some, refl, ◌∙◌, sym, ap, inl, inr}
 use Rattle.blaze_int.proofs.Comparisons.{lt_fails, lt_holds}
-use Rattle.blaze_streams.proofs.Shared.{apart_none, reaches_first, shared_taken}
+use Rattle.blaze_entries.specs.Found.{ranks_of}
+use Rattle.blaze_streams.proofs.Shared.{left_gone, left_has, nothing_taken, right_gone, shared_taken}
+use Rattle.blaze_streams.proofs.merge.pieces.take_both.Goals.{in_default-via-in-Some+in_default, in_default-via-in_default}
 use Rattle.blaze_streams.proofs.merge.pieces.take_both.Goals as goal
 
-pub returns-then-is_below-clause-none : goal.returns-then-is_below-clause-none
-returns-then-is_below-clause-none g c = (
-  refl,
-  refl,
-  apart_none g.VCL.Value.PartialEq.eq g.VCR.Value.PartialEq.eq (g.T.Integer.rank c.args.start) _ _ _ _ _ _ c.greater-first.ensures c.lesser-end.ensures c.args.left.now c.args.right.now
-      c.in-Some.ensures.canonical c.in-Some-range.ensures.canonical c.requires.starts c.in-Some.ensures.ends c.in-Some-range.ensures.ends (lt_holds _ _ (sym c.is_below.ensures ∙ c.if-is_below.true)),
-)
+pub returns-in_default : goal.returns-in_default
+returns-in_default g c =
+    let rank = g.T.Integer.rank in
+    nothing_taken g.VCL.Value.PartialEq.eq g.VCR.Value.PartialEq.eq (rank c.args.start) (rank c.skip-end.result) c.args.left.now c.skip-end.new.left c.args.right.now c.skip-end.new.right
+    c.requires.left c.requires.right c.requires.starts
+    (elim c.in_default.branch [
+      | in_default-via-in-Some+in_default w ↦ inr w.in_default.ensures'.ends
+      | in_default-via-in_default w ↦ inl (sym (ap (option_map (ranks_of rank)) w.in_default.is-0) ∙ c.range.ensures.ends)
+    ])
+    c.skip-end.ensures.ends c.skip-end.ensures.left c.skip-end.ensures.right
 
-pub take-requires-clause-reaches : goal.take-requires-clause-reaches
-take-requires-clause-reaches g c = reaches_first _ _ _ _ c.args.left.now c.in-Some.ensures.ends c.lesser-end.ensures
+pub returns-then-is_below : goal.returns-then-is_below
+returns-then-is_below g c =
+    left_gone g.VCL.Value.PartialEq.eq g.VCR.Value.PartialEq.eq (g.T.Integer.rank c.args.start) _ _ _ _ _ _ refl refl
+    c.args.left.now c.advance_in_first.new.self c.args.right.now c.requires.left c.requires.right c.requires.starts
+    c.in-Some-Some.ensures.ends c.in-Some-Some.ensures'.ends (lt_holds _ _ (sym c.is_below.ensures ∙ c.if-is_below.true)) c.advance_in_first.ensures
 
-pub returns-clause-some : goal.returns-clause-some
-returns-clause-some g c =
+pub returns-then-is_below-2 : goal.returns-then-is_below-2
+returns-then-is_below-2 g c =
+    right_gone g.VCL.Value.PartialEq.eq g.VCR.Value.PartialEq.eq (g.T.Integer.rank c.args.start) _ _ _ _ _ _ refl refl
+    c.args.left.now c.args.right.now c.advance_in_first-then-is_below-2.new.self c.requires.left c.requires.right c.requires.starts
+    c.in-Some-Some.ensures.ends c.in-Some-Some.ensures'.ends (lt_holds _ _ (sym c.is_below-2.ensures ∙ c.if-is_below-2.true)) c.advance_in_first-then-is_below-2.ensures
+
+pub take-requires-clause-has : goal.take-requires-clause-has
+take-requires-clause-has g c =
+    left_has g.VCL.Value.PartialEq.eq g.VCR.Value.PartialEq.eq (g.T.Integer.rank c.args.start) _ _ _ _ _ _ c.greater-first.ensures c.lesser-end.ensures
+    c.args.left.now c.args.right.now c.requires.left c.requires.right
+    c.in-Some-Some.ensures.ends c.in-Some-Some.ensures'.ends (lt_fails _ _ (sym c.is_below.ensures ∙ c.if-is_below.false)) (lt_fails _ _ (sym c.is_below-2.ensures ∙ c.if-is_below-2.false))
+
+pub returns : goal.returns
+returns g c =
     shared_taken g.VCL.Value.PartialEq.eq g.VCR.Value.PartialEq.eq (g.T.Integer.rank c.args.start) _ _ _ _ _ _ c.greater-first.ensures c.lesser-end.ensures
-    c.args.left.now c.take.new.self c.args.right.now c.advance.new.self (option_map g.VCL.ValueCarrier.shown c.in_ok-carrier.carrier)
-    c.in-Some.ensures.canonical c.in-Some-range.ensures.canonical c.requires.starts c.in-Some.ensures.ends c.in-Some-range.ensures.ends (lt_fails _ _ (sym c.is_below.ensures ∙ c.if-is_below.false))
-    c.in_ok-carrier.ensures.carrier c.in_ok-carrier.ensures.rest c.advance.ensures
+    c.args.left.now c.take.new.self c.args.right.now c.advance_in_first-2.new.self (Some (g.VCL.ValueCarrier.shown c.in_ok-carrier.carrier))
+    c.requires.left c.requires.right c.requires.starts
+    c.in-Some-Some.ensures.ends c.in-Some-Some.ensures'.ends (lt_fails _ _ (sym c.is_below.ensures ∙ c.if-is_below.false)) (lt_fails _ _ (sym c.is_below-2.ensures ∙ c.if-is_below-2.false))
+    c.in_ok-carrier.ensures.carrier c.take.ensures.rest c.advance_in_first-2.ensures
