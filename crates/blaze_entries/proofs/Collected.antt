@@ -1,20 +1,18 @@
 -- Nodes collected in one go: they are those of the list that was given, where its starts ascend.
-use Rattle.std.proofs.Common.{◌≡◌, ℤ, pos, ◌+ℤ◌, ◌≤ℤ◌, ◌<ℤ◌, Bool, All, List, [], ◌∷◌, map, Option, Some, None, refl, ◌∙◌, sym, subst, ap, arith}
+use Rattle.std.proofs.Common.{◌≡◌, ℤ, pos, ◌+ℤ◌, ◌≤ℤ◌, ◌<ℤ◌, Bool, true, false, cond, List, [], ◌∷◌, map, Option, Some, None, refl, ◌∙◌, sym, subst, ap, arith}
+use Rattle.std.specs.Prelude.{IsSome}
 use Rattle.std.specs.BTreeMap.{is_at, IsFromIterResult, BTreeMap}
 use Rattle.std.specs.Cmp.{IsTotalOrder, int_cmp_is}
 use Rattle.std.specs.List.{AllByRecursion}
 use Rattle.std.specs.List.Sorted.{IsStrictlySortedBy}
 use Rattle.std.specs.Map.{lookup, keys_of}
 use Rattle.std.specs.Option.{option_map}
-use Rattle.std.specs.Ordering.{int_cmp, eq_by_cmp}
-use Rattle.std.specs.declared.cmp.Ordering.{Ordering}
+use Rattle.std.specs.Ordering.{int_cmp, eq_by_cmp, on}
 use Rattle.std.specs.declared.cmp.Ordering.TheVariants.{Less, Equal, Greater}
-use Rattle.std.proofs.lemmas.Cmp.{eq_by_cmp_equiv}
+use Rattle.std.proofs.lemmas.Cmp.{eq_by_cmp_equiv, int_cmp_total}
 use Rattle.std.proofs.lemmas.Int.{ints}
-use Rattle.std.proofs.lemmas.List.Elements.{All-head, All-tail}
 use Rattle.std.proofs.lemmas.Map.Keys.{IsDistinct-from_sorted}
 use Rattle.std.proofs.lemmas.Map.Made.{update_all_none}
-use Rattle.blaze_int.specs.Ranked.{IsKey, IsRanked}
 use Rattle.blaze_entries.specs.Entries.{Entry, shown_entry}
 use Rattle.blaze_entries.specs.Places.{places, place_at, held, node_of}
 use Rattle.blaze_entries.specs.Starts.{StartsAscend, start_at}
@@ -50,75 +48,94 @@ module _ {V : Type 0} where
       λ i. one i ∷ others i)
       (λ l p q. absurd (some_none f (start_at f.lo (f ∷ fs)) (start_first f fs) (sym (h f.lo c.0 c.1) ∙ start_none f.lo e.lo high (e ∷ es) l (omega (arith, ints), a.1, a.2))))
 
+  -- a start that is found is one of those from b to high
+  start_within : (k b high : ℤ) (es : List (Entry V)) → StartsAscend b high es → IsSome (start_at k es) → (b ≤ℤ k) × (k ≤ℤ high)
+  start_within k b high [] a s = cc
+  start_within k b high (e ∷ es) a s = by_order k e.lo
+      (λ o p q. later (start_within k (e.lo +ℤ pos 1) high es a.2 (rw q at s)))
+      (λ o p q. (omega (arith, ints, a.0), omega (arith, ints, a.1)))
+      (λ o p q. later (start_within k (e.lo +ℤ pos 1) high es a.2 (rw q at s)))
+    where
+      later : ((e.lo +ℤ pos 1) ≤ℤ k) × (k ≤ℤ high) → (b ≤ℤ k) × (k ≤ℤ high)
+      later w = (omega (arith, ints, a.0, w.0), w.1)
+
+some_mapped : {X Y : Type 0} (f : X → Y) (o : Option X) → IsSome o → IsSome (option_map f o)
+some_mapped f None i = cc
+some_mapped f (Some x) i = refl
+
+some_later : {X : Type 0} (t : Bool) (x : X) (o : Option X) → IsSome o → IsSome (cond t (Some x) o)
+some_later true x o i = refl
+some_later false x o i = i
+
 less_says : (a b : ℤ) → int_cmp a b ≡ Less → a <ℤ b
 less_says a b h = by_order a b
     (λ o p q. o)
     (λ o p q. let no : Less ≡ Equal = sym h ∙ p in cc)
     (λ o p q. let no : Less ≡ Greater = sym h ∙ p in cc)
 
-module _ {T V : Type 0} (rank : T → ℤ) (of_rank : ℤ → T) (low high : ℤ) (cmp : T → T → Ordering) (eq : T → T → Bool) (ranked : IsRanked rank of_rank low high cmp eq) where
-  -- starts that ascend are in the order of keys, and the other way round
-  starts_sorted : (b : ℤ) → low ≤ℤ b → (xs : List (T × EndValue T V)) → StartsAscend b high (places rank xs) → IsStrictlySortedBy cmp (keys_of xs)
+-- the order of ranks is total
+ranks_total : {T : Type 0} (rank : T → ℤ) → IsTotalOrder (on rank int_cmp)
+ranks_total rank = record {
+  antisymm = λ x y. int_cmp_total.antisymm (rank x) (rank y);
+  trans = λ x y z. int_cmp_total.trans (rank x) (rank y) (rank z);
+  congr = λ x y z. int_cmp_total.congr (rank x) (rank y) (rank z);
+}
+
+module _ {T V : Type 0} (rank : T → ℤ) where
+  -- starts that ascend are in the order of ranks, and the other way round
+  starts_sorted : (b high : ℤ) (xs : List (T × EndValue T V)) → StartsAscend b high (places rank xs) → IsStrictlySortedBy (on rank int_cmp) (keys_of xs)
   unfolding IsStrictlySortedBy
-  starts_sorted b l [] a = tt
-  starts_sorted b l (x ∷ xs) a = (
-    all_later x (omega (arith, ints, a.0)) a.1 (rank x.0 +ℤ pos 1) (omega (arith, ints)) xs a.2,
-    starts_sorted (rank x.0 +ℤ pos 1) (omega (arith, ints, a.0)) xs a.2,
+  starts_sorted b high [] a = tt
+  starts_sorted b high (x ∷ xs) a = (
+    all_later x (rank x.0 +ℤ pos 1) (omega (arith, ints)) xs a.2,
+    starts_sorted (rank x.0 +ℤ pos 1) high xs a.2,
   )
     where
-      all_later : (x : T × EndValue T V) → low ≤ℤ rank x.0 → rank x.0 ≤ℤ high → (c : ℤ) → rank x.0 <ℤ c → (ys : List (T × EndValue T V)) → StartsAscend c high (places rank ys) → AllByRecursion (λ y. cmp x.0 y ≡ Less) (keys_of ys)
-      all_later x f t c u [] a = tt
-      all_later x f t c u (y ∷ ys) a = (
-        ranked.order x.0 y.0 f t (omega (arith, ints, a.0)) a.1 ∙ sym (int_cmp_is (rank x.0) (rank y.0) Less (omega (arith, ints, a.0))),
-        all_later x f t (rank y.0 +ℤ pos 1) (omega (arith, ints, a.0)) ys a.2,
+      all_later : (x : T × EndValue T V) (c : ℤ) → rank x.0 <ℤ c → (ys : List (T × EndValue T V)) → StartsAscend c high (places rank ys) → AllByRecursion (λ y. on rank int_cmp x.0 y ≡ Less) (keys_of ys)
+      all_later x c u [] a = tt
+      all_later x c u (y ∷ ys) a = (
+        sym (int_cmp_is (rank x.0) (rank y.0) Less (omega (arith, ints, a.0))),
+        all_later x (rank y.0 +ℤ pos 1) (omega (arith, ints, a.0)) ys a.2,
       )
 
-  sorted_starts : (xs : List (T × EndValue T V)) → IsStrictlySortedBy cmp (keys_of xs) → All (IsKey rank low high) (keys_of xs) → (b : ℤ) → ((x : T) (ys : List T) → keys_of xs ≡ x ∷ ys → b ≤ℤ rank x) → StartsAscend b high (places rank xs)
+  abbrev HasStart : List (T × EndValue T V) → T → Type 0
+  HasStart xs q = IsSome (lookup (is_at (on rank int_cmp q)) xs)
+
+  has_first : (x : T × EndValue T V) (xs : List (T × EndValue T V)) → HasStart (x ∷ xs) x.0
+  has_first x xs = by_order (rank x.0) (rank x.0) (λ o p q. absurd (omega (arith, ints))) (λ o p q. rw q refl) (λ o p q. absurd (omega (arith, ints)))
+
+  above : (r : ℤ) (q : T) (ys : List (T × EndValue T V)) → AllByRecursion (λ y. int_cmp r (rank y) ≡ Less) (keys_of ys) → HasStart ys q → (r +ℤ pos 1) ≤ℤ rank q
+  above r q [] s i = cc
+  above r q (y ∷ ys) s i = by_order (rank q) (rank y.0)
+      (λ o p e. above r q ys s.1 (rw e at i))
+      (λ o p e. let less = less_says r (rank y.0) s.0 in omega (arith, ints))
+      (λ o p e. above r q ys s.1 (rw e at i))
+
+  sorted_starts : (b high : ℤ) (xs : List (T × EndValue T V)) → IsStrictlySortedBy (on rank int_cmp) (keys_of xs) → ((q : T) → HasStart xs q → b ≤ℤ rank q) → ((q : T) → HasStart xs q → rank q ≤ℤ high) → StartsAscend b high (places rank xs)
   unfolding IsStrictlySortedBy
-  sorted_starts [] s k b f = tt
-  sorted_starts (x ∷ xs) s k b f =
-      let here = All-head (IsKey rank low high) x.0 (keys_of xs) k in
-      let others = All-tail (IsKey rank low high) x.0 (keys_of xs) k in (
-        f x.0 (keys_of xs) refl,
-        here.1,
-        sorted_starts xs s.1 others (rank x.0 +ℤ pos 1) (next x.0 (keys_of xs) here others s.0),
-      )
-    where
-      next : (x : T) (ys : List T) → IsKey rank low high x → All (IsKey rank low high) ys → AllByRecursion (λ y. cmp x y ≡ Less) ys → (y : T) (zs : List T) → ys ≡ y ∷ zs → (rank x +ℤ pos 1) ≤ℤ rank y
-      next x [] h k s y zs q = cc
-      next x (w ∷ ws) h k s y zs q =
-          let there = All-head (IsKey rank low high) w ws k in
-          let same : w ≡ y = cc in
-          let above = less_says (rank x) (rank w) (sym (ranked.order x w h.0 h.1 there.0 there.1) ∙ s.0) in
-          let at_one = ap rank same in
-          omega (arith, ints)
+  sorted_starts b high [] s f t = tt
+  sorted_starts b high (x ∷ xs) s f t = (
+    f x.0 (has_first x xs),
+    t x.0 (has_first x xs),
+    sorted_starts (rank x.0 +ℤ pos 1) high xs s.1 (λ q i. above (rank x.0) q xs s.0 i) (λ q i. t q (some_later (is_at (on rank int_cmp q) x.0) x.1 _ i)),
+  )
 
-  module _ (total : IsTotalOrder cmp) (xs : List (T × EndValue T V)) (n : BTreeMap T (EndValue T V)) (a : StartsAscend low high (places rank xs)) (made : IsFromIterResult cmp xs n) (k : All (IsKey rank low high) (keys_of n.entries)) where
-    low_low : low ≤ℤ low
-    low_low = omega (arith, ints)
+  module _ (low high : ℤ) (xs : List (T × EndValue T V)) (n : BTreeMap T (EndValue T V)) (a : StartsAscend low high (places rank xs)) (made : IsFromIterResult (on rank int_cmp) xs n) where
+    found : (q : T) → lookup (is_at (on rank int_cmp q)) n.entries ≡ lookup (is_at (on rank int_cmp q)) xs
+    found q = made.0 q ∙ update_all_none (eq_by_cmp_equiv (ranks_total rank)) (eq_by_cmp (on rank int_cmp)) (λ x y. refl) xs q (IsDistinct-from_sorted (on rank int_cmp) (keys_of xs) (starts_sorted low high xs a))
 
-    key_first : (ks : List T) → All (IsKey rank low high) ks → (x : T) (ys : List T) → ks ≡ x ∷ ys → low ≤ℤ rank x
-    key_first [] k x ys q = cc
-    key_first (w ∷ ws) k x ys q =
-        let here = All-head (IsKey rank low high) w ws k in
-        let same : w ≡ x = cc in
-        subst (λ z. low ≤ℤ rank z) same here.0
+    within : (q : T) → HasStart n.entries q → (low ≤ℤ rank q) × (rank q ≤ℤ high)
+    within q i = start_within (rank q) low high (places rank xs) a
+        (subst (λ o. IsSome o) (places_lookup rank q xs) (some_mapped (place_at rank q) (lookup (is_at (on rank int_cmp q)) xs) (subst (λ o. IsSome o) (found q) i)))
 
     starts : StartsAscend low high (places rank n.entries)
-    starts = sorted_starts n.entries made.1 k low (key_first (keys_of n.entries) k)
+    starts = sorted_starts low high n.entries made.1 (λ q i. (within q i).0) (λ q i. (within q i).1)
 
-    found : (q : T) → lookup (is_at (cmp q)) n.entries ≡ lookup (is_at (cmp q)) xs
-    found q = made.0 q ∙ update_all_none (eq_by_cmp_equiv total) (eq_by_cmp cmp) (λ x y. refl) xs q (IsDistinct-from_sorted cmp (keys_of xs) (starts_sorted low low_low xs a))
-
-    pub collected : places rank n.entries ≡ places rank xs
-    collected = same_starts low high (places rank n.entries) (places rank xs) starts a (λ j l u.
+    pub collected : (of_rank : ℤ → T) → ((z : ℤ) → low ≤ℤ z → z ≤ℤ high → rank (of_rank z) ≡ z) → places rank n.entries ≡ places rank xs
+    collected of_rank has_key = same_starts low high (places rank n.entries) (places rank xs) starts a (λ j l u.
         let q = of_rank j in
-        let at_rank = ranked.has_key j l u in
-        let from : low ≤ℤ rank q = omega (arith, ints) in
-        let to : rank q ≤ℤ high = omega (arith, ints) in
-        subst (λ z. start_at z (places rank n.entries) ≡ start_at z (places rank xs)) at_rank
-        (sym (places_lookup rank cmp low high ranked.order q from to low low_low n.entries starts) ∙ ap (option_map (place_at rank q)) (found q)
-        ∙ places_lookup rank cmp low high ranked.order q from to low low_low xs a))
+        subst (λ z. start_at z (places rank n.entries) ≡ start_at z (places rank xs)) (has_key j l u)
+        (sym (places_lookup rank q n.entries) ∙ ap (option_map (place_at rank q)) (found q) ∙ places_lookup rank q xs))
 
 -- the nodes of entries
 pub places_of_nodes : {T V : Type 0} (rank : T → ℤ) (xs : List (T × T × V)) → places rank (map node_of xs) ≡ map held (map (shown_entry rank (λ v. v)) xs)

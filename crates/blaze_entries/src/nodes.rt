@@ -3,6 +3,7 @@ ghost use Rattle.std.specs.BTreeMap.{is_at, get};
 ghost use Rattle.std.specs.Prelude.{◌≡◌, ℤ, pos, ◌+ℤ◌, Some, None, IsTrue, IsSome, IfSome, OnOk, OnErr};
 ghost use Rattle.std.specs.Prelude.{IfOk, slice_get};
 ghost use Rattle.std.specs.Option.{option_map, option_copied};
+ghost use Rattle.std.specs.Ordering.{int_cmp, on};
 ghost use Rattle.blaze_entries.specs.Changed.{changed};
 ghost use Rattle.blaze_entries.specs.Places.{places, place_lent, place_at};
 ghost use Rattle.blaze_entries.specs.Starts.{StartsAscend, below, from, first_entry, last_below};
@@ -42,7 +43,7 @@ pub type Tree<T, V> = BTreeMap<Start<T>, EndValue<T, V>>;
 // Moves the end of the node at a start.
 fn change_end<T: Integer, V>(tree: &mut Tree<T, V>, start: T, end: T)
     ensures { tree.new.entries
-        ≡ changed (is_at (T.cmp start)) (λ node. record node { end = end }) tree.old.entries }
+        ≡ changed (is_at (on T.rank int_cmp start)) (λ node. record node { end = end }) tree.old.entries }
 {
     if let Some(node) = tree.get_mut(&Start(start)) {
         node.end = end;
@@ -55,12 +56,12 @@ fn change_end_cloned<T: Integer, V: Clone>(
     start: T,
     end: T,
 ) -> Result<V, AllocError>
-    requires present { IsSome (get T.cmp tree.old start) }
-    requires full { IfSome (get T.cmp tree.old start) (λ n. IsSome n.value) }
-    ensures value { IfOk result (λ value. IfSome (get T.cmp tree.old start)
+    requires present { IsSome (get (on T.rank int_cmp) tree.old start) }
+    requires full { IfSome (get (on T.rank int_cmp) tree.old start) (λ n. IsSome n.value) }
+    ensures value { IfOk result (λ value. IfSome (get (on T.rank int_cmp) tree.old start)
         (λ n. IfSome n.value (λ v. V.is_clone v value))) }
     ensures moved { OnOk result (tree.new.entries
-        ≡ changed (is_at (T.cmp start)) (λ node. record node { end = end }) tree.old.entries) }
+        ≡ changed (is_at (on T.rank int_cmp start)) (λ node. record node { end = end }) tree.old.entries) }
     ensures err { OnErr result (tree.new.entries ≡ tree.old.entries) }
 {
     match tree.get_mut(&Start(start)) {
@@ -75,9 +76,9 @@ fn exchange<T: Integer, V: Drop>(
     start: T,
     node: EndValue<T, V>,
 ) -> Option<EndValue<T, V>>
-    ensures nodes { tree.new.entries ≡ changed (is_at (T.cmp start)) (λ _. node) tree.old.entries }
+    ensures nodes { tree.new.entries ≡ changed (is_at (on T.rank int_cmp start)) (λ _. node) tree.old.entries }
     ensures old { option_map (place_at T.rank start) result
-        ≡ option_map (place_at T.rank start) (get T.cmp tree.old start) }
+        ≡ option_map (place_at T.rank start) (get (on T.rank int_cmp) tree.old start) }
 {
     match tree.get_mut(&Start(start)) {
         Some(old) => Some(mem::replace(old, node)),
@@ -87,11 +88,9 @@ fn exchange<T: Integer, V: Drop>(
 
 /// The node with the greatest start below a key.
 pub fn node_below<T: Integer, V>(tree: &Tree<T, V>, key: T) -> Option<(&Start<T>, &EndValue<T, V>)>
-    requires { StartsAscend T.low T.high (places T.rank tree.now.entries) }
     ensures { option_map (place_lent T.rank) result
         ≡ last_below (T.rank key) (places T.rank tree.now.entries) }
 {
-    key.in_hand();
     tree.range(..Start(key)).next_back()
 }
 
@@ -103,12 +102,8 @@ pub fn nodes_up_to<'a, T: Integer, V>(
     requires { StartsAscend T.low T.high (places T.rank tree.now.entries) }
     ensures { places T.rank result ≡ below (T.rank key +ℤ pos 1) (places T.rank tree.now.entries) }
 {
-    key.in_hand();
     match key.checked_add_one() {
-        Some(next) => {
-            next.in_hand();
-            tree.range(..Start(next))
-        }
+        Some(next) => tree.range(..Start(next)),
         None => tree.range(..),
     }
 }
@@ -130,10 +125,8 @@ pub fn nodes_from<'a, T: Integer, V>(
     tree: &'a Tree<T, V>,
     key: T,
 ) -> btree_map::Range<'a, Start<T>, EndValue<T, V>>
-    requires { StartsAscend T.low T.high (places T.rank tree.now.entries) }
     ensures { places T.rank result ≡ from (T.rank key) (places T.rank tree.now.entries) }
 {
-    key.in_hand();
     tree.range(Start(key)..)
 }
 
@@ -142,7 +135,6 @@ pub fn node_at_or_above<T: Integer, V>(
     tree: &Tree<T, V>,
     key: T,
 ) -> Option<(&Start<T>, &EndValue<T, V>)>
-    requires { StartsAscend T.low T.high (places T.rank tree.now.entries) }
     ensures { option_map (place_lent T.rank) result
         ≡ first_from (T.rank key) (places T.rank tree.now.entries) }
 {
@@ -170,11 +162,9 @@ fn first_node<T: Integer, V>(tree: &Tree<T, V>) -> Option<&EndValue<T, V>>
 
 /// The node at a start.
 pub fn node_at<T: Integer, V>(tree: &Tree<T, V>, start: T) -> Option<&EndValue<T, V>>
-    requires { StartsAscend T.low T.high (places T.rank tree.now.entries) }
     ensures { option_map (place_at T.rank start) (option_copied result)
         ≡ start_at (T.rank start) (places T.rank tree.now.entries) }
 {
-    start.in_hand();
     if is_first(tree, start) {
         first_node(tree)
     } else {
@@ -188,12 +178,10 @@ pub fn insert<T: Integer, V: Drop>(
     start: T,
     node: EndValue<T, V>,
 ) -> Result<(), AllocError>
-    requires { StartsAscend T.low T.high (places T.rank tree.old.entries) }
     ensures ok { OnOk result (places T.rank tree.new.entries
         ≡ with_entry (place_at T.rank start node) (places T.rank tree.old.entries)) }
     ensures err { OnErr result (tree.new.entries ≡ tree.old.entries) }
 {
-    start.in_hand();
     tree.insert(Start(start), node)?;
     Ok(())
 }
@@ -213,13 +201,11 @@ fn take_first<T: Integer, V>(tree: &mut Tree<T, V>, start: T) -> Option<EndValue
 
 /// Takes the node at a start out.
 pub fn remove<T: Integer, V>(tree: &mut Tree<T, V>, start: T) -> Option<EndValue<T, V>>
-    requires { StartsAscend T.low T.high (places T.rank tree.old.entries) }
     ensures nodes { places T.rank tree.new.entries
         ≡ without (T.rank start) (places T.rank tree.old.entries) }
     ensures old { option_map (place_at T.rank start) result
         ≡ start_at (T.rank start) (places T.rank tree.old.entries) }
 {
-    start.in_hand();
     if is_first(tree, start) {
         take_first(tree, start)
     } else {
@@ -229,11 +215,9 @@ pub fn remove<T: Integer, V>(tree: &mut Tree<T, V>, start: T) -> Option<EndValue
 
 /// Moves the end of the node at a start.
 pub fn set_end<T: Integer, V>(tree: &mut Tree<T, V>, start: T, end: T)
-    requires { StartsAscend T.low T.high (places T.rank tree.old.entries) }
     ensures { places T.rank tree.new.entries
         ≡ with_end (T.rank start) (T.rank end) (places T.rank tree.old.entries) }
 {
-    start.in_hand();
     change_end(tree, start, end);
 }
 
@@ -243,7 +227,6 @@ pub fn set_end_cloned<T: Integer, V: Clone>(
     start: T,
     end: T,
 ) -> Result<V, AllocError>
-    requires starts { StartsAscend T.low T.high (places T.rank tree.old.entries) }
     requires present { IsSome (start_at (T.rank start) (places T.rank tree.old.entries)) }
     requires full { IfSome (start_at (T.rank start) (places T.rank tree.old.entries))
         (λ e. IsSome e.value) }
@@ -254,7 +237,6 @@ pub fn set_end_cloned<T: Integer, V: Clone>(
         ≡ with_end (T.rank start) (T.rank end) (places T.rank tree.old.entries)) }
     ensures err { OnErr result (tree.new.entries ≡ tree.old.entries) }
 {
-    start.in_hand();
     change_end_cloned(tree, start, end)
 }
 
@@ -264,27 +246,23 @@ pub fn replace<T: Integer, V: Drop>(
     start: T,
     node: EndValue<T, V>,
 ) -> Option<EndValue<T, V>>
-    requires { StartsAscend T.low T.high (places T.rank tree.old.entries) }
     ensures nodes { places T.rank tree.new.entries
         ≡ with_end_value (T.rank start) (T.rank node.end) node.value
         (places T.rank tree.old.entries) }
     ensures old { option_map (place_at T.rank start) result
         ≡ start_at (T.rank start) (places T.rank tree.old.entries) }
 {
-    start.in_hand();
     exchange(tree, start, node)
 }
 
 /// Keeps the nodes that start below a key, and answers the others.
 pub fn split_off<T: Integer, V>(tree: &mut Tree<T, V>, key: T) -> Result<Tree<T, V>, AllocError>
-    requires { StartsAscend T.low T.high (places T.rank tree.old.entries) }
     ensures below { OnOk result (places T.rank tree.new.entries
         ≡ below (T.rank key) (places T.rank tree.old.entries)) }
     ensures from { IfOk result (λ others. places T.rank others.entries
         ≡ from (T.rank key) (places T.rank tree.old.entries)) }
     ensures err { OnErr result (tree.new.entries ≡ tree.old.entries) }
 {
-    key.in_hand();
     let others = tree.split_off(&Start(key))?;
     Ok(others)
 }
@@ -304,8 +282,6 @@ pub fn move_node<T: Integer, V: Drop>(
         (places T.rank tree.new.entries)) }
     ensures err { OnErr result (tree.new.entries ≡ tree.old.entries) }
 {
-    from.in_hand();
-    to.in_hand();
     insert(tree, to, place)?;
     if let Some(node) = remove(tree, from) {
         replace(tree, to, node);
@@ -330,8 +306,6 @@ pub fn replace_front<T: Integer, V: Drop>(
         (places T.rank tree.old.entries) (places T.rank tree.new.entries)) }
     ensures err { OnErr result (tree.new.entries ≡ tree.old.entries) }
 {
-    start.in_hand();
-    to.in_hand();
     insert(tree, to, place)?;
     if let Some(node) = replace(tree, start, front) {
         replace(tree, to, node);

@@ -1,13 +1,17 @@
 //! Starts, as the tree compares them.
 ghost use Rattle.std.specs.Prelude.{◌≡◌, ◌≤ℤ◌};
+ghost use Rattle.std.specs.Cmp.Rules.{comparing};
+ghost use Rattle.std.specs.Ordering.{as_partial_cmp, int_cmp, int_eq, on};
+ghost use Rattle.std.proofs.Common.{rules};
 
 use blaze_int::Integer;
+use blaze_int::compare::is_below;
 use std::alloc::AllocError;
 use std::cmp::Ordering;
 use std::marker::Model;
 
 /// The first key of an entry. A contract sees it as the key.
-#[derive(Copy, PartialEq, Eq, PartialOrd)]
+#[derive(Copy)]
 pub struct Start<T>(pub T);
 
 impl<T> Model for Start<T> {
@@ -16,16 +20,6 @@ impl<T> Model for Start<T> {
     ghost view = { λ s. s.0 };
 
     ghost inverse = { λ key. record { 0 = key } };
-}
-
-impl<T: Integer> Start<T> {
-    /// Does nothing; its contract says that a start in hand is a key.
-    pub fn in_hand(self)
-        ensures from { T.low ≤ℤ T.rank self }
-        ensures to { T.rank self ≤ℤ T.high }
-    {
-        self.0.in_hand();
-    }
 }
 
 impl<T: Copy> Clone for Start<T> {
@@ -38,27 +32,55 @@ impl<T: Copy> Clone for Start<T> {
 
 // Whether two keys are the same.
 #[inline(never)]
-fn is_same<T: Ord + Copy>(key: T, other: T) -> bool
-    ensures { result ≡ T.eq key other }
+fn is_same<T: Integer>(key: T, other: T) -> bool
+    ensures { result ≡ int_eq (T.rank key) (T.rank other) }
 {
+    key.in_hand();
+    other.in_hand();
     key == other
 }
 
-/// The order of the keys. Greater and less are told at once, and the same out of line: so the compiler keeps a search of the
-/// tree to one branch for each key, where by the order of the number types it works out all three answers for each.
-impl<T: Ord + Copy> Ord for Start<T> {
-    ghost cmp = { T.cmp };
+/// Starts are the same where their ranks are.
+impl<T: Integer> PartialEq for Start<T> {
+    ghost eq = { on T.rank int_eq };
 
-    ghost total = { T.total };
+    ghost laws = { Prim.search (comparing, rules) depth 9 };
 
-    ghost matches_partial_cmp = { T.matches_partial_cmp };
+    fn eq(&self, other: &Self) -> bool {
+        is_same(self.0, other.0)
+    }
+}
 
-    ghost matches_eq = { T.matches_eq };
+impl<T: Integer> Eq for Start<T> {
+    ghost laws = { Prim.search (comparing, rules) depth 9 };
+}
+
+impl<T: Integer> PartialOrd for Start<T> {
+    ghost partial_cmp = { as_partial_cmp (on T.rank int_cmp) };
+
+    ghost laws = { Prim.search (comparing, rules) depth 9 };
+
+    fn partial_cmp(&self, other: &Self) -> Option<Ordering> {
+        Some(self.cmp(other))
+    }
+}
+
+/// The order of the ranks, which is that of the keys. Greater and less are told at once, and the same out of line: so the
+/// compiler keeps a search of the tree to one branch for each key, where by the order of the number types it works out all
+/// three answers for each.
+impl<T: Integer> Ord for Start<T> {
+    ghost cmp = { on T.rank int_cmp };
+
+    ghost total = { Prim.search (comparing, rules) depth 9 };
+
+    ghost matches_partial_cmp = { Prim.search (comparing, rules) depth 9 };
+
+    ghost matches_eq = { Prim.search (comparing, rules) depth 9 };
 
     fn cmp(&self, other: &Self) -> Ordering {
-        if other.0 < self.0 {
+        if is_below(other.0, self.0) {
             Ordering::Greater
-        } else if self.0 < other.0 {
+        } else if is_below(self.0, other.0) {
             Ordering::Less
         } else if is_same(self.0, other.0) {
             Ordering::Equal

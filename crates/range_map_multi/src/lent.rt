@@ -1,6 +1,6 @@
 //! Operations between many maps that are lent, as they are or by references. The maps show that the keys outlive the loan,
 //! which code that is generic over keys has to know where it calls a function of streams.
-ghost use Rattle.std.specs.Prelude.{◌≡◌, ◌<◌, List, length, map, IfOk};
+ghost use Rattle.std.specs.Prelude.{◌≡◌, ◌<◌, List, length, map, refl, IfOk};
 ghost use Rattle.blaze_table.specs.Entries.{Entry};
 ghost use Rattle.blaze_table.specs.Painted.{ClonesAreAlike};
 ghost use Rattle.range_map_multi.specs.Many.{last_value, last_of_all, last_of_odd, IsChosenOfMany};
@@ -12,20 +12,43 @@ use blaze_streams::RangeValuesIter;
 use range_map_blaze::RangeMapBlaze;
 use std::alloc::{AllocError, Global};
 
+/// A value, or a reference to one.
+pub trait Lends<A>: Drop {
+    // The value.
+    ghost value: { Self → A };
+
+    /// The value, lent.
+    fn lent(&self) -> &A
+        ensures { result.now ≡ value self.now };
+}
+
 /// A map, or a reference to one.
-pub trait AsMap<T: Integer, V: Eq + Clone>: Drop {
+pub trait AsMap<T: Integer, V: Eq + Clone>: Lends<RangeMapBlaze<T, V>> {
     // The entries of the map.
     ghost shown: { Self → List (Entry V) };
 
-    /// The map.
-    fn as_map(&self) -> &RangeMapBlaze<T, V>
-        ensures { result.now.entries ≡ shown self.now };
+    // They are those of the map that is lent.
+    ghost are_shown: { (m : Self) → (Self.value m).entries ≡ shown m };
+}
+
+impl<T: Integer, V: Eq + Clone> Lends<RangeMapBlaze<T, V>> for RangeMapBlaze<T, V> {
+    ghost value = { λ m. m };
+
+    fn lent(&self) -> &RangeMapBlaze<T, V> {
+        self
+    }
 }
 
 impl<T: Integer, V: Eq + Clone> AsMap<T, V> for RangeMapBlaze<T, V> {
     ghost shown = { λ m. m.entries };
 
-    fn as_map(&self) -> &RangeMapBlaze<T, V> {
+    ghost are_shown = { λ m. refl };
+}
+
+impl<'a, T: Integer, V: Eq + Clone> Lends<RangeMapBlaze<T, V>> for &'a RangeMapBlaze<T, V> {
+    ghost value = { λ m. m.now };
+
+    fn lent(&self) -> &RangeMapBlaze<T, V> {
         self
     }
 }
@@ -33,9 +56,16 @@ impl<T: Integer, V: Eq + Clone> AsMap<T, V> for RangeMapBlaze<T, V> {
 impl<'a, T: Integer, V: Eq + Clone> AsMap<T, V> for &'a RangeMapBlaze<T, V> {
     ghost shown = { λ m. m.now.entries };
 
-    fn as_map(&self) -> &RangeMapBlaze<T, V> {
-        self
-    }
+    ghost are_shown = { λ m. refl };
+}
+
+// The entries of a map, as a stream.
+fn entries_of<'a, T: Integer, V: Eq + Clone, M: AsMap<T, V>>(
+    map: &'a M,
+) -> RangeValuesIter<'a, T, V>
+    ensures { result ≡ M.shown map.now }
+{
+    map.lent().range_values()
 }
 
 /// The entries of each map, as streams.
@@ -46,8 +76,8 @@ pub fn streams_of<'a, T: Integer, V: Eq + Clone, M: AsMap<T, V>>(
     ensures { IfOk result (λ streams. streams.items ≡ map M.shown maps.now) }
 {
     let mut streams = Vec::new(alloc);
-    for lent in maps {
-        streams.push(lent.as_map().range_values())?;
+    for map in maps {
+        streams.push(entries_of(map))?;
     }
     Ok(streams)
 }

@@ -11,6 +11,6 @@ returns g c =
     let low = g.T.Integer.low in
     let high = g.T.Integer.high in
     let items = c.args.entries.items in
-    collected rank g.T.Integer.of_rank low high g.T.Ord.cmp g.T.PartialEq.eq g.met.T.Integer.ranked g.met.T.Ord.total (map node_of items) c.in_ok-tree.tree
+    collected rank low high (map node_of items) c.in_ok-tree.tree
     (subst (StartsAscend low high) (sym (places_of_nodes rank items)) (starts_of_held low high _ c.requires))
-    c.in_ok-tree.ensures c.starts_in_hand.ensures ∙ places_of_nodes rank items
+    c.in_ok-tree.ensures g.T.Integer.of_rank g.met.T.Integer.ranked.has_key ∙ places_of_nodes rank items

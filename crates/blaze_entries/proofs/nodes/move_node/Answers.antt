@@ -1,19 +1,5 @@
-use Rattle.std.proofs.Common.{sym, subst}
-use Rattle.blaze_entries.specs.Starts.{StartsAscend}
-use Rattle.blaze_entries.proofs.Ascending.{start_with_entry, start_without}
 use Rattle.blaze_entries.proofs.Moves.{is_start_moved, still_there}
 use Rattle.blaze_entries.proofs.nodes.move_node.Goals as goal
-
-pub remove-requires : goal.remove-requires
-remove-requires g c =
-    subst (StartsAscend g.T.Integer.low g.T.Integer.high) (sym c.in_ok-insert.ensures.ok)
-    (start_with_entry g.T.Integer.low g.T.Integer.high _ _ c.in_hand-2.ensures.from c.in_hand-2.ensures.to c.requires.starts)
-
-pub replace-requires : goal.replace-requires
-replace-requires g c =
-    subst (StartsAscend g.T.Integer.low g.T.Integer.high) (sym c.in-Some.ensures.nodes)
-    (start_without g.T.Integer.low g.T.Integer.high _ _ (subst (StartsAscend g.T.Integer.low g.T.Integer.high) (sym c.in_ok-insert.ensures.ok)
-    (start_with_entry g.T.Integer.low g.T.Integer.high _ _ c.in_hand-2.ensures.from c.in_hand-2.ensures.to c.requires.starts)))
 
 pub returns-in-Some-clause-ok : goal.returns-in-Some-clause-ok
 returns-in-Some-clause-ok g c =

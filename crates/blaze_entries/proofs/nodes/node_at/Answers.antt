@@ -1,5 +1,4 @@
-use Rattle.std.proofs.Common.{ap, ◌∙◌, arith}
-use Rattle.std.proofs.lemmas.Int.{ints}
+use Rattle.std.proofs.Common.{ap, ◌∙◌}
 use Rattle.std.specs.Option.{option_map}
 use Rattle.blaze_entries.specs.Places.{place_at}
 use Rattle.blaze_entries.proofs.FirstNodes.{first_found}
@@ -10,7 +9,7 @@ pub returns-else-is_first : goal.returns-else-is_first
 returns-else-is_first g c =
     let rank = g.T.Integer.rank in
     ap (option_map (place_at rank c.args.start)) c.get.ensures.value
-    ∙ places_lookup rank g.T.Ord.cmp g.T.Integer.low g.T.Integer.high g.met.T.Integer.ranked.order c.args.start c.in_hand.ensures.from c.in_hand.ensures.to g.T.Integer.low (omega (arith, ints)) c.args.tree.now.entries c.requires
+    ∙ places_lookup rank c.args.start c.args.tree.now.entries
 
 pub returns-then-is_first : goal.returns-then-is_first
 returns-then-is_first g c =

@@ -12,4 +12,4 @@ returns g c =
     let rank = g.T.Integer.rank in
     map_twice deref_pair (place_of rank) c.next_back.result
     ∙ ap (option_map (place_of rank)) (last_taken deref_pair c.range.result c.next_back.new.self c.next_back.result c.next_back.ensures.steps ∙ ap (last_or None) (c.range.ensures.between tt))
-    ∙ places_before rank g.T.Ord.cmp g.T.Integer.low g.T.Integer.high g.met.T.Integer.ranked.order c.args.key c.in_hand.ensures.from c.in_hand.ensures.to c.args.tree.now.entries c.requires
+    ∙ places_before rank c.args.key c.args.tree.now.entries

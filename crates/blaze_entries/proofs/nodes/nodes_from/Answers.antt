@@ -7,4 +7,4 @@ pub returns : goal.returns
 returns g c =
     let rank = g.T.Integer.rank in
     ap (places rank) (c.range.ensures.between tt)
-    ∙ places_at_or_above rank g.T.Ord.cmp g.T.Integer.low g.T.Integer.high g.met.T.Integer.ranked.order c.args.key c.in_hand.ensures.from c.in_hand.ensures.to c.args.tree.now.entries c.requires
+    ∙ places_at_or_above rank c.args.key c.args.tree.now.entries

@@ -8,12 +8,12 @@ pub returns-in-Some : goal.returns-in-Some
 returns-in-Some g c =
     let rank = g.T.Integer.rank in
     ap (places rank) (c.range.ensures.between tt)
-    ∙ places_between rank g.T.Ord.cmp g.T.Integer.low g.T.Integer.high g.met.T.Integer.ranked.order c.in-Some.next c.in_hand-in-Some.ensures.from c.in_hand-in-Some.ensures.to c.args.tree.now.entries c.requires
+    ∙ places_between rank c.in-Some.next c.args.tree.now.entries
     ∙ ap (λ z. below z (places rank c.args.tree.now.entries)) c.in-Some.ensures.0
 
 pub returns-in-None : goal.returns-in-None
 returns-in-None g c =
     let rank = g.T.Integer.rank in
     ap (places rank) (c.range-in-None.ensures.between tt)
-    ∙ places_all rank g.T.Ord.cmp g.T.Integer.low g.T.Integer.high g.met.T.Integer.ranked.order c.args.key c.in_hand.ensures.from c.in_hand.ensures.to c.args.tree.now.entries c.requires
+    ∙ places_all rank g.T.Integer.low g.T.Integer.high c.args.tree.now.entries c.requires
     ∙ ap (λ z. below (z +ℤ pos 1) (places rank c.args.tree.now.entries)) (sym c.in-None.ensures)

@@ -1,5 +1,4 @@
-use Rattle.std.proofs.Common.{ap, ◌∙◌, arith}
-use Rattle.std.proofs.lemmas.Int.{ints}
+use Rattle.std.proofs.Common.{ap, ◌∙◌}
 use Rattle.std.specs.Option.{option_map}
 use Rattle.blaze_entries.specs.Places.{places, place_at}
 use Rattle.blaze_entries.proofs.NodeLists.{places_remove, places_lookup}
@@ -9,10 +8,10 @@ pub returns-else-is_first-clause-nodes : goal.returns-else-is_first-clause-nodes
 returns-else-is_first-clause-nodes g c =
     let rank = g.T.Integer.rank in
     ap (places rank) c.remove.ensures.entries
-    ∙ places_remove rank g.T.Ord.cmp g.T.Integer.low g.T.Integer.high g.met.T.Integer.ranked.order c.args.start c.in_hand.ensures.from c.in_hand.ensures.to g.T.Integer.low (omega (arith, ints)) c.args.tree.now.entries c.requires
+    ∙ places_remove rank c.args.start c.args.tree.now.entries
 
 pub returns-else-is_first-clause-old : goal.returns-else-is_first-clause-old
 returns-else-is_first-clause-old g c =
     let rank = g.T.Integer.rank in
     ap (option_map (place_at rank c.args.start)) c.remove.ensures.value
-    ∙ places_lookup rank g.T.Ord.cmp g.T.Integer.low g.T.Integer.high g.met.T.Integer.ranked.order c.args.start c.in_hand.ensures.from c.in_hand.ensures.to g.T.Integer.low (omega (arith, ints)) c.args.tree.now.entries c.requires
+    ∙ places_lookup rank c.args.start c.args.tree.now.entries

@@ -1,5 +1,4 @@
-use Rattle.std.proofs.Common.{ap, ◌∙◌, arith}
-use Rattle.std.proofs.lemmas.Int.{ints}
+use Rattle.std.proofs.Common.{ap, ◌∙◌}
 use Rattle.blaze_entries.specs.Places.{places}
 use Rattle.blaze_entries.proofs.NodeLists.{places_set, places_lookup}
 use Rattle.blaze_entries.proofs.nodes.replace.Goals as goal
@@ -8,10 +7,10 @@ pub returns-clause-nodes : goal.returns-clause-nodes
 returns-clause-nodes g c =
     let rank = g.T.Integer.rank in
     ap (places rank) c.exchange.ensures.nodes
-    ∙ places_set rank g.T.Ord.cmp g.T.Integer.low g.T.Integer.high g.met.T.Integer.ranked.order c.args.start c.in_hand.ensures.from c.in_hand.ensures.to c.args.node.end c.args.node.value g.T.Integer.low (omega (arith, ints)) c.args.tree.now.entries c.requires
+    ∙ places_set rank c.args.start c.args.node.end c.args.node.value c.args.tree.now.entries
 
 pub returns-clause-old : goal.returns-clause-old
 returns-clause-old g c =
     let rank = g.T.Integer.rank in
     c.exchange.ensures.old
-    ∙ places_lookup rank g.T.Ord.cmp g.T.Integer.low g.T.Integer.high g.met.T.Integer.ranked.order c.args.start c.in_hand.ensures.from c.in_hand.ensures.to g.T.Integer.low (omega (arith, ints)) c.args.tree.now.entries c.requires
+    ∙ places_lookup rank c.args.start c.args.tree.now.entries

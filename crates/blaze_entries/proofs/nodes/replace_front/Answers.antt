@@ -1,13 +1,5 @@
-use Rattle.std.proofs.Common.{sym, subst}
-use Rattle.blaze_entries.specs.Starts.{StartsAscend}
-use Rattle.blaze_entries.proofs.Ascending.{start_with_entry, start_with_end_value}
 use Rattle.blaze_entries.proofs.Moves.{is_front_replaced, still_there}
 use Rattle.blaze_entries.proofs.nodes.replace_front.Goals as goal
-
-pub replace-requires : goal.replace-requires
-replace-requires g c =
-    subst (StartsAscend g.T.Integer.low g.T.Integer.high) (sym c.in_ok-insert.ensures.ok)
-    (start_with_entry g.T.Integer.low g.T.Integer.high _ _ c.in_hand-2.ensures.from c.in_hand-2.ensures.to c.requires.starts)
 
 pub returns-in-Some-clause-ok : goal.returns-in-Some-clause-ok
 returns-in-Some-clause-ok g c =
@@ -16,9 +8,3 @@ returns-in-Some-clause-ok g c =
 pub returns-in_default-clause-ok : goal.returns-in_default-clause-ok
 returns-in_default-clause-ok g c =
     absurd (still_there _ _ _ _ _ _ c.requires.present c.requires.absent c.in_ok-insert.ensures.ok (rw c.in_default.is at c.replace.ensures.old))
-
-pub replace-requires-in-Some : goal.replace-requires-in-Some
-replace-requires-in-Some g c =
-    subst (StartsAscend g.T.Integer.low g.T.Integer.high) (sym c.in-Some.ensures.nodes)
-    (start_with_end_value g.T.Integer.low g.T.Integer.high _ _ _ _ (subst (StartsAscend g.T.Integer.low g.T.Integer.high) (sym c.in_ok-insert.ensures.ok)
-    (start_with_entry g.T.Integer.low g.T.Integer.high _ _ c.in_hand-2.ensures.from c.in_hand-2.ensures.to c.requires.starts)))

@@ -7,10 +7,10 @@ pub returns-clause-below : goal.returns-clause-below
 returns-clause-below g c =
     let rank = g.T.Integer.rank in
     ap (places rank) c.in_ok-others.ensures.below
-    ∙ places_below rank g.T.Ord.cmp g.T.Integer.low g.T.Integer.high g.met.T.Integer.ranked.order c.args.key c.in_hand.ensures.from c.in_hand.ensures.to c.args.tree.now.entries c.requires
+    ∙ places_below rank c.args.key c.args.tree.now.entries
 
 pub returns-clause-from : goal.returns-clause-from
 returns-clause-from g c =
     let rank = g.T.Integer.rank in
     ap (places rank) c.in_ok-others.ensures.from
-    ∙ places_from rank g.T.Ord.cmp g.T.Integer.low g.T.Integer.high g.met.T.Integer.ranked.order c.args.key c.in_hand.ensures.from c.in_hand.ensures.to c.args.tree.now.entries c.requires
+    ∙ places_from rank c.args.key c.args.tree.now.entries

@@ -1,11 +1,8 @@
 use Rattle.blaze_entries.specs.Places.{places, full}
 use Rattle.blaze_entries.specs.Starts.{without}
 use Rattle.blaze_entries.proofs.Ascending.{start_without}
-use Rattle.blaze_entries.proofs.Held.{places_ascend, are_held, edited_places, full_of, without-held}
+use Rattle.blaze_entries.proofs.Held.{are_held, edited_places, full_of, without-held}
 use Rattle.blaze_entries.proofs.retain.drop_entry.Goals as goal
-
-pub remove-requires : goal.remove-requires
-remove-requires g c = places_ascend g.T.Integer.low g.T.Integer.high _ c.requires
 
 pub returns-clause-held : goal.returns-clause-held
 returns-clause-held g c =

@@ -4,12 +4,8 @@ use Rattle.blaze_entries.specs.Counted.{CountedEntries}
 use Rattle.blaze_entries.specs.Found.{found_in, found_of}
 use Rattle.blaze_entries.specs.Places.{places, full}
 use Rattle.blaze_entries.specs.Starts.{first_from}
-use Rattle.blaze_entries.proofs.Held.{places_ascend}
 use Rattle.blaze_entries.proofs.Lent.{full_lent, found_from}
 use Rattle.blaze_entries.proofs.counted.Counted.at_or_above.Goals as goal
-
-pub node_at_or_above-requires : goal.node_at_or_above-requires
-node_at_or_above-requires g c = places_ascend g.T.Integer.low g.T.Integer.high _ c.self.invariant
 
 pub found-requires : goal.found-requires
 found-requires g c =

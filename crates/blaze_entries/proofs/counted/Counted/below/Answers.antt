@@ -4,12 +4,8 @@ use Rattle.blaze_entries.specs.Counted.{CountedEntries}
 use Rattle.blaze_entries.specs.Found.{found_in, found_of}
 use Rattle.blaze_entries.specs.Places.{places, full}
 use Rattle.blaze_entries.specs.Starts.{last_below}
-use Rattle.blaze_entries.proofs.Held.{places_ascend}
 use Rattle.blaze_entries.proofs.Lent.{full_lent, found_below}
 use Rattle.blaze_entries.proofs.counted.Counted.below.Goals as goal
-
-pub node_below-requires : goal.node_below-requires
-node_below-requires g c = places_ascend g.T.Integer.low g.T.Integer.high _ c.self.invariant
 
 pub found-requires : goal.found-requires
 found-requires g c =

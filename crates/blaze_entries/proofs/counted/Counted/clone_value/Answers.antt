@@ -4,12 +4,8 @@ use Rattle.std.specs.Option.{option_copied}
 use Rattle.blaze_entries.specs.Counted.{CountedEntries}
 use Rattle.blaze_entries.specs.Places.{places, full}
 use Rattle.blaze_entries.specs.Starts.{start_at}
-use Rattle.blaze_entries.proofs.Held.{places_ascend}
 use Rattle.blaze_entries.proofs.Lent.{some_taken, full_taken, found_at, some_copied, each_copied, each_held}
 use Rattle.blaze_entries.proofs.counted.Counted.clone_value.Goals as goal
-
-pub node_at-requires : goal.node_at-requires
-node_at-requires g c = places_ascend g.T.Integer.low g.T.Integer.high _ c.self.invariant
 
 pub cloned-requires-clause-present : goal.cloned-requires-clause-present
 cloned-requires-clause-present g c =

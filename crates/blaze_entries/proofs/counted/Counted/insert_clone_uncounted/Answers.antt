@@ -5,12 +5,8 @@ use Rattle.blaze_entries.specs.Counted.{CountedEntries}
 use Rattle.blaze_entries.specs.Entries.{entry}
 use Rattle.blaze_entries.specs.Places.{places, full}
 use Rattle.blaze_entries.specs.Starts.{start_at, with_entry, IsCloneInserted}
-use Rattle.blaze_entries.proofs.Held.{places_ascend}
 use Rattle.blaze_entries.proofs.Lent.{some_taken, full_taken, found_at, some_copied, each_copied, clone_inserted}
 use Rattle.blaze_entries.proofs.counted.Counted.insert_clone_uncounted.Goals as goal
-
-pub node_at-requires : goal.node_at-requires
-node_at-requires g c = places_ascend g.T.Integer.low g.T.Integer.high _ c.self.invariant
 
 pub cloned-requires-clause-present : goal.cloned-requires-clause-present
 cloned-requires-clause-present g c =

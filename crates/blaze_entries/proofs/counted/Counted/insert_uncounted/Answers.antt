@@ -5,12 +5,9 @@ use Rattle.blaze_entries.specs.Entries.{entry}
 use Rattle.blaze_entries.specs.Places.{places, full, held}
 use Rattle.blaze_entries.specs.Starts.{with_entry, start_at}
 use Rattle.blaze_entries.proofs.Ascending.{start_with_entry, length-with_entry}
-use Rattle.blaze_entries.proofs.Held.{places_ascend, are_held, edited_places, full_of, with_entry-held}
+use Rattle.blaze_entries.proofs.Held.{are_held, edited_places, full_of, with_entry-held}
 use Rattle.blaze_entries.proofs.Views.{edited}
 use Rattle.blaze_entries.proofs.counted.Counted.insert_uncounted.Goals as goal
-
-pub insert-requires : goal.insert-requires
-insert-requires g c = places_ascend g.T.Integer.low g.T.Integer.high _ c.self.invariant
 
 pub invariant_of-self-2 : goal.invariant_of-self-2
 invariant_of-self-2 g c =

@@ -4,12 +4,8 @@ use Rattle.blaze_entries.specs.Counted.{CountedEntries}
 use Rattle.blaze_entries.specs.Found.{range_in, ranks_of}
 use Rattle.blaze_entries.specs.Places.{places, full}
 use Rattle.blaze_entries.specs.Starts.{first_from}
-use Rattle.blaze_entries.proofs.Held.{places_ascend}
 use Rattle.blaze_entries.proofs.Lent.{found_from}
 use Rattle.blaze_entries.proofs.counted.Counted.range_at_or_above.Goals as goal
-
-pub node_at_or_above-requires : goal.node_at_or_above-requires
-node_at_or_above-requires g c = places_ascend g.T.Integer.low g.T.Integer.high _ c.self.invariant
 
 pub returns-clause-found : goal.returns-clause-found
 returns-clause-found g c =

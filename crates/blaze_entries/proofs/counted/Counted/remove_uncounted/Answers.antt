@@ -5,13 +5,10 @@ use Rattle.blaze_entries.specs.Counted.{CountedEntries}
 use Rattle.blaze_entries.specs.Places.{places, full}
 use Rattle.blaze_entries.specs.Starts.{without, start_at}
 use Rattle.blaze_entries.proofs.Ascending.{start_without, length-without}
-use Rattle.blaze_entries.proofs.Held.{places_ascend, are_held, edited_places, full_of, without-held}
+use Rattle.blaze_entries.proofs.Held.{are_held, edited_places, full_of, without-held}
 use Rattle.blaze_entries.proofs.Lent.{some_taken, full_taken, value_taken, found_at}
 use Rattle.blaze_entries.proofs.Views.{edited}
 use Rattle.blaze_entries.proofs.counted.Counted.remove_uncounted.Goals as goal
-
-pub remove-requires : goal.remove-requires
-remove-requires g c = places_ascend g.T.Integer.low g.T.Integer.high _ c.self.invariant
 
 pub value_of-requires-clause-present : goal.value_of-requires-clause-present
 value_of-requires-clause-present g c =

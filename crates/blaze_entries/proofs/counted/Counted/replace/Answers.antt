@@ -2,12 +2,9 @@ use Rattle.std.specs.Prelude.{Some}
 use Rattle.blaze_entries.specs.Places.{places, full}
 use Rattle.blaze_entries.specs.Starts.{with_end_value}
 use Rattle.blaze_entries.proofs.Ascending.{start_with_end_value}
-use Rattle.blaze_entries.proofs.Held.{places_ascend, are_held, edited_places, full_of, with_end_value-held}
+use Rattle.blaze_entries.proofs.Held.{are_held, edited_places, full_of, with_end_value-held}
 use Rattle.blaze_entries.proofs.Views.{edited}
 use Rattle.blaze_entries.proofs.counted.Counted.replace.Goals as goal
-
-pub replace-requires : goal.replace-requires
-replace-requires g c = places_ascend g.T.Integer.low g.T.Integer.high _ c.self.invariant
 
 pub invariant_of-self : goal.invariant_of-self
 invariant_of-self g c =

@@ -1,12 +1,9 @@
 use Rattle.blaze_entries.specs.Places.{places, full}
 use Rattle.blaze_entries.specs.Starts.{with_end}
 use Rattle.blaze_entries.proofs.Ascending.{start_with_end}
-use Rattle.blaze_entries.proofs.Held.{places_ascend, are_held, edited_places, full_of, with_end-held}
+use Rattle.blaze_entries.proofs.Held.{are_held, edited_places, full_of, with_end-held}
 use Rattle.blaze_entries.proofs.Views.{edited}
 use Rattle.blaze_entries.proofs.counted.Counted.set_end.Goals as goal
-
-pub set_end-requires : goal.set_end-requires
-set_end-requires g c = places_ascend g.T.Integer.low g.T.Integer.high _ c.self.invariant
 
 pub invariant_of-self : goal.invariant_of-self
 invariant_of-self g c =

@@ -4,13 +4,10 @@ use Rattle.blaze_entries.specs.Counted.{CountedEntries}
 use Rattle.blaze_entries.specs.Places.{places, full}
 use Rattle.blaze_entries.specs.Starts.{start_at, with_end}
 use Rattle.blaze_entries.proofs.Ascending.{start_with_end}
-use Rattle.blaze_entries.proofs.Held.{places_ascend, are_held, edited_places, full_of, with_end-held}
+use Rattle.blaze_entries.proofs.Held.{are_held, edited_places, full_of, with_end-held}
 use Rattle.blaze_entries.proofs.Lent.{found_at, present_at, each_full, all_full}
 use Rattle.blaze_entries.proofs.Views.{looked_and_edited}
 use Rattle.blaze_entries.proofs.counted.Counted.set_end_cloned.Goals as goal
-
-pub set_end_cloned-requires-clause-starts : goal.set_end_cloned-requires-clause-starts
-set_end_cloned-requires-clause-starts g c = places_ascend g.T.Integer.low g.T.Integer.high _ c.self.invariant
 
 pub set_end_cloned-requires-clause-present : goal.set_end_cloned-requires-clause-present
 set_end_cloned-requires-clause-present g c =

@@ -4,12 +4,9 @@ use Rattle.blaze_entries.specs.Places.{places, full}
 use Rattle.blaze_entries.specs.Starts.{below, from}
 use Rattle.blaze_entries.proofs.Ascending.{start_lower}
 use Rattle.blaze_entries.proofs.Halves.{starts_from, starts_of_below}
-use Rattle.blaze_entries.proofs.Held.{places_ascend, are_held, edited_places, full_of, below-held, from-held}
+use Rattle.blaze_entries.proofs.Held.{are_held, edited_places, full_of, below-held, from-held}
 use Rattle.blaze_entries.proofs.Views.{edited, begun}
 use Rattle.blaze_entries.proofs.counted.Counted.split_off.Goals as goal
-
-pub split_off-requires : goal.split_off-requires
-split_off-requires g c = places_ascend g.T.Integer.low g.T.Integer.high _ c.self.invariant
 
 pub invariant_of-result : goal.invariant_of-result
 invariant_of-result g c =

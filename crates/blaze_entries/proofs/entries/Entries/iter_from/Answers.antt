@@ -2,11 +2,8 @@ use Rattle.std.proofs.Common.{◌∙◌, ap}
 use Rattle.blaze_entries.specs.Counted.{CountedEntries}
 use Rattle.blaze_entries.specs.Places.{places, full}
 use Rattle.blaze_entries.specs.Starts.{from}
-use Rattle.blaze_entries.proofs.Held.{places_ascend, edited_places, full_of, full_held, from-held}
+use Rattle.blaze_entries.proofs.Held.{edited_places, full_of, full_held, from-held}
 use Rattle.blaze_entries.proofs.entries.Entries.iter_from.Goals as goal
-
-pub nodes_from-requires : goal.nodes_from-requires
-nodes_from-requires g c = places_ascend g.T.Integer.low g.T.Integer.high _ c.counted.invariant
 
 pub new-requires : goal.new-requires
 new-requires g c =
