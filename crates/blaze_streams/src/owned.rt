@@ -29,6 +29,10 @@ impl<V: Eq + Clone> ValueCarrier for Owned<V> {
         self.0 == other.0
     }
 
+    fn has_value(&self, value: &V) -> bool {
+        self.0 == *value
+    }
+
     fn into_value(self) -> Result<V, AllocError> {
         let Owned(value) = self;
         Ok(value)

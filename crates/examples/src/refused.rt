@@ -5,6 +5,7 @@ ghost use Rattle.std.specs.Cmp.Rules.{comparing};
 ghost use Rattle.std.specs.Ordering.{on};
 
 use blaze_table::RangeTable;
+use range_map_blaze::RangeMapBlaze;
 use std::alloc::{AllocError, Global};
 use std::cell::Cell;
 
@@ -90,7 +91,20 @@ fn cut(rt: &HostRuntime, left: &Cell<u32>) -> Result<(), AllocError> {
     Ok(())
 }
 
-/// Paints, cuts and splits with no clone left, and with one.
+/// The values of one range on the keys of two ranges that touch: one clone, with as many left.
+fn shared(rt: &HostRuntime, left: &Cell<u32>) -> Result<(), AllocError> {
+    let mut keys = RangeMapBlaze::new(rt.alloc());
+    let _ = keys.ranges_insert(0..=4, Counted { number: 2, left })?;
+    let _ = keys.ranges_insert(5..=9, Counted { number: 3, left })?;
+    let mut map = RangeMapBlaze::new(rt.alloc());
+    let _ = map.ranges_insert(-1..=10, Counted { number: 1, left })?;
+    for (range, value) in (&keys & &map)?.range_values() {
+        let _ = println!(rt; "{range:?} {}, {} left", value.number, left.get());
+    }
+    Ok(())
+}
+
+/// Paints, cuts and splits with no clone left, and with one. An intersection takes one clone for a range of its own.
 pub fn clones(rt: &HostRuntime) -> Result<(), AllocError> {
     let left = Cell::new(0u32);
     paint(rt, &left, 4, 5)?;
@@ -98,5 +112,7 @@ pub fn clones(rt: &HostRuntime) -> Result<(), AllocError> {
     paint(rt, &left, 5, 9)?;
     cut(rt, &left)?;
     left.set(1);
-    cut(rt, &left)
+    cut(rt, &left)?;
+    left.set(1);
+    shared(rt, &left)
 }

@@ -62,13 +62,15 @@ pub fn checked_lists(rt: &HostRuntime) -> Result<(), Fault> {
     Ok(())
 }
 
-/// Prints the value of a carrier's copy, and whether the copy stands for an equal value.
+/// Prints the value of a carrier's copy, whether the copy stands for an equal value, and whether the carrier has that value.
 fn carry<VC: ValueCarrier<Value: Debug>>(rt: &HostRuntime, carrier: VC) -> Result<(), AllocError>
     requires { VC.can_carry }
 {
     let other = carrier.carry()?;
     let equal = carrier.value_eq(&other);
-    let _ = println!(rt; "{equal} {:?}", other.into_value()?);
+    let value = other.into_value()?;
+    let has = carrier.has_value(&value);
+    let _ = println!(rt; "{equal} {has} {value:?}");
     Ok(())
 }
 
@@ -86,6 +88,12 @@ pub fn carriers(rt: &HostRuntime) -> Result<(), AllocError> {
         Owned('a').value_eq(&Owned('b'))
     );
     let _ = println!(rt; "{}", Some(true).value_eq(&None));
+    let _ = println!(rt;
+        "{} {} {}",
+        true.has_value(&false),
+        Owned('a').has_value(&'b'),
+        Some(true).has_value(&None)
+    );
     let left = (true, true).value_eq(&(true, false));
     let right = (true, true).value_eq(&(false, true));
     let _ = println!(rt; "{left} {right} {:?}", Owned(7_i64));

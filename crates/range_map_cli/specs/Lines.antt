@@ -1,5 +1,6 @@
 -- The lines of a text.
-use Rattle.std.specs.Prelude.{◌≡◌, ℕ, List, [], ◌∷◌, false, if◌then◌else◌, ◌==◌, count_by}
+use Rattle.std.specs.Prelude.{◌≡◌, ℕ, List, [], ◌∷◌, ◌++◌, Option, None, Some, false, if◌then◌else◌, ◌==◌, count_by}
+use denote.Ref.{Bor}
 use Rattle.std.specs.List.{All, onto_first}
 
 -- each line, without the LF at its end; a last line without one counts
@@ -14,3 +15,8 @@ ends_in bytes = count_by (λ b. b == 10) bytes
 -- no byte of the text is this one
 abbrev pub Lacks : ℕ → List ℕ → Type 0
 Lacks byte text = All (λ b. (b == byte) ≡ false) text
+
+-- the parts of the text before and after the first such byte, or none where it has no such byte
+abbrev pub IsCut : ℕ → List ℕ → Option (Bor (List ℕ) × Bor (List ℕ)) → Type 0
+IsCut byte text None = Lacks byte text
+IsCut byte text (Some parts) = Lacks byte parts.0.now × (text ≡ parts.0.now ++ byte ∷ parts.1.now)

@@ -14,6 +14,10 @@ abbrev pub after_all : List Command → Content → Content
 after_all [] content = content
 after_all (command ∷ commands) content = after_all commands (content_after command content)
 
+-- the session that keeps these bytes of a line, as many as there is room for
+abbrev pub with_line : List ℕ → Session → Session
+with_line bytes session = record session { line = take 81 bytes }
+
 -- of all these bytes a writer that held and holds what is given took a beginning, and the rest waits
 abbrev pub Forwards : Option (List ℕ) → Option (List ℕ) → List ℕ → List ℕ → Type 0
 Forwards held holds all waits = (out : List ℕ) × Appends held holds out × (all ≡ out ++ waits)

@@ -46,13 +46,6 @@ impl Line {
         self.count == 0
     }
 
-    /// Forgets the bytes.
-    pub fn clear(&mut self)
-        ensures { self.new ≡ [] }
-    {
-        self.count = 0;
-    }
-
     /// Keeps the next bytes of the line, as many as there is room for.
     pub fn keep(&mut self, bytes: &[u8])
         ensures { self.new ≡ take 81 (self.old ++ bytes.now) }

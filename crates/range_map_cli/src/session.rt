@@ -7,16 +7,18 @@ ghost use Rattle.range_map_cli.specs.Commands.{Blank, Command, command_of};
 ghost use Rattle.range_map_cli.specs.Replies.{content_after, Replies};
 ghost use Rattle.range_map_cli.specs.Output.{Prints, Closes};
 ghost use Rattle.range_map_cli.specs.States.{content_of, HasWords};
-ghost use Rattle.range_map_cli.specs.Sessions.{IsAt, ClosesBefore};
+ghost use Rattle.range_map_cli.specs.Lines.{Lacks};
+ghost use Rattle.range_map_cli.specs.Sessions.{IsAt, ClosesBefore, with_line};
 
 use crate::answer::answer;
 use crate::line::Line;
 use crate::output::{flush, put};
-use crate::split::split_once;
+use crate::split::split_line;
 use crate::{End, request};
 use range_map_blaze::RangeMapBlaze;
 use std::alloc::Global;
 use std::io::Write;
+use std::mem;
 
 /// How many bytes of answers wait at most.
 const ROOM: usize = 16384;
@@ -29,7 +31,7 @@ pub struct Session {
     map: RangeMapBlaze<i64, String>,
     /// How many lines were answered; it stays at 2^64 - 1.
     number: u64,
-    /// The first bytes of the line that is being read.
+    /// The first bytes of a line whose end is still to be read.
     line: Line,
     /// What is printed for the line that was answered last.
     reply: String,
@@ -64,28 +66,27 @@ impl Session {
         }
     }
 
-    /// Answers the line, which ends here.
-    fn answer(&mut self, alloc: Global) -> Result<(), Fault>
-        ensures ok { OnOk result ((command : Command) × (command_of self.old.line ≡ Some command)
+    /// Answers a line.
+    fn answer(&mut self, alloc: Global, line: &[u8]) -> Result<(), Fault>
+        ensures ok { OnOk result ((command : Command) × (command_of line.now ≡ Some command)
             × (HasWords (content_of self.old.map.entries)
             → Replies (content_of self.old.map.entries) command (string_bytes self.new.reply))
             × ((key : ℤ) → content_of self.new.map.entries key
             ≡ content_after command (content_of self.old.map.entries) key)) }
         ensures number { OnOk result (self.new.number ≡ min (self.old.number + 1) (2 ^ 64 - 1)) }
-        ensures line { OnOk result (self.new.line ≡ []) }
+        ensures line { self.new.line ≡ self.old.line }
         ensures waiting { self.new.waiting.items ≡ self.old.waiting.items }
-        ensures bad { IsErrOf result Fault.BadLine → (command_of self.old.line ≡ None)
+        ensures bad { IsErrOf result Fault.BadLine → (command_of line.now ≡ None)
             × (self.new.number ≡ self.old.number) }
-        ensures no_memory { IsErrOf result Fault.NoMemory → (command_of self.old.line ≢ None)
-            × (command_of self.old.line ≢ Some Blank) }
+        ensures no_memory { IsErrOf result Fault.NoMemory → (command_of line.now ≢ None)
+            × (command_of line.now ≢ Some Blank) }
     {
-        let Some(request) = request::read(self.line.as_slice()) else {
+        let Some(request) = request::read(line) else {
             return Err(Fault::BadLine);
         };
         match answer(&mut self.map, &mut self.reply, alloc, request) {
             Ok(()) => {
                 self.number = self.number.saturating_add(1);
-                self.line.clear();
                 Ok(())
             }
             Err(_) => Err(Fault::NoMemory),
@@ -110,20 +111,26 @@ pub fn close<W: Write>(waiting: &mut Vec<u8>, output: &mut W, text: &[u8], end: 
     end
 }
 
-/// Answers the line, which ends here, and puts the answer behind the others. It stands out of line, so that the loop over lines
-/// stays short where they are empty.
+/// Answers a line, and puts the answer behind the others. It stands out of line, so that the loop over lines stays short where
+/// they are empty.
 #[inline(never)]
-fn answer_line<W: Write>(session: &mut Session, alloc: Global, output: &mut W) -> Result<(), End>
+fn answer_line<W: Write>(
+    session: &mut Session,
+    alloc: Global,
+    output: &mut W,
+    line: &[u8],
+) -> Result<(), End>
+    requires { session.old.line ≡ [] }
     ensures ok { OnOk result ((held : Option (List ℕ)) (text rest : List ℕ) (lines : ℕ)
-        → IsAt held (W.contents output.old) text session.old (10 ∷ rest) lines
+        → IsAt held (W.contents output.old) text (with_line line.now session.old) (10 ∷ rest) lines
         → IsAt held (W.contents output.new) text session.new rest lines) }
     ensures line { OnOk result (session.new.line ≡ []) }
     ensures kind { IfErr result (λ end. end ≢ End.ReadFault) }
     ensures err { IfErr result (λ end. (held : Option (List ℕ)) (text rest : List ℕ) (lines : ℕ)
-        → IsAt held (W.contents output.old) text session.old (10 ∷ rest) lines
+        → IsAt held (W.contents output.old) text (with_line line.now session.old) (10 ∷ rest) lines
         → ClosesBefore held (W.contents output.new) text rest lines end) }
 {
-    match session.answer(alloc) {
+    match session.answer(alloc, line) {
         Ok(()) => match put(&mut session.waiting, output, session.reply.as_bytes()) {
             Ok(()) => Ok(()),
             Err(_) => Err(End::WriteFault),
@@ -139,22 +146,34 @@ fn answer_line<W: Write>(session: &mut Session, alloc: Global, output: &mut W) -
     }
 }
 
-/// Ends the line here. An empty line has no answer.
-fn end_line<W: Write>(session: &mut Session, alloc: Global, output: &mut W) -> Result<(), End>
+/// Ends a line: the bytes that are kept of it, and then these, its last. An empty line has no answer.
+fn end_line<W: Write>(
+    session: &mut Session,
+    alloc: Global,
+    output: &mut W,
+    bytes: &[u8],
+) -> Result<(), End>
     ensures ok { OnOk result ((held : Option (List ℕ)) (text rest : List ℕ) (lines : ℕ)
-        → IsAt held (W.contents output.old) text session.old (10 ∷ rest) lines
+        → Lacks 10 bytes.now
+        → IsAt held (W.contents output.old) text session.old (bytes.now ++ 10 ∷ rest) lines
         → IsAt held (W.contents output.new) text session.new rest lines) }
     ensures line { OnOk result (session.new.line ≡ []) }
     ensures kind { IfErr result (λ end. end ≢ End.ReadFault) }
     ensures err { IfErr result (λ end. (held : Option (List ℕ)) (text rest : List ℕ) (lines : ℕ)
-        → IsAt held (W.contents output.old) text session.old (10 ∷ rest) lines
+        → Lacks 10 bytes.now
+        → IsAt held (W.contents output.old) text session.old (bytes.now ++ 10 ∷ rest) lines
         → ClosesBefore held (W.contents output.new) text rest lines end) }
 {
-    if session.line.is_empty() {
+    if !session.line.is_empty() {
+        let mut line = mem::replace(&mut session.line, Line::new());
+        line.keep(bytes);
+        return answer_line(session, alloc, output, line.as_slice());
+    }
+    if bytes.is_empty() {
         session.number = session.number.saturating_add(1);
         return Ok(());
     }
-    answer_line(session, alloc, output)
+    answer_line(session, alloc, output, bytes)
 }
 
 /// Takes the next bytes of the text: answers the lines that end in them, and keeps the beginning of the next.
@@ -173,9 +192,8 @@ pub fn feed<W: Write>(
         → ClosesBefore held (W.contents output.new) text rest lines end) }
 {
     let mut rest = bytes;
-    while let Some((line, after)) = split_once(rest, b'\n') {
-        session.line.keep(line);
-        end_line(session, alloc, output)?;
+    while let Some((line, after)) = split_line(rest) {
+        end_line(session, alloc, output, line)?;
         rest = after;
     }
     session.line.keep(rest);
@@ -192,7 +210,7 @@ pub fn finish<W: Write>(session: &mut Session, alloc: Global, output: &mut W) ->
     if session.line.is_empty() {
         return close(&mut session.waiting, output, b"", End::Done);
     }
-    match end_line(session, alloc, output) {
+    match end_line(session, alloc, output, b"") {
         Ok(()) => close(&mut session.waiting, output, b"", End::Done),
         Err(end) => end,
     }

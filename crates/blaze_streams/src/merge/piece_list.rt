@@ -6,9 +6,8 @@ ghost use Rattle.blaze_streams.specs.Choosing.{PutsAlike};
 ghost use Rattle.blaze_streams.specs.RangeLists.{shown_ranges};
 
 use crate::carrier::ValueCarrier;
-use crate::merge::push::push_joined;
+use crate::merge::push::{push_joined, push_value};
 use blaze_int::Integer;
-use blaze_table::push_entry;
 use std::alloc::AllocError;
 use std::ops::RangeInclusive;
 
@@ -35,13 +34,11 @@ impl<T: Integer, VC: ValueCarrier> PieceList<T, VC> for Vec<(RangeInclusive<T>, 
     }
 }
 
-/// A list of entries, of first key, last key and value, takes a value of the carrier.
+/// A list of entries, of first key, last key and value, takes a value of the carrier, but where its last entry goes on with it.
 impl<T: Integer, V: Eq + Clone, VC: ValueCarrier<Value = V>> PieceList<T, VC> for Vec<(T, T, V)> {
     ghost entries = { λ list. listed T.rank list.items };
 
     fn put(&mut self, start: T, end: T, carrier: VC) -> Result<(), AllocError> {
-        let value = carrier.into_value()?;
-        push_entry(self, start, end, value)?;
-        Ok(())
+        push_value(self, start, end, carrier)
     }
 }

@@ -15,7 +15,7 @@ use blaze_table::RangeTable;
 use std::alloc::AllocError;
 
 /// The values on the table's keys: by look-ups where the table or the map has few entries beside the other, else in one pass.
-pub fn within_keys<T: Integer, V: Eq + Clone, W: Eq>(
+pub fn within_keys<T: Integer, V: Eq + Clone, W: Eq + Clone>(
     map: &RangeMapBlaze<T, V>,
     keys: &RangeTable<T, W>,
 ) -> Result<RangeMapBlaze<T, V>, AllocError>
@@ -31,8 +31,12 @@ pub fn within_keys<T: Integer, V: Eq + Clone, W: Eq>(
         let few = values_kept(true, map, keys)?;
         return Ok(few);
     }
-    let ranges = WithUnit::new(ranges_of(keys));
-    let new = lent_chosen(map, map.range_values(), ranges, &LeftWithRight)?;
+    let new = lent_chosen(
+        map,
+        map.range_values(),
+        RangeValuesIter::new(keys),
+        &LeftWithRight,
+    )?;
     Ok(new)
 }
 

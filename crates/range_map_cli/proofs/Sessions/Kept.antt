@@ -1,6 +1,6 @@
 -- The kept bytes of a line.
-use Rattle.std.proofs.Common.{◌≡◌, ℕ, zero, suc, ◌+◌, ◌-◌, ◌≤◌, min, List, [], ◌∷◌, ◌++◌, length, take, refl, sym, ap, ◌∙◌, arith}
-use Rattle.std.proofs.lemmas.List.{take_min}
+use Rattle.std.proofs.Common.{◌≡◌, ℕ, zero, suc, ◌+◌, ◌-◌, ◌≤◌, min, List, [], ◌∷◌, ◌++◌, length, take, length-take, refl, sym, ap, ◌∙◌, arith}
+use Rattle.std.proofs.lemmas.List.{take_all, take_min}
 use Rattle.std.proofs.Math.Seq.{take-append-add}
 
 -- what is not kept of a text is not kept of one that it begins
@@ -16,3 +16,7 @@ keep_room line bytes count kept long small is =
     let turned : kept ≡ min room (length bytes) = omega (arith, is) in
     let all : length line + room ≡ 81 = omega (arith, long, small) in
     ap (λ n. line ++ take n bytes) turned ∙ ap (λ l. line ++ l) (take_min room bytes) ∙ sym (take-append-add line bytes room) ∙ ap (λ n. take n (line ++ bytes)) all
+
+-- what is kept of a text is kept again
+pub kept_again : (line text : List ℕ) → line ≡ take 81 text → take 81 line ≡ take 81 text
+kept_again line text kept = ap (take 81) kept ∙ take_all 81 (take 81 text) (omega (arith, length-take 81 text))
