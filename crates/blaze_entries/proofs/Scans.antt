@@ -76,7 +76,7 @@ module _ {V : Type 0} (l h : ℤ) where
       pub last_walked : (s : Seen) → walked eq v l h s es ≡ seen l h s f
       last_walked s = ap (walked eq v l h s) parts ∙ ap (λ b. cond b (seen l h s (found_in eq v e)) (walked eq v l h (seen l h s (found_in eq v e)) fs)) here ∙ ap (seen l h s) (sym is)
 
-      pub last_covered : (s : Option (ℤ × Bool)) → walked_covered eq v l h s es ≡ seen_covered l h s f
+      pub last_covered : (s : Option (ℤ × ℤ)) → walked_covered eq v l h s es ≡ seen_covered l h s f
       last_covered s = ap (walked_covered eq v l h s) parts ∙ ap (λ b. cond b (seen_covered l h s (found_in eq v e)) (walked_covered eq v l h (seen_covered l h s (found_in eq v e)) fs)) here ∙ ap (seen_covered l h s) (sym is)
 
       pub last_answers : answers l es ≡ 1
@@ -96,7 +96,7 @@ module _ {V : Type 0} (l h : ℤ) where
       next_walked s = ap (walked eq v l h s) parts ∙ ap (λ b. cond b (seen l h s (found_in eq v e)) (walked eq v l h (seen l h s (found_in eq v e)) fs)) here_not
           ∙ ap (λ t. walked eq v l h (seen l h s t) fs) (sym is)
 
-      pub next_covered : (s : Option (ℤ × Bool)) → walked_covered eq v l h s es ≡ walked_covered eq v l h (seen_covered l h s f) fs
+      pub next_covered : (s : Option (ℤ × ℤ)) → walked_covered eq v l h s es ≡ walked_covered eq v l h (seen_covered l h s f) fs
       next_covered s = ap (walked_covered eq v l h s) parts ∙ ap (λ b. cond b (seen_covered l h s (found_in eq v e)) (walked_covered eq v l h (seen_covered l h s (found_in eq v e)) fs)) here_not
           ∙ ap (λ t. walked_covered eq v l h (seen_covered l h s t) fs) (sym is)
 

@@ -1,6 +1,6 @@
 -- A walk down the entries from above a range, and what it has seen.
 use Rattle.std.specs.Prelude.{ℕ, ◌+◌, ℤ, pos, ◌+ℤ◌, int_lt, int_le, Bool, ◌||◌, if◌then◌else◌, List, [], ◌∷◌, Option, Some, None}
-use Rattle.std.specs.Option.{option_map, is_some}
+use Rattle.std.specs.Option.{option_map}
 use Rattle.blaze_entries.specs.Entries.{Entry}
 use Rattle.blaze_entries.specs.Found.{found_in, found_of}
 use Rattle.blaze_entries.specs.Overlap.{overlap}
@@ -38,18 +38,19 @@ module _ {V : Type 0} (eq : V → V → Bool) (v : V) (l h : ℤ) where
   walked s [] = s
   walked s (e ∷ es) = if int_lt e.lo l then seen l h s (found_in eq v e) else walked (seen l h s (found_in eq v e)) es
 
--- a start and a test, by the ranks
-abbrev pub least_by : {T : Type 0} → (T → ℤ) → Option (T × Bool) → Option (ℤ × Bool)
-least_by rank c = option_map (λ r. (rank r.0, r.1)) c
+-- the least and the greatest of some starts, with the start k below them
+abbrev pub with_least : ℤ → Option (ℤ × ℤ) → ℤ × ℤ
+with_least k None = (k, k)
+with_least k (Some c) = (k, c.1)
 
--- The least start of the covered entries, and whether there are more, after an entry. It is covered if it starts above l, and
--- ends up to h or has an equal value.
-abbrev pub seen_covered : ℤ → ℤ → Option (ℤ × Bool) → ℤ × ℤ × Bool → Option (ℤ × Bool)
-seen_covered l h c t = if int_lt l t.0 then (if t.2 || int_le t.1 h then Some (t.0, is_some c) else c) else c
+-- The least and the greatest start of the covered entries, after an entry. It is covered if it starts above l, and ends up to h
+-- or has an equal value.
+abbrev pub seen_covered : ℤ → ℤ → Option (ℤ × ℤ) → ℤ × ℤ × Bool → Option (ℤ × ℤ)
+seen_covered l h c t = if int_lt l t.0 then (if t.2 || int_le t.1 h then Some (with_least t.0 c) else c) else c
 
 module _ {V : Type 0} (eq : V → V → Bool) (v : V) (l h : ℤ) where
   -- of a walk's entries, as `walked`
-  abbrev pub walked_covered : Option (ℤ × Bool) → List (Entry V) → Option (ℤ × Bool)
+  abbrev pub walked_covered : Option (ℤ × ℤ) → List (Entry V) → Option (ℤ × ℤ)
   walked_covered c [] = c
   walked_covered c (e ∷ es) = if int_lt e.lo l then seen_covered l h c (found_in eq v e) else walked_covered (seen_covered l h c (found_in eq v e)) es
 

@@ -8,7 +8,7 @@ ghost use Rattle.blaze_entries.specs.Entries.{entry, shown_entry};
 ghost use Rattle.blaze_entries.specs.Counted.{uncounted};
 ghost use Rattle.blaze_entries.specs.Cloned.{AreCloned};
 ghost use Rattle.blaze_entries.specs.Found.{found_in, found_of, range_in, ranks_of};
-ghost use Rattle.blaze_entries.specs.Scanned.{seen_of, unseen, walked, least_by, walked_covered};
+ghost use Rattle.blaze_entries.specs.Scanned.{seen_of, unseen, walked, walked_covered};
 ghost use Rattle.blaze_entries.specs.Scanned.{answers, walked_keys};
 ghost use Rattle.blaze_entries.specs.Starts.{StartsAscend, below, from, last_below, first_from};
 ghost use Rattle.blaze_entries.specs.Starts.{start_at, with_entry, without, with_end};
@@ -374,7 +374,7 @@ impl<T: Integer, V: Eq> Counted<T, V> {
         ensures plan { seen_of T.rank result.0
             ≡ walked V.eq value.now (T.rank lo) (T.rank hi) (unseen (T.rank hi))
             (reverse (below (T.rank hi +ℤ pos 2) self.old.entries)) }
-        ensures covered { least_by T.rank result.0.covered
+        ensures covered { option_map (ranks_of T.rank) result.0.covered
             ≡ walked_covered V.eq value.now (T.rank lo) (T.rank hi) None
             (reverse (below (T.rank hi +ℤ pos 2) self.old.entries)) }
         ensures len { pos (T.SafeLen.number result.1)

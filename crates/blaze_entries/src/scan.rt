@@ -1,11 +1,12 @@
 //! A walk down the tree from above a range, in one search.
 ghost use Rattle.std.specs.Prelude.{◌≡◌, ◌⊎◌, ◌+◌, ◌++◌, ◌∷◌, [], pos, ◌+ℤ◌, ◌≤ℤ◌, ◌<◌, length};
 ghost use Rattle.std.specs.Prelude.{reverse, None, MatchOption, OnSome};
+ghost use Rattle.std.specs.Option.{option_map};
 ghost use Rattle.blaze_entries.specs.Entries.{Entry};
-ghost use Rattle.blaze_entries.specs.Found.{found_in, found_of};
+ghost use Rattle.blaze_entries.specs.Found.{found_in, found_of, ranks_of};
 ghost use Rattle.blaze_entries.specs.Places.{places, entries_of, AreFull, AreHeld};
 ghost use Rattle.blaze_entries.specs.Scanned.{seen_of, unseen, seen_end, seen_start, seen, walked};
-ghost use Rattle.blaze_entries.specs.Scanned.{least_by, seen_covered, walked_covered, answers};
+ghost use Rattle.blaze_entries.specs.Scanned.{with_least, seen_covered, walked_covered, answers};
 ghost use Rattle.blaze_entries.specs.Scanned.{walked_keys};
 ghost use Rattle.blaze_entries.specs.Starts.{below};
 
@@ -30,16 +31,27 @@ pub struct Plan<T> {
     pub first: Option<Found<T>>,
     /// The entry with the greatest start below the range.
     pub left: Option<Found<T>>,
-    /// The least start of the entries that the range covers, joined as it is, but for the one that starts where it does, and
-    /// whether there are more of them.
-    pub covered: Option<(T, bool)>,
+    /// The least and the greatest start of the entries that the range covers, joined as it is, but for the one that starts
+    /// where it does.
+    pub covered: Option<(T, T)>,
+}
+
+/// The least and the greatest of some starts, with a start below them.
+pub fn with_least<T: Integer>(start: T, starts: Option<(T, T)>) -> (T, T)
+    ensures { ranks_of T.rank result
+        ≡ with_least (T.rank start) (option_map (ranks_of T.rank) starts) }
+{
+    match starts {
+        Some(ends) => (start, ends.1),
+        None => (start, start),
+    }
 }
 
 impl<T: Integer> Plan<T> {
     /// The plan before the first entry.
     pub fn new(hi: T) -> Plan<T>
         ensures seen { seen_of T.rank result ≡ unseen (T.rank hi) }
-        ensures covered { least_by T.rank result.covered ≡ None }
+        ensures covered { option_map (ranks_of T.rank) result.covered ≡ None }
     {
         Plan {
             end: hi,
@@ -81,12 +93,12 @@ impl<T: Integer> Plan<T> {
     // Takes in whether the range covers an entry.
     fn see_covered(&mut self, lo: T, hi: T, found: Found<T>)
         ensures seen { seen_of T.rank self.new ≡ seen_of T.rank self.old }
-        ensures covered { least_by T.rank self.new.covered
-            ≡ seen_covered (T.rank lo) (T.rank hi) (least_by T.rank self.old.covered)
+        ensures covered { option_map (ranks_of T.rank) self.new.covered
+            ≡ seen_covered (T.rank lo) (T.rank hi) (option_map (ranks_of T.rank) self.old.covered)
             (found_of T.rank found) }
     {
         if is_below(lo, found.start) && (found.is_equal || is_at_most(found.end, hi)) {
-            self.covered = Some((found.start, self.covered.is_some()));
+            self.covered = Some(with_least(found.start, self.covered));
         }
     }
 
@@ -94,8 +106,8 @@ impl<T: Integer> Plan<T> {
     pub fn see(&mut self, lo: T, hi: T, found: Found<T>)
         ensures seen { seen_of T.rank self.new
             ≡ seen (T.rank lo) (T.rank hi) (seen_of T.rank self.old) (found_of T.rank found) }
-        ensures covered { least_by T.rank self.new.covered
-            ≡ seen_covered (T.rank lo) (T.rank hi) (least_by T.rank self.old.covered)
+        ensures covered { option_map (ranks_of T.rank) self.new.covered
+            ≡ seen_covered (T.rank lo) (T.rank hi) (option_map (ranks_of T.rank) self.old.covered)
             (found_of T.rank found) }
     {
         self.see_end(hi, found);
@@ -140,7 +152,7 @@ pub fn walk<T: Integer, V: Eq>(
     ensures plan { seen_of T.rank result.0
         ≡ walked V.eq value.now (T.rank lo) (T.rank hi) (unseen (T.rank hi))
         (reverse (below (T.rank top +ℤ pos 1) (entries_of T.rank tree.now.entries))) }
-    ensures covered { least_by T.rank result.0.covered
+    ensures covered { option_map (ranks_of T.rank) result.0.covered
         ≡ walked_covered V.eq value.now (T.rank lo) (T.rank hi) None
         (reverse (below (T.rank top +ℤ pos 1) (entries_of T.rank tree.now.entries))) }
     ensures len { pos (T.SafeLen.number result.1)

@@ -5,7 +5,7 @@ pub mod PutInside
 pub mod EditLists
 pub mod Clearing
 pub mod StartsIn
-pub mod FirstOut
+pub mod CoveredOut
 pub mod Placing
 pub mod Widened
 pub mod Composed

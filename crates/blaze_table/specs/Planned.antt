@@ -1,11 +1,11 @@
 -- A paint planned by what lies beside its range, and the steps that make it, in the words of the list.
 use Rattle.std.specs.Prelude.{◌≡◌, ℕ, ◌+◌, ◌≤◌, ◌⊎◌, ◌++◌, ◌&&◌, ◌||◌, ℤ, pos, ◌+ℤ◌, ◌≤ℤ◌, ◌<ℤ◌, int_lt, int_le, if◌then◌else◌, Bool, true, false, List, [], ◌∷◌, length, Option, Some, None}
 use Rattle.std.specs.List.{filter}
-use Rattle.std.specs.Option.{option_map, is_some}
+use Rattle.std.specs.Option.{option_map}
 use Rattle.std.specs.Ordering.{int_eq}
 use Rattle.blaze_entries.specs.Counted.{CountedEntries}
 use Rattle.blaze_entries.specs.Found.{found_in}
-use Rattle.blaze_entries.specs.Scanned.{Seen}
+use Rattle.blaze_entries.specs.Scanned.{Seen, with_least}
 use Rattle.blaze_entries.specs.Starts.{below, from, last_below, start_at, with_entry}
 use Rattle.blaze_entries.specs.declared.found.Found.{Found}
 use Rattle.blaze_table.specs.Entries.{Entry, entry, SameEntries}
@@ -65,15 +65,15 @@ starts_in f z es = from (f +ℤ pos 1) (below (z +ℤ pos 1) es)
 abbrev pub ends_in : {V : Type 0} → ℤ → ℤ → List (Entry V) → List (Entry V)
 ends_in f z es = filter (λ e. int_le e.hi z) (from (f +ℤ pos 1) es)
 
--- the start of the first of the entries, and whether there are more
-abbrev pub least : {V : Type 0} → List (Entry V) → Option (ℤ × Bool)
-least [] = None
-least (e ∷ es) = Some (e.lo, is_some (least es))
+-- the starts of the first and the last of the entries
+abbrev pub outer_starts : {V : Type 0} → List (Entry V) → Option (ℤ × ℤ)
+outer_starts [] = None
+outer_starts (e ∷ es) = Some (with_least e.lo (outer_starts es))
 
 -- the same with an entry before them that was looked at, if it ends up to z
-abbrev pub least_with : ℤ → Option (ℤ × ℤ × Bool) → Option (ℤ × Bool) → Option (ℤ × Bool)
-least_with z None c = c
-least_with z (Some t) c = if int_le t.1 z then Some (t.0, is_some c) else c
+abbrev pub outer_with : ℤ → Option (ℤ × ℤ × Bool) → Option (ℤ × ℤ) → Option (ℤ × ℤ)
+outer_with z None c = c
+outer_with z (Some t) c = if int_le t.1 z then Some (with_least t.0 c) else c
 
 -- ---- the steps
 

@@ -13,7 +13,7 @@ use Rattle.blaze_entries.proofs.Ascending.{by_order}
 use Rattle.blaze_entries.proofs.Halves.{below_takes, below_skips, from_takes, from_skips, from_all, from_none, more_below}
 use Rattle.blaze_table.specs.Entries.{Entry}
 use Rattle.blaze_table.specs.Canonical.{IsCanonical}
-use Rattle.blaze_table.specs.Planned.{starts_in, ends_in, least, least_with}
+use Rattle.blaze_table.specs.Planned.{starts_in, ends_in, outer_starts, outer_with}
 use Rattle.blaze_table.specs.Splice.{after}
 use Rattle.blaze_table.proofs.Canonical.Lookup.{IsAbove, IsAbove-from_apart, above_rest}
 use Rattle.blaze_table.proofs.Paints.Splices.{by_after}
@@ -140,9 +140,9 @@ module _ {V : Type 0} (eq : V → V → Bool) where
       first : Some e ≡ Some of → e.hi ≡ of.hi
       first p = let same : e ≡ of = cc in ap (λ (x : Entry V). x.hi) same
 
--- the least start above the last entry below a range, by that in the range
-module _ {V : Type 0} (eq : V → V → Bool) (v : V) (l low high : ℤ) (e : Entry V) (es : List (Entry V)) (s : StartsAscend low high es) (i : LastAt l high e es) where
-  same_from : from (e.lo +ℤ pos 1) es ≡ from l es
+-- none starts between the last entry below a key and that key
+module _ {V : Type 0} (l high : ℤ) (e : Entry V) (es : List (Entry V)) (i : LastAt l high e es) where
+  pub same_from : from (e.lo +ℤ pos 1) es ≡ from l es
   same_from = up_to (e.lo +ℤ pos 1) (omega (arith, ints)) (omega (arith, ints, i.starts)) ∙ sym (up_to l i.starts (omega (arith, ints)))
     where
       up_to : (j : ℤ) → e.lo <ℤ j → j ≤ℤ l → from j es ≡ i.back
@@ -150,12 +150,14 @@ module _ {V : Type 0} (eq : V → V → Bool) (v : V) (l low high : ℤ) (e : En
           ∙ ap (λ t. t ++ from j (e ∷ i.back)) (from_none j i.front (more_below e.lo j i.front (omega (arith, ints)) i.front_below))
           ∙ from_skips j e i.back u ∙ from_all j l high i.back w i.back_from
 
-  pub least_on : (z : ℤ) → least (ends_in e.lo z es) ≡ least_with z (option_map (found_in eq v) (start_at l es)) (least (ends_in l z es))
-  least_on z = ap (λ x. least (filter (λ x. int_le x.hi z) x)) same_from ∙ by_start (start_at l es) refl
+-- the starts above the last entry below a range, by those in the range
+module _ {V : Type 0} (eq : V → V → Bool) (v : V) (l low high : ℤ) (e : Entry V) (es : List (Entry V)) (s : StartsAscend low high es) (i : LastAt l high e es) where
+  pub outer_on : (z : ℤ) → outer_starts (ends_in e.lo z es) ≡ outer_with z (option_map (found_in eq v) (start_at l es)) (outer_starts (ends_in l z es))
+  outer_on z = ap (λ x. outer_starts (filter (λ x. int_le x.hi z) x)) (same_from l high e es i) ∙ by_start (start_at l es) refl
     where
-      by_start : (o : Option (Entry V)) → start_at l es ≡ o → least (filter (λ x. int_le x.hi z) (from l es)) ≡ least_with z (option_map (found_in eq v) o) (least (ends_in l z es))
-      by_start None q = ap (λ x. least (filter (λ x. int_le x.hi z) x)) (from_not_at l es q)
+      by_start : (o : Option (Entry V)) → start_at l es ≡ o → outer_starts (filter (λ x. int_le x.hi z) (from l es)) ≡ outer_with z (option_map (found_in eq v) o) (outer_starts (ends_in l z es))
+      by_start None q = ap (λ x. outer_starts (filter (λ x. int_le x.hi z) x)) (from_not_at l es q)
       by_start (Some g) q =
           let here = from_at l low high g es s q in
-          ap (λ x. least (filter (λ x. int_le x.hi z) x)) here.1
+          ap (λ x. outer_starts (filter (λ x. int_le x.hi z) x)) here.1
           ∙ by_bool (int_le g.hi z) (λ b. rw b refl) (λ b. rw b refl)

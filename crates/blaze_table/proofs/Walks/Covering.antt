@@ -1,17 +1,16 @@
 -- What a walk down to a range has seen of the entries that the range covers, joined as it is with what is above it.
 use Rattle.std.proofs.Common.{◌≡◌, ℤ, pos, ◌+ℤ◌, ◌≤ℤ◌, ◌<ℤ◌, Bool, true, false, cond, ◌||◌, List, [], ◌∷◌, ◌++◌, Option, Some, None, refl, ◌∙◌, sym, subst, ap, arith, inl, inr}
 use Rattle.std.specs.Prelude.{int_lt, int_le, reverse}
-use Rattle.std.specs.Option.{is_some}
 use Rattle.std.proofs.lemmas.Int.{ints, by_lt_z}
 use Rattle.std.proofs.lemmas.List.{reverse-append}
 use Rattle.blaze_int.proofs.Comparisons.{lt_true, lt_false, le_true, le_false}
 use Rattle.blaze_entries.specs.Found.{found_in}
-use Rattle.blaze_entries.specs.Scanned.{seen_covered, walked_covered}
+use Rattle.blaze_entries.specs.Scanned.{with_least, seen_covered, walked_covered}
 use Rattle.blaze_entries.specs.Starts.{StartsAscend, below}
 use Rattle.blaze_entries.proofs.Halves.{below_takes, below_none, starts_of_below}
 use Rattle.blaze_table.specs.Entries.{Entry, entry}
 use Rattle.blaze_table.specs.Canonical.{IsCanonical}
-use Rattle.blaze_table.specs.Planned.{ends_in, least, IsEndAfter, IsEnd}
+use Rattle.blaze_table.specs.Planned.{ends_in, outer_starts, IsEndAfter, IsEnd}
 use Rattle.blaze_table.proofs.Canonical.Lookup.{IsAbove, IsAbove-from_apart, above_by}
 use Rattle.blaze_table.proofs.Walks.Outside.{StartsFrom, ascend_from, reverse_from}
 use Rattle.blaze_table.proofs.Paints.Splices.{by_after}
@@ -19,17 +18,17 @@ use Rattle.blaze_table.proofs.Paints.StartsIn.{ends_takes, ends_under, ends_over
 
 module _ {V : Type 0} (eq : V → V → Bool) (v : V) (l h : ℤ) where
   -- after one entry
-  seen_under : (c : Option (ℤ × Bool)) (e : Entry V) → e.lo ≤ℤ l → seen_covered l h c (found_in eq v e) ≡ c
-  seen_under c e u = ap (λ b. cond b (cond (eq e.value v || int_le e.hi h) (Some (e.lo, is_some c)) c) c) (lt_false l e.lo u)
+  seen_under : (c : Option (ℤ × ℤ)) (e : Entry V) → e.lo ≤ℤ l → seen_covered l h c (found_in eq v e) ≡ c
+  seen_under c e u = ap (λ b. cond b (cond (eq e.value v || int_le e.hi h) (Some (with_least e.lo c)) c) c) (lt_false l e.lo u)
 
-  seen_takes : (c : Option (ℤ × Bool)) (e : Entry V) → l <ℤ e.lo → (eq e.value v || int_le e.hi h) ≡ true → seen_covered l h c (found_in eq v e) ≡ Some (e.lo, is_some c)
-  seen_takes c e u q = ap (λ b. cond b (cond (eq e.value v || int_le e.hi h) (Some (e.lo, is_some c)) c) c) (lt_true l e.lo u)
-      ∙ ap (λ b. cond b (Some (e.lo, is_some c)) c) q
+  seen_takes : (c : Option (ℤ × ℤ)) (e : Entry V) → l <ℤ e.lo → (eq e.value v || int_le e.hi h) ≡ true → seen_covered l h c (found_in eq v e) ≡ Some (with_least e.lo c)
+  seen_takes c e u q = ap (λ b. cond b (cond (eq e.value v || int_le e.hi h) (Some (with_least e.lo c)) c) c) (lt_true l e.lo u)
+      ∙ ap (λ b. cond b (Some (with_least e.lo c)) c) q
 
-  seen_skips : (c : Option (ℤ × Bool)) (e : Entry V) → eq e.value v ≡ false → h <ℤ e.hi → seen_covered l h c (found_in eq v e) ≡ c
+  seen_skips : (c : Option (ℤ × ℤ)) (e : Entry V) → eq e.value v ≡ false → h <ℤ e.hi → seen_covered l h c (found_in eq v e) ≡ c
   seen_skips c e q u = by_lt_z l e.lo
-      (λ w. ap (λ b. cond b (cond (eq e.value v || int_le e.hi h) (Some (e.lo, is_some c)) c) c) (lt_true l e.lo w)
-      ∙ ap (λ b. cond (b || int_le e.hi h) (Some (e.lo, is_some c)) c) q ∙ ap (λ b. cond b (Some (e.lo, is_some c)) c) (le_false e.hi h u))
+      (λ w. ap (λ b. cond b (cond (eq e.value v || int_le e.hi h) (Some (with_least e.lo c)) c) c) (lt_true l e.lo w)
+      ∙ ap (λ b. cond (b || int_le e.hi h) (Some (with_least e.lo c)) c) q ∙ ap (λ b. cond b (Some (with_least e.lo c)) c) (le_false e.hi h u))
       (λ w. seen_under c e w)
 
   like_long : (e : Entry V) → eq e.value v ≡ true → (eq e.value v || int_le e.hi h) ≡ true
@@ -43,20 +42,20 @@ module _ {V : Type 0} (eq : V → V → Bool) (v : V) (l h : ℤ) where
       or_true false = refl
 
   -- the same of entries that ascend
-  abbrev gathered : List (Entry V) → Option (ℤ × Bool)
+  abbrev gathered : List (Entry V) → Option (ℤ × ℤ)
   gathered [] = None
   gathered (e ∷ es) = seen_covered l h (gathered es) (found_in eq v e)
 
-  both_ways : (b : Bool) {x : Option (ℤ × Bool)} → cond b x x ≡ x
+  both_ways : (b : Bool) {x : Option (ℤ × ℤ)} → cond b x x ≡ x
   both_ways true = refl
   both_ways false = refl
 
   -- one more at the end of a walk: it starts up to l, or all before it start from l on
-  walked_under : (c : Option (ℤ × Bool)) (ys : List (Entry V)) (e : Entry V) → e.lo ≤ℤ l → walked_covered eq v l h c (ys ++ e ∷ []) ≡ walked_covered eq v l h c ys
+  walked_under : (c : Option (ℤ × ℤ)) (ys : List (Entry V)) (e : Entry V) → e.lo ≤ℤ l → walked_covered eq v l h c (ys ++ e ∷ []) ≡ walked_covered eq v l h c ys
   walked_under c [] e u = both_ways (int_lt e.lo l) ∙ seen_under c e u
   walked_under c (y ∷ ys) e u = ap (λ x. cond (int_lt y.lo l) (seen_covered l h c (found_in eq v y)) x) (walked_under (seen_covered l h c (found_in eq v y)) ys e u)
 
-  walked_next : (c : Option (ℤ × Bool)) (ys : List (Entry V)) (e : Entry V) → StartsFrom l h ys → walked_covered eq v l h c (ys ++ e ∷ []) ≡ seen_covered l h (walked_covered eq v l h c ys) (found_in eq v e)
+  walked_next : (c : Option (ℤ × ℤ)) (ys : List (Entry V)) (e : Entry V) → StartsFrom l h ys → walked_covered eq v l h c (ys ++ e ∷ []) ≡ seen_covered l h (walked_covered eq v l h c ys) (found_in eq v e)
   walked_next c [] e s = both_ways (int_lt e.lo l)
   walked_next c (y ∷ ys) e s = rw (lt_false y.lo l s.0) (walked_next (seen_covered l h c (found_in eq v y)) ys e s.1)
 
@@ -85,46 +84,46 @@ module _ {V : Type 0} (eq : V → V → Bool) (v : V) (l h : ℤ) where
     no_more u = no_ends eq l z es (above_by e.hi z es u (IsAbove-from_apart eq e es c.1)) c.2
 
     -- it is not joined with the range
-    apart : z ≡ h → eq e.value v ≡ false → e.lo <ℤ (h +ℤ pos 2) → gathered (below (h +ℤ pos 2) (e ∷ es)) ≡ least (ends_in l z (e ∷ es))
-    apart q n u = first_alone u ∙ seen_skips None e n long ∙ sym (ap least (ends_over l z e es (omega (arith, ints)) ∙ no_more (omega (arith, ints))))
+    apart : z ≡ h → eq e.value v ≡ false → e.lo <ℤ (h +ℤ pos 2) → gathered (below (h +ℤ pos 2) (e ∷ es)) ≡ outer_starts (ends_in l z (e ∷ es))
+    apart q n u = first_alone u ∙ seen_skips None e n long ∙ sym (ap outer_starts (ends_over l z e es (omega (arith, ints)) ∙ no_more (omega (arith, ints))))
 
     -- it is
-    together : e.hi ≡ z → eq e.value v ≡ true → e.lo <ℤ (h +ℤ pos 2) → gathered (below (h +ℤ pos 2) (e ∷ es)) ≡ least (ends_in l z (e ∷ es))
+    together : e.hi ≡ z → eq e.value v ≡ true → e.lo <ℤ (h +ℤ pos 2) → gathered (below (h +ℤ pos 2) (e ∷ es)) ≡ outer_starts (ends_in l z (e ∷ es))
     together q n u = first_alone u ∙ by_lt_z l e.lo
-        (λ w. seen_takes None e w (like_long e n) ∙ sym (ap least (ends_takes l z e es w (omega (arith, ints)) ∙ ap (λ t. e ∷ t) (no_more (omega (arith, ints))))))
-        (λ w. seen_under None e w ∙ sym (ap least (ends_under l z e es w ∙ no_more (omega (arith, ints)))))
+        (λ w. seen_takes None e w (like_long e n) ∙ sym (ap outer_starts (ends_takes l z e es w (omega (arith, ints)) ∙ ap (λ t. e ∷ t) (no_more (omega (arith, ints))))))
+        (λ w. seen_under None e w ∙ sym (ap outer_starts (ends_under l z e es w ∙ no_more (omega (arith, ints)))))
 
-  gathered_least : (z b high : ℤ) (es : List (Entry V)) → h ≤ℤ z → StartsAscend b high es → IsCanonical eq es → IsEnd eq h v es z → gathered (below (h +ℤ pos 2) es) ≡ least (ends_in l z es)
-  gathered_least z b high [] w s c i = refl
-  gathered_least z b high (e ∷ es) w s c i = by_after h e es
+  gathered_outer : (z b high : ℤ) (es : List (Entry V)) → h ≤ℤ z → StartsAscend b high es → IsCanonical eq es → IsEnd eq h v es z → gathered (below (h +ℤ pos 2) es) ≡ outer_starts (ends_in l z es)
+  gathered_outer z b high [] w s c i = refl
+  gathered_outer z b high (e ∷ es) w s c i = by_after h e es
       (λ u r.
-      let later = gathered_least z (e.lo +ℤ pos 1) high es w s.2 c.2 (subst (λ t. IsEndAfter eq h v t z) r i) in
+      let later = gathered_outer z (e.lo +ℤ pos 1) high es w s.2 c.2 (subst (λ t. IsEndAfter eq h v t z) r i) in
       ap gathered (below_takes (h +ℤ pos 2) e es (omega (arith, ints, c.0)))
       ∙ ap (λ t. seen_covered l h t (found_in eq v e)) later
       ∙ by_lt_z l e.lo
-      (λ m. seen_takes (least (ends_in l z es)) e m (short e u) ∙ sym (ap least (ends_takes l z e es m (omega (arith, ints)))))
-      (λ m. seen_under (least (ends_in l z es)) e m ∙ sym (ap least (ends_under l z e es m))))
+      (λ m. seen_takes (outer_starts (ends_in l z es)) e m (short e u) ∙ sym (ap outer_starts (ends_takes l z e es m (omega (arith, ints)))))
+      (λ m. seen_under (outer_starts (ends_in l z es)) e m ∙ sym (ap outer_starts (ends_under l z e es m))))
       (λ u m r. cut u m (subst (λ t. IsEndAfter eq h v t z) r i))
       (λ u m r. over u m (subst (λ t. IsEndAfter eq h v t z) r i))
     where
       head : {x y : Entry V} {xs ys : List (Entry V)} → x ∷ xs ≡ y ∷ ys → x ≡ y
       head p = cc
 
-      cut : h <ℤ e.hi → e.lo ≤ℤ h → IsEndAfter eq h v (entry (h +ℤ pos 1) e.hi e.value ∷ es) z → gathered (below (h +ℤ pos 2) (e ∷ es)) ≡ least (ends_in l z (e ∷ es))
+      cut : h <ℤ e.hi → e.lo ≤ℤ h → IsEndAfter eq h v (entry (h +ℤ pos 1) e.hi e.value ∷ es) z → gathered (below (h +ℤ pos 2) (e ∷ es)) ≡ outer_starts (ends_in l z (e ∷ es))
       cut u m (inl j) = apart z high e es s.2 c u j.0 (j.1 refl) (omega (arith, ints))
       cut u m (inr j) =
           let same : entry (h +ℤ pos 1) e.hi e.value ≡ j.next = head j.first in
           together z high e es s.2 c u (ap (λ (x : Entry V). x.hi) same ∙ j.ends) (ap (λ (x : Entry V). eq x.value v) same ∙ j.like) (omega (arith, ints))
 
-      over : h <ℤ e.hi → h <ℤ e.lo → IsEndAfter eq h v (e ∷ es) z → gathered (below (h +ℤ pos 2) (e ∷ es)) ≡ least (ends_in l z (e ∷ es))
+      over : h <ℤ e.hi → h <ℤ e.lo → IsEndAfter eq h v (e ∷ es) z → gathered (below (h +ℤ pos 2) (e ∷ es)) ≡ outer_starts (ends_in l z (e ∷ es))
       over u m (inl j) = by_lt_z e.lo (h +ℤ pos 2)
           (λ n. apart z high e es s.2 c u j.0 (j.1 (omega (arith, ints))) n)
-          (λ n. ap gathered (below_none (h +ℤ pos 2) e.lo high (e ∷ es) n (omega (arith, ints), s.1, s.2)) ∙ sym (ap least (no_ends eq l z (e ∷ es) (omega (arith, ints, j.0)) c)))
+          (λ n. ap gathered (below_none (h +ℤ pos 2) e.lo high (e ∷ es) n (omega (arith, ints), s.1, s.2)) ∙ sym (ap outer_starts (no_ends eq l z (e ∷ es) (omega (arith, ints, j.0)) c)))
       over u m (inr j) =
           let same : e ≡ j.next = head j.first in
           let near = ap (λ (x : Entry V). x.lo) same ∙ j.touches in
           together z high e es s.2 c u (ap (λ (x : Entry V). x.hi) same ∙ j.ends) (ap (λ (x : Entry V). eq x.value v) same ∙ j.like) (omega (arith, ints))
 
-  -- the walk has seen the least start that the range covers
-  pub covered_seen : (z low high : ℤ) (es : List (Entry V)) → h ≤ℤ z → StartsAscend low high es → IsCanonical eq es → IsEnd eq h v es z → walked_covered eq v l h None (reverse (below (h +ℤ pos 2) es)) ≡ least (ends_in l z es)
-  covered_seen z low high es w s c i = walked_gathered low high (below (h +ℤ pos 2) es) (starts_of_below (h +ℤ pos 2) low high es s) ∙ gathered_least z low high es w s c i
+  -- the walk has seen the least and the greatest start that the range covers
+  pub covered_seen : (z low high : ℤ) (es : List (Entry V)) → h ≤ℤ z → StartsAscend low high es → IsCanonical eq es → IsEnd eq h v es z → walked_covered eq v l h None (reverse (below (h +ℤ pos 2) es)) ≡ outer_starts (ends_in l z es)
+  covered_seen z low high es w s c i = walked_gathered low high (below (h +ℤ pos 2) es) (starts_of_below (h +ℤ pos 2) low high es s) ∙ gathered_outer z low high es w s c i

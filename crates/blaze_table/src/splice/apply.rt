@@ -2,19 +2,19 @@
 ghost use Rattle.std.specs.Prelude.{◌≡◌, ◌≤ℤ◌, ◌<ℤ◌, OnOk, OnErr, IfSome, IsSome};
 ghost use Rattle.std.specs.Option.{option_map};
 ghost use Rattle.blaze_entries.specs.Found.{found_of, range_in, ranks_of};
-ghost use Rattle.blaze_entries.specs.Scanned.{seen_of, least_by};
+ghost use Rattle.blaze_entries.specs.Scanned.{seen_of};
 ghost use Rattle.blaze_entries.specs.Starts.{last_below, start_at};
 ghost use Rattle.blaze_table.specs.Canonical.{IsCanonical};
 ghost use Rattle.blaze_table.specs.Entries.{entry};
 ghost use Rattle.blaze_table.specs.Painted.{ClonesAreAlike};
-ghost use Rattle.blaze_table.specs.Planned.{ends_of, joined_start, ends_in, least, least_with};
+ghost use Rattle.blaze_table.specs.Planned.{ends_of, joined_start, ends_in, outer_starts, outer_with};
 ghost use Rattle.blaze_table.specs.Planned.{IsRest, IsPutAt, IsExtended, IsPlanOf, IsWorked};
 ghost use Rattle.blaze_table.specs.Splice.{IsPaintOf};
 
 use super::edits::{clear, trim};
 use super::inside::put_inside;
 use super::place::{move_rest, put};
-use blaze_entries::{Counted, Found, Plan};
+use blaze_entries::{Counted, Found, Plan, with_least};
 use blaze_int::Integer;
 use blaze_int::compare::{is_at_most, is_below, is_next};
 use std::alloc::AllocError;
@@ -36,12 +36,12 @@ fn paint_beside<T: Integer, V: Eq + Drop>(
     requires left { option_map (ends_of T.rank) plan.left
         ≡ option_map range_in (last_below (T.rank lo) entries.old.entries) }
     requires short { IfSome plan.left (λ f. T.rank f.end ≤ℤ T.rank plan.end) }
-    requires covered { least_by T.rank plan.covered
-        ≡ least (ends_in (T.rank lo) (T.rank plan.end) entries.old.entries) }
+    requires covered { option_map (ranks_of T.rank) plan.covered
+        ≡ outer_starts (ends_in (T.rank lo) (T.rank plan.end) entries.old.entries) }
     ensures put { OnOk result
         (IsPutAt V.eq
         (entry (T.rank lo) (T.rank plan.end) value) entries.old.entries entries.new.entries) }
-    ensures worked { OnOk result (IsWorked 2 1 entries.old entries.new) }
+    ensures worked { OnOk result (IsWorked 2 0 entries.old entries.new) }
     ensures err { OnErr result (entries.new.entries ≡ entries.old.entries) }
 {
     entries.in_hand();
@@ -68,8 +68,8 @@ fn paint_from<T: Integer, V: Eq + Clone>(
         (T.rank plan.end) entries.old.entries (option_map (ranks_of T.rank) plan.rest) }
     requires left { option_map (ends_of T.rank) plan.left
         ≡ option_map range_in (last_below (T.rank lo) entries.old.entries) }
-    requires covered { least_by T.rank plan.covered
-        ≡ least (ends_in (T.rank lo) (T.rank plan.end) entries.old.entries) }
+    requires covered { option_map (ranks_of T.rank) plan.covered
+        ≡ outer_starts (ends_in (T.rank lo) (T.rank plan.end) entries.old.entries) }
     ensures put { OnOk result
         (IsPutAt V.eq
         (entry (T.rank lo) (T.rank plan.end) value) entries.old.entries entries.new.entries) }
@@ -92,18 +92,18 @@ fn paint_on<T: Integer, V: Eq + Clone>(
     first: T,
     end: T,
     rest: Option<(T, T)>,
-    covered: Option<(T, bool)>,
+    covered: Option<(T, T)>,
 ) -> Result<(), AllocError>
     requires order { T.rank first ≤ℤ T.rank end }
     requires canonical { IsCanonical V.eq entries.old.entries }
     requires there { IsSome (start_at (T.rank first) entries.old.entries) }
     requires rest { IsRest (T.rank end) entries.old.entries (option_map (ranks_of T.rank) rest) }
     requires above { IfSome rest (λ r. T.rank first <ℤ T.rank r.0) }
-    requires covered { least_by T.rank covered
-        ≡ least (ends_in (T.rank first) (T.rank end) entries.old.entries) }
+    requires covered { option_map (ranks_of T.rank) covered
+        ≡ outer_starts (ends_in (T.rank first) (T.rank end) entries.old.entries) }
     ensures extended { OnOk result
         (IsExtended V.eq (T.rank first) (T.rank end) entries.old.entries entries.new.entries) }
-    ensures worked { OnOk result (IsWorked 1 1 entries.old entries.new) }
+    ensures worked { OnOk result (IsWorked 1 0 entries.old entries.new) }
     ensures err { OnErr result (entries.new.entries ≡ entries.old.entries) }
 {
     entries.in_hand();
@@ -126,18 +126,18 @@ fn joined_below<T: Integer>(left: Option<Found<T>>, lo: T) -> Option<T>
     }
 }
 
-// The least start of the entries that a range covers up to `end`, and whether there are more, with the one that starts where
-// the range does.
+// The least and the greatest start of the entries that a range covers up to `end`, with the one that starts where the range
+// does.
 fn with_first<T: Integer>(
     first: Option<Found<T>>,
     end: T,
-    covered: Option<(T, bool)>,
-) -> Option<(T, bool)>
-    ensures { least_by T.rank result
-        ≡ least_with (T.rank end) (option_map (found_of T.rank) first) (least_by T.rank covered) }
+    covered: Option<(T, T)>,
+) -> Option<(T, T)>
+    ensures { option_map (ranks_of T.rank) result
+        ≡ outer_with (T.rank end) (option_map (found_of T.rank) first) (option_map (ranks_of T.rank) covered) }
 {
     match first {
-        Some(found) if is_at_most(found.end, end) => Some((found.start, covered.is_some())),
+        Some(found) if is_at_most(found.end, end) => Some(with_least(found.start, covered)),
         _ => covered,
     }
 }
@@ -155,8 +155,8 @@ pub fn apply<T: Integer, V: Eq + Clone>(
     requires canonical { IsCanonical V.eq entries.old.entries }
     requires plan { IsPlanOf V.eq
         (T.rank lo) (T.rank hi) value entries.old.entries (seen_of T.rank plan) }
-    requires covered { least_by T.rank plan.covered
-        ≡ least (ends_in (T.rank lo) (T.rank plan.end) entries.old.entries) }
+    requires covered { option_map (ranks_of T.rank) plan.covered
+        ≡ outer_starts (ends_in (T.rank lo) (T.rank plan.end) entries.old.entries) }
     ensures painted { OnOk result
         (IsPaintOf V.eq
         (entry (T.rank lo) (T.rank hi) value) entries.old.entries entries.new.entries) }

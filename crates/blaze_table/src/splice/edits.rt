@@ -1,11 +1,10 @@
 //! Edits of more than one entry: what starts in a range taken out, the entry below it shortened.
-ghost use Rattle.std.specs.Prelude.{◌≡◌, ◌++◌, pos, ◌+ℤ◌, ◌≤ℤ◌};
+ghost use Rattle.std.specs.Prelude.{◌≡◌, ◌++◌, pos, ◌+ℤ◌, ◌≤ℤ◌, ◌<ℤ◌, IsSome};
 ghost use Rattle.std.specs.Option.{option_map};
-ghost use Rattle.blaze_entries.specs.Found.{range_in};
-ghost use Rattle.blaze_entries.specs.Scanned.{least_by};
-ghost use Rattle.blaze_entries.specs.Starts.{below, from, last_below};
+ghost use Rattle.blaze_entries.specs.Found.{range_in, ranks_of};
+ghost use Rattle.blaze_entries.specs.Starts.{below, from, last_below, start_at};
 ghost use Rattle.blaze_table.specs.Canonical.{IsCanonical};
-ghost use Rattle.blaze_table.specs.Planned.{ends_of, starts_in, least, IsWorked};
+ghost use Rattle.blaze_table.specs.Planned.{ends_of, starts_in, outer_starts, IsWorked};
 ghost use Rattle.blaze_table.specs.Splice.{before};
 
 use blaze_entries::{Counted, Found};
@@ -31,50 +30,50 @@ pub fn trim<T: Integer, V: Eq>(entries: &mut Counted<T, V>, lo: T, left: Option<
     }
 }
 
-// Takes out the entries that start above `first`, up to `end`, each by a look.
-fn clear_by_looks<T: Integer, V: Eq + Drop>(entries: &mut Counted<T, V>, first: T, end: T)
-    requires { T.rank first ≤ℤ T.rank end }
+// Takes out the entries that start above `first`, up to the one that starts at `last`, each by a look: the loop ends with that
+// one, since it is there.
+fn clear_by_looks<T: Integer, V: Eq + Drop>(entries: &mut Counted<T, V>, first: T, last: T)
+    requires order { T.rank first <ℤ T.rank last }
+    requires there { IsSome (start_at (T.rank last) entries.old.entries) }
     ensures entries { entries.new.entries
         ≡ below (T.rank first +ℤ pos 1) entries.old.entries
-        ++ from (T.rank end +ℤ pos 1) entries.old.entries }
-    ensures worked { IsWorked 0 1 entries.old entries.new }
+        ++ from (T.rank last +ℤ pos 1) entries.old.entries }
+    ensures worked { IsWorked 0 0 entries.old entries.new }
 {
     entries.in_hand();
-    if !is_below(first, end) {
-        return;
-    }
-    let next = after(first, end);
+    let next = after(first, last);
     while let Some(ends) = entries.range_at_or_above(next) {
         entries.in_hand();
-        if is_below(end, ends.0) {
+        entries.remove(ends.0);
+        if is_at_most(last, ends.0) {
             return;
         }
-        entries.remove(ends.0);
     }
-    entries.in_hand();
 }
 
-/// Takes out the entries that start above `first`, up to `end`, of which the least start is known, and whether there are
-/// more: only for those it looks.
+/// Takes out the entries that start above `first`, up to `end`, of which the least and the greatest start are known: it looks
+/// only for those above the least, and no more behind the greatest.
 pub fn clear<T: Integer, V: Eq + Drop>(
     entries: &mut Counted<T, V>,
     first: T,
     end: T,
-    covered: Option<(T, bool)>,
+    covered: Option<(T, T)>,
 )
     requires order { T.rank first ≤ℤ T.rank end }
-    requires covered { least_by T.rank covered
-        ≡ least (starts_in (T.rank first) (T.rank end) entries.old.entries) }
+    requires covered { option_map (ranks_of T.rank) covered
+        ≡ outer_starts (starts_in (T.rank first) (T.rank end) entries.old.entries) }
     ensures entries { entries.new.entries
         ≡ below (T.rank first +ℤ pos 1) entries.old.entries
         ++ from (T.rank end +ℤ pos 1) entries.old.entries }
-    ensures worked { IsWorked 0 1 entries.old entries.new }
+    ensures worked { IsWorked 0 0 entries.old entries.new }
 {
+    // The contract alone speaks of `end`.
+    let _ = end;
     entries.in_hand();
-    if let Some(least) = covered {
-        entries.remove(least.0);
-        if least.1 {
-            clear_by_looks(entries, first, end);
+    if let Some(starts) = covered {
+        entries.remove(starts.0);
+        if is_below(starts.0, starts.1) {
+            clear_by_looks(entries, first, starts.1);
         }
     }
 }

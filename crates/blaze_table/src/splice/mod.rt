@@ -1,12 +1,13 @@
 //! A value put on the keys of a range, in place: the entries beside the range are found, then edited.
-ghost use Rattle.std.specs.Option.{option_or};
+ghost use Rattle.std.specs.Option.{option_map, option_or};
 ghost use Rattle.std.specs.Prelude.{◌≡◌, ◌+◌, ◌≤◌, length, pos, ◌+ℤ◌, ◌≤ℤ◌, Ok, IfOk, OnOk, OnErr};
-ghost use Rattle.blaze_entries.specs.Scanned.{seen_of, least_by};
+ghost use Rattle.blaze_entries.specs.Found.{ranks_of};
+ghost use Rattle.blaze_entries.specs.Scanned.{seen_of};
 ghost use Rattle.blaze_table.specs.Count.{keys_in};
 ghost use Rattle.blaze_table.specs.Work.{IsCountedPaint};
 ghost use Rattle.blaze_table.specs.Entries.{entry};
 ghost use Rattle.blaze_table.specs.Painted.{IsInside, ClonesAreAlike};
-ghost use Rattle.blaze_table.specs.Planned.{ends_in, least, IsPlanOf, IsWorked, reaches};
+ghost use Rattle.blaze_table.specs.Planned.{ends_in, outer_starts, IsPlanOf, IsWorked, reaches};
 ghost use Rattle.blaze_table.specs.Splice.{IsListPainted, before, after};
 ghost use Rattle.blaze_table.specs.Table.{IsTable};
 
@@ -50,8 +51,8 @@ fn paint_planned<T: Integer, V: Eq + Clone>(
     requires table { IsTable V.eq T.low T.high (T.SafeLen.number len) entries.old.entries }
     requires plan { IsPlanOf V.eq
         (T.rank lo) (T.rank hi) value entries.old.entries (seen_of T.rank plan) }
-    requires covered { least_by T.rank plan.covered
-        ≡ least (ends_in (T.rank lo) (T.rank plan.end) entries.old.entries) }
+    requires covered { option_map (ranks_of T.rank) plan.covered
+        ≡ outer_starts (ends_in (T.rank lo) (T.rank plan.end) entries.old.entries) }
     requires outside { pos (T.SafeLen.number outside)
         ≡ keys_in (before (T.rank lo) entries.old.entries)
         +ℤ keys_in (after (T.rank hi) entries.old.entries) }

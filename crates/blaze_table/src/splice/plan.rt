@@ -1,6 +1,8 @@
 //! What a paint has to know of the entries beside its range, found by single looks.
 ghost use Rattle.std.specs.Prelude.{◌≡◌, ◌+◌, pos, ◌+ℤ◌, ◌≤ℤ◌, reverse, None};
-ghost use Rattle.blaze_entries.specs.Scanned.{seen_of, unseen, walked, least_by, walked_covered};
+ghost use Rattle.std.specs.Option.{option_map};
+ghost use Rattle.blaze_entries.specs.Found.{ranks_of};
+ghost use Rattle.blaze_entries.specs.Scanned.{seen_of, unseen, walked, walked_covered};
 ghost use Rattle.blaze_entries.specs.Scanned.{answers, walked_keys};
 ghost use Rattle.blaze_entries.specs.Starts.{below};
 
@@ -22,7 +24,7 @@ pub fn plan<T: Integer, V: Eq>(
     ensures plan { seen_of T.rank result.0
         ≡ walked V.eq value.now (T.rank lo) (T.rank hi) (unseen (T.rank hi))
         (reverse (below (T.rank hi +ℤ pos 2) entries.old.entries)) }
-    ensures covered { least_by T.rank result.0.covered
+    ensures covered { option_map (ranks_of T.rank) result.0.covered
         ≡ walked_covered V.eq value.now (T.rank lo) (T.rank hi) None
         (reverse (below (T.rank hi +ℤ pos 2) entries.old.entries)) }
     ensures len { pos (T.SafeLen.number result.1)

@@ -1,8 +1,10 @@
 use Rattle.std.proofs.Common.{◌≡◌, ◌+◌, pos, ◌+ℤ◌, ◌≤ℤ◌, None, arith, ap, sym, subst, ◌∙◌}
 use Rattle.std.proofs.lemmas.Int.{ints}
 use Rattle.std.specs.Prelude.{reverse, map}
+use Rattle.std.specs.Option.{option_map}
 use Rattle.blaze_entries.specs.Places.{places, full, held}
-use Rattle.blaze_entries.specs.Scanned.{seen_of, unseen, walked, least_by, walked_covered, answers, walked_keys}
+use Rattle.blaze_entries.specs.Found.{ranks_of}
+use Rattle.blaze_entries.specs.Scanned.{seen_of, unseen, walked, walked_covered, answers, walked_keys}
 use Rattle.blaze_entries.specs.Starts.{below}
 use Rattle.blaze_entries.proofs.Held.{places_ascend, full_of, full_held, below-held}
 use Rattle.blaze_entries.proofs.Scans.{down_from, step_fits, last_covered, last_keys, next_walked, next_covered, next_answers, next_keys}
@@ -44,7 +46,7 @@ returns-then-is_below-clause-covered g c =
     let rank = g.T.Integer.rank in
     let seen = c.in-Some.ensures.found in
     c.see.ensures.covered
-    ∙ sym (last_covered (rank c.args.lo) (rank c.args.hi) g.V.PartialEq.eq c.args.value.now _ seen.0 seen.1 _ _ (down_from seen.0 _ _ seen.2) (sym c.is_below.ensures ∙ c.if-is_below.true) (least_by rank c.loop-found.plan.covered))
+    ∙ sym (last_covered (rank c.args.lo) (rank c.args.hi) g.V.PartialEq.eq c.args.value.now _ seen.0 seen.1 _ _ (down_from seen.0 _ _ seen.2) (sym c.is_below.ensures ∙ c.if-is_below.true) (option_map (ranks_of rank) c.loop-found.plan.covered))
     ∙ c.loop-found.invariant.covered
 
 pub returns-then-is_below-clause-len : goal.returns-then-is_below-clause-len
@@ -71,7 +73,7 @@ loop-found-preserved g c =
       plan = ap (λ s. walked eq v l h s (reverse (full (places rank c.next_found.new.nodes)))) c.see.ensures.seen
           ∙ sym (next_walked l h eq v _ seen.0 seen.1 _ _ down over (seen_of rank c.loop-found.plan)) ∙ c.loop-found.invariant.plan;
       covered = ap (λ s. walked_covered eq v l h s (reverse (full (places rank c.next_found.new.nodes)))) c.see.ensures.covered
-          ∙ sym (next_covered l h eq v _ seen.0 seen.1 _ _ down over (least_by rank c.loop-found.plan.covered)) ∙ c.loop-found.invariant.covered;
+          ∙ sym (next_covered l h eq v _ seen.0 seen.1 _ _ down over (option_map (ranks_of rank) c.loop-found.plan.covered)) ∙ c.loop-found.invariant.covered;
       looks = omega (arith, looks, c.in-Some.ensures.looked, c.loop-found.invariant.looks);
       room = omega (arith, ints, keys, c.less-left.ensures, c.loop-found.invariant.room);
       left = omega (arith, ints, keys, c.less-left.ensures, c.loop-found.invariant.left);

@@ -1,7 +1,9 @@
 use Rattle.std.proofs.Common.{◌≡◌, ◌+◌, pos, ◌+ℤ◌, ◌≤ℤ◌, length, None}
 use Rattle.std.specs.Prelude.{reverse}
+use Rattle.std.specs.Option.{option_map}
 use Rattle.blaze_entries.specs.Places.{places, entries_of, AreFull}
-use Rattle.blaze_entries.specs.Scanned.{seen_of, unseen, walked, least_by, walked_covered, answers, walked_keys}
+use Rattle.blaze_entries.specs.Found.{ranks_of}
+use Rattle.blaze_entries.specs.Scanned.{seen_of, unseen, walked, walked_covered, answers, walked_keys}
 use Rattle.blaze_entries.specs.Starts.{below}
 use Rattle.blaze_entries.proofs.scan.walk.Given as goal
 
@@ -11,7 +13,7 @@ invariant-loop-found g l = record {
   full : AreFull (places g.T.Integer.rank l.nodes);
   plan : walked g.V.PartialEq.eq l.value (g.T.Integer.rank l.lo) (g.T.Integer.rank l.hi) (seen_of g.T.Integer.rank l.plan) (reverse (entries_of g.T.Integer.rank l.nodes))
       ≡ walked g.V.PartialEq.eq l.value (g.T.Integer.rank l.lo) (g.T.Integer.rank l.hi) (unseen (g.T.Integer.rank l.hi)) (reverse (below (g.T.Integer.rank l.fn.top +ℤ pos 1) (entries_of g.T.Integer.rank l.fn.tree.entries)));
-  covered : walked_covered g.V.PartialEq.eq l.value (g.T.Integer.rank l.lo) (g.T.Integer.rank l.hi) (least_by g.T.Integer.rank l.plan.covered) (reverse (entries_of g.T.Integer.rank l.nodes))
+  covered : walked_covered g.V.PartialEq.eq l.value (g.T.Integer.rank l.lo) (g.T.Integer.rank l.hi) (option_map (ranks_of g.T.Integer.rank) l.plan.covered) (reverse (entries_of g.T.Integer.rank l.nodes))
       ≡ walked_covered g.V.PartialEq.eq l.value (g.T.Integer.rank l.lo) (g.T.Integer.rank l.hi) None (reverse (below (g.T.Integer.rank l.fn.top +ℤ pos 1) (entries_of g.T.Integer.rank l.fn.tree.entries)));
   looks : l.looks.number + answers (g.T.Integer.rank l.lo) (reverse (entries_of g.T.Integer.rank l.nodes))
       ≡ l.fn.looks.number + answers (g.T.Integer.rank l.lo) (reverse (below (g.T.Integer.rank l.fn.top +ℤ pos 1) (entries_of g.T.Integer.rank l.fn.tree.entries)));

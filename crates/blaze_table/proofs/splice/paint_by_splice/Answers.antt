@@ -3,7 +3,7 @@ use Rattle.blaze_entries.specs.Counted.{CountedEntries}
 use Rattle.blaze_entries.specs.Scanned.{Seen, seen_of}
 use Rattle.blaze_table.specs.Count.{keys_in}
 use Rattle.blaze_table.specs.Entries.{Entry}
-use Rattle.blaze_table.specs.Planned.{ends_in, least, IsPlanOf}
+use Rattle.blaze_table.specs.Planned.{ends_in, outer_starts, IsPlanOf}
 use Rattle.blaze_table.specs.Splice.{before, after}
 use Rattle.blaze_table.proofs.Walks.Covering.{covered_seen}
 use Rattle.blaze_table.proofs.Walks.FewLooks.{counted_paint}
@@ -39,7 +39,7 @@ paint_planned-requires-clause-covered g c =
     let z = rank c.plan-seen.result.0.end in
     let up = end_up eq g.met.V.Eq.laws l h c.args.value c.requires.order g.T.Integer.low g.T.Integer.high es c.in_hand.ensures c.requires.table.canonical z i.end in
     c.plan-seen.ensures.covered ∙ covered_seen eq c.args.value l h z g.T.Integer.low g.T.Integer.high es up c.in_hand.ensures c.requires.table.canonical i.end
-    ∙ sym (ap (λ (x : List (Entry g.row.V.Denot)). least (ends_in l z x)) same)
+    ∙ sym (ap (λ (x : List (Entry g.row.V.Denot)). outer_starts (ends_in l z x)) same)
 
 pub paint_planned-requires-clause-outside : goal.paint_planned-requires-clause-outside
 paint_planned-requires-clause-outside g c =

@@ -1,8 +1,10 @@
 use Rattle.std.proofs.Common.{◌≡◌, ◌+◌, pos, ℤ, ◌+ℤ◌, ◌≤ℤ◌, None, ap, sym, subst, ◌∙◌}
 use Rattle.std.specs.Prelude.{reverse}
+use Rattle.std.specs.Option.{option_map}
 use Rattle.blaze_entries.specs.Counted.{CountedEntries}
+use Rattle.blaze_entries.specs.Found.{ranks_of}
 use Rattle.blaze_entries.specs.Places.{places, full}
-use Rattle.blaze_entries.specs.Scanned.{seen_of, unseen, walked, least_by, walked_covered, answers, walked_keys}
+use Rattle.blaze_entries.specs.Scanned.{seen_of, unseen, walked, walked_covered, answers, walked_keys}
 use Rattle.blaze_entries.specs.Starts.{below}
 use Rattle.blaze_entries.proofs.Halves.{below_next}
 use Rattle.blaze_entries.proofs.Views.{looked}
@@ -34,7 +36,7 @@ returns-clause-covered g c =
     let rank = g.T.Integer.rank in
     let eq = g.V.PartialEq.eq in
     let es = full (places rank c.self.inside.tree.entries) in
-    subst (λ (s : CountedEntries g.row.V.Denot). least_by rank c.walk.result.0.covered ≡ walked_covered eq c.args.value.now (rank c.args.lo) (rank c.args.hi) None (reverse (below (rank c.args.hi +ℤ pos 2) s.entries))) c.self.view_is
+    subst (λ (s : CountedEntries g.row.V.Denot). option_map (ranks_of rank) c.walk.result.0.covered ≡ walked_covered eq c.args.value.now (rank c.args.lo) (rank c.args.hi) None (reverse (below (rank c.args.hi +ℤ pos 2) s.entries))) c.self.view_is
     (c.walk.ensures.covered ∙ ap (λ xs. walked_covered eq c.args.value.now (rank c.args.lo) (rank c.args.hi) None (reverse xs))
     (below_next g.T.Integer.low g.T.Integer.high (rank c.args.hi) (rank c.next_or_last-top.result) es c.self.invariant.ascend c.next_or_last-top.ensures))
 

@@ -1,5 +1,5 @@
 use Rattle.std.proofs.Common.{ap, sym, ◌∙◌}
-use Rattle.blaze_table.specs.Planned.{least}
+use Rattle.blaze_table.specs.Planned.{outer_starts}
 use Rattle.blaze_table.proofs.Paints.Composed.{put_canonical, put_amid, put_at}
 use Rattle.blaze_table.proofs.Walks.Plans.{above_rest}
 use Rattle.blaze_table.proofs.splice.apply.paint_beside.Goals as goal
@@ -18,7 +18,7 @@ trim-requires-clause-canonical g c =
 pub clear-requires-clause-covered : goal.clear-requires-clause-covered
 clear-requires-clause-covered g c =
     let rank = g.T.Integer.rank in
-    c.requires.covered ∙ sym (ap least (put_amid g.V.PartialEq.eq g.T.Integer.low g.T.Integer.high c.args.entries.now.entries c.in_hand.ensures c.requires.canonical (rank c.args.lo) (rank c.args.plan.end) c.args.value c.requires.order c.put.new.entries.entries c.in_ok-put.ensures.ok
+    c.requires.covered ∙ sym (ap outer_starts (put_amid g.V.PartialEq.eq g.T.Integer.low g.T.Integer.high c.args.entries.now.entries c.in_hand.ensures c.requires.canonical (rank c.args.lo) (rank c.args.plan.end) c.args.value c.requires.order c.put.new.entries.entries c.in_ok-put.ensures.ok
     c.trim.new.entries.entries c.trim.ensures.entries))
 
 pub returns-clause-put : goal.returns-clause-put

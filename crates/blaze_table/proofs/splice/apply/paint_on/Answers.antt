@@ -1,14 +1,14 @@
 use Rattle.std.proofs.Common.{length, ap, sym, ◌∙◌, arith}
 use Rattle.blaze_entries.specs.Counted.{CountedEntries}
 use Rattle.blaze_entries.specs.Starts.{start_at}
-use Rattle.blaze_table.specs.Planned.{least}
+use Rattle.blaze_table.specs.Planned.{outer_starts}
 use Rattle.blaze_table.proofs.Paints.Composed.{extended}
 use Rattle.blaze_table.proofs.Paints.EditLists.{length-with_end}
 use Rattle.blaze_table.proofs.Cuts.Splits.{some_of}
 use Rattle.blaze_table.proofs.splice.apply.paint_on.Goals as goal
 
 pub clear-requires-clause-covered : goal.clear-requires-clause-covered
-clear-requires-clause-covered g c = c.requires.covered ∙ sym (ap least c.in_ok-move_rest.ensures.kept.amid)
+clear-requires-clause-covered g c = c.requires.covered ∙ sym (ap outer_starts c.in_ok-move_rest.ensures.kept.amid)
 
 pub returns-clause-extended : goal.returns-clause-extended
 returns-clause-extended g c =

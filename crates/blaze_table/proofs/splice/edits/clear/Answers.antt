@@ -1,32 +1,53 @@
-use Rattle.std.proofs.Common.{ap, sym, ◌∙◌}
+use Rattle.std.proofs.Common.{ap, sym, ◌∙◌, arith}
+use Rattle.std.specs.Option.{option_map}
+use Rattle.std.proofs.lemmas.Int.{ints}
+use Rattle.blaze_int.proofs.Comparisons.{lt_holds, lt_fails}
 use Rattle.blaze_entries.specs.Counted.{CountedEntries}
-use Rattle.blaze_entries.specs.Scanned.{least_by}
-use Rattle.blaze_table.proofs.Paints.FirstOut.{none_out, first_out, others_out}
+use Rattle.blaze_entries.specs.Found.{ranks_of}
+use Rattle.blaze_table.proofs.Paints.CoveredOut.{none_out, outer_of, last_left, others_out}
 use Rattle.blaze_table.proofs.splice.edits.clear.Goals as goal
 
 pub remove-requires : goal.remove-requires
 remove-requires g c =
     let rank = g.T.Integer.rank in
-    (first_out (rank c.args.first) (rank c.args.end) g.T.Integer.low g.T.Integer.high c.requires.order c.args.entries.now.entries c.in_hand.ensures (rank c.in-Some.least.0) c.in-Some.least.1
-    (sym (ap (least_by rank) c.in-Some.is) ∙ c.requires.covered)).there
+    (outer_of (rank c.args.first) (rank c.args.end) g.T.Integer.low g.T.Integer.high c.args.entries.now.entries c.in_hand.ensures c.requires.order (rank c.in-Some.starts.0) (rank c.in-Some.starts.1)
+    (sym (ap (option_map (ranks_of rank)) c.in-Some.is) ∙ c.requires.covered)).there
 
-pub returns-then-least-clause-entries : goal.returns-then-least-clause-entries
-returns-then-least-clause-entries g c =
+pub clear_by_looks-requires-clause-order : goal.clear_by_looks-requires-clause-order
+clear_by_looks-requires-clause-order g c =
     let rank = g.T.Integer.rank in
-    let one = first_out (rank c.args.first) (rank c.args.end) g.T.Integer.low g.T.Integer.high c.requires.order c.args.entries.now.entries c.in_hand.ensures (rank c.in-Some.least.0) c.in-Some.least.1
-    (sym (ap (least_by rank) c.in-Some.is) ∙ c.requires.covered) in
-    others_out (rank c.args.first) (rank c.args.end) g.T.Integer.low g.T.Integer.high c.requires.order c.args.entries.now.entries c.in_hand.ensures _ _ one c.remove.new.self.entries c.clear_by_looks.new.entries.entries
-    (ap (λ (s : CountedEntries g.row.V.Denot). s.entries) c.remove.ensures.entries) c.clear_by_looks.ensures.entries
+    let i = outer_of (rank c.args.first) (rank c.args.end) g.T.Integer.low g.T.Integer.high c.args.entries.now.entries c.in_hand.ensures c.requires.order (rank c.in-Some.starts.0) (rank c.in-Some.starts.1)
+    (sym (ap (option_map (ranks_of rank)) c.in-Some.is) ∙ c.requires.covered) in
+    let over = i.over in
+    let more = lt_holds (rank c.in-Some.starts.0) (rank c.in-Some.starts.1) (sym c.is_below.ensures ∙ c.if-is_below.true) in
+    omega (arith, ints)
 
-pub returns-else-least-clause-entries : goal.returns-else-least-clause-entries
-returns-else-least-clause-entries g c =
+pub clear_by_looks-requires-clause-there : goal.clear_by_looks-requires-clause-there
+clear_by_looks-requires-clause-there g c =
     let rank = g.T.Integer.rank in
-    let one = first_out (rank c.args.first) (rank c.args.end) g.T.Integer.low g.T.Integer.high c.requires.order c.args.entries.now.entries c.in_hand.ensures (rank c.in-Some.least.0) c.in-Some.least.1
-    (sym (ap (least_by rank) c.in-Some.is) ∙ c.requires.covered) in
-    ap (λ (s : CountedEntries g.row.V.Denot). s.entries) c.remove.ensures.entries ∙ one.alone c.if-least.false
+    let i = outer_of (rank c.args.first) (rank c.args.end) g.T.Integer.low g.T.Integer.high c.args.entries.now.entries c.in_hand.ensures c.requires.order (rank c.in-Some.starts.0) (rank c.in-Some.starts.1)
+    (sym (ap (option_map (ranks_of rank)) c.in-Some.is) ∙ c.requires.covered) in
+    last_left (rank c.args.first) (rank c.args.end) g.T.Integer.low g.T.Integer.high c.args.entries.now.entries c.in_hand.ensures (rank c.in-Some.starts.0) (rank c.in-Some.starts.1) i
+    (lt_holds (rank c.in-Some.starts.0) (rank c.in-Some.starts.1) (sym c.is_below.ensures ∙ c.if-is_below.true)) c.remove.new.self.entries (ap (λ (s : CountedEntries g.row.V.Denot). s.entries) c.remove.ensures.entries)
+
+pub returns-then-is_below-clause-entries : goal.returns-then-is_below-clause-entries
+returns-then-is_below-clause-entries g c =
+    let rank = g.T.Integer.rank in
+    let i = outer_of (rank c.args.first) (rank c.args.end) g.T.Integer.low g.T.Integer.high c.args.entries.now.entries c.in_hand.ensures c.requires.order (rank c.in-Some.starts.0) (rank c.in-Some.starts.1)
+    (sym (ap (option_map (ranks_of rank)) c.in-Some.is) ∙ c.requires.covered) in
+    others_out (rank c.args.first) (rank c.args.end) g.T.Integer.low g.T.Integer.high c.args.entries.now.entries c.in_hand.ensures (rank c.in-Some.starts.0) (rank c.in-Some.starts.1) i
+    (lt_holds (rank c.in-Some.starts.0) (rank c.in-Some.starts.1) (sym c.is_below.ensures ∙ c.if-is_below.true)) c.remove.new.self.entries (ap (λ (s : CountedEntries g.row.V.Denot). s.entries) c.remove.ensures.entries)
+    c.clear_by_looks.new.entries.entries c.clear_by_looks.ensures.entries
+
+pub returns-else-is_below-clause-entries : goal.returns-else-is_below-clause-entries
+returns-else-is_below-clause-entries g c =
+    let rank = g.T.Integer.rank in
+    let i = outer_of (rank c.args.first) (rank c.args.end) g.T.Integer.low g.T.Integer.high c.args.entries.now.entries c.in_hand.ensures c.requires.order (rank c.in-Some.starts.0) (rank c.in-Some.starts.1)
+    (sym (ap (option_map (ranks_of rank)) c.in-Some.is) ∙ c.requires.covered) in
+    ap (λ (s : CountedEntries g.row.V.Denot). s.entries) c.remove.ensures.entries ∙ i.alone (lt_fails (rank c.in-Some.starts.0) (rank c.in-Some.starts.1) (sym c.is_below.ensures ∙ c.if-is_below.false))
 
 pub returns-in_default-clause-entries : goal.returns-in_default-clause-entries
 returns-in_default-clause-entries g c =
     let rank = g.T.Integer.rank in
-    none_out (rank c.args.first) (rank c.args.end) g.T.Integer.low g.T.Integer.high c.requires.order c.args.entries.now.entries c.in_hand.ensures
-    (sym (ap (least_by rank) c.in_default.is) ∙ c.requires.covered)
+    none_out (rank c.args.first) (rank c.args.end) g.T.Integer.low g.T.Integer.high c.args.entries.now.entries c.in_hand.ensures c.requires.order
+    (sym (ap (option_map (ranks_of rank)) c.in_default.is) ∙ c.requires.covered)

@@ -3,8 +3,8 @@ use Rattle.std.specs.Prelude.{reverse}
 use Rattle.std.specs.Option.{option_map}
 use Rattle.std.proofs.lemmas.Int.{ints}
 use Rattle.blaze_entries.specs.Counted.{CountedEntries}
-use Rattle.blaze_entries.specs.Found.{found_in, found_of}
-use Rattle.blaze_entries.specs.Scanned.{seen_of, unseen, walked, least_by, walked_covered, answers, walked_keys}
+use Rattle.blaze_entries.specs.Found.{found_in, found_of, ranks_of}
+use Rattle.blaze_entries.specs.Scanned.{seen_of, unseen, walked, walked_covered, answers, walked_keys}
 use Rattle.blaze_entries.specs.Starts.{below, last_below}
 use Rattle.blaze_entries.proofs.Halves.{below_next}
 use Rattle.blaze_entries.proofs.Scans.{step_fits, last_walked, last_covered, last_answers, last_keys, next_walked, next_covered, next_answers, next_keys}
@@ -59,7 +59,7 @@ returns-then-is_below-clause-covered g c =
     let eq = g.V.PartialEq.eq in
     let i = c.loop-last.invariant in
     let d = down_to eq c.args.value.now g.T.Integer.low g.T.Integer.high c.args.entries.now.entries c.in_hand.ensures i.key (found_of rank c.in-Some.found) (sym (ap (option_map (found_of rank)) c.in-Some.is) ∙ i.found) in
-    c.see.ensures.covered ∙ sym (last_covered (rank c.args.lo) (rank c.args.hi) eq c.args.value.now _ d.found d.is _ _ d.down (sym c.is_below.ensures ∙ c.if-is_below.true) (least_by rank c.loop-last.plan.covered)) ∙ i.covered
+    c.see.ensures.covered ∙ sym (last_covered (rank c.args.lo) (rank c.args.hi) eq c.args.value.now _ d.found d.is _ _ d.down (sym c.is_below.ensures ∙ c.if-is_below.true) (option_map (ranks_of rank) c.loop-last.plan.covered)) ∙ i.covered
 
 pub returns-then-is_below-clause-len : goal.returns-then-is_below-clause-len
 returns-then-is_below-clause-len g c =
@@ -109,7 +109,7 @@ loop-last-preserved g c =
       plan = ap (λ s. walked eq v l h s (reverse (below (rank c.in-Some.found.start) es))) c.see.ensures.seen
           ∙ sym (next_walked l h eq v _ d.found d.is _ _ d.down over (seen_of rank c.loop-last.plan)) ∙ i.plan;
       covered = ap (λ s. walked_covered eq v l h s (reverse (below (rank c.in-Some.found.start) es))) c.see.ensures.covered
-          ∙ sym (next_covered l h eq v _ d.found d.is _ _ d.down over (least_by rank c.loop-last.plan.covered)) ∙ i.covered;
+          ∙ sym (next_covered l h eq v _ d.found d.is _ _ d.down over (option_map (ranks_of rank) c.loop-last.plan.covered)) ∙ i.covered;
       looks = omega (arith, looks, more, i.looks);
       room = omega (arith, ints, keys, c.less-left.ensures, i.room);
       left = omega (arith, ints, keys, c.less-left.ensures, i.left);
@@ -129,7 +129,7 @@ returns-clause-covered g c =
     let eq = g.V.PartialEq.eq in
     let i = c.loop-last.invariant in
     let none = at_bottom eq c.args.value.now g.T.Integer.low g.T.Integer.high c.args.entries.now.entries c.in_hand.ensures i.key (sym (ap (option_map (found_of rank)) c.in_default.is) ∙ i.found) in
-    sym (ap (λ (xs : List (Entry g.row.V.Denot)). walked_covered eq c.args.value.now (rank c.args.lo) (rank c.args.hi) (least_by rank c.loop-last.plan.covered) xs) none) ∙ i.covered
+    sym (ap (λ (xs : List (Entry g.row.V.Denot)). walked_covered eq c.args.value.now (rank c.args.lo) (rank c.args.hi) (option_map (ranks_of rank) c.loop-last.plan.covered) xs) none) ∙ i.covered
 
 pub returns-clause-len : goal.returns-clause-len
 returns-clause-len g c =
