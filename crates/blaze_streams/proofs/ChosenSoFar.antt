@@ -13,7 +13,7 @@ use Rattle.blaze_table.proofs.Canonical.Lookup.{IsAbove, at_in, at_under, at_ove
 use Rattle.blaze_table.proofs.Paints.Painted.{glue-nil}
 use Rattle.blaze_table.proofs.Canonical.Runs.{one_per_run}
 use Rattle.blaze_table.proofs.Paints.Splices.{canonical_glue, at_glue, below_glue, below_more, above_after, at-after_over}
-use Rattle.blaze_streams.specs.Choosing.{IsTaken, PutsValue, IsChoiceMade}
+use Rattle.blaze_streams.specs.Choosing.{IsTaken, PutsValue, PutsAlike}
 use Rattle.blaze_streams.specs.Cursors.{first_key, IsFrom, lesser}
 use Rattle.blaze_streams.proofs.Steady.{same_some, from_first, at_below_from, at-after_under}
 use Rattle.blaze_streams.proofs.Lesser.{at_most_both, at_most_itself, lesser_one, some_lesser}
@@ -84,19 +84,17 @@ module _ {A B V : Type 0} (eq : V → V → Bool) (laws : IsEquivalence eq) (low
     content = λ k. nothing_before eq laws None (chosen_at choose L R k) (chosen_at choose L R k) refl refl;
   }
 
-  -- with no key left, all is chosen
-  pub chosen_all : (nothing : choose None None ≡ None) (left L : List (Entry A)) (right R : List (Entry B)) (out : List (Entry V)) → IsChosenSoFar eq low high choose left right L R out → lesser (first_key L) (first_key R) ≡ None → IsChosen eq low high choose left right out
-  chosen_all nothing left L right R out c f =
-      let n = no_first (first_key L) (first_key R) f in
-      record {
-        range_map = record { runs = one_per_run eq laws out c.canonical; keys = c.keys };
-        content = λ k. same_along eq (ap (option_or (at out k)) (ap (λ x. choose x (at R k)) (none_there L k n.0) ∙ ap (choose None) (none_there R k n.1) ∙ nothing) ∙ or_none (at out k)) refl (c.content k);
-      }
+  -- where nothing is chosen from what is left, all is chosen
+  pub chosen_all : (left L : List (Entry A)) (right R : List (Entry B)) (out : List (Entry V)) → IsChosenSoFar eq low high choose left right L R out → ((k : ℤ) → chosen_at choose L R k ≡ None) → IsChosen eq low high choose left right out
+  chosen_all left L right R out c none = record {
+    range_map = record { runs = one_per_run eq laws out c.canonical; keys = c.keys };
+    content = λ k. same_along eq (ap (option_or (at out k)) (none k) ∙ or_none (at out k)) refl (c.content k);
+  }
 
-  module _ (eqa : A → A → Bool) (eqb : B → B → Bool) (nothing : choose None None ≡ None) (L L' : List (Entry A)) (R R' : List (Entry B)) (s f t : ℤ) (value : Option V) (ca : IsCanonical eqa L) (cb : IsCanonical eqb R) (starts : lesser (first_key L) (first_key R) ≡ Some s) (taken : IsTaken eq choose s L L' R R' f t value) where
+  module _ (eqa : A → A → Bool) (eqb : B → B → Bool) (nothing : choose None None ≡ None) (L L' : List (Entry A)) (R R' : List (Entry B)) (f t : ℤ) (value : Option V) (ca : IsCanonical eqa L) (cb : IsCanonical eqb R) (taken : IsTaken eq choose L L' R R' f t value) where
     none_under : (k : ℤ) → k <ℤ f → chosen_at choose L R k ≡ None
-    none_under k l = by_lt_z k s
-        (λ h. let from = both_from s L R starts in ap (λ x. choose x (at R k)) (at_below_from eqa L s k ca from.0 h) ∙ ap (choose None) (at_below_from eqb R s k cb from.1 h) ∙ nothing)
+    none_under k l = by_lt_z k taken.start
+        (λ h. let from = both_from taken.start L R taken.starts in ap (λ x. choose x (at R k)) (at_below_from eqa L taken.start k ca from.0 h) ∙ ap (choose None) (at_below_from eqb R taken.start k cb from.1 h) ∙ nothing)
         (λ h. taken.none k h l)
 
     none_after : (k : ℤ) → k ≤ℤ t → chosen_at choose L' R' k ≡ None
@@ -118,7 +116,7 @@ module _ {A B V : Type 0} (eq : V → V → Bool) (laws : IsEquivalence eq) (low
         (λ h. nothing_before eq laws (at piece k) _ (chosen_at choose L R k) (over k h) (same_over k h))
         (λ h. nothing_after eq laws (at piece k) _ (chosen_at choose L R k) (none_after k h) (same_along eq {a = at piece k} refl (sym (taken.same k l h)) (here k l h))))
 
-    piece_of : (o : Option V) (out new : List (Entry V)) → low ≤ℤ f → t ≤ℤ high → SameOption eq (chosen_at choose L R f) o → PutsValue eq f t o out new → (piece : List (Entry V)) × (new ≡ glue eq out piece) × IsPiece eq low high choose L L' R R' s t piece
+    piece_of : (o : Option V) (out new : List (Entry V)) → low ≤ℤ f → t ≤ℤ high → SameOption eq (chosen_at choose L R f) o → PutsValue eq f t o out new → (piece : List (Entry V)) × (new ≡ glue eq out piece) × IsPiece eq low high choose L L' R R' taken.start t piece
     piece_of None out new w u alike p = (
       [],
       p ∙ sym (glue-nil eq laws out),
@@ -144,10 +142,11 @@ module _ {A B V : Type 0} (eq : V → V → Bool) (laws : IsEquivalence eq) (low
           },
         )
 
-  module _ (eqa : A → A → Bool) (eqb : B → B → Bool) (nothing : choose None None ≡ None) (left L L' : List (Entry A)) (right R R' : List (Entry B)) (out new : List (Entry V)) (s : ℤ) (ca : IsCanonical eqa L) (cb : IsCanonical eqb R) (starts : lesser (first_key L) (first_key R) ≡ Some s) where
-    more_of : (f t : ℤ) (value : Option V) (piece : List (Entry V)) → IsTaken eq choose s L L' R R' f t value → IsChosenSoFar eq low high choose left right L R out → IsPiece eq low high choose L L' R R' s t piece → IsChosenSoFar eq low high choose left right L' R' (glue eq out piece)
-    more_of f t value piece taken c p =
-        let under = c.under s starts in
+  module _ (eqa : A → A → Bool) (eqb : B → B → Bool) (nothing : choose None None ≡ None) (left L L' : List (Entry A)) (right R R' : List (Entry B)) (out new : List (Entry V)) (f t : ℤ) (value : Option V) (ca : IsCanonical eqa L) (cb : IsCanonical eqb R) (taken : IsTaken eq choose L L' R R' f t value) where
+    more_of : (piece : List (Entry V)) → IsChosenSoFar eq low high choose left right L R out → IsPiece eq low high choose L L' R R' taken.start t piece → IsChosenSoFar eq low high choose left right L' R' (glue eq out piece)
+    more_of piece c p =
+        let s = taken.start in
+        let under = c.under s taken.starts in
         let below = below_glue eq (t +ℤ pos 1) out piece (below_more s (t +ℤ pos 1) out (omega (arith, ints, taken.from, taken.order)) under) p.below in
         record {
           canonical = canonical_glue eq laws (s -ℤ pos 1) out piece c.canonical p.canonical (below_more s (s -ℤ pos 1 +ℤ pos 1) out (omega (arith, ints)) under) p.above;
@@ -165,8 +164,9 @@ module _ {A B V : Type 0} (eq : V → V → Bool) (laws : IsEquivalence eq) (low
               (same_or_right eq laws (at out k) (option_or (at piece k) rest) (chosen_at choose L R k) (p.content k)) (c.content k)));
         }
 
-    -- one step more
-    pub chosen_more : IsChosenSoFar eq low high choose left right L R out → IsChoiceMade eq low high choose s L L' R R' out new → IsChosenSoFar eq low high choose left right L' R' new
-    chosen_more c m =
-        let p = piece_of eqa eqb nothing L L' R R' s m.first m.end m.value ca cb starts m.taken m.value out new m.low_is m.high_is m.taken.alike m.put in
-        rw p.1 (more_of m.first m.end m.value p.0 m.taken c p.2)
+    -- one step more, with a value behind the list that is equal to the one that is taken
+    pub chosen_more : low ≤ℤ f → t ≤ℤ high → PutsAlike eq f t value out new → IsChosenSoFar eq low high choose left right L R out → IsChosenSoFar eq low high choose left right L' R' new
+    chosen_more low_is high_is puts c =
+        let alike = same_trans eq laws (chosen_at choose L R f) value puts.alike taken.alike puts.same in
+        let p = piece_of eqa eqb nothing L L' R R' f t value ca cb taken puts.alike out new low_is high_is alike puts.put in
+        rw p.1 (more_of p.0 c p.2)

@@ -5,7 +5,7 @@ use Rattle.blaze_table.specs.Entries.{Entry}
 use Rattle.blaze_table.specs.Canonical.{IsCanonical}
 use Rattle.blaze_table.specs.Splice.{after}
 use Rattle.blaze_table.proofs.Paints.Splices.{after_keeps}
-use Rattle.blaze_streams.specs.Choosing.{IsChoiceMade}
+use Rattle.blaze_streams.specs.Choosing.{IsTaken}
 use Rattle.blaze_streams.specs.Cursors.{first_key, lesser}
 use Rattle.blaze_streams.proofs.LengthsLeft.{lengths_left, all_less}
 use Rattle.blaze_streams.proofs.Lesser.{lesser_one}
@@ -29,7 +29,7 @@ both_less eqa eqb s t L R ca cb starts order = ⊎_elim
     (λ e. omega (arith, less eqb t s R cb order e, fewer eqa t L ca))
     (lesser_one (first_key L) (first_key R) s starts)
 
-pub step_less : {A B V : Type 0} (eqa : A → A → Bool) (eqb : B → B → Bool) (eq : V → V → Bool) (low high : ℤ) (choose : Option A → Option B → Option V) (s : ℤ) (L L' : List (Entry A)) (R R' : List (Entry B)) (out new : List (Entry V))
-    → IsCanonical eqa L → IsCanonical eqb R → lesser (first_key L) (first_key R) ≡ Some s → IsChoiceMade eq low high choose s L L' R R' out new → lengths_left L' + lengths_left R' < lengths_left L + lengths_left R
-step_less eqa eqb eq low high choose s L L' R R' out new ca cb starts m =
-    rw (m.taken.left_is, m.taken.right_is) (both_less eqa eqb s m.end L R ca cb starts (omega (arith, ints, m.taken.from, m.taken.order)))
+pub step_less : {A B V : Type 0} (eqa : A → A → Bool) (eqb : B → B → Bool) (eq : V → V → Bool) (choose : Option A → Option B → Option V) (L L' : List (Entry A)) (R R' : List (Entry B)) (f t : ℤ) (value : Option V)
+    → IsCanonical eqa L → IsCanonical eqb R → IsTaken eq choose L L' R R' f t value → lengths_left L' + lengths_left R' < lengths_left L + lengths_left R
+step_less eqa eqb eq choose L L' R R' f t value ca cb taken =
+    rw (taken.left_is, taken.right_is) (both_less eqa eqb taken.start t L R ca cb taken.starts (omega (arith, ints, taken.from, taken.order)))

@@ -4,7 +4,7 @@ use Rattle.std.specs.Prelude.{◌⊎◌}
 use Rattle.std.proofs.lemmas.Int.{ints, by_lt_z}
 use Rattle.blaze_int.proofs.Comparisons.{le_true, le_false}
 use Rattle.blaze_streams.specs.Cursors.{lesser}
-use Rattle.blaze_streams.proofs.Steady.{AtMost}
+use Rattle.blaze_streams.proofs.Steady.{AtMost, same_some}
 
 pub at_most_both : (p q : Option ℤ) (t : ℤ) → AtMost t (lesser p q) → AtMost t p × AtMost t q
 at_most_both None q t m = (tt, m)
@@ -15,6 +15,20 @@ at_most_both (Some a) (Some b) t m = by_lt_z b a
 
 pub at_most_itself : (o : Option ℤ) (t : ℤ) → o ≡ Some t → AtMost t o
 at_most_itself o t p = let u : t ≤ℤ t = omega (arith, ints) in subst (AtMost t) (sym p) u
+
+pub at_most_less : (a b : ℤ) (o : Option ℤ) → a ≤ℤ b → AtMost b o → AtMost a o
+at_most_less a b None h m = tt
+at_most_less a b (Some c) h m = omega (arith, ints)
+
+-- a key that is at most the other is the lesser
+pub lesser_first : (a : ℤ) (o : Option ℤ) → AtMost a o → lesser (Some a) o ≡ Some a
+lesser_first a None m = refl
+lesser_first a (Some b) m = ap (λ t. Some (cond t a b)) (le_true a b m)
+
+pub not_less : (a b : ℤ) → lesser (Some a) (Some b) ≡ Some a → a ≤ℤ b
+not_less a b e = by_lt_z b a
+    (λ l. let same : b ≡ a = same_some b a (sym (ap (λ t. Some (cond t a b)) (le_false a b l)) ∙ e) in omega (arith, ints))
+    (λ l. l)
 
 -- it is one of the two
 pub lesser_one : (p q : Option ℤ) (s : ℤ) → lesser p q ≡ Some s → (p ≡ Some s) ⊎ (q ≡ Some s)

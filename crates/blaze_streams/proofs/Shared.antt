@@ -1,9 +1,10 @@
 -- The keys that the first ranges of two lists share.
 use Rattle.std.specs.Int.{int_max, int_min}
-use Rattle.std.specs.Prelude.{◌⊎◌}
+use Rattle.std.specs.Prelude.{◌⊎◌, int_le}
 use Rattle.std.specs.Option.{option_map}
-use Rattle.std.proofs.Common.{◌≡◌, ℤ, ◌≤ℤ◌, ◌<ℤ◌, Bool, List, [], ◌∷◌, Option, Some, None, refl, ◌∙◌, sym, subst, ap, arith, ⊎_elim}
+use Rattle.std.proofs.Common.{◌≡◌, ℤ, ◌≤ℤ◌, ◌<ℤ◌, Bool, cond, List, [], ◌∷◌, Option, Some, None, refl, ◌∙◌, sym, subst, ap, arith, ⊎_elim}
 use Rattle.std.proofs.lemmas.Int.{ints, by_lt_z}
+use Rattle.blaze_int.proofs.Comparisons.{le_true, le_false}
 use Rattle.blaze_entries.specs.Found.{range_in}
 use Rattle.blaze_entries.specs.Starts.{first_entry}
 use Rattle.blaze_entries.proofs.Alike.{same_along, same_none}
@@ -14,15 +15,11 @@ use Rattle.blaze_table.specs.Splice.{after}
 use Rattle.blaze_table.proofs.Canonical.Lookup.{at_in}
 use Rattle.blaze_table.proofs.Paints.Splices.{after_keeps}
 use Rattle.blaze_streams.specs.Choosing.{IsTaken}
-use Rattle.blaze_streams.specs.Cursors.{first_key, steady_to, FirstHas, lesser}
-use Rattle.blaze_streams.proofs.ChosenSoFar.{both_from, chosen_at}
+use Rattle.blaze_streams.specs.Cursors.{first_key, FirstHas, lesser}
+use Rattle.blaze_streams.proofs.ChosenSoFar.{chosen_at}
 use Rattle.blaze_streams.proofs.Steady.{at_first}
-use Rattle.blaze_streams.proofs.Taken.{taken_to, taken_steady}
-
-ends : {C : Type 0} (e : Entry C) (l x : ℤ) → Some (l, x) ≡ Some (range_in e) → (e.lo ≡ l) × (e.hi ≡ x)
-ends e l x p =
-    let same : range_in e ≡ (l, x) = cc in
-    (ap (λ (r : ℤ × ℤ). r.0) same, ap (λ (r : ℤ × ℤ). r.1) same)
+use Rattle.blaze_streams.proofs.Lesser.{lesser_exchanged, lesser_first}
+use Rattle.blaze_streams.proofs.Taken.{ends, taken_to}
 
 at_most_max : (a b : ℤ) → b ≤ℤ int_max a b
 at_most_max a b = grind (arith, ints)
@@ -35,7 +32,7 @@ module _ {A B : Type 0} where
   none_with None = refl
   none_with (Some y) = refl
 
-  module _ (eqa : A → A → Bool) (eqb : B → B → Bool) (s : ℤ) where
+  module _ (eqa : A → A → Bool) (eqb : B → B → Bool) where
     module _ (e : Entry A) (es : List (Entry A)) (f : Entry B) (fs : List (Entry B)) (ca : IsCanonical eqa (e ∷ es)) (cb : IsCanonical eqb (f ∷ fs)) where
       -- nothing is chosen before both have started
       none_before : (k : ℤ) → k <ℤ int_max f.lo e.lo → chosen_at left_with_right (e ∷ es) (f ∷ fs) k ≡ None
@@ -50,33 +47,35 @@ module _ {A B : Type 0} where
           ∙ ap (left_with_right (Some e.value)) (at_in f fs k (grind (arith, ints, l)) (grind (arith, ints, h)))
 
     -- up to a key up to which nothing is chosen
-    nothing_to : (t : ℤ) (L L' : List (Entry A)) (R R' : List (Entry B)) → IsCanonical eqa L → IsCanonical eqb R → s ≤ℤ t → ((k : ℤ) → k ≤ℤ t → chosen_at left_with_right L R k ≡ None) → L' ≡ after t L → R' ≡ after t R → IsTaken eqa left_with_right s L L' R R' s t None
-    nothing_to t L L' R R' ca cb order nothing = taken_to eqa eqb eqa left_with_right L L' R R' s t None ca cb order (λ k a b. nothing k b ∙ sym (nothing s order)) (same_none eqa (chosen_at left_with_right L R s) (nothing s order))
+    nothing_to : (s t : ℤ) (L L' : List (Entry A)) (R R' : List (Entry B)) → lesser (first_key L) (first_key R) ≡ Some s → s ≤ℤ t → ((k : ℤ) → k ≤ℤ t → chosen_at left_with_right L R k ≡ None) → L' ≡ after t L → R' ≡ after t R → IsTaken eqa left_with_right L L' R R' s t None
+    nothing_to s t L L' R R' starts order nothing = taken_to eqa left_with_right L L' R R' s t None starts order (λ k a b. nothing k b ∙ sym (nothing s order)) (same_none eqa (chosen_at left_with_right L R s) (nothing s order))
 
     module _ (l x r y first end : ℤ) (first_is : first ≡ int_max r l) (end_is : end ≡ int_min y x) where
       -- the left range goes, which ends below the right one
-      pub left_gone : (L L' : List (Entry A)) (R : List (Entry B)) → IsCanonical eqa L → IsCanonical eqb R → lesser (first_key L) (first_key R) ≡ Some s → Some (l, x) ≡ option_map range_in (first_entry L) → Some (r, y) ≡ option_map range_in (first_entry R) → x <ℤ r → L' ≡ after x L
-          → IsTaken eqa left_with_right s L L' R R s x None
-      left_gone [] L' R ca cb starts p q u left_is = cc
-      left_gone (e ∷ es) L' [] ca cb starts p q u left_is = cc
-      left_gone (e ∷ es) L' (f ∷ fs) ca cb starts p q u left_is =
-          let from = both_from s (e ∷ es) (f ∷ fs) starts in
+      pub left_gone : (L L' : List (Entry A)) (R : List (Entry B)) → IsCanonical eqa L → IsCanonical eqb R → Some (l, x) ≡ option_map range_in (first_entry L) → Some (r, y) ≡ option_map range_in (first_entry R) → x <ℤ r → L' ≡ after x L
+          → IsTaken eqa left_with_right L L' R R l x None
+      left_gone [] L' R ca cb p q u left_is = cc
+      left_gone (e ∷ es) L' [] ca cb p q u left_is = cc
+      left_gone (e ∷ es) L' (f ∷ fs) ca cb p q u left_is =
           let left = ends e l x p in
           let right = ends f r y q in
-          nothing_to x (e ∷ es) L' (f ∷ fs) (f ∷ fs) ca cb (omega (arith, ints, from.0, ca.0, left.1))
+          nothing_to l x (e ∷ es) L' (f ∷ fs) (f ∷ fs)
+          (lesser_first e.lo (Some f.lo) (omega (arith, ints, ca.0, left.1, u, right.0)) ∙ ap (λ z. Some z) left.0)
+          (omega (arith, ints, ca.0, left.0, left.1))
           (λ k h. none_before e es f fs ca cb k (grind (arith, ints, h, u, right.0)))
           left_is (sym (after_keeps x f fs (omega (arith, ints, u, cb.0, right.0)) (omega (arith, ints, u, right.0))))
 
       -- the right range goes, which ends below the left one
-      pub right_gone : (L : List (Entry A)) (R R' : List (Entry B)) → IsCanonical eqa L → IsCanonical eqb R → lesser (first_key L) (first_key R) ≡ Some s → Some (l, x) ≡ option_map range_in (first_entry L) → Some (r, y) ≡ option_map range_in (first_entry R) → y <ℤ l → R' ≡ after y R
-          → IsTaken eqa left_with_right s L L R R' s y None
-      right_gone [] R R' ca cb starts p q u right_is = cc
-      right_gone (e ∷ es) [] R' ca cb starts p q u right_is = cc
-      right_gone (e ∷ es) (f ∷ fs) R' ca cb starts p q u right_is =
-          let from = both_from s (e ∷ es) (f ∷ fs) starts in
+      pub right_gone : (L : List (Entry A)) (R R' : List (Entry B)) → IsCanonical eqa L → IsCanonical eqb R → Some (l, x) ≡ option_map range_in (first_entry L) → Some (r, y) ≡ option_map range_in (first_entry R) → y <ℤ l → R' ≡ after y R
+          → IsTaken eqa left_with_right L L R R' r y None
+      right_gone [] R R' ca cb p q u right_is = cc
+      right_gone (e ∷ es) [] R' ca cb p q u right_is = cc
+      right_gone (e ∷ es) (f ∷ fs) R' ca cb p q u right_is =
           let left = ends e l x p in
           let right = ends f r y q in
-          nothing_to y (e ∷ es) (e ∷ es) (f ∷ fs) R' ca cb (omega (arith, ints, from.1, cb.0, right.1))
+          nothing_to r y (e ∷ es) (e ∷ es) (f ∷ fs) R'
+          (lesser_exchanged (Some e.lo) (Some f.lo) ∙ lesser_first f.lo (Some e.lo) (omega (arith, ints, cb.0, right.1, u, left.0)) ∙ ap (λ z. Some z) right.0)
+          (omega (arith, ints, cb.0, right.0, right.1))
           (λ k h. none_before e es f fs ca cb k (grind (arith, ints, h, u, left.0)))
           (sym (after_keeps y e es (omega (arith, ints, u, ca.0, left.0)) (omega (arith, ints, u, left.0)))) right_is
 
@@ -91,12 +90,11 @@ module _ {A B : Type 0} where
           let left = ends e l x p in
           (grind (arith, ints, end_is, left.0, left.1, ca.0, v), grind (arith, ints, end_is, left.1))
 
-      pub shared_taken : (L L' : List (Entry A)) (R R' : List (Entry B)) (value : Option A) → IsCanonical eqa L → IsCanonical eqb R → lesser (first_key L) (first_key R) ≡ Some s → Some (l, x) ≡ option_map range_in (first_entry L) → Some (r, y) ≡ option_map range_in (first_entry R) → r ≤ℤ x → l ≤ℤ y → SameOption eqa (at L end) value → L' ≡ after end L → R' ≡ after end R
-          → IsTaken eqa left_with_right s L L' R R' first end value
-      shared_taken [] L' R R' value ca cb starts p q c d alike left_is right_is = cc
-      shared_taken (e ∷ es) L' [] R' value ca cb starts p q c d alike left_is right_is = cc
-      shared_taken (e ∷ es) L' (f ∷ fs) R' value ca cb starts p q c d alike left_is right_is =
-          let from = both_from s (e ∷ es) (f ∷ fs) starts in
+      pub shared_taken : (L L' : List (Entry A)) (R R' : List (Entry B)) (value : Option A) → IsCanonical eqa L → IsCanonical eqb R → Some (l, x) ≡ option_map range_in (first_entry L) → Some (r, y) ≡ option_map range_in (first_entry R) → r ≤ℤ x → l ≤ℤ y → SameOption eqa (at L end) value → L' ≡ after end L → R' ≡ after end R
+          → IsTaken eqa left_with_right L L' R R' first end value
+      shared_taken [] L' R R' value ca cb p q c d alike left_is right_is = cc
+      shared_taken (e ∷ es) L' [] R' value ca cb p q c d alike left_is right_is = cc
+      shared_taken (e ∷ es) L' (f ∷ fs) R' value ca cb p q c d alike left_is right_is =
           let left = ends e l x p in
           let right = ends f r y q in
           let first_at : first ≡ int_max f.lo e.lo = first_is ∙ ap (λ z. int_max z l) (sym right.0) ∙ ap (int_max f.lo) (sym left.0) in
@@ -107,7 +105,11 @@ module _ {A B : Type 0} where
           let start : e.lo ≤ℤ first = subst (λ z. e.lo ≤ℤ z) (sym first_at) (at_most_max f.lo e.lo) in
           let stop : end ≤ℤ e.hi = subst (λ z. z ≤ℤ e.hi) (sym end_at) (min_at_most f.hi e.hi) in
           record {
-            from = omega (arith, ints, from.0, start);
+            start = cond (int_le e.lo f.lo) e.lo f.lo;
+            starts = refl;
+            from = by_lt_z f.lo e.lo
+                (λ b. rw (le_false e.lo f.lo b) (omega (arith, ints, start)))
+                (λ b. rw (le_true e.lo f.lo b) start);
             order = u;
             none = λ k a b. none_before e es f fs ca cb k (subst (λ z. k <ℤ z) first_at b);
             same = λ k a b. inside k a b ∙ sym here;
@@ -116,16 +118,12 @@ module _ {A B : Type 0} where
             right_is = right_is;
           }
 
-    -- where one list has no range, nothing is chosen, and the keys up to the first change are skipped
-    pub nothing_taken : (t : ℤ) (L L' : List (Entry A)) (R R' : List (Entry B)) → IsCanonical eqa L → IsCanonical eqb R → lesser (first_key L) (first_key R) ≡ Some s → (None ≡ option_map range_in (first_entry L)) ⊎ (None ≡ option_map range_in (first_entry R)) → lesser (steady_to s L) (steady_to s R) ≡ Some t → L' ≡ after t L → R' ≡ after t R
-        → IsTaken eqa left_with_right s L L' R R' s t None
-    nothing_taken t L L' R R' ca cb starts none stops left_is right_is = taken_steady eqa eqb eqa left_with_right L L' R R' s t None ca cb starts stops (same_none eqa (chosen_at left_with_right L R s) (nothing_there L R none)) left_is right_is
+    -- where one list has no range, nothing is chosen
+    pub nothing_shared : (L : List (Entry A)) (R : List (Entry B)) → (None ≡ option_map range_in (first_entry L)) ⊎ (None ≡ option_map range_in (first_entry R)) → (k : ℤ) → chosen_at left_with_right L R k ≡ None
+    nothing_shared [] R n k = none_with (at R k)
+    nothing_shared (e ∷ es) [] n k = without_right (at (e ∷ es) k)
       where
         without_right : (x : Option A) → left_with_right {B = B} x None ≡ None
         without_right None = refl
         without_right (Some x) = refl
-
-        nothing_there : (L : List (Entry A)) (R : List (Entry B)) → (None ≡ option_map range_in (first_entry L)) ⊎ (None ≡ option_map range_in (first_entry R)) → chosen_at left_with_right L R s ≡ None
-        nothing_there [] R n = none_with (at R s)
-        nothing_there (e ∷ es) [] n = without_right (at (e ∷ es) s)
-        nothing_there (e ∷ es) (f ∷ fs) n = ⊎_elim (λ q. cc) (λ q. cc) n
+    nothing_shared (e ∷ es) (f ∷ fs) n k = ⊎_elim (λ q. cc) (λ q. cc) n

@@ -1,17 +1,16 @@
 -- How far a list stays as it is.
 use Rattle.std.proofs.Common.{◌≡◌, ℤ, pos, ◌+ℤ◌, ◌-ℤ◌, ◌≤ℤ◌, ◌<ℤ◌, Bool, cond, List, [], ◌∷◌, Option, Some, None, refl, ◌∙◌, sym, subst, ap, arith, inl, inr, ⊎_elim}
-use Rattle.std.specs.Prelude.{◌⊎◌, int_le}
-use Rattle.std.specs.Option.{is_some, option_map}
+use Rattle.std.specs.Prelude.{◌⊎◌}
 use Rattle.std.specs.Cmp.{IsEquivalence}
 use Rattle.std.proofs.lemmas.Int.{ints, by_lt_z}
 use Rattle.blaze_int.proofs.Comparisons.{le_true, le_false}
 use Rattle.blaze_entries.proofs.Alike.{same_along}
 use Rattle.blaze_table.specs.Entries.{Entry, at, SameOption}
-use Rattle.blaze_table.specs.Canonical.{IsApart, IsCanonical}
+use Rattle.blaze_table.specs.Canonical.{IsCanonical}
 use Rattle.blaze_table.specs.Splice.{after}
 use Rattle.blaze_table.proofs.Canonical.Lookup.{at_in, at_over, at_before}
 use Rattle.blaze_table.proofs.Canonical.Unique.{breaks}
-use Rattle.blaze_table.proofs.Paints.Splices.{after_skips, after_keeps, above_after, canonical_after}
+use Rattle.blaze_table.proofs.Paints.Splices.{above_after, canonical_after}
 use Rattle.blaze_streams.specs.Cursors.{first_key, steady_to, IsFrom, Reaches}
 
 -- t is at most the number, where there is one
@@ -51,26 +50,12 @@ module _ {A : Type 0} where
     pub at_first : (e : Entry A) (es : List (Entry A)) (k : ℤ) → IsCanonical eq (e ∷ es) → k <ℤ e.lo → at (e ∷ es) k ≡ None
     at_first e es k c l = at_before eq (e ∷ es) k k c l (omega (arith, ints))
 
-    -- where no range starts below the key, the list has the key if its first range starts there
-    pub has_first : (e : Entry A) (es : List (Entry A)) (k : ℤ) → IsCanonical eq (e ∷ es) → k ≤ℤ e.lo → is_some (at (e ∷ es) k) ≡ int_le e.lo k
-    has_first e es k c h = by_lt_z k e.lo
-        (λ l. ap is_some (at_first e es k c l) ∙ sym (le_false e.lo k l))
-        (λ l. ap is_some (at_in e es k l (omega (arith, ints, c.0, h))) ∙ sym (le_true e.lo k l))
-
     pub at_below_from : (es : List (Entry A)) (s k : ℤ) → IsCanonical eq es → IsFrom s es → k <ℤ s → at es k ≡ None
     at_below_from [] s k c f h = refl
     at_below_from (e ∷ es) s k c f h = at_first e es k c (omega (arith, ints, f))
 
     pub at-after_under : (t k : ℤ) (es : List (Entry A)) → IsCanonical eq es → k ≤ℤ t → at (after t es) k ≡ None
     at-after_under t k es c l = at_before eq (after t es) t k (canonical_after eq t es c) (above_after t es) l
-
-    -- where the first range ends at t, what lies above t is the others
-    pub after_first : (t : ℤ) (e : Entry A) (es : List (Entry A)) → IsCanonical eq (e ∷ es) → e.hi ≤ℤ t → t ≤ℤ e.hi → after t (e ∷ es) ≡ es
-    after_first t e es c h l = after_skips t e es h ∙ others es c.1 c.2
-      where
-        others : (fs : List (Entry A)) → IsApart eq e fs → IsCanonical eq fs → after t fs ≡ fs
-        others [] a d = refl
-        others (f ∷ fs) a d = after_keeps t f fs (omega (arith, ints, a.0, d.0)) (omega (arith, ints, a.0))
 
     pub steady : (s t k : ℤ) (es : List (Entry A)) → IsCanonical eq es → IsFrom s es → AtMost t (steady_to s es) → s ≤ℤ k → k ≤ℤ t → at es k ≡ at es s
     steady s t k [] c f m l h = refl
@@ -108,24 +93,3 @@ module _ {A : Type 0} where
         other : (x : Option A) → at es (e.hi +ℤ pos 1) ≡ x → SameOption eq (Some e.value) x → ⊥
         other None q v = v
         other (Some w) q v = breaks eq laws e es w c v (same_along eq (sym q) refl (laws.refl w))
-
-    -- where nothing is at the first key and nothing changes up to t, nothing is left out up to t
-    pub after_alone : (s t : ℤ) (es : List (Entry A)) → IsCanonical eq es → IsFrom s es → at es s ≡ None → AtMost t (steady_to s es) → es ≡ after t es
-    after_alone s t [] c f n m = refl
-    after_alone s t (e ∷ es) c f n m = by_steady s e es
-        (λ b p. absurd (cc (sym (at_in e es s b (omega (arith, ints, c.0, f))) ∙ n)))
-        (λ b p. let u : t ≤ℤ (e.lo -ℤ pos 1) = subst (AtMost t) p m in sym (after_keeps t e es (omega (arith, ints, c.0)) (omega (arith, ints))))
-
-    -- where nothing is at s, nothing changes up to the key before the first
-    pub steady_alone : (s : ℤ) (es : List (Entry A)) → IsCanonical eq es → IsFrom s es → at es s ≡ None → steady_to s es ≡ option_map (λ k. k -ℤ pos 1) (first_key es)
-    steady_alone s [] c f n = refl
-    steady_alone s (e ∷ es) c f n = by_steady s e es
-        (λ b p. absurd (cc (sym (at_in e es s b (omega (arith, ints, c.0, f))) ∙ n)))
-        (λ b p. p)
-
-    -- and the first key is above s
-    pub first_over : (s k : ℤ) (es : List (Entry A)) → IsCanonical eq es → IsFrom s es → at es s ≡ None → first_key es ≡ Some k → s <ℤ k
-    first_over s k [] c f n p = cc
-    first_over s k (e ∷ es) c f n p = by_lt_z s e.lo
-        (λ l. let same = same_some e.lo k p in omega (arith, ints))
-        (λ l. absurd (cc (sym (at_in e es s l (omega (arith, ints, c.0, f))) ∙ n)))

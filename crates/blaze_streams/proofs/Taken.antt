@@ -1,135 +1,151 @@
 -- What is taken of two lists.
-use Rattle.std.proofs.Common.{◌≡◌, ℤ, pos, ◌-ℤ◌, ◌≤ℤ◌, ◌<ℤ◌, Bool, true, false, List, Option, Some, None, refl, ◌∙◌, sym, subst, ap, arith, ⊎_elim}
-use Rattle.std.specs.Cmp.{IsEquivalence}
-use Rattle.std.specs.Prelude.{IfSome}
-use Rattle.std.specs.Option.{is_some, option_map, option_xor}
+use Rattle.std.proofs.Common.{◌≡◌, ℤ, pos, ◌+ℤ◌, ◌-ℤ◌, ◌≤ℤ◌, ◌<ℤ◌, Bool, List, [], ◌∷◌, Option, Some, None, refl, ◌∙◌, sym, subst, ap, arith}
+use Rattle.std.specs.Int.{int_min}
+use Rattle.std.specs.Option.{option_map, option_xor}
 use Rattle.std.proofs.lemmas.Int.{ints}
-use Rattle.blaze_entries.proofs.Alike.{same_along, same_none, same_trans}
-use Rattle.blaze_table.specs.Entries.{Entry, entry, at, SameOption}
+use Rattle.blaze_entries.specs.Found.{range_in}
+use Rattle.blaze_entries.specs.Starts.{first_entry}
+use Rattle.blaze_entries.proofs.Alike.{same_along, same_none}
+use Rattle.blaze_table.specs.Entries.{Entry, at, SameOption}
 use Rattle.blaze_table.specs.Canonical.{IsCanonical}
+use Rattle.blaze_table.specs.Chosen.{left_alone}
 use Rattle.blaze_table.specs.Splice.{after}
 use Rattle.blaze_table.proofs.Canonical.Lookup.{at_in}
-use Rattle.blaze_streams.specs.Choosing.{IsRangeTaken, IsTaken, PutsAlike, IsChoiceMade}
-use Rattle.blaze_streams.specs.Cursors.{first_key, steady_to, IsFrom, lesser}
-use Rattle.blaze_streams.proofs.ChosenSoFar.{both_from, chosen_at}
-use Rattle.blaze_streams.proofs.Lesser.{at_most_both, at_most_itself, lesser_exchanged, lesser_one}
-use Rattle.blaze_streams.proofs.Steady.{AtMost, after_alone, after_first, first_over, starts_there, steady, steady_alone, steady_far}
+use Rattle.blaze_table.proofs.Paints.Splices.{after_keeps}
+use Rattle.blaze_streams.specs.Choosing.{IsTaken, IsTakenAlone}
+use Rattle.blaze_streams.specs.Cursors.{first_key, FirstHas, lesser}
+use Rattle.blaze_streams.proofs.ChosenSoFar.{chosen_at, none_there}
+use Rattle.blaze_streams.proofs.Lesser.{at_most_less, lesser_exchanged, lesser_first, not_less}
+use Rattle.blaze_streams.proofs.Steady.{AtMost, at_below_from, from_first}
 
-pub none_of : {A : Type 0} (o : Option A) → is_some o ≡ false → o ≡ None
-none_of None p = refl
-none_of (Some x) p = cc
+-- an entry's ends, by what the code has in hand
+pub ends : {C : Type 0} (e : Entry C) (l x : ℤ) → Some (l, x) ≡ Some (range_in e) → (e.lo ≡ l) × (e.hi ≡ x)
+ends e l x p =
+    let same : range_in e ≡ (l, x) = cc in
+    (ap (λ (r : ℤ × ℤ). r.0) same, ap (λ (r : ℤ × ℤ). r.1) same)
 
-module _ {A B V : Type 0} (eqa : A → A → Bool) (eqb : B → B → Bool) (eq : V → V → Bool) (choose : Option A → Option B → Option V) (L L' : List (Entry A)) (R R' : List (Entry B)) (s t : ℤ) (value : Option V) (ca : IsCanonical eqa L) (cb : IsCanonical eqb R) where
-  -- up to a key up to which the same is chosen
-  pub taken_to : s ≤ℤ t → ((k : ℤ) → s ≤ℤ k → k ≤ℤ t → chosen_at choose L R k ≡ chosen_at choose L R s) → SameOption eq (chosen_at choose L R s) value → L' ≡ after t L → R' ≡ after t R → IsTaken eq choose s L L' R R' s t value
-  taken_to order same alike left_is right_is = record {
-    from = omega (arith, ints);
-    order = order;
-    none = λ k l h. absurd (omega (arith, ints));
-    same = same;
-    alike = alike;
-    left_is = left_is;
-    right_is = right_is;
-  }
+at_most_min : (a b t : ℤ) → t ≡ int_min b a → (t ≤ℤ a) × (t ≤ℤ b)
+at_most_min a b t p = (grind (arith, ints, p), grind (arith, ints, p))
 
-  -- up to the last key to which neither list changes
-  pub taken_steady : lesser (first_key L) (first_key R) ≡ Some s → lesser (steady_to s L) (steady_to s R) ≡ Some t → SameOption eq (chosen_at choose L R s) value → L' ≡ after t L → R' ≡ after t R → IsTaken eq choose s L L' R R' s t value
-  taken_steady starts ends =
-      let from = both_from s L R starts in
-      let to : AtMost t (steady_to s L) × AtMost t (steady_to s R) = at_most_both (steady_to s L) (steady_to s R) t (at_most_itself _ t ends) in
-      taken_to
-      (⊎_elim (λ e. steady_far eqa s t L ca from.0 e) (λ e. steady_far eqb s t R cb from.1 e) (lesser_one (steady_to s L) (steady_to s R) t ends))
-      (λ k l h. ap (λ x. choose x (at R k)) (steady eqa s t k L ca from.0 to.0 l h) ∙ ap (choose (at L s)) (steady eqb s t k R cb from.1 to.1 l h))
+over_min : (a b t s : ℤ) → t ≡ int_min b a → s ≤ℤ a → s ≤ℤ b → s ≤ℤ t
+over_min a b t s p l h = grind (arith, ints, p, l, h)
 
-  -- the first range of the right list, where the left one does not matter if the right one is there
-  pub taken_right : ((x z : Option A) (v : B) → choose x (Some v) ≡ choose z (Some v)) → (v : B) → IsRangeTaken s t v R R' → SameOption eq (choose (at L s) (Some v)) value → L' ≡ after t L → IsTaken eq choose s L L' R R' s t value
-  taken_right decided v is alike left_is =
-      let c = subst (IsCanonical eqb) is cb in
-      let order : s ≤ℤ t = c.0 in
-      let there : (k : ℤ) → s ≤ℤ k → k ≤ℤ t → at R k ≡ Some v = λ k l h. ap (λ r. at r k) is ∙ at_in (entry s t v) R' k l h in
-      let here = there s (omega (arith, ints)) order in
-      taken_to order
-      (λ k l h. ap (choose (at L k)) (there k l h) ∙ decided (at L k) (at L s) v ∙ sym (ap (choose (at L s)) here))
-      (same_along eq (sym (ap (choose (at L s)) here)) refl alike) left_is
-      (sym (ap (after t) is ∙ after_first eqb t (entry s t v) R' c (omega (arith, ints)) (omega (arith, ints))))
+-- a key from l up to x, below the first key of the list
+abbrev pub IsEndBefore : {A : Type 0} → ℤ → ℤ → ℤ → List (Entry A) → Type 0
+IsEndBefore l x t R = (l ≤ℤ t) × (t ≤ℤ x) × AtMost (t +ℤ pos 1) (first_key R)
 
--- two lists up to the last key to which neither changes
-module _ {A B : Type 0} (eqa : A → A → Bool) (eqb : B → B → Bool) (s t : ℤ) (L : List (Entry A)) (R : List (Entry B)) (ca : IsCanonical eqa L) (cb : IsCanonical eqb R) (starts : lesser (first_key L) (first_key R) ≡ Some s) (ends : lesser (steady_to s L) (steady_to s R) ≡ Some t) where
-  from : IsFrom s L × IsFrom s R
-  from = both_from s L R starts
-
-  to : AtMost t (steady_to s L) × AtMost t (steady_to s R)
-  to = at_most_both (steady_to s L) (steady_to s R) t (at_most_itself _ t ends)
-
-  pub other_kept : at R s ≡ None → R ≡ after t R
-  other_kept alone = after_alone eqb s t R cb from.1 alone to.1
-
--- of two lists, what the one has at their first key and the other has not
-module _ {A B : Type 0} (eqa : A → A → Bool) (eqb : B → B → Bool) (s : ℤ) (L : List (Entry A)) (R : List (Entry B)) (cb : IsCanonical eqb R) (starts : lesser (first_key L) (first_key R) ≡ Some s) (alone : at R s ≡ None) where
-  pub starts_alone : first_key L ≡ Some s
-  starts_alone = ⊎_elim (λ e. e) (λ e. let there = starts_there eqb s R cb e in absurd (some_none there.0 (sym there.1 ∙ alone))) (lesser_one (first_key L) (first_key R) s starts)
-    where
-      some_none : (v : B) → Some v ≡ None → ⊥
-      some_none v p = cc
-
-  pub over_alone : {T : Type 0} (rank : T → ℤ) (bound : Option T) → option_map rank bound ≡ first_key R → IfSome bound (λ b. s <ℤ rank b)
-  over_alone rank None p = tt
-  over_alone rank (Some b) p = first_over eqb s (rank b) R cb (both_from s L R starts).1 alone (sym p)
-
-  pub ends_alone : {T : Type 0} (rank : T → ℤ) (bound : Option T) (t : ℤ) → option_map rank bound ≡ first_key R → lesser (steady_to s L) (option_map (λ b. rank b -ℤ pos 1) bound) ≡ Some t → lesser (steady_to s L) (steady_to s R) ≡ Some t
-  ends_alone {T = T} rank bound t p q = ap (lesser (steady_to s L)) (steady_alone eqb s R cb (both_from s L R starts).1 alone ∙ sym (ap (option_map (λ k. k -ℤ pos 1)) p) ∙ before_all bound) ∙ q
-    where
-      before_all : (o : Option T) → option_map (λ k. k -ℤ pos 1) (option_map rank o) ≡ option_map (λ b. rank b -ℤ pos 1) o
-      before_all None = refl
-      before_all (Some b) = refl
+-- from the first key of two lists up to a key up to which the same is chosen
+pub taken_to : {A B V : Type 0} (eq : V → V → Bool) (choose : Option A → Option B → Option V) (L L' : List (Entry A)) (R R' : List (Entry B)) (s t : ℤ) (value : Option V)
+    → lesser (first_key L) (first_key R) ≡ Some s → s ≤ℤ t → ((k : ℤ) → s ≤ℤ k → k ≤ℤ t → chosen_at choose L R k ≡ chosen_at choose L R s) → SameOption eq (chosen_at choose L R s) value → L' ≡ after t L → R' ≡ after t R → IsTaken eq choose L L' R R' s t value
+taken_to eq choose L L' R R' s t value starts order same alike left_is right_is = record {
+  start = s;
+  starts = starts;
+  from = omega (arith, ints);
+  order = order;
+  none = λ k l h. absurd (omega (arith, ints));
+  same = same;
+  alike = alike;
+  left_is = left_is;
+  right_is = right_is;
+}
 
 -- what one of two lists has alone is chosen
-module _ {A B : Type 0} (eqa : A → A → Bool) (eqb : B → B → Bool) (s t : ℤ) (value : Option A) (L L' : List (Entry A)) (R R' : List (Entry B)) (ca : IsCanonical eqa L) (cb : IsCanonical eqb R) (starts : lesser (first_key L) (first_key R) ≡ Some s) (alone : at R s ≡ None) (kept : R' ≡ R) (ends : lesser (steady_to s L) (steady_to s R') ≡ Some t) (alike : SameOption eqa (at L s) value) (left_is : L' ≡ after t L) (right_is : R' ≡ after t R') where
-  ends_there : lesser (steady_to s L) (steady_to s R) ≡ Some t
-  ends_there = subst (λ r. lesser (steady_to s L) (steady_to s r) ≡ Some t) kept ends
+module _ {A B : Type 0} (eq : A → A → Bool) (L L' : List (Entry A)) (R : List (Entry B)) (s t : ℤ) (value : A) (taken : IsTakenAlone eq L L' R s t value) where
+  pub left_taken : (choose : Option A → Option B → Option A) → ((x : Option A) → choose x None ≡ x) → IsTaken eq choose L L' R R s t (Some value)
+  left_taken choose is =
+      let here : (k : ℤ) → k ≤ℤ t → chosen_at choose L R k ≡ at L k = λ k h. ap (choose (at L k)) (taken.alone k h) ∙ is (at L k) in
+      taken_to eq choose L L' R R s t (Some value) taken.starts taken.order
+      (λ k l h. here k h ∙ taken.same k l h ∙ sym (here s taken.order))
+      (same_along eq (sym (here s taken.order)) refl taken.alike) taken.list_is taken.other_is
 
-  pub left_taken : (choose : Option A → Option B → Option A) → ((x : Option A) → choose x None ≡ x) → IsTaken eqa choose s L L' R R' s t value
-  left_taken choose is = taken_steady eqa eqb eqa choose L L' R R' s t value ca cb starts ends_there (same_along eqa (sym (ap (choose (at L s)) alone ∙ is (at L s))) refl alike) left_is (right_is ∙ ap (after t) kept)
+module _ {A B : Type 0} (eqa : A → A → Bool) (eqb : B → B → Bool) (l x : ℤ) where
+  -- what the first range of a list has below the first key of another
+  pub taken_alone : (L L' : List (Entry A)) (R : List (Entry B)) (t : ℤ) (value : A) → IsCanonical eqa L → IsCanonical eqb R
+      → Some (l, x) ≡ option_map range_in (first_entry L) → IsEndBefore l x t R → SameOption eqa (at L t) (Some value) → L' ≡ after t L → IsTakenAlone eqa L L' R l t value
+  taken_alone [] L' R t value ca cb p end alike list_is = cc
+  taken_alone (e ∷ es) L' R t value ca cb p (order, stop, above) alike list_is =
+      let is = ends e l x p in
+      let there : (k : ℤ) → l ≤ℤ k → k ≤ℤ t → at (e ∷ es) k ≡ Some e.value = λ k a b. at_in e es k (omega (arith, ints, is.0)) (omega (arith, ints, is.1)) in
+      let here = there l (omega (arith, ints)) order in
+      record {
+        starts = ap (λ z. lesser (Some z) (first_key R)) is.0 ∙ lesser_first l (first_key R) (at_most_less l (t +ℤ pos 1) (first_key R) (omega (arith, ints)) above);
+        order = order;
+        same = λ k a b. there k a b ∙ sym here;
+        alike = same_along eqa (there t order (omega (arith, ints)) ∙ sym here) refl alike;
+        alone = λ k h. at_below_from eqb R (t +ℤ pos 1) k cb (from_first (t +ℤ pos 1) R above) (omega (arith, ints));
+        list_is = list_is;
+        other_is = kept R cb above;
+      }
+    where
+      kept : (R : List (Entry B)) → IsCanonical eqb R → AtMost (t +ℤ pos 1) (first_key R) → R ≡ after t R
+      kept [] c a = refl
+      kept (f ∷ fs) c a = sym (after_keeps t f fs (omega (arith, ints, c.0)) (omega (arith, ints)))
 
-  pub right_taken : (choose : Option B → Option A → Option A) → ((x : Option A) → choose None x ≡ x) → IsTaken eqa choose s R R' L L' s t value
-  right_taken choose is = taken_steady eqb eqa eqa choose R R' L L' s t value cb ca (lesser_exchanged (first_key R) (first_key L) ∙ starts) (lesser_exchanged (steady_to s R) (steady_to s L) ∙ ends_there)
-      (same_along eqa (sym (ap (λ o. choose o (at L s)) alone ∙ is (at L s))) refl alike) (right_is ∙ ap (after t) kept) left_is
+  -- where the other list has no range, the first range is taken whole
+  pub end_whole : (L : List (Entry A)) (R : List (Entry B)) (t : ℤ) → IsCanonical eqa L → Some (l, x) ≡ option_map range_in (first_entry L) → None ≡ first_key R → t ≡ x → IsEndBefore l x t R
+  end_whole [] R t c p q is = cc
+  end_whole (e ∷ es) R t c p q is =
+      let here = ends e l x p in
+      (omega (arith, ints, c.0, here.0, here.1, is), omega (arith, ints, is), subst (AtMost (t +ℤ pos 1)) q tt)
+
+  -- else up to the key before the other list's first key, which is b
+  pub end_bounded : (L : List (Entry A)) (R : List (Entry B)) (b p t : ℤ) → IsCanonical eqa L → Some (l, x) ≡ option_map range_in (first_entry L) → Some b ≡ first_key R → l <ℤ b → p ≡ b -ℤ pos 1 → t ≡ int_min p x → IsEndBefore l x t R
+  end_bounded [] R b p t c q r above before is = cc
+  end_bounded (e ∷ es) R b p t c q r above before is =
+      let here = ends e l x q in
+      let stop = at_most_min x p t is in
+      let under : (t +ℤ pos 1) ≤ℤ b = omega (arith, ints, stop.1, before) in
+      (over_min x p t l is (omega (arith, ints, c.0, here.0, here.1)) (omega (arith, ints, above, before)), stop.0, subst (AtMost (t +ℤ pos 1)) r under)
+
+  pub has_end : (L : List (Entry A)) (R : List (Entry B)) (t : ℤ) → Some (l, x) ≡ option_map range_in (first_entry L) → IsEndBefore l x t R → FirstHas t L
+  has_end [] R t p end = cc
+  has_end (e ∷ es) R t p end = let here = ends e l x p in (omega (arith, ints, here.0, end.0), omega (arith, ints, here.1, end.1))
+
+-- where the right list starts no later than the left one, its first range is taken whole, if the left one does not matter there
+pub right_first_taken : {A B V : Type 0} (eqb : B → B → Bool) (eq : V → V → Bool) (choose : Option A → Option B → Option V) (L L' : List (Entry A)) (R R' : List (Entry B)) (r y : ℤ) (value : Option V)
+    → IsCanonical eqb R → lesser (first_key R) (first_key L) ≡ first_key R → Some (r, y) ≡ option_map range_in (first_entry R)
+    → ((o p : Option A) (v : B) → choose o (Some v) ≡ choose p (Some v)) → ((v : B) → at R y ≡ Some v → SameOption eq (choose (at L r) (Some v)) value) → L' ≡ after y L → R' ≡ after y R → IsTaken eq choose L L' R R' r y value
+right_first_taken eqb eq choose L L' [] R' r y value c first p decided alike left_is right_is = cc
+right_first_taken eqb eq choose L L' (f ∷ fs) R' r y value c first p decided alike left_is right_is =
+    let is = ends f r y p in
+    let order : r ≤ℤ y = omega (arith, ints, c.0, is.0, is.1) in
+    let there : (k : ℤ) → r ≤ℤ k → k ≤ℤ y → at (f ∷ fs) k ≡ Some f.value = λ k a b. at_in f fs k (omega (arith, ints, is.0)) (omega (arith, ints, is.1)) in
+    let here = there r (omega (arith, ints)) order in
+    taken_to eq choose L L' (f ∷ fs) R' r y value (lesser_exchanged (first_key L) (Some f.lo) ∙ first ∙ ap (λ z. Some z) is.0) order
+    (λ k a b. ap (choose (at L k)) (there k a b) ∙ decided (at L k) (at L r) f.value ∙ sym (ap (choose (at L r)) here))
+    (same_along eq (sym (ap (choose (at L r)) here)) refl (alike f.value (there y order (omega (arith, ints))))) left_is right_is
+
+-- what both have is not chosen where exactly one is
+pub both_skipped : {A : Type 0} (eq : A → A → Bool) (L L' R R' : List (Entry A)) (l x r y t : ℤ) → IsCanonical eq L → IsCanonical eq R → t ≡ int_min y x
+    → lesser (first_key R) (first_key L) ≡ first_key R → lesser (first_key L) (first_key R) ≡ first_key L → Some (l, x) ≡ option_map range_in (first_entry L) → Some (r, y) ≡ option_map range_in (first_entry R) → L' ≡ after t L → R' ≡ after t R → IsTaken eq option_xor L L' R R' l t None
+both_skipped eq [] L' R R' l x r y t ca cb end_is n m p q left_is right_is = cc
+both_skipped eq (e ∷ es) L' [] R' l x r y t ca cb end_is n m p q left_is right_is = cc
+both_skipped eq (e ∷ es) L' (f ∷ fs) R' l x r y t ca cb end_is n m p q left_is right_is =
+    let left = ends e l x p in
+    let right = ends f r y q in
+    let same : e.lo ≡ f.lo = omega (arith, ints, not_less f.lo e.lo n, not_less e.lo f.lo m) in
+    let stop = at_most_min x y t end_is in
+    let order : l ≤ℤ t = over_min x y t l end_is (omega (arith, ints, ca.0, left.0, left.1)) (omega (arith, ints, cb.0, same, left.0, right.1)) in
+    let none : (k : ℤ) → l ≤ℤ k → k ≤ℤ t → chosen_at option_xor (e ∷ es) (f ∷ fs) k ≡ None = λ k a b.
+    ap (λ o. option_xor o (at (f ∷ fs) k)) (at_in e es k (omega (arith, ints, left.0)) (omega (arith, ints, left.1, stop.0)))
+    ∙ ap (option_xor (Some e.value)) (at_in f fs k (omega (arith, ints, same, left.0)) (omega (arith, ints, right.1, stop.1))) in
+    let here = none l (omega (arith, ints)) order in
+    taken_to eq option_xor (e ∷ es) L' (f ∷ fs) R' l t None (m ∙ ap (λ z. Some z) left.0) order (λ k a b. none k a b ∙ sym here) (same_none eq _ here) left_is right_is
+
+-- where the right list starts no later than the left one and has no range, nothing is chosen
+pub nothing_left : {A B V : Type 0} (choose : Option A → Option B → Option V) → choose None None ≡ None → (L : List (Entry A)) (R : List (Entry B)) → lesser (first_key R) (first_key L) ≡ first_key R → None ≡ option_map range_in (first_entry R) → (k : ℤ) → chosen_at choose L R k ≡ None
+nothing_left choose nothing L [] n p k = ap (λ o. choose o None) (none_there L k n) ∙ nothing
+nothing_left choose nothing L (f ∷ fs) n p k = cc
+
+-- where the left list has no range, it has nothing alone
+pub nothing_alone : {A B : Type 0} (L : List (Entry A)) (R : List (Entry B)) → None ≡ option_map range_in (first_entry L) → (k : ℤ) → chosen_at left_alone L R k ≡ None
+nothing_alone {A = A} {B = B} [] R p k = none_alone (at R k)
+  where
+    none_alone : (o : Option B) → left_alone {A = A} None o ≡ None
+    none_alone None = refl
+    none_alone (Some v) = refl
+nothing_alone (e ∷ es) R p k = cc
 
 pub xor_none : {A : Type 0} (x : Option A) → option_xor x None ≡ x
 xor_none None = refl
 xor_none (Some x) = refl
-
-pub none_xor : {A : Type 0} (x : Option A) → option_xor None x ≡ x
-none_xor None = refl
-none_xor (Some x) = refl
-
--- what both have is not chosen where exactly one is
-pub both_skipped : {A : Type 0} (eq : A → A → Bool) (s t : ℤ) (L L' R R' : List (Entry A)) → IsCanonical eq L → IsCanonical eq R
-    → lesser (first_key L) (first_key R) ≡ Some s → lesser (steady_to s L) (steady_to s R) ≡ Some t → is_some (at L s) ≡ true → is_some (at R s) ≡ true → L' ≡ after t L → R' ≡ after t R → IsTaken eq option_xor s L L' R R' s t None
-both_skipped {A = A} eq s t L L' R R' ca cb starts ends has_left has_right = taken_steady eq eq eq option_xor L L' R R' s t None ca cb starts ends (same_none eq (option_xor (at L s) (at R s)) (both (at L s) (at R s) has_left has_right))
-  where
-    both : (x y : Option A) → is_some x ≡ true → is_some y ≡ true → option_xor x y ≡ None
-    both None y p q = cc
-    both (Some x) None p q = cc
-    both (Some x) (Some y) p q = refl
-
--- what is taken, put behind a list
-pub choice_made : {A B V : Type 0} (eq : V → V → Bool) (laws : IsEquivalence eq) (low high : ℤ) (choose : Option A → Option B → Option V) (s f t : ℤ) (L L' : List (Entry A)) (R R' : List (Entry B)) (value : Option V) (out new : List (Entry V))
-    → low ≤ℤ f → t ≤ℤ high → IsTaken eq choose s L L' R R' f t value → PutsAlike eq f t value out new → IsChoiceMade eq low high choose s L L' R R' out new
-choice_made eq laws low high choose s f t L L' R R' value out new low_is high_is taken puts = record {
-  first = f;
-  end = t;
-  value = puts.alike;
-  low_is = low_is;
-  high_is = high_is;
-  taken = record {
-    from = taken.from;
-    order = taken.order;
-    none = taken.none;
-    same = taken.same;
-    alike = same_trans eq laws (chosen_at choose L R f) value puts.alike taken.alike puts.same;
-    left_is = taken.left_is;
-    right_is = taken.right_is;
-  };
-  put = puts.put;
-}

@@ -1,15 +1,14 @@
 //! What is left of a stream that is gone through from its start.
-ghost use Rattle.std.specs.Prelude.{◌≡◌, [], None, Some, IfSome, IfNone, IfOk, pos, ◌-ℤ◌, ◌<ℤ◌};
-ghost use Rattle.std.specs.Option.{option_map, is_some};
+ghost use Rattle.std.specs.Prelude.{◌≡◌, [], Some, IfNone, IfOk};
+ghost use Rattle.std.specs.Option.{option_map};
 ghost use Rattle.blaze_entries.specs.Found.{range_in, ranks_of};
 ghost use Rattle.blaze_entries.specs.Starts.{first_entry};
 ghost use Rattle.blaze_table.specs.Entries.{at, SameOption};
 ghost use Rattle.blaze_table.specs.Canonical.{IsCanonical};
 ghost use Rattle.blaze_table.specs.Splice.{after};
 ghost use Rattle.blaze_streams.specs.Carried.{shown_option};
-ghost use Rattle.blaze_streams.specs.Choosing.{ahead_of, IsRangeTaken};
+ghost use Rattle.blaze_streams.specs.Choosing.{ahead_of};
 ghost use Rattle.blaze_streams.specs.Cursors.{first_key, steady_to, IsFrom, Reaches, FirstHas};
-ghost use Rattle.blaze_streams.specs.Cursors.{lesser};
 
 use crate::carrier::ValueCarrier;
 use crate::sorted_disjoint_map::SortedDisjointMap;
@@ -110,17 +109,6 @@ impl<T: Integer, VC: ValueCarrier, I: SortedDisjointMap<T, VC>> Cursor<T, VC, I>
         }
     }
 
-    /// Whether a range has a key below which none is left.
-    pub fn has(&self, start: T) -> bool
-        requires { IsFrom (T.rank start) self.now }
-        ensures { result ≡ is_some (at self.now (T.rank start)) }
-    {
-        match &self.head {
-            None => false,
-            Some((lo, _, _)) => is_at_most(*lo, start),
-        }
-    }
-
     /// The last key up to which nothing changes, from a key below which none is left.
     pub fn last(&self, start: T) -> Option<T>
         requires { IsFrom (T.rank start) self.now }
@@ -164,57 +152,6 @@ impl<T: Integer, VC: ValueCarrier, I: SortedDisjointMap<T, VC>> Cursor<T, VC, I>
             self.head = take_first(&mut self.rest);
         } else if is_at_most(*lo, end) {
             *lo = after(end, *hi);
-        }
-    }
-
-    /// Takes the range that has a key below which none is left: its last key and its carrier.
-    pub fn take_at(&mut self, start: T) -> Option<(T, VC)>
-        requires { IsFrom (T.rank start) self.old }
-        ensures none { IfNone result
-            ((at self.old (T.rank start) ≡ None) × (self.new ≡ self.old)) }
-        ensures some { IfSome result (λ taken. IsRangeTaken (T.rank start) (T.rank taken.0)
-            (VC.shown taken.1) self.old self.new) }
-    {
-        let Some((lo, _, _)) = &self.head else {
-            return None;
-        };
-        if !is_at_most(*lo, start) {
-            return None;
-        }
-        let next = take_first(&mut self.rest);
-        match mem::replace(&mut self.head, next) {
-            Some((_, end, carrier)) => Some((end, carrier)),
-            None => None,
-        }
-    }
-
-    /// Takes what the range that starts at `start` has below a bound, or all of it where there is none: its last key and a
-    /// carrier of its value, the range's own where the range ends there, else another. Refused memory then lets the keys go.
-    pub fn take_below(&mut self, start: T, bound: Option<T>) -> Result<(T, VC), AllocError>
-        requires can { VC.can_carry }
-        requires first { first_key self.old ≡ Some (T.rank start) }
-        requires bound { IfSome bound (λ b. T.rank start <ℤ T.rank b) }
-        ensures end { IfOk result (λ taken. lesser (steady_to (T.rank start) self.old)
-            (option_map (λ b. T.rank b -ℤ pos 1) bound) ≡ Some (T.rank taken.0)) }
-        ensures carrier { IfOk result (λ taken. SameOption VC.Value.eq
-            (at self.old (T.rank start)) (Some (VC.shown taken.1))) }
-        ensures left { IfOk result (λ taken. self.new ≡ after (T.rank taken.0) self.old) }
-    {
-        let Some((lo, hi, carrier)) = &mut self.head else {
-            unreachable!()
-        };
-        if let Some(bound) = bound {
-            if is_at_most(bound, *hi) {
-                let end = before(bound, start);
-                let other = carrier.carry();
-                *lo = bound;
-                return Ok((end, other?));
-            }
-        }
-        let next = take_first(&mut self.rest);
-        match mem::replace(&mut self.head, next) {
-            Some((_, end, carrier)) => Ok((end, carrier)),
-            None => unreachable!(),
         }
     }
 

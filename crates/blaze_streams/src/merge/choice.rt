@@ -1,16 +1,17 @@
 //! What is chosen from what two streams have at a key.
-ghost use Rattle.std.specs.Prelude.{◌≡◌, ◌≤◌, ◌+◌, Option, None, Some, refl, IfOk};
+ghost use Rattle.std.specs.Prelude.{◌≡◌, ◌≤◌, ◌+◌, ℤ, Option, None, refl, IfOk, MatchOption};
 ghost use Rattle.std.specs.Option.{option_map, option_xor};
 ghost use Rattle.blaze_table.specs.Canonical.{IsCanonical};
+ghost use Rattle.blaze_table.specs.Entries.{at};
 ghost use Rattle.blaze_table.specs.Chosen.{right_first, left_with_right, left_alone};
 ghost use Rattle.blaze_streams.specs.Choosing.{IsTaken};
-ghost use Rattle.blaze_streams.specs.Cursors.{first_key, lesser};
 
 use crate::carrier::ValueCarrier;
 use crate::cursor::Cursor;
-use crate::merge::pieces::{skip, take_alone, take_both};
+use crate::merge::pieces::{take_before, take_both};
 use crate::sorted_disjoint_map::SortedDisjointMap;
 use blaze_int::Integer;
+use blaze_int::compare::lesser;
 use std::alloc::AllocError;
 
 /// A choice from what two streams have at a key, by which of them have it.
@@ -22,21 +23,21 @@ pub trait Choice<VCL: ValueCarrier, VCR: ValueCarrier> {
     fn room(&self, left: usize, right: usize) -> usize
         ensures { result ≤ left + right };
 
-    /// Takes the first piece that is chosen from two streams, of which `start` is the first key: its first key, its last key and
-    /// a carrier of its value, or none where nothing is chosen. The keys up to its end go in both.
+    /// Takes the first piece that is chosen from two streams: its first key, its last key and a carrier of its value, or no
+    /// carrier where nothing is chosen on its keys. The keys up to its end go in both. None where nothing is chosen from what is
+    /// left of them.
     fn take<T: Integer, L: SortedDisjointMap<T, VCL>, R: SortedDisjointMap<T, VCR>>(
         &self,
-        start: T,
         left: &mut Cursor<T, VCL, L>,
         right: &mut Cursor<T, VCR, R>,
-    ) -> Result<(T, T, Option<VCL>), AllocError>
-        requires can { VCL.can_carry }
-        requires left { IsCanonical VCL.Value.eq left.old }
-        requires right { IsCanonical VCR.Value.eq right.old }
-        requires starts { lesser (first_key left.old) (first_key right.old) ≡ Some (T.rank start) }
-        ensures { IfOk result (λ piece. IsTaken VCL.Value.eq choice (T.rank start) left.old left.new
-            right.old right.new (T.rank piece.0) (T.rank piece.1)
-            (option_map VCL.shown piece.2)) };
+    ) -> Result<Option<(T, T, Option<VCL>)>, AllocError>
+        requires { VCL.can_carry }
+        ensures left { IsCanonical VCL.Value.eq left.old }
+        ensures right { IsCanonical VCR.Value.eq right.old }
+        ensures taken { IfOk result (λ taken. MatchOption taken
+            ((k : ℤ) → choice (at left.old k) (at right.old k) ≡ None)
+            (λ piece. IsTaken VCL.Value.eq choice left.old left.new right.old right.new
+            (T.rank piece.0) (T.rank piece.1) (option_map VCL.shown piece.2))) };
 
     // Nothing is chosen from nothing.
     ghost from_nothing: { choice None None ≡ None };
@@ -54,16 +55,18 @@ impl<VC: ValueCarrier> Choice<VC, VC> for RightFirst {
 
     fn take<T: Integer, L: SortedDisjointMap<T, VC>, R: SortedDisjointMap<T, VC>>(
         &self,
-        start: T,
         left: &mut Cursor<T, VC, L>,
         right: &mut Cursor<T, VC, R>,
-    ) -> Result<(T, T, Option<VC>), AllocError> {
-        if let Some((end, carrier)) = right.take_at(start) {
-            left.advance(end);
-            return Ok((start, end, Some(carrier)));
+    ) -> Result<Option<(T, T, Option<VC>)>, AllocError> {
+        if let Some(piece) = take_before(left, right)? {
+            return Ok(Some((piece.0, piece.1, Some(piece.2))));
         }
-        let (end, carrier) = take_alone(start, left, right)?;
-        Ok((start, end, Some(carrier)))
+        let Some((start, end)) = right.range() else {
+            return Ok(None);
+        };
+        let carrier = right.take(end)?;
+        left.advance(end);
+        Ok(Some((start, end, Some(carrier))))
     }
 
     ghost from_nothing = { refl };
@@ -81,20 +84,22 @@ impl<VC: ValueCarrier> Choice<VC, VC> for ExactlyOne {
 
     fn take<T: Integer, L: SortedDisjointMap<T, VC>, R: SortedDisjointMap<T, VC>>(
         &self,
-        start: T,
         left: &mut Cursor<T, VC, L>,
         right: &mut Cursor<T, VC, R>,
-    ) -> Result<(T, T, Option<VC>), AllocError> {
-        if !right.has(start) {
-            let (end, carrier) = take_alone(start, left, right)?;
-            return Ok((start, end, Some(carrier)));
+    ) -> Result<Option<(T, T, Option<VC>)>, AllocError> {
+        if let Some(piece) = take_before(left, right)? {
+            return Ok(Some((piece.0, piece.1, Some(piece.2))));
         }
-        if !left.has(start) {
-            let (end, carrier) = take_alone(start, right, left)?;
-            return Ok((start, end, Some(carrier)));
+        if let Some(piece) = take_before(right, left)? {
+            return Ok(Some((piece.0, piece.1, Some(piece.2))));
         }
-        let end = skip(start, left, right);
-        Ok((start, end, None))
+        let (Some((start, ours)), Some((_, theirs))) = (left.range(), right.range()) else {
+            return Ok(None);
+        };
+        let end = lesser(ours, theirs);
+        left.advance_in_first(end);
+        right.advance_in_first(end);
+        Ok(Some((start, end, None)))
     }
 
     ghost from_nothing = { refl };
@@ -112,11 +117,10 @@ impl<VCL: ValueCarrier, VCR: ValueCarrier> Choice<VCL, VCR> for LeftWithRight {
 
     fn take<T: Integer, L: SortedDisjointMap<T, VCL>, R: SortedDisjointMap<T, VCR>>(
         &self,
-        start: T,
         left: &mut Cursor<T, VCL, L>,
         right: &mut Cursor<T, VCR, R>,
-    ) -> Result<(T, T, Option<VCL>), AllocError> {
-        take_both(start, left, right)
+    ) -> Result<Option<(T, T, Option<VCL>)>, AllocError> {
+        take_both(left, right)
     }
 
     ghost from_nothing = { refl };
@@ -134,16 +138,18 @@ impl<VCL: ValueCarrier, VCR: ValueCarrier> Choice<VCL, VCR> for LeftAlone {
 
     fn take<T: Integer, L: SortedDisjointMap<T, VCL>, R: SortedDisjointMap<T, VCR>>(
         &self,
-        start: T,
         left: &mut Cursor<T, VCL, L>,
         right: &mut Cursor<T, VCR, R>,
-    ) -> Result<(T, T, Option<VCL>), AllocError> {
-        if let Some(covered) = right.take_at(start) {
-            left.advance(covered.0);
-            return Ok((start, covered.0, None));
+    ) -> Result<Option<(T, T, Option<VCL>)>, AllocError> {
+        if let Some(piece) = take_before(left, right)? {
+            return Ok(Some((piece.0, piece.1, Some(piece.2))));
         }
-        let (end, carrier) = take_alone(start, left, right)?;
-        Ok((start, end, Some(carrier)))
+        let (Some(_), Some((start, end))) = (left.range(), right.range()) else {
+            return Ok(None);
+        };
+        right.advance_in_first(end);
+        left.advance(end);
+        Ok(Some((start, end, None)))
     }
 
     ghost from_nothing = { refl };

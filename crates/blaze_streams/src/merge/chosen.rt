@@ -1,18 +1,15 @@
 //! Two streams gone through together, and what is chosen from them.
-ghost use Rattle.std.specs.Prelude.{◌≡◌, Some, [], IfOk, OnOk};
+ghost use Rattle.std.specs.Prelude.{◌≡◌, [], IfOk, OnOk};
 ghost use Rattle.std.specs.Option.{option_map};
-ghost use Rattle.blaze_table.specs.Canonical.{IsCanonical};
 ghost use Rattle.blaze_table.specs.Chosen.{IsChosen};
 ghost use Rattle.blaze_table.specs.Listed.{listed};
-ghost use Rattle.blaze_streams.specs.Choosing.{PutsAlike, IsChoiceMade};
-ghost use Rattle.blaze_streams.specs.Cursors.{first_key, lesser};
+ghost use Rattle.blaze_streams.specs.Choosing.{PutsAlike};
 
 use crate::carrier::ValueCarrier;
 use crate::cursor::Cursor;
 use crate::lists::canon_map::CanonMapIter;
 use crate::merge::choice::Choice;
 use crate::merge::piece_list::PieceList;
-use crate::segmenting::cursors::lesser_of;
 use crate::sorted_disjoint_map::SortedDisjointMap;
 use blaze_int::Integer;
 use std::alloc::{AllocError, Global};
@@ -35,36 +32,6 @@ fn put_value<T: Integer, VC: ValueCarrier, P: PieceList<T, VC>>(
     Ok(())
 }
 
-/// Puts the first piece that is chosen from two streams behind a list, and lets the keys up to its end go.
-fn choose_next<
-    T: Integer,
-    VCL: ValueCarrier,
-    VCR: ValueCarrier,
-    L: SortedDisjointMap<T, VCL>,
-    R: SortedDisjointMap<T, VCR>,
-    C: Choice<VCL, VCR>,
-    P: PieceList<T, VCL>,
->(
-    start: T,
-    left: &mut Cursor<T, VCL, L>,
-    right: &mut Cursor<T, VCR, R>,
-    out: &mut P,
-    choice: &C,
-) -> Result<(), AllocError>
-    requires can { VCL.can_carry }
-    requires left { IsCanonical VCL.Value.eq left.old }
-    requires right { IsCanonical VCR.Value.eq right.old }
-    requires starts { lesser (first_key left.old) (first_key right.old) ≡ Some (T.rank start) }
-    ensures { OnOk result (IsChoiceMade VCL.Value.eq T.low T.high C.choice (T.rank start) left.old
-        left.new right.old right.new (P.entries out.old) (P.entries out.new)) }
-{
-    let (first, end, carrier) = choice.take(start, left, right)?;
-    first.in_hand();
-    end.in_hand();
-    put_value(out, first, end, carrier)?;
-    Ok(())
-}
-
 /// Puts what is chosen from two streams into an empty list, in one pass over both. Refused memory drops both streams.
 fn put_chosen<
     T: Integer,
@@ -82,8 +49,10 @@ fn put_chosen<
 {
     let mut left = Cursor::new(left);
     let mut right = Cursor::new(right);
-    while let Some(start) = lesser_of(left.first(), right.first()) {
-        choose_next(start, &mut left, &mut right, out, choice)?;
+    while let Some(piece) = choice.take(&mut left, &mut right)? {
+        piece.0.in_hand();
+        piece.1.in_hand();
+        put_value(out, piece.0, piece.1, piece.2)?;
     }
     Ok(())
 }

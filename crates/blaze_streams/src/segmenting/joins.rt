@@ -2,14 +2,13 @@
 ghost use Rattle.std.specs.Prelude.{◌≡◌, ◌++◌, Some, IfOk, OnOk};
 ghost use Rattle.blaze_table.specs.Canonical.{IsCanonical};
 ghost use Rattle.blaze_streams.specs.Carried.{shown_option, shown_pair};
-ghost use Rattle.blaze_streams.specs.Cursors.{first_key, lesser};
+ghost use Rattle.blaze_streams.specs.Cursors.{first_key, steady_to, Reaches, lesser};
 ghost use Rattle.blaze_streams.specs.Joins.{is_joined, paired, piece_of, IsJoinOf, IsSegmentPut};
 ghost use Rattle.blaze_streams.specs.RangeLists.{shown_ranges};
 
 use crate::carrier::ValueCarrier;
 use crate::cursor::Cursor;
 use crate::lists::canon_map::CanonMapIter;
-use crate::merge::pieces::steady_end;
 use crate::segmenting::cursors::lesser_of;
 use crate::sorted_disjoint_map::SortedDisjointMap;
 use blaze_int::Integer;
@@ -56,6 +55,28 @@ fn put_pair<T: Integer, VCL: ValueCarrier + Copy, VCR: ValueCarrier + Copy>(
         out.push((start..=end, (left, right)))?;
     }
     Ok(())
+}
+
+/// The last key up to which neither of two streams changes, from their first key on.
+fn steady_end<
+    T: Integer,
+    VCL: ValueCarrier,
+    VCR: ValueCarrier,
+    L: SortedDisjointMap<T, VCL>,
+    R: SortedDisjointMap<T, VCR>,
+>(start: T, left: &Cursor<T, VCL, L>, right: &Cursor<T, VCR, R>) -> T
+    requires left { IsCanonical VCL.Value.eq left.now }
+    requires right { IsCanonical VCR.Value.eq right.now }
+    requires starts { lesser (first_key left.now) (first_key right.now) ≡ Some (T.rank start) }
+    ensures ends { lesser (steady_to (T.rank start) left.now) (steady_to (T.rank start) right.now)
+        ≡ Some (T.rank result) }
+    ensures left { Reaches (T.rank result) left.now }
+    ensures right { Reaches (T.rank result) right.now }
+{
+    let Some(end) = lesser_of(left.last(start), right.last(start)) else {
+        unreachable!()
+    };
+    end
 }
 
 /// Puts the first segment of two streams behind a list, where the kind asks for it, and lets its keys go.

@@ -1,30 +1,26 @@
-use Rattle.blaze_streams.proofs.ChosenSoFar.{lesser_is, lesser_none, chosen_none, chosen_more, chosen_all}
+use Rattle.std.proofs.lemmas.Option.{MatchOption-at_none, MatchOption-at_some}
+use Rattle.blaze_streams.proofs.ChosenSoFar.{chosen_none, chosen_more, chosen_all}
 use Rattle.blaze_streams.proofs.Fewer.{step_less}
 use Rattle.blaze_streams.proofs.merge.chosen.put_chosen.Goals as goal
 
-pub loop-start-init : goal.loop-start-init
-loop-start-init g c =
+pub loop-right-init : goal.loop-right-init
+loop-right-init g c =
     rw (c.new-left.ensures, c.new-right.ensures, c.requires.empty)
     (chosen_none g.VCL.Value.PartialEq.eq g.met.VCL.Value.Eq.laws g.T.Integer.low g.T.Integer.high g.C.Choice.choice (g.L.SortedDisjointMap.left c.args.left) (g.R.SortedDisjointMap.left c.args.right))
 
-pub loop-start-smaller : goal.loop-start-smaller
-loop-start-smaller g c =
-    let s = g.T.Integer.rank c.in-Some.start in
-    step_less g.VCL.Value.PartialEq.eq g.VCR.Value.PartialEq.eq g.VCL.Value.PartialEq.eq g.T.Integer.low g.T.Integer.high g.C.Choice.choice s
-    c.loop-start.left c.choose_next.new.left c.loop-start.right c.choose_next.new.right _ _
-    c.first.ensures.canonical c.first-in-loop-start.ensures.canonical
-    (lesser_is _ _ _ _ s c.in-Some.ensures c.first.ensures.first c.first-in-loop-start.ensures.first) c.in_ok-choose_next.ensures
+pub loop-right-smaller : goal.loop-right-smaller
+loop-right-smaller g c =
+    step_less g.VCL.Value.PartialEq.eq g.VCR.Value.PartialEq.eq g.VCL.Value.PartialEq.eq g.C.Choice.choice
+    c.loop-right.left c.take.new.left c.loop-right.right c.take.new.right _ _ _ c.take.ensures.left c.take.ensures.right (MatchOption-at_some _ _ _ c.in-Some.is c.in_ok-piece.ensures.taken)
 
-pub loop-start-preserved : goal.loop-start-preserved
-loop-start-preserved g c =
-    let s = g.T.Integer.rank c.in-Some.start in
+pub loop-right-preserved : goal.loop-right-preserved
+loop-right-preserved g c =
     chosen_more g.VCL.Value.PartialEq.eq g.met.VCL.Value.Eq.laws g.T.Integer.low g.T.Integer.high g.C.Choice.choice g.VCL.Value.PartialEq.eq g.VCR.Value.PartialEq.eq g.met.C.Choice.from_nothing
-    (g.L.SortedDisjointMap.left c.args.left) c.loop-start.left c.choose_next.new.left (g.R.SortedDisjointMap.left c.args.right) c.loop-start.right c.choose_next.new.right
-    (g.P.PieceList.entries c.loop-start.out) (g.P.PieceList.entries c.choose_next.new.out) s
-    c.first.ensures.canonical c.first-in-loop-start.ensures.canonical
-    (lesser_is _ _ _ _ s c.in-Some.ensures c.first.ensures.first c.first-in-loop-start.ensures.first) c.loop-start.invariant c.in_ok-choose_next.ensures
+    (g.L.SortedDisjointMap.left c.args.left) c.loop-right.left c.take.new.left (g.R.SortedDisjointMap.left c.args.right) c.loop-right.right c.take.new.right
+    (g.P.PieceList.entries c.loop-right.out) (g.P.PieceList.entries c.put_value.new.out) _ _ _ c.take.ensures.left c.take.ensures.right
+    (MatchOption-at_some _ _ _ c.in-Some.is c.in_ok-piece.ensures.taken) c.in_hand.ensures.from c.in_hand-in-Some.ensures.to c.in_ok-put_value.ensures c.loop-right.invariant
 
 pub returns : goal.returns
 returns g c =
-    chosen_all g.VCL.Value.PartialEq.eq g.met.VCL.Value.Eq.laws g.T.Integer.low g.T.Integer.high g.C.Choice.choice g.met.C.Choice.from_nothing _ c.loop-start.left _ c.loop-start.right _ c.loop-start.invariant
-    (lesser_none _ _ _ _ c.in_default.ensures c.first.ensures.first c.first-in-loop-start.ensures.first)
+    chosen_all g.VCL.Value.PartialEq.eq g.met.VCL.Value.Eq.laws g.T.Integer.low g.T.Integer.high g.C.Choice.choice _ c.loop-right.left _ c.loop-right.right _ c.loop-right.invariant
+    (MatchOption-at_none _ _ c.in_default.is c.in_ok-piece.ensures.taken)

@@ -2,43 +2,41 @@ use Rattle.std.specs.Option.{option_map}
 use Rattle.std.proofs.Common.{Some, refl, ◌∙◌, sym, ap, inl, inr}
 use Rattle.blaze_int.proofs.Comparisons.{lt_fails, lt_holds}
 use Rattle.blaze_entries.specs.Found.{ranks_of}
-use Rattle.blaze_streams.proofs.Shared.{left_gone, left_has, nothing_taken, right_gone, shared_taken}
+use Rattle.blaze_streams.proofs.Shared.{left_gone, left_has, nothing_shared, right_gone, shared_taken}
 use Rattle.blaze_streams.proofs.merge.pieces.take_both.Goals.{in_default-via-in-Some+in_default, in_default-via-in_default}
 use Rattle.blaze_streams.proofs.merge.pieces.take_both.Goals as goal
 
-pub returns-in_default : goal.returns-in_default
-returns-in_default g c =
+pub returns-in_default-clause-taken : goal.returns-in_default-clause-taken
+returns-in_default-clause-taken g c =
     let rank = g.T.Integer.rank in
-    nothing_taken g.VCL.Value.PartialEq.eq g.VCR.Value.PartialEq.eq (rank c.args.start) (rank c.skip-end.result) c.args.left.now c.skip-end.new.left c.args.right.now c.skip-end.new.right
-    c.requires.left c.requires.right c.requires.starts
+    nothing_shared g.VCL.Value.PartialEq.eq g.VCR.Value.PartialEq.eq c.args.left.now c.args.right.now
     (elim c.in_default.branch [
       | in_default-via-in-Some+in_default w ↦ inr w.in_default.ensures'.ends
       | in_default-via-in_default w ↦ inl (sym (ap (option_map (ranks_of rank)) w.in_default.is-0) ∙ c.range.ensures.ends)
     ])
-    c.skip-end.ensures.ends c.skip-end.ensures.left c.skip-end.ensures.right
 
-pub returns-then-is_below : goal.returns-then-is_below
-returns-then-is_below g c =
-    left_gone g.VCL.Value.PartialEq.eq g.VCR.Value.PartialEq.eq (g.T.Integer.rank c.args.start) _ _ _ _ _ _ refl refl
-    c.args.left.now c.advance_in_first.new.self c.args.right.now c.requires.left c.requires.right c.requires.starts
+pub returns-then-is_below-clause-taken : goal.returns-then-is_below-clause-taken
+returns-then-is_below-clause-taken g c =
+    left_gone g.VCL.Value.PartialEq.eq g.VCR.Value.PartialEq.eq _ _ _ _ _ _ refl refl
+    c.args.left.now c.advance_in_first.new.self c.args.right.now c.range.ensures.canonical c.range-2.ensures.canonical
     c.in-Some-Some.ensures.ends c.in-Some-Some.ensures'.ends (lt_holds _ _ (sym c.is_below.ensures ∙ c.if-is_below.true)) c.advance_in_first.ensures
 
-pub returns-then-is_below-2 : goal.returns-then-is_below-2
-returns-then-is_below-2 g c =
-    right_gone g.VCL.Value.PartialEq.eq g.VCR.Value.PartialEq.eq (g.T.Integer.rank c.args.start) _ _ _ _ _ _ refl refl
-    c.args.left.now c.args.right.now c.advance_in_first-then-is_below-2.new.self c.requires.left c.requires.right c.requires.starts
+pub returns-then-is_below-2-clause-taken : goal.returns-then-is_below-2-clause-taken
+returns-then-is_below-2-clause-taken g c =
+    right_gone g.VCL.Value.PartialEq.eq g.VCR.Value.PartialEq.eq _ _ _ _ _ _ refl refl
+    c.args.left.now c.args.right.now c.advance_in_first-then-is_below-2.new.self c.range.ensures.canonical c.range-2.ensures.canonical
     c.in-Some-Some.ensures.ends c.in-Some-Some.ensures'.ends (lt_holds _ _ (sym c.is_below-2.ensures ∙ c.if-is_below-2.true)) c.advance_in_first-then-is_below-2.ensures
 
 pub take-requires-clause-has : goal.take-requires-clause-has
 take-requires-clause-has g c =
-    left_has g.VCL.Value.PartialEq.eq g.VCR.Value.PartialEq.eq (g.T.Integer.rank c.args.start) _ _ _ _ _ _ c.greater-first.ensures c.lesser-end.ensures
-    c.args.left.now c.args.right.now c.requires.left c.requires.right
+    left_has g.VCL.Value.PartialEq.eq g.VCR.Value.PartialEq.eq _ _ _ _ _ _ c.greater-first.ensures c.lesser-end.ensures
+    c.args.left.now c.args.right.now c.range.ensures.canonical c.range-2.ensures.canonical
     c.in-Some-Some.ensures.ends c.in-Some-Some.ensures'.ends (lt_fails _ _ (sym c.is_below.ensures ∙ c.if-is_below.false)) (lt_fails _ _ (sym c.is_below-2.ensures ∙ c.if-is_below-2.false))
 
-pub returns : goal.returns
-returns g c =
-    shared_taken g.VCL.Value.PartialEq.eq g.VCR.Value.PartialEq.eq (g.T.Integer.rank c.args.start) _ _ _ _ _ _ c.greater-first.ensures c.lesser-end.ensures
+pub returns-clause-taken : goal.returns-clause-taken
+returns-clause-taken g c =
+    shared_taken g.VCL.Value.PartialEq.eq g.VCR.Value.PartialEq.eq _ _ _ _ _ _ c.greater-first.ensures c.lesser-end.ensures
     c.args.left.now c.take.new.self c.args.right.now c.advance_in_first-2.new.self (Some (g.VCL.ValueCarrier.shown c.in_ok-carrier.carrier))
-    c.requires.left c.requires.right c.requires.starts
+    c.range.ensures.canonical c.range-2.ensures.canonical
     c.in-Some-Some.ensures.ends c.in-Some-Some.ensures'.ends (lt_fails _ _ (sym c.is_below.ensures ∙ c.if-is_below.false)) (lt_fails _ _ (sym c.is_below-2.ensures ∙ c.if-is_below-2.false))
     c.in_ok-carrier.ensures.carrier c.take.ensures.rest c.advance_in_first-2.ensures

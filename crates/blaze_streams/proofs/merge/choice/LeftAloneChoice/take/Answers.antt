@@ -1,16 +1,24 @@
-use Rattle.std.proofs.Common.{Some, refl}
+use Rattle.std.proofs.Common.{None, refl, ◌∙◌, ap, sym}
+use Rattle.std.specs.Option.{option_map}
+use Rattle.std.proofs.lemmas.Option.{MatchOption-at_none}
+use Rattle.blaze_entries.specs.Found.{range_in, ranks_of}
+use Rattle.blaze_entries.specs.Starts.{first_entry}
 use Rattle.blaze_table.specs.Chosen.{left_alone}
-use Rattle.blaze_streams.proofs.Taken.{left_taken, taken_right}
+use Rattle.blaze_table.specs.Splice.{after}
+use Rattle.blaze_streams.proofs.Taken.{nothing_alone, nothing_left, right_first_taken}
+use Rattle.blaze_streams.proofs.merge.choice.LeftAloneChoice.take.Goals.{in_default-2-via-in-Some+in_default, in_default-2-via-in_default}
 use Rattle.blaze_streams.proofs.merge.choice.LeftAloneChoice.take.Goals as goal
 
-pub returns-in-Some : goal.returns-in-Some
-returns-in-Some g c =
-    taken_right g.VCL.Value.PartialEq.eq g.VCR.Value.PartialEq.eq g.VCL.Value.PartialEq.eq left_alone c.args.left.now c.advance.new.self c.args.right.now c.take_at.new.self (g.T.Integer.rank c.args.start) _ _ c.requires.left c.requires.right
-    (λ x z v. refl) _ c.in-Some.ensures.some tt c.advance.ensures
+pub returns-in_default-2-clause-taken : goal.returns-in_default-2-clause-taken
+returns-in_default-2-clause-taken g c =
+    let none = MatchOption-at_none _ _ c.in_default.is c.in_ok-piece.ensures.taken in
+    elim c.in_default-2.branch [
+      | in_default-2-via-in-Some+in_default w ↦ nothing_left left_alone refl c.args.left.now c.args.right.now none.1 (sym (ap (option_map (ranks_of g.T.Integer.rank)) w.in_default-2.is-1) ∙ c.range-2.ensures.ends)
+      | in_default-2-via-in_default w ↦ nothing_alone c.args.left.now c.args.right.now (sym (ap (option_map (ranks_of g.T.Integer.rank)) w.in_default-2.is-0) ∙ c.range.ensures.ends ∙ ap (λ l. option_map range_in (first_entry l)) none.0)
+    ]
 
-pub returns : goal.returns
-returns g c =
-    let rank = g.T.Integer.rank in
-    left_taken g.VCL.Value.PartialEq.eq g.VCR.Value.PartialEq.eq (rank c.args.start) (rank c.in_ok-end.end) (Some (g.VCL.ValueCarrier.shown c.in_ok-end.carrier)) c.args.left.now c.take_alone.new.cursor c.args.right.now c.take_at.new.self
-    c.requires.left c.requires.right c.requires.starts c.in_default.ensures.none.0 c.in_default.ensures.none.1 c.in_ok-end.ensures.ends c.in_ok-end.ensures.carrier c.in_ok-end.ensures.left c.in_ok-end.ensures.other
-    left_alone (λ x. refl)
+pub returns-clause-taken : goal.returns-clause-taken
+returns-clause-taken g c =
+    let none = MatchOption-at_none _ _ c.in_default.is c.in_ok-piece.ensures.taken in
+    right_first_taken g.VCR.Value.PartialEq.eq g.VCL.Value.PartialEq.eq left_alone c.args.left.now c.advance.new.self c.args.right.now c.advance_in_first.new.self _ _ None
+    c.take_before.ensures.other none.1 c.in-Some-Some.ensures'.ends (λ o p v. refl) (λ v is. tt) (c.advance.ensures ∙ ap (after _) none.0) c.advance_in_first.ensures

@@ -1,18 +1,14 @@
-use Rattle.std.proofs.Common.{Some, refl}
+use Rattle.std.proofs.Common.{Some, refl, ◌∙◌, ap}
+use Rattle.std.proofs.lemmas.Option.{MatchOption-at_none}
+use Rattle.blaze_entries.proofs.Alike.{same_along}
 use Rattle.blaze_table.specs.Chosen.{right_first}
-use Rattle.blaze_streams.proofs.Taken.{left_taken, taken_right}
+use Rattle.blaze_table.specs.Splice.{after}
+use Rattle.blaze_streams.proofs.Taken.{right_first_taken}
 use Rattle.blaze_streams.proofs.merge.choice.RightFirstChoice.take.Goals as goal
 
-pub returns-in-Some : goal.returns-in-Some
-returns-in-Some g c =
+pub returns-clause-taken : goal.returns-clause-taken
+returns-clause-taken g c =
     let eq = g.VC.Value.PartialEq.eq in
-    taken_right eq eq eq right_first c.args.left.now c.advance.new.self c.args.right.now c.take_at.new.self (g.T.Integer.rank c.args.start) _ _ c.requires.left c.requires.right
-    (λ x z v. refl) _ c.in-Some.ensures.some (g.met.VC.Value.Eq.laws.refl _) c.advance.ensures
-
-pub returns : goal.returns
-returns g c =
-    let rank = g.T.Integer.rank in
-    let eq = g.VC.Value.PartialEq.eq in
-    left_taken eq eq (rank c.args.start) (rank c.in_ok-end.end) (Some (g.VC.ValueCarrier.shown c.in_ok-end.carrier)) c.args.left.now c.take_alone.new.cursor c.args.right.now c.take_at.new.self
-    c.requires.left c.requires.right c.requires.starts c.in_default.ensures.none.0 c.in_default.ensures.none.1 c.in_ok-end.ensures.ends c.in_ok-end.ensures.carrier c.in_ok-end.ensures.left c.in_ok-end.ensures.other
-    right_first (λ x. refl)
+    let none = MatchOption-at_none _ _ c.in_default.is c.in_ok-piece.ensures.taken in
+    right_first_taken eq eq right_first c.args.left.now c.advance.new.self c.args.right.now c.take.new.self _ _ (Some (g.VC.ValueCarrier.shown c.in_ok-carrier.carrier))
+    c.range.ensures.canonical none.1 c.in-Some-range.ensures.ends (λ o p v. refl) (λ v is. same_along eq is refl c.in_ok-carrier.ensures.carrier) (c.advance.ensures ∙ ap (after _) none.0) c.take.ensures.rest

@@ -1,7 +1,7 @@
 use Rattle.blaze_streams.proofs.ChosenSoFar.{lesser_is}
 use Rattle.blaze_streams.proofs.Lesser.{at_most_both, at_most_itself}
 use Rattle.blaze_streams.proofs.Steady.{reaches}
-use Rattle.blaze_streams.proofs.merge.pieces.steady_end.Goals as goal
+use Rattle.blaze_streams.proofs.segmenting.joins.steady_end.Goals as goal
 
 pub returns-clause-left : goal.returns-clause-left
 returns-clause-left g c =
