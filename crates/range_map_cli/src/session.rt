@@ -111,8 +111,8 @@ pub fn close<W: Write>(waiting: &mut Vec<u8>, output: &mut W, text: &[u8], end: 
     end
 }
 
-/// Answers a line, and puts the answer behind the others. It stands out of line, so that the loop over lines stays short where
-/// they are empty.
+/// Answers a line, and puts the answer behind the others; the bytes that are kept of a line stay. It stands out of line, so that
+/// the loop over lines stays short where they are empty.
 #[inline(never)]
 fn answer_line<W: Write>(
     session: &mut Session,
@@ -120,11 +120,10 @@ fn answer_line<W: Write>(
     output: &mut W,
     line: &[u8],
 ) -> Result<(), End>
-    requires { session.old.line ≡ [] }
     ensures ok { OnOk result ((held : Option (List ℕ)) (text rest : List ℕ) (lines : ℕ)
         → IsAt held (W.contents output.old) text (with_line line.now session.old) (10 ∷ rest) lines
-        → IsAt held (W.contents output.new) text session.new rest lines) }
-    ensures line { OnOk result (session.new.line ≡ []) }
+        → IsAt held (W.contents output.new) text (with_line [] session.new) rest lines) }
+    ensures line { session.new.line ≡ session.old.line }
     ensures kind { IfErr result (λ end. end ≢ End.ReadFault) }
     ensures err { IfErr result (λ end. (held : Option (List ℕ)) (text rest : List ℕ) (lines : ℕ)
         → IsAt held (W.contents output.old) text (with_line line.now session.old) (10 ∷ rest) lines

@@ -2,7 +2,7 @@
 use Rattle.std.proofs.Common.{◌≡◌, ◌==◌, false, ℕ, ◌+◌, ◌-◌, ◌^◌, ℤ, List, [], ◌∷◌, ◌++◌, length, take, refl, sym, ap, ◌∙◌, subst, arith, append_assoc, append-nil, Option, Some, min, length-append}
 use mathlib.Core.Path.{fun_ext}
 use Rattle.std.proofs.lemmas.List.{take_at}
-use Rattle.std.proofs.lemmas.List.Elements.{All-append}
+use Rattle.std.proofs.lemmas.List.Elements.{All-append, All-nil}
 use Rattle.std.specs.Io.KnownBytes.{Appends}
 use Rattle.range_map_cli.specs.declared.session.Session.{Session}
 use Rattle.range_map_cli.specs.Lines.{lines_of, ends_in, Lacks}
@@ -10,7 +10,7 @@ use Rattle.range_map_cli.specs.Commands.{Command, command_of}
 use Rattle.range_map_cli.specs.Replies.{Content, nothing, content_after, Replies}
 use Rattle.range_map_cli.specs.Output.{commands_of, has_bad, with_command, bad_or, Answers, AnswersFirst}
 use Rattle.range_map_cli.specs.States.{content_of, HasWords}
-use Rattle.range_map_cli.specs.Sessions.{after_all, Forwards, IsAt}
+use Rattle.range_map_cli.specs.Sessions.{after_all, with_line, Forwards, IsAt}
 use Rattle.range_map_cli.proofs.Sessions.Kept.{take_again}
 use Rattle.range_map_cli.proofs.Sessions.Lengths.{command_of-take}
 use Rattle.range_map_cli.proofs.Sessions.Cuts.{lines_end, lines_last, ends_in-Lacks, ends_in-append}
@@ -48,6 +48,10 @@ next_part held now text session new bytes rest lines at none same line =
       no_end = All-append (λ b. (b == 10) ≡ false) at.partial bytes at.no_end none;
       kept = line ∙ ap (λ l. take 81 (l ++ bytes)) at.kept ∙ take_again 81 at.partial bytes;
     }
+
+-- where no byte of a line is kept
+pub without_line : (held now : Option (List ℕ)) (text : List ℕ) (session : Session) (rest : List ℕ) (lines : ℕ) → session.line ≡ [] → IsAt held now text (with_line [] session) rest lines → IsAt held now text session rest lines
+without_line held now text session rest lines line at = next_part held now text (with_line [] session) session [] rest lines at (All-nil (λ b. (b == 10) ≡ false)) refl line
 
 -- what the line that ends here asks
 module _ (held now : Option (List ℕ)) (text : List ℕ) (session : Session) (rest : List ℕ) (lines : ℕ) (at : IsAt held now text session (10 ∷ rest) lines) where

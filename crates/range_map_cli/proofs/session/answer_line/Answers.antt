@@ -1,4 +1,4 @@
-use Rattle.std.proofs.Common.{◌≡◌, ◌++◌, ◌+◌, ◌-◌, ◌^◌, ◌∙◌, length, arith, ap, subst, sym, min, codes, decimal, Err, string_bytes}
+use Rattle.std.proofs.Common.{◌≡◌, ◌++◌, ◌+◌, ◌-◌, ◌^◌, ◌∙◌, length, arith, ap, refl, subst, sym, min, codes, decimal, Err, string_bytes}
 use Rattle.range_map_cli.specs.declared.End.TheVariants as ends
 use Rattle.range_map_cli.specs.Output.{no_memory, Prints}
 use Rattle.range_map_cli.specs.Sessions.{Forwards, with_line}
@@ -15,7 +15,7 @@ returns-in-Ok-put-clause-ok g c = λ held text rest lines at.
     let reply = string_bytes c.answer.new.self.reply in
     let behind_old : c.answer.new.self.waiting.items ++ c.as_bytes.result.now ≡ session.waiting.items ++ reply = ap (λ l. l ++ c.as_bytes.result.now) c.answer.ensures.waiting ∙ ap (λ l. session.waiting.items ++ l) c.as_bytes.ensures.value in
     let put = subst (λ l. Forwards (g.W.Write.contents c.args.output.now) (g.W.Write.contents c.put.new.output) l c.put.new.waiting.items) behind_old c.in-Ok-put.ensures.ok in
-    next_line held _ text session rest lines at answer.0 reply (command_of-take line ∙ answer.1) answer.2 _ _ answer.3 put c.in-Ok.ensures.number (c.answer.ensures.line ∙ c.requires)
+    next_line held _ text session rest lines at answer.0 reply (command_of-take line ∙ answer.1) answer.2 _ _ answer.3 put c.in-Ok.ensures.number refl
 
 pub returns-in-Err-clause-err : goal.returns-in-Err-clause-err
 returns-in-Err-clause-err g c = λ held text rest lines at.
