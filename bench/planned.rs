@@ -27,10 +27,15 @@ struct Plan {
     first: Option<(i64, bool)>,
     /// The entry that starts below the range: first key, last key, and whether its value is the same.
     left: Option<(i64, i64, bool)>,
-    /// The least start among the covered entries above the first, and whether there are more.
-    covered: Option<(i64, bool)>,
+    /// The least and the greatest start of the covered entries above the first.
+    covered: Option<(i64, i64)>,
     /// How many keys of the range have a value.
     keys: u128,
+}
+
+/// The least and the greatest of some starts, with a start below them.
+fn with_least(start: i64, starts: Option<(i64, i64)>) -> (i64, i64) {
+    (start, starts.map_or(start, |(_, greatest)| greatest))
 }
 
 impl<V: Eq + Clone> RangeMap<V> {
@@ -47,7 +52,7 @@ impl<V: Eq + Clone> RangeMap<V> {
                 plan.rest = Some(start);
             }
             if start > lo && (is_same || node.0 <= hi) {
-                plan.covered = Some((start, plan.covered.is_some()));
+                plan.covered = Some(with_least(start, plan.covered));
             } else if start < lo {
                 plan.left = Some((start, node.0, is_same));
                 break;
@@ -89,10 +94,10 @@ impl<V: Eq + Clone> RangeMap<V> {
             self.move_start(rest, plan.end + 1);
         }
         let covered = match plan.first {
-            Some((end, _)) if end <= plan.end => Some((lo, plan.covered.is_some())),
+            Some((end, _)) if end <= plan.end => Some(with_least(lo, plan.covered)),
             _ => plan.covered,
         };
-        self.clear(start, plan.end, covered);
+        self.clear(start, covered);
         self.set_end(start, plan.end, |_| ());
     }
 
@@ -118,7 +123,7 @@ impl<V: Eq + Clone> RangeMap<V> {
         {
             self.set_end(start, lo - 1, |_| ());
         }
-        self.clear(lo, plan.end, plan.covered);
+        self.clear(lo, plan.covered);
     }
 
     fn set_end<R>(&mut self, start: i64, end: i64, answer: impl Fn(&Held<V>) -> R) -> R {
@@ -140,12 +145,14 @@ impl<V: Eq + Clone> RangeMap<V> {
         }
     }
 
-    /// Takes out what starts above `first`, up to `end`.
-    fn clear(&mut self, first: i64, end: i64, covered: Option<(i64, bool)>) {
-        let Some((least, has_more)) = covered else { return };
+    /// Takes out what starts above `first`, where the least and the greatest start are known.
+    fn clear(&mut self, first: i64, covered: Option<(i64, i64)>) {
+        let Some((least, greatest)) = covered else { return };
         self.tree.remove(&least);
-        while has_more && let Some((&start, _)) = self.tree.range(first + 1..=end).next() {
+        let mut last = least;
+        while last < greatest && let Some((&start, _)) = self.tree.range(first + 1..).next() {
             self.tree.remove(&start);
+            last = start;
         }
     }
 
