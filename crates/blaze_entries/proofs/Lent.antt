@@ -121,7 +121,7 @@ clone_inserted {V} is_clone k s z v m old new i q f p = by_found (start_at k old
         let t = f e (q ∙ ap (option_map held) r) in
         record { of = e; found = r; value = v; clone = t.1; inserted = p ∙ ap (λ x. with_entry (entry s x v) old) t.0 }
 
-no_value : (X : Type 0) → IsSome {T = X} None → ⊥
+pub no_value : (X : Type 0) → IsSome {T = X} None → ⊥
 no_value X j = cc
 
 -- a node by its place in the list

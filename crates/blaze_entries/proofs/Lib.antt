@@ -1,7 +1,6 @@
 pub mod Alike
 pub mod Ascending
 pub mod Changes
-pub mod FirstNodes
 pub mod Halves
 pub mod Held
 pub mod Lent

@@ -1,13 +1,17 @@
 -- One step of an iterator over full places.
-use Rattle.std.proofs.Common.{◌≡◌, ◌+◌, length, List, [], ◌∷◌, ◌++◌, Option, Some, None, refl, ◌∙◌, sym, subst, ap, arith, length-append}
-use Rattle.std.specs.Prelude.{ℤ, map, IsSome, IfSome, MatchOption}
+use Rattle.std.proofs.Common.{◌≡◌, ◌+◌, ◌<◌, length, ℤ, pos, ◌+ℤ◌, List, [], ◌∷◌, ◌++◌, Option, Some, None, refl, ◌∙◌, sym, subst, ap, arith, length-append}
+use Rattle.std.specs.Prelude.{map, IsSome, IfSome, IfNone, MatchOption, ◌↔◌}
 use Rattle.std.specs.Iterator.{MakesProgress, item_count}
 use Rattle.std.specs.Map.Iter.{TakesFirst, TakesLast}
 use Rattle.std.specs.Option.{option_map}
+use Rattle.std.proofs.lemmas.Int.{ints}
 use Rattle.blaze_entries.specs.Entries.{Entry}
-use Rattle.blaze_entries.specs.Places.{held, full, place_of, places, entries_of, AreFull}
+use Rattle.blaze_entries.specs.Places.{held, full, place_of, places, entries_of, AreFull, AreHeld}
+use Rattle.blaze_entries.specs.Starts.{StartsAscend}
 use Rattle.blaze_entries.specs.declared.nodes.EndValue.{EndValue}
+use Rattle.blaze_entries.proofs.Ascending.{start_lower}
 use Rattle.blaze_entries.proofs.Held.{full-held}
+use Rattle.blaze_entries.proofs.Lent.{no_value}
 
 -- the steps of a list, as those of what is shown of it
 takes_first_shown : {A X Y : Type 0} (f : X → Y) (shows : A → X) (s : List X) (r : Option A) (t : List X) → TakesFirst shows s r t → TakesFirst (λ x. f (shows x)) (map f s) r (map f t)
@@ -121,3 +125,20 @@ goes_last can all view None es fs h = record { on = λ _. tt; keeps = tt; rests 
 goes_last can all view (Some x) es fs h =
     let n : length es ≡ length fs + 1 = ap length h ∙ omega (arith, length-append fs (view x ∷ [])) in
     record { on = λ _. (all fs, tt, omega (arith, n)); keeps = all fs; rests = λ _. tt }
+
+-- what a step off the front leaves of entries in order is in order
+pub rest_is_held : {A V : Type 0} {shows : A → Entry (Option V)} {es : List (Entry V)} {r : Option A} {qs : List (Entry (Option V))} (t : Taken shows (λ fs e. e ∷ fs) es r qs) (low high : ℤ)
+    → StartsAscend low high es → AreHeld low high qs
+rest_is_held {V = V} {es = es} {qs = qs} t low high h = record { ascend = by_entry t.entry t.yields; full = t.others }
+  where
+    by_entry : (o : Option (Entry V)) → MatchOption o ((es ≡ []) × (full qs ≡ [])) (λ e. es ≡ e ∷ full qs) → StartsAscend low high (full qs)
+    by_entry None y = subst (StartsAscend low high) (sym y.1) tt
+    by_entry (Some e) y =
+        let all = subst (StartsAscend low high) y h in
+        start_lower (e.lo +ℤ pos 1) low high (full qs) (omega (arith, ints, all.0)) all.2
+
+-- what a call that takes the first of a list out says, as a step of the list
+pub pops_first : {X : Type 0} (nodes : List X) (r : Option X) (rest : List X) → IsSome r ↔ (0 < length nodes) → IfSome r (λ p. nodes ≡ p ∷ rest) → IfNone r (rest ≡ nodes) → TakesFirst (λ p. p) nodes r rest
+pops_first [] None rest v s n = (refl, n)
+pops_first {X} (x ∷ nodes) None rest v s n = absurd (no_value X (v.1 (omega arith)))
+pops_first nodes (Some p) rest v s n = s

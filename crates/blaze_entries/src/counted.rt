@@ -1,12 +1,13 @@
 //! The entries with their counters. Each look here is counted: there is no other way to read an entry.
-ghost use Rattle.std.specs.Prelude.{◌≡◌, ◌+◌, [], pos, ◌+ℤ◌, ◌≤ℤ◌, length, map, reverse, Some};
-ghost use Rattle.std.specs.Prelude.{None, IsSome, IfSome, OnOk, OnErr, IfOk, slice_get};
+ghost use Rattle.std.specs.Prelude.{◌≡◌, ◌+◌, [], ◌∷◌, pos, ◌+ℤ◌, ◌≤ℤ◌, ◌<ℤ◌, length, map, reverse};
+ghost use Rattle.std.specs.Prelude.{Some, None, IsSome, IfSome, OnSome, MatchOption, OnOk, OnErr, IfOk};
+ghost use Rattle.std.specs.Prelude.{slice_get};
 ghost use Rattle.std.specs.List.Retain.{IsFiltered};
 ghost use Rattle.std.specs.Option.{option_map};
 ghost use Rattle.blaze_entries.specs.Answers.{AnswersAt, IsCallableAtEach};
 ghost use Rattle.blaze_entries.specs.Entries.{entry, shown_entry};
 ghost use Rattle.blaze_entries.specs.Counted.{uncounted};
-ghost use Rattle.blaze_entries.specs.Cloned.{AreCloned};
+ghost use Rattle.blaze_entries.specs.Cloned.{AreCloned, IsRestCloned};
 ghost use Rattle.blaze_entries.specs.Found.{found_in, found_of, range_in, ranks_of};
 ghost use Rattle.blaze_entries.specs.Scanned.{seen_of, unseen, walked, walked_covered};
 ghost use Rattle.blaze_entries.specs.Scanned.{answers, walked_keys};
@@ -23,7 +24,7 @@ use crate::nodes::{
     EndValue, Tree, insert, move_node, node_at, node_at_or_above, node_at_or_below, node_below,
     remove, replace, replace_front, set_end, set_end_cloned, split_off,
 };
-use crate::places::{cloned, found, range_of, value_of};
+use crate::places::{cloned, found, given, range_of, rest_cloned, value_of};
 use crate::retain::retain;
 use crate::scan::{Plan, next_or_last, walk};
 use blaze_int::Integer;
@@ -131,16 +132,6 @@ impl<T: Integer, V> Counted<T, V> {
     {
         self.looks = self.looks.one_more();
         range_of(node_at_or_above(&self.tree, key))
-    }
-
-    /// The first and last key of the first entry. No search is made.
-    pub fn first_range(&mut self) -> Option<(T, T)>
-        ensures found { option_map (ranks_of T.rank) result
-            ≡ option_map range_in (slice_get self.old.entries 0) }
-        ensures looked { self.new ≡ record self.old { looks = self.old.looks + 1 } }
-    {
-        self.looks = self.looks.one_more();
-        range_of(self.tree.first_key_value())
     }
 
     /// Moves the end of the entry at a start.
@@ -278,6 +269,26 @@ impl<T: Integer, V: Drop> Counted<T, V> {
         ensures shorter { length self.new.entries + 1 ≡ length self.old.entries }
     {
         value_of(remove(&mut self.tree, start))
+    }
+
+    /// Takes the first entry out, and answers it: first key, last key and value. No search is made. Nothing is counted where
+    /// there is none.
+    pub fn pop_first(&mut self) -> Option<(T, T, V)>
+        ensures first { MatchOption result ((self.old.entries ≡ []) × (self.new ≡ self.old)) (λ first.
+            self.old.entries ≡ shown_entry T.rank (λ v. v) first ∷ self.new.entries) }
+        ensures counted { OnSome result (self.new
+            ≡ record self.old {
+              entries = self.new.entries;
+              taken_out = self.old.taken_out + 1;
+            }) }
+    {
+        match given(self.tree.pop_first()) {
+            Some(first) => {
+                self.taken_out = self.taken_out.one_more();
+                Some(first)
+            }
+            None => None,
+        }
     }
 
     /// Moves the entry at a start to another start, where none is, with its end and value. Refused memory leaves it.
@@ -420,6 +431,22 @@ impl<T: Integer, V: Clone> Counted<T, V> {
         self.looks = self.looks.one_more();
         let node = cloned(node_at(&self.tree, start))?;
         Ok(node.value)
+    }
+
+    /// What the first entry has behind its first key, with a clone of its value: from the key after it up to its last key. `None`
+    /// where it has one key. No search is made. A refused clone leaves the entries.
+    pub fn first_rest(&mut self) -> Result<Option<(T, T, V)>, AllocError>
+        requires { IsSome (slice_get self.old.entries 0) }
+        ensures rest { IfOk result (λ rest. IfSome (slice_get self.old.entries 0)
+            (λ e. IsRestCloned V.is_clone e
+            (option_map (shown_entry T.rank (λ v. v)) rest))) }
+        ensures refused { OnErr result (IfSome (slice_get self.old.entries 0)
+            (λ e. e.lo <ℤ e.hi)) }
+        ensures looked { self.new ≡ record self.old { looks = self.old.looks + 1 } }
+    {
+        self.looks = self.looks.one_more();
+        let rest = rest_cloned(self.tree.first_key_value())?;
+        Ok(rest)
     }
 
     /// Moves the end of the entry at a start, and answers a clone of its value. A refused clone leaves the end.

@@ -1,12 +1,11 @@
 //! The tree: from each start to its end and value. Searches, and edits of its nodes.
 ghost use Rattle.std.specs.BTreeMap.{is_at, get};
-ghost use Rattle.std.specs.Prelude.{◌≡◌, ℤ, pos, ◌+ℤ◌, Some, None, IsTrue, IsSome, IfSome, OnOk, OnErr};
-ghost use Rattle.std.specs.Prelude.{IfOk, slice_get};
+ghost use Rattle.std.specs.Prelude.{◌≡◌, ℤ, pos, ◌+ℤ◌, Some, None, IsSome, IfSome, OnOk, OnErr, IfOk};
 ghost use Rattle.std.specs.Option.{option_map, option_copied};
 ghost use Rattle.std.specs.Ordering.{int_cmp, on};
 ghost use Rattle.blaze_entries.specs.Changed.{changed};
 ghost use Rattle.blaze_entries.specs.Places.{places, place_lent, place_at};
-ghost use Rattle.blaze_entries.specs.Starts.{StartsAscend, below, from, first_entry, last_below};
+ghost use Rattle.blaze_entries.specs.Starts.{StartsAscend, below, from, last_below};
 ghost use Rattle.blaze_entries.specs.Starts.{first_from};
 ghost use Rattle.blaze_entries.specs.Starts.{start_at, with_entry, without, with_end};
 ghost use Rattle.blaze_entries.specs.Starts.{with_end_value, IsStartMoved, IsFrontReplaced};
@@ -14,7 +13,6 @@ ghost use Rattle.blaze_entries.specs.Starts.{with_end_value, IsStartMoved, IsFro
 use crate::places::end_cloned;
 use crate::start::Start;
 use blaze_int::Integer;
-use blaze_int::compare::is_at_most;
 use std::alloc::AllocError;
 use std::collections::{BTreeMap, btree_map};
 use std::mem;
@@ -141,35 +139,12 @@ pub fn node_at_or_above<T: Integer, V>(
     nodes_from(tree, key).next()
 }
 
-// Whether a start is that of the first node, which is told without a search.
-fn is_first<T: Integer, V>(tree: &Tree<T, V>, start: T) -> bool
-    ensures { IsTrue result → option_map (λ e. e.lo) (first_entry (places T.rank tree.now.entries))
-        ≡ Some (T.rank start) }
-{
-    match tree.first_key_value() {
-        Some((first, _)) => is_at_most(first.0, start) && is_at_most(start, first.0),
-        None => false,
-    }
-}
-
-// The node with the least start.
-fn first_node<T: Integer, V>(tree: &Tree<T, V>) -> Option<&EndValue<T, V>>
-    ensures { option_copied result ≡ option_map (λ p. p.1) (slice_get tree.now.entries 0) }
-{
-    let (_, node) = tree.first_key_value()?;
-    Some(node)
-}
-
 /// The node at a start.
 pub fn node_at<T: Integer, V>(tree: &Tree<T, V>, start: T) -> Option<&EndValue<T, V>>
     ensures { option_map (place_at T.rank start) (option_copied result)
         ≡ start_at (T.rank start) (places T.rank tree.now.entries) }
 {
-    if is_first(tree, start) {
-        first_node(tree)
-    } else {
-        tree.get(&Start(start))
-    }
+    tree.get(&Start(start))
 }
 
 /// Puts a node in.
@@ -186,19 +161,6 @@ pub fn insert<T: Integer, V: Drop>(
     Ok(())
 }
 
-// Takes the first node out, which starts at `start`.
-fn take_first<T: Integer, V>(tree: &mut Tree<T, V>, start: T) -> Option<EndValue<T, V>>
-    requires { option_map (λ e. e.lo) (first_entry (places T.rank tree.old.entries))
-        ≡ Some (T.rank start) }
-    ensures nodes { places T.rank tree.new.entries
-        ≡ without (T.rank start) (places T.rank tree.old.entries) }
-    ensures old { option_map (place_at T.rank start) result
-        ≡ start_at (T.rank start) (places T.rank tree.old.entries) }
-{
-    let (_, node) = tree.pop_first()?;
-    Some(node)
-}
-
 /// Takes the node at a start out.
 pub fn remove<T: Integer, V>(tree: &mut Tree<T, V>, start: T) -> Option<EndValue<T, V>>
     ensures nodes { places T.rank tree.new.entries
@@ -206,11 +168,7 @@ pub fn remove<T: Integer, V>(tree: &mut Tree<T, V>, start: T) -> Option<EndValue
     ensures old { option_map (place_at T.rank start) result
         ≡ start_at (T.rank start) (places T.rank tree.old.entries) }
 {
-    if is_first(tree, start) {
-        take_first(tree, start)
-    } else {
-        tree.remove(&Start(start))
-    }
+    tree.remove(&Start(start))
 }
 
 /// Moves the end of the node at a start.

@@ -1,6 +1,7 @@
 //! What a node whose place is full shows.
-ghost use Rattle.std.specs.Prelude.{◌≡◌, ℤ, Option, Some, IfSome, IsSome, IfOk, OnOk, OnErr};
+ghost use Rattle.std.specs.Prelude.{◌≡◌, ℤ, ◌<ℤ◌, Option, Some, IfSome, IsSome, IfOk, OnOk, OnErr};
 ghost use Rattle.std.specs.Option.{option_map, option_copied};
+ghost use Rattle.blaze_entries.specs.Cloned.{IsRestCloned};
 ghost use Rattle.blaze_entries.specs.Entries.{Entry, entry, shown_entry};
 ghost use Rattle.blaze_entries.specs.Found.{found_in, found_of, range_in, ranks_of};
 ghost use Rattle.blaze_entries.specs.Places.{held, place_lent, place_of};
@@ -9,6 +10,7 @@ use crate::found::Found;
 use crate::nodes::EndValue;
 use crate::start::Start;
 use blaze_int::Integer;
+use blaze_int::compare::{after, is_below};
 use std::alloc::AllocError;
 
 /// A node's first key, last key and value.
@@ -126,6 +128,30 @@ pub fn end_cloned<T: Integer, V: Clone>(
             node.end = end;
             Ok(value)
         }
+        None => unreachable!(),
+    }
+}
+
+/// What a node has behind its first key, with a clone of its value: from the key after it up to its last key. `None` where it has
+/// one key.
+pub fn rest_cloned<T: Integer, V: Clone>(
+    node: Option<(&Start<T>, &EndValue<T, Option<V>>)>,
+) -> Result<Option<(T, T, V)>, AllocError>
+    requires { IfSome node (λ p. IsSome p.1.now.value) }
+    ensures rest { IfOk result (λ rest. (e : Entry V) → option_map (place_lent T.rank) node.entry
+        ≡ Some (held e) → IsRestCloned V.is_clone e
+        (option_map (shown_entry T.rank (λ v. v)) rest)) }
+    ensures refused { OnErr result ((e : Entry V) → option_map (place_lent T.rank) node.entry
+        ≡ Some (held e) → e.lo <ℤ e.hi) }
+{
+    let Some((start, node)) = node else {
+        return Ok(None);
+    };
+    if !is_below(start.0, node.end) {
+        return Ok(None);
+    }
+    match &node.value {
+        Some(value) => Ok(Some((after(start.0, node.end), node.end, value.clone()?))),
         None => unreachable!(),
     }
 }

@@ -1,5 +1,5 @@
--- Two streams gone through together, and what is chosen from them so far: the words of this crate's own functions. No public
--- clause names them.
+-- Two streams gone through together, and what is chosen from them so far: the words of this crate's own functions, and of those
+-- that it exports for the crates above it alone. No clause that users of the streams meet names them.
 use Rattle.std.specs.Prelude.{◌≡◌, ℤ, ◌≤ℤ◌, ◌<ℤ◌, Bool, List, [], ◌∷◌, Option, Some, None}
 use Rattle.blaze_table.specs.Entries.{Entry, entry, at, shown_entry, SameOption}
 use Rattle.blaze_table.specs.Splice.{glue, after}

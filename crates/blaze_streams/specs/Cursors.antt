@@ -1,4 +1,5 @@
--- What is left of lists that are gone through together: the words of this crate's own functions. No public clause names them.
+-- What is left of lists that are gone through together: the words of this crate's own functions, and of those that it exports
+-- for the crates above it alone. No clause that users of the streams meet names them.
 use Rattle.std.specs.Prelude.{◌≡◌, ℤ, pos, ◌-ℤ◌, ◌≤ℤ◌, int_le, Bool, if◌then◌else◌, List, [], ◌∷◌, Option, Some, None}
 use Rattle.blaze_table.specs.Entries.{Entry}
 use Rattle.blaze_table.specs.Canonical.{IsCanonical}

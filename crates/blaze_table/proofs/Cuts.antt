@@ -1,5 +1,6 @@
 pub mod Cutting
 pub mod CutEdits
+pub mod FirstCuts
 pub mod RangeCuts
 pub mod Splitting
 pub mod SplitEdits

@@ -1,5 +1,7 @@
 -- What taking keys out gives: one key, a range of keys, or all below or from a key on.
 use Rattle.std.specs.Prelude.{◌≡◌, ℤ, ◌<ℤ◌, int_le, int_lt, Bool, ◌&&◌, if◌then◌else◌, List, Option, Some, None}
+use Rattle.std.specs.List.{slice_get}
+use Rattle.std.specs.Option.{option_map}
 use Rattle.std.specs.Ordering.{int_eq}
 use Rattle.blaze_table.specs.Entries.{Entry, at, entry_at, SameOption}
 use Rattle.blaze_table.specs.Canonical.{IsRangeMap}
@@ -24,6 +26,12 @@ from_at k content j = if int_le k j then content j else None
 pub record IsCut {V : Type 0} (eq : V → V → Bool) (low high : ℤ) (k : ℤ) (old new : List (Entry V)) : Type 0 where
   pub range_map : IsRangeMap eq low high new
   pub content : (j : ℤ) → SameOption eq (at new j) (cut_at k (at old) j)
+
+-- the first entry's first key was taken out, and had a value equal to the answered one
+pub record IsFirstCut {V : Type 0} (eq : V → V → Bool) (low high k : ℤ) (value : V) (old new : List (Entry V)) : Type 0 where
+  pub first : option_map (λ e. e.lo) (slice_get old 0) ≡ Some k
+  pub equal : SameOption eq (at old k) (Some value)
+  pub cut : IsCut eq low high k old new
 
 -- the entry that has the key k has other keys too
 pub record IsAmongOthers {V : Type 0} (k : ℤ) (entries : List (Entry V)) : Type 0 where

@@ -1,8 +1,9 @@
--- A paint planned by what lies beside its range, and the steps that make it, in the words of the list.
+-- A paint planned by what lies beside its range, and the steps that make it or a cut, in the words of the list.
 use Rattle.std.specs.Prelude.{◌≡◌, ℕ, ◌+◌, ◌≤◌, ◌⊎◌, ◌++◌, ◌&&◌, ◌||◌, ℤ, pos, ◌+ℤ◌, ◌≤ℤ◌, ◌<ℤ◌, int_lt, int_le, if◌then◌else◌, Bool, true, false, List, [], ◌∷◌, length, Option, Some, None}
 use Rattle.std.specs.List.{filter}
 use Rattle.std.specs.Option.{option_map}
 use Rattle.std.specs.Ordering.{int_eq}
+use Rattle.blaze_entries.specs.Cloned.{IsRestCloned}
 use Rattle.blaze_entries.specs.Counted.{CountedEntries}
 use Rattle.blaze_entries.specs.Found.{found_in}
 use Rattle.blaze_entries.specs.Scanned.{Seen, with_least}
@@ -70,6 +71,11 @@ abbrev pub outer_starts : {V : Type 0} → List (Entry V) → Option (ℤ × ℤ
 outer_starts [] = None
 outer_starts (e ∷ es) = Some (with_least e.lo (outer_starts es))
 
+-- they are those of the entries that start above f, up to z
+pub record AreOuterStarts {V : Type 0} (f z : ℤ) (es : List (Entry V)) (starts : Option (ℤ × ℤ)) : Type 0 where
+  pub order : f ≤ℤ z
+  pub are : starts ≡ outer_starts (starts_in f z es)
+
 -- the same with an entry before them that was looked at, if it ends up to z
 abbrev pub outer_with : ℤ → Option (ℤ × ℤ × Bool) → Option (ℤ × ℤ) → Option (ℤ × ℤ)
 outer_with z None c = c
@@ -124,6 +130,20 @@ pub record IsExtended {V : Type 0} (eq : V → V → Bool) (f z : ℤ) (old new 
   pub above : List (Entry V)
   pub like : SameEntries eq (after z old) above
   pub put : new ≡ below f old ++ entry f z of.value ∷ above
+
+-- a list, with an entry before it if there is one
+abbrev pub with_first : {V : Type 0} → Option (Entry V) → List (Entry V) → List (Entry V)
+with_first None es = es
+with_first (Some e) es = e ∷ es
+
+-- what the first entry has behind its first key was put in behind it, with a clone of its value, if it has more keys
+pub record IsRestPut {V : Type 0} (is_clone : V → V → Type 0) (old new : List (Entry V)) : Type 0 where
+  pub first : Entry V
+  pub others : List (Entry V)
+  pub was : old ≡ first ∷ others
+  pub rest : Option (Entry V)
+  pub clone : IsRestCloned is_clone first rest
+  pub put : new ≡ first ∷ with_first rest others
 
 -- ---- the work
 

@@ -1,7 +1,5 @@
 //! A key taken out of entries, in place. Each clone and each growth comes before the first edit that can't be taken back.
 ghost use Rattle.std.specs.Prelude.{◌≡◌, Some, None, pos, ◌+ℤ◌, ◌≤ℤ◌, ◌<ℤ◌, Ok, OnOk, OnErr, IfOk};
-ghost use Rattle.std.specs.Prelude.{slice_get};
-ghost use Rattle.std.specs.Option.{option_map};
 ghost use Rattle.blaze_entries.specs.Starts.{start_at};
 ghost use Rattle.blaze_table.specs.Canonical.{IsCanonical};
 ghost use Rattle.blaze_table.specs.Work.{IsCountedCut};
@@ -211,33 +209,5 @@ pub fn cut<T: Integer, V: Eq + Clone>(
             Ok((Some(value), rest))
         }
         _ => Ok((None, len)),
-    }
-}
-
-/// Takes the first key out, and answers the value that was there and the new count of keys, where `len` is the old. No search
-/// is made for it. Refused memory leaves the entries as they are.
-pub fn cut_first<T: Integer, V: Eq + Clone>(
-    entries: &mut Counted<T, V>,
-    len: T::SafeLen,
-    key: T,
-) -> Result<(V, T::SafeLen), AllocError>
-    requires clones { ClonesAreAlike V.is_clone V.eq }
-    requires table { IsTable V.eq T.low T.high (T.SafeLen.number len) entries.old.entries }
-    requires first { option_map (λ e. e.lo) (slice_get entries.old.entries 0)
-        ≡ Some (T.rank key) }
-    ensures table { IfOk result
-        (λ r. IsTable V.eq T.low T.high (T.SafeLen.number r.1) entries.new.entries) }
-    ensures cut { OnOk result
-        (IsListCut V.eq (T.rank key) entries.old.entries entries.new.entries) }
-    ensures value { IfOk result
-        (λ r. SameOption V.eq (at entries.old.entries (T.rank key)) (Some r.0)) }
-    ensures counted { OnOk result (IsCountedCut entries.old entries.new) }
-    ensures refused { OnErr result (IsAmongOthers (T.rank key) entries.old.entries) }
-    ensures err { OnErr result (entries.new.entries ≡ entries.old.entries) }
-{
-    entries.in_hand();
-    match entries.first_range() {
-        Some(ends) => cut_counted(entries, len, key, ends.0, ends.1),
-        None => unreachable!(),
     }
 }

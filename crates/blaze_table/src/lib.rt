@@ -3,6 +3,7 @@
 
 mod count;
 mod cut;
+mod cut_first;
 mod cut_range;
 mod entry_keys;
 mod equality;

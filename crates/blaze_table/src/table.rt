@@ -1,15 +1,17 @@
 //! The table.
 ghost use Rattle.std.specs.Prelude.{◌≡◌, ◌↔◌, ◌-◌, ◌≤ℤ◌, int_lt, pos, [], length, slice_get, find};
-ghost use Rattle.std.specs.Prelude.{reverse, false, None, Ok, IfOk, OnOk, OnErr, IsTrue};
+ghost use Rattle.std.specs.Prelude.{reverse, false, Some, None, Ok, IfOk, OnOk, OnErr, IsTrue};
+ghost use Rattle.std.specs.Prelude.{MatchOption};
 ghost use Rattle.std.specs.Prelude.{option_map};
 ghost use Rattle.std.specs.List.Retain.{IsFiltered};
 ghost use Rattle.blaze_table.specs.Counted.{uncounted};
-ghost use Rattle.blaze_table.specs.Entries.{entry, at, entry_at, shown_entry, SameOption};
+ghost use Rattle.blaze_table.specs.Entries.{Entry, entry, at, entry_at, shown_entry, SameOption};
 ghost use Rattle.blaze_table.specs.Entries.{SameEntries};
 ghost use Rattle.blaze_table.specs.Canonical.{IsRangeMap};
 ghost use Rattle.blaze_table.specs.Count.{keys_in, mapped_keys};
 ghost use Rattle.blaze_table.specs.Painted.{IsPainted, ClonesAreAlike, IsInside};
-ghost use Rattle.blaze_table.specs.Cut.{IsCut, IsRangeCut, IsSplit, IsAmongOthers, GoesOnAbove};
+ghost use Rattle.blaze_table.specs.Cut.{IsCut, IsFirstCut, IsRangeCut, IsSplit, IsAmongOthers};
+ghost use Rattle.blaze_table.specs.Cut.{GoesOnAbove};
 ghost use Rattle.blaze_table.specs.Ending.{ending_from};
 ghost use Rattle.blaze_table.specs.Gap.{IsGap};
 ghost use Rattle.blaze_table.specs.Listed.{listed};
@@ -18,7 +20,8 @@ ghost use Rattle.blaze_table.specs.Retain.{AnswersAt, IsCallableAtEach, IsCallab
 ghost use Rattle.blaze_table.specs.Retain.{IsKeyRetained};
 
 use crate::count::{count, count_list};
-use crate::cut::{cut, cut_first};
+use crate::cut::cut;
+use crate::cut_first::cut_first;
 use crate::cut_range::cut_range;
 use crate::gaps::gap_round;
 use crate::retain_keys::retain_keys;
@@ -264,24 +267,27 @@ impl<T: Integer, V: Eq + Clone> RangeTable<T, V> {
         Ok(value)
     }
 
-    /// Takes the first key out, and answers the value that was there. No search is made for it. Refused memory leaves the
-    /// entries unchanged. No memory is taken where the key is an entry of its own.
-    pub fn cut_first(&mut self, key: T) -> Result<V, AllocError>
-        requires clones { ClonesAreAlike V.is_clone V.eq }
-        requires first { option_map (λ e. e.lo) (slice_get self.old.entries 0)
-            ≡ Some (T.rank key) }
-        ensures ok { OnOk result
-            (IsCut V.eq T.low T.high (T.rank key) self.old.entries self.new.entries) }
-        ensures value { IfOk result
-            (λ value. SameOption V.eq (at self.old.entries (T.rank key)) (Some value)) }
+    /// Takes the first key out, and answers it with the value that was there; `None` on the empty table. No search is made for
+    /// it. Refused memory leaves the entries unchanged. No memory is taken on the empty table and where the key is an entry of
+    /// its own.
+    pub fn pop_first(&mut self) -> Result<Option<(T, V)>, AllocError>
+        requires { ClonesAreAlike V.is_clone V.eq }
+        ensures ok { IfOk result (λ popped. MatchOption popped ((self.old.entries ≡ [])
+            × (self.new ≡ self.old)) (λ pair. IsFirstCut V.eq T.low T.high (T.rank pair.0) pair.1
+            self.old.entries self.new.entries)) }
         ensures counted { OnOk result (IsCountedCut self.old self.new) }
-        ensures refused { OnErr result (IsAmongOthers (T.rank key) self.old.entries) }
+        ensures refused { OnErr result ((first : Entry V)
+            × (slice_get self.old.entries 0 ≡ Some first)
+            × IsAmongOthers first.lo self.old.entries) }
         ensures err { OnErr result (self.new.entries ≡ self.old.entries) }
     {
+        if self.entries.len() == 0 {
+            return Ok(None);
+        }
         let old_len = self.len;
-        let (value, len) = cut_first(&mut self.entries.counted, old_len, key)?;
+        let (key, value, len) = cut_first(&mut self.entries.counted, old_len)?;
         self.len = len;
-        Ok(value)
+        Ok(Some((key, value)))
     }
 
     /// Takes the keys from lo up to hi out. Refused memory leaves the entries unchanged. Memory is taken only where an entry

@@ -43,11 +43,8 @@ impl<T: Integer, V: Eq + Clone> RangeMapBlaze<T, V> {
         ensures err { OnErr result (self.new.entries ≡ self.old.entries) }
     {
         self.in_hand();
-        let Some(first) = self.first_key() else {
-            return Ok(None);
-        };
-        let value = self.table.cut_first(first)?;
-        Ok(Some((first, value)))
+        let popped = self.table.pop_first()?;
+        Ok(popped)
     }
 
     /// Takes the greatest key out, and answers it with the value that was there; `None` on the empty map. Refused memory
@@ -69,17 +66,6 @@ impl<T: Integer, V: Eq + Clone> RangeMapBlaze<T, V> {
         match self.remove(last)? {
             Some(value) => Ok(Some((last, value))),
             None => unreachable!(),
-        }
-    }
-
-    /// The least key that has a value.
-    fn first_key(&self) -> Option<T>
-        ensures { MatchOption result (self.now.entries ≡ []) (λ key. (value : V)
-            × IsFirstPair (at self.now.entries) (T.rank key) value) }
-    {
-        match self.first_key_value() {
-            Some((key, _)) => Some(key),
-            None => None,
         }
     }
 

@@ -14,7 +14,7 @@ use Rattle.blaze_table.specs.Count.{keys_in}
 use Rattle.blaze_table.specs.Splice.{before, after, glue, IsBelow, IsRangeCutOf, IsCutOf, overlap, covered, IsListCut}
 use Rattle.blaze_table.specs.Cut.{cut_at, cut_range_at}
 use Rattle.blaze_table.specs.Table.{IsTable}
-use Rattle.blaze_table.proofs.Canonical.Lookup.{IsAbove, at_in, at_over, at_before, above_by}
+use Rattle.blaze_table.proofs.Canonical.Lookup.{IsAbove, at_in, at_over, at_before, above_by, above_rest}
 use Rattle.blaze_table.proofs.Canonical.Unique.{back}
 use Rattle.blaze_table.proofs.Paints.Splices.{before_cuts, before_ends, by_before, after_skips, after_cuts, by_after, canonical_glue, canonical_before, canonical_after, at_glue, above_after, below_before, at-before_under, at-before_over, at-after_over, below_more}
 use Rattle.blaze_table.proofs.Paints.Painted.{before_past, after_past, entries_themselves, canonical_as, above_as, content_as}
@@ -24,6 +24,10 @@ module _ {V : Type 0} (eq : V → V → Bool) where
   pub after_all : (k : ℤ) (es : List (Entry V)) → IsCanonical eq es → IsAbove k es → after k es ≡ es
   after_all k [] c a = refl
   after_all k (e ∷ es) c a = by_after k e es (λ h p. absurd (omega (arith, ints, c.0))) (λ h l p. absurd (omega (arith, ints))) (λ h l p. p)
+
+  -- above the end of the first entry are the others
+  pub after_whole : (k : ℤ) (e : Entry V) (es : List (Entry V)) → IsCanonical eq (e ∷ es) → e.hi ≤ℤ k → k ≤ℤ e.hi → after k (e ∷ es) ≡ es
+  after_whole k e es c h l = after_skips k e es h ∙ after_all k es c.2 (above_rest eq k e es l c)
 
   -- lists that do not touch are glued end to end
   glue_apart : (k : ℤ) (L M : List (Entry V)) → IsBelow k L → IsAbove k M → glue eq L M ≡ L ++ M

@@ -1,17 +1,14 @@
 -- Lists in the order of their starts, taken apart at a key.
 use Rattle.std.proofs.Common.{◌≡◌, ℤ, pos, ◌+ℤ◌, ◌≤ℤ◌, ◌<ℤ◌, Bool, cond, List, [], ◌∷◌, ◌++◌, Option, Some, None, refl, ◌∙◌, sym, subst, ap, arith}
 use Rattle.std.specs.Prelude.{IsSome, int_le}
-use Rattle.std.specs.List.{last_or, slice_get}
-use Rattle.std.specs.Option.{option_map}
+use Rattle.std.specs.List.{last_or}
 use Rattle.std.proofs.lemmas.Int.{ints, by_lt_z}
 use Rattle.std.proofs.lemmas.List.Elements.{filter-append}
-use Rattle.blaze_entries.specs.Found.{range_in}
 use Rattle.blaze_entries.specs.Starts.{StartsAscend, below, from, first_entry, last_below, first_from, start_at}
 use Rattle.blaze_entries.proofs.Ascending.{by_order, start_none, first_none}
 use Rattle.blaze_entries.proofs.Halves.{StartsBelow, below_takes, below_skips, from_takes, from_skips, below_none, from_all, from_none, more_below}
 use Rattle.blaze_table.specs.Entries.{Entry, entry}
 use Rattle.blaze_table.specs.Canonical.{IsApart, IsCanonical}
-use Rattle.blaze_table.specs.LastBelow.{IsLastBelow}
 use Rattle.blaze_table.specs.Splice.{after, IsBelow}
 use Rattle.blaze_table.proofs.Paints.Splices.{after_skips, after_cuts, after_keeps}
 use Rattle.blaze_table.proofs.Paints.Painted.{after_past}
@@ -59,21 +56,6 @@ module _ {V : Type 0} where
       none_in : (xs : List (Entry V)) → last_or None xs ≡ None → xs ≡ []
       none_in [] n = refl
       none_in (x ∷ xs) n = absurd (some_in x xs n)
-
-  -- the first entry is the last that starts up to its start
-  pub first_is_last : (k s z low high : ℤ) (es : List (Entry V)) → StartsAscend low high es → option_map (λ e. e.lo) (slice_get es 0) ≡ Some k → Some (s, z) ≡ option_map range_in (slice_get es 0) → IsLastBelow (k +ℤ pos 1) s z es
-  first_is_last k s z low high [] h p q = cc
-  first_is_last k s z low high (e ∷ es) h p q =
-      let u : e.lo ≡ k = cc in
-      q ∙ sym (ap (λ l. option_map range_in (last_or None l)) (below_takes (k +ℤ pos 1) e es (omega (arith, ints)) ∙ ap (λ l. e ∷ l) (below_none (k +ℤ pos 1) (e.lo +ℤ pos 1) high es (omega (arith, ints)) h.2)))
-
-  pub first_ends : (eq : V → V → Bool) (k s z : ℤ) (es : List (Entry V)) → IsCanonical eq es → option_map (λ e. e.lo) (slice_get es 0) ≡ Some k → Some (s, z) ≡ option_map range_in (slice_get es 0) → k ≤ℤ z
-  first_ends eq k s z [] c p q = cc
-  first_ends eq k s z (e ∷ es) c p q =
-      let ends : range_in e ≡ (s, z) = cc in
-      let lo : e.lo ≡ k = cc in
-      let hi = ap (λ (t : ℤ × ℤ). t.1) ends in
-      omega (arith, ints, c.0)
 
   pub no_last_from : (k b high : ℤ) (es : List (Entry V)) → StartsAscend b high es → last_below k es ≡ None → StartsAscend k high es
   no_last_from k b high es h n = empty_below k b high es h (no_last k b high es h n)

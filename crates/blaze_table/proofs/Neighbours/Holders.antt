@@ -45,6 +45,11 @@ module _ {V : Type 0} where
   starts_behind k [] e u l = (l, tt)
   starts_behind k (x ∷ xs) e u l = (u.0, starts_behind k xs e u.1 l)
 
+-- entries that stand apart from one before them start above its end
+pub starts_over : {V : Type 0} (eq : V → V → Bool) (h high : ℤ) (e : Entry V) (ys : List (Entry V)) → IsApart eq e ys → StartsAscend h high ys → StartsAscend (e.hi +ℤ pos 1) high ys
+starts_over eq h high e [] r t = tt
+starts_over eq h high e (y ∷ ys) r t = (omega (arith, ints, r.0), t.1, t.2)
+
 module _ {V : Type 0} (eq : V → V → Bool) (b high : ℤ) (es : List (Entry V)) where
   -- the last entry that starts below b starts at s and ends at z
   pub record Holder (s z : ℤ) : Type 0 where
@@ -64,10 +69,6 @@ module _ {V : Type 0} (eq : V → V → Bool) (b high : ℤ) (es : List (Entry V
   pub holder : (low s z : ℤ) → StartsAscend low high es → IsCanonical eq es → IsLastBelow b s z es → Holder s z
   holder low s z a c p = by_last (last_below b es) refl p
     where
-      over : (h : ℤ) (e : Entry V) (ys : List (Entry V)) → IsApart eq e ys → StartsAscend h high ys → StartsAscend (e.hi +ℤ pos 1) high ys
-      over h e [] r t = tt
-      over h e (y ∷ ys) r t = (omega (arith, ints, r.0), t.1, t.2)
-
       by_last : (o : Option (Entry V)) → last_below b es ≡ o → Some (s, z) ≡ option_map range_in o → Holder s z
       by_last None q p = cc
       by_last (Some e) q p =
@@ -87,7 +88,7 @@ module _ {V : Type 0} (eq : V → V → Bool) (b high : ℤ) (es : List (Entry V
             front_ends = ends_below eq i.front e i.back whole;
             here = here;
             back_starts = i.back_from;
-            back_over = over b e i.back here.1 i.back_from;
+            back_over = starts_over eq b high e i.back here.1 i.back_from;
           }
 
   module _ (s z : ℤ) (h : Holder s z) where

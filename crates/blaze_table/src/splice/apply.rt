@@ -48,7 +48,7 @@ fn paint_beside<T: Integer, V: Eq + Drop>(
     put(entries, lo, plan.end, value, plan.first, plan.rest)?;
     entries.in_hand();
     trim(entries, lo, plan.left);
-    clear(entries, lo, plan.end, plan.covered);
+    clear(entries, lo, plan.covered);
     Ok(())
 }
 
@@ -108,7 +108,7 @@ fn paint_on<T: Integer, V: Eq + Clone>(
 {
     entries.in_hand();
     move_rest(entries, first, end, rest)?;
-    clear(entries, first, end, covered);
+    clear(entries, first, covered);
     entries.set_end(first, end);
     Ok(())
 }

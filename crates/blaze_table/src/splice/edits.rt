@@ -1,10 +1,10 @@
 //! Edits of more than one entry: what starts in a range taken out, the entry below it shortened.
-ghost use Rattle.std.specs.Prelude.{◌≡◌, ◌++◌, pos, ◌+ℤ◌, ◌≤ℤ◌, ◌<ℤ◌, IsSome};
+ghost use Rattle.std.specs.Prelude.{◌≡◌, ◌++◌, ℤ, pos, ◌+ℤ◌, ◌<ℤ◌, IsSome};
 ghost use Rattle.std.specs.Option.{option_map};
 ghost use Rattle.blaze_entries.specs.Found.{range_in, ranks_of};
 ghost use Rattle.blaze_entries.specs.Starts.{below, from, last_below, start_at};
 ghost use Rattle.blaze_table.specs.Canonical.{IsCanonical};
-ghost use Rattle.blaze_table.specs.Planned.{ends_of, starts_in, outer_starts, IsWorked};
+ghost use Rattle.blaze_table.specs.Planned.{ends_of, AreOuterStarts, IsWorked};
 ghost use Rattle.blaze_table.specs.Splice.{before};
 
 use blaze_entries::{Counted, Found};
@@ -51,24 +51,21 @@ fn clear_by_looks<T: Integer, V: Eq + Drop>(entries: &mut Counted<T, V>, first: 
     }
 }
 
-/// Takes out the entries that start above `first`, up to `end`, of which the least and the greatest start are known: it looks
+/// Takes out the entries that start above `first`, up to a key, of which the least and the greatest start are known: it looks
 /// only for those above the least, and no more behind the greatest.
 pub fn clear<T: Integer, V: Eq + Drop>(
     entries: &mut Counted<T, V>,
     first: T,
-    end: T,
     covered: Option<(T, T)>,
 )
-    requires order { T.rank first ≤ℤ T.rank end }
-    requires covered { option_map (ranks_of T.rank) covered
-        ≡ outer_starts (starts_in (T.rank first) (T.rank end) entries.old.entries) }
-    ensures entries { entries.new.entries
+    requires { (z : ℤ) × AreOuterStarts (T.rank first) z entries.old.entries
+        (option_map (ranks_of T.rank) covered) }
+    ensures entries { (z : ℤ) → AreOuterStarts (T.rank first) z entries.old.entries
+        (option_map (ranks_of T.rank) covered) → entries.new.entries
         ≡ below (T.rank first +ℤ pos 1) entries.old.entries
-        ++ from (T.rank end +ℤ pos 1) entries.old.entries }
+        ++ from (z +ℤ pos 1) entries.old.entries }
     ensures worked { IsWorked 0 0 entries.old entries.new }
 {
-    // The contract alone speaks of `end`.
-    let _ = end;
     entries.in_hand();
     if let Some(starts) = covered {
         entries.remove(starts.0);

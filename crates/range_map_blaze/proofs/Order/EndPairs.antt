@@ -1,13 +1,16 @@
 -- The first and the last entry have the least and the greatest key.
-use Rattle.std.proofs.Common.{◌≡◌, ℕ, zero, suc, ◌-◌, ◌≤◌, ℤ, ◌≤ℤ◌, ◌<ℤ◌, List, [], ◌∷◌, length, Some, None, refl, ◌∙◌, sym, ap, subst, arith}
+use Rattle.std.proofs.Common.{◌≡◌, ℕ, zero, suc, ◌-◌, ◌≤◌, ℤ, ◌≤ℤ◌, ◌<ℤ◌, Bool, List, [], ◌∷◌, length, Option, Some, None, refl, ◌∙◌, subst, arith}
 use Rattle.std.specs.List.{slice_get}
+use Rattle.std.specs.Prelude.{MatchOption}
 use Rattle.std.specs.Option.{option_map}
-use Rattle.std.proofs.lemmas.Int.{ints, by_lt_z}
+use Rattle.std.proofs.lemmas.Int.{ints}
+use Rattle.blaze_table.specs.Counted.{CountedEntries}
+use Rattle.blaze_table.specs.Cut.{IsFirstCut}
 use Rattle.blaze_table.specs.Entries.{Entry, at}
 use Rattle.blaze_table.specs.Canonical.{IsDisjoint, IsAscending}
 use Rattle.blaze_table.proofs.Canonical.Lookup.{at_in, at_under, at_over}
 use Rattle.blaze_table.proofs.Canonical.Runs.{in_order}
-use Rattle.range_map_blaze.specs.Pairs.{IsFirstPair, IsLastPair}
+use Rattle.range_map_blaze.specs.Pairs.{IsFirstPair, IsLastPair, PopsFirst}
 
 module _ {V : Type 0} where
   none_some : (v : V) → None ≡ Some v → ⊥
@@ -43,14 +46,9 @@ module _ {V : Type 0} where
   first_of [] e d a p = absurd (cc)
   first_of (f ∷ fs) e d a p = let same : f ≡ e = cc in subst (λ (g : Entry V). IsFirstPair (at (f ∷ fs)) g.lo g.value) same (first_pair f fs d a)
 
-  -- what the least key says of the first entry
-  pub first_start : (es : List (Entry V)) (k : ℤ) (v : V) → IsDisjoint es → IsAscending es → IsFirstPair (at es) k v → option_map (λ e. e.lo) (slice_get es 0) ≡ Some k
-  first_start [] k v d a f = absurd (none_some v f.here)
-  first_start (e ∷ es) k v d a f = by_lt_z k e.lo
-      (λ l. absurd (none_some v (sym (nothing_under e es k a l) ∙ f.here)))
-      (λ l. by_lt_z e.lo k
-      (λ h. absurd (none_some e.value (sym (f.none_below e.lo h) ∙ at_in e es e.lo (omega (arith, ints)) d.0)))
-      (λ h. let same : e.lo ≡ k = omega (arith, ints) in ap (λ z. Some z) same))
+  pub first_at : (es : List (Entry V)) (k : ℤ) → IsDisjoint es → IsAscending es → option_map (λ e. e.lo) (slice_get es 0) ≡ Some k → (value : V) × IsFirstPair (at es) k value
+  first_at [] k d a p = cc
+  first_at (e ∷ es) k d a p = let same : e.lo ≡ k = cc in (e.value, subst (λ l. IsFirstPair (at (e ∷ es)) l e.value) same (first_pair e es d a))
 
   -- what the last entry says of the greatest key
   pub last_of : (es : List (Entry V)) (e : Entry V) → IsDisjoint es → IsAscending es → slice_get es (length es - 1) ≡ Some e → IsLastPair (at es) e.hi e.value
@@ -71,3 +69,12 @@ module _ {V : Type 0} where
   pub none_first : (es : List (Entry V)) → slice_get es 0 ≡ None → es ≡ []
   none_first [] q = refl
   none_first (e ∷ es) q = absurd (cc)
+
+-- the table's first key taken out is the map's least key
+pub pops_least : {T V : Type 0} (rank : T → ℤ) (eq : V → V → Bool) (low high : ℤ) (popped : Option (T × V)) (old new : CountedEntries V) → IsDisjoint old.entries → IsAscending old.entries
+    → MatchOption popped ((old.entries ≡ []) × (new ≡ old)) (λ pair. IsFirstCut eq low high (rank pair.0) pair.1 old.entries new.entries)
+    → MatchOption popped ((old.entries ≡ []) × (new ≡ old)) (λ pair. PopsFirst eq low high (rank pair.0) pair.1 old.entries new.entries)
+pops_least rank eq low high None old new d a m = m
+pops_least rank eq low high (Some pair) old new d a m =
+    let least = first_at old.entries (rank pair.0) d a m.first in
+    record { stored = least.0; first = least.1; equal = m.equal; cut = m.cut }

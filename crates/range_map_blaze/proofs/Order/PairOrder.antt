@@ -10,13 +10,14 @@ use Rattle.std.specs.Ordering.{int_cmp, is_eq, is_ne, ordering_then}
 use Rattle.std.specs.Cmp.{signed_Decides}
 use Rattle.std.specs.Cmp.Lexicographic.{slice_cmp}
 use Rattle.blaze_int.proofs.Naturals.{nat_of-pos}
-use Rattle.blaze_table.specs.Canonical.{IsApart, IsCanonical}
+use Rattle.blaze_table.specs.Canonical.{IsCanonical}
 use Rattle.blaze_table.specs.Entries.{Entry}
 use Rattle.blaze_table.specs.Pairs.{pairs_from}
 use Rattle.std.specs.Int.{int_min}
 use Rattle.blaze_table.specs.Splice.{after}
 use Rattle.blaze_table.proofs.Pairs.PairLists.{nat_of-next, pairs_append}
-use Rattle.blaze_table.proofs.Paints.Splices.{after_cuts, after_keeps, after_skips}
+use Rattle.blaze_table.proofs.Cuts.Cutting.{after_whole}
+use Rattle.blaze_table.proofs.Paints.Splices.{after_cuts}
 use Rattle.blaze_streams.specs.Cursors.{Reaches}
 use Rattle.range_map_blaze.specs.Order.{ranked_pairs, pair_cmp, pairs_cmp, first_cmp, IsComparedOn}
 use Rattle.range_map_blaze.specs.OrderLaws.{tied_keys}
@@ -47,14 +48,6 @@ module _ {V : Type 0} where
   first_pairs e es h = ap (λ n. pairs_from (λ k. k) e.lo n e.value ++ ranked_pairs es) (nat_of-next (e.hi -ℤ e.lo) (omega (arith, ints)))
 
   module _ (eq : V → V → Bool) where
-    -- where the first entry ends at t, what lies above t is the others
-    pub after_first : (t : ℤ) (e : Entry V) (es : List (Entry V)) → IsCanonical eq (e ∷ es) → e.hi ≤ℤ t → t ≤ℤ e.hi → after t (e ∷ es) ≡ es
-    after_first t e es c h l = after_skips t e es h ∙ others es c.1 c.2
-      where
-        others : (fs : List (Entry V)) → IsApart eq e fs → IsCanonical eq fs → after t fs ≡ fs
-        others [] a d = refl
-        others (f ∷ fs) a d = after_keeps t f fs (omega (arith, ints, a.0, d.0)) (omega (arith, ints, a.0))
-
     -- the keys of the first entry up to m, and what is left after them
     cut_pairs : (m : ℤ) (e : Entry V) (es : List (Entry V)) → IsCanonical eq (e ∷ es) → e.lo ≤ℤ m → m ≤ℤ e.hi
         → ranked_pairs (e ∷ es) ≡ pairs_from (λ k. k) e.lo (nat_of (m -ℤ e.lo +ℤ pos 1)) e.value ++ ranked_pairs (after m (e ∷ es))
@@ -74,15 +67,15 @@ module _ {V : Type 0} where
         (λ s.
         let is : e.hi ≡ m = omega (arith, ints) in
         ap (λ b. pairs_from (λ k. k) e.lo (nat_of (b -ℤ e.lo +ℤ pos 1)) e.value ++ ranked_pairs es) is
-        ∙ ap (λ L. pairs_from (λ k. k) e.lo (nat_of (m -ℤ e.lo +ℤ pos 1)) e.value ++ ranked_pairs L) (sym (after_first m e es c s h)))
+        ∙ ap (λ L. pairs_from (λ k. k) e.lo (nat_of (m -ℤ e.lo +ℤ pos 1)) e.value ++ ranked_pairs L) (sym (after_whole eq m e es c s h)))
 
     kept : (m : ℤ) (e : Entry V) (es : List (Entry V)) → IsCanonical eq (e ∷ es) → e.lo ≤ℤ m → m ≤ℤ e.hi → length (after m (e ∷ es)) ≤ length es + 1
     kept m e es c l h = by_lt_z m e.hi
         (λ s. rw (after_cuts m e es s l) (omega arith))
-        (λ s. rw (after_first m e es c s h) (omega arith))
+        (λ s. rw (after_whole eq m e es c s h) (omega arith))
 
     gone : (m : ℤ) (e : Entry V) (es : List (Entry V)) → IsCanonical eq (e ∷ es) → m ≡ e.hi → length (after m (e ∷ es)) ≡ length es
-    gone m e es c p = ap length (after_first m e es c (omega (arith, ints)) (omega (arith, ints)))
+    gone m e es c p = ap length (after_whole eq m e es c (omega (arith, ints)) (omega (arith, ints)))
 
     module _ (value : V → V → Ordering) where
       -- a list at its end is a beginning of one that is not

@@ -68,7 +68,7 @@ impl<'a, T: Integer, V: Eq> EntriesLeft<'a, T, V> {
     }
 
     /// Lets the keys up to `end` go, which is not above the end of the first entry.
-    #[tactic(auto, using(crate::proofs::Order::PairOrder::after_first))]
+    #[tactic(auto, using(blaze_table::proofs::Cuts::Cutting::after_whole))]
     pub fn advance(&mut self, end: T)
         requires { Reaches (T.rank end) self.old }
         ensures { self.new ≡ after (T.rank end) self.old }

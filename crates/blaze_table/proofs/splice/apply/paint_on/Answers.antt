@@ -7,15 +7,16 @@ use Rattle.blaze_table.proofs.Paints.EditLists.{length-with_end}
 use Rattle.blaze_table.proofs.Cuts.Splits.{some_of}
 use Rattle.blaze_table.proofs.splice.apply.paint_on.Goals as goal
 
-pub clear-requires-clause-covered : goal.clear-requires-clause-covered
-clear-requires-clause-covered g c = c.requires.covered ∙ sym (ap outer_starts c.in_ok-move_rest.ensures.kept.amid)
+pub clear-requires : goal.clear-requires
+clear-requires g c = (g.T.Integer.rank c.args.end, record { order = c.requires.order; are = c.requires.covered ∙ sym (ap outer_starts c.in_ok-move_rest.ensures.kept.amid) })
 
 pub returns-clause-extended : goal.returns-clause-extended
 returns-clause-extended g c =
     let rank = g.T.Integer.rank in
     let e = some_of (start_at (rank c.args.first) c.args.entries.now.entries) c.requires.there in
     extended g.V.PartialEq.eq g.T.Integer.low g.T.Integer.high c.args.entries.now.entries c.in_hand.ensures c.requires.canonical (rank c.args.first) (rank c.args.end) e.0 c.requires.order e.1
-    c.move_rest.new.entries.entries c.clear.new.entries.entries c.set_end.new.self.entries c.in_ok-move_rest.ensures.kept c.clear.ensures.entries (ap (λ (s : CountedEntries g.row.V.Denot). s.entries) c.set_end.ensures)
+    c.move_rest.new.entries.entries c.clear.new.entries.entries c.set_end.new.self.entries c.in_ok-move_rest.ensures.kept
+    (c.clear.ensures.entries (rank c.args.end) (record { order = c.requires.order; are = c.requires.covered ∙ sym (ap outer_starts c.in_ok-move_rest.ensures.kept.amid) })) (ap (λ (s : CountedEntries g.row.V.Denot). s.entries) c.set_end.ensures)
 
 pub returns-clause-worked : goal.returns-clause-worked
 returns-clause-worked g c =

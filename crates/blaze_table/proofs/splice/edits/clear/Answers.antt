@@ -10,14 +10,14 @@ use Rattle.blaze_table.proofs.splice.edits.clear.Goals as goal
 pub remove-requires : goal.remove-requires
 remove-requires g c =
     let rank = g.T.Integer.rank in
-    (outer_of (rank c.args.first) (rank c.args.end) g.T.Integer.low g.T.Integer.high c.args.entries.now.entries c.in_hand.ensures c.requires.order (rank c.in-Some.starts.0) (rank c.in-Some.starts.1)
-    (sym (ap (option_map (ranks_of rank)) c.in-Some.is) ∙ c.requires.covered)).there
+    (outer_of (rank c.args.first) c.requires.0 g.T.Integer.low g.T.Integer.high c.args.entries.now.entries c.in_hand.ensures c.requires.1.order (rank c.in-Some.starts.0) (rank c.in-Some.starts.1)
+    (sym (ap (option_map (ranks_of rank)) c.in-Some.is) ∙ c.requires.1.are)).there
 
 pub clear_by_looks-requires-clause-order : goal.clear_by_looks-requires-clause-order
 clear_by_looks-requires-clause-order g c =
     let rank = g.T.Integer.rank in
-    let i = outer_of (rank c.args.first) (rank c.args.end) g.T.Integer.low g.T.Integer.high c.args.entries.now.entries c.in_hand.ensures c.requires.order (rank c.in-Some.starts.0) (rank c.in-Some.starts.1)
-    (sym (ap (option_map (ranks_of rank)) c.in-Some.is) ∙ c.requires.covered) in
+    let i = outer_of (rank c.args.first) c.requires.0 g.T.Integer.low g.T.Integer.high c.args.entries.now.entries c.in_hand.ensures c.requires.1.order (rank c.in-Some.starts.0) (rank c.in-Some.starts.1)
+    (sym (ap (option_map (ranks_of rank)) c.in-Some.is) ∙ c.requires.1.are) in
     let over = i.over in
     let more = lt_holds (rank c.in-Some.starts.0) (rank c.in-Some.starts.1) (sym c.is_below.ensures ∙ c.if-is_below.true) in
     omega (arith, ints)
@@ -25,29 +25,29 @@ clear_by_looks-requires-clause-order g c =
 pub clear_by_looks-requires-clause-there : goal.clear_by_looks-requires-clause-there
 clear_by_looks-requires-clause-there g c =
     let rank = g.T.Integer.rank in
-    let i = outer_of (rank c.args.first) (rank c.args.end) g.T.Integer.low g.T.Integer.high c.args.entries.now.entries c.in_hand.ensures c.requires.order (rank c.in-Some.starts.0) (rank c.in-Some.starts.1)
-    (sym (ap (option_map (ranks_of rank)) c.in-Some.is) ∙ c.requires.covered) in
-    last_left (rank c.args.first) (rank c.args.end) g.T.Integer.low g.T.Integer.high c.args.entries.now.entries c.in_hand.ensures (rank c.in-Some.starts.0) (rank c.in-Some.starts.1) i
+    let i = outer_of (rank c.args.first) c.requires.0 g.T.Integer.low g.T.Integer.high c.args.entries.now.entries c.in_hand.ensures c.requires.1.order (rank c.in-Some.starts.0) (rank c.in-Some.starts.1)
+    (sym (ap (option_map (ranks_of rank)) c.in-Some.is) ∙ c.requires.1.are) in
+    last_left (rank c.args.first) c.requires.0 g.T.Integer.low g.T.Integer.high c.args.entries.now.entries c.in_hand.ensures (rank c.in-Some.starts.0) (rank c.in-Some.starts.1) i
     (lt_holds (rank c.in-Some.starts.0) (rank c.in-Some.starts.1) (sym c.is_below.ensures ∙ c.if-is_below.true)) c.remove.new.self.entries (ap (λ (s : CountedEntries g.row.V.Denot). s.entries) c.remove.ensures.entries)
 
 pub returns-then-is_below-clause-entries : goal.returns-then-is_below-clause-entries
-returns-then-is_below-clause-entries g c =
+returns-then-is_below-clause-entries g c = λ z a.
     let rank = g.T.Integer.rank in
-    let i = outer_of (rank c.args.first) (rank c.args.end) g.T.Integer.low g.T.Integer.high c.args.entries.now.entries c.in_hand.ensures c.requires.order (rank c.in-Some.starts.0) (rank c.in-Some.starts.1)
-    (sym (ap (option_map (ranks_of rank)) c.in-Some.is) ∙ c.requires.covered) in
-    others_out (rank c.args.first) (rank c.args.end) g.T.Integer.low g.T.Integer.high c.args.entries.now.entries c.in_hand.ensures (rank c.in-Some.starts.0) (rank c.in-Some.starts.1) i
+    let i = outer_of (rank c.args.first) z g.T.Integer.low g.T.Integer.high c.args.entries.now.entries c.in_hand.ensures a.order (rank c.in-Some.starts.0) (rank c.in-Some.starts.1)
+    (sym (ap (option_map (ranks_of rank)) c.in-Some.is) ∙ a.are) in
+    others_out (rank c.args.first) z g.T.Integer.low g.T.Integer.high c.args.entries.now.entries c.in_hand.ensures (rank c.in-Some.starts.0) (rank c.in-Some.starts.1) i
     (lt_holds (rank c.in-Some.starts.0) (rank c.in-Some.starts.1) (sym c.is_below.ensures ∙ c.if-is_below.true)) c.remove.new.self.entries (ap (λ (s : CountedEntries g.row.V.Denot). s.entries) c.remove.ensures.entries)
     c.clear_by_looks.new.entries.entries c.clear_by_looks.ensures.entries
 
 pub returns-else-is_below-clause-entries : goal.returns-else-is_below-clause-entries
-returns-else-is_below-clause-entries g c =
+returns-else-is_below-clause-entries g c = λ z a.
     let rank = g.T.Integer.rank in
-    let i = outer_of (rank c.args.first) (rank c.args.end) g.T.Integer.low g.T.Integer.high c.args.entries.now.entries c.in_hand.ensures c.requires.order (rank c.in-Some.starts.0) (rank c.in-Some.starts.1)
-    (sym (ap (option_map (ranks_of rank)) c.in-Some.is) ∙ c.requires.covered) in
+    let i = outer_of (rank c.args.first) z g.T.Integer.low g.T.Integer.high c.args.entries.now.entries c.in_hand.ensures a.order (rank c.in-Some.starts.0) (rank c.in-Some.starts.1)
+    (sym (ap (option_map (ranks_of rank)) c.in-Some.is) ∙ a.are) in
     ap (λ (s : CountedEntries g.row.V.Denot). s.entries) c.remove.ensures.entries ∙ i.alone (lt_fails (rank c.in-Some.starts.0) (rank c.in-Some.starts.1) (sym c.is_below.ensures ∙ c.if-is_below.false))
 
 pub returns-in_default-clause-entries : goal.returns-in_default-clause-entries
-returns-in_default-clause-entries g c =
+returns-in_default-clause-entries g c = λ z a.
     let rank = g.T.Integer.rank in
-    none_out (rank c.args.first) (rank c.args.end) g.T.Integer.low g.T.Integer.high c.args.entries.now.entries c.in_hand.ensures c.requires.order
-    (sym (ap (option_map (ranks_of rank)) c.in_default.is) ∙ c.requires.covered)
+    none_out (rank c.args.first) z g.T.Integer.low g.T.Integer.high c.args.entries.now.entries c.in_hand.ensures a.order
+    (sym (ap (option_map (ranks_of rank)) c.in_default.is) ∙ a.are)
