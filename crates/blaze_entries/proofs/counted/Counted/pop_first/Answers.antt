@@ -35,6 +35,6 @@ returns-in-None-clause-first g c =
     let was : entries_of rank c.self.inside.tree.entries ≡ c.args.self.now.entries = ap (λ (s : CountedEntries g.row.V.Denot). s.entries) c.self.view_is in
     let step = pops_first c.self.inside.tree.entries c.pop_first.result c.pop_first.new.self.entries c.pop_first.ensures.variant c.pop_first.ensures.removal c.pop_first.ensures.unchanged in
     let taken : MatchOption c.given.result ((c.args.self.now.entries ≡ []) × (entries_of rank c.pop_first.new.self.entries ≡ [])) (λ x. c.args.self.now.entries ≡ shown_entry rank (λ v. v) x ∷ entries_of rank c.pop_first.new.self.entries) =
-        answers_taken (first_node_taken rank (λ p. p) _ c.pop_first.result _ c.self.invariant.full step) (shown_entry rank (λ v. v)) c.given.result c.given.ensures was in
+    answers_taken (first_node_taken rank (λ p. p) _ c.pop_first.result _ c.self.invariant.full step) (shown_entry rank (λ v. v)) c.given.result c.given.ensures was in
     let none = MatchOption-at_none _ _ c.in-None.is taken in
     (none.0, ap (λ es. counted es c.self.inside.looks.number c.self.inside.put_in.number c.self.inside.taken_out.number) (none.1 ∙ sym none.0 ∙ sym was) ∙ c.self.view_is)
