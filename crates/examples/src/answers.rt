@@ -23,10 +23,13 @@ pub fn transformed(rt: &HostRuntime) -> Result<(), Fault> {
 /// Every key, with what a stream has there.
 pub fn filled(rt: &HostRuntime) -> Result<(), Fault> {
     let alloc = rt.alloc();
-    let map = CheckSortedDisjointMap::new(vec![in alloc; (1..=3_u8, Owned('r'))]?)?;
-    show(rt, "fill", fill(alloc, map)?);
+    let list = vec![in alloc; (1..=3_u8, Owned('r'))]?;
+    let map = CheckSortedDisjointMap::new(list)?;
+    let every_key = fill(alloc, map)?;
+    show(rt, "fill", every_key);
     let empty = CheckSortedDisjointMap::<u8, Owned<char>>::new(Vec::new(alloc))?;
-    show(rt, "fill", fill(alloc, empty)?);
+    let every_key = fill(alloc, empty)?;
+    show(rt, "fill", every_key);
     Ok(())
 }
 
@@ -45,42 +48,37 @@ pub fn joined(rt: &HostRuntime) -> Result<(), Fault> {
         let left = lent(alloc, 1, 5, &'a')?;
         let right = lent(alloc, 4, 8, &'b')?;
         let _ = println!(rt; "{kind:?}");
-        show(rt, "join_of", join_of(alloc, left, right, kind)?);
+        let found = join_of(alloc, left, right, kind)?;
+        show(rt, "join_of", found);
     }
     Ok(())
 }
 
-/// What closures answer at the segments of two streams.
-pub fn answered(rt: &HostRuntime) -> Result<(), Fault> {
+/// What a closure answers at the segments of a full join, and how often it was called.
+pub fn full_joined(rt: &HostRuntime) -> Result<(), Fault> {
     let alloc = rt.alloc();
+    let (one, two) = (lent(alloc, 1, 5, &'a')?, lent(alloc, 4, 8, &'b')?);
     let mut calls = 0_u32;
     let full = |left: Option<&char>, _right: Option<&char>| {
         calls = calls.wrapping_add(1);
         left.is_some()
     };
-    let found = full_join_of(
-        alloc,
-        lent(alloc, 1, 5, &'a')?,
-        lent(alloc, 4, 8, &'b')?,
-        full,
-    )?;
+    let found = full_join_of(alloc, one, two, full)?;
     show(rt, "full_join_of", found);
     let _ = println!(rt; "{calls} calls");
+    Ok(())
+}
+
+/// What closures answer at the segments of a left join and of an inner join.
+pub fn other_joined(rt: &HostRuntime) -> Result<(), Fault> {
+    let alloc = rt.alloc();
+    let (one, two) = (lent(alloc, 1, 5, &'a')?, lent(alloc, 4, 8, &'b')?);
     let left = |_left: &char, right: Option<&char>| right.is_some();
-    let found = left_join_of(
-        alloc,
-        lent(alloc, 1, 5, &'a')?,
-        lent(alloc, 4, 8, &'b')?,
-        left,
-    )?;
+    let found = left_join_of(alloc, one, two, left)?;
     show(rt, "left_join_of", found);
+    let (one, two) = (lent(alloc, 1, 5, &'a')?, lent(alloc, 4, 8, &'b')?);
     let inner = |left: &char, right: &char| *left < *right;
-    let found = inner_join_of(
-        alloc,
-        lent(alloc, 1, 5, &'a')?,
-        lent(alloc, 4, 8, &'b')?,
-        inner,
-    )?;
+    let found = inner_join_of(alloc, one, two, inner)?;
     show(rt, "inner_join_of", found);
     Ok(())
 }

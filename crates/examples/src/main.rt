@@ -21,6 +21,7 @@ use std::process::ExitCode;
 /// Makes all calls.
 fn run(rt: &HostRuntime) -> Result<(), Fault> {
     tables::paints(rt)?;
+    tables::paints_in_leaves(rt)?;
     tables::cuts(rt)?;
     tables::neighbours(rt)?;
     tables::kept(rt)?;
@@ -37,7 +38,8 @@ fn run(rt: &HostRuntime) -> Result<(), Fault> {
     answers::transformed(rt)?;
     answers::filled(rt)?;
     answers::joined(rt)?;
-    answers::answered(rt)?;
+    answers::full_joined(rt)?;
+    answers::other_joined(rt)?;
     answers::of_lists(rt)?;
     many::operations(rt)?;
     many_joins::of_maps(rt)?;
@@ -47,7 +49,9 @@ fn run(rt: &HostRuntime) -> Result<(), Fault> {
     moved::operated(rt)?;
     moved::operated_with_set(rt)?;
     moved::cut_from_many(rt)?;
+    moved::of_exactly_one(rt)?;
     moved::kept_by_many(rt)?;
+    moved::kept_by_set(rt)?;
     moved::painted(rt)?;
     labelled::coarse(rt)?;
     labelled::refused_append(rt)?;

@@ -56,40 +56,46 @@ impl Maps {
 /// The operations on maps by value.
 fn by_value(rt: &HostRuntime, maps: &Maps) -> Result<(), AllocError> {
     let alloc = rt.alloc();
-    let _ = println!(rt; "{}", maps.owned(alloc)?.union(alloc)?);
+    let owned = maps.owned(alloc)?;
+    let found = owned.union(alloc)?;
+    let _ = println!(rt; "{found}");
     let owned = maps.owned(alloc)?;
     if !owned.is_empty() {
-        let _ = println!(rt; "{}", owned.intersection(alloc)?);
+        let found = owned.intersection(alloc)?;
+        let _ = println!(rt; "{found}");
     }
-    let _ = println!(rt; "{}", maps.owned(alloc)?.symmetric_difference(alloc)?);
+    let owned = maps.owned(alloc)?;
+    let found = owned.symmetric_difference(alloc)?;
+    let _ = println!(rt; "{found}");
     Ok(())
 }
 
 /// The operations on an array of lent maps.
 fn in_an_array(rt: &HostRuntime, maps: &Maps) -> Result<(), AllocError> {
     let alloc = rt.alloc();
-    let _ = println!(rt; "{}", [&maps.z, &maps.a, &maps.b].union(alloc)?);
-    let _ = println!(rt; "{}", [&maps.z, &maps.a, &maps.b].intersection(alloc)?);
-    let _ = println!(rt;
-        "{}",
-        [&maps.z, &maps.a, &maps.b].symmetric_difference(alloc)?
-    );
+    let found = [&maps.z, &maps.a, &maps.b].union(alloc)?;
+    let _ = println!(rt; "{found}");
+    let found = [&maps.z, &maps.a, &maps.b].intersection(alloc)?;
+    let _ = println!(rt; "{found}");
+    let found = [&maps.z, &maps.a, &maps.b].symmetric_difference(alloc)?;
+    let _ = println!(rt; "{found}");
     Ok(())
 }
 
 /// The operations on streams.
 fn as_streams(rt: &HostRuntime, maps: &Maps) -> Result<(), AllocError> {
     let alloc = rt.alloc();
-    show(rt, "union", maps.streams(alloc)?.union(alloc)?);
+    let streams = maps.streams(alloc)?;
+    let found = streams.union(alloc)?;
+    show(rt, "union", found);
     let streams = maps.streams(alloc)?;
     if !streams.is_empty() {
-        show(rt, "intersection", streams.intersection(alloc)?);
+        let found = streams.intersection(alloc)?;
+        show(rt, "intersection", found);
     }
-    show(
-        rt,
-        "symmetric_difference",
-        maps.streams(alloc)?.symmetric_difference(alloc)?,
-    );
+    let streams = maps.streams(alloc)?;
+    let found = streams.symmetric_difference(alloc)?;
+    show(rt, "symmetric_difference", found);
     Ok(())
 }
 

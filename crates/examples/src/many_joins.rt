@@ -1,6 +1,6 @@
 //! Joins of many maps and streams, and sweeps over streams.
 use crate::fault::Fault;
-use crate::streams::letters;
+use crate::streams::{Letters, letters};
 use blaze_streams::{RangeValuesIter, sweep_of};
 use range_map_blaze::RangeMapBlaze;
 use range_map_multi::{MultiwayRangeMapBlazeRef, MultiwaySortedDisjointMap};
@@ -53,7 +53,8 @@ fn of_two_and_none(rt: &HostRuntime) -> Result<(), AllocError> {
     let ones = numbers(alloc, &[(0, 9, 1)])?;
     let tens = numbers(alloc, &[(5, 14, 10)])?;
     let lent = vec![in alloc; &ones, &tens]?;
-    let _ = println!(rt; "{}", lent.full_join(alloc, |row| sum_of_some(row))?);
+    let sums = lent.full_join(alloc, |row| sum_of_some(row))?;
+    let _ = println!(rt; "{sums}");
     let mut calls = 0u32;
     let none: Vec<&Numbers> = Vec::new(alloc);
     let everywhere = none.inner_join(alloc, |row| {
@@ -97,21 +98,26 @@ pub fn of_streams(rt: &HostRuntime) -> Result<(), AllocError> {
     Ok(())
 }
 
+/// Lists of one range with a letter, as streams.
+fn one_range_each(alloc: Global, ranges: &[(i64, i64, char)]) -> Result<Vec<Letters>, Fault> {
+    let mut streams = Vec::new(alloc);
+    for range in ranges {
+        let stream = letters(alloc, &[*range])?;
+        streams.push(stream)?;
+    }
+    Ok(streams)
+}
+
 /// The events of sweeps.
 pub fn sweeps(rt: &HostRuntime) -> Result<(), Fault> {
     let alloc = rt.alloc();
-    let mut streams = Vec::new(alloc);
-    streams.push(letters(alloc, &[(0, 9, 'a')])?)?;
-    streams.push(letters(alloc, &[(5, 14, 'b')])?)?;
-    streams.push(letters(alloc, &[(9, 12, 'c')])?)?;
+    let streams = one_range_each(alloc, &[(0, 9, 'a'), (5, 14, 'b'), (9, 12, 'c')])?;
     let sweep = sweep_of(alloc, streams)?;
     let _ = println!(rt; "{:?}", sweep.size_hint());
     for event in sweep {
         let _ = println!(rt; "{event:?}");
     }
-    let mut streams = Vec::new(alloc);
-    streams.push(letters(alloc, &[(0, 4, 'a')])?)?;
-    streams.push(letters(alloc, &[(5, 9, 'b')])?)?;
+    let streams = one_range_each(alloc, &[(0, 4, 'a'), (5, 9, 'b')])?;
     for event in streams.sweep(alloc)? {
         let _ = println!(rt; "{event:?}");
     }

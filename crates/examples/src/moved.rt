@@ -91,41 +91,60 @@ fn set(alloc: Global) -> Result<RangeSetBlaze<i64>, AllocError> {
     RangeSetBlaze::from_ranges(alloc, vec![in alloc; 0..=9]?)
 }
 
-/// Prints the entries of a map.
+/// Prints the entries of a map, of a larger map how many.
 fn show(rt: &HostRuntime, call: &str, map: Result<Map, AllocError>) {
     let Ok(map) = map else {
         let _ = println!(rt; "{call}: refused");
         return;
     };
+    let count = map.ranges_len();
+    if 4 < count {
+        let _ = println!(rt; "{call}: {count} entries");
+        return;
+    }
     for (range, value) in map.range_values() {
         let _ = println!(rt; "{call}: {range:?} {}", value.0);
     }
 }
 
+/// Makes an operation on two operands, and prints the map.
+fn operate<A: Drop, B: Drop, F: FnOnce(A, B) -> Result<Map, AllocError> + Drop>(
+    rt: &HostRuntime,
+    call: &str,
+    left: Result<A, AllocError>,
+    right: Result<B, AllocError>,
+    operation: F,
+) -> Result<(), AllocError>
+    requires { F.IsAlwaysCallable operation }
+{
+    let left = left?;
+    let right = right?;
+    show(rt, call, operation(left, right));
+    Ok(())
+}
+
 /// Operators on maps by value, in which no piece leaves a rest of its range behind; the same on maps that are lent.
 pub fn operated(rt: &HostRuntime) -> Result<(), AllocError> {
     let alloc = rt.alloc();
-    show(rt, "a & b", left(alloc)? & right(alloc)?);
-    show(rt, "&a & b", &left(alloc)? & right(alloc)?);
-    show(rt, "a & &b", left(alloc)? & &right(alloc)?);
-    show(rt, "a - b", left(alloc)? - right(alloc)?);
-    show(rt, "a - &b", left(alloc)? - &right(alloc)?);
-    show(rt, "&a - b", &left(alloc)? - right(alloc)?);
-    show(rt, "a ^ b", left(alloc)? ^ right(alloc)?);
-    show(rt, "a ^ &b", left(alloc)? ^ &right(alloc)?);
-    Ok(())
+    operate(rt, "a & b", left(alloc), right(alloc), |a, b| a & b)?;
+    operate(rt, "&a & b", left(alloc), right(alloc), |a, b| &a & b)?;
+    operate(rt, "a & &b", left(alloc), right(alloc), |a, b| a & &b)?;
+    operate(rt, "a - b", left(alloc), right(alloc), |a, b| a - b)?;
+    operate(rt, "a - &b", left(alloc), right(alloc), |a, b| a - &b)?;
+    operate(rt, "&a - b", left(alloc), right(alloc), |a, b| &a - b)?;
+    operate(rt, "a ^ b", left(alloc), right(alloc), |a, b| a ^ b)?;
+    operate(rt, "a ^ &b", left(alloc), right(alloc), |a, b| a ^ &b)
 }
 
 /// The same with a set.
 pub fn operated_with_set(rt: &HostRuntime) -> Result<(), AllocError> {
     let alloc = rt.alloc();
-    show(rt, "a & s", left(alloc)? & set(alloc)?);
-    show(rt, "a & &s", left(alloc)? & &set(alloc)?);
-    show(rt, "&a & s", &left(alloc)? & set(alloc)?);
-    show(rt, "a - s", left(alloc)? - set(alloc)?);
-    show(rt, "a - &s", left(alloc)? - &set(alloc)?);
-    show(rt, "&a - s", &left(alloc)? - set(alloc)?);
-    Ok(())
+    operate(rt, "a & s", left(alloc), set(alloc), |a, s| a & s)?;
+    operate(rt, "a & &s", left(alloc), set(alloc), |a, s| a & &s)?;
+    operate(rt, "&a & s", left(alloc), set(alloc), |a, s| &a & s)?;
+    operate(rt, "a - s", left(alloc), set(alloc), |a, s| a - s)?;
+    operate(rt, "a - &s", left(alloc), set(alloc), |a, s| a - &s)?;
+    operate(rt, "&a - s", left(alloc), set(alloc), |a, s| &a - s)
 }
 
 /// The even keys up to 30.
@@ -157,46 +176,55 @@ fn apart(alloc: Global) -> Result<Map, AllocError> {
     map_of(alloc, &[(40, 59, 2)])
 }
 
-/// Prints how many entries a map has.
-fn show_count(rt: &HostRuntime, call: &str, map: Result<Map, AllocError>) {
-    let Ok(map) = map else {
-        let _ = println!(rt; "{call}: refused");
-        return;
-    };
-    let count = map.ranges_len();
-    let _ = println!(rt; "{call}: {count} entries");
+/// A map with the keys 43..=44.
+fn inside(alloc: Global) -> Result<Map, AllocError> {
+    map_of(alloc, &[(43, 44, 2)])
 }
 
-/// A whole entry cut out of a map of many, by value and lent; then a range inside an entry, whose value is cloned; then the
-/// keys of exactly one.
+/// A set with the keys 40..=49.
+fn last_ten(alloc: Global) -> Result<RangeSetBlaze<i64>, AllocError> {
+    RangeSetBlaze::from_ranges(alloc, vec![in alloc; 40..=49]?)
+}
+
+/// A set of the even keys up to 30.
+fn even_set(alloc: Global) -> Result<RangeSetBlaze<i64>, AllocError> {
+    RangeSetBlaze::from_ranges(alloc, even_keys(alloc)?)
+}
+
+/// A whole entry cut out of a map of many, by value and lent; then a range inside an entry, whose value is cloned.
 pub fn cut_from_many(rt: &HostRuntime) -> Result<(), AllocError> {
     let alloc = rt.alloc();
-    show_count(rt, "many - a", many(alloc)? - few(alloc)?);
-    show_count(rt, "many - &a", many(alloc)? - &few(alloc)?);
-    show_count(rt, "&many - &a", &many(alloc)? - &few(alloc)?);
-    let set = RangeSetBlaze::from_ranges(alloc, vec![in alloc; 40..=49]?)?;
-    show_count(rt, "many - &s", many(alloc)? - &set);
-    show_count(rt, "many - s", many(alloc)? - set);
-    let inside = map_of(alloc, &[(43, 44, 2)])?;
-    show_count(rt, "many - b", many(alloc)? - inside);
-    show_count(rt, "many ^ c", many(alloc)? ^ apart(alloc)?);
-    show_count(rt, "c ^ many", apart(alloc)? ^ many(alloc)?);
-    show_count(rt, "many ^ &c", many(alloc)? ^ &apart(alloc)?);
-    Ok(())
+    operate(rt, "many - a", many(alloc), few(alloc), |m, a| m - a)?;
+    operate(rt, "many - &a", many(alloc), few(alloc), |m, a| m - &a)?;
+    operate(rt, "&many - &a", many(alloc), few(alloc), |m, a| &m - &a)?;
+    operate(rt, "many - &s", many(alloc), last_ten(alloc), |m, s| m - &s)?;
+    operate(rt, "many - s", many(alloc), last_ten(alloc), |m, s| m - s)?;
+    operate(rt, "many - b", many(alloc), inside(alloc), |m, b| m - b)
 }
 
-/// A map of few entries, by value, on the keys of a map or a set of many and off them; then lent.
+/// The keys of exactly one of a map of many and another.
+pub fn of_exactly_one(rt: &HostRuntime) -> Result<(), AllocError> {
+    let alloc = rt.alloc();
+    operate(rt, "many ^ c", many(alloc), apart(alloc), |m, c| m ^ c)?;
+    operate(rt, "c ^ many", many(alloc), apart(alloc), |m, c| c ^ m)?;
+    operate(rt, "many ^ &c", many(alloc), apart(alloc), |m, c| m ^ &c)
+}
+
+/// A map of few entries, by value, on the keys of a map of many and off them; then lent.
 pub fn kept_by_many(rt: &HostRuntime) -> Result<(), AllocError> {
     let alloc = rt.alloc();
-    show(rt, "many & a", many(alloc)? & few(alloc)?);
-    show(rt, "&many & a", &many(alloc)? & few(alloc)?);
-    show(rt, "a - many", few(alloc)? - many(alloc)?);
-    show(rt, "a - &many", few(alloc)? - &many(alloc)?);
-    let set = RangeSetBlaze::from_ranges(alloc, even_keys(alloc)?)?;
-    show(rt, "a & &t", few(alloc)? & &set);
-    show(rt, "a - &t", few(alloc)? - &set);
-    show(rt, "&a - &t", &few(alloc)? - &set);
-    Ok(())
+    operate(rt, "many & a", many(alloc), few(alloc), |m, a| m & a)?;
+    operate(rt, "&many & a", many(alloc), few(alloc), |m, a| &m & a)?;
+    operate(rt, "a - many", many(alloc), few(alloc), |m, a| a - m)?;
+    operate(rt, "a - &many", many(alloc), few(alloc), |m, a| a - &m)
+}
+
+/// The same with a set of many.
+pub fn kept_by_set(rt: &HostRuntime) -> Result<(), AllocError> {
+    let alloc = rt.alloc();
+    operate(rt, "a & &t", few(alloc), even_set(alloc), |a, t| a & &t)?;
+    operate(rt, "a - &t", few(alloc), even_set(alloc), |a, t| a - &t)?;
+    operate(rt, "&a - &t", few(alloc), even_set(alloc), |a, t| &a - &t)
 }
 
 /// Pairs of which each is one piece, and a pair that is cut in two.

@@ -47,10 +47,10 @@ impl<'a> Clone for Counted<'a> {
 
 type Table<'a> = RangeTable<i64, Counted<'a>>;
 
-/// The one range 0..=9 with the number 1.
+/// The one range 0..=9 with the number 7.
 fn one_range<'a>(alloc: Global, left: &'a Cell<u32>) -> Result<Table<'a>, AllocError> {
     let mut table = RangeTable::new(alloc);
-    let _ = table.paint(0, 9, Counted { number: 1, left })?;
+    let _ = table.paint(0, 9, Counted { number: 7, left })?;
     Ok(table)
 }
 
@@ -63,19 +63,19 @@ fn show(rt: &HostRuntime, call: &str, is_refused: bool, table: &Table<'_>) {
     let _ = println!(rt; "{} keys", table.len());
 }
 
-/// Paints a range with the number 2 over the one range, by one walk and by single looks.
+/// Paints a range with the number 8 over the one range, by one walk and by single looks.
 fn paint(rt: &HostRuntime, left: &Cell<u32>, start: i64, end: i64) -> Result<(), AllocError> {
     if start > end {
         return Ok(());
     }
     let mut walked = one_range(rt.alloc(), left)?;
     let refused = walked
-        .paint(start, end, Counted { number: 2, left })
+        .paint(start, end, Counted { number: 8, left })
         .is_err();
     show(rt, "paint", refused, &walked);
     let mut looked = one_range(rt.alloc(), left)?;
     let refused = looked
-        .paint_by_splice(start, end, Counted { number: 2, left })
+        .paint_by_splice(start, end, Counted { number: 8, left })
         .is_err();
     show(rt, "paint_by_splice", refused, &looked);
     Ok(())
@@ -88,6 +88,35 @@ fn cut(rt: &HostRuntime, left: &Cell<u32>) -> Result<(), AllocError> {
     show(rt, "cut_key", refused, &table);
     let refused = table.split_at(4).is_err();
     show(rt, "split_at", refused, &table);
+    Ok(())
+}
+
+type Map<'a> = RangeMapBlaze<i64, Counted<'a>>;
+
+/// Prints whether a call was refused, and what it left.
+fn show_map(rt: &HostRuntime, call: &str, is_refused: bool, map: &Map<'_>) {
+    let made = if is_refused { "refused" } else { "made" };
+    let _ = println!(rt;
+        "{call}: {made}, len {}, ranges_len {}",
+        map.len(),
+        map.ranges_len()
+    );
+}
+
+/// Takes keys out of a map of one range, and splits it.
+fn cut_map(rt: &HostRuntime, left: &Cell<u32>) -> Result<(), AllocError> {
+    let mut map = RangeMapBlaze::new(rt.alloc());
+    let _ = map.ranges_insert(1..=9, Counted { number: 7, left })?;
+    let refused = map.remove(5).is_err();
+    show_map(rt, "remove", refused, &map);
+    let refused = map.pop_first().is_err();
+    show_map(rt, "pop_first", refused, &map);
+    let refused = map.pop_last().is_err();
+    show_map(rt, "pop_last", refused, &map);
+    let refused = map.split_off(4).is_err();
+    show_map(rt, "split_off", refused, &map);
+    let above = map.split_off(10)?;
+    show_map(rt, "what is above", false, &above);
     Ok(())
 }
 
@@ -111,6 +140,7 @@ pub fn clones(rt: &HostRuntime) -> Result<(), AllocError> {
     paint(rt, &left, 0, 4)?;
     paint(rt, &left, 5, 9)?;
     cut(rt, &left)?;
+    cut_map(rt, &left)?;
     left.set(1);
     cut(rt, &left)?;
     left.set(1);

@@ -36,6 +36,30 @@ pub fn show<T: Integer, VC: ValueCarrier + Debug, I: SortedDisjointMap<T, VC>>(
     }
 }
 
+/// Makes an operation on two operands, and prints the stream that it gives.
+fn operate<
+    T: Integer,
+    VC: ValueCarrier + Debug,
+    A: Drop,
+    B: Drop,
+    I: SortedDisjointMap<T, VC>,
+    F: FnOnce(A, B) -> Result<I, AllocError> + Drop,
+>(
+    rt: &HostRuntime,
+    call: &str,
+    left: Result<A, Fault>,
+    right: Result<B, Fault>,
+    operation: F,
+) -> Result<(), Fault>
+    requires { F.IsAlwaysCallable operation }
+{
+    let left = left?;
+    let right = right?;
+    let made = operation(left, right)?;
+    show(rt, call, made);
+    Ok(())
+}
+
 /// Prints where a list violates the law.
 fn show_violation(rt: &HostRuntime, items: &[(i64, i64, char)]) {
     if let Err(Fault::NotSorted(fault)) = letters(rt.alloc(), items) {
@@ -108,56 +132,88 @@ fn twice(alloc: Global) -> Result<Letters, Fault> {
 /// Two streams as one.
 pub fn of_two(rt: &HostRuntime) -> Result<(), Fault> {
     let alloc = rt.alloc();
-    let one = [(2, 6, 'a')];
-    show(
+    let (one, next) = ([(2, 6, 'a')], [(4, 5, 'a')]);
+    operate(
         rt,
         "union_of",
-        union_of(alloc, letters(alloc, &one)?, twice(alloc)?)?,
-    );
-    let touching = union_of(
-        alloc,
-        letters(alloc, &[(1, 3, 'a')])?,
-        letters(alloc, &[(4, 5, 'a')])?,
+        letters(alloc, &one),
+        twice(alloc),
+        |one, two| union_of(alloc, one, two),
     )?;
-    show(rt, "union_of", touching);
-    let different = symmetric_difference_of(alloc, letters(alloc, &one)?, twice(alloc)?)?;
-    show(rt, "symmetric_difference_of", different);
-    let shared = intersection_of(alloc, letters(alloc, &one)?, twice(alloc)?)?;
-    show(rt, "intersection_of", shared);
-    Ok(())
+    operate(
+        rt,
+        "union_of",
+        letters(alloc, &[(1, 3, 'a')]),
+        letters(alloc, &next),
+        |one, two| union_of(alloc, one, two),
+    )?;
+    operate(
+        rt,
+        "symmetric_difference_of",
+        letters(alloc, &one),
+        twice(alloc),
+        |one, two| symmetric_difference_of(alloc, one, two),
+    )?;
+    operate(
+        rt,
+        "intersection_of",
+        letters(alloc, &one),
+        twice(alloc),
+        |one, two| intersection_of(alloc, one, two),
+    )
 }
 
 /// A set of ranges, as a stream.
-fn set_of(ranges: Vec<RangeInclusive<i64>>) -> Result<CheckSortedDisjoint<i64>, Fault> {
-    Ok(CheckSortedDisjoint::new(ranges)?)
+fn set_of(alloc: Global, ranges: &[(i64, i64)]) -> Result<CheckSortedDisjoint<i64>, Fault> {
+    let mut list = Vec::new(alloc);
+    for (start, end) in ranges {
+        list.push(*start..=*end)?;
+    }
+    Ok(CheckSortedDisjoint::new(list)?)
 }
 
 /// A stream on the keys of a set, and off them.
 pub fn with_sets(rt: &HostRuntime) -> Result<(), Fault> {
     let alloc = rt.alloc();
-    let set = set_of(vec![in alloc; 2..=6]?)?;
-    show(
+    operate(
         rt,
         "intersect_with_ranges",
-        intersect_with_ranges(alloc, twice(alloc)?, set)?,
-    );
-    let set = set_of(vec![in alloc; 1..=2, 5..=100]?)?;
-    let off = subtract_ranges(alloc, letters(alloc, &[(2, 6, 'a')])?, set)?;
-    show(rt, "subtract_ranges", off);
-    let all = letters(alloc, &[(i64::MIN, i64::MAX, 'a')])?;
-    let all = subtract_ranges(alloc, all, set_of(Vec::new(alloc))?)?;
-    let upper = intersect_with_ranges(alloc, all, set_of(vec![in alloc; 0..=i64::MAX]?)?)?;
-    show(rt, "both", upper);
-    Ok(())
+        twice(alloc),
+        set_of(alloc, &[(2, 6)]),
+        |stream, set| intersect_with_ranges(alloc, stream, set),
+    )?;
+    operate(
+        rt,
+        "subtract_ranges",
+        letters(alloc, &[(2, 6, 'a')]),
+        set_of(alloc, &[(1, 2), (5, 100)]),
+        |stream, set| subtract_ranges(alloc, stream, set),
+    )?;
+    let upper = set_of(alloc, &[(0, i64::MAX)])?;
+    operate(
+        rt,
+        "both",
+        letters(alloc, &[(i64::MIN, i64::MAX, 'a')]),
+        set_of(alloc, &[]),
+        |stream, none| {
+            let all = subtract_ranges(alloc, stream, none)?;
+            intersect_with_ranges(alloc, all, upper)
+        },
+    )
+}
+
+/// A table of one range.
+fn one_range(alloc: Global, start: u8, value: char) -> Result<RangeTable<u8, char>, AllocError> {
+    let mut table = RangeTable::new(alloc);
+    let _ = table.paint(start, 255, value)?;
+    Ok(table)
 }
 
 /// Streams of lent tables.
 pub fn of_tables(rt: &HostRuntime) -> Result<(), AllocError> {
     let alloc = rt.alloc();
-    let mut map = RangeTable::<u8, char>::new(alloc);
-    let _ = map.paint(0, 255, 'a')?;
-    let mut last = RangeTable::<u8, char>::new(alloc);
-    let _ = last.paint(255, 255, 'b')?;
+    let map = one_range(alloc, 0, 'a')?;
+    let last = one_range(alloc, 255, 'b')?;
     let mut keys = ranges_of(&last);
     let _ = println!(rt;
         "ranges_of: {:?} {:?} {:?}",
@@ -165,17 +221,11 @@ pub fn of_tables(rt: &HostRuntime) -> Result<(), AllocError> {
         keys.next(),
         keys.size_hint()
     );
-    let keys = ranges_of(&last);
-    show(
-        rt,
-        "of tables",
-        intersect_with_ranges(alloc, RangeValuesIter::new(&map), keys)?,
-    );
-    let over = union_of(
-        alloc,
-        RangeValuesIter::new(&map),
-        RangeValuesIter::new(&last),
-    )?;
+    let (left, keys) = (RangeValuesIter::new(&map), ranges_of(&last));
+    let within = intersect_with_ranges(alloc, left, keys)?;
+    show(rt, "of tables", within);
+    let (left, right) = (RangeValuesIter::new(&map), RangeValuesIter::new(&last));
+    let over = union_of(alloc, left, right)?;
     show(rt, "of tables", over);
     Ok(())
 }

@@ -49,11 +49,16 @@ fn paint(
 
 /// Paints that join, cover, lengthen and trim entries.
 pub fn paints(rt: &HostRuntime) -> Result<(), AllocError> {
-    paint(rt, &[(0, 2, 'a'), (3, 5, 'b'), (6, 9, 'a')], 3, 5, 'a')?;
-    paint(rt, &[(0, 2, 'a'), (4, 6, 'b'), (8, 9, 'c')], 1, 8, 'd')?;
-    paint(rt, &[(5, 9, 'a')], 0, 9, 'a')?;
-    paint(rt, &[(5, 9, 'a')], 5, 20, 'a')?;
-    paint(rt, &[(0, 9, 'a')], 0, 4, 'b')?;
+    let rows: [(&[(i64, i64, char)], (i64, i64, char)); 5] = [
+        (&[(0, 2, 'a'), (3, 5, 'b'), (6, 9, 'a')], (3, 5, 'a')),
+        (&[(0, 2, 'a'), (4, 6, 'b'), (8, 9, 'c')], (1, 8, 'd')),
+        (&[(5, 9, 'a')], (0, 9, 'a')),
+        (&[(5, 9, 'a')], (5, 20, 'a')),
+        (&[(0, 9, 'a')], (0, 4, 'b')),
+    ];
+    for (before, (start, end, value)) in rows {
+        paint(rt, before, start, end, value)?;
+    }
     whole_key_type(rt)
 }
 
@@ -67,18 +72,67 @@ fn whole_key_type(rt: &HostRuntime) -> Result<(), AllocError> {
     Ok(())
 }
 
+/// A table of so many entries, which one leaf of its tree holds.
+fn one_leaf(alloc: Global, count: u8) -> Result<RangeTable<u8, char>, AllocError> {
+    let mut table = RangeTable::new(alloc);
+    for place in 0..count {
+        let start = place.wrapping_mul(16);
+        let end = start.wrapping_add(9);
+        if start <= end {
+            let _ = table.paint(start, end, 'a')?;
+        }
+    }
+    Ok(table)
+}
+
+/// Prints whether a paint was refused, and what it left.
+fn show_leaf(
+    rt: &HostRuntime,
+    call: &str,
+    answer: Result<bool, AllocError>,
+    table: &RangeTable<u8, char>,
+) {
+    let _ = println!(rt;
+        "{call}: {:?}, {} entries, {} keys, {:?}",
+        answer.ok(),
+        table.entries(),
+        table.len(),
+        table.find(0)
+    );
+}
+
+/// Paints inside the first of so many entries in one leaf, by one walk and by single looks.
+fn paint_in_leaf(rt: &HostRuntime, count: u8) -> Result<(), AllocError> {
+    let mut walked = one_leaf(rt.alloc(), count)?;
+    let _ = eprintln!(rt; "begin");
+    let answer = walked.paint(4, 5, 'b');
+    let _ = eprintln!(rt; "end");
+    show_leaf(rt, "paint", answer, &walked);
+    let mut looked = one_leaf(rt.alloc(), count)?;
+    let _ = eprintln!(rt; "begin");
+    let answer = looked.paint_by_splice(4, 5, 'b');
+    let _ = eprintln!(rt; "end");
+    show_leaf(rt, "paint_by_splice", answer, &looked);
+    Ok(())
+}
+
+/// Paints that put two entries into a leaf with room for one more, and for none. Each request for memory between the lines
+/// `begin` and `end` of the standard error is refused in turn by tests/table_refusals.sh.
+pub fn paints_in_leaves(rt: &HostRuntime) -> Result<(), AllocError> {
+    paint_in_leaf(rt, 14)?;
+    paint_in_leaf(rt, 15)
+}
+
 /// Ranges taken out: over several entries, inside one, at the ends of the key type.
 pub fn cuts(rt: &HostRuntime) -> Result<(), AllocError> {
     let entries = [(0, 9, 'a'), (20, 29, 'b'), (30, 30, 'c'), (40, 49, 'd')];
     let mut table = table_of(rt.alloc(), &entries)?;
-    table.cut_range(5, 44)?;
-    show(rt, &table);
-    table.cut_range(46, 47)?;
-    show(rt, &table);
-    table.cut_range(i64::MIN, 1)?;
-    show(rt, &table);
-    table.cut_range(3, i64::MAX)?;
-    show(rt, &table);
+    for (start, end) in [(5, 44), (46, 47), (i64::MIN, 1), (3, i64::MAX)] {
+        if start <= end {
+            table.cut_range(start, end)?;
+        }
+        show(rt, &table);
+    }
     Ok(())
 }
 

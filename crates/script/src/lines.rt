@@ -4,7 +4,7 @@ use std::io;
 use std::io::{BufRead, BufReader, Read};
 
 /// A key type's name.
-#[derive(Clone, Copy, Debug)]
+#[derive(Clone, Copy)]
 pub enum KeyType {
     U8,
     U16,
@@ -40,7 +40,7 @@ impl KeyType {
 }
 
 /// What a line is.
-#[derive(Clone, Copy, Debug)]
+#[derive(Clone, Copy)]
 pub enum Line<'a> {
     /// No more lines come.
     End,

@@ -15,7 +15,7 @@ const ROOM: usize = 65536;
 const BAD: u8 = 2;
 
 /// What comes after the lines of one key type.
-#[derive(Clone, Copy, Debug)]
+#[derive(Clone, Copy)]
 enum Next {
     Keys(KeyType),
     End(u8),

@@ -9,7 +9,7 @@ use std::mem;
 pub type Map<T> = RangeMapBlaze<T, String>;
 
 /// The name of a map.
-#[derive(Clone, Copy, PartialEq, Eq, Debug)]
+#[derive(Clone, Copy, PartialEq, Eq)]
 pub enum MapName {
     A,
     B,
@@ -31,7 +31,7 @@ impl MapName {
 }
 
 /// The name of a set.
-#[derive(Clone, Copy, PartialEq, Eq, Debug)]
+#[derive(Clone, Copy, PartialEq, Eq)]
 pub enum SetName {
     S,
     T,

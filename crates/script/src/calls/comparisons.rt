@@ -6,7 +6,7 @@ use std::fmt::Write;
 use std::hash::{DefaultHasher, Hash, Hasher};
 
 /// How two maps are compared.
-#[derive(Clone, Copy, Debug)]
+#[derive(Clone, Copy)]
 enum Kind {
     Equals,
     Cmp,
@@ -14,7 +14,7 @@ enum Kind {
 }
 
 /// Two maps, perhaps one, that are compared.
-#[derive(Clone, Copy, Debug)]
+#[derive(Clone, Copy)]
 pub struct Comparison {
     kind: Kind,
     map: MapName,

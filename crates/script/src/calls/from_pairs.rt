@@ -8,7 +8,7 @@ use std::alloc::{AllocError, Global};
 use std::ops::RangeInclusive;
 
 /// How pairs are given: by value, with lent values, lent, or lent with lent values.
-#[derive(Clone, Copy, Debug)]
+#[derive(Clone, Copy)]
 pub enum Form {
     Owned,
     RefValue,

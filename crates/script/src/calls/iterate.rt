@@ -9,7 +9,7 @@ use std::fmt::{Debug, Write};
 use std::ops::Bound;
 
 /// A call of an iterator.
-#[derive(Clone, Copy, Debug, PartialEq, Eq)]
+#[derive(Clone, Copy, PartialEq, Eq)]
 enum Step {
     Next,
     NextBack,

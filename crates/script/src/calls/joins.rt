@@ -50,7 +50,7 @@ pub fn unless_refused<T: ScriptKey>(
 }
 
 /// At which keys the words of two maps are joined.
-#[derive(Clone, Copy, Debug)]
+#[derive(Clone, Copy)]
 enum Kind {
     Inner,
     Left,
@@ -58,7 +58,7 @@ enum Kind {
 }
 
 /// The words of two maps, joined.
-#[derive(Clone, Copy, Debug)]
+#[derive(Clone, Copy)]
 pub struct Join {
     kind: Kind,
     left: MapName,

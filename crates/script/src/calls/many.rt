@@ -8,7 +8,7 @@ use range_map_multi::{MultiwayRangeMapBlazeRef, MultiwaySortedDisjointMap};
 use std::alloc::{AllocError, Global};
 
 /// An operation between any number of maps.
-#[derive(Clone, Copy, Debug)]
+#[derive(Clone, Copy)]
 enum Kind {
     Union,
     Intersection,

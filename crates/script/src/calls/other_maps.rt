@@ -4,7 +4,7 @@ use crate::keys::ScriptKey;
 use crate::state::{MapName, State};
 
 /// How another map is painted.
-#[derive(Clone, Copy, Debug)]
+#[derive(Clone, Copy)]
 enum Kind {
     ExtendFrom,
     ExtendWith,
@@ -27,7 +27,7 @@ impl Kind {
 }
 
 /// Another map painted over one.
-#[derive(Clone, Copy, Debug)]
+#[derive(Clone, Copy)]
 pub struct OtherMap {
     kind: Kind,
     map: MapName,
