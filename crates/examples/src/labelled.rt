@@ -97,15 +97,23 @@ pub fn refused_append(rt: &HostRuntime) -> Result<(), AllocError> {
     Ok(())
 }
 
-/// Pairs by value, of which the last ones refuse their clones, and keys by value.
+/// Pairs by value, of which the last ones refuse their clones.
 pub fn refused_pairs(rt: &HostRuntime) -> Result<(), AllocError> {
     let mut map: Map = RangeMapBlaze::new(rt.alloc());
     let _ = map.ranges_insert(1..=1, deaf(7))?;
     let _ = map.ranges_insert(3..=5, deaf(8))?;
     let mut pairs = map.into_iter();
-    let _ = println!(rt; "{:?}", pairs.next());
-    let _ = println!(rt; "{:?} {:?}", pairs.next_back(), pairs.size_hint());
-    let _ = println!(rt; "{:?} {:?}", pairs.next(), pairs.next_back());
+    let first = pairs.next();
+    let _ = println!(rt; "{first:?}");
+    let last = pairs.next_back();
+    let _ = println!(rt; "{last:?} {:?}", pairs.size_hint());
+    let (next, last) = (pairs.next(), pairs.next_back());
+    let _ = println!(rt; "{next:?} {last:?}");
+    Ok(())
+}
+
+/// Keys by value: no value is cloned.
+pub fn keys_alone(rt: &HostRuntime) -> Result<(), AllocError> {
     let mut map: Map = RangeMapBlaze::new(rt.alloc());
     let _ = map.ranges_insert(1..=2, deaf(7))?;
     for key in map.into_keys() {

@@ -28,9 +28,13 @@ fn run(rt: &HostRuntime) -> Result<(), Fault> {
     tables::canonical_lists(rt)?;
     refused::clones(rt)?;
     sets::ends(rt)?;
+    sets::ends_by_value(rt)?;
     sets::complements(rt)?;
-    streams::checked_lists(rt)?;
+    streams::violations(rt);
+    streams::checked_list(rt)?;
+    streams::checked_ranges(rt)?;
     streams::carriers(rt)?;
+    streams::unequal(rt);
     streams::of_two(rt)?;
     streams::with_sets(rt)?;
     streams::of_tables(rt)?;
@@ -41,11 +45,13 @@ fn run(rt: &HostRuntime) -> Result<(), Fault> {
     answers::full_joined(rt)?;
     answers::other_joined(rt)?;
     answers::of_lists(rt)?;
+    answers::of_no_list(rt)?;
     many::operations(rt)?;
     many_joins::of_maps(rt)?;
     many_joins::of_streams(rt)?;
     many_joins::sweeps(rt)?;
     moved::merged(rt)?;
+    moved::refused_merge(rt)?;
     moved::operated(rt)?;
     moved::operated_with_set(rt)?;
     moved::cut_from_many(rt)?;
@@ -56,14 +62,17 @@ fn run(rt: &HostRuntime) -> Result<(), Fault> {
     labelled::coarse(rt)?;
     labelled::refused_append(rt)?;
     labelled::refused_pairs(rt)?;
+    labelled::keys_alone(rt)?;
     maps::loops(rt)?;
     maps::kept(rt)?;
     maps::any_key_type(rt)?;
     maps::of_streams(rt)?;
     maps::orders(rt)?;
+    map_answers::full_joins(rt)?;
     map_answers::joins(rt)?;
     map_answers::empty_joins(rt)?;
     map_answers::other_values(rt)?;
+    map_answers::other_labels(rt)?;
     map_answers::first_seen(rt)?;
     map_answers::filled(rt)?;
     Ok(())

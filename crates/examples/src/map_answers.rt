@@ -38,11 +38,17 @@ fn sums(
     Ok(())
 }
 
-/// Joins of two maps.
+/// Full joins of two maps.
+pub fn full_joins(rt: &HostRuntime) -> Result<(), AllocError> {
+    let ones = one_range(rt.alloc(), 1, 5, 1)?;
+    let tens = one_range(rt.alloc(), 4, 8, 10)?;
+    sums(rt, &ones, &tens)
+}
+
+/// The other joins of two maps.
 pub fn joins(rt: &HostRuntime) -> Result<(), AllocError> {
     let ones = one_range(rt.alloc(), 1, 5, 1)?;
     let tens = one_range(rt.alloc(), 4, 8, 10)?;
-    sums(rt, &ones, &tens)?;
     let mut calls = 0u32;
     let right_is_there = ones.left_join(&tens, |_, ten| {
         calls = calls.wrapping_add(1);
@@ -76,6 +82,11 @@ pub fn other_values(rt: &HostRuntime) -> Result<(), AllocError> {
         word.len()
     })?;
     let _ = println!(rt; "{lengths}; {calls} calls");
+    Ok(())
+}
+
+/// A value that is painted inside an entry with an equal one is not asked at.
+pub fn other_labels(rt: &HostRuntime) -> Result<(), AllocError> {
     let mut coarse: Map = RangeMapBlaze::new(rt.alloc());
     let _ = coarse.ranges_insert(1..=9, heard(1, 'x'))?;
     let _ = coarse.ranges_insert(3..=4, heard(1, 'y'))?;

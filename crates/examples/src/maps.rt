@@ -14,23 +14,26 @@ pub fn words(alloc: Global, ranges: &[(i64, i64, &'static str)]) -> Result<Words
     Ok(map)
 }
 
-/// Loops over a map, lent and by value, and adapters of its iterators.
+/// Loops over a map, lent and by value.
 pub fn loops(rt: &HostRuntime) -> Result<(), AllocError> {
     let map = words(rt.alloc(), &[(1, 2, "a"), (5, 5, "b")])?;
     for (key, value) in &map {
         let _ = println!(rt; "{key} {value}");
     }
-    let _ = println!(rt;
-        "{:?} {}",
-        map.iter().rev().next(),
-        map.keys().take(10).count()
-    );
-    let keys: Vec<i64> = map.keys().collect(rt.alloc())?;
-    let _ = println!(rt; "{keys:?}");
+    adapted(rt, &map)?;
     for pair in map {
         let (key, value) = pair?;
         let _ = println!(rt; "{key} {value}");
     }
+    Ok(())
+}
+
+/// Adapters of a map's iterators.
+fn adapted(rt: &HostRuntime, map: &Words) -> Result<(), AllocError> {
+    let last = map.iter().rev().next();
+    let _ = println!(rt; "{last:?} {}", map.keys().take(10).count());
+    let keys: Vec<i64> = map.keys().collect(rt.alloc())?;
+    let _ = println!(rt; "{keys:?}");
     Ok(())
 }
 

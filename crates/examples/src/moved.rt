@@ -49,7 +49,7 @@ fn stream_of(alloc: Global, ranges: &[(i64, i64, u32)]) -> Result<Stream, AllocE
     Ok(OwnedRangeValuesIter::new(table))
 }
 
-/// A merge in which no piece leaves a rest of its range behind, and one in which a piece does.
+/// A merge in which no piece leaves a rest of its range behind.
 pub fn merged(rt: &HostRuntime) -> Result<(), AllocError> {
     let alloc = rt.alloc();
     let left = stream_of(alloc, &[(0, 9, 1), (20, 29, 1)])?;
@@ -58,8 +58,15 @@ pub fn merged(rt: &HostRuntime) -> Result<(), AllocError> {
     for (range, Owned(value)) in union_of(alloc, left, right)? {
         let _ = println!(rt; "{range:?} {}", value.0);
     }
+    Ok(())
+}
+
+/// A merge in which a piece leaves a rest of its range behind.
+pub fn refused_merge(rt: &HostRuntime) -> Result<(), AllocError> {
+    let alloc = rt.alloc();
     let left = stream_of(alloc, &[(0, 9, 1)])?;
-    let cut = union_of(alloc, left, stream_of(alloc, &[(4, 4, 2)])?);
+    let right = stream_of(alloc, &[(4, 4, 2)])?;
+    let cut = union_of(alloc, left, right);
     let _ = println!(rt; "refused: {}", cut.is_err());
     Ok(())
 }

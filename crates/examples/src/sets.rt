@@ -5,23 +5,34 @@ use blaze_table::RangeSetBlaze;
 use std::alloc::AllocError;
 use std::ops::RangeInclusive;
 
-/// The ranges of a set from both ends, lent and by value.
-pub fn ends(rt: &HostRuntime) -> Result<(), AllocError> {
+/// A set of three ranges.
+fn three_ranges(rt: &HostRuntime) -> Result<RangeSetBlaze<i64>, AllocError> {
     let given = vec![in rt.alloc(); 8..=9, 1i64..=2i64, 4..=6]?;
-    let set = RangeSetBlaze::from_ranges(rt.alloc(), given)?;
+    RangeSetBlaze::from_ranges(rt.alloc(), given)
+}
+
+/// The ranges of a set from both ends.
+pub fn ends(rt: &HostRuntime) -> Result<(), AllocError> {
+    let set = three_ranges(rt)?;
     let mut ranges = set.ranges();
     let _ = println!(rt; "ranges: {:?}", ranges.size_hint());
-    let _ = println!(rt; "{:?} {:?}", ranges.next_back(), ranges.next());
-    let _ = println!(rt;
-        "{} left: {:?} {:?}",
-        ranges.len(),
-        ranges.next_back(),
-        ranges.next()
-    );
+    let (last, first) = (ranges.next_back(), ranges.next());
+    let _ = println!(rt; "{last:?} {first:?}");
+    let left = ranges.len();
+    let (last, first) = (ranges.next_back(), ranges.next());
+    let _ = println!(rt; "{left} left: {last:?} {first:?}");
+    Ok(())
+}
+
+/// The ranges of a set by value from both ends.
+pub fn ends_by_value(rt: &HostRuntime) -> Result<(), AllocError> {
+    let set = three_ranges(rt)?;
     let mut taken = set.into_ranges();
     let _ = println!(rt; "into_ranges: {:?}", taken.size_hint());
-    let _ = println!(rt; "{:?} {:?}", taken.next(), taken.next_back());
-    let _ = println!(rt; "{:?} {:?}", taken.next(), taken.next_back());
+    for _ in 0..2u8 {
+        let (first, last) = (taken.next(), taken.next_back());
+        let _ = println!(rt; "{first:?} {last:?}");
+    }
     canonical_ranges(rt)
 }
 

@@ -67,17 +67,28 @@ fn show_violation(rt: &HostRuntime, items: &[(i64, i64, char)]) {
     }
 }
 
-/// Lists that keep the law of a stream, and lists that don't.
-pub fn checked_lists(rt: &HostRuntime) -> Result<(), Fault> {
+/// Lists that don't keep the law of a stream.
+pub fn violations(rt: &HostRuntime) {
     show_violation(rt, &[(1, 3, 'a'), (3, 5, 'b')]);
     show_violation(rt, &[(1, 2, 'a'), (3, 4, 'a')]);
     show_violation(rt, &[(5, 4, 'a')]);
+}
+
+/// A list that keeps the law of a stream.
+pub fn checked_list(rt: &HostRuntime) -> Result<(), Fault> {
     let kept = letters(rt.alloc(), &[(1, 3, 'a'), (4, 4, 'b')])?;
     let _ = println!(rt; "{:?}", kept.size_hint());
     show(rt, "a list", kept);
-    let touching = CheckSortedDisjoint::<i64>::new(vec![in rt.alloc(); 1..=3, 4..=5]?);
-    let _ = println!(rt; "{:?}", touching.err());
-    let kept = CheckSortedDisjoint::<i64>::new(vec![in rt.alloc(); 1..=3, 5..=5]?)?;
+    Ok(())
+}
+
+/// A list of ranges alone that doesn't keep the law of a stream, and one that does.
+pub fn checked_ranges(rt: &HostRuntime) -> Result<(), Fault> {
+    let touching = set_of(rt.alloc(), &[(1, 3), (4, 5)]);
+    if let Err(Fault::NotSorted(fault)) = touching {
+        let _ = println!(rt; "{fault:?}");
+    }
+    let kept = set_of(rt.alloc(), &[(1, 3), (5, 5)])?;
     let _ = println!(rt; "{:?}", kept.size_hint());
     for range in kept {
         let _ = println!(rt; "{range:?}");
@@ -103,25 +114,24 @@ pub fn carriers(rt: &HostRuntime) -> Result<(), AllocError> {
     carry(rt, true)?;
     carry(rt, &'a')?;
     carry(rt, Owned('b'))?;
-    carry(rt, Rc::new(rt.alloc(), 'c')?)?;
+    let shared = Rc::new(rt.alloc(), 'c')?;
+    carry(rt, shared)?;
     carry(rt, Some(true))?;
-    carry(rt, (true, Owned('d')))?;
-    let _ = println!(rt;
-        "{} {}",
-        true.value_eq(&false),
-        Owned('a').value_eq(&Owned('b'))
-    );
+    carry(rt, (true, Owned('d')))
+}
+
+/// Carriers of unequal values, and a value that one doesn't have.
+pub fn unequal(rt: &HostRuntime) {
+    let flags = true.value_eq(&false);
+    let letters = Owned('a').value_eq(&Owned('b'));
+    let _ = println!(rt; "{flags} {letters}");
     let _ = println!(rt; "{}", Some(true).value_eq(&None));
-    let _ = println!(rt;
-        "{} {} {}",
-        true.has_value(&false),
-        Owned('a').has_value(&'b'),
-        Some(true).has_value(&None)
-    );
+    let flags = true.has_value(&false);
+    let letters = Owned('a').has_value(&'b');
+    let _ = println!(rt; "{flags} {letters} {}", Some(true).has_value(&None));
     let left = (true, true).value_eq(&(true, false));
     let right = (true, true).value_eq(&(false, true));
     let _ = println!(rt; "{left} {right} {:?}", Owned(7_i64));
-    Ok(())
 }
 
 /// Two ranges of b.
