@@ -83,35 +83,18 @@ pub fn other_joined(rt: &HostRuntime) -> Result<(), Fault> {
     Ok(())
 }
 
-/// A list of ranges.
-fn list_of(alloc: Global, ranges: &[(i64, i64)]) -> Result<Vec<(i64, i64)>, AllocError> {
-    let mut list = Vec::new(alloc);
-    for range in ranges {
-        list.push(*range)?;
-    }
-    Ok(list)
-}
-
-/// The segments of lists.
+/// The segments of lists, and of no list.
 pub fn of_lists(rt: &HostRuntime) -> Result<(), AllocError> {
     let alloc = rt.alloc();
-    let given: [&[(i64, i64)]; 3] = [&[(0, 3), (4, 9)], &[(5, 14)], &[(7, 8)]];
-    let mut lists = Vec::new(alloc);
-    for ranges in given {
-        let list = list_of(alloc, ranges)?;
-        lists.push(list)?;
-    }
+    let first = vec![in alloc; (0, 3), (4, 9)]?;
+    let second = vec![in alloc; (5, 14)]?;
+    let third = vec![in alloc; (7, 8)]?;
+    let lists = vec![in alloc; first, second, third]?;
     let _ = println!(rt; "segments");
     for segment in segments(alloc, &lists)? {
         let _ = println!(rt; "{}..={} {:?}", segment.start, segment.end, segment.at);
     }
-    Ok(())
-}
-
-/// The segments of no list.
-pub fn of_no_list(rt: &HostRuntime) -> Result<(), AllocError> {
-    let none: Vec<Vec<(char, char)>> = Vec::new(rt.alloc());
-    let found = segments(rt.alloc(), &none)?;
-    let _ = println!(rt; "{}", found.len());
+    let none: Vec<Vec<(char, char)>> = Vec::new(alloc);
+    let _ = println!(rt; "{}", segments(alloc, &none)?.len());
     Ok(())
 }

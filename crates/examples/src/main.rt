@@ -45,7 +45,6 @@ fn run(rt: &HostRuntime) -> Result<(), Fault> {
     answers::full_joined(rt)?;
     answers::other_joined(rt)?;
     answers::of_lists(rt)?;
-    answers::of_no_list(rt)?;
     many::operations(rt)?;
     many_joins::of_maps(rt)?;
     many_joins::of_streams(rt)?;
