@@ -4,33 +4,36 @@ use Rattle.std.specs.Prelude.{MatchOption, OnSome, int_lt, int_le, reverse}
 use Rattle.std.proofs.lemmas.Int.{ints}
 use Rattle.std.specs.Option.{option_map}
 use Rattle.std.proofs.lemmas.List.{length-map, reverse-append}
-use Rattle.blaze_entries.specs.Entries.{Entry}
-use Rattle.blaze_entries.specs.Found.{found_in, found_of}
+use Rattle.blaze_entries.specs.Entries.{Entry, entry}
+use Rattle.blaze_entries.specs.Found.{found_in, found_of, IsFoundAt}
 use Rattle.blaze_entries.specs.Places.{held, full, places, place_of, AreFull}
 use Rattle.std.specs.Int.{int_max, int_min}
 use Rattle.blaze_entries.specs.Overlap.{shared, overlap}
-use Rattle.blaze_entries.specs.Scanned.{Seen, seen, walked, seen_covered, walked_covered, answers, walked_keys}
+use Rattle.blaze_entries.specs.Scanned.{Seen, seen, walked, seen_covered, walked_covered, seen_value, walked_value, answers, walked_keys}
 use Rattle.blaze_entries.specs.declared.found.Found.{Found}
 use Rattle.blaze_entries.specs.declared.nodes.EndValue.{EndValue}
 
--- what the last entry's look says
-pub found_last : {T V : Type 0} (rank : T → ℤ) (eq : V → V → Bool) (v : V) (r : Option (Found T)) (o : Option (Entry V)) (es fs : List (Entry V))
-    → option_map (found_of rank) r ≡ option_map (found_in eq v) o → MatchOption o ((es ≡ []) × (fs ≡ [])) (λ e. es ≡ fs ++ e ∷ [])
-    → MatchOption r (es ≡ []) (λ f. (e : Entry V) × (found_of rank f ≡ found_in eq v e) × (es ≡ fs ++ e ∷ []))
-found_last rank eq v None None es fs q h = h.0
-found_last rank eq v None (Some e) es fs q h = cc
-found_last rank eq v (Some f) None es fs q h = cc
-found_last rank eq v (Some f) (Some e) es fs q h = (e, cc, h)
+-- what shows the last entry
+pub shown_last : {V : Type 0} (e : Entry V) (o : Option (Entry V)) (es fs : List (Entry V)) → Some e ≡ o → MatchOption o ((es ≡ []) × (fs ≡ [])) (λ f. es ≡ fs ++ f ∷ []) → es ≡ fs ++ e ∷ []
+shown_last e None es fs q h = cc
+shown_last e (Some f) es fs q h = let p : f ≡ e = cc in h ∙ ap (λ x. fs ++ x ∷ []) p
+
+-- none is left where nothing is shown
+pub shown_none : {V : Type 0} (o : Option (Entry V)) (es fs : List (Entry V)) → None ≡ o → MatchOption o ((es ≡ []) × (fs ≡ [])) (λ f. es ≡ fs ++ f ∷ []) → es ≡ []
+shown_none None es fs q h = h.0
+shown_none (Some f) es fs q h = cc
+
+-- what was looked at with its value is the entry
+pub found_entry : {T V : Type 0} {rank : T → ℤ} {eq : V → V → Bool} {v : V} {f : Found T} {w : V} {e : Entry V} → IsFoundAt rank eq v f w e → entry (rank f.start) (rank f.end) w ≡ e
+found_entry {w = w} {e = e} i = ap (λ (t : ℤ × ℤ × Bool). entry t.0 t.1 w) i.found ∙ ap (entry e.lo e.hi) i.value
 
 -- as many nodes as entries
 pub length-nodes : {T V : Type 0} (rank : T → ℤ) (m : List (T × EndValue T (Option V))) → AreFull (places rank m) → length m ≡ length (full (places rank m))
 length-nodes rank m h = sym (length-map m (place_of rank)) ∙ ap length h.held ∙ length-map (full (places rank m)) held
 
-pub shorter_last : {A V : Type 0} (P : A → Entry V → Type 0) (r : Option A) (es fs : List (Entry V)) (m n : ℕ) → MatchOption r (es ≡ []) (λ f. (e : Entry V) × P f e × (es ≡ fs ++ e ∷ []))
-    → m ≡ length fs → n ≡ length es → OnSome r (m < n)
-shorter_last P None es fs m n h p q = tt
-shorter_last P (Some f) es fs m n h p q =
-    let l : length es ≡ length fs + 1 = ap length h.2 ∙ length-append fs (h.0 ∷ []) in
+pub shorter_last : {V : Type 0} (e : Entry V) (es fs : List (Entry V)) (m n : ℕ) → es ≡ fs ++ e ∷ [] → m ≡ length fs → n ≡ length es → m < n
+shorter_last e es fs m n h p q =
+    let l : length es ≡ length fs + 1 = ap length h ∙ length-append fs (e ∷ []) in
     omega arith
 
 -- what ends a list begins it in reverse
@@ -79,6 +82,9 @@ module _ {V : Type 0} (l h : ℤ) where
       pub last_covered : (s : Option (ℤ × ℤ)) → walked_covered eq v l h s es ≡ seen_covered l h s f
       last_covered s = ap (walked_covered eq v l h s) parts ∙ ap (λ b. cond b (seen_covered l h s (found_in eq v e)) (walked_covered eq v l h (seen_covered l h s (found_in eq v e)) fs)) here ∙ ap (seen_covered l h s) (sym is)
 
+      pub last_value : (o : Option V) → walked_value l o es ≡ seen_value l o e
+      last_value o = ap (walked_value l o) parts ∙ ap (λ b. cond b (seen_value l o e) (walked_value l (seen_value l o e) fs)) here
+
       pub last_answers : answers l es ≡ 1
       last_answers = ap (answers l) parts ∙ ap (λ b. cond b 1 (answers l fs + 1)) here
 
@@ -99,6 +105,9 @@ module _ {V : Type 0} (l h : ℤ) where
       pub next_covered : (s : Option (ℤ × ℤ)) → walked_covered eq v l h s es ≡ walked_covered eq v l h (seen_covered l h s f) fs
       next_covered s = ap (walked_covered eq v l h s) parts ∙ ap (λ b. cond b (seen_covered l h s (found_in eq v e)) (walked_covered eq v l h (seen_covered l h s (found_in eq v e)) fs)) here_not
           ∙ ap (λ t. walked_covered eq v l h (seen_covered l h s t) fs) (sym is)
+
+      pub next_value : (o : Option V) → walked_value l o es ≡ walked_value l (seen_value l o e) fs
+      next_value o = ap (walked_value l o) parts ∙ ap (λ b. cond b (seen_value l o e) (walked_value l (seen_value l o e) fs)) here_not
 
       pub next_answers : answers l es ≡ answers l fs + 1
       next_answers = ap (answers l) parts ∙ ap (λ b. cond b 1 (answers l fs + 1)) here_not

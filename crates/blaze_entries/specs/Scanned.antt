@@ -1,7 +1,7 @@
 -- A walk down the entries from above a range, and what it has seen.
 use Rattle.std.specs.Prelude.{ℕ, ◌+◌, ℤ, pos, ◌+ℤ◌, int_lt, int_le, Bool, ◌||◌, if◌then◌else◌, List, [], ◌∷◌, Option, Some, None}
 use Rattle.std.specs.Option.{option_map}
-use Rattle.blaze_entries.specs.Entries.{Entry}
+use Rattle.blaze_entries.specs.Entries.{Entry, holds}
 use Rattle.blaze_entries.specs.Found.{found_in, found_of}
 use Rattle.blaze_entries.specs.Overlap.{overlap}
 use Rattle.blaze_entries.specs.declared.scan.Plan.{Plan}
@@ -53,6 +53,15 @@ module _ {V : Type 0} (eq : V → V → Bool) (v : V) (l h : ℤ) where
   abbrev pub walked_covered : Option (ℤ × ℤ) → List (Entry V) → Option (ℤ × ℤ)
   walked_covered c [] = c
   walked_covered c (e ∷ es) = if int_lt e.lo l then seen_covered l h c (found_in eq v e) else walked_covered (seen_covered l h c (found_in eq v e)) es
+
+-- the value of the key l, after an entry
+abbrev pub seen_value : {V : Type 0} → ℤ → Option V → Entry V → Option V
+seen_value l o e = if holds e l then Some e.value else o
+
+-- of a walk's entries, as `walked`
+abbrev pub walked_value : {V : Type 0} → ℤ → Option V → List (Entry V) → Option V
+walked_value l o [] = o
+walked_value l o (e ∷ es) = if int_lt e.lo l then seen_value l o e else walked_value l (seen_value l o e) es
 
 -- how many answers it takes: one for each entry, and `None` where no entry is left
 abbrev pub answers : {V : Type 0} → ℤ → List (Entry V) → ℕ

@@ -1,32 +1,28 @@
 //! The entries with their counters. Each look here is counted: there is no other way to read an entry.
-ghost use Rattle.std.specs.Prelude.{◌≡◌, ◌+◌, [], ◌∷◌, pos, ◌+ℤ◌, ◌≤ℤ◌, ◌<ℤ◌, length, map, reverse};
+ghost use Rattle.std.specs.Prelude.{◌≡◌, ◌+◌, [], ◌∷◌, ◌<ℤ◌, length, map, slice_get};
 ghost use Rattle.std.specs.Prelude.{Some, None, IsSome, IfSome, OnSome, MatchOption, OnOk, OnErr, IfOk};
-ghost use Rattle.std.specs.Prelude.{slice_get};
 ghost use Rattle.std.specs.List.Retain.{IsFiltered};
 ghost use Rattle.std.specs.Option.{option_map};
 ghost use Rattle.blaze_entries.specs.Answers.{AnswersAt, IsCallableAtEach};
 ghost use Rattle.blaze_entries.specs.Entries.{entry, shown_entry};
 ghost use Rattle.blaze_entries.specs.Counted.{uncounted};
 ghost use Rattle.blaze_entries.specs.Cloned.{AreCloned, IsRestCloned};
-ghost use Rattle.blaze_entries.specs.Found.{found_in, found_of, range_in, ranks_of};
-ghost use Rattle.blaze_entries.specs.Scanned.{seen_of, unseen, walked, walked_covered};
-ghost use Rattle.blaze_entries.specs.Scanned.{answers, walked_keys};
-ghost use Rattle.blaze_entries.specs.Starts.{StartsAscend, below, from, last_below, first_from};
+ghost use Rattle.blaze_entries.specs.Starts.{StartsAscend, below, from};
 ghost use Rattle.blaze_entries.specs.Starts.{start_at, with_entry, without, with_end};
 ghost use Rattle.blaze_entries.specs.Starts.{with_end_value, IsStartMoved, IsFrontReplaced};
 ghost use Rattle.blaze_entries.specs.Starts.{IsCloneInserted};
 
+mod looks;
+
 use crate::build::tree_of;
 use crate::count::Count;
-use crate::found::Found;
 use crate::into_iter::IntoIter;
 use crate::nodes::{
-    EndValue, Tree, insert, move_node, node_at, node_at_or_above, node_at_or_below, node_below,
-    remove, replace, replace_front, set_end, set_end_cloned, split_off,
+    EndValue, Tree, insert, move_node, node_at, remove, replace, replace_front, set_end,
+    set_end_cloned, split_off,
 };
-use crate::places::{cloned, found, given, range_of, rest_cloned, value_of};
+use crate::places::{cloned, given, rest_cloned, value_of};
 use crate::retain::retain;
-use crate::scan::{Plan, next_or_last, walk};
 use blaze_int::Integer;
 use std::alloc::{AllocError, Global};
 use std::collections::BTreeMap;
@@ -112,26 +108,6 @@ impl<T: Integer, V> Counted<T, V> {
         ensures { StartsAscend T.low T.high self.now.entries }
     {
         let _ = &self.tree;
-    }
-
-    /// The first and last key of the entry with the greatest start up to a key.
-    pub fn range_at_or_below(&mut self, key: T) -> Option<(T, T)>
-        ensures found { option_map (ranks_of T.rank) result
-            ≡ option_map range_in (last_below (T.rank key +ℤ pos 1) self.old.entries) }
-        ensures looked { self.new ≡ record self.old { looks = self.old.looks + 1 } }
-    {
-        self.looks = self.looks.one_more();
-        range_of(node_at_or_below(&self.tree, key))
-    }
-
-    /// The first and last key of the entry with the least start from a key on.
-    pub fn range_at_or_above(&mut self, key: T) -> Option<(T, T)>
-        ensures found { option_map (ranks_of T.rank) result
-            ≡ option_map range_in (first_from (T.rank key) self.old.entries) }
-        ensures looked { self.new ≡ record self.old { looks = self.old.looks + 1 } }
-    {
-        self.looks = self.looks.one_more();
-        range_of(node_at_or_above(&self.tree, key))
     }
 
     /// Moves the end of the entry at a start.
@@ -342,67 +318,6 @@ impl<T: Integer, V: Drop> Counted<T, V> {
     }
 }
 
-impl<T: Integer, V: Eq> Counted<T, V> {
-    /// The entry with the greatest start below a key.
-    pub fn below(&mut self, key: T, value: &V) -> Option<Found<T>>
-        ensures found { option_map (found_of T.rank) result
-            ≡ option_map (found_in V.eq value.now) (last_below (T.rank key) self.old.entries) }
-        ensures looked { self.new ≡ record self.old { looks = self.old.looks + 1 } }
-    {
-        self.looks = self.looks.one_more();
-        found(node_below(&self.tree, key), value)
-    }
-
-    /// The entry with the greatest start up to a key.
-    pub fn at_or_below(&mut self, key: T, value: &V) -> Option<Found<T>>
-        ensures found { option_map (found_of T.rank) result
-            ≡ option_map (found_in V.eq value.now)
-            (last_below (T.rank key +ℤ pos 1) self.old.entries) }
-        ensures looked { self.new ≡ record self.old { looks = self.old.looks + 1 } }
-    {
-        self.looks = self.looks.one_more();
-        found(node_at_or_below(&self.tree, key), value)
-    }
-
-    /// The entry with the least start from a key on.
-    pub fn at_or_above(&mut self, key: T, value: &V) -> Option<Found<T>>
-        ensures found { option_map (found_of T.rank) result
-            ≡ option_map (found_in V.eq value.now) (first_from (T.rank key) self.old.entries) }
-        ensures looked { self.new ≡ record self.old { looks = self.old.looks + 1 } }
-    {
-        self.looks = self.looks.one_more();
-        found(node_at_or_above(&self.tree, key), value)
-    }
-}
-
-impl<T: Integer, V: Eq> Counted<T, V> {
-    /// Walks down the entries, in one search, from the one that may start right above a range to the first that starts
-    /// below it. A length loses how many of their keys lie in the range.
-    pub fn scan(&mut self, len: T::SafeLen, lo: T, hi: T, value: &V) -> (Plan<T>, T::SafeLen)
-        requires { walked_keys (T.rank lo) (T.rank hi)
-            (reverse (below (T.rank hi +ℤ pos 2) self.old.entries))
-            ≤ℤ pos (T.SafeLen.number len) }
-        ensures plan { seen_of T.rank result.0
-            ≡ walked V.eq value.now (T.rank lo) (T.rank hi) (unseen (T.rank hi))
-            (reverse (below (T.rank hi +ℤ pos 2) self.old.entries)) }
-        ensures covered { option_map (ranks_of T.rank) result.0.covered
-            ≡ walked_covered V.eq value.now (T.rank lo) (T.rank hi) None
-            (reverse (below (T.rank hi +ℤ pos 2) self.old.entries)) }
-        ensures len { pos (T.SafeLen.number result.1)
-            +ℤ walked_keys (T.rank lo) (T.rank hi)
-            (reverse (below (T.rank hi +ℤ pos 2) self.old.entries))
-            ≡ pos (T.SafeLen.number len) }
-        ensures looked { self.new
-            ≡ record self.old {
-              looks = self.old.looks + answers (T.rank lo)
-                  (reverse (below (T.rank hi +ℤ pos 2) self.old.entries));
-            } }
-    {
-        let top = next_or_last(hi);
-        walk(&self.tree, top, len, lo, hi, value, &mut self.looks)
-    }
-}
-
 impl<T: Integer, V: Clone> Counted<T, V> {
     /// The same ranges, each with a clone of its value. Nothing is counted.
     pub(crate) fn clone(&self) -> Result<Self, AllocError>
@@ -460,10 +375,10 @@ impl<T: Integer, V: Clone> Counted<T, V> {
               entries = with_end (T.rank start) (T.rank end) self.old.entries;
               looks = self.old.looks + 1;
             }) }
-        ensures err { OnErr result (self.new ≡ self.old) }
+        ensures err { OnErr result (self.new ≡ record self.old { looks = self.old.looks + 1 }) }
     {
-        let value = set_end_cloned(&mut self.tree, start, end)?;
         self.looks = self.looks.one_more();
+        let value = set_end_cloned(&mut self.tree, start, end)?;
         Ok(value)
     }
 }

@@ -1,20 +1,20 @@
 //! A walk down the tree from above a range, in one search.
 ghost use Rattle.std.specs.Prelude.{◌≡◌, ◌⊎◌, ◌+◌, ◌++◌, ◌∷◌, [], pos, ◌+ℤ◌, ◌≤ℤ◌, ◌<◌, length};
 ghost use Rattle.std.specs.Prelude.{reverse, None, MatchOption, OnSome};
-ghost use Rattle.std.specs.Option.{option_map};
-ghost use Rattle.blaze_entries.specs.Entries.{Entry};
-ghost use Rattle.blaze_entries.specs.Found.{found_in, found_of, ranks_of};
+ghost use Rattle.std.specs.Option.{option_map, option_copied};
+ghost use Rattle.blaze_entries.specs.Entries.{Entry, entry};
+ghost use Rattle.blaze_entries.specs.Found.{found_of, ranks_of, IsFoundAt};
 ghost use Rattle.blaze_entries.specs.Places.{places, entries_of, AreFull, AreHeld};
 ghost use Rattle.blaze_entries.specs.Scanned.{seen_of, unseen, seen_end, seen_start, seen, walked};
 ghost use Rattle.blaze_entries.specs.Scanned.{with_least, seen_covered, walked_covered, answers};
-ghost use Rattle.blaze_entries.specs.Scanned.{walked_keys};
+ghost use Rattle.blaze_entries.specs.Scanned.{walked_keys, seen_value, walked_value};
 ghost use Rattle.blaze_entries.specs.Starts.{below};
 
 use crate::count::Count;
 use crate::found::Found;
 use crate::nodes::{EndValue, Tree, nodes_up_to};
 use crate::overlap::less;
-use crate::places::found;
+use crate::places::shown;
 use crate::start::Start;
 use blaze_int::Integer;
 use blaze_int::compare::{is_at_most, is_below};
@@ -116,64 +116,53 @@ impl<T: Integer> Plan<T> {
     }
 }
 
-// The last of the nodes that are left, counted.
+// What an entry from `start` up to `end` shows beside a value.
+fn beside<T: Integer, V: Eq>(start: T, end: T, other: &V, value: &V) -> Found<T>
+    ensures { found_of T.rank result ≡ (T.rank start, T.rank end, V.eq other.now value.now) }
+{
+    Found {
+        start,
+        end,
+        is_equal: *other == *value,
+    }
+}
+
+// The last of the nodes that are left, counted: what it shows beside a value, and its own value.
 fn next_found<'a, T: Integer, V: Eq>(
     nodes: &mut btree_map::Range<'a, Start<T>, EndValue<T, Option<V>>>,
     value: &V,
     looks: &mut Count,
-) -> Option<Found<T>>
+) -> Option<(Found<T>, &'a V)>
     requires { AreFull (places T.rank nodes.old) }
     ensures full { AreFull (places T.rank nodes.new) }
     ensures found { MatchOption result (entries_of T.rank nodes.old ≡ []) (λ f. (e : Entry V)
-        × (found_of T.rank f ≡ found_in V.eq value.now e)
+        × IsFoundAt T.rank V.eq value.now f.0 f.1.now e
         × (entries_of T.rank nodes.old ≡ entries_of T.rank nodes.new ++ e ∷ [])) }
     ensures looked { looks.new.number ≡ looks.old.number + 1 }
     ensures shorter { OnSome result (length nodes.new < length nodes.old) }
 {
     *looks = looks.one_more();
-    found(nodes.next_back(), value)
+    match shown(nodes.next_back()) {
+        Some(last) => Some((beside(last.0, last.1, last.2, value), last.2)),
+        None => None,
+    }
 }
 
-/// Walks down the entries from a key on, to the first that starts below a range. A length loses how many of their keys lie
-/// in the range.
-pub fn walk<T: Integer, V: Eq>(
-    tree: &Tree<T, Option<V>>,
-    top: T,
-    len: T::SafeLen,
-    lo: T,
-    hi: T,
-    value: &V,
-    looks: &mut Count,
-) -> (Plan<T>, T::SafeLen)
-    requires held { AreHeld T.low T.high (places T.rank tree.now.entries) }
-    requires len { walked_keys (T.rank lo) (T.rank hi)
-        (reverse (below (T.rank top +ℤ pos 1) (entries_of T.rank tree.now.entries)))
-        ≤ℤ pos (T.SafeLen.number len) }
-    ensures plan { seen_of T.rank result.0
-        ≡ walked V.eq value.now (T.rank lo) (T.rank hi) (unseen (T.rank hi))
-        (reverse (below (T.rank top +ℤ pos 1) (entries_of T.rank tree.now.entries))) }
-    ensures covered { option_map (ranks_of T.rank) result.0.covered
-        ≡ walked_covered V.eq value.now (T.rank lo) (T.rank hi) None
-        (reverse (below (T.rank top +ℤ pos 1) (entries_of T.rank tree.now.entries))) }
-    ensures len { pos (T.SafeLen.number result.1)
-        +ℤ walked_keys (T.rank lo) (T.rank hi)
-        (reverse (below (T.rank top +ℤ pos 1) (entries_of T.rank tree.now.entries)))
-        ≡ pos (T.SafeLen.number len) }
-    ensures looked { looks.new.number
-        ≡ looks.old.number + answers (T.rank lo)
-        (reverse (below (T.rank top +ℤ pos 1) (entries_of T.rank tree.now.entries))) }
+// The value that a key has, after a look at an entry.
+fn seen_value<'a, T: Integer, V>(
+    key: T,
+    held: Option<&'a V>,
+    found: Found<T>,
+    value: &'a V,
+) -> Option<&'a V>
+    ensures { option_copied result ≡ seen_value (T.rank key) (option_copied held.entry)
+        (entry (T.rank found.start) (T.rank found.end) value.now) }
 {
-    let mut plan = Plan::new(hi);
-    let mut left = len;
-    let mut nodes = nodes_up_to(tree, top);
-    while let Some(found) = next_found(&mut nodes, value, looks) {
-        left = less(left, found, lo, hi);
-        plan.see(lo, hi, found);
-        if is_below(found.start, lo) {
-            return (plan, left);
-        }
+    if is_at_most(found.start, key) && is_at_most(key, found.end) {
+        Some(value)
+    } else {
+        held
     }
-    (plan, left)
 }
 
 /// The key after one, or that key itself where it is the greatest.
@@ -185,4 +174,51 @@ pub fn next_or_last<T: Integer>(key: T) -> T
         Some(next) => next,
         None => key,
     }
+}
+
+/// Walks down the entries, from the one that may start right above a range to the first that starts below it, and answers what
+/// it has seen and the value that the range's first key has. A length loses how many of their keys lie in the range.
+pub fn walk<'a, T: Integer, V: Eq>(
+    tree: &'a Tree<T, Option<V>>,
+    len: T::SafeLen,
+    lo: T,
+    hi: T,
+    value: &V,
+    looks: &mut Count,
+) -> (Plan<T>, T::SafeLen, Option<&'a V>)
+    requires held { AreHeld T.low T.high (places T.rank tree.now.entries) }
+    requires len { walked_keys (T.rank lo) (T.rank hi)
+        (reverse (below (T.rank hi +ℤ pos 2) (entries_of T.rank tree.now.entries)))
+        ≤ℤ pos (T.SafeLen.number len) }
+    ensures plan { seen_of T.rank result.0
+        ≡ walked V.eq value.now (T.rank lo) (T.rank hi) (unseen (T.rank hi))
+        (reverse (below (T.rank hi +ℤ pos 2) (entries_of T.rank tree.now.entries))) }
+    ensures covered { option_map (ranks_of T.rank) result.0.covered
+        ≡ walked_covered V.eq value.now (T.rank lo) (T.rank hi) None
+        (reverse (below (T.rank hi +ℤ pos 2) (entries_of T.rank tree.now.entries))) }
+    ensures len { pos (T.SafeLen.number result.1)
+        +ℤ walked_keys (T.rank lo) (T.rank hi)
+        (reverse (below (T.rank hi +ℤ pos 2) (entries_of T.rank tree.now.entries)))
+        ≡ pos (T.SafeLen.number len) }
+    ensures value { option_copied result.2 ≡ walked_value (T.rank lo) None
+        (reverse (below (T.rank hi +ℤ pos 2) (entries_of T.rank tree.now.entries))) }
+    ensures looked { looks.new.number
+        ≡ looks.old.number + answers (T.rank lo)
+        (reverse (below (T.rank hi +ℤ pos 2) (entries_of T.rank tree.now.entries))) }
+{
+    let mut plan = Plan::new(hi);
+    let mut left = len;
+    let mut held = None;
+    let top = next_or_last(hi);
+    let mut nodes = nodes_up_to(tree, top);
+    while let Some(next) = next_found(&mut nodes, value, looks) {
+        let found = next.0;
+        left = less(left, found, lo, hi);
+        plan.see(lo, hi, found);
+        held = seen_value(lo, held, found, next.1);
+        if is_below(found.start, lo) {
+            return (plan, left, held);
+        }
+    }
+    (plan, left, held)
 }

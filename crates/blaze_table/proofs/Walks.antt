@@ -6,3 +6,5 @@ pub mod Outside
 pub mod Covering
 pub mod FewLooks
 pub mod Descents
+pub mod SeenPlans
+pub mod WalkedValues

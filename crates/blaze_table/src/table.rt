@@ -26,7 +26,7 @@ use crate::cut_range::cut_range;
 use crate::gaps::gap_round;
 use crate::retain_keys::retain_keys;
 use crate::search::{entries_ending_from, entry_above, entry_below, entry_holding};
-use crate::splice::{paint, paint_by_splice};
+use crate::splice::{insert, paint, paint_by_splice};
 use crate::split::split;
 use blaze_entries::{Entries, IntoIter, Iter, Range};
 use blaze_int::{Integer, SafeLength, differ};
@@ -245,6 +245,25 @@ impl<T: Integer, V: Eq + Clone> RangeTable<T, V> {
         let new_len = paint_by_splice(&mut self.entries.counted, old_len, lo, hi, value)?;
         self.len = new_len;
         Ok(differ(new_len, old_len))
+    }
+
+    /// Puts a value on a key, as `paint` does on a range, and answers the value that was there. Refused memory leaves the entries
+    /// unchanged.
+    pub fn insert(&mut self, key: T, value: V) -> Result<Option<V>, AllocError>
+        requires { ClonesAreAlike V.is_clone V.eq }
+        ensures ok { OnOk result (IsPainted V.eq T.low T.high
+            (entry (T.rank key) (T.rank key) value) self.old.entries self.new.entries) }
+        ensures value { IfOk result
+            (λ old. SameOption V.eq (at self.old.entries (T.rank key)) old) }
+        ensures inside { IsInside V.eq (T.rank key) (T.rank key) value self.old.entries
+            → self.new.entries ≡ self.old.entries }
+        ensures counted { OnOk result (IsCountedPaint self.old self.new) }
+        ensures err { OnErr result (self.new.entries ≡ self.old.entries) }
+    {
+        let old_len = self.len;
+        let (old, new_len) = insert(&mut self.entries.counted, old_len, key, value)?;
+        self.len = new_len;
+        Ok(old)
     }
 
     /// Takes a key out, and answers the value that was there. Refused memory leaves the entries unchanged. No memory is taken

@@ -8,7 +8,7 @@ use blaze_streams::{
 use std::alloc::{AllocError, Global};
 
 /// A closure's answers at the values of a stream, and how often it was called.
-pub fn transformed(rt: &HostRuntime) -> Result<(), Fault> {
+fn transformed(rt: &HostRuntime) -> Result<(), Fault> {
     let map = letters(rt.alloc(), &[(1, 3, 'a'), (4, 6, 'b'), (8, 9, 'z')])?;
     let mut calls = 0_u32;
     let found = transform(rt.alloc(), map, |value: Owned<char>| {
@@ -21,7 +21,7 @@ pub fn transformed(rt: &HostRuntime) -> Result<(), Fault> {
 }
 
 /// Every key, with what a stream has there.
-pub fn filled(rt: &HostRuntime) -> Result<(), Fault> {
+fn filled(rt: &HostRuntime) -> Result<(), Fault> {
     let alloc = rt.alloc();
     let list = vec![in alloc; (1..=3_u8, Owned('r'))]?;
     let map = CheckSortedDisjointMap::new(list)?;
@@ -42,7 +42,7 @@ fn lent(alloc: Global, start: i64, end: i64, value: &char) -> Result<Lent<'_>, F
 }
 
 /// The segments of two streams that a join is asked for.
-pub fn joined(rt: &HostRuntime) -> Result<(), Fault> {
+fn joined(rt: &HostRuntime) -> Result<(), Fault> {
     let alloc = rt.alloc();
     for kind in [JoinKind::Full, JoinKind::Left, JoinKind::Inner] {
         let left = lent(alloc, 1, 5, &'a')?;
@@ -55,7 +55,7 @@ pub fn joined(rt: &HostRuntime) -> Result<(), Fault> {
 }
 
 /// What a closure answers at the segments of a full join, and how often it was called.
-pub fn full_joined(rt: &HostRuntime) -> Result<(), Fault> {
+fn full_joined(rt: &HostRuntime) -> Result<(), Fault> {
     let alloc = rt.alloc();
     let (one, two) = (lent(alloc, 1, 5, &'a')?, lent(alloc, 4, 8, &'b')?);
     let mut calls = 0_u32;
@@ -70,7 +70,7 @@ pub fn full_joined(rt: &HostRuntime) -> Result<(), Fault> {
 }
 
 /// What closures answer at the segments of a left join and of an inner join.
-pub fn other_joined(rt: &HostRuntime) -> Result<(), Fault> {
+fn other_joined(rt: &HostRuntime) -> Result<(), Fault> {
     let alloc = rt.alloc();
     let (one, two) = (lent(alloc, 1, 5, &'a')?, lent(alloc, 4, 8, &'b')?);
     let left = |_left: &char, right: Option<&char>| right.is_some();
@@ -84,7 +84,7 @@ pub fn other_joined(rt: &HostRuntime) -> Result<(), Fault> {
 }
 
 /// The segments of lists, and of no list.
-pub fn of_lists(rt: &HostRuntime) -> Result<(), AllocError> {
+fn of_lists(rt: &HostRuntime) -> Result<(), AllocError> {
     let alloc = rt.alloc();
     let first = vec![in alloc; (0, 3), (4, 9)]?;
     let second = vec![in alloc; (5, 14)]?;
@@ -96,5 +96,16 @@ pub fn of_lists(rt: &HostRuntime) -> Result<(), AllocError> {
     }
     let none: Vec<Vec<(char, char)>> = Vec::new(alloc);
     let _ = println!(rt; "{}", segments(alloc, &none)?.len());
+    Ok(())
+}
+
+/// Makes all calls of this file.
+pub fn all(rt: &HostRuntime) -> Result<(), Fault> {
+    transformed(rt)?;
+    filled(rt)?;
+    joined(rt)?;
+    full_joined(rt)?;
+    other_joined(rt)?;
+    of_lists(rt)?;
     Ok(())
 }

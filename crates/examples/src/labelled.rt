@@ -71,7 +71,7 @@ fn show(rt: &HostRuntime, map: &Map) {
 }
 
 /// Paints with equal values: the value that is stored stays inside an entry that has it.
-pub fn coarse(rt: &HostRuntime) -> Result<(), AllocError> {
+fn coarse(rt: &HostRuntime) -> Result<(), AllocError> {
     let mut map: Map = RangeMapBlaze::new(rt.alloc());
     let first = map.ranges_insert(1..=9, heard(1, 'x'))?;
     let inside = map.ranges_insert(3..=4, heard(1, 'y'))?;
@@ -85,7 +85,7 @@ pub fn coarse(rt: &HostRuntime) -> Result<(), AllocError> {
 }
 
 /// A map takes another whose last value refuses its clone.
-pub fn refused_append(rt: &HostRuntime) -> Result<(), AllocError> {
+fn refused_append(rt: &HostRuntime) -> Result<(), AllocError> {
     let mut map: Map = RangeMapBlaze::new(rt.alloc());
     let _ = map.ranges_insert(1..=3, heard(1, 'a'))?;
     let mut other: Map = RangeMapBlaze::new(rt.alloc());
@@ -98,7 +98,7 @@ pub fn refused_append(rt: &HostRuntime) -> Result<(), AllocError> {
 }
 
 /// Pairs by value, of which the last ones refuse their clones.
-pub fn refused_pairs(rt: &HostRuntime) -> Result<(), AllocError> {
+fn refused_pairs(rt: &HostRuntime) -> Result<(), AllocError> {
     let mut map: Map = RangeMapBlaze::new(rt.alloc());
     let _ = map.ranges_insert(1..=1, deaf(7))?;
     let _ = map.ranges_insert(3..=5, deaf(8))?;
@@ -113,11 +113,20 @@ pub fn refused_pairs(rt: &HostRuntime) -> Result<(), AllocError> {
 }
 
 /// Keys by value: no value is cloned.
-pub fn keys_alone(rt: &HostRuntime) -> Result<(), AllocError> {
+fn keys_alone(rt: &HostRuntime) -> Result<(), AllocError> {
     let mut map: Map = RangeMapBlaze::new(rt.alloc());
     let _ = map.ranges_insert(1..=2, deaf(7))?;
     for key in map.into_keys() {
         let _ = println!(rt; "{key}");
     }
+    Ok(())
+}
+
+/// Makes all calls of this file.
+pub fn all(rt: &HostRuntime) -> Result<(), AllocError> {
+    coarse(rt)?;
+    refused_append(rt)?;
+    refused_pairs(rt)?;
+    keys_alone(rt)?;
     Ok(())
 }

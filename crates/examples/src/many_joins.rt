@@ -37,7 +37,7 @@ fn sum_of_some(row: &[Option<&u32>]) -> u32 {
 }
 
 /// Joins of three maps in an array, of two in a list, and of none.
-pub fn of_maps(rt: &HostRuntime) -> Result<(), AllocError> {
+fn of_maps(rt: &HostRuntime) -> Result<(), AllocError> {
     let alloc = rt.alloc();
     let a = numbers(alloc, &[(0, 9, 1), (10, 19, 2)])?;
     let b = numbers(alloc, &[(5, 14, 30)])?;
@@ -78,7 +78,7 @@ fn streams_of<'a>(
 }
 
 /// Joins of streams.
-pub fn of_streams(rt: &HostRuntime) -> Result<(), AllocError> {
+fn of_streams(rt: &HostRuntime) -> Result<(), AllocError> {
     let alloc = rt.alloc();
     let maps = [
         numbers(alloc, &[(0, 9, 1)])?,
@@ -109,7 +109,7 @@ fn one_range_each(alloc: Global, ranges: &[(i64, i64, char)]) -> Result<Vec<Lett
 }
 
 /// The events of sweeps.
-pub fn sweeps(rt: &HostRuntime) -> Result<(), Fault> {
+fn sweeps(rt: &HostRuntime) -> Result<(), Fault> {
     let alloc = rt.alloc();
     let streams = one_range_each(alloc, &[(0, 9, 'a'), (5, 14, 'b'), (9, 12, 'c')])?;
     let sweep = sweep_of(alloc, streams)?;
@@ -121,5 +121,13 @@ pub fn sweeps(rt: &HostRuntime) -> Result<(), Fault> {
     for event in streams.sweep(alloc)? {
         let _ = println!(rt; "{event:?}");
     }
+    Ok(())
+}
+
+/// Makes all calls of this file.
+pub fn all(rt: &HostRuntime) -> Result<(), Fault> {
+    of_maps(rt)?;
+    of_streams(rt)?;
+    sweeps(rt)?;
     Ok(())
 }

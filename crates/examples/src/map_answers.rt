@@ -39,14 +39,14 @@ fn sums(
 }
 
 /// Full joins of two maps.
-pub fn full_joins(rt: &HostRuntime) -> Result<(), AllocError> {
+fn full_joins(rt: &HostRuntime) -> Result<(), AllocError> {
     let ones = one_range(rt.alloc(), 1, 5, 1)?;
     let tens = one_range(rt.alloc(), 4, 8, 10)?;
     sums(rt, &ones, &tens)
 }
 
 /// The other joins of two maps.
-pub fn joins(rt: &HostRuntime) -> Result<(), AllocError> {
+fn joins(rt: &HostRuntime) -> Result<(), AllocError> {
     let ones = one_range(rt.alloc(), 1, 5, 1)?;
     let tens = one_range(rt.alloc(), 4, 8, 10)?;
     let mut calls = 0u32;
@@ -61,7 +61,7 @@ pub fn joins(rt: &HostRuntime) -> Result<(), AllocError> {
 }
 
 /// Joins of two empty maps.
-pub fn empty_joins(rt: &HostRuntime) -> Result<(), AllocError> {
+fn empty_joins(rt: &HostRuntime) -> Result<(), AllocError> {
     let left: RangeMapBlaze<i64, u32> = RangeMapBlaze::new(rt.alloc());
     let right: RangeMapBlaze<i64, u32> = RangeMapBlaze::new(rt.alloc());
     let mut calls = 0u32;
@@ -74,7 +74,7 @@ pub fn empty_joins(rt: &HostRuntime) -> Result<(), AllocError> {
 }
 
 /// Other values, asked once for each entry.
-pub fn other_values(rt: &HostRuntime) -> Result<(), AllocError> {
+fn other_values(rt: &HostRuntime) -> Result<(), AllocError> {
     let map = words(rt.alloc(), &[(1, 3, "ab"), (4, 6, "cd"), (8, 9, "efg")])?;
     let mut calls = 0u32;
     let lengths = map.transform_values(|word| {
@@ -86,7 +86,7 @@ pub fn other_values(rt: &HostRuntime) -> Result<(), AllocError> {
 }
 
 /// A value that is painted inside an entry with an equal one is not asked at.
-pub fn other_labels(rt: &HostRuntime) -> Result<(), AllocError> {
+fn other_labels(rt: &HostRuntime) -> Result<(), AllocError> {
     let mut coarse: Map = RangeMapBlaze::new(rt.alloc());
     let _ = coarse.ranges_insert(1..=9, heard(1, 'x'))?;
     let _ = coarse.ranges_insert(3..=4, heard(1, 'y'))?;
@@ -100,7 +100,7 @@ pub fn other_labels(rt: &HostRuntime) -> Result<(), AllocError> {
 }
 
 /// Words numbered as they are first seen.
-pub fn first_seen(rt: &HostRuntime) -> Result<(), AllocError> {
+fn first_seen(rt: &HostRuntime) -> Result<(), AllocError> {
     let colours = words(
         rt.alloc(),
         &[(0, 9, "red"), (10, 19, "blue"), (20, 29, "red")],
@@ -121,11 +121,23 @@ pub fn first_seen(rt: &HostRuntime) -> Result<(), AllocError> {
 }
 
 /// Filled gaps.
-pub fn filled(rt: &HostRuntime) -> Result<(), AllocError> {
+fn filled(rt: &HostRuntime) -> Result<(), AllocError> {
     let mut map: RangeMapBlaze<u8, char> = RangeMapBlaze::new(rt.alloc());
     let _ = println!(rt; "{}", map.fill_gaps()?);
     let _ = map.ranges_insert(1..=3, 'r')?;
     let _ = map.ranges_insert(100.., 'b')?;
     let _ = println!(rt; "{}", map.fill_gaps()?);
+    Ok(())
+}
+
+/// Makes all calls of this file.
+pub fn all(rt: &HostRuntime) -> Result<(), AllocError> {
+    full_joins(rt)?;
+    joins(rt)?;
+    empty_joins(rt)?;
+    other_values(rt)?;
+    other_labels(rt)?;
+    first_seen(rt)?;
+    filled(rt)?;
     Ok(())
 }

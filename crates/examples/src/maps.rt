@@ -15,7 +15,7 @@ pub fn words(alloc: Global, ranges: &[(i64, i64, &'static str)]) -> Result<Words
 }
 
 /// Loops over a map, lent and by value.
-pub fn loops(rt: &HostRuntime) -> Result<(), AllocError> {
+fn loops(rt: &HostRuntime) -> Result<(), AllocError> {
     let map = words(rt.alloc(), &[(1, 2, "a"), (5, 5, "b")])?;
     for (key, value) in &map {
         let _ = println!(rt; "{key} {value}");
@@ -38,7 +38,7 @@ fn adapted(rt: &HostRuntime, map: &Words) -> Result<(), AllocError> {
 }
 
 /// Entries and keys that closures with a state keep.
-pub fn kept(rt: &HostRuntime) -> Result<(), AllocError> {
+fn kept(rt: &HostRuntime) -> Result<(), AllocError> {
     let mut map = words(rt.alloc(), &[(0, 3, "a"), (4, 7, "b"), (9, 9, "a")])?;
     let mut calls = 0u8;
     map.ranges_retain(|range, word| {
@@ -66,7 +66,7 @@ fn exactly_one<T: Integer>(
 }
 
 /// Operators in a function over any key type.
-pub fn any_key_type(rt: &HostRuntime) -> Result<(), AllocError> {
+fn any_key_type(rt: &HostRuntime) -> Result<(), AllocError> {
     let mut left: RangeMapBlaze<u8, char> = RangeMapBlaze::new(rt.alloc());
     let _ = left.ranges_insert(0..=9, 'a')?;
     let mut right = RangeMapBlaze::new(rt.alloc());
@@ -77,7 +77,7 @@ pub fn any_key_type(rt: &HostRuntime) -> Result<(), AllocError> {
 }
 
 /// Maps of streams.
-pub fn of_streams(rt: &HostRuntime) -> Result<(), AllocError> {
+fn of_streams(rt: &HostRuntime) -> Result<(), AllocError> {
     let map = words(rt.alloc(), &[(1, 3, "a"), (4, 6, "b")])?;
     let made = RangeMapBlaze::from_sorted_disjoint_map(rt.alloc(), map.range_values())?;
     let again = made.range_values().into_range_map_blaze(rt.alloc())?;
@@ -86,7 +86,7 @@ pub fn of_streams(rt: &HostRuntime) -> Result<(), AllocError> {
 }
 
 /// The order of maps.
-pub fn orders(rt: &HostRuntime) -> Result<(), AllocError> {
+fn orders(rt: &HostRuntime) -> Result<(), AllocError> {
     let left = words(rt.alloc(), &[(1, 3, "a")])?;
     let right = words(rt.alloc(), &[(1, 2, "a"), (3, 3, "b")])?;
     let mut turns = Turns::new();
@@ -94,5 +94,15 @@ pub fn orders(rt: &HostRuntime) -> Result<(), AllocError> {
     let _ = println!(rt; "{:?}", right.cmp_counted(&left, &mut turns));
     let _ = println!(rt; "{:?}", left.cmp_counted(&left, &mut turns));
     let _ = println!(rt; "{:?} {}", left.partial_cmp(&right), left < right);
+    Ok(())
+}
+
+/// Makes all calls of this file.
+pub fn all(rt: &HostRuntime) -> Result<(), AllocError> {
+    loops(rt)?;
+    kept(rt)?;
+    any_key_type(rt)?;
+    of_streams(rt)?;
+    orders(rt)?;
     Ok(())
 }

@@ -50,7 +50,7 @@ fn stream_of(alloc: Global, ranges: &[(i64, i64, u32)]) -> Result<Stream, AllocE
 }
 
 /// A merge in which no piece leaves a rest of its range behind.
-pub fn merged(rt: &HostRuntime) -> Result<(), AllocError> {
+fn merged(rt: &HostRuntime) -> Result<(), AllocError> {
     let alloc = rt.alloc();
     let left = stream_of(alloc, &[(0, 9, 1), (20, 29, 1)])?;
     let _ = println!(rt; "{}", left.least_len());
@@ -62,7 +62,7 @@ pub fn merged(rt: &HostRuntime) -> Result<(), AllocError> {
 }
 
 /// A merge in which a piece leaves a rest of its range behind.
-pub fn refused_merge(rt: &HostRuntime) -> Result<(), AllocError> {
+fn refused_merge(rt: &HostRuntime) -> Result<(), AllocError> {
     let alloc = rt.alloc();
     let left = stream_of(alloc, &[(0, 9, 1)])?;
     let right = stream_of(alloc, &[(4, 4, 2)])?;
@@ -131,7 +131,7 @@ fn operate<A: Drop, B: Drop, F: FnOnce(A, B) -> Result<Map, AllocError> + Drop>(
 }
 
 /// Operators on maps by value, in which no piece leaves a rest of its range behind; the same on maps that are lent.
-pub fn operated(rt: &HostRuntime) -> Result<(), AllocError> {
+fn operated(rt: &HostRuntime) -> Result<(), AllocError> {
     let alloc = rt.alloc();
     operate(rt, "a & b", left(alloc), right(alloc), |a, b| a & b)?;
     operate(rt, "&a & b", left(alloc), right(alloc), |a, b| &a & b)?;
@@ -144,7 +144,7 @@ pub fn operated(rt: &HostRuntime) -> Result<(), AllocError> {
 }
 
 /// The same with a set.
-pub fn operated_with_set(rt: &HostRuntime) -> Result<(), AllocError> {
+fn operated_with_set(rt: &HostRuntime) -> Result<(), AllocError> {
     let alloc = rt.alloc();
     operate(rt, "a & s", left(alloc), set(alloc), |a, s| a & s)?;
     operate(rt, "a & &s", left(alloc), set(alloc), |a, s| a & &s)?;
@@ -199,7 +199,7 @@ fn even_set(alloc: Global) -> Result<RangeSetBlaze<i64>, AllocError> {
 }
 
 /// A whole entry cut out of a map of many, by value and lent; then a range inside an entry, whose value is cloned.
-pub fn cut_from_many(rt: &HostRuntime) -> Result<(), AllocError> {
+fn cut_from_many(rt: &HostRuntime) -> Result<(), AllocError> {
     let alloc = rt.alloc();
     operate(rt, "many - a", many(alloc), few(alloc), |m, a| m - a)?;
     operate(rt, "many - &a", many(alloc), few(alloc), |m, a| m - &a)?;
@@ -210,7 +210,7 @@ pub fn cut_from_many(rt: &HostRuntime) -> Result<(), AllocError> {
 }
 
 /// The keys of exactly one of a map of many and another.
-pub fn of_exactly_one(rt: &HostRuntime) -> Result<(), AllocError> {
+fn of_exactly_one(rt: &HostRuntime) -> Result<(), AllocError> {
     let alloc = rt.alloc();
     operate(rt, "many ^ c", many(alloc), apart(alloc), |m, c| m ^ c)?;
     operate(rt, "c ^ many", many(alloc), apart(alloc), |m, c| c ^ m)?;
@@ -218,7 +218,7 @@ pub fn of_exactly_one(rt: &HostRuntime) -> Result<(), AllocError> {
 }
 
 /// A map of few entries, by value, on the keys of a map of many and off them; then lent.
-pub fn kept_by_many(rt: &HostRuntime) -> Result<(), AllocError> {
+fn kept_by_many(rt: &HostRuntime) -> Result<(), AllocError> {
     let alloc = rt.alloc();
     operate(rt, "many & a", many(alloc), few(alloc), |m, a| m & a)?;
     operate(rt, "&many & a", many(alloc), few(alloc), |m, a| &m & a)?;
@@ -227,7 +227,7 @@ pub fn kept_by_many(rt: &HostRuntime) -> Result<(), AllocError> {
 }
 
 /// The same with a set of many.
-pub fn kept_by_set(rt: &HostRuntime) -> Result<(), AllocError> {
+fn kept_by_set(rt: &HostRuntime) -> Result<(), AllocError> {
     let alloc = rt.alloc();
     operate(rt, "a & &t", few(alloc), even_set(alloc), |a, t| a & &t)?;
     operate(rt, "a - &t", few(alloc), even_set(alloc), |a, t| a - &t)?;
@@ -235,7 +235,7 @@ pub fn kept_by_set(rt: &HostRuntime) -> Result<(), AllocError> {
 }
 
 /// Pairs of which each is one piece, and a pair that is cut in two.
-pub fn painted(rt: &HostRuntime) -> Result<(), AllocError> {
+fn painted(rt: &HostRuntime) -> Result<(), AllocError> {
     let alloc = rt.alloc();
     let pairs = vec![in alloc;
         (0i64, 10, Uncloned(1)),
@@ -247,5 +247,19 @@ pub fn painted(rt: &HostRuntime) -> Result<(), AllocError> {
     }
     let pairs = vec![in alloc; (0i64, 10, Uncloned(1)), (5, 7, Uncloned(2))]?;
     let _ = println!(rt; "refused: {}", canonical_of(alloc, pairs).is_err());
+    Ok(())
+}
+
+/// Makes all calls of this file.
+pub fn all(rt: &HostRuntime) -> Result<(), AllocError> {
+    merged(rt)?;
+    refused_merge(rt)?;
+    operated(rt)?;
+    operated_with_set(rt)?;
+    cut_from_many(rt)?;
+    of_exactly_one(rt)?;
+    kept_by_many(rt)?;
+    kept_by_set(rt)?;
+    painted(rt)?;
     Ok(())
 }

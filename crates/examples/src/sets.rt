@@ -12,7 +12,7 @@ fn three_ranges(rt: &HostRuntime) -> Result<RangeSetBlaze<i64>, AllocError> {
 }
 
 /// The ranges of a set from both ends.
-pub fn ends(rt: &HostRuntime) -> Result<(), AllocError> {
+fn ends(rt: &HostRuntime) -> Result<(), AllocError> {
     let set = three_ranges(rt)?;
     let mut ranges = set.ranges();
     let _ = println!(rt; "ranges: {:?}", ranges.size_hint());
@@ -25,7 +25,7 @@ pub fn ends(rt: &HostRuntime) -> Result<(), AllocError> {
 }
 
 /// The ranges of a set by value from both ends.
-pub fn ends_by_value(rt: &HostRuntime) -> Result<(), AllocError> {
+fn ends_by_value(rt: &HostRuntime) -> Result<(), AllocError> {
     let set = three_ranges(rt)?;
     let mut taken = set.into_ranges();
     let _ = println!(rt; "into_ranges: {:?}", taken.size_hint());
@@ -62,8 +62,16 @@ fn lacking(rt: &HostRuntime, ranges: Vec<RangeInclusive<u8>>) -> Result<(), Faul
 }
 
 /// The keys that sets lack.
-pub fn complements(rt: &HostRuntime) -> Result<(), Fault> {
+fn complements(rt: &HostRuntime) -> Result<(), Fault> {
     lacking(rt, vec![in rt.alloc(); 10..=25, 30..=40]?)?;
     lacking(rt, Vec::new(rt.alloc()))?;
     lacking(rt, vec![in rt.alloc(); 0..=255]?)
+}
+
+/// Makes all calls of this file.
+pub fn all(rt: &HostRuntime) -> Result<(), Fault> {
+    ends(rt)?;
+    ends_by_value(rt)?;
+    complements(rt)?;
+    Ok(())
 }

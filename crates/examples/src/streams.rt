@@ -68,14 +68,14 @@ fn show_violation(rt: &HostRuntime, items: &[(i64, i64, char)]) {
 }
 
 /// Lists that don't keep the law of a stream.
-pub fn violations(rt: &HostRuntime) {
+fn violations(rt: &HostRuntime) {
     show_violation(rt, &[(1, 3, 'a'), (3, 5, 'b')]);
     show_violation(rt, &[(1, 2, 'a'), (3, 4, 'a')]);
     show_violation(rt, &[(5, 4, 'a')]);
 }
 
 /// A list that keeps the law of a stream.
-pub fn checked_list(rt: &HostRuntime) -> Result<(), Fault> {
+fn checked_list(rt: &HostRuntime) -> Result<(), Fault> {
     let kept = letters(rt.alloc(), &[(1, 3, 'a'), (4, 4, 'b')])?;
     let _ = println!(rt; "{:?}", kept.size_hint());
     show(rt, "a list", kept);
@@ -83,7 +83,7 @@ pub fn checked_list(rt: &HostRuntime) -> Result<(), Fault> {
 }
 
 /// A list of ranges alone that doesn't keep the law of a stream, and one that does.
-pub fn checked_ranges(rt: &HostRuntime) -> Result<(), Fault> {
+fn checked_ranges(rt: &HostRuntime) -> Result<(), Fault> {
     let touching = set_of(rt.alloc(), &[(1, 3), (4, 5)]);
     if let Err(Fault::NotSorted(fault)) = touching {
         let _ = println!(rt; "{fault:?}");
@@ -110,7 +110,7 @@ fn carry<VC: ValueCarrier<Value: Debug>>(rt: &HostRuntime, carrier: VC) -> Resul
 }
 
 /// Carriers of each kind.
-pub fn carriers(rt: &HostRuntime) -> Result<(), AllocError> {
+fn carriers(rt: &HostRuntime) -> Result<(), AllocError> {
     carry(rt, true)?;
     carry(rt, &'a')?;
     carry(rt, Owned('b'))?;
@@ -121,7 +121,7 @@ pub fn carriers(rt: &HostRuntime) -> Result<(), AllocError> {
 }
 
 /// Carriers of unequal values, and a value that one doesn't have.
-pub fn unequal(rt: &HostRuntime) {
+fn unequal(rt: &HostRuntime) {
     let flags = true.value_eq(&false);
     let letters = Owned('a').value_eq(&Owned('b'));
     let _ = println!(rt; "{flags} {letters}");
@@ -140,7 +140,7 @@ fn twice(alloc: Global) -> Result<Letters, Fault> {
 }
 
 /// Two streams as one.
-pub fn of_two(rt: &HostRuntime) -> Result<(), Fault> {
+fn of_two(rt: &HostRuntime) -> Result<(), Fault> {
     let alloc = rt.alloc();
     let (one, next) = ([(2, 6, 'a')], [(4, 5, 'a')]);
     operate(
@@ -183,7 +183,7 @@ fn set_of(alloc: Global, ranges: &[(i64, i64)]) -> Result<CheckSortedDisjoint<i6
 }
 
 /// A stream on the keys of a set, and off them.
-pub fn with_sets(rt: &HostRuntime) -> Result<(), Fault> {
+fn with_sets(rt: &HostRuntime) -> Result<(), Fault> {
     let alloc = rt.alloc();
     operate(
         rt,
@@ -220,7 +220,7 @@ fn one_range(alloc: Global, start: u8, value: char) -> Result<RangeTable<u8, cha
 }
 
 /// Streams of lent tables.
-pub fn of_tables(rt: &HostRuntime) -> Result<(), AllocError> {
+fn of_tables(rt: &HostRuntime) -> Result<(), AllocError> {
     let alloc = rt.alloc();
     let map = one_range(alloc, 0, 'a')?;
     let last = one_range(alloc, 255, 'b')?;
@@ -248,7 +248,7 @@ fn show_ends<S: BothEnds<i64, Rc<char>>>(rt: &HostRuntime, mut stream: S) {
 }
 
 /// A stream by value, from both ends.
-pub fn from_both_ends(rt: &HostRuntime) -> Result<(), AllocError> {
+fn from_both_ends(rt: &HostRuntime) -> Result<(), AllocError> {
     let mut table = RangeTable::new(rt.alloc());
     let _ = table.paint(4, 6, 'b')?;
     let _ = table.paint(1, 3, 'a')?;
@@ -256,5 +256,19 @@ pub fn from_both_ends(rt: &HostRuntime) -> Result<(), AllocError> {
     let mut table = RangeTable::new(rt.alloc());
     let _ = table.paint(1i64, 3, 'a')?;
     show(rt, "by value", OwnedRangeValuesIter::new(table));
+    Ok(())
+}
+
+/// Makes all calls of this file.
+pub fn all(rt: &HostRuntime) -> Result<(), Fault> {
+    violations(rt);
+    checked_list(rt)?;
+    checked_ranges(rt)?;
+    carriers(rt)?;
+    unequal(rt);
+    of_two(rt)?;
+    with_sets(rt)?;
+    of_tables(rt)?;
+    from_both_ends(rt)?;
     Ok(())
 }

@@ -1,4 +1,4 @@
-//! Tables: both paints, neighbours, what closures keep, canonical lists.
+//! Tables: both paints, keys put in, neighbours, what closures keep, canonical lists.
 use blaze_table::RangeTable;
 use std::alloc::{AllocError, Global};
 use std::cell::Cell;
@@ -48,7 +48,7 @@ fn paint(
 }
 
 /// Paints that join, cover, lengthen and trim entries.
-pub fn paints(rt: &HostRuntime) -> Result<(), AllocError> {
+fn paints(rt: &HostRuntime) -> Result<(), AllocError> {
     let rows: [(&[(i64, i64, char)], (i64, i64, char)); 5] = [
         (&[(0, 2, 'a'), (3, 5, 'b'), (6, 9, 'a')], (3, 5, 'a')),
         (&[(0, 2, 'a'), (4, 6, 'b'), (8, 9, 'c')], (1, 8, 'd')),
@@ -118,13 +118,24 @@ fn paint_in_leaf(rt: &HostRuntime, count: u8) -> Result<(), AllocError> {
 
 /// Paints that put two entries into a leaf with room for one more, and for none. Each request for memory between the lines
 /// `begin` and `end` of the standard error is refused in turn by tests/table_refusals.sh.
-pub fn paints_in_leaves(rt: &HostRuntime) -> Result<(), AllocError> {
+fn paints_in_leaves(rt: &HostRuntime) -> Result<(), AllocError> {
     paint_in_leaf(rt, 14)?;
     paint_in_leaf(rt, 15)
 }
 
+/// Keys put in: inside an entry, off all entries, and with the value that is there.
+fn inserts(rt: &HostRuntime) -> Result<(), AllocError> {
+    let mut table = table_of(rt.alloc(), &[(0, 9, 'a')])?;
+    for (key, value) in [(4, 'b'), (20, 'c'), (4, 'b')] {
+        let old = table.insert(key, value)?;
+        let _ = println!(rt; "insert {key}: {old:?}");
+    }
+    show(rt, &table);
+    Ok(())
+}
+
 /// Ranges taken out: over several entries, inside one, at the ends of the key type.
-pub fn cuts(rt: &HostRuntime) -> Result<(), AllocError> {
+fn cuts(rt: &HostRuntime) -> Result<(), AllocError> {
     let entries = [(0, 9, 'a'), (20, 29, 'b'), (30, 30, 'c'), (40, 49, 'd')];
     let mut table = table_of(rt.alloc(), &entries)?;
     for (start, end) in [(5, 44), (46, 47), (i64::MIN, 1), (3, i64::MAX)] {
@@ -137,7 +148,7 @@ pub fn cuts(rt: &HostRuntime) -> Result<(), AllocError> {
 }
 
 /// The entries above and below keys.
-pub fn neighbours(rt: &HostRuntime) -> Result<(), AllocError> {
+fn neighbours(rt: &HostRuntime) -> Result<(), AllocError> {
     let table = table_of(rt.alloc(), &[(1, 3, 'a'), (6, 8, 'b'), (20, 20, 'c')])?;
     for key in [3, 7, 20, i64::MAX] {
         let _ = println!(rt; "above {key}: {:?}", table.next_above(key));
@@ -153,7 +164,7 @@ pub fn neighbours(rt: &HostRuntime) -> Result<(), AllocError> {
 }
 
 /// The entries and the keys that closures keep, and how often they are called.
-pub fn kept(rt: &HostRuntime) -> Result<(), AllocError> {
+fn kept(rt: &HostRuntime) -> Result<(), AllocError> {
     let entries = [(0, 3, 'l'), (4, 7, 'h'), (8, 8, 'l'), (9, 9, 'h')];
     let mut table = table_of(rt.alloc(), &entries)?;
     let mut calls = 0u8;
@@ -174,10 +185,22 @@ pub fn kept(rt: &HostRuntime) -> Result<(), AllocError> {
 }
 
 /// A table of a canonical list.
-pub fn canonical_lists(rt: &HostRuntime) -> Result<(), AllocError> {
+fn canonical_lists(rt: &HostRuntime) -> Result<(), AllocError> {
     let entries = vec![in rt.alloc(); (1i64, 3i64, 'a'), (4, 4, 'b')]?;
     let table = RangeTable::from_canonical(rt.alloc(), entries)?;
     let _ = println!(rt; "from_canonical");
     show(rt, &table);
+    Ok(())
+}
+
+/// Makes all calls of this file.
+pub fn all(rt: &HostRuntime) -> Result<(), AllocError> {
+    paints(rt)?;
+    paints_in_leaves(rt)?;
+    inserts(rt)?;
+    cuts(rt)?;
+    neighbours(rt)?;
+    kept(rt)?;
+    canonical_lists(rt)?;
     Ok(())
 }

@@ -72,7 +72,7 @@ module _ {V : Type 0} (eq : V → V → Bool) where
       (λ u m p. rw (p, from_takes (h +ℤ pos 1) e es (omega (arith, ints)), over (omega (arith, ints))) (omega arith))
 
   -- the looks of a walk and the work behind it are those of a paint
-  counted : (l h low high : ℤ) (old mid new : CountedEntries V) → l ≤ℤ h → StartsAscend low high old.entries → IsCanonical eq old.entries
+  pub counted : (l h low high : ℤ) (old mid new : CountedEntries V) → l ≤ℤ h → StartsAscend low high old.entries → IsCanonical eq old.entries
       → mid ≡ record old { looks = old.looks + answers l (reverse (below (h +ℤ pos 2) old.entries)) }
       → IsWorked 2 1 mid new → length new.entries ≤ length (before l mid.entries) + length (after h mid.entries) + 1 → IsCountedPaint old new
   counted l h low high old mid new w s c seen work short =

@@ -5,7 +5,7 @@ ghost use Rattle.blaze_entries.specs.Found.{ranks_of};
 ghost use Rattle.blaze_entries.specs.Scanned.{seen_of};
 ghost use Rattle.blaze_table.specs.Count.{keys_in};
 ghost use Rattle.blaze_table.specs.Work.{IsCountedPaint};
-ghost use Rattle.blaze_table.specs.Entries.{entry};
+ghost use Rattle.blaze_table.specs.Entries.{entry, at, SameOption};
 ghost use Rattle.blaze_table.specs.Painted.{IsInside, ClonesAreAlike};
 ghost use Rattle.blaze_table.specs.Planned.{ends_in, outer_starts, IsPlanOf, IsWorked, reaches};
 ghost use Rattle.blaze_table.specs.Splice.{IsListPainted, before, after};
@@ -134,4 +134,31 @@ pub fn paint<T: Integer, V: Eq + Clone>(
     entries.in_hand();
     let seen = entries.scan(len, lo, hi, &value);
     paint_planned(entries, len, lo, hi, value, seen.0, seen.1)
+}
+
+/// Puts a value on a key, as `paint` does on a range, and answers the value that was there, which the walk finds, and how many
+/// keys there are then. Refused memory leaves the entries as they are.
+pub fn insert<T: Integer, V: Eq + Clone>(
+    entries: &mut Counted<T, V>,
+    len: T::SafeLen,
+    key: T,
+    value: V,
+) -> Result<(Option<V>, T::SafeLen), AllocError>
+    requires clones { ClonesAreAlike V.is_clone V.eq }
+    requires table { IsTable V.eq T.low T.high (T.SafeLen.number len) entries.old.entries }
+    ensures table { IfOk result
+        (λ r. IsTable V.eq T.low T.high (T.SafeLen.number r.1) entries.new.entries) }
+    ensures painted { OnOk result
+        (IsListPainted V.eq
+        (entry (T.rank key) (T.rank key) value) entries.old.entries entries.new.entries) }
+    ensures value { IfOk result (λ r. SameOption V.eq (at entries.old.entries (T.rank key)) r.0) }
+    ensures inside { IsInside V.eq (T.rank key) (T.rank key) value entries.old.entries
+        → entries.new.entries ≡ entries.old.entries }
+    ensures counted { OnOk result (IsCountedPaint entries.old entries.new) }
+    ensures err { OnErr result (entries.new.entries ≡ entries.old.entries) }
+{
+    entries.in_hand();
+    let seen = entries.scan_with_value(len, key, key, &value)?;
+    let rest = paint_planned(entries, len, key, key, value, seen.0, seen.1)?;
+    Ok((seen.2, rest))
 }

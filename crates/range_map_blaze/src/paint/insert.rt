@@ -27,12 +27,7 @@ impl<T: Integer, V: Eq + Clone> RangeMapBlaze<T, V> {
         ensures counted { OnOk result (IsCountedPaint self.old self.new) }
         ensures err { OnErr result (self.new.entries ≡ self.old.entries) }
     {
-        let old = match self.get(key) {
-            Some(old) => Some(old.clone()?),
-            None => None,
-        };
-        let _ = self.table.paint(key, key, value)?;
-        Ok(old)
+        self.table.insert(key, value)
     }
 
     /// Puts a value on the keys of a range, over what was there, and answers whether the number of keys changed.

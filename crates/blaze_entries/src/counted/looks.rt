@@ -1,0 +1,134 @@
+//! Looks at entries beside keys, and the walk down a range: each is counted.
+ghost use Rattle.std.specs.Prelude.{◌≡◌, ◌+◌, None, pos, ◌+ℤ◌, ◌≤ℤ◌, reverse, MatchOption, IfOk, IsSomeAnd};
+ghost use Rattle.std.specs.Option.{option_map};
+ghost use Rattle.blaze_entries.specs.Found.{found_in, found_of, range_in, ranks_of};
+ghost use Rattle.blaze_entries.specs.Scanned.{seen_of, unseen, walked, walked_covered, walked_value};
+ghost use Rattle.blaze_entries.specs.Scanned.{answers, walked_keys};
+ghost use Rattle.blaze_entries.specs.Starts.{below, last_below, first_from};
+
+use super::Counted;
+use crate::found::Found;
+use crate::nodes::{node_at_or_above, node_at_or_below, node_below};
+use crate::places::{found, range_of};
+use crate::scan::{Plan, walk};
+use blaze_int::Integer;
+use std::alloc::AllocError;
+
+impl<T: Integer, V> Counted<T, V> {
+    /// The first and last key of the entry with the greatest start up to a key.
+    pub fn range_at_or_below(&mut self, key: T) -> Option<(T, T)>
+        ensures found { option_map (ranks_of T.rank) result
+            ≡ option_map range_in (last_below (T.rank key +ℤ pos 1) self.old.entries) }
+        ensures looked { self.new ≡ record self.old { looks = self.old.looks + 1 } }
+    {
+        self.looks = self.looks.one_more();
+        range_of(node_at_or_below(&self.tree, key))
+    }
+
+    /// The first and last key of the entry with the least start from a key on.
+    pub fn range_at_or_above(&mut self, key: T) -> Option<(T, T)>
+        ensures found { option_map (ranks_of T.rank) result
+            ≡ option_map range_in (first_from (T.rank key) self.old.entries) }
+        ensures looked { self.new ≡ record self.old { looks = self.old.looks + 1 } }
+    {
+        self.looks = self.looks.one_more();
+        range_of(node_at_or_above(&self.tree, key))
+    }
+}
+
+impl<T: Integer, V: Eq> Counted<T, V> {
+    /// The entry with the greatest start below a key.
+    pub fn below(&mut self, key: T, value: &V) -> Option<Found<T>>
+        ensures found { option_map (found_of T.rank) result
+            ≡ option_map (found_in V.eq value.now) (last_below (T.rank key) self.old.entries) }
+        ensures looked { self.new ≡ record self.old { looks = self.old.looks + 1 } }
+    {
+        self.looks = self.looks.one_more();
+        found(node_below(&self.tree, key), value)
+    }
+
+    /// The entry with the greatest start up to a key.
+    pub fn at_or_below(&mut self, key: T, value: &V) -> Option<Found<T>>
+        ensures found { option_map (found_of T.rank) result
+            ≡ option_map (found_in V.eq value.now)
+            (last_below (T.rank key +ℤ pos 1) self.old.entries) }
+        ensures looked { self.new ≡ record self.old { looks = self.old.looks + 1 } }
+    {
+        self.looks = self.looks.one_more();
+        found(node_at_or_below(&self.tree, key), value)
+    }
+
+    /// The entry with the least start from a key on.
+    pub fn at_or_above(&mut self, key: T, value: &V) -> Option<Found<T>>
+        ensures found { option_map (found_of T.rank) result
+            ≡ option_map (found_in V.eq value.now) (first_from (T.rank key) self.old.entries) }
+        ensures looked { self.new ≡ record self.old { looks = self.old.looks + 1 } }
+    {
+        self.looks = self.looks.one_more();
+        found(node_at_or_above(&self.tree, key), value)
+    }
+
+    /// Walks down the entries, in one search, from the one that may start right above a range to the first that starts
+    /// below it. A length loses how many of their keys lie in the range.
+    pub fn scan(&mut self, len: T::SafeLen, lo: T, hi: T, value: &V) -> (Plan<T>, T::SafeLen)
+        requires { walked_keys (T.rank lo) (T.rank hi)
+            (reverse (below (T.rank hi +ℤ pos 2) self.old.entries))
+            ≤ℤ pos (T.SafeLen.number len) }
+        ensures plan { seen_of T.rank result.0
+            ≡ walked V.eq value.now (T.rank lo) (T.rank hi) (unseen (T.rank hi))
+            (reverse (below (T.rank hi +ℤ pos 2) self.old.entries)) }
+        ensures covered { option_map (ranks_of T.rank) result.0.covered
+            ≡ walked_covered V.eq value.now (T.rank lo) (T.rank hi) None
+            (reverse (below (T.rank hi +ℤ pos 2) self.old.entries)) }
+        ensures len { pos (T.SafeLen.number result.1)
+            +ℤ walked_keys (T.rank lo) (T.rank hi)
+            (reverse (below (T.rank hi +ℤ pos 2) self.old.entries))
+            ≡ pos (T.SafeLen.number len) }
+        ensures looked { self.new
+            ≡ record self.old {
+              looks = self.old.looks + answers (T.rank lo)
+                  (reverse (below (T.rank hi +ℤ pos 2) self.old.entries));
+            } }
+    {
+        let seen = walk(&self.tree, len, lo, hi, value, &mut self.looks);
+        (seen.0, seen.1)
+    }
+}
+
+impl<T: Integer, V: Eq + Clone> Counted<T, V> {
+    /// Walks as `scan` does, and answers also a clone of the value that the range's first key has. A refused clone leaves the
+    /// entries.
+    pub fn scan_with_value(
+        &mut self,
+        len: T::SafeLen,
+        lo: T,
+        hi: T,
+        value: &V,
+    ) -> Result<(Plan<T>, T::SafeLen, Option<V>), AllocError>
+        requires { walked_keys (T.rank lo) (T.rank hi)
+            (reverse (below (T.rank hi +ℤ pos 2) self.old.entries))
+            ≤ℤ pos (T.SafeLen.number len) }
+        ensures plan { IfOk result (λ r. seen_of T.rank r.0
+            ≡ walked V.eq value.now (T.rank lo) (T.rank hi) (unseen (T.rank hi))
+            (reverse (below (T.rank hi +ℤ pos 2) self.old.entries))) }
+        ensures covered { IfOk result (λ r. option_map (ranks_of T.rank) r.0.covered
+            ≡ walked_covered V.eq value.now (T.rank lo) (T.rank hi) None
+            (reverse (below (T.rank hi +ℤ pos 2) self.old.entries))) }
+        ensures len { IfOk result (λ r. pos (T.SafeLen.number r.1)
+            +ℤ walked_keys (T.rank lo) (T.rank hi)
+            (reverse (below (T.rank hi +ℤ pos 2) self.old.entries))
+            ≡ pos (T.SafeLen.number len)) }
+        ensures value { IfOk result (λ r. MatchOption (walked_value (T.rank lo) None
+            (reverse (below (T.rank hi +ℤ pos 2) self.old.entries)))
+            (r.2 ≡ None) (λ v. IsSomeAnd r.2 (V.is_clone v))) }
+        ensures looked { self.new
+            ≡ record self.old {
+              looks = self.old.looks + answers (T.rank lo)
+                  (reverse (below (T.rank hi +ℤ pos 2) self.old.entries));
+            } }
+    {
+        let seen = walk(&self.tree, len, lo, hi, value, &mut self.looks);
+        let held = seen.2.cloned()?;
+        Ok((seen.0, seen.1, held))
+    }
+}
