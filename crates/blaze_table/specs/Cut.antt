@@ -1,5 +1,5 @@
 -- What taking keys out gives: one key, a range of keys, or all below or from a key on.
-use Rattle.std.specs.Prelude.{◌≡◌, ℤ, ◌<ℤ◌, int_le, int_lt, Bool, ◌&&◌, if◌then◌else◌, List, Option, Some, None}
+use Rattle.std.specs.Prelude.{◌≡◌, ◌-◌, length, ℤ, ◌<ℤ◌, int_le, int_lt, Bool, ◌&&◌, if◌then◌else◌, List, Option, Some, None}
 use Rattle.std.specs.List.{slice_get}
 use Rattle.std.specs.Option.{option_map}
 use Rattle.std.specs.Ordering.{int_eq}
@@ -30,6 +30,12 @@ pub record IsCut {V : Type 0} (eq : V → V → Bool) (low high : ℤ) (k : ℤ)
 -- the first entry's first key was taken out, and had a value equal to the answered one
 pub record IsFirstCut {V : Type 0} (eq : V → V → Bool) (low high k : ℤ) (value : V) (old new : List (Entry V)) : Type 0 where
   pub first : option_map (λ e. e.lo) (slice_get old 0) ≡ Some k
+  pub equal : SameOption eq (at old k) (Some value)
+  pub cut : IsCut eq low high k old new
+
+-- the last entry's last key was taken out, and had a value equal to the answered one
+pub record IsLastCut {V : Type 0} (eq : V → V → Bool) (low high k : ℤ) (value : V) (old new : List (Entry V)) : Type 0 where
+  pub last : option_map (λ e. e.hi) (slice_get old (length old - 1)) ≡ Some k
   pub equal : SameOption eq (at old k) (Some value)
   pub cut : IsCut eq low high k old new
 

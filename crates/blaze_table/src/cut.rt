@@ -152,9 +152,9 @@ fn cut_holder<T: Integer, V: Eq + Clone>(
     }
 }
 
-// Takes a key out of the entry that has it, and answers the value that was there and the new count of keys, where `len` is
-// the old.
-fn cut_counted<T: Integer, V: Eq + Clone>(
+/// Takes a key out of the entry that has it, and answers the value that was there and the new count of keys, where `len` is
+/// the old. Refused memory leaves the entries as they are.
+pub fn cut_counted<T: Integer, V: Eq + Clone>(
     entries: &mut Counted<T, V>,
     len: T::SafeLen,
     key: T,

@@ -10,7 +10,7 @@ ghost use Rattle.blaze_table.specs.Entries.{SameEntries};
 ghost use Rattle.blaze_table.specs.Canonical.{IsRangeMap};
 ghost use Rattle.blaze_table.specs.Count.{keys_in, mapped_keys};
 ghost use Rattle.blaze_table.specs.Painted.{IsPainted, ClonesAreAlike, IsInside};
-ghost use Rattle.blaze_table.specs.Cut.{IsCut, IsFirstCut, IsRangeCut, IsSplit, IsAmongOthers};
+ghost use Rattle.blaze_table.specs.Cut.{IsCut, IsFirstCut, IsLastCut, IsRangeCut, IsSplit, IsAmongOthers};
 ghost use Rattle.blaze_table.specs.Cut.{GoesOnAbove};
 ghost use Rattle.blaze_table.specs.Ending.{ending_from};
 ghost use Rattle.blaze_table.specs.Gap.{IsGap};
@@ -22,6 +22,7 @@ ghost use Rattle.blaze_table.specs.Retain.{IsKeyRetained};
 use crate::count::{count, count_list};
 use crate::cut::cut;
 use crate::cut_first::cut_first;
+use crate::cut_last::cut_last;
 use crate::cut_range::cut_range;
 use crate::gaps::gap_round;
 use crate::retain_keys::retain_keys;
@@ -305,6 +306,29 @@ impl<T: Integer, V: Eq + Clone> RangeTable<T, V> {
         }
         let old_len = self.len;
         let (key, value, len) = cut_first(&mut self.entries.counted, old_len)?;
+        self.len = len;
+        Ok(Some((key, value)))
+    }
+
+    /// Takes the last key out, and answers it with the value that was there; `None` on the empty table. No search is made for
+    /// it. Refused memory leaves the entries unchanged. No memory is taken on the empty table and where the key is an entry of
+    /// its own.
+    pub fn pop_last(&mut self) -> Result<Option<(T, V)>, AllocError>
+        requires { ClonesAreAlike V.is_clone V.eq }
+        ensures ok { IfOk result (λ popped. MatchOption popped ((self.old.entries ≡ [])
+            × (self.new ≡ self.old)) (λ pair. IsLastCut V.eq T.low T.high (T.rank pair.0) pair.1
+            self.old.entries self.new.entries)) }
+        ensures counted { OnOk result (IsCountedCut self.old self.new) }
+        ensures refused { OnErr result ((last : Entry V)
+            × (slice_get self.old.entries (length self.old.entries - 1) ≡ Some last)
+            × IsAmongOthers last.hi self.old.entries) }
+        ensures err { OnErr result (self.new.entries ≡ self.old.entries) }
+    {
+        if self.entries.len() == 0 {
+            return Ok(None);
+        }
+        let old_len = self.len;
+        let (key, value, len) = cut_last(&mut self.entries.counted, old_len)?;
         self.len = len;
         Ok(Some((key, value)))
     }

@@ -1,4 +1,4 @@
-//! Tables: both paints, keys put in, neighbours, what closures keep, canonical lists.
+//! Tables: both paints, keys put in and taken out, neighbours, what closures keep, canonical lists.
 use blaze_table::RangeTable;
 use std::alloc::{AllocError, Global};
 use std::cell::Cell;
@@ -134,6 +134,20 @@ fn inserts(rt: &HostRuntime) -> Result<(), AllocError> {
     Ok(())
 }
 
+/// Keys taken out: one inside an entry, then those at both ends, until none is left.
+fn pops(rt: &HostRuntime) -> Result<(), AllocError> {
+    let mut table = table_of(rt.alloc(), &[(0, 1, 'a'), (3, 3, 'b'), (5, 7, 'c')])?;
+    let cut = table.cut_key(6)?;
+    let _ = println!(rt; "cut_key 6: {cut:?}");
+    for _ in 0..3 {
+        let first = table.pop_first()?;
+        let last = table.pop_last()?;
+        let _ = println!(rt; "{first:?}, {last:?}");
+    }
+    show(rt, &table);
+    Ok(())
+}
+
 /// Ranges taken out: over several entries, inside one, at the ends of the key type.
 fn cuts(rt: &HostRuntime) -> Result<(), AllocError> {
     let entries = [(0, 9, 'a'), (20, 29, 'b'), (30, 30, 'c'), (40, 49, 'd')];
@@ -198,6 +212,7 @@ pub fn all(rt: &HostRuntime) -> Result<(), AllocError> {
     paints(rt)?;
     paints_in_leaves(rt)?;
     inserts(rt)?;
+    pops(rt)?;
     cuts(rt)?;
     neighbours(rt)?;
     kept(rt)?;

@@ -60,24 +60,9 @@ impl<T: Integer, V: Eq + Clone> RangeMapBlaze<T, V> {
             × IsLastPair (at self.old.entries) key value × IsAmongOthers key self.old.entries) }
         ensures err { OnErr result (self.new.entries ≡ self.old.entries) }
     {
-        let Some(last) = self.last_key() else {
-            return Ok(None);
-        };
-        match self.remove(last)? {
-            Some(value) => Ok(Some((last, value))),
-            None => unreachable!(),
-        }
-    }
-
-    /// The greatest key that has a value.
-    fn last_key(&self) -> Option<T>
-        ensures { MatchOption result (self.now.entries ≡ []) (λ key. (value : V)
-            × IsLastPair (at self.now.entries) (T.rank key) value) }
-    {
-        match self.last_key_value() {
-            Some((key, _)) => Some(key),
-            None => None,
-        }
+        self.in_hand();
+        let popped = self.table.pop_last()?;
+        Ok(popped)
     }
 
     /// Keeps the keys below one, and answers the map of the keys from it on. Refused memory leaves the map unchanged.

@@ -1,5 +1,6 @@
 //! Looks at entries beside keys, and the walk down a range: each is counted.
-ghost use Rattle.std.specs.Prelude.{◌≡◌, ◌+◌, None, pos, ◌+ℤ◌, ◌≤ℤ◌, reverse, MatchOption, IfOk, IsSomeAnd};
+ghost use Rattle.std.specs.Prelude.{◌≡◌, ◌+◌, ◌-◌, pos, ◌+ℤ◌, ◌≤ℤ◌, length, slice_get, reverse};
+ghost use Rattle.std.specs.Prelude.{None, MatchOption, IfOk, IsSomeAnd};
 ghost use Rattle.std.specs.Option.{option_map};
 ghost use Rattle.blaze_entries.specs.Found.{found_in, found_of, range_in, ranks_of};
 ghost use Rattle.blaze_entries.specs.Scanned.{seen_of, unseen, walked, walked_covered, walked_value};
@@ -33,6 +34,16 @@ impl<T: Integer, V> Counted<T, V> {
     {
         self.looks = self.looks.one_more();
         range_of(node_at_or_above(&self.tree, key))
+    }
+
+    /// The first and last key of the last entry. No search is made.
+    pub fn last_range(&mut self) -> Option<(T, T)>
+        ensures found { option_map (ranks_of T.rank) result ≡ option_map range_in
+            (slice_get self.old.entries (length self.old.entries - 1)) }
+        ensures looked { self.new ≡ record self.old { looks = self.old.looks + 1 } }
+    {
+        self.looks = self.looks.one_more();
+        range_of(self.tree.last_key_value())
     }
 }
 

@@ -5,12 +5,12 @@ use Rattle.std.specs.Prelude.{MatchOption}
 use Rattle.std.specs.Option.{option_map}
 use Rattle.std.proofs.lemmas.Int.{ints}
 use Rattle.blaze_table.specs.Counted.{CountedEntries}
-use Rattle.blaze_table.specs.Cut.{IsFirstCut}
+use Rattle.blaze_table.specs.Cut.{IsFirstCut, IsLastCut}
 use Rattle.blaze_table.specs.Entries.{Entry, at}
 use Rattle.blaze_table.specs.Canonical.{IsDisjoint, IsAscending}
 use Rattle.blaze_table.proofs.Canonical.Lookup.{at_in, at_under, at_over}
 use Rattle.blaze_table.proofs.Canonical.Runs.{in_order}
-use Rattle.range_map_blaze.specs.Pairs.{IsFirstPair, IsLastPair, PopsFirst}
+use Rattle.range_map_blaze.specs.Pairs.{IsFirstPair, IsLastPair, PopsFirst, PopsLast}
 
 module _ {V : Type 0} where
   none_some : (v : V) → None ≡ Some v → ⊥
@@ -57,6 +57,13 @@ module _ {V : Type 0} where
       let place : length (f ∷ fs) - 1 ≡ length fs = omega arith in
       (last_from f fs e d a (subst (λ n. slice_get (f ∷ fs) n ≡ Some e) place p)).1
 
+  pub last_at : (es : List (Entry V)) (k : ℤ) → IsDisjoint es → IsAscending es → option_map (λ e. e.hi) (slice_get es (length es - 1)) ≡ Some k → (value : V) × IsLastPair (at es) k value
+  last_at es k d a p = by_last (slice_get es (length es - 1)) refl p
+    where
+      by_last : (o : Option (Entry V)) → slice_get es (length es - 1) ≡ o → option_map (λ (e : Entry V). e.hi) o ≡ Some k → (value : V) × IsLastPair (at es) k value
+      by_last None q p = cc
+      by_last (Some l) q p = let same : l.hi ≡ k = cc in (l.value, subst (λ h. IsLastPair (at es) h l.value) same (last_of es l d a q))
+
   pub none_of : (es : List (Entry V)) (n : ℕ) → n ≡ length es - 1 → slice_get es n ≡ None → es ≡ []
   none_of [] n p q = refl
   none_of (e ∷ es) n p q = absurd (inside (e ∷ es) n (omega arith) q)
@@ -78,3 +85,12 @@ pops_least rank eq low high None old new d a m = m
 pops_least rank eq low high (Some pair) old new d a m =
     let least = first_at old.entries (rank pair.0) d a m.first in
     record { stored = least.0; first = least.1; equal = m.equal; cut = m.cut }
+
+-- and its last key the map's greatest
+pub pops_greatest : {T V : Type 0} (rank : T → ℤ) (eq : V → V → Bool) (low high : ℤ) (popped : Option (T × V)) (old new : CountedEntries V) → IsDisjoint old.entries → IsAscending old.entries
+    → MatchOption popped ((old.entries ≡ []) × (new ≡ old)) (λ pair. IsLastCut eq low high (rank pair.0) pair.1 old.entries new.entries)
+    → MatchOption popped ((old.entries ≡ []) × (new ≡ old)) (λ pair. PopsLast eq low high (rank pair.0) pair.1 old.entries new.entries)
+pops_greatest rank eq low high None old new d a m = m
+pops_greatest rank eq low high (Some pair) old new d a m =
+    let greatest = last_at old.entries (rank pair.0) d a m.last in
+    record { stored = greatest.0; last = greatest.1; equal = m.equal; cut = m.cut }
