@@ -117,6 +117,7 @@ impl<T: Integer> Plan<T> {
 }
 
 // What an entry from `start` up to `end` shows beside a value.
+#[inline(always)]
 fn beside<T: Integer, V: Eq>(start: T, end: T, other: &V, value: &V) -> Found<T>
     ensures { found_of T.rank result ≡ (T.rank start, T.rank end, V.eq other.now value.now) }
 {
@@ -128,6 +129,7 @@ fn beside<T: Integer, V: Eq>(start: T, end: T, other: &V, value: &V) -> Found<T>
 }
 
 // The last of the nodes that are left, counted: what it shows beside a value, and its own value.
+#[inline(always)]
 fn next_found<'a, T: Integer, V: Eq>(
     nodes: &mut btree_map::Range<'a, Start<T>, EndValue<T, Option<V>>>,
     value: &V,
@@ -149,6 +151,7 @@ fn next_found<'a, T: Integer, V: Eq>(
 }
 
 // The value that a key has, after a look at an entry.
+#[inline(always)]
 fn seen_value<'a, T: Integer, V>(
     key: T,
     held: Option<&'a V>,
@@ -177,7 +180,9 @@ pub fn next_or_last<T: Integer>(key: T) -> T
 }
 
 /// Walks down the entries, from the one that may start right above a range to the first that starts below it, and answers what
-/// it has seen and the value that the range's first key has. A length loses how many of their keys lie in the range.
+/// it has seen and the value that the range's first key has. A length loses how many of their keys lie in the range. It is
+/// inlined, so that where that value isn't asked for the compiler leaves it out.
+#[inline(always)]
 pub fn walk<'a, T: Integer, V: Eq>(
     tree: &'a Tree<T, Option<V>>,
     len: T::SafeLen,
