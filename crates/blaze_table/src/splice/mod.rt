@@ -36,7 +36,8 @@ fn is_inside<T: Integer>(plan: Plan<T>, hi: T) -> bool
 }
 
 // Puts a value on the keys from lo up to hi, as planned, where `outside` is how many keys lie outside of the range. Inside an
-// entry with an equal value nothing changes.
+// entry with an equal value nothing changes. It is inlined, so that a plan is not copied on its way here.
+#[inline(always)]
 fn paint_planned<T: Integer, V: Eq + Clone>(
     entries: &mut Counted<T, V>,
     len: T::SafeLen,
