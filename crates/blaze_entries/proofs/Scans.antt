@@ -1,11 +1,10 @@
 -- What a look at the last of the nodes that are left says, and what a walk has after it.
 use Rattle.std.proofs.Common.{◌≡◌, ℕ, ◌+◌, ◌<◌, length, ℤ, pos, ◌+ℤ◌, ◌-ℤ◌, ◌≤ℤ◌, Bool, true, false, cond, List, [], ◌∷◌, ◌++◌, Option, Some, None, ◌∙◌, sym, ap, arith, length-append}
-use Rattle.std.specs.Prelude.{MatchOption, OnSome, int_lt, int_le, reverse}
+use Rattle.std.specs.Prelude.{MatchOption, int_lt, int_le, reverse}
 use Rattle.std.proofs.lemmas.Int.{ints}
-use Rattle.std.specs.Option.{option_map}
 use Rattle.std.proofs.lemmas.List.{length-map, reverse-append}
 use Rattle.blaze_entries.specs.Entries.{Entry, entry}
-use Rattle.blaze_entries.specs.Found.{found_in, found_of, IsFoundAt}
+use Rattle.blaze_entries.specs.Found.{found_in, IsFoundAt}
 use Rattle.blaze_entries.specs.Places.{held, full, places, place_of, AreFull}
 use Rattle.std.specs.Int.{int_max, int_min}
 use Rattle.blaze_entries.specs.Overlap.{shared, overlap}

@@ -1,5 +1,5 @@
 -- Entries cloned.
-use Rattle.std.specs.Prelude.{◌≡◌, pos, ◌+ℤ◌, ◌≤ℤ◌, ◌<ℤ◌, List, Option, Some, None}
+use Rattle.std.specs.Prelude.{◌≡◌, ℤ, pos, ◌+ℤ◌, ◌≤ℤ◌, ◌<ℤ◌, List, Option, Some, None}
 use Rattle.std.specs.List.{AllZip}
 use Rattle.blaze_entries.specs.Entries.{Entry}
 
@@ -11,3 +11,7 @@ AreCloned is_clone es copies = AllZip (λ e c. (c.lo ≡ e.lo) × (c.hi ≡ e.hi
 abbrev pub IsRestCloned : {V : Type 0} → (V → V → Type 0) → Entry V → Option (Entry V) → Type 0
 IsRestCloned is_clone e None = e.hi ≤ℤ e.lo
 IsRestCloned is_clone e (Some r) = (e.lo <ℤ e.hi) × (r.lo ≡ e.lo +ℤ pos 1) × (r.hi ≡ e.hi) × is_clone e.value r.value
+
+-- the entry has keys both below l and above h
+abbrev pub IsAround : {V : Type 0} → ℤ → ℤ → Entry V → Type 0
+IsAround l h e = (e.lo <ℤ l) × (h <ℤ e.hi)

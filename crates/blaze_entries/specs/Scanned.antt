@@ -1,5 +1,5 @@
 -- A walk down the entries from above a range, and what it has seen.
-use Rattle.std.specs.Prelude.{ℕ, ◌+◌, ℤ, pos, ◌+ℤ◌, int_lt, int_le, Bool, ◌||◌, if◌then◌else◌, List, [], ◌∷◌, Option, Some, None}
+use Rattle.std.specs.Prelude.{◌≡◌, ℕ, ◌+◌, ℤ, pos, ◌+ℤ◌, ◌<ℤ◌, false, MatchOption, IsSomeAnd, int_lt, int_le, Bool, ◌||◌, if◌then◌else◌, List, [], ◌∷◌, Option, Some, None}
 use Rattle.std.specs.Option.{option_map}
 use Rattle.blaze_entries.specs.Entries.{Entry, holds}
 use Rattle.blaze_entries.specs.Found.{found_in, found_of}
@@ -72,3 +72,13 @@ answers l (e ∷ es) = if int_lt e.lo l then 1 else answers l es + 1
 abbrev pub walked_keys : {V : Type 0} → ℤ → ℤ → List (Entry V) → ℤ
 walked_keys l h [] = pos 0
 walked_keys l h (e ∷ es) = overlap l h e +ℤ (if int_lt e.lo l then pos 0 else walked_keys l h es)
+
+-- the entry that was looked at goes on above h, with an unequal value
+abbrev pub GoesOnUnlike : ℤ → Option (ℤ × ℤ × Bool) → Type 0
+GoesOnUnlike h None = ⊥
+GoesOnUnlike h (Some t) = (h <ℤ t.1) × (t.2 ≡ false)
+
+-- a clone of the value o, where the entry that was looked at goes on above h with an unequal value
+abbrev pub IsAboveCloned : {V : Type 0} → (V → V → Type 0) → ℤ → Option (ℤ × ℤ × Bool) → Option V → Option V → Type 0
+IsAboveCloned is_clone h None o r = Unit {0}
+IsAboveCloned is_clone h (Some t) o r = h <ℤ t.1 → t.2 ≡ false → MatchOption o (r ≡ None) (λ v. IsSomeAnd r (is_clone v))

@@ -1,7 +1,7 @@
 //! What a node whose place is full shows.
-ghost use Rattle.std.specs.Prelude.{◌≡◌, ℤ, ◌<ℤ◌, Option, Some, IfSome, IsSome, IfOk, OnOk, OnErr};
+ghost use Rattle.std.specs.Prelude.{◌≡◌, ℤ, ◌<ℤ◌, Option, Some, IfSome, IsSome, IsSomeAnd, IfOk, OnOk, OnErr};
 ghost use Rattle.std.specs.Option.{option_map, option_copied};
-ghost use Rattle.blaze_entries.specs.Cloned.{IsRestCloned};
+ghost use Rattle.blaze_entries.specs.Cloned.{IsRestCloned, IsAround};
 ghost use Rattle.blaze_entries.specs.Entries.{Entry, entry, shown_entry};
 ghost use Rattle.blaze_entries.specs.Found.{found_in, found_of, range_in, ranks_of};
 ghost use Rattle.blaze_entries.specs.Places.{held, place_lent, place_of};
@@ -152,6 +152,36 @@ pub fn rest_cloned<T: Integer, V: Clone>(
     }
     match &node.value {
         Some(value) => Ok(Some((after(start.0, node.end), node.end, value.clone()?))),
+        None => unreachable!(),
+    }
+}
+
+/// A node's first and last key, and a clone of its value where it has keys both below `lo` and above `hi`.
+pub fn range_cloned<T: Integer, V: Clone>(
+    node: Option<(&Start<T>, &EndValue<T, Option<V>>)>,
+    lo: T,
+    hi: T,
+) -> Result<Option<(T, T, Option<V>)>, AllocError>
+    requires { IfSome node (λ p. IsSome p.1.now.value) }
+    ensures range { IfOk result (λ r. (o : Option (Entry V))
+        → option_map (place_lent T.rank) node.entry ≡ option_map held o
+        → option_map (λ x. (T.rank x.0, T.rank x.1)) r ≡ option_map range_in o) }
+    ensures clone { IfOk result (λ r. (o : Option (Entry V))
+        → option_map (place_lent T.rank) node.entry ≡ option_map held o
+        → IfSome o (λ e. IfSome r (λ x. IsAround (T.rank lo) (T.rank hi) e
+        → IsSomeAnd x.2 (V.is_clone e.value)))) }
+    ensures refused { OnErr result ((o : Option (Entry V))
+        → option_map (place_lent T.rank) node.entry ≡ option_map held o
+        → IsSomeAnd o (IsAround (T.rank lo) (T.rank hi))) }
+{
+    let Some((start, node)) = node else {
+        return Ok(None);
+    };
+    if !is_below(start.0, lo) || !is_below(hi, node.end) {
+        return Ok(Some((start.0, node.end, None)));
+    }
+    match &node.value {
+        Some(value) => Ok(Some((start.0, node.end, Some(value.clone()?)))),
         None => unreachable!(),
     }
 }

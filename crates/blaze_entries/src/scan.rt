@@ -1,13 +1,14 @@
 //! A walk down the tree from above a range, in one search.
 ghost use Rattle.std.specs.Prelude.{◌≡◌, ◌⊎◌, ◌+◌, ◌++◌, ◌∷◌, [], pos, ◌+ℤ◌, ◌≤ℤ◌, ◌<◌, length};
-ghost use Rattle.std.specs.Prelude.{reverse, None, MatchOption, OnSome};
+ghost use Rattle.std.specs.Prelude.{reverse, None, MatchOption, OnSome, IfOk, OnErr};
 ghost use Rattle.std.specs.Option.{option_map, option_copied};
 ghost use Rattle.blaze_entries.specs.Entries.{Entry, entry};
 ghost use Rattle.blaze_entries.specs.Found.{found_of, ranks_of, IsFoundAt};
 ghost use Rattle.blaze_entries.specs.Places.{places, entries_of, AreFull, AreHeld};
 ghost use Rattle.blaze_entries.specs.Scanned.{seen_of, unseen, seen_end, seen_start, seen, walked};
 ghost use Rattle.blaze_entries.specs.Scanned.{with_least, seen_covered, walked_covered, answers};
-ghost use Rattle.blaze_entries.specs.Scanned.{walked_keys, seen_value, walked_value};
+ghost use Rattle.blaze_entries.specs.Scanned.{walked_keys, seen_value, walked_value, IsAboveCloned};
+ghost use Rattle.blaze_entries.specs.Scanned.{GoesOnUnlike};
 ghost use Rattle.blaze_entries.specs.Starts.{below};
 
 use crate::count::Count;
@@ -18,6 +19,7 @@ use crate::places::shown;
 use crate::start::Start;
 use blaze_int::Integer;
 use blaze_int::compare::{is_at_most, is_below};
+use std::alloc::AllocError;
 use std::collections::btree_map;
 
 /// What a walk down the entries from above a range has seen.
@@ -226,4 +228,25 @@ pub fn walk<'a, T: Integer, V: Eq>(
         }
     }
     (plan, left, held)
+}
+
+/// A clone of the value that a range's first key has, where the entry `left`, which starts below the range, goes on above it
+/// with an unequal value: that key is its own then.
+pub fn above_cloned<T: Integer, V: Clone>(
+    left: Option<Found<T>>,
+    hi: T,
+    held: Option<&V>,
+) -> Result<Option<V>, AllocError>
+    ensures clone { IfOk result (λ r. IsAboveCloned V.is_clone (T.rank hi)
+        (option_map (found_of T.rank) left) (option_copied held.entry) r) }
+    ensures refused { OnErr result
+        (GoesOnUnlike (T.rank hi) (option_map (found_of T.rank) left)) }
+{
+    match left {
+        Some(found) if !found.is_equal && is_below(hi, found.end) => {
+            let above = held.cloned()?;
+            Ok(above)
+        }
+        _ => Ok(None),
+    }
 }

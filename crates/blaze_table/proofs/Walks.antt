@@ -8,3 +8,4 @@ pub mod FewLooks
 pub mod Descents
 pub mod SeenPlans
 pub mod WalkedValues
+pub mod AboveValues

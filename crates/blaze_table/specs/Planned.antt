@@ -1,5 +1,5 @@
 -- A paint planned by what lies beside its range, and the steps that make it or a cut, in the words of the list.
-use Rattle.std.specs.Prelude.{◌≡◌, ℕ, ◌+◌, ◌≤◌, ◌⊎◌, ◌++◌, ◌&&◌, ◌||◌, ℤ, pos, ◌+ℤ◌, ◌≤ℤ◌, ◌<ℤ◌, int_lt, int_le, if◌then◌else◌, Bool, true, false, List, [], ◌∷◌, length, Option, Some, None}
+use Rattle.std.specs.Prelude.{◌≡◌, ℕ, ◌+◌, ◌≤◌, ◌⊎◌, ◌++◌, ◌&&◌, ◌||◌, ℤ, pos, ◌+ℤ◌, ◌≤ℤ◌, ◌<ℤ◌, int_lt, int_le, if◌then◌else◌, Bool, true, false, List, [], ◌∷◌, length, Option, Some, None, IfSome, IsSomeAnd}
 use Rattle.std.specs.List.{filter}
 use Rattle.std.specs.Option.{option_map}
 use Rattle.std.specs.Ordering.{int_eq}
@@ -7,7 +7,7 @@ use Rattle.blaze_entries.specs.Cloned.{IsRestCloned}
 use Rattle.blaze_entries.specs.Counted.{CountedEntries}
 use Rattle.blaze_entries.specs.Found.{found_in}
 use Rattle.blaze_entries.specs.Scanned.{Seen, with_least}
-use Rattle.blaze_entries.specs.Starts.{below, from, last_below, start_at, with_entry}
+use Rattle.blaze_entries.specs.Starts.{below, from, last_below, start_at}
 use Rattle.blaze_entries.specs.declared.found.Found.{Found}
 use Rattle.blaze_table.specs.Entries.{Entry, entry, SameEntries}
 use Rattle.blaze_table.specs.Splice.{before, after}
@@ -80,6 +80,14 @@ pub record AreOuterStarts {V : Type 0} (f z : ℤ) (es : List (Entry V)) (starts
 abbrev pub outer_with : ℤ → Option (ℤ × ℤ × Bool) → Option (ℤ × ℤ) → Option (ℤ × ℤ)
 outer_with z None c = c
 outer_with z (Some t) c = if int_le t.1 z then Some (with_least t.0 c) else c
+
+-- a value equal to that of the last entry that starts below l, where that one goes on above z
+abbrev pub IsLikeAbove : {V : Type 0} → (V → V → Bool) → ℤ → ℤ → List (Entry V) → Option V → Type 0
+IsLikeAbove eq l z es o = IfSome (last_below l es) (λ e. z <ℤ e.hi → IsSomeAnd o (λ u. eq e.value u ≡ true))
+
+-- the same, where that entry's value is not equal to v
+abbrev pub IsUnlikeAbove : {V : Type 0} → (V → V → Bool) → ℤ → ℤ → V → List (Entry V) → Option V → Type 0
+IsUnlikeAbove eq l h v es o = IfSome (last_below l es) (λ e. h <ℤ e.hi → eq e.value v ≡ false → IsSomeAnd o (λ u. eq e.value u ≡ true))
 
 -- ---- the steps
 
@@ -155,10 +163,3 @@ pub record IsWorked {V : Type 0} (p q : ℕ) (old new : CountedEntries V) : Type
   pub balance : length new.entries + new.taken_out + old.put_in ≡ length old.entries + old.taken_out + new.put_in
   pub taken : old.taken_out ≤ new.taken_out
   pub looks : new.looks + old.taken_out ≤ old.looks + new.taken_out + q
-
--- an entry from l up to h was put in, with a clone of v
-pub record IsClonePut {V : Type 0} (is_clone : V → V → Type 0) (v : V) (l h : ℤ) (old new : CountedEntries V) : Type 0 where
-  pub value : V
-  pub clone : is_clone v value
-  pub longer : length new.entries ≡ length old.entries + 1
-  pub put : new ≡ record old { entries = with_entry (entry l h value) old.entries; put_in = old.put_in + 1 }

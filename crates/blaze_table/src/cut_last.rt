@@ -39,7 +39,7 @@ pub fn cut_last<T: Integer, V: Eq + Clone>(
     entries.in_hand();
     match entries.last_range() {
         Some(ends) => {
-            let (value, rest) = cut_counted(entries, len, ends.1, ends.0, ends.1)?;
+            let (value, rest) = cut_counted(entries, len, ends.1, ends.0, ends.1, None)?;
             Ok((ends.1, value, rest))
         }
         None => unreachable!(),

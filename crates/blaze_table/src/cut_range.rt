@@ -2,48 +2,19 @@
 //! own first: only that can be refused.
 ghost use Rattle.std.specs.Prelude.{◌≡◌, ◌+◌, ℤ, pos, ◌+ℤ◌, ◌≤ℤ◌, ◌<ℤ◌, OnOk};
 ghost use Rattle.std.specs.Prelude.{OnErr, IfOk, length, None};
-ghost use Rattle.blaze_table.specs.Canonical.{IsCanonical};
 ghost use Rattle.blaze_table.specs.Cut.{GoesOnAbove};
-ghost use Rattle.blaze_table.specs.LastBelow.{IsLastBelow};
+ghost use Rattle.blaze_table.specs.LastBelow.{IsLastBelow, IsAroundLike};
 ghost use Rattle.blaze_table.specs.Painted.{ClonesAreAlike};
 ghost use Rattle.blaze_table.specs.Planned.{IsRest, IsWorked};
 ghost use Rattle.blaze_table.specs.Splice.{IsKeptAround, IsRangeCutOf};
 ghost use Rattle.blaze_table.specs.Table.{IsTable};
 ghost use Rattle.blaze_table.specs.Work.{IsCountedCut};
 
+use crate::cut_hole::cut_hole;
 use blaze_entries::Counted;
 use blaze_int::compare::{after, before, is_below, length};
 use blaze_int::{Integer, SafeLength};
 use std::alloc::AllocError;
-
-// Takes a range out of the entry that has keys below and above it.
-fn cut_hole<T: Integer, V: Eq + Clone>(
-    entries: &mut Counted<T, V>,
-    lo: T,
-    hi: T,
-    start: T,
-    end: T,
-) -> Result<(), AllocError>
-    requires order { T.rank lo ≤ℤ T.rank hi }
-    requires clones { ClonesAreAlike V.is_clone V.eq }
-    requires canonical { IsCanonical V.eq entries.old.entries }
-    requires found { IsLastBelow
-        (T.rank hi +ℤ pos 1) (T.rank start) (T.rank end) entries.old.entries }
-    requires starts_below { T.rank start <ℤ T.rank lo }
-    requires ends_above { T.rank hi <ℤ T.rank end }
-    ensures cut { OnOk result
-        (IsRangeCutOf V.eq (T.rank lo) (T.rank hi) entries.old.entries entries.new.entries) }
-    ensures worked { OnOk result (IsWorked 1 1 entries.old entries.new) }
-    ensures err { OnErr result (entries.new.entries ≡ entries.old.entries) }
-{
-    entries.in_hand();
-    let value = entries.set_end_cloned(start, before(lo, start))?;
-    if let Err(refused) = entries.insert(after(hi, end), end, value) {
-        entries.set_end(start, end);
-        return Err(refused);
-    }
-    Ok(())
-}
 
 // Takes the keys up to one out of the entry that goes on above it, and answers how many keys are left, where `len` is the
 // count before.
@@ -156,21 +127,24 @@ fn cut_down<T: Integer, V: Eq + Drop>(
     rest
 }
 
-// Takes out a range that an entry goes on above, and answers how many keys are left, where `len` is the count before.
-fn cut_under<T: Integer, V: Eq + Clone>(
+// Takes out a range that an entry goes on above, and answers how many keys are left, where `len` is the count before, and
+// `around` is equal to that entry's value if it goes on below too.
+fn cut_under<T: Integer, V: Eq + Drop>(
     entries: &mut Counted<T, V>,
     len: T::SafeLen,
     lo: T,
     hi: T,
     start: T,
     end: T,
+    around: Option<V>,
 ) -> Result<T::SafeLen, AllocError>
     requires order { T.rank lo ≤ℤ T.rank hi }
-    requires clones { ClonesAreAlike V.is_clone V.eq }
     requires table { IsTable V.eq T.low T.high (T.SafeLen.number len) entries.old.entries }
     requires found { IsLastBelow
         (T.rank hi +ℤ pos 1) (T.rank start) (T.rank end) entries.old.entries }
     requires ends_above { T.rank hi <ℤ T.rank end }
+    requires around { IsAroundLike V.eq
+        (T.rank lo) (T.rank hi) entries.old.entries around }
     ensures table { IfOk result
         (λ rest. IsTable V.eq T.low T.high (T.SafeLen.number rest) entries.new.entries) }
     ensures cut { OnOk result
@@ -180,7 +154,10 @@ fn cut_under<T: Integer, V: Eq + Clone>(
 {
     entries.in_hand();
     if is_below(start, lo) {
-        cut_hole(entries, lo, hi, start, end)?;
+        match around {
+            Some(above) => cut_hole(entries, lo, hi, start, end, above)?,
+            None => unreachable!(),
+        }
         Ok(len.minus(length(lo, hi)))
     } else {
         let rest = cut_front(entries, len, hi, start, end)?;
@@ -208,8 +185,14 @@ pub fn cut_range<T: Integer, V: Eq + Clone>(
     ensures err { OnErr result (entries.new.entries ≡ entries.old.entries) }
 {
     entries.in_hand();
-    match entries.range_at_or_below(hi) {
-        Some(ends) if is_below(hi, ends.1) => cut_under(entries, len, lo, hi, ends.0, ends.1),
-        _ => Ok(cut_down(entries, len, lo, hi)),
+    let found = entries.range_around(lo, hi)?;
+    match found {
+        None => Ok(cut_down(entries, len, lo, hi)),
+        Some(ends) => {
+            if is_below(hi, ends.1) {
+                return cut_under(entries, len, lo, hi, ends.0, ends.1, ends.2);
+            }
+            Ok(cut_down(entries, len, lo, hi))
+        }
     }
 }

@@ -4,6 +4,7 @@
 mod count;
 mod cut;
 mod cut_first;
+mod cut_hole;
 mod cut_last;
 mod cut_range;
 mod entry_keys;

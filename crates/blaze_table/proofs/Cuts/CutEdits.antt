@@ -1,9 +1,10 @@
 -- Edits at the last entry that starts up to a key, as the list without a range of keys that ends there.
 use Rattle.std.proofs.Common.{◌≡◌, Bool, ℤ, pos, ◌+ℤ◌, ◌-ℤ◌, ◌≤ℤ◌, ◌<ℤ◌, true, List, [], ◌∷◌, ◌++◌, Option, Some, None, Result, Ok, Err, OnErr, refl, ◌∙◌, sym, subst, ap, arith}
 use Rattle.std.specs.Cmp.{IsEquivalence}
-use Rattle.std.specs.Prelude.{IfSome}
+use Rattle.std.specs.Prelude.{IfSome, IsSomeAnd}
 use Rattle.std.specs.Option.{option_map}
 use Rattle.std.proofs.lemmas.Int.{ints}
+use Rattle.blaze_entries.specs.Cloned.{IsAround}
 use Rattle.blaze_entries.specs.Found.{range_in}
 use Rattle.blaze_entries.specs.Starts.{StartsAscend, last_below, start_at, with_entry, without, with_end, IsStartMoved}
 use Rattle.blaze_entries.proofs.Halves.{more_below}
@@ -11,10 +12,11 @@ use Rattle.blaze_entries.proofs.Alike.{same_along, none_from_map}
 use Rattle.blaze_table.specs.Entries.{Entry, entry, at, entry_at, SameOption}
 use Rattle.blaze_table.specs.Canonical.{IsCanonical}
 use Rattle.blaze_table.specs.Cut.{IsAmongOthers, GoesOnAbove}
+use Rattle.blaze_table.specs.LastBelow.{IsAroundLike}
 use Rattle.blaze_table.specs.Painted.{ClonesAreAlike}
 use Rattle.blaze_table.specs.Splice.{IsBelow, IsCutOf, IsRangeCutOf, overlap, covered}
 use Rattle.blaze_table.proofs.Cuts.Cutting.{cut_whole, cut_end, cut_start, cut_inside, at_cut, covered_past}
-use Rattle.blaze_table.proofs.Neighbours.Holders.{Holder, there, is_holder, taken_out, taken_from, put_inside, end_moved, put_behind, with_entry-between}
+use Rattle.blaze_table.proofs.Neighbours.Holders.{Holder, there, is_holder, taken_out, taken_from, put_inside, end_moved, of_last, for_last, holder, with_entry-between}
 use Rattle.blaze_table.proofs.Canonical.Lookup.{IsAbove, at_over, at_before, entry_in, entry_over}
 use Rattle.blaze_table.proofs.Paints.Splices.{below_more}
 use Rattle.blaze_table.proofs.Canonical.Counted.{overlap_whole}
@@ -82,6 +84,19 @@ module _ {V : Type 0} (eq : V → V → Bool) (laws : IsEquivalence eq) (k high 
       ap (λ l. at l j) h.parts ∙ at_past j h.front (e ∷ h.back) (under j (omega (arith, ints))) ∙ at_over e h.back j (omega (arith, ints))
       ∙ at_before eq h.back k j h.here.2 over w
 
+  -- a value is equal to it where it goes on below l and above the key
+  pub around_held : (l : ℤ) (o : Option V) → IsAroundLike eq l k es o → s <ℤ l → k <ℤ z → IsSomeAnd o (λ v. eq e.value v ≡ true)
+  around_held l o i u w =
+      let f = h.lo in
+      let t = h.hi in
+      of_last eq b high es s z h (λ x. IsAround l k x → IsSomeAnd o (λ v. eq x.value v ≡ true)) i (omega (arith, ints), omega (arith, ints))
+
+  -- which is asked of no entry that ends at the key
+  pub around_none : (l : ℤ) (o : Option V) → z ≤ℤ k → IsAroundLike eq l k es o
+  around_none l o u =
+      let t = h.hi in
+      for_last eq b high es s z h (λ x. IsAround l k x → IsSomeAnd o (λ v. eq x.value v ≡ true)) (λ a. let over = a.1 in absurd (omega (arith, ints)))
+
   pub something_held : k ≤ℤ z → at es k ≡ None → ⊥
   something_held u n = some_none e.value (at es k) (at_held u) n
     where
@@ -126,23 +141,17 @@ module _ {V : Type 0} (eq : V → V → Bool) (laws : IsEquivalence eq) (k high 
       parted k new (h.front ++ entry (k +ℤ pos 1) e.hi v ∷ h.back) new_is (cut_start eq laws k k (omega (arith, ints)) h.front (under k (omega (arith, ints))) e h.back v (omega (arith, ints)) (omega (arith, ints)) (omega (arith, ints)) (like_holder is_clone alike v i))
 
   pub hole_cut : (l : ℤ) → l ≤ℤ k → (n y : ℤ) (w : V) (mid new : List (Entry V)) → s <ℤ l → k <ℤ z → n ≡ k +ℤ pos 1 → y ≡ l -ℤ pos 1 → eq e.value w ≡ true
-      → mid ≡ with_end s y es → new ≡ with_entry (entry n z w) mid → IsRangeCutOf eq l k es new
+      → mid ≡ with_entry (entry n z w) es → new ≡ with_end s y mid → IsRangeCutOf eq l k es new
   hole_cut l f n y w mid new u t q r like a m =
       let low = h.lo in
       let up = h.hi in
       let p = entry n z w in
       let new_is : new ≡ h.front ++ entry e.lo (l -ℤ pos 1) e.value ∷ entry (k +ℤ pos 1) e.hi w ∷ h.back =
-      m ∙ ap (with_entry p) a ∙ put_behind eq b high es s z h y n (omega (arith, ints)) (omega (arith, ints)) p refl
+      m ∙ ap (with_end s y) (a ∙ put_inside eq b high es s z h n (omega (arith, ints)) (omega (arith, ints)) p refl) ∙ end_moved eq b high es s z h y (p ∷ h.back)
       ∙ ap (λ x. h.front ++ entry e.lo x e.value ∷ p ∷ h.back) r
       ∙ ap (λ x. h.front ++ entry e.lo (l -ℤ pos 1) e.value ∷ entry n x w ∷ h.back) (sym h.hi)
       ∙ ap (λ x. h.front ++ entry e.lo (l -ℤ pos 1) e.value ∷ entry x e.hi w ∷ h.back) q in
       parted l new (h.front ++ entry e.lo (l -ℤ pos 1) e.value ∷ entry (k +ℤ pos 1) e.hi w ∷ h.back) new_is (cut_inside eq laws l k f h.front (under l (omega (arith, ints))) e h.back w (omega (arith, ints)) (omega (arith, ints)) like)
-
-  -- with a clone of a clone
-  pub inside_cut : (is_clone : V → V → Type 0) → ClonesAreAlike is_clone eq → (n y : ℤ) (v w : V) (mid new : List (Entry V)) → s <ℤ k → k <ℤ z → n ≡ k +ℤ pos 1 → y ≡ k -ℤ pos 1
-      → IfSome (start_at s es) (λ f. is_clone f.value v) → is_clone v w → mid ≡ with_end s y es → new ≡ with_entry (entry n z w) mid → IsCutOf eq k es new
-  inside_cut is_clone alike n y v w mid new u t q r i j a m =
-      hole_cut k (omega (arith, ints)) n y w mid new u t q r (sym (laws.congr v e.value w (laws.symm v e.value ∙ like_holder is_clone alike v i)) ∙ alike v w j) a m
 
   pub whole_cut : (l : ℤ) → l ≤ℤ k → l ≤ℤ s → z ≤ℤ k → s ≤ℤ l → (new : List (Entry V)) → new ≡ without s es → IsRangeCutOf eq l k es new
   whole_cut l f u w v new n =
@@ -175,3 +184,43 @@ module _ {V : Type 0} (eq : V → V → Bool) (laws : IsEquivalence eq) (k high 
 -- no entry starts up to the key
 pub nothing_below : {V : Type 0} (eq : V → V → Bool) (k low high : ℤ) (es : List (Entry V)) → StartsAscend low high es → IsCanonical eq es → None ≡ option_map range_in (last_below (k +ℤ pos 1) es) → (j : ℤ) → j ≤ℤ k → at es j ≡ None
 nothing_below eq k low high es a c p j u = at_before eq es k j c (above_from (k +ℤ pos 1) k high es (omega (arith, ints)) (no_last_from (k +ℤ pos 1) low high es a (none_from_map range_in (last_below (k +ℤ pos 1) es) p))) u
+
+-- clones of what a look found around a range are equal to it
+pub around_like : {V : Type 0} (eq : V → V → Bool) (is_clone : V → V → Type 0) → ClonesAreAlike is_clone eq → (l h : ℤ) (es : List (Entry V)) (o : Option V)
+    → IfSome (last_below (h +ℤ pos 1) es) (λ e. IsAround l h e → IsSomeAnd o (is_clone e.value)) → IsAroundLike eq l h es o
+around_like {V} eq is_clone alike l h es o i = by_last (last_below (h +ℤ pos 1) es) i
+  where
+    like : (x : V) (o : Option V) → IsSomeAnd o (is_clone x) → IsSomeAnd o (λ v. eq x v ≡ true)
+    like x None j = j
+    like x (Some v) j = alike x v j
+
+    by_last : (x : Option (Entry V)) → IfSome x (λ e. IsAround l h e → IsSomeAnd o (is_clone e.value)) → IfSome x (λ e. IsAround l h e → IsSomeAnd o (λ v. eq e.value v ≡ true))
+    by_last None j = tt
+    by_last (Some e) j = λ a. like e.value o (j a)
+
+-- the last entry that starts up to k, where it goes on above it too
+module _ {V : Type 0} (eq : V → V → Bool) (laws : IsEquivalence eq) (l k low high : ℤ) (w : l ≤ℤ k) (es : List (Entry V)) (s : StartsAscend low high es) (c : IsCanonical eq es)
+    (i : IsSomeAnd (last_below (k +ℤ pos 1) es) (IsAround l k)) where
+  -- its ends
+  record Around : Type 0 where
+    pub start : ℤ
+    pub end : ℤ
+    pub holder : Holder eq (k +ℤ pos 1) high es start end
+    pub below : start <ℤ l
+    pub above : k <ℤ end
+
+  around : Around
+  around = by_last (last_below (k +ℤ pos 1) es) refl i
+    where
+      by_last : (x : Option (Entry V)) → last_below (k +ℤ pos 1) es ≡ x → IsSomeAnd x (IsAround l k) → Around
+      by_last None q j = absurd j
+      by_last (Some e) q j = record { start = e.lo; end = e.hi; holder = holder eq (k +ℤ pos 1) high es low e.lo e.hi s c (ap (option_map range_in) (sym q)); below = j.0; above = j.1 }
+
+  pub around_others : IsAmongOthers k es
+  around_others = let u = around.below in let o = around.above in among_others eq laws k high es around.start around.end around.holder (omega (arith, ints)) (omega (arith, ints))
+
+  pub around_above : GoesOnAbove k es
+  around_above = goes_on_above eq laws k high es around.start around.end around.holder around.above
+
+  pub around_something : at es k ≡ None → ⊥
+  around_something = let o = around.above in something_held eq laws k high es around.start around.end around.holder (omega (arith, ints))

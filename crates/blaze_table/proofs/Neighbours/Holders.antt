@@ -1,6 +1,6 @@
 -- The last entry that starts below a key, with what stands before and behind it: searches and edits at its start.
 use Rattle.std.proofs.Common.{◌≡◌, Bool, ℤ, pos, ◌+ℤ◌, ◌≤ℤ◌, ◌<ℤ◌, List, [], ◌∷◌, ◌++◌, Option, Some, None, refl, ◌∙◌, sym, subst, ap, arith}
-use Rattle.std.specs.Prelude.{IsSome}
+use Rattle.std.specs.Prelude.{IsSome, IfSome}
 use Rattle.std.specs.Option.{option_map}
 use Rattle.std.proofs.lemmas.Int.{ints}
 use Rattle.std.proofs.lemmas.List.{append_assoc}
@@ -54,6 +54,7 @@ module _ {V : Type 0} (eq : V → V → Bool) (b high : ℤ) (es : List (Entry V
   -- the last entry that starts below b starts at s and ends at z
   pub record Holder (s z : ℤ) : Type 0 where
     pub of : Entry V
+    pub last : last_below b es ≡ Some of
     pub lo : of.lo ≡ s
     pub hi : of.hi ≡ z
     pub front : List (Entry V)
@@ -78,6 +79,7 @@ module _ {V : Type 0} (eq : V → V → Bool) (b high : ℤ) (es : List (Entry V
           let here = canonical_part eq i.front (e ∷ i.back) whole in
           record {
             of = e;
+            last = q;
             lo = ap (λ (t : ℤ × ℤ). t.0) ends;
             hi = ap (λ (t : ℤ × ℤ). t.1) ends;
             front = i.front;
@@ -97,6 +99,13 @@ module _ {V : Type 0} (eq : V → V → Bool) (b high : ℤ) (es : List (Entry V
 
     pub present : IsSome (start_at s es)
     present = subst (λ o. IsSome o) (sym there) refl
+
+    -- what is said of the last entry that starts below b is said of it
+    pub of_last : (P : Entry V → Type 0) → IfSome (last_below b es) P → P h.of
+    of_last P i = subst (λ o. IfSome o P) h.last i
+
+    pub for_last : (P : Entry V → Type 0) → P h.of → IfSome (last_below b es) P
+    for_last P p = subst (λ o. IfSome o P) (sym h.last) p
 
     pub is_holder : {e : Entry V} → start_at s es ≡ Some e → h.of ≡ e
     is_holder q = one (start_at s es) there q
@@ -126,6 +135,16 @@ module _ {V : Type 0} (eq : V → V → Bool) (b high : ℤ) (es : List (Entry V
           ∙ with_entry-between p (h.of.hi +ℤ pos 1) high (h.front ++ h.of ∷ []) h.back (subst (λ x. StartsBelow x (h.front ++ h.of ∷ [])) (sym q) starts_before) (omega (arith, ints)) h.back_over
           ∙ append_assoc h.front (h.of ∷ []) (p ∷ h.back)
 
+      -- and another behind that
+      pub put_both : (p r : Entry V) → p.lo ≡ k → p.lo <ℤ r.lo → r.lo ≤ℤ z → with_entry r (with_entry p es) ≡ h.front ++ h.of ∷ p ∷ r ∷ h.back
+      put_both p r q a b =
+          let at_hi = h.hi in
+          let at_lo = h.lo in
+          let first : StartsBelow r.lo (h.front ++ h.of ∷ []) = starts_behind r.lo h.front h.of (more_below h.of.lo r.lo h.front (omega (arith, ints)) h.front_starts) (omega (arith, ints)) in
+          ap (with_entry r) (put_inside p q ∙ sym (append_assoc h.front (h.of ∷ []) (p ∷ h.back)) ∙ sym (append_assoc (h.front ++ h.of ∷ []) (p ∷ []) h.back))
+          ∙ with_entry-between r (h.of.hi +ℤ pos 1) high ((h.front ++ h.of ∷ []) ++ p ∷ []) h.back (starts_behind r.lo (h.front ++ h.of ∷ []) p first a) (omega (arith, ints)) h.back_over
+          ∙ append_assoc (h.front ++ h.of ∷ []) (p ∷ []) (r ∷ h.back) ∙ append_assoc h.front (h.of ∷ []) (p ∷ r ∷ h.back)
+
     pub taken_from : (ys : List (Entry V)) → without s (h.front ++ h.of ∷ ys) ≡ h.front ++ ys
     taken_from ys = ap (λ k. without k (h.front ++ h.of ∷ ys)) (sym h.lo) ∙ without-between h.of.lo h.of h.front ys refl h.front_starts
 
@@ -134,45 +153,3 @@ module _ {V : Type 0} (eq : V → V → Bool) (b high : ℤ) (es : List (Entry V
 
     pub end_moved : (y : ℤ) (ys : List (Entry V)) → with_end s y (h.front ++ h.of ∷ ys) ≡ h.front ++ entry h.of.lo y h.of.value ∷ ys
     end_moved y ys = ap (λ k. with_end k y (h.front ++ h.of ∷ ys)) (sym h.lo) ∙ end_put h.of.lo y h.of h.front ys refl h.front_starts
-
-    -- the same with another end
-    abbrev pub ending : ℤ → Entry V
-    ending y = entry h.of.lo y h.of.value
-
-    pub ended : (y : ℤ) → with_end s y es ≡ h.front ++ ending y ∷ h.back
-    ended y = ap (with_end s y) h.parts ∙ end_moved y h.back
-
-    pub end_back : (y : ℤ) → with_end s z (with_end s y es) ≡ es
-    end_back y = ap (with_end s z) (ended y) ∙ ap (λ k. with_end k z (h.front ++ ending y ∷ h.back)) (sym h.lo)
-        ∙ end_put h.of.lo z (ending y) h.front h.back refl h.front_starts
-        ∙ ap (λ x. h.front ++ ending x ∷ h.back) (sym h.hi) ∙ sym h.parts
-
-    -- at a key behind its start, which it had
-    module _ (y k : ℤ) (l : s <ℤ k) (u : k ≤ℤ z) where
-      starts_ended : StartsBelow k (h.front ++ ending y ∷ [])
-      starts_ended =
-          let at_lo = h.lo in
-          starts_behind k h.front (ending y) (more_below h.of.lo k h.front (omega (arith, ints)) h.front_starts) (omega (arith, ints))
-
-      pub absent_behind : start_at k (with_end s y es) ≡ None
-      absent_behind =
-          let at_hi = h.hi in
-          ap (start_at k) (ended y ∙ sym (append_assoc h.front (ending y ∷ []) h.back))
-          ∙ none-between k (h.of.hi +ℤ pos 1) high (h.front ++ ending y ∷ []) h.back starts_ended (omega (arith, ints)) h.back_over
-
-      pub put_behind : (p : Entry V) → p.lo ≡ k → with_entry p (with_end s y es) ≡ h.front ++ ending y ∷ p ∷ h.back
-      put_behind p q =
-          let at_hi = h.hi in
-          ap (with_entry p) (ended y ∙ sym (append_assoc h.front (ending y ∷ []) h.back))
-          ∙ with_entry-between p (h.of.hi +ℤ pos 1) high (h.front ++ ending y ∷ []) h.back (subst (λ x. StartsBelow x (h.front ++ ending y ∷ [])) (sym q) starts_ended) (omega (arith, ints)) h.back_over
-          ∙ append_assoc h.front (ending y ∷ []) (p ∷ h.back)
-
-      -- and another behind that
-      pub put_both : (p r : Entry V) → p.lo ≡ k → p.lo <ℤ r.lo → r.lo ≤ℤ z → with_entry r (with_entry p (with_end s y es)) ≡ h.front ++ ending y ∷ p ∷ r ∷ h.back
-      put_both p r q a b =
-          let at_hi = h.hi in
-          let at_lo = h.lo in
-          let first : StartsBelow r.lo (h.front ++ ending y ∷ []) = starts_behind r.lo h.front (ending y) (more_below h.of.lo r.lo h.front (omega (arith, ints)) h.front_starts) (omega (arith, ints)) in
-          ap (with_entry r) (put_behind p q ∙ sym (append_assoc h.front (ending y ∷ []) (p ∷ h.back)) ∙ sym (append_assoc (h.front ++ ending y ∷ []) (p ∷ []) h.back))
-          ∙ with_entry-between r (h.of.hi +ℤ pos 1) high ((h.front ++ ending y ∷ []) ++ p ∷ []) h.back (starts_behind r.lo (h.front ++ ending y ∷ []) p first a) (omega (arith, ints)) h.back_over
-          ∙ append_assoc (h.front ++ ending y ∷ []) (p ∷ []) (r ∷ h.back) ∙ append_assoc h.front (ending y ∷ []) (p ∷ r ∷ h.back)

@@ -4,13 +4,12 @@ use Rattle.std.specs.Prelude.{IfSome}
 use Rattle.std.specs.Cmp.{IsEquivalence}
 use Rattle.std.proofs.lemmas.Int.{ints}
 use Rattle.std.proofs.lemmas.List.{append_assoc}
-use Rattle.blaze_entries.specs.Starts.{start_at, with_entry, with_end}
+use Rattle.blaze_entries.specs.Starts.{last_below, start_at, with_entry, with_end}
 use Rattle.blaze_table.specs.Entries.{Entry, entry, SameEntries}
-use Rattle.blaze_table.specs.Painted.{ClonesAreAlike}
 use Rattle.blaze_table.specs.Planned.{IsPutAt}
 use Rattle.blaze_table.specs.Splice.{before, after}
 use Rattle.blaze_table.proofs.Paints.EditLists.{start_beside}
-use Rattle.blaze_table.proofs.Neighbours.Holders.{Holder, there, ending, put_both}
+use Rattle.blaze_table.proofs.Neighbours.Holders.{Holder, of_last, end_moved, put_both}
 use Rattle.blaze_table.proofs.Paints.Painted.{before_past, after_past, entries_themselves}
 use Rattle.blaze_table.proofs.Paints.Splices.{before_cuts, after_cuts, below_more}
 
@@ -23,7 +22,7 @@ module _ {V : Type 0} (eq : V → V → Bool) (laws : IsEquivalence eq) (l z hig
   abbrev e : Entry V
   e = h.of
 
-  before_it : before l es ≡ h.front ++ ending eq l high es s t h (l -ℤ pos 1) ∷ []
+  before_it : before l es ≡ h.front ++ entry e.lo (l -ℤ pos 1) e.value ∷ []
   before_it =
       let at_hi = h.hi in
       let up = h.starts in
@@ -37,19 +36,19 @@ module _ {V : Type 0} (eq : V → V → Bool) (laws : IsEquivalence eq) (l z hig
       ap (after z) h.parts ∙ after_past l z h.front (e ∷ h.back) w (below_more e.lo l h.front (omega (arith, ints)) h.front_ends)
       ∙ after_cuts z e h.back (omega (arith, ints)) (omega (arith, ints))
 
-  pub inside_put : (is_clone : V → V → Type 0) → ClonesAreAlike is_clone eq → (y : ℤ) (u : V) (mid new : List (Entry V)) → y ≡ l -ℤ pos 1 → IfSome (start_at s es) (λ f. is_clone f.value u)
-      → mid ≡ with_end s y es → new ≡ with_entry (entry (z +ℤ pos 1) t u) (with_entry (entry l z v) mid) → IsPutAt eq (entry l z v) es new
-  inside_put is_clone alike y u mid new q i a m =
+  pub inside_put : (y : ℤ) (u : V) (mid new : List (Entry V)) → y ≡ l -ℤ pos 1 → IfSome (last_below l es) (λ f. eq f.value u ≡ true)
+      → mid ≡ with_entry (entry (z +ℤ pos 1) t u) (with_entry (entry l z v) es) → new ≡ with_end s y mid → IsPutAt eq (entry l z v) es new
+  inside_put y u mid new q i a m =
       let at_lo = h.lo in
       let up = h.starts in
       let p = entry l z v in
       let r = entry (z +ℤ pos 1) t u in
-      let like : eq e.value u ≡ true = alike e.value u (subst (λ o. IfSome o (λ f. is_clone f.value u)) (there eq l high es s t h) i) in
       record {
         above = r ∷ h.back;
-        like = subst (λ (x : List (Entry V)). SameEntries eq x (r ∷ h.back)) (sym after_it) (refl, h.hi, like, entries_themselves eq laws h.back);
-        put = m ∙ ap (λ x. with_entry r (with_entry p x)) a ∙ put_both eq l high es s t h y l (omega (arith, ints)) (omega (arith, ints)) p r refl (omega (arith, ints)) (omega (arith, ints))
-            ∙ ap (λ x. h.front ++ ending eq l high es s t h x ∷ p ∷ r ∷ h.back) q
-            ∙ sym (append_assoc h.front (ending eq l high es s t h (l -ℤ pos 1) ∷ []) (p ∷ r ∷ h.back))
+        like = subst (λ (x : List (Entry V)). SameEntries eq x (r ∷ h.back)) (sym after_it) (refl, h.hi, of_last eq l high es s t h (λ f. eq f.value u ≡ true) i, entries_themselves eq laws h.back);
+        put = m ∙ ap (with_end s y) (a ∙ put_both eq l high es s t h l (omega (arith, ints)) (omega (arith, ints)) p r refl (omega (arith, ints)) (omega (arith, ints)))
+            ∙ end_moved eq l high es s t h y (p ∷ r ∷ h.back)
+            ∙ ap (λ x. h.front ++ entry e.lo x e.value ∷ p ∷ r ∷ h.back) q
+            ∙ sym (append_assoc h.front (entry e.lo (l -ℤ pos 1) e.value ∷ []) (p ∷ r ∷ h.back))
             ∙ ap (λ x. x ++ p ∷ r ∷ h.back) (sym before_it);
       }

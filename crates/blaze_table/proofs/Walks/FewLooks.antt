@@ -1,5 +1,5 @@
 -- A walk down to a range looks at no more entries than a paint of the range takes out, but for a few.
-use Rattle.std.proofs.Common.{◌≡◌, ◌+◌, ◌≤◌, ℤ, pos, ◌+ℤ◌, ◌≤ℤ◌, Bool, List, [], ◌∷◌, length, refl, ◌∙◌, ap, arith, length-append}
+use Rattle.std.proofs.Common.{◌≡◌, ℕ, ◌+◌, ◌≤◌, ℤ, pos, ◌+ℤ◌, ◌≤ℤ◌, Bool, List, [], ◌∷◌, length, refl, ◌∙◌, sym, ap, arith, length-append}
 use Rattle.std.specs.Prelude.{reverse, Result, Ok, Err, OnOk}
 use Rattle.std.proofs.lemmas.Int.{ints, by_lt_z}
 use Rattle.std.proofs.lemmas.List.{reverse-append}
@@ -71,17 +71,16 @@ module _ {V : Type 0} (eq : V → V → Bool) where
       (λ u m p. rw (p, from_skips (h +ℤ pos 1) e es (omega (arith, ints)), over (omega (arith, ints))) (omega arith))
       (λ u m p. rw (p, from_takes (h +ℤ pos 1) e es (omega (arith, ints)), over (omega (arith, ints))) (omega arith))
 
-  -- the looks of a walk and the work behind it are those of a paint
+  -- the looks of a walk, one look more and the work behind them are those of a paint
   pub counted : (l h low high : ℤ) (old mid new : CountedEntries V) → l ≤ℤ h → StartsAscend low high old.entries → IsCanonical eq old.entries
-      → mid ≡ record old { looks = old.looks + answers l (reverse (below (h +ℤ pos 2) old.entries)) }
-      → IsWorked 2 1 mid new → length new.entries ≤ length (before l mid.entries) + length (after h mid.entries) + 1 → IsCountedPaint old new
-  counted l h low high old mid new w s c seen work short =
+      → mid ≡ record old { looks = mid.looks } → mid.looks ≤ old.looks + answers l (reverse (below (h +ℤ pos 2) old.entries)) + 1
+      → IsWorked 2 0 mid new → length new.entries ≤ length (before l mid.entries) + length (after h mid.entries) + 1 → IsCountedPaint old new
+  counted l h low high old mid new w s c seen looks work short =
       let es = old.entries in
       let same : mid.entries ≡ es = ap (λ (x : CountedEntries V). x.entries) seen in
       let long = ap length same in
       let low_part = ap (λ xs. length (before l xs)) same in
       let high_part = ap (λ xs. length (after h xs)) same in
-      let looks = ap (λ (x : CountedEntries V). x.looks) seen in
       let puts = ap (λ (x : CountedEntries V). x.put_in) seen in
       let taken = ap (λ (x : CountedEntries V). x.taken_out) seen in
       let few = answers_few l (reverse (below (h +ℤ pos 2) es)) in
@@ -94,7 +93,26 @@ module _ {V : Type 0} (eq : V → V → Bool) where
       }
 
   pub counted_paint : {A E : Type 0} (l h low high : ℤ) (old mid new : CountedEntries V) → l ≤ℤ h → StartsAscend low high old.entries → IsCanonical eq old.entries
-      → mid ≡ record old { looks = old.looks + answers l (reverse (below (h +ℤ pos 2) old.entries)) }
-      → (r : Result A E) → OnOk r (IsWorked 2 1 mid new) → OnOk r (length new.entries ≤ length (before l mid.entries) + length (after h mid.entries) + 1) → OnOk r (IsCountedPaint old new)
-  counted_paint l h low high old mid new w s c seen (Ok a) work short = counted l h low high old mid new w s c seen work short
-  counted_paint l h low high old mid new w s c seen (Err e) work short = tt
+      → mid ≡ record old { looks = mid.looks } → mid.looks ≤ old.looks + answers l (reverse (below (h +ℤ pos 2) old.entries)) + 1
+      → (r : Result A E) → OnOk r (IsWorked 2 0 mid new) → OnOk r (length new.entries ≤ length (before l mid.entries) + length (after h mid.entries) + 1) → OnOk r (IsCountedPaint old new)
+  counted_paint l h low high old mid new w s c seen looks (Ok a) work short = counted l h low high old mid new w s c seen looks work short
+  counted_paint l h low high old mid new w s c seen looks (Err e) work short = tt
+
+-- what a walk leaves: the looks alone have risen
+module _ {V : Type 0} (old mid : CountedEntries V) (n : ℕ) (walked : mid ≡ record old { looks = old.looks + n }) where
+  looks_of : mid.looks ≡ old.looks + n
+  looks_of = ap (λ (x : CountedEntries V). x.looks) walked
+
+  pub looked_alone : mid ≡ record old { looks = mid.looks }
+  looked_alone = walked ∙ ap (λ k. record old { looks = k }) (sym looks_of)
+
+  pub looked_few : mid.looks ≤ old.looks + n + 1
+  looked_few = omega (arith, looks_of)
+
+  -- and a look more
+  module _ (next : CountedEntries V) (looked : next ≡ record mid { looks = next.looks }) where
+    pub looked_again : next ≡ record old { looks = next.looks }
+    looked_again = looked ∙ ap (λ (x : CountedEntries V). record x { looks = next.looks }) walked
+
+    pub looked_once_more : next.looks ≤ mid.looks + 1 → next.looks ≤ old.looks + n + 1
+    looked_once_more u = omega (arith, looks_of, u)

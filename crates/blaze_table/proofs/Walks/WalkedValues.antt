@@ -55,7 +55,7 @@ module _ {V : Type 0} (l : ℤ) where
         (λ x. value_free (reverse es) e (holds_over e l x) o ∙ walked_at (e.lo +ℤ pos 1) high es s.2 c.2 o ∙ sym (ap (λ t. option_or t o) (at_over e es l x)))
 
     -- it is the list's
-    walked_value-at : (h low high : ℤ) (es : List (Entry V)) → l ≤ℤ h → StartsAscend low high es → IsCanonical eq es → walked_value l None (reverse (below (h +ℤ pos 2) es)) ≡ at es l
+    pub walked_value-at : (h low high : ℤ) (es : List (Entry V)) → l ≤ℤ h → StartsAscend low high es → IsCanonical eq es → walked_value l None (reverse (below (h +ℤ pos 2) es)) ≡ at es l
     walked_value-at h low high es w s c =
         let k = h +ℤ pos 2 in
         let over = at_before eq (from k es) l l (canonical_part eq (below k es) (from k es) (subst (IsCanonical eq) (halves k low high es s) c)) (above_from k l high (from k es) (omega (arith, ints)) (starts_from k low high es s)) (omega (arith, ints)) in

@@ -6,9 +6,9 @@ ghost use Rattle.blaze_entries.specs.Scanned.{seen_of};
 ghost use Rattle.blaze_entries.specs.Starts.{last_below, start_at};
 ghost use Rattle.blaze_table.specs.Canonical.{IsCanonical};
 ghost use Rattle.blaze_table.specs.Entries.{entry};
-ghost use Rattle.blaze_table.specs.Painted.{ClonesAreAlike};
 ghost use Rattle.blaze_table.specs.Planned.{ends_of, joined_start, ends_in, outer_starts, outer_with};
 ghost use Rattle.blaze_table.specs.Planned.{IsRest, IsPutAt, IsExtended, IsPlanOf, IsWorked};
+ghost use Rattle.blaze_table.specs.Planned.{IsLikeAbove, IsUnlikeAbove};
 ghost use Rattle.blaze_table.specs.Splice.{IsPaintOf};
 
 use super::edits::{clear, trim};
@@ -52,15 +52,16 @@ fn paint_beside<T: Integer, V: Eq + Drop>(
     Ok(())
 }
 
-// Puts a value on the keys from lo up to the plan's end, where no entry beside them is to be joined.
-fn paint_from<T: Integer, V: Eq + Clone>(
+// Puts a value on the keys from lo up to the plan's end, where no entry beside them is to be joined, and `above` is equal to
+// the value of the entry that goes on both below and above them, if there is one.
+fn paint_from<T: Integer, V: Eq + Drop>(
     entries: &mut Counted<T, V>,
     lo: T,
     value: V,
     plan: Plan<T>,
+    above: Option<V>,
 ) -> Result<(), AllocError>
     requires order { T.rank lo ≤ℤ T.rank plan.end }
-    requires clones { ClonesAreAlike V.is_clone V.eq }
     requires canonical { IsCanonical V.eq entries.old.entries }
     requires first { option_map (ends_of T.rank) plan.first
         ≡ option_map range_in (start_at (T.rank lo) entries.old.entries) }
@@ -70,24 +71,26 @@ fn paint_from<T: Integer, V: Eq + Clone>(
         ≡ option_map range_in (last_below (T.rank lo) entries.old.entries) }
     requires covered { option_map (ranks_of T.rank) plan.covered
         ≡ outer_starts (ends_in (T.rank lo) (T.rank plan.end) entries.old.entries) }
+    requires above { IsLikeAbove V.eq (T.rank lo) (T.rank plan.end) entries.old.entries above }
     ensures put { OnOk result
         (IsPutAt V.eq
         (entry (T.rank lo) (T.rank plan.end) value) entries.old.entries entries.new.entries) }
-    ensures worked { OnOk result (IsWorked 2 1 entries.old entries.new) }
+    ensures worked { OnOk result (IsWorked 2 0 entries.old entries.new) }
     ensures err { OnErr result (entries.new.entries ≡ entries.old.entries) }
 {
     let end = plan.end;
     let left = plan.left;
     match left {
-        Some(found) if is_below(end, found.end) => {
-            put_inside(entries, lo, end, value, found.start, found.end)
-        }
+        Some(found) if is_below(end, found.end) => match above {
+            Some(above) => put_inside(entries, lo, end, value, found.start, found.end, above),
+            None => unreachable!(),
+        },
         _ => paint_beside(entries, lo, value, plan),
     }
 }
 
 // Puts the value of the entry that starts at `first` on all keys up to `end`, where no entry above them is to be joined.
-fn paint_on<T: Integer, V: Eq + Clone>(
+fn paint_on<T: Integer, V: Eq + Drop>(
     entries: &mut Counted<T, V>,
     first: T,
     end: T,
@@ -142,25 +145,28 @@ fn with_first<T: Integer>(
     }
 }
 
-/// Puts a value on the keys from lo up to hi, as planned. Refused memory leaves the entries as they are.
-pub fn apply<T: Integer, V: Eq + Clone>(
+/// Puts a value on the keys from lo up to hi, as planned, where `above` is equal to the value of the entry that goes on both
+/// below and above them with another value, if there is one. Refused memory leaves the entries as they are.
+pub fn apply<T: Integer, V: Eq + Drop>(
     entries: &mut Counted<T, V>,
     lo: T,
     hi: T,
     value: V,
     plan: Plan<T>,
+    above: Option<V>,
 ) -> Result<(), AllocError>
     requires order { T.rank lo ≤ℤ T.rank hi }
-    requires clones { ClonesAreAlike V.is_clone V.eq }
     requires canonical { IsCanonical V.eq entries.old.entries }
     requires plan { IsPlanOf V.eq
         (T.rank lo) (T.rank hi) value entries.old.entries (seen_of T.rank plan) }
     requires covered { option_map (ranks_of T.rank) plan.covered
         ≡ outer_starts (ends_in (T.rank lo) (T.rank plan.end) entries.old.entries) }
+    requires above { IsUnlikeAbove V.eq
+        (T.rank lo) (T.rank hi) value entries.old.entries above }
     ensures painted { OnOk result
         (IsPaintOf V.eq
         (entry (T.rank lo) (T.rank hi) value) entries.old.entries entries.new.entries) }
-    ensures worked { OnOk result (IsWorked 2 1 entries.old entries.new) }
+    ensures worked { OnOk result (IsWorked 2 0 entries.old entries.new) }
     ensures err { OnErr result (entries.new.entries ≡ entries.old.entries) }
 {
     entries.in_hand();
@@ -172,7 +178,7 @@ pub fn apply<T: Integer, V: Eq + Clone>(
             Ok(())
         }
         None => {
-            paint_from(entries, lo, value, plan)?;
+            paint_from(entries, lo, value, plan, above)?;
             Ok(())
         }
     }

@@ -1,10 +1,9 @@
 //! A paint into an entry that goes on below and above it.
-ghost use Rattle.std.specs.Prelude.{◌≡◌, pos, ◌+ℤ◌, ◌≤ℤ◌, ◌<ℤ◌, None, OnOk, OnErr};
-ghost use Rattle.blaze_entries.specs.Starts.{start_at, with_entry};
+ghost use Rattle.std.specs.Prelude.{◌≡◌, true, pos, ◌+ℤ◌, ◌≤ℤ◌, ◌<ℤ◌, None, IfSome, OnOk, OnErr};
+ghost use Rattle.blaze_entries.specs.Starts.{last_below, start_at, with_entry};
 ghost use Rattle.blaze_table.specs.Canonical.{IsCanonical};
 ghost use Rattle.blaze_table.specs.Entries.{entry};
 ghost use Rattle.blaze_table.specs.LastBelow.{IsLastBelow};
-ghost use Rattle.blaze_table.specs.Painted.{ClonesAreAlike};
 ghost use Rattle.blaze_table.specs.Planned.{IsPutAt, IsWorked};
 
 use blaze_entries::Counted;
@@ -41,31 +40,31 @@ fn put_both<T: Integer, V: Drop>(
 }
 
 /// Puts the painted entry into the one that starts at `start`, below it, and ends at `last`, above it: that entry ends below
-/// it, and a clone of its value goes on above it. Refused memory leaves the entries as they are.
-pub fn put_inside<T: Integer, V: Eq + Clone>(
+/// it, and `above`, which is equal to its value, goes on above it. Both starts are put in before the end is moved. Refused memory
+/// leaves the entries as they are.
+pub fn put_inside<T: Integer, V: Eq + Drop>(
     entries: &mut Counted<T, V>,
     lo: T,
     end: T,
     value: V,
     start: T,
     last: T,
+    above: V,
 ) -> Result<(), AllocError>
     requires order { T.rank lo ≤ℤ T.rank end }
-    requires clones { ClonesAreAlike V.is_clone V.eq }
     requires canonical { IsCanonical V.eq entries.old.entries }
     requires found { IsLastBelow (T.rank lo) (T.rank start) (T.rank last) entries.old.entries }
     requires over { T.rank end <ℤ T.rank last }
+    requires like { IfSome (last_below (T.rank lo) entries.old.entries)
+        (λ e. V.eq e.value above ≡ true) }
     ensures put { OnOk result
         (IsPutAt V.eq
         (entry (T.rank lo) (T.rank end) value) entries.old.entries entries.new.entries) }
-    ensures worked { OnOk result (IsWorked 2 1 entries.old entries.new) }
+    ensures worked { OnOk result (IsWorked 2 0 entries.old entries.new) }
     ensures err { OnErr result (entries.new.entries ≡ entries.old.entries) }
 {
     entries.in_hand();
-    let above = entries.set_end_cloned(start, before(lo, start))?;
-    if let Err(refused) = put_both(entries, lo, end, value, last, above) {
-        entries.set_end(start, last);
-        return Err(refused);
-    }
+    put_both(entries, lo, end, value, last, above)?;
+    entries.set_end(start, before(lo, start));
     Ok(())
 }

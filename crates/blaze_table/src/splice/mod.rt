@@ -8,6 +8,7 @@ ghost use Rattle.blaze_table.specs.Work.{IsCountedPaint};
 ghost use Rattle.blaze_table.specs.Entries.{entry, at, SameOption};
 ghost use Rattle.blaze_table.specs.Painted.{IsInside, ClonesAreAlike};
 ghost use Rattle.blaze_table.specs.Planned.{ends_in, outer_starts, IsPlanOf, IsWorked, reaches};
+ghost use Rattle.blaze_table.specs.Planned.{IsUnlikeAbove};
 ghost use Rattle.blaze_table.specs.Splice.{IsListPainted, before, after};
 ghost use Rattle.blaze_table.specs.Table.{IsTable};
 
@@ -21,7 +22,7 @@ use apply::apply;
 use blaze_entries::{Counted, Plan};
 use blaze_int::compare::{is_at_most, length};
 use blaze_int::{Integer, SafeLength};
-use plan::plan;
+use plan::{plan, value_above};
 use std::alloc::AllocError;
 
 // Whether one entry has all keys of a range that ends at `hi`, with an equal value.
@@ -35,10 +36,11 @@ fn is_inside<T: Integer>(plan: Plan<T>, hi: T) -> bool
     }
 }
 
-// Puts a value on the keys from lo up to hi, as planned, where `outside` is how many keys lie outside of the range. Inside an
-// entry with an equal value nothing changes. It is inlined, so that a plan is not copied on its way here.
+// Puts a value on the keys from lo up to hi, as planned, where `outside` is how many keys lie outside of the range, and `above`
+// is equal to the value of the entry that goes on both below and above it with another value, if there is one. Inside an entry
+// with an equal value nothing changes. It is inlined, so that a plan is not copied on its way here.
 #[inline(always)]
-fn paint_planned<T: Integer, V: Eq + Clone>(
+fn paint_planned<T: Integer, V: Eq + Drop>(
     entries: &mut Counted<T, V>,
     len: T::SafeLen,
     lo: T,
@@ -46,9 +48,9 @@ fn paint_planned<T: Integer, V: Eq + Clone>(
     value: V,
     plan: Plan<T>,
     outside: T::SafeLen,
+    above: Option<V>,
 ) -> Result<T::SafeLen, AllocError>
     requires order { T.rank lo ≤ℤ T.rank hi }
-    requires clones { ClonesAreAlike V.is_clone V.eq }
     requires table { IsTable V.eq T.low T.high (T.SafeLen.number len) entries.old.entries }
     requires plan { IsPlanOf V.eq
         (T.rank lo) (T.rank hi) value entries.old.entries (seen_of T.rank plan) }
@@ -57,6 +59,8 @@ fn paint_planned<T: Integer, V: Eq + Clone>(
     requires outside { pos (T.SafeLen.number outside)
         ≡ keys_in (before (T.rank lo) entries.old.entries)
         +ℤ keys_in (after (T.rank hi) entries.old.entries) }
+    requires above { IsUnlikeAbove V.eq
+        (T.rank lo) (T.rank hi) value entries.old.entries above }
     ensures table { IfOk result
         (λ len. IsTable V.eq T.low T.high (T.SafeLen.number len) entries.new.entries) }
     ensures painted { OnOk result
@@ -64,7 +68,7 @@ fn paint_planned<T: Integer, V: Eq + Clone>(
         (entry (T.rank lo) (T.rank hi) value) entries.old.entries entries.new.entries) }
     ensures inside { IsInside V.eq (T.rank lo) (T.rank hi) value entries.old.entries
         → (result ≡ Ok len) × (entries.new.entries ≡ entries.old.entries) }
-    ensures worked { OnOk result (IsWorked 2 1 entries.old entries.new) }
+    ensures worked { OnOk result (IsWorked 2 0 entries.old entries.new) }
     ensures short { OnOk result (length entries.new.entries
         ≤ length (before (T.rank lo) entries.old.entries)
         + length (after (T.rank hi) entries.old.entries)
@@ -77,7 +81,7 @@ fn paint_planned<T: Integer, V: Eq + Clone>(
     if is_inside(plan, hi) {
         return Ok(len);
     }
-    apply(entries, lo, hi, value, plan)?;
+    apply(entries, lo, hi, value, plan, above)?;
     Ok(outside.plus(length(lo, hi)))
 }
 
@@ -105,8 +109,9 @@ pub fn paint_by_splice<T: Integer, V: Eq + Clone>(
     ensures err { OnErr result (entries.new.entries ≡ entries.old.entries) }
 {
     entries.in_hand();
-    let seen = plan(entries, len, lo, hi, &value);
-    paint_planned(entries, len, lo, hi, value, seen.0, seen.1)
+    let (plan, outside) = plan(entries, len, lo, hi, &value);
+    let above = value_above(entries, hi, plan.left)?;
+    paint_planned(entries, len, lo, hi, value, plan, outside, above)
 }
 
 /// Puts a value on the keys from lo up to hi, and answers how many keys there are then: the entries that the range touches
@@ -133,8 +138,8 @@ pub fn paint<T: Integer, V: Eq + Clone>(
     ensures err { OnErr result (entries.new.entries ≡ entries.old.entries) }
 {
     entries.in_hand();
-    let seen = entries.scan(len, lo, hi, &value);
-    paint_planned(entries, len, lo, hi, value, seen.0, seen.1)
+    let (plan, outside, above) = entries.scan(len, lo, hi, &value)?;
+    paint_planned(entries, len, lo, hi, value, plan, outside, above)
 }
 
 /// Puts a value on a key, as `paint` does on a range, and answers the value that was there, which the walk finds, and how many
@@ -159,7 +164,7 @@ pub fn insert<T: Integer, V: Eq + Clone>(
     ensures err { OnErr result (entries.new.entries ≡ entries.old.entries) }
 {
     entries.in_hand();
-    let seen = entries.scan_with_value(len, key, key, &value)?;
-    let rest = paint_planned(entries, len, key, key, value, seen.0, seen.1)?;
-    Ok((seen.2, rest))
+    let (plan, outside, above, old) = entries.scan_with_value(len, key, key, &value)?;
+    let rest = paint_planned(entries, len, key, key, value, plan, outside, above)?;
+    Ok((old, rest))
 }

@@ -1,14 +1,16 @@
 //! What a paint has to know of the entries beside its range, found by single looks.
-ghost use Rattle.std.specs.Prelude.{◌≡◌, ◌+◌, pos, ◌+ℤ◌, ◌≤ℤ◌, reverse, None};
+ghost use Rattle.std.specs.Prelude.{◌≡◌, ◌+◌, ◌≤◌, pos, ◌+ℤ◌, ◌≤ℤ◌, reverse, Some, None};
+ghost use Rattle.std.specs.Prelude.{IsSome, IfSome, IfOk, OnErr};
 ghost use Rattle.std.specs.Option.{option_map};
-ghost use Rattle.blaze_entries.specs.Found.{ranks_of};
+ghost use Rattle.blaze_entries.specs.Found.{found_of, ranks_of};
 ghost use Rattle.blaze_entries.specs.Scanned.{seen_of, unseen, walked, walked_covered};
-ghost use Rattle.blaze_entries.specs.Scanned.{answers, walked_keys};
-ghost use Rattle.blaze_entries.specs.Starts.{below};
+ghost use Rattle.blaze_entries.specs.Scanned.{answers, walked_keys, IsAboveCloned, GoesOnUnlike};
+ghost use Rattle.blaze_entries.specs.Starts.{below, start_at};
 
-use blaze_entries::{Counted, Plan, less, next_or_last};
+use blaze_entries::{Counted, Found, Plan, less, next_or_last};
 use blaze_int::Integer;
 use blaze_int::compare::is_below;
+use std::alloc::AllocError;
 
 /// Walks down the entries by single looks, from the one that may start right above a range to the first that starts below
 /// it. A length loses how many of their keys lie in the range.
@@ -49,4 +51,29 @@ pub fn plan<T: Integer, V: Eq>(
         last = entries.below(found.start, value);
     }
     (plan, left)
+}
+
+/// A clone of the value of the entry `left`, which starts below a range, where it goes on above the range with another value,
+/// by one look. A refused clone leaves the entries.
+pub fn value_above<T: Integer, V: Eq + Clone>(
+    entries: &mut Counted<T, V>,
+    hi: T,
+    left: Option<Found<T>>,
+) -> Result<Option<V>, AllocError>
+    requires { IfSome left (λ f. IsSome (start_at (T.rank f.start) entries.old.entries)) }
+    ensures above { IfOk result (λ r. IfSome left (λ f. IsAboveCloned V.is_clone (T.rank hi)
+        (Some (found_of T.rank f))
+        (option_map (λ e. e.value) (start_at (T.rank f.start) entries.old.entries)) r)) }
+    ensures refused { OnErr result
+        (GoesOnUnlike (T.rank hi) (option_map (found_of T.rank) left)) }
+    ensures looked { entries.new ≡ record entries.old { looks = entries.new.looks } }
+    ensures few { entries.new.looks ≤ entries.old.looks + 1 }
+{
+    match left {
+        Some(found) if !found.is_equal && is_below(hi, found.end) => {
+            let above = entries.clone_value(found.start)?;
+            Ok(Some(above))
+        }
+        _ => Ok(None),
+    }
 }

@@ -1,4 +1,4 @@
-use Rattle.std.proofs.Common.{◌≡◌, refl}
+use Rattle.std.proofs.Common.{refl}
 use Rattle.std.specs.Map.Iter.{deref_pair}
 use Rattle.blaze_entries.specs.Entries.{shown_entry}
 use Rattle.blaze_entries.specs.Places.{places, full}

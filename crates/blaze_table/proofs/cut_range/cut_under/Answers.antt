@@ -18,8 +18,8 @@ minus-requires g c =
     let all = front_covered eq g.met.V.Eq.laws hi g.T.Integer.high es _ _ h c.requires.table.canonical lo starts c.requires.order c.requires.ends_above in
     omega (arith, ints, all, covered_fits eq lo hi es c.requires.table.canonical, c.requires.table.counted, c.length.ensures)
 
-pub returns-in_ok-cut_hole-clause-table : goal.returns-in_ok-cut_hole-clause-table
-returns-in_ok-cut_hole-clause-table g c =
+pub returns-in_ok-cut_hole-in-Some-clause-table : goal.returns-in_ok-cut_hole-in-Some-clause-table
+returns-in_ok-cut_hole-in-Some-clause-table g c =
     let rank = g.T.Integer.rank in
     let eq = g.V.PartialEq.eq in
     let laws = g.met.V.Eq.laws in
@@ -29,7 +29,7 @@ returns-in_ok-cut_hole-clause-table g c =
     let h = holder eq (hi +ℤ pos 1) g.T.Integer.high es g.T.Integer.low _ _ c.in_hand.ensures c.requires.table.canonical c.requires.found in
     let starts : rank c.args.start ≤ℤ lo = omega (arith, ints, lt_holds (rank c.args.start) lo (sym c.is_below.ensures ∙ c.if-is_below.true)) in
     let all = front_covered eq laws hi g.T.Integer.high es _ _ h c.requires.table.canonical lo starts c.requires.order c.requires.ends_above in
-    cut_table eq laws lo hi c.requires.order es c.cut_hole.new.entries.entries c.requires.table.canonical c.in_ok-cut_hole.ensures.cut
+    cut_table eq laws lo hi c.requires.order es c.cut_hole.new.entries.entries c.requires.table.canonical c.in_ok-cut_hole-in-Some.ensures.cut
     g.T.Integer.low g.T.Integer.high _ _ c.requires.table (omega (arith, ints, all, c.minus.ensures, c.length.ensures))
 
 pub returns-in_ok-rest-clause-cut : goal.returns-in_ok-rest-clause-cut

@@ -8,6 +8,7 @@ use Rattle.blaze_entries.specs.Starts.{start_at}
 use Rattle.blaze_table.specs.Planned.{joined_start, ends_in, outer_starts, outer_with}
 use Rattle.blaze_table.proofs.Cuts.Splits.{last_at}
 use Rattle.blaze_table.proofs.Paints.StartsIn.{outer_on}
+use Rattle.blaze_table.proofs.Walks.AboveValues.{like_above}
 use Rattle.blaze_table.proofs.Walks.Plans.{rest_is, rest_above, above_of}
 use Rattle.blaze_table.proofs.Paints.Widened.{paint_extends, paint_puts, started_at, started_below, started_there, end_up}
 use Rattle.blaze_table.proofs.splice.apply.apply.Goals as goal
@@ -64,6 +65,13 @@ paint_from-requires-clause-rest g c =
     let eq = g.V.PartialEq.eq in
     let up : rank c.args.hi ≤ℤ rank c.args.plan.end = end_up eq g.met.V.Eq.laws (rank c.args.lo) (rank c.args.hi) c.args.value c.requires.order g.T.Integer.low g.T.Integer.high c.args.entries.now.entries c.in_hand.ensures c.requires.canonical (rank c.args.plan.end) c.requires.plan.end in
     rest_is eq g.met.V.Eq.laws (rank c.args.lo) (rank c.args.hi) c.args.value c.requires.order g.T.Integer.low g.T.Integer.high c.args.entries.now.entries c.in_hand.ensures c.requires.canonical (seen_of rank c.args.plan) up c.requires.plan
+
+pub paint_from-requires-clause-above : goal.paint_from-requires-clause-above
+paint_from-requires-clause-above g c =
+    let rank = g.T.Integer.rank in
+    let eq = g.V.PartialEq.eq in
+    let up : rank c.args.hi ≤ℤ rank c.args.plan.end = end_up eq g.met.V.Eq.laws (rank c.args.lo) (rank c.args.hi) c.args.value c.requires.order g.T.Integer.low g.T.Integer.high c.args.entries.now.entries c.in_hand.ensures c.requires.canonical (rank c.args.plan.end) c.requires.plan.end in
+    like_above eq c.args.value (rank c.args.lo) (rank c.args.hi) (rank c.args.plan.end) c.requires.order up c.args.above c.args.entries.now.entries c.requires.above (c.in-None.ensures ∙ ap (joined_start (rank c.args.lo)) c.requires.plan.left)
 
 pub returns-in_ok-paint_on-in-Some-clause-painted : goal.returns-in_ok-paint_on-in-Some-clause-painted
 returns-in_ok-paint_on-in-Some-clause-painted g c =
