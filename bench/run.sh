@@ -27,7 +27,7 @@ for crate in blaze_int blaze_entries blaze_table blaze_streams blaze_iters range
         exit 1
     fi
 done
-"$root/rangemap" </dev/null
+"$root/prove" rangemap
 
 echo "bench: building the other sides" >&2
 rust=(rustc --edition 2024 -O -C target-cpu=x86-64-v2 -C panic=abort -A dead_code)

@@ -1,11 +1,11 @@
 #!/usr/bin/env bash
 # Runs each line of tests/bad_lines.txt alone after a few good ones. It must be bad: `bad line N` is all that is printed of it,
-# and the status is 2. The last line is 'N passed, M failed'. SCRIPT_PROGRAM names the program; without it `./script` builds one
-# where that is needed.
+# and the status is 2. The last line is 'N passed, M failed'. SCRIPT_PROGRAM names the program; without it `./prove script` builds
+# one where that is needed.
 set -euo pipefail
 here="$(cd "$(dirname "${BASH_SOURCE[0]}")" && pwd)"
 program="${SCRIPT_PROGRAM:-$here/../crates/script/out/script}"
-[ -n "${SCRIPT_PROGRAM:-}" ] || "$here/../script" </dev/null
+[ -n "${SCRIPT_PROGRAM:-}" ] || "$here/../prove" script
 
 work="$(mktemp -d)"
 trap 'rm -rf "$work"' EXIT

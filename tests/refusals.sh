@@ -15,14 +15,14 @@
 #     tests/refusals.sh          all cases
 #     tests/refusals.sh WORD     those whose call has the word
 #
-# SCRIPT_PROGRAM names a program to sweep; without it `./script` builds one where that is needed.
+# SCRIPT_PROGRAM names a program to sweep; without it `./prove script` builds one where that is needed.
 set -euo pipefail
 here="$(cd "$(dirname "${BASH_SOURCE[0]}")" && pwd)"
 only="${1:-}"
 program="${SCRIPT_PROGRAM:-$here/../crates/script/out/script}"
 work="$(mktemp -d)"
 trap 'rm -rf "$work"' EXIT
-[ -n "${SCRIPT_PROGRAM:-}" ] || "$here/../script" </dev/null
+[ -n "${SCRIPT_PROGRAM:-}" ] || "$here/../prove" script
 cc -shared -fPIC -O1 -o "$work/refuse.so" "$here/refuse.c"
 
 # What is printed after each call.

@@ -1,0 +1,129 @@
+#!/usr/bin/env bash
+# ./rangemap, ./script and ./prove: help, wrong arguments, answers, bad lines with their text, and what is done without a proof,
+# in a copy of the sources with nothing proved, by `rt try` and by a stand-in for `rt` that answers as each case wants. Both
+# programs are to be proved before; where ./rangemap is not, it is proved first. The last line is 'N passed, M failed'.
+set -euo pipefail
+here="$(cd "$(dirname "${BASH_SOURCE[0]}")" && pwd)"
+top="$(cd "$here/.." && pwd)"
+"$top/prove" rangemap
+work="$(mktemp -d)"
+trap 'rm -rf "$work"' EXIT
+
+passed=0
+failed=0
+judge() { # what is wanted, what was got, what was run
+    if [ "$1" = "$2" ]; then passed=$((passed + 1)); else failed=$((failed + 1)) && echo "$3: wanted '$1', got '$2'"; fi
+}
+
+# Runs a command and compares its status and its standard output; `told` is then its standard error.
+run() { # what it is called here, the status and the output that are wanted, the command
+    local what="$1" status=0 wanted="$2" printed="$3"
+    shift 3
+    "$@" >"$work/printed" 2>"$work/told" || status=$?
+    told="$(cat "$work/told")"
+    judge "$wanted" "$status" "$what: status"
+    judge "$printed" "$(cat "$work/printed")" "$what: output"
+}
+tells() { # what it is called here, texts that standard error must have
+    local what="$1" text
+    shift
+    for text in "$@"; do judge yes "$([[ "$told" = *"$text"* ]] && echo yes || echo no)" "$what: '$text' on standard error"; done
+}
+
+printf 'paint 2 5 a\npaint 3 4 b\nget 4\nlen\nlist\n' >"$work/lines"
+answers=$'true\nfalse\nb\n4\n(2..=2, "a"), (3..=4, "b"), (5..=5, "a")'
+printf 'paint 2 5 a\nget 4 \nlen\n' >"$work/bad"
+bad_answers=$'true\nerror line 2'
+
+# ---- Help and arguments
+run "help" 0 "$(cat "$top/tools/rangemap.help")" "$top/rangemap" --help
+judge '' "$told" "help: standard error"
+while IFS= read -r line; do
+    judge yes "$(grep -q -F "    $line  " "$top/tools/rangemap.help" && echo yes || echo no)" "'$line' in the help"
+done < <(sed -n '/^| line | prints |$/,/^$/{s/^| `\([^`]*\)` .*/\1/p; s/^| \(an empty line\) .*/\1/p}' "$top/README.md")
+for program in rangemap script prove; do
+    run "$program with a wrong argument" 2 '' "$top/$program" lines
+    tells "$program with a wrong argument" "'lines' is not understood" "usage: ./$program"
+    run "$program with a word after --help" 2 '' "$top/$program" --help me
+done
+run "script's help" 0 "$(cat "$top/tools/script.help")" "$top/script" --help
+run "prove's help" 0 'usage: ./prove [rangemap|script]' "$top/prove" --help
+
+# ---- Answers of the proved program
+run "an answer" 0 "$answers" "$top/rangemap" <"$work/lines"
+judge '' "$told" "an answer: standard error"
+run "an answer to a pipe" 0 "$answers" "$top/rangemap" < <(cat "$work/lines")
+run "a bad line of a file" 2 "$bad_answers" "$top/rangemap" <"$work/bad"
+judge "rangemap: line 2 is bad: 'get 4 '" "$told" "a bad line of a file: standard error"
+run "a bad line of a pipe" 2 "$bad_answers" "$top/rangemap" < <(cat "$work/bad")
+judge '' "$told" "a bad line of a pipe: standard error"
+{
+    read -r _
+    run "a bad line of a file's rest" 2 "error line 1" "$top/rangemap"
+} <"$work/bad"
+judge "rangemap: line 1 is bad: 'get 4 '" "$told" "a bad line of a file's rest: standard error"
+
+# ---- Nothing proved, and a stand-in for the toolchain
+mkdir "$work/tree" "$work/bin"
+tar -C "$top" --exclude=out -cf - rangemap script prove tools crates crates.txt HANDLES | tar -C "$work/tree" -xf -
+cat >"$work/bin/rt" <<'END'
+#!/usr/bin/env bash
+case "$1" in
+    version) echo "a stand-in" ;;
+    lib) echo "${PWD##*/}" >>"$STAND_IN/proved" ;;
+    run) mkdir -p out && cp "$STAND_IN/program" "out/${PWD##*/}" ;;
+    try) cat "$STAND_IN/answers" && cat "$STAND_IN/said" >&2 && exit "$(cat "$STAND_IN/status")" ;;
+esac
+END
+printf '#!/bin/sh\nexec cat\n' >"$work/program"
+chmod +x "$work/bin/rt" "$work/program"
+stand_in() { env STAND_IN="$work" PATH="$work/bin:$PATH" "$@"; }
+
+# What `rt try` answers: its status, its last line, and what the wrapper is to end with and print.
+tried() { # what it is called here, these four
+    echo "$2" >"$work/status"
+    printf 'error line 2\n' >"$work/answers"
+    printf '| error line 2\nchecked: so it went\n%s\n' "$3" >"$work/said"
+    run "$1" "$4" "$5" stand_in "$work/tree/rangemap" <"$work/bad"
+}
+tried "a try that ends" 0 "run=ended status=0 runners=2 proved=no" 0 "error line 2"
+tells "a try that ends" "not proved yet" "not proved: built without a proof and run with checks" "\`./prove rangemap\`"
+tried "a try without memory" 3 "run=ended status=3 runners=1 proved=no" 3 "error line 2"
+tried "a try with a bad line" 2 "run=ended status=2 runners=2 proved=no" 2 "error line 2"
+tells "a try with a bad line" "line 2 is bad: 'get 4 '"
+for end in "1 none" "2 none" "3 none" "4 fault" "5 differ" "6 no-answer"; do
+    tried "a try with status $end" "${end% *}" "run=${end#* } proved=no" 70 ''
+    tells "a try with status $end" "checked: so it went" "\`./prove rangemap\` proves it"
+done
+head -c $((64 << 20)) /dev/zero >"$work/zeros"
+echo >>"$work/zeros"
+run "a try with too much input" 70 '' stand_in "$work/tree/rangemap" <"$work/zeros"
+# (a terminal's output and errors are one)
+terminal='import pty, sys; sys.exit(pty.spawn(sys.argv[1:]) >> 8)'
+status=0
+told="$(stand_in python3 -c "$terminal" "$work/tree/rangemap" </dev/null)" || status=$?
+judge 70 "$status" "nothing proved, at a terminal: status"
+tells "nothing proved, at a terminal" "not proved yet" "a file or a pipe" "\`./prove rangemap\` proves it"
+
+# ---- A proof by the stand-in: each crate after those that it stands on, and the program fits until a source file changes.
+run "a proof" 0 '' stand_in "$work/tree/prove" rangemap
+judge "blaze_int blaze_entries blaze_table blaze_streams blaze_iters range_map_blaze range_map_cli" "$(paste -sd ' ' "$work/proved")" "the crates that are proved"
+run "a proof that is there" 0 '' stand_in "$work/tree/prove" rangemap
+judge "prove: rangemap is proved" "$told" "a proof that is there"
+run "the program that was proved" 0 "$(cat "$work/lines")" stand_in "$work/tree/rangemap" <"$work/lines"
+judge '' "$told" "the program that was proved: standard error"
+echo '//' >>"$work/tree/crates/blaze_int/src/lib.rt"
+tried "a source file that changed" 0 "run=ended status=0 runners=2 proved=no" 0 "error line 2"
+tells "a source file that changed" "not proved since its sources changed"
+sed -i 's/lib) .*/lib) echo "an open goal" \&\& exit 1 ;;/' "$work/bin/rt"
+run "a proof that fails" 70 '' stand_in "$work/tree/prove"
+tells "a proof that fails" "an open goal" "blaze_int was not proved"
+
+# ---- Nothing proved, and the toolchain itself
+rm -r "$work/tree/crates/rangemap/out"
+sed -i '$d' "$work/tree/crates/blaze_int/src/lib.rt"
+run "an answer without a proof" 2 "$bad_answers" "$work/tree/rangemap" <"$work/bad"
+tells "an answer without a proof" "not proved yet" "line 2 is bad: 'get 4 '" "not proved: built without a proof"
+
+echo "$passed passed, $failed failed"
+[ "$failed" = 0 ]

@@ -1,0 +1,47 @@
+# What the programs of this repository are made of. tools/run, tools/prove and tools/noted read this file.
+#
+# Beside a proved program, crates/NAME/out/NAME, the file made_of keeps what it was made of: the toolchain, the crates with what
+# they stand on, and the sum of each source file. The program fits as long as that is what stands there.
+root="$(cd "$(dirname "${BASH_SOURCE[0]}")/.." && pwd)"
+programs=(rangemap script)
+declare -A proof_takes=([rangemap]="25 to 40 minutes on four processors" [script]="40 to 60 minutes on four processors")
+
+program_of() { echo "$root/crates/$1/out/$1"; }
+note_of() { echo "$root/crates/$1/out/made_of"; }
+
+declare -A stands_on
+while IFS= read -r line; do
+    line="${line%%#*}"
+    if [[ "$line" != *:* ]]; then continue; fi
+    read -r crate _ <<<"${line%%:*}"
+    stands_on[$crate]="${line#*:}"
+done <"$root/crates.txt"
+
+# The crates of some programs, each after all that it stands on. A library of the toolchain has no line in crates.txt.
+crates_of() {
+    local -A placed=()
+    local crate
+    for crate in "$@"; do place "$crate"; done
+}
+place() {
+    local below
+    if [ -z "${stands_on[$1]+is}" ] || [ -n "${placed[$1]+is}" ]; then return 0; fi
+    placed[$1]=1
+    for below in ${stands_on[$1]}; do place "$below"; done
+    echo "$1"
+}
+
+# What a program would be made of now. Without a toolchain the one that was noted is taken.
+made_of() (
+    mapfile -t crates < <(crates_of "$1")
+    if command -v rt >/dev/null; then rt version; else head -n 1 "$(note_of "$1")" 2>/dev/null || echo "no toolchain"; fi
+    for crate in "${crates[@]}"; do echo "$crate:${stands_on[$crate]}"; done
+    cd "$root/crates" || exit
+    find "${crates[@]}" -name out -prune -o -name must-fail -prune -o -type f \( -name '*.rt' -o -name '*.antt' \) -print0 |
+        LC_ALL=C sort -z | xargs -0 sha256sum
+)
+
+# Whether a program is there, proved, and fits.
+is_proved() {
+    [ -x "$(program_of "$1")" ] && [ -f "$(note_of "$1")" ] && [ "$(made_of "$1")" = "$(cat "$(note_of "$1")")" ]
+}
