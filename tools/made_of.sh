@@ -34,7 +34,7 @@ place() {
 # What a program would be made of now. Without a toolchain the one that was noted is taken.
 made_of() (
     mapfile -t crates < <(crates_of "$1")
-    if command -v rt >/dev/null; then rt version; else head -n 1 "$(note_of "$1")" 2>/dev/null || echo "no toolchain"; fi
+    if command -v rt >/dev/null; then rt version </dev/null; else head -n 1 "$(note_of "$1")" 2>/dev/null || echo "no toolchain"; fi
     for crate in "${crates[@]}"; do echo "$crate:${stands_on[$crate]}"; done
     cd "$root/crates" || exit
     find "${crates[@]}" -name out -prune -o -name must-fail -prune -o -type f \( -name '*.rt' -o -name '*.antt' \) -print0 |
