@@ -108,8 +108,12 @@ tells "nothing proved, at a terminal" "not proved yet" "a file or a pipe" "\`./p
 # ---- A proof by the stand-in: each crate after those that it stands on, and the program fits until a source file changes.
 run "a proof" 0 '' stand_in "$work/tree/prove" rangemap
 judge "blaze_int blaze_entries blaze_table blaze_streams blaze_iters range_map_blaze range_map_cli" "$(paste -sd ' ' "$work/proved")" "the crates that are proved"
-run "a proof that is there" 0 '' stand_in "$work/tree/prove" rangemap
-judge "prove: rangemap is proved" "$told" "a proof that is there"
+rm "$work/proved"
+run "a proof of the other" 0 '' stand_in "$work/tree/prove"
+tells "a proof of the other" "rangemap is proved" "proved: script, in"
+judge "blaze_int blaze_entries blaze_table blaze_streams blaze_iters range_map_blaze range_map_cli range_map_multi" "$(paste -sd ' ' "$work/proved")" "the crates that are proved for both"
+run "a proof that is there" 0 '' stand_in "$work/tree/prove"
+judge $'prove: rangemap is proved\nprove: script is proved' "$told" "a proof that is there"
 run "the program that was proved" 0 "$(cat "$work/lines")" stand_in "$work/tree/rangemap" <"$work/lines"
 judge '' "$told" "the program that was proved: standard error"
 echo '//' >>"$work/tree/crates/blaze_int/src/lib.rt"
