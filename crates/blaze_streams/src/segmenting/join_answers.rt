@@ -28,7 +28,8 @@ pub fn answer_either<
     segments: CanonMapIter<T, (Option<VCL>, Option<VCR>)>,
     mut f: F,
 ) -> Result<CanonMapIter<T, Owned<W>>, AllocError>
-    requires { IsCallableAtEach (either VCL.shown VCR.shown) F.FnMut f (values segments) }
+    requires callable { IsCallableAtEach (either VCL.shown VCR.shown) F.FnMut f (values segments) }
+    requires joined { AllJoined Full segments }
     ensures { IfOk result (λ new. IsTransformed (either VCL.shown VCR.shown) F.FnMut W.eq T.low
         T.high f segments new) }
 {

@@ -18,7 +18,7 @@ loop-item-init g c =
 
 pub f-answer-requires : goal.f-answer-requires
 f-answer-requires g c =
-    takes_next (either g.VCL.ValueCarrier.shown g.VCR.ValueCarrier.shown) g.F.FnMut (pair_eq g.VCL.Value.PartialEq.eq g.VCR.Value.PartialEq.eq) g.W.PartialEq.eq g.T.Integer.low g.T.Integer.high c.args.f _ c.requires _ _
+    takes_next (either g.VCL.ValueCarrier.shown g.VCR.ValueCarrier.shown) g.F.FnMut (pair_eq g.VCL.Value.PartialEq.eq g.VCR.Value.PartialEq.eq) g.W.PartialEq.eq g.T.Integer.low g.T.Integer.high c.args.f _ c.requires.callable _ _
     (shown_range g.T.Integer.rank (shown_pair g.VCL.ValueCarrier.shown g.VCR.ValueCarrier.shown) c.in-Some.item) c.loop-item.f _ c.loop-item.invariant
     c.in-Some.ensures.steps.0 _ refl
 
