@@ -38,7 +38,7 @@ row_eq eq = pointwise (option_eq eq)
 
 -- a segment as an entry, with its row as its value
 abbrev pub entry_of : {T : Type 0} → (T → ℤ) → Segment T → Entry (List (Option ℕ))
-entry_of rank s = record { lo = rank s.start; hi = rank s.end; value = s.at.items }
+entry_of rank s = record { lo = rank s.lo; hi = rank s.hi; value = s.at.items }
 
 abbrev pub entries_of : {T : Type 0} → (T → ℤ) → List (Segment T) → List (Entry (List (Option ℕ)))
 entries_of rank segments = map (entry_of rank) segments

@@ -92,7 +92,7 @@ fn of_lists(rt: &HostRuntime) -> Result<(), AllocError> {
     let lists = vec![in alloc; first, second, third]?;
     let _ = println!(rt; "segments");
     for segment in segments(alloc, &lists)? {
-        let _ = println!(rt; "{}..={} {:?}", segment.start, segment.end, segment.at);
+        let _ = println!(rt; "{}..={} {:?}", segment.lo, segment.hi, segment.at);
     }
     let none: Vec<Vec<(char, char)>> = Vec::new(alloc);
     let _ = println!(rt; "{}", segments(alloc, &none)?.len());

@@ -35,7 +35,7 @@ pub fn full_answers<T: Integer, A: Copy, S: Shows<A>, W: Eq + Clone, F: FnMut(&[
     while let Some(segment) = next_segment(alloc, cursors)? {
         fill_row(&mut row, &segment.at, lists)?;
         let answer = f(&row);
-        push_joined(&mut out, segment.start, segment.end, Owned(answer))?;
+        push_joined(&mut out, segment.lo, segment.hi, Owned(answer))?;
     }
     Ok(CanonMapIter::new(out))
 }
@@ -69,7 +69,7 @@ fn inner_answers_of_some<T: Integer, A: Copy, S: Shows<A>, W: Eq + Clone, F: FnM
             continue;
         }
         let answer = f(&full);
-        push_joined(&mut out, segment.start, segment.end, Owned(answer))?;
+        push_joined(&mut out, segment.lo, segment.hi, Owned(answer))?;
     }
     Ok(CanonMapIter::new(out))
 }

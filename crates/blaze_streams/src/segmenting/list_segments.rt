@@ -15,9 +15,9 @@ use std::alloc::{AllocError, Global};
 #[derive(Drop)]
 pub struct Segment<T> {
     /// The first key.
-    pub start: T,
+    pub lo: T,
     /// The last key.
-    pub end: T,
+    pub hi: T,
     /// For each list the place of its range that has these keys, or `None`.
     pub at: Vec<Option<usize>>,
 }
@@ -107,5 +107,9 @@ pub fn next_segment<T: Integer>(
     };
     let at = row_at(alloc, lists, start)?;
     advance_all(lists, end);
-    Ok(Some(Segment { start, end, at }))
+    Ok(Some(Segment {
+        lo: start,
+        hi: end,
+        at,
+    }))
 }
