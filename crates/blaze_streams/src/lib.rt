@@ -42,9 +42,7 @@ pub use segmenting::list_segments::{Segment, segments};
 pub use sorted_disjoint::SortedDisjoint;
 pub use sorted_disjoint_map::{BothEnds, SortedDisjointMap};
 pub use tables::into_range_values::IntoRangeValuesIter;
-pub use tables::key_ranges::{
-    KeyRanges, MapIntoRangesIter, MapRangesIter, into_ranges_of, ranges_of,
-};
+pub use tables::key_ranges::{KeyRanges, MapIntoRangesIter, MapRangesIter};
 pub use tables::owned_range_values::OwnedRangeValuesIter;
 pub use tables::range_values::RangeValuesIter;
 pub use transforms::transform;
@@ -58,6 +56,8 @@ pub use merge::chosen::entries_chosen_of;
 pub use merge::with_unit::WithUnit;
 #[doc(hidden)]
 pub use segmenting::join_answers::{answer_both, answer_either, answer_left};
+#[doc(hidden)]
+pub use tables::key_ranges::{into_ranges_of, ranges_of};
 // For `range_map_multi` alone, which goes through many streams as this crate does through many lists.
 #[doc(hidden)]
 pub use cursor::Cursor;

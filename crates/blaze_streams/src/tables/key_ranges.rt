@@ -59,20 +59,38 @@ impl<T: Integer, I: EntryEnds<T>> KeyRanges<T, I> {
     }
 }
 
-/// The ranges of the keys of a table that is lent. No memory is taken.
+impl<'a, T: Integer, V: Eq> MapRangesIter<'a, T, V> {
+    /// The ranges of the keys of a table that is lent. No memory is taken.
+    pub fn new(table: &'a RangeTable<T, V>) -> Self
+        ensures { AreKeyRanges T.low T.high table.now.entries result }
+    {
+        table.in_hand();
+        KeyRanges::of_entries(table.iter())
+    }
+}
+
+impl<T: Integer, V: Eq + Drop> MapIntoRangesIter<T, V> {
+    /// The ranges of a table's keys, from the table by value. No memory is taken.
+    pub fn new(table: RangeTable<T, V>) -> Self
+        ensures { AreKeyRanges T.low T.high table.entries result }
+    {
+        table.in_hand();
+        KeyRanges::of_entries(table.into_iter())
+    }
+}
+
+/// As `MapRangesIter::new`.
 pub fn ranges_of<T: Integer, V: Eq>(table: &RangeTable<T, V>) -> MapRangesIter<'_, T, V>
     ensures { AreKeyRanges T.low T.high table.now.entries result }
 {
-    table.in_hand();
-    KeyRanges::of_entries(table.iter())
+    MapRangesIter::new(table)
 }
 
-/// The ranges of a table's keys, from the table by value. No memory is taken.
+/// As `MapIntoRangesIter::new`.
 pub fn into_ranges_of<T: Integer, V: Eq + Drop>(table: RangeTable<T, V>) -> MapIntoRangesIter<T, V>
     ensures { AreKeyRanges T.low T.high table.entries result }
 {
-    table.in_hand();
-    KeyRanges::of_entries(table.into_iter())
+    MapIntoRangesIter::new(table)
 }
 
 impl<T: Integer, I: EntryEnds<T>> Iterator for KeyRanges<T, I> {
