@@ -13,7 +13,7 @@ ghost use Rattle.range_map_cli.specs.Sessions.{IsAt, ClosesBefore, with_line};
 use crate::answer::answer;
 use crate::line::Line;
 use crate::output::{flush, put};
-use crate::split::split_line;
+use crate::split::split_once;
 use crate::{End, request};
 use range_map_blaze::RangeMapBlaze;
 use std::alloc::Global;
@@ -191,7 +191,7 @@ pub fn feed<W: Write>(
         → ClosesBefore held (W.contents output.new) text rest lines end) }
 {
     let mut rest = bytes;
-    while let Some((line, after)) = split_line(rest) {
+    while let Some((line, after)) = split_once(rest, b'\n') {
         end_line(session, alloc, output, line)?;
         rest = after;
     }
