@@ -1,6 +1,11 @@
 //! Steps on a map, and what they answer.
+ghost use Rattle.std.specs.Prelude.{◌++◌, Some, codes};
+ghost use Rattle.std.specs.Fmt.{decimal};
+
 use blaze_int::Integer;
 use range_map_blaze::{RangeMapBlaze, RangeSetBlaze};
+use std::error::Error;
+use std::fmt::{self, Display, Formatter};
 
 /// A call that changes a map. `run` says what each does.
 #[derive(Drop)]
@@ -56,3 +61,14 @@ pub struct Refused {
     /// How many steps were done before it.
     pub at: usize,
 }
+
+/// `step 3 was refused memory`, with the step's place, from 0.
+impl Display for Refused {
+    ghost output = { λ e. Some (codes "step " ++ decimal e.at ++ codes " was refused memory") };
+
+    fn fmt<W: fmt::Write>(&self, f: &mut Formatter<W>) -> fmt::Result {
+        write!(f, "step {} was refused memory", self.at)
+    }
+}
+
+impl Error for Refused {}
