@@ -6,7 +6,6 @@ pub mod Joinings
 pub mod Gaps
 pub mod Fillings
 pub mod FilledUnder
-pub mod Unpainted
 pub mod Following
 pub mod OnRanges
 pub mod CutRanges

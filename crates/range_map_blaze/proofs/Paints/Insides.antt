@@ -18,14 +18,6 @@ module _ {V : Type 0} (eq : V → V → Bool) where
   inside_parts [] qs es i = (tt, i)
   inside_parts (p ∷ ps) qs es i = let r = inside_parts ps qs es i.1 in ((i.0, r.0), r.1)
 
-  pub inside_more : (ps : List (Entry V)) (p : Entry V) (es : List (Entry V)) → AreInside eq ps es → IsInside eq p.lo p.hi p.value es → AreInside eq (ps ++ p ∷ []) es
-  inside_more [] p es a i = (inr i, tt)
-  inside_more (q ∷ ps) p es a i = (a.0, inside_more ps p es a.1 i)
-
-  -- not all, where one that has a key does not
-  pub not_inside : (ps : List (Entry V)) (p : Entry V) (qs es : List (Entry V)) → p.lo ≤ℤ p.hi → (IsInside eq p.lo p.hi p.value es → ⊥) → AreInside eq (ps ++ p ∷ qs) es → ⊥
-  not_inside ps p qs es w n a = elim (inside_parts ps (p ∷ qs) es a).1.0 [ inl h ↦ absurd (omega (arith, ints)) | inr h ↦ n h ]
-
   module _ (laws : IsEquivalence eq) where
     -- an entry of a range map has a key
     pub with_key : (low high : ℤ) (done : List (Entry V)) (e : Entry V) (rest all : List (Entry V)) → all ≡ done ++ e ∷ rest → IsRangeMap eq low high all → e.lo ≤ℤ e.hi

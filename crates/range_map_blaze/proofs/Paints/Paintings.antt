@@ -11,7 +11,7 @@ use Rattle.blaze_table.specs.Painted.{IsInside, IsPainted, last_at, painted_in_o
 use Rattle.blaze_table.proofs.Pairs.Lasts.{painted_one}
 use Rattle.blaze_table.specs.Canonical.{IsCanonical, IsRangeMap}
 use Rattle.blaze_table.proofs.Canonical.Runs.{canonical}
-use Rattle.range_map_blaze.specs.Extended.{AreInside, IsExtended, IsPartlyExtended}
+use Rattle.range_map_blaze.specs.Extended.{AreInside, IsExtended}
 use Rattle.range_map_blaze.proofs.Paints.Insides.{inside_equal, inside_parts}
 
 module _ {V : Type 0} where
@@ -31,10 +31,6 @@ module _ {V : Type 0} (eq : V → V → Bool) (laws : IsEquivalence eq) where
     -- no pair
     pub extended_none : (es : List (Entry V)) → IsRangeMap eq low high es → IsExtended eq low high [] es es
     extended_none es r = record { range_map = r; content = λ k. same_itself eq laws (at es k); few = omega arith; alone = λ e. omega (arith, ap length e); inside = λ _. refl }
-
-    -- none of the pairs is painted
-    pub partly_none : (pairs es new : List (Entry V)) → IsRangeMap eq low high es → new ≡ es → IsPartlyExtended eq low high pairs es new
-    partly_none pairs es new r same = record { done = []; rest = pairs; parts = refl; extended = subst (IsExtended eq low high [] es) (sym same) (extended_none es r) }
 
     -- one pair
     pub extended_one : (p : Entry V) (old new : List (Entry V)) → IsPainted eq low high p old new → p.lo ≤ℤ p.hi → (IsInside eq p.lo p.hi p.value old → new ≡ old) → IsExtended eq low high (p ∷ []) old new

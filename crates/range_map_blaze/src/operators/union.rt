@@ -13,7 +13,7 @@ use std::alloc::AllocError;
 
 /// How a union is made, which changes nothing of what it is.
 #[derive(Clone, Copy, Debug)]
-pub enum Path {
+enum Path {
     /// The right map's few entries are painted over the left map.
     Over,
     /// The left map's few entries fill the gaps of the right map.
@@ -23,7 +23,7 @@ pub enum Path {
 }
 
 /// The path for maps of so many entries.
-pub fn path_for(left_len: usize, right_len: usize) -> Path {
+fn path_for(left_len: usize, right_len: usize) -> Path {
     if right_len == 0 || are_few(right_len, left_len) {
         Path::Over
     } else if left_len == 0 || are_few(left_len, right_len) {

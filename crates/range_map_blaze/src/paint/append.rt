@@ -4,15 +4,14 @@ ghost use Rattle.blaze_table.specs.Painted.{ClonesAreAlike};
 ghost use Rattle.range_map_blaze.specs.Extended.{IsExtended, IsPartlyExtended};
 
 use crate::map::RangeMapBlaze;
-use crate::operators::union::{Path, painted_under, path_for, union};
 use blaze_int::Integer;
 use std::alloc::AllocError;
 
 impl<T: Integer, V: Eq + Clone> RangeMapBlaze<T, V> {
-    /// Puts the entries of another map over this one's: where both have a value, the other's wins. They are painted,
-    /// ascending; where this map has few entries beside the other, clones of those fill the other map, and that takes this
-    /// one's place. Refused memory leaves a first part of them painted, perhaps none, and drops the others. An empty other map
-    /// takes no memory.
+    /// Puts the entries of another map over this one's: where both have a value, the other's wins. They are painted one by
+    /// one, ascending, with a search for each. An entry of this map keeps its stored value where each of the other's ranges
+    /// does not touch it, or lies inside it with an equal value. Refused memory leaves a first part of them painted, perhaps
+    /// none, and drops the others. An empty other map takes no memory.
     pub fn extend_from(&mut self, other: Self) -> Result<(), AllocError>
         requires { ClonesAreAlike V.is_clone V.eq }
         ensures ok { OnOk result (IsExtended V.eq T.low T.high other.entries self.old.entries
@@ -25,10 +24,7 @@ impl<T: Integer, V: Eq + Clone> RangeMapBlaze<T, V> {
         if other.is_empty() {
             return Ok(());
         }
-        match path_for(self.ranges_len(), other.ranges_len()) {
-            Path::Under => self.fill_other(other),
-            Path::Over | Path::Merge => self.paint_entries(other),
-        }
+        self.paint_entries(other)
     }
 
     // Paints the entries of another map, ascending.
@@ -46,27 +42,9 @@ impl<T: Integer, V: Eq + Clone> RangeMapBlaze<T, V> {
         Ok(())
     }
 
-    // Fills another map with clones of this one's entries, and puts it in this one's place; but nothing changes where all its
-    // entries lie inside this one's with equal values. Refused memory leaves this map unchanged.
-    fn fill_other(&mut self, other: Self) -> Result<(), AllocError>
-        requires { ClonesAreAlike V.is_clone V.eq }
-        ensures ok { OnOk result (IsExtended V.eq T.low T.high other.entries self.old.entries
-            self.new.entries) }
-        ensures err { OnErr result (self.new ≡ self.old) }
-    {
-        self.in_hand();
-        other.in_hand();
-        if self.all_inside(&other) {
-            return Ok(());
-        }
-        let map = painted_under(self, other)?;
-        *self = map;
-        Ok(())
-    }
-
-    /// Puts clones of the entries of another map over this one's: where both have a value, the other's wins. They are painted,
-    /// ascending; where they are not few beside this map's, the union of both maps takes this one's place. Refused memory leaves
-    /// a first part of them painted, perhaps none. An empty other map takes no memory.
+    /// Puts clones of the entries of another map over this one's: where both have a value, the other's wins. They are painted
+    /// one by one, ascending, as by `extend_from`. Refused memory leaves a first part of them painted, perhaps none. An empty
+    /// other map takes no memory.
     pub fn extend_with(&mut self, other: &Self) -> Result<(), AllocError>
         requires { ClonesAreAlike V.is_clone V.eq }
         ensures ok { OnOk result (IsExtended V.eq T.low T.high other.now.entries self.old.entries
@@ -80,10 +58,7 @@ impl<T: Integer, V: Eq + Clone> RangeMapBlaze<T, V> {
         if other.is_empty() {
             return Ok(());
         }
-        match path_for(self.ranges_len(), other.ranges_len()) {
-            Path::Over => self.paint_clones(other),
-            Path::Under | Path::Merge => self.take_union(other),
-        }
+        self.paint_clones(other)
     }
 
     // Paints clones of the entries of another map, ascending.
@@ -103,25 +78,7 @@ impl<T: Integer, V: Eq + Clone> RangeMapBlaze<T, V> {
         Ok(())
     }
 
-    // Puts the union with another map in this one's place; but nothing changes where all the other's entries lie inside this
-    // one's with equal values. Refused memory leaves this map unchanged.
-    fn take_union(&mut self, other: &Self) -> Result<(), AllocError>
-        requires { ClonesAreAlike V.is_clone V.eq }
-        ensures ok { OnOk result (IsExtended V.eq T.low T.high other.now.entries self.old.entries
-            self.new.entries) }
-        ensures err { OnErr result (self.new ≡ self.old) }
-    {
-        self.in_hand();
-        other.in_hand();
-        if self.all_inside(other) {
-            return Ok(());
-        }
-        let map = union(self, other)?;
-        *self = map;
-        Ok(())
-    }
-
-    /// The union of two maps, in the place of the first: as `extend_from`, also where memory is refused.
+    /// The union of two maps, in the place of the first, as `extend_from` makes it, also where memory is refused.
     pub fn bitor_assign(&mut self, other: Self) -> Result<(), AllocError>
         requires { ClonesAreAlike V.is_clone V.eq }
         ensures ok { OnOk result (IsExtended V.eq T.low T.high other.entries self.old.entries
@@ -133,7 +90,7 @@ impl<T: Integer, V: Eq + Clone> RangeMapBlaze<T, V> {
         self.extend_from(other)
     }
 
-    /// The union of two maps, in the place of the first: as `extend_with`, also where memory is refused.
+    /// The union of two maps, in the place of the first, as `extend_with` makes it, also where memory is refused.
     pub fn bitor_assign_ref(&mut self, other: &Self) -> Result<(), AllocError>
         requires { ClonesAreAlike V.is_clone V.eq }
         ensures ok { OnOk result (IsExtended V.eq T.low T.high other.now.entries self.old.entries

@@ -3,5 +3,4 @@ pub mod append;
 pub mod extend;
 pub mod fill_unmapped;
 pub mod insert;
-pub mod inside;
 pub mod joining;

@@ -1,15 +1,9 @@
-use Rattle.std.proofs.Common.{ap, sym, subst}
-use Rattle.std.proofs.lemmas.Result.{on_err_weaker}
+use Rattle.std.proofs.Common.{sym, subst}
 use Rattle.range_map_blaze.specs.Extended.{IsExtended}
-use Rattle.range_map_blaze.proofs.Paints.Paintings.{extended_none, partly_none}
+use Rattle.range_map_blaze.proofs.Paints.Paintings.{extended_none}
 use Rattle.range_map_blaze.proofs.map.RangeMapBlaze.extend_from.Goals as goal
 
 pub returns-then-is_empty-clause-ok : goal.returns-then-is_empty-clause-ok
 returns-then-is_empty-clause-ok g c =
     subst (λ ps. IsExtended g.V.PartialEq.eq g.T.Integer.low g.T.Integer.high ps c.args.self.now.entries c.args.self.now.entries) (sym (c.is_empty.ensures.0 c.if-is_empty.true))
     (extended_none g.V.PartialEq.eq g.met.V.Eq.laws g.T.Integer.low g.T.Integer.high _ c.in_hand.ensures)
-
-pub returns-in-Under-clause-err : goal.returns-in-Under-clause-err
-returns-in-Under-clause-err g c =
-    on_err_weaker c.fill_other.result
-    (λ same. partly_none g.V.PartialEq.eq g.met.V.Eq.laws g.T.Integer.low g.T.Integer.high _ _ _ c.in_hand.ensures (ap (λ s. s.entries) same)) c.fill_other.ensures.err
