@@ -1,4 +1,5 @@
 pub mod Splices
+pub mod Kept
 pub mod Painted
 pub mod Inside
 pub mod PutInside

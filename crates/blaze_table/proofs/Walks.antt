@@ -1,6 +1,7 @@
 pub mod LooksSay
 pub mod Plans
 pub mod Walked
+pub mod Worked
 pub mod WalkedPlans
 pub mod Outside
 pub mod Covering

@@ -1,5 +1,6 @@
 -- What painting gives: a value is put on the keys of a range.
-use Rattle.std.specs.Prelude.{◌≡◌, ℤ, ◌+◌, ◌≤◌, length, ◌≤ℤ◌, int_le, Bool, true, ◌&&◌, if◌then◌else◌, List, [], ◌∷◌, Option, Some, None, ◌⊎◌}
+use Rattle.std.specs.Prelude.{◌≡◌, ℤ, pos, ◌+◌, ◌≤◌, length, ◌+ℤ◌, ◌≤ℤ◌, ◌<ℤ◌, int_le, Bool, true, ◌&&◌, if◌then◌else◌, List, [], ◌∷◌, Option, Some, None, ◌⊎◌}
+use Rattle.std.specs.List.{Contains}
 use Rattle.std.specs.Option.{option_or}
 use Rattle.blaze_table.specs.Entries.{Entry, at, holds, SameOption}
 use Rattle.blaze_table.specs.Canonical.{IsRangeMap}
@@ -8,13 +9,26 @@ use Rattle.blaze_table.specs.Canonical.{IsRangeMap}
 abbrev pub painted : {V : Type 0} → ℤ → ℤ → V → (ℤ → Option V) → ℤ → Option V
 painted l h v content k = if int_le l k && int_le k h then Some v else content k
 
--- what painting an entry does to a range map: its content is the painted one, and it has at most two entries more; and one
--- at most, where the map was empty
+-- no key of the entry p is in the entry e, or right beside it
+abbrev pub IsApartFrom : {V : Type 0} → Entry V → Entry V → Type 0
+IsApartFrom p e = ((p.hi +ℤ pos 1) <ℤ e.lo) ⊎ ((e.hi +ℤ pos 1) <ℤ p.lo)
+
+-- the keys of the entry p are keys of the entry e, with an equal value
+abbrev pub IsAlreadyIn : {V : Type 0} → (V → V → Bool) → Entry V → Entry V → Type 0
+IsAlreadyIn eq p e = (e.lo ≤ℤ p.lo) × (p.hi ≤ℤ e.hi) × (eq e.value p.value ≡ true)
+
+-- a paint of the entry p leaves the entry e alone: p has no key, or is apart from e, or its keys are already in e
+abbrev pub LeavesAlone : {V : Type 0} → (V → V → Bool) → Entry V → Entry V → Type 0
+LeavesAlone eq p e = (p.hi <ℤ p.lo) ⊎ (IsApartFrom p e ⊎ IsAlreadyIn eq p e)
+
+-- What painting an entry does to a range map: its content is the painted one, and it has at most two entries more; and one
+-- at most, where the map was empty. An entry that the paint leaves alone is still there, with its very value.
 pub record IsPainted {V : Type 0} (eq : V → V → Bool) (low high : ℤ) (p : Entry V) (old new : List (Entry V)) : Type 0 where
   pub range_map : IsRangeMap eq low high new
   pub content : (k : ℤ) → SameOption eq (at new k) (painted p.lo p.hi p.value (at old) k)
   pub few : length new ≤ length old + 2
   pub alone : old ≡ [] → length new ≤ 1
+  pub kept : (e : Entry V) → Contains old e → LeavesAlone eq p e → Contains new e
 
 -- an entry has all the keys from l up to h, with a value equal to v
 abbrev pub IsInside : {V : Type 0} → (V → V → Bool) → ℤ → ℤ → V → List (Entry V) → Type 0

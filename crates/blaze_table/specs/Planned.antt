@@ -9,8 +9,9 @@ use Rattle.blaze_entries.specs.Found.{found_in}
 use Rattle.blaze_entries.specs.Scanned.{Seen, with_least}
 use Rattle.blaze_entries.specs.Starts.{below, from, last_below, start_at}
 use Rattle.blaze_entries.specs.declared.found.Found.{Found}
-use Rattle.blaze_table.specs.Entries.{Entry, entry, SameEntries}
-use Rattle.blaze_table.specs.Splice.{before, after}
+use Rattle.blaze_table.specs.Entries.{Entry, entry}
+use Rattle.blaze_table.specs.Splice.{before, after, IsSameAbove}
+use Rattle.blaze_table.specs.Work.{IsCounted}
 
 -- ---- the plan
 
@@ -110,25 +111,25 @@ abbrev pub IsRest : {V : Type 0} → ℤ → List (Entry V) → Option (ℤ × �
 IsRest z es None = after z es ≡ from (z +ℤ pos 1) es
 IsRest z es (Some r) = IsRestOf z es r.0 r.1
 
--- what lies above z starts above it, with equal values, what starts up to k is as before, and what starts between them is what
+-- what lies above z starts above it, the same as before, what starts up to k is as before, and what starts between them is what
 -- ended there
 pub record IsRestKept {V : Type 0} (eq : V → V → Bool) (k z : ℤ) (old new : List (Entry V)) : Type 0 where
   pub below : below (k +ℤ pos 1) new ≡ below (k +ℤ pos 1) old
   pub amid : starts_in k z new ≡ ends_in k z old
-  pub like : SameEntries eq (after z old) (from (z +ℤ pos 1) new)
+  pub like : IsSameAbove eq z old (from (z +ℤ pos 1) new)
 
--- the entry p is there, what lies above its end starts above it, with equal values, what starts below p is as before, and what
+-- the entry p is there, what lies above its end starts above it, the same as before, what starts below p is as before, and what
 -- starts in it is what ended there
 pub record IsStartPut {V : Type 0} (eq : V → V → Bool) (p : Entry V) (old new : List (Entry V)) : Type 0 where
   pub below : below p.lo new ≡ below p.lo old
   pub here : start_at p.lo new ≡ Some p
   pub amid : starts_in p.lo p.hi new ≡ ends_in p.lo p.hi old
-  pub like : SameEntries eq (after p.hi old) (from (p.hi +ℤ pos 1) new)
+  pub like : IsSameAbove eq p.hi old (from (p.hi +ℤ pos 1) new)
 
 -- the entry p stands in the list, between what lies below and above it
 pub record IsPutAt {V : Type 0} (eq : V → V → Bool) (p : Entry V) (old new : List (Entry V)) : Type 0 where
   pub above : List (Entry V)
-  pub like : SameEntries eq (after p.hi old) above
+  pub like : IsSameAbove eq p.hi old above
   pub put : new ≡ before p.lo old ++ p ∷ above
 
 -- the entry that starts at f ends at z, and behind it is what lies above z
@@ -136,7 +137,7 @@ pub record IsExtended {V : Type 0} (eq : V → V → Bool) (f z : ℤ) (old new 
   pub of : Entry V
   pub found : start_at f old ≡ Some of
   pub above : List (Entry V)
-  pub like : SameEntries eq (after z old) above
+  pub like : IsSameAbove eq z old above
   pub put : new ≡ below f old ++ entry f z of.value ∷ above
 
 -- a list, with an entry before it if there is one
@@ -155,11 +156,8 @@ pub record IsRestPut {V : Type 0} (is_clone : V → V → Type 0) (old new : Lis
 
 -- ---- the work
 
--- What a step counts: it puts in at most p entries; the entries are those before, plus those put in, less those taken out;
--- and it looks at most q times, and once for each entry taken out.
+-- What a step counts: it puts in at most p entries, and it looks at most q times, and once for each entry taken out.
 pub record IsWorked {V : Type 0} (p q : ℕ) (old new : CountedEntries V) : Type 0 where
-  pub put : old.put_in ≤ new.put_in
+  pub counted : IsCounted old new
   pub puts : new.put_in ≤ old.put_in + p
-  pub balance : length new.entries + new.taken_out + old.put_in ≡ length old.entries + old.taken_out + new.put_in
-  pub taken : old.taken_out ≤ new.taken_out
   pub looks : new.looks + old.taken_out ≤ old.looks + new.taken_out + q

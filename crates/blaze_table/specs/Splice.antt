@@ -1,11 +1,12 @@
 -- Lists taken apart at a key and put together again: the words of this crate's own functions. Of public clauses only those of
 -- `push_entry` name them.
 use Rattle.std.specs.Prelude.{◌≡◌, ℤ, pos, ◌+◌, ◌≤◌, length, ◌+ℤ◌, ◌-ℤ◌, ◌<ℤ◌, ◌++◌, int_lt, int_le, Bool, ◌&&◌, if◌then◌else◌, List, [], ◌∷◌}
+use Rattle.std.specs.List.{Contains}
 use Rattle.std.specs.Ordering.{int_eq}
 pub use Rattle.blaze_entries.specs.Overlap.{overlap, covered}
 use Rattle.blaze_table.specs.Entries.{Entry, entry, at, SameEntries, SameOption}
 use Rattle.blaze_table.specs.Canonical.{IsCanonical}
-use Rattle.blaze_table.specs.Painted.{painted}
+use Rattle.blaze_table.specs.Painted.{painted, IsApartFrom}
 use Rattle.blaze_table.specs.Cut.{cut_at, below_at, from_at}
 
 -- what lies below the key
@@ -42,18 +43,25 @@ abbrev pub IsBelow : {V : Type 0} → ℤ → List (Entry V) → Type 0
 IsBelow b [] = Unit {0}
 IsBelow b (e ∷ es) = (e.hi <ℤ b) × IsBelow b es
 
--- the list with the entry painted, where an entry above it may have a value that is only equal to the old
+-- The entries are what a list has above the key: position by position the same range, with a value that is equal; and each entry
+-- that starts above the key is one of them, with its very value.
+pub record IsSameAbove {V : Type 0} (eq : V → V → Bool) (k : ℤ) (old above : List (Entry V)) : Type 0 where
+  pub alike : SameEntries eq (after k old) above
+  pub kept : (e : Entry V) → Contains old e → k <ℤ e.lo → Contains above e
+
+-- the list with the entry painted
 pub record IsPaintOf {V : Type 0} (eq : V → V → Bool) (p : Entry V) (es new : List (Entry V)) : Type 0 where
   pub above : List (Entry V)
-  pub like : SameEntries eq (after p.hi es) above
+  pub like : IsSameAbove eq p.hi es above
   pub glued : new ≡ glue eq (glue eq (before p.lo es) (p ∷ [])) above
 
--- a list painted, by structure
+-- a list painted, by structure; what is apart from the painted entry is still there
 pub record IsListPainted {V : Type 0} (eq : V → V → Bool) (p : Entry V) (old new : List (Entry V)) : Type 0 where
   pub canonical : IsCanonical eq new
   pub content : (k : ℤ) → SameOption eq (at new k) (painted p.lo p.hi p.value (at old) k)
   pub few : length new ≤ length old + 2
   pub alone : old ≡ [] → length new ≤ 1
+  pub kept : (e : Entry V) → Contains old e → IsApartFrom p e → Contains new e
 
 -- the list without the keys from l up to h, where the part above may have values that are only equal to the old
 pub record IsRangeCutOf {V : Type 0} (eq : V → V → Bool) (l h : ℤ) (es new : List (Entry V)) : Type 0 where

@@ -3,7 +3,7 @@ ghost use Rattle.std.specs.Prelude.{◌≡◌, true, Some, None, pos, ◌+ℤ◌
 ghost use Rattle.std.specs.Prelude.{IfSome};
 ghost use Rattle.blaze_entries.specs.Starts.{last_below};
 ghost use Rattle.blaze_table.specs.Canonical.{IsCanonical};
-ghost use Rattle.blaze_table.specs.Work.{IsCountedCut};
+ghost use Rattle.blaze_table.specs.Work.{IsCountedCut, IsCounted};
 ghost use Rattle.blaze_table.specs.Cut.{IsAmongOthers};
 ghost use Rattle.blaze_table.specs.Entries.{at, SameOption};
 ghost use Rattle.blaze_table.specs.LastBelow.{IsLastBelow, IsAroundLike};
@@ -39,6 +39,7 @@ fn cut_inside<T: Integer, V: Eq + Clone>(
         (λ value. SameOption V.eq (at entries.old.entries (T.rank key)) (Some value)) }
     ensures worked { OnOk result (IsWorked 1 0 entries.old entries.new) }
     ensures err { OnErr result (entries.new.entries ≡ entries.old.entries) }
+    ensures err_counted { OnErr result (IsCounted entries.old entries.new) }
 {
     entries.in_hand();
     let above = value.clone()?;
@@ -62,6 +63,7 @@ fn cut_end<T: Integer, V: Eq + Clone>(
         (λ value. SameOption V.eq (at entries.old.entries (T.rank key)) (Some value)) }
     ensures worked { OnOk result (IsWorked 1 1 entries.old entries.new) }
     ensures err { OnErr result (entries.new.entries ≡ entries.old.entries) }
+    ensures err_counted { OnErr result (IsCounted entries.old entries.new) }
 {
     entries.in_hand();
     let value = entries.set_end_cloned(start, before(key, start))?;
@@ -84,6 +86,7 @@ fn cut_start<T: Integer, V: Eq + Clone>(
         (λ value. SameOption V.eq (at entries.old.entries (T.rank key)) (Some value)) }
     ensures worked { OnOk result (IsWorked 1 1 entries.old entries.new) }
     ensures err { OnErr result (entries.new.entries ≡ entries.old.entries) }
+    ensures err_counted { OnErr result (IsCounted entries.old entries.new) }
 {
     entries.in_hand();
     let value = entries.clone_value(key)?;
@@ -126,6 +129,7 @@ fn cut_holder<T: Integer, V: Eq + Clone>(
     ensures worked { OnOk result (IsWorked 1 1 entries.old entries.new) }
     ensures refused { OnErr result (T.rank start <ℤ T.rank end) }
     ensures err { OnErr result (entries.new.entries ≡ entries.old.entries) }
+    ensures err_counted { OnErr result (IsCounted entries.old entries.new) }
 {
     entries.in_hand();
     if is_below(start, key) {
@@ -171,6 +175,7 @@ pub fn cut_counted<T: Integer, V: Eq + Clone>(
     ensures worked { OnOk result (IsWorked 1 1 entries.old entries.new) }
     ensures refused { OnErr result (IsAmongOthers (T.rank key) entries.old.entries) }
     ensures err { OnErr result (entries.new.entries ≡ entries.old.entries) }
+    ensures err_counted { OnErr result (IsCounted entries.old entries.new) }
 {
     entries.in_hand();
     let value = cut_holder(entries, key, start, end, around)?;
@@ -197,6 +202,7 @@ pub fn cut<T: Integer, V: Eq + Clone>(
     ensures counted { OnOk result (IsCountedCut entries.old entries.new) }
     ensures refused { OnErr result (IsAmongOthers (T.rank key) entries.old.entries) }
     ensures err { OnErr result (entries.new.entries ≡ entries.old.entries) }
+    ensures err_counted { OnErr result (IsCounted entries.old entries.new) }
 {
     entries.in_hand();
     let found = entries.range_around(key, key)?;

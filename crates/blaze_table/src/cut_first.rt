@@ -9,7 +9,7 @@ ghost use Rattle.blaze_table.specs.Painted.{ClonesAreAlike};
 ghost use Rattle.blaze_table.specs.Planned.{IsRestPut, IsWorked};
 ghost use Rattle.blaze_table.specs.Splice.{IsCutOf, IsListCut};
 ghost use Rattle.blaze_table.specs.Table.{IsTable};
-ghost use Rattle.blaze_table.specs.Work.{IsCountedCut};
+ghost use Rattle.blaze_table.specs.Work.{IsCountedCut, IsCounted};
 
 use blaze_entries::Counted;
 use blaze_int::{Integer, SafeLength};
@@ -23,6 +23,7 @@ fn put_rest<T: Integer, V: Eq + Clone>(entries: &mut Counted<T, V>) -> Result<()
     ensures worked { OnOk result (IsWorked 1 1 entries.old entries.new) }
     ensures refused { OnErr result (IfSome (slice_get entries.old.entries 0) (λ e. e.lo <ℤ e.hi)) }
     ensures err { OnErr result (entries.new.entries ≡ entries.old.entries) }
+    ensures err_counted { OnErr result (IsCounted entries.old entries.new) }
 {
     entries.in_hand();
     let behind = entries.first_rest()?;
@@ -49,6 +50,7 @@ fn cut_front<T: Integer, V: Eq + Clone>(entries: &mut Counted<T, V>) -> Result<(
     ensures worked { OnOk result (IsWorked 1 1 entries.old entries.new) }
     ensures refused { OnErr result (IfSome (slice_get entries.old.entries 0) (λ e. e.lo <ℤ e.hi)) }
     ensures err { OnErr result (entries.new.entries ≡ entries.old.entries) }
+    ensures err_counted { OnErr result (IsCounted entries.old entries.new) }
 {
     put_rest(entries)?;
     match entries.pop_first() {
@@ -78,6 +80,7 @@ pub fn cut_first<T: Integer, V: Eq + Clone>(
     ensures refused { OnErr result (IfSome (slice_get entries.old.entries 0)
         (λ e. IsAmongOthers e.lo entries.old.entries)) }
     ensures err { OnErr result (entries.new.entries ≡ entries.old.entries) }
+    ensures err_counted { OnErr result (IsCounted entries.old entries.new) }
 {
     let pair = cut_front(entries)?;
     let rest = len.minus(T::SafeLen::one());

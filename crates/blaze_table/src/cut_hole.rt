@@ -6,6 +6,7 @@ ghost use Rattle.blaze_table.specs.Canonical.{IsCanonical};
 ghost use Rattle.blaze_table.specs.LastBelow.{IsLastBelow};
 ghost use Rattle.blaze_table.specs.Planned.{IsWorked};
 ghost use Rattle.blaze_table.specs.Splice.{IsRangeCutOf};
+ghost use Rattle.blaze_table.specs.Work.{IsCounted};
 
 use blaze_entries::Counted;
 use blaze_int::Integer;
@@ -34,6 +35,7 @@ pub fn cut_hole<T: Integer, V: Eq + Drop>(
         (IsRangeCutOf V.eq (T.rank lo) (T.rank hi) entries.old.entries entries.new.entries) }
     ensures worked { OnOk result (IsWorked 1 0 entries.old entries.new) }
     ensures err { OnErr result (entries.new.entries ≡ entries.old.entries) }
+    ensures err_counted { OnErr result (IsCounted entries.old entries.new) }
 {
     entries.in_hand();
     entries.insert(after(hi, end), end, above)?;

@@ -6,7 +6,7 @@ ghost use Rattle.blaze_table.specs.Entries.{at, SameOption};
 ghost use Rattle.blaze_table.specs.Painted.{ClonesAreAlike};
 ghost use Rattle.blaze_table.specs.Splice.{IsListCut};
 ghost use Rattle.blaze_table.specs.Table.{IsTable};
-ghost use Rattle.blaze_table.specs.Work.{IsCountedCut};
+ghost use Rattle.blaze_table.specs.Work.{IsCountedCut, IsCounted};
 
 use crate::cut::cut_counted;
 use blaze_entries::Counted;
@@ -35,6 +35,7 @@ pub fn cut_last<T: Integer, V: Eq + Clone>(
         (IfSome (slice_get entries.old.entries (length entries.old.entries - 1))
         (λ e. IsAmongOthers e.hi entries.old.entries)) }
     ensures err { OnErr result (entries.new.entries ≡ entries.old.entries) }
+    ensures err_counted { OnErr result (IsCounted entries.old entries.new) }
 {
     entries.in_hand();
     match entries.last_range() {

@@ -8,7 +8,7 @@ ghost use Rattle.blaze_table.specs.Painted.{ClonesAreAlike};
 ghost use Rattle.blaze_table.specs.Planned.{IsRest, IsWorked};
 ghost use Rattle.blaze_table.specs.Splice.{IsKeptAround, IsRangeCutOf};
 ghost use Rattle.blaze_table.specs.Table.{IsTable};
-ghost use Rattle.blaze_table.specs.Work.{IsCountedCut};
+ghost use Rattle.blaze_table.specs.Work.{IsCountedCut, IsCounted};
 
 use crate::cut_hole::cut_hole;
 use blaze_entries::Counted;
@@ -36,6 +36,7 @@ fn cut_front<T: Integer, V: Eq + Drop>(
     ensures ended { OnOk result (IsRest (T.rank hi) entries.new.entries None) }
     ensures worked { OnOk result (IsWorked 1 0 entries.old entries.new) }
     ensures err { OnErr result (entries.new.entries ≡ entries.old.entries) }
+    ensures err_counted { OnErr result (IsCounted entries.old entries.new) }
 {
     entries.in_hand();
     entries.move_start(start, after(hi, end))?;
@@ -151,6 +152,7 @@ fn cut_under<T: Integer, V: Eq + Drop>(
         (IsRangeCutOf V.eq (T.rank lo) (T.rank hi) entries.old.entries entries.new.entries) }
     ensures worked { OnOk result (IsWorked 1 1 entries.old entries.new) }
     ensures err { OnErr result (entries.new.entries ≡ entries.old.entries) }
+    ensures err_counted { OnErr result (IsCounted entries.old entries.new) }
 {
     entries.in_hand();
     if is_below(start, lo) {
@@ -183,6 +185,7 @@ pub fn cut_range<T: Integer, V: Eq + Clone>(
     ensures counted { OnOk result (IsCountedCut entries.old entries.new) }
     ensures refused { OnErr result (GoesOnAbove (T.rank hi) entries.old.entries) }
     ensures err { OnErr result (entries.new.entries ≡ entries.old.entries) }
+    ensures err_counted { OnErr result (IsCounted entries.old entries.new) }
 {
     entries.in_hand();
     let found = entries.range_around(lo, hi)?;

@@ -15,7 +15,7 @@ ghost use Rattle.blaze_table.specs.Cut.{GoesOnAbove};
 ghost use Rattle.blaze_table.specs.Ending.{ending_from};
 ghost use Rattle.blaze_table.specs.Gap.{IsGap};
 ghost use Rattle.blaze_table.specs.Listed.{listed};
-ghost use Rattle.blaze_table.specs.Work.{IsCountedPaint, IsCountedCut};
+ghost use Rattle.blaze_table.specs.Work.{IsCounted, IsCountedPaint, IsCountedCut};
 ghost use Rattle.blaze_table.specs.Retain.{AnswersAt, IsCallableAtEach, IsCallableAtPairs};
 ghost use Rattle.blaze_table.specs.Retain.{IsKeyRetained};
 
@@ -221,6 +221,7 @@ impl<T: Integer, V: Eq + Clone> RangeTable<T, V> {
             → (result ≡ Ok false) × (self.new.entries ≡ self.old.entries) }
         ensures counted { OnOk result (IsCountedPaint self.old self.new) }
         ensures err { OnErr result (self.new.entries ≡ self.old.entries) }
+        ensures err_counted { OnErr result (IsCounted self.old self.new) }
     {
         let old_len = self.len;
         let new_len = paint(&mut self.entries.counted, old_len, lo, hi, value)?;
@@ -241,6 +242,7 @@ impl<T: Integer, V: Eq + Clone> RangeTable<T, V> {
             → (result ≡ Ok false) × (self.new.entries ≡ self.old.entries) }
         ensures counted { OnOk result (IsCountedPaint self.old self.new) }
         ensures err { OnErr result (self.new.entries ≡ self.old.entries) }
+        ensures err_counted { OnErr result (IsCounted self.old self.new) }
     {
         let old_len = self.len;
         let new_len = paint_by_splice(&mut self.entries.counted, old_len, lo, hi, value)?;
@@ -260,6 +262,7 @@ impl<T: Integer, V: Eq + Clone> RangeTable<T, V> {
             → self.new.entries ≡ self.old.entries }
         ensures counted { OnOk result (IsCountedPaint self.old self.new) }
         ensures err { OnErr result (self.new.entries ≡ self.old.entries) }
+        ensures err_counted { OnErr result (IsCounted self.old self.new) }
     {
         let old_len = self.len;
         let (old, new_len) = insert(&mut self.entries.counted, old_len, key, value)?;
@@ -280,6 +283,7 @@ impl<T: Integer, V: Eq + Clone> RangeTable<T, V> {
         ensures counted { OnOk result (IsCountedCut self.old self.new) }
         ensures refused { OnErr result (IsAmongOthers (T.rank key) self.old.entries) }
         ensures err { OnErr result (self.new.entries ≡ self.old.entries) }
+        ensures err_counted { OnErr result (IsCounted self.old self.new) }
     {
         let old_len = self.len;
         let (value, len) = cut(&mut self.entries.counted, old_len, key)?;
@@ -300,6 +304,7 @@ impl<T: Integer, V: Eq + Clone> RangeTable<T, V> {
             × (slice_get self.old.entries 0 ≡ Some first)
             × IsAmongOthers first.lo self.old.entries) }
         ensures err { OnErr result (self.new.entries ≡ self.old.entries) }
+        ensures err_counted { OnErr result (IsCounted self.old self.new) }
     {
         if self.entries.len() == 0 {
             return Ok(None);
@@ -323,6 +328,7 @@ impl<T: Integer, V: Eq + Clone> RangeTable<T, V> {
             × (slice_get self.old.entries (length self.old.entries - 1) ≡ Some last)
             × IsAmongOthers last.hi self.old.entries) }
         ensures err { OnErr result (self.new.entries ≡ self.old.entries) }
+        ensures err_counted { OnErr result (IsCounted self.old self.new) }
     {
         if self.entries.len() == 0 {
             return Ok(None);
@@ -343,6 +349,7 @@ impl<T: Integer, V: Eq + Clone> RangeTable<T, V> {
         ensures counted { OnOk result (IsCountedCut self.old self.new) }
         ensures refused { OnErr result (GoesOnAbove (T.rank hi) self.old.entries) }
         ensures err { OnErr result (self.new.entries ≡ self.old.entries) }
+        ensures err_counted { OnErr result (IsCounted self.old self.new) }
     {
         let old_len = self.len;
         let len = cut_range(&mut self.entries.counted, old_len, lo, hi)?;

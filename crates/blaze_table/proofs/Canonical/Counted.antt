@@ -147,6 +147,6 @@ module _ {V : Type 0} (eq : V → V → Bool) where
         let left = glue eq (before p.lo es) (p ∷ []) in
         record {
           canonical = c;
-          are_keys = subst (AreKeys low high) (sym r.glued) (are_keys_glue low high left r.above (are_keys_glue low high (before p.lo es) (p ∷ []) (are_keys_before low high p.lo es a) (f, t, tt)) (are_keys_as low high (after p.hi es) r.above r.like (are_keys_after low high p.hi es a)));
-          counted = k ∙ sym (ap keys_in r.glued ∙ omega (arith, ints, keys_glue left r.above, keys_glue (before p.lo es) (p ∷ []), same_keys_in eq (after p.hi es) r.above r.like));
+          are_keys = subst (AreKeys low high) (sym r.glued) (are_keys_glue low high left r.above (are_keys_glue low high (before p.lo es) (p ∷ []) (are_keys_before low high p.lo es a) (f, t, tt)) (are_keys_as low high (after p.hi es) r.above r.like.alike (are_keys_after low high p.hi es a)));
+          counted = k ∙ sym (ap keys_in r.glued ∙ omega (arith, ints, keys_glue left r.above, keys_glue (before p.lo es) (p ∷ []), same_keys_in eq (after p.hi es) r.above r.like.alike));
         }

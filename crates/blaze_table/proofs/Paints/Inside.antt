@@ -34,6 +34,7 @@ module _ {V : Type 0} (eq : V → V → Bool) (l h : ℤ) (v : V) where
               (λ b. rw (holds_over p k b) (same_itself eq laws (at es k)));
           few = omega arith;
           alone = λ e. let none = ap length e in omega arith;
+          kept = λ e i a. i;
         }
 
 -- what the entry at the first key says of one that has all the keys

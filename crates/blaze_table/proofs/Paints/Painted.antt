@@ -7,9 +7,10 @@ use Rattle.std.specs.Cmp.{IsEquivalence}
 use Rattle.blaze_entries.proofs.Alike.{same_along, same_itself, same_trans, same_or_right, same_or_left}
 use Rattle.blaze_table.specs.Entries.{Entry, holds, at, SameOption, SameContent, SameEntries}
 use Rattle.blaze_table.specs.Canonical.{IsApart, IsCanonical}
-use Rattle.blaze_table.specs.Splice.{before, after, glue, IsBelow, IsPaintOf, IsListPainted}
+use Rattle.blaze_table.specs.Splice.{before, after, glue, paint, IsBelow, IsPaintOf, IsListPainted}
 use Rattle.blaze_table.proofs.Canonical.Lookup.{IsAbove, by_place, holds_under, holds_over}
 use Rattle.blaze_table.proofs.Canonical.Unique.{back}
+use Rattle.blaze_table.proofs.Paints.Kept.{in_after, kept_apart}
 use Rattle.blaze_table.proofs.Paints.Splices.{canonical_left, below_left, at_left, canonical_glue, canonical_after, above_after, at_glue, three, length-glue, length_around, before_keeps, after_skips}
 
 module _ {V : Type 0} (eq : V → V → Bool) (laws : IsEquivalence eq) where
@@ -65,7 +66,7 @@ module _ {V : Type 0} (eq : V → V → Bool) (laws : IsEquivalence eq) where
   painted_short p es new r =
       let left = glue eq (before p.lo es) (p ∷ []) in
       let long = ap length r.glued in
-      omega (arith, long, length-glue eq left r.above, length-glue eq (before p.lo es) (p ∷ []), length_as (after p.hi es) r.above r.like)
+      omega (arith, long, length-glue eq left r.above, length-glue eq (before p.lo es) (p ∷ []), length_as (after p.hi es) r.above r.like.alike)
 
   painted_alone : (p : Entry V) (es new : List (Entry V)) → IsPaintOf eq p es new → es ≡ [] → length new ≤ 1
   painted_alone p es new r e =
@@ -77,17 +78,28 @@ module _ {V : Type 0} (eq : V → V → Bool) (laws : IsEquivalence eq) where
   is_painted p es new w c r =
       let left = glue eq (before p.lo es) (p ∷ []) in
       let left_is = canonical_left eq laws p.lo p.hi p.value es w c in
-      let above_is = canonical_as (after p.hi es) r.above r.like (canonical_after eq p.hi es c) in
+      let like = r.like.alike in
+      let above_is = canonical_as (after p.hi es) r.above like (canonical_after eq p.hi es c) in
+      let over = above_as p.hi (after p.hi es) r.above like (above_after p.hi es) in
       record {
-        canonical = rw r.glued (canonical_glue eq laws p.hi left r.above left_is above_is (below_left eq laws p.lo p.hi p.value es w c) (above_as p.hi (after p.hi es) r.above r.like (above_after p.hi es)));
+        canonical = rw r.glued (canonical_glue eq laws p.hi left r.above left_is above_is (below_left eq laws p.lo p.hi p.value es w c) over);
         content = λ k. rw r.glued (same_trans eq laws (at (glue eq left r.above) k) _ _
             (at_glue eq laws left r.above k left_is above_is)
             (same_trans eq laws _ (option_or (at left k) (at (after p.hi es) k)) _
-            (same_or_right eq laws (at left k) (at r.above k) (at (after p.hi es) k) (back eq laws (after p.hi es) r.above (content_as (after p.hi es) r.above r.like) k))
+            (same_or_right eq laws (at left k) (at r.above k) (at (after p.hi es) k) (back eq laws (after p.hi es) r.above (content_as (after p.hi es) r.above like) k))
             (same_along eq refl (three eq laws p.lo p.hi p.value es w c k) (same_or_left eq laws (at left k) _ (at (after p.hi es) k) (at_left eq laws p.lo p.hi p.value es w c k)))));
         few = omega (arith, painted_short p es new r, length_around p.lo p.hi es w);
         alone = painted_alone p es new r;
+        kept = λ e i a. rw r.glued (kept_apart eq laws p es r.above w c over r.like e i a);
       }
+
+  -- the painted list itself
+  pub paint_itself : (p : Entry V) (es : List (Entry V)) → IsCanonical eq es → IsPaintOf eq p es (paint eq p.lo p.hi p.value es)
+  paint_itself p es c = record {
+    above = after p.hi es;
+    like = record { alike = entries_themselves (after p.hi es); kept = λ e i u. in_after eq p.hi es e c i u };
+    glued = refl;
+  }
 
   pub glue-nil : (L : List (Entry V)) → glue eq L [] ≡ L
   glue-nil [] = refl
@@ -111,6 +123,7 @@ module _ {V : Type 0} (eq : V → V → Bool) (laws : IsEquivalence eq) (p : Ent
     content = λ k. same_along eq refl (sym (nowhere (at es k) k)) (same_itself eq laws (at es k));
     few = omega arith;
     alone = λ e. let none = ap length e in omega arith;
+    kept = λ e i a. i;
   }
     where
       nowhere : (o : Option V) (k : ℤ) → cond (holds p k) (Some p.value) o ≡ o

@@ -1,6 +1,7 @@
 -- The starts of a paint put in, over plain lists.
 use Rattle.std.proofs.Common.{◌≡◌, ℤ, pos, ◌+ℤ◌, ◌≤ℤ◌, ◌<ℤ◌, Bool, true, false, cond, List, [], ◌∷◌, Option, Some, None, refl, ◌∙◌, sym, subst, ap, arith}
 use Rattle.std.specs.Prelude.{IsSome}
+use Rattle.std.specs.List.{Contains}
 use Rattle.std.specs.Ordering.{int_eq}
 use Rattle.std.specs.Cmp.{IsEquivalence}
 use Rattle.std.proofs.lemmas.Int.{ints, by_lt_z}
@@ -10,10 +11,11 @@ use Rattle.blaze_entries.proofs.Alike.{one_value}
 use Rattle.blaze_table.specs.Entries.{Entry, entry, SameEntries}
 use Rattle.blaze_table.specs.Canonical.{IsCanonical}
 use Rattle.blaze_table.specs.Planned.{starts_in, ends_in, IsRestOf, IsRestKept, IsStartPut}
-use Rattle.blaze_table.specs.Splice.{after}
+use Rattle.blaze_table.specs.Splice.{after, IsSameAbove}
 use Rattle.blaze_table.proofs.Paints.Clearing.{below_below}
 use Rattle.blaze_table.proofs.Paints.EditLists.{below_with, from_with_under, from_with, start_with, start_beside, without_with, start_beside_without, below_without, from_without, below_replaced, from_replaced, start_replaced, start_beside_replaced, start_below}
 use Rattle.blaze_table.proofs.Canonical.Lookup.{IsAbove-from_apart}
+use Rattle.blaze_table.proofs.Paints.Kept.{in_from, later_in}
 use Rattle.blaze_table.proofs.Paints.Painted.{entries_themselves}
 use Rattle.blaze_table.proofs.Paints.StartsIn.{amid_same, from_out, all_end, others_end, over_later}
 
@@ -87,20 +89,27 @@ module _ {V : Type 0} (eq : V → V → Bool) (laws : IsEquivalence eq) where
         over = ap (from n) w.moved ∙ from_with p (without s old) (start_beside_without n s old (λ t. absurd (omega (arith, ints))) ∙ none) ∙ ap (λ t. p ∷ t) (from_without n s old u);
       }
 
+  -- what lies above z is a list that has all that starts there
+  same_above : (z : ℤ) (old above : List (Entry V)) → above ≡ after z old → ((e : Entry V) → Contains (from (z +ℤ pos 1) old) e → Contains above e) → IsSameAbove eq z old above
+  same_above z old above q i = record {
+    alike = subst (λ (x : List (Entry V)). SameEntries eq x above) q (entries_themselves eq laws above);
+    kept = λ e c u. i e (in_from (z +ℤ pos 1) old e c (omega (arith, ints)));
+  }
+
   -- what lies above z, once its entry starts at n above it
   module _ (z s t n : ℤ) (up : n ≡ z +ℤ pos 1) (old c new : List (Entry V)) (r : IsRestOf z old s t) (same : start_at s c ≡ start_at s old) (over : from (z +ℤ pos 1) c ≡ from (z +ℤ pos 1) old)
       (of : Entry V) (found : start_at s c ≡ Some of) (starts : from n new ≡ entry n of.hi of.value ∷ from n c) where
-    rest_like : SameEntries eq (after z old) (from (z +ℤ pos 1) new)
+    rest_like : IsSameAbove eq z old (from (z +ℤ pos 1) new)
     rest_like =
         let one : r.of ≡ of = one_value (start_at s old) r.found (sym same ∙ found) in
         let made : from (z +ℤ pos 1) new ≡ entry (z +ℤ pos 1) of.hi of.value ∷ from (z +ℤ pos 1) old =
         ap (λ x. from x new) (sym up) ∙ starts ∙ ap (λ x. entry x of.hi of.value ∷ from x c) up ∙ ap (λ x. entry (z +ℤ pos 1) of.hi of.value ∷ x) over in
-        subst (λ (x : List (Entry V)). SameEntries eq x (from (z +ℤ pos 1) new)) (sym (r.rest ∙ ap (λ (x : Entry V). entry (z +ℤ pos 1) x.hi x.value ∷ from (z +ℤ pos 1) old) one ∙ sym made))
-        (entries_themselves eq laws (from (z +ℤ pos 1) new))
+        same_above z old (from (z +ℤ pos 1) new) (sym (r.rest ∙ ap (λ (x : Entry V). entry (z +ℤ pos 1) x.hi x.value ∷ from (z +ℤ pos 1) old) one ∙ sym made))
+        (λ e i. subst (λ es. Contains es e) (sym made) (later_in _ (from (z +ℤ pos 1) old) e i))
 
-  none_like : (z : ℤ) (old new : List (Entry V)) → after z old ≡ from (z +ℤ pos 1) old → from (z +ℤ pos 1) new ≡ from (z +ℤ pos 1) old → SameEntries eq (after z old) (from (z +ℤ pos 1) new)
+  none_like : (z : ℤ) (old new : List (Entry V)) → after z old ≡ from (z +ℤ pos 1) old → from (z +ℤ pos 1) new ≡ from (z +ℤ pos 1) old → IsSameAbove eq z old (from (z +ℤ pos 1) new)
   none_like z old new q r =
-      subst (λ (x : List (Entry V)). SameEntries eq x (from (z +ℤ pos 1) new)) (sym (q ∙ sym r)) (entries_themselves eq laws (from (z +ℤ pos 1) new))
+      same_above z old (from (z +ℤ pos 1) new) (sym (q ∙ sym r)) (λ e i. subst (λ es. Contains es e) (sym r) i)
 
   pub kept_none : (k z : ℤ) (es : List (Entry V)) → IsCanonical eq es → after z es ≡ from (z +ℤ pos 1) es → IsRestKept eq k z es es
   kept_none k z es c q = record { below = refl; amid = all_end eq k z es c q; like = none_like z es es q refl }
@@ -180,7 +189,7 @@ module _ {V : Type 0} (eq : V → V → Bool) (laws : IsEquivalence eq) where
       below = ap (below l) q ∙ below_replaced l l z v c (omega (arith, ints)) ∙ same_below l old c w.below;
       here = ap (start_at l) q ∙ start_replaced l z v c (subst (λ x. IsSome x) (sym (same_start l old c w.below)) present);
       amid = amid_same (l +ℤ pos 1) (z +ℤ pos 1) new c (ap (from (l +ℤ pos 1)) q ∙ from_replaced (l +ℤ pos 1) l z v c (omega (arith, ints))) ∙ w.amid;
-      like = subst (λ (x : List (Entry V)). SameEntries eq (after z old) x) (sym (ap (from (z +ℤ pos 1)) q ∙ from_replaced (z +ℤ pos 1) l z v c (omega (arith, ints)))) w.like;
+      like = subst (λ (x : List (Entry V)). IsSameAbove eq z old x) (sym (ap (from (z +ℤ pos 1)) q ∙ from_replaced (z +ℤ pos 1) l z v c (omega (arith, ints)))) w.like;
     }
 
     pub over_front : (s t n : ℤ) (new : List (Entry V)) → IsCanonical eq old → n ≡ z +ℤ pos 1 → s ≤ℤ l → IsRestOf z old s t → IsFrontReplaced l z v n old new → IsStartPut eq (entry l z v) old new

@@ -1,6 +1,7 @@
 -- A painted range, joined with what lies beside it, is what the paint makes of the list.
 use Rattle.std.proofs.Common.{◌≡◌, ℤ, pos, ◌+ℤ◌, ◌-ℤ◌, ◌≤ℤ◌, ◌<ℤ◌, Bool, true, false, cond, ◌&&◌, ◌||◌, List, [], ◌∷◌, ◌++◌, Option, Some, None, refl, ◌∙◌, sym, subst, ap, arith, inl, inr}
 use Rattle.std.specs.Prelude.{IsSome, int_lt, int_le, ◌⊎◌}
+use Rattle.std.specs.List.{Contains}
 use Rattle.std.specs.Ordering.{int_eq}
 use Rattle.std.specs.Option.{option_map}
 use Rattle.std.specs.Cmp.{IsEquivalence}
@@ -12,9 +13,10 @@ use Rattle.blaze_int.proofs.Comparisons.{le_holds, eq_holds, le_true, eq_true}
 use Rattle.blaze_entries.proofs.Alike.{one_value}
 use Rattle.blaze_table.specs.Entries.{Entry, entry, SameEntries}
 use Rattle.blaze_table.specs.Canonical.{IsApart, IsCanonical}
-use Rattle.blaze_table.specs.Splice.{before, after, glue, IsPaintOf}
+use Rattle.blaze_table.specs.Splice.{before, after, glue, IsPaintOf, IsSameAbove}
 use Rattle.blaze_table.proofs.Paints.Splices.{by_after, by_join, before_keeps, before_cuts, before_ends, below_more, after_skips, after_keeps, canonical_after}
 use Rattle.blaze_table.proofs.Canonical.Lookup.{IsAbove}
+use Rattle.blaze_table.proofs.Paints.Kept.{first_in, later_in, by_first, over_in, in_after}
 use Rattle.blaze_table.proofs.Paints.Painted.{before_past}
 use Rattle.blaze_entries.specs.Found.{found_in}
 use Rattle.blaze_entries.specs.Starts.{StartsAscend, below, last_below, start_at}
@@ -177,11 +179,11 @@ module _ {V : Type 0} (eq : V → V → Bool) (laws : IsEquivalence eq) (l h : �
       omega (arith, ints, whole.0)
 
   -- what lies behind the painted range, by where the range ends
-  module _ (z : ℤ) (end : IsEnd eq h v es z) (above : List (Entry V)) (like : SameEntries eq (after z es) above) where
+  module _ (z : ℤ) (end : IsEnd eq h v es z) (above : List (Entry V)) (like : IsSameAbove eq z es above) where
     -- the parts of what is joined on the right: behind an entry m that ends at h with a value equal to v
     pub record Right (xs : List (Entry V)) (f : ℤ) (u : V) : Type 0 where
       pub rest : List (Entry V)
-      pub same : SameEntries eq (after h es) rest
+      pub same : IsSameAbove eq h es rest
       pub glued : glue eq (xs ++ entry f h u ∷ []) rest ≡ xs ++ entry f z u ∷ above
 
     not_alike : (a b u : V) → eq a b ≡ true → eq u v ≡ true → eq a v ≡ false → eq u b ≡ true → ⊥
@@ -204,17 +206,23 @@ module _ {V : Type 0} (eq : V → V → Bool) (laws : IsEquivalence eq) (l h : �
     pub right : (xs : List (Entry V)) (f : ℤ) (u : V) → eq u v ≡ true → Right xs f u
     right xs f u q = elim end [
       | inl e ↦
-          let same : SameEntries eq (after h es) above = subst (λ (x : ℤ). SameEntries eq (after x es) above) e.0 like in
-          record { rest = above; same = same; glued = unjoined xs f u (after h es) above q same e.1 ∙ ap (λ x. xs ++ entry f x u ∷ above) (sym e.0) }
+          let same = subst (λ (x : ℤ). IsSameAbove eq x es above) e.0 like in
+          record { rest = above; same = same; glued = unjoined xs f u (after h es) above q same.alike e.1 ∙ ap (λ x. xs ++ entry f x u ∷ above) (sym e.0) }
       | inr e ↦
           let whole : IsCanonical eq (e.next ∷ e.others) = subst (IsCanonical eq) e.first (canonical_after eq h es c) in
           let start = e.touches in
           let finish = e.ends in
           let le : h ≤ℤ z = omega (arith, ints, whole.0) in
-          let others : after z es ≡ e.others = sym (after_after eq h z es le) ∙ ap (after z) e.first ∙ after_skips z e.next e.others (omega (arith, ints)) ∙ after_over eq z e.others (behind e.next e.others finish whole.1) whole.2 in
+          let over = behind e.next e.others finish whole.1 in
+          let others : after z es ≡ e.others = sym (after_after eq h z es le) ∙ ap (after z) e.first ∙ after_skips z e.next e.others (omega (arith, ints)) ∙ after_over eq z e.others over whole.2 in
           record {
             rest = e.next ∷ above;
-            same = subst (λ (t : List (Entry V)). SameEntries eq t (e.next ∷ above)) (sym e.first) (refl, refl, laws.refl e.next.value, subst (λ (t : List (Entry V)). SameEntries eq t above) others like);
+            same = record {
+              alike = subst (λ (t : List (Entry V)). SameEntries eq t (e.next ∷ above)) (sym e.first) (refl, refl, laws.refl e.next.value, subst (λ (t : List (Entry V)). SameEntries eq t above) others like.alike);
+              kept = λ d i m. by_first e.next e.others d (subst (λ t. Contains t d) e.first (in_after eq h es d c i m))
+                  (λ same_one. subst (Contains (e.next ∷ above)) same_one (first_in e.next above))
+                  (λ later. later_in e.next above d (like.kept d i (over_in eq z e.others d over whole.2 later).0));
+            };
             glued = glue-last eq xs (entry f h u) (e.next ∷ above) ∙ ap (λ y. xs ++ y) (by_join eq (entry f h u) e.next above
                 (λ touch alike r. r ∙ ap (λ x. entry f x u ∷ above) finish)
                 (λ n r. absurd (false_true (sym (n start) ∙ (laws.congr u v e.next.value q ∙ laws.symm v e.next.value ∙ e.like)))));

@@ -9,9 +9,9 @@ use Rattle.blaze_entries.proofs.Alike.{same_along, same_itself, same_trans, same
 use Rattle.blaze_table.specs.Entries.{Entry, at, holds, SameOption}
 use Rattle.blaze_table.specs.Canonical.{AreKeys, IsCanonical, IsRangeMap}
 use Rattle.blaze_table.specs.Painted.{last_at, painted_in_order}
-use Rattle.blaze_table.specs.Splice.{IsListPainted, paint, after}
+use Rattle.blaze_table.specs.Splice.{IsListPainted, paint}
 use Rattle.blaze_table.proofs.Canonical.Lookup.{IsAbove, IsAbove-from_apart, at_in, at_under, at_over, by_place, above_by}
-use Rattle.blaze_table.proofs.Paints.Painted.{entries_themselves, is_painted, painted_nowhere, length_as}
+use Rattle.blaze_table.proofs.Paints.Painted.{is_painted, paint_itself, painted_nowhere, length_as}
 use Rattle.blaze_table.proofs.Canonical.Runs.{canonical, one_per_run}
 use Rattle.blaze_table.proofs.Canonical.Unique.{unique}
 use Rattle.blaze_table.specs.CanonicalOf.{keyed, IsCanonicalOf}
@@ -49,7 +49,7 @@ module _ {V : Type 0} (eq : V → V → Bool) (laws : IsEquivalence eq) where
   one_painted : (p : Entry V) (old : List (Entry V)) → IsCanonical eq old → (cur : List (Entry V)) × IsPaintedOne eq p old cur
   one_painted p old c = by_lt_z p.hi p.lo
       (λ h. (old, record { list = painted_nowhere eq laws p old h c; count = inl (refl, ap (λ b. cond b 1 0) (le_false p.lo p.hi h)) }))
-      (λ h. (paint eq p.lo p.hi p.value old, record { list = is_painted eq laws p old (paint eq p.lo p.hi p.value old) h c (record { above = after p.hi old; like = entries_themselves eq laws (after p.hi old); glued = refl }); count = inr (ap (λ b. cond b 1 0) (le_true p.lo p.hi h)) }))
+      (λ h. (paint eq p.lo p.hi p.value old, record { list = is_painted eq laws p old (paint eq p.lo p.hi p.value old) h c (paint_itself eq laws p old c); count = inr (ap (λ b. cond b 1 0) (le_true p.lo p.hi h)) }))
 
   each_painted : (ps old : List (Entry V)) → IsCanonical eq old → (new : List (Entry V)) × IsPaintedEach eq ps old new
   each_painted [] old c = (old, record { canonical = c; content = λ k. same_itself eq laws (at old k); few = omega arith; alone = λ e. omega (arith, ap length e) })

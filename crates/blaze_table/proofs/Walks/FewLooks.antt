@@ -16,6 +16,7 @@ use Rattle.blaze_table.specs.Planned.{IsWorked}
 use Rattle.blaze_table.specs.Splice.{before, after}
 use Rattle.blaze_table.proofs.Canonical.Lookup.{IsAbove-from_apart, above_by}
 use Rattle.blaze_table.proofs.Walks.Plans.{from_above}
+use Rattle.blaze_table.proofs.Walks.Worked.{counted_then, counted_looked}
 use Rattle.blaze_table.proofs.Paints.Splices.{by_before, by_after}
 
 module _ {V : Type 0} where
@@ -73,9 +74,9 @@ module _ {V : Type 0} (eq : V → V → Bool) where
 
   -- the looks of a walk, one look more and the work behind them are those of a paint
   pub counted : (l h low high : ℤ) (old mid new : CountedEntries V) → l ≤ℤ h → StartsAscend low high old.entries → IsCanonical eq old.entries
-      → mid ≡ record old { looks = mid.looks } → mid.looks ≤ old.looks + answers l (reverse (below (h +ℤ pos 2) old.entries)) + 1
+      → mid ≡ record old { looks = mid.looks } → old.looks ≤ mid.looks → mid.looks ≤ old.looks + answers l (reverse (below (h +ℤ pos 2) old.entries)) + 1
       → IsWorked 2 0 mid new → length new.entries ≤ length (before l mid.entries) + length (after h mid.entries) + 1 → IsCountedPaint old new
-  counted l h low high old mid new w s c seen looks work short =
+  counted l h low high old mid new w s c seen risen looks work short =
       let es = old.entries in
       let same : mid.entries ≡ es = ap (λ (x : CountedEntries V). x.entries) seen in
       let long = ap length same in
@@ -86,17 +87,16 @@ module _ {V : Type 0} (eq : V → V → Bool) where
       let few = answers_few l (reverse (below (h +ℤ pos 2) es)) in
       let turned = from_reverse l (below (h +ℤ pos 2) es) in
       record {
+        counted = counted_then old mid new (counted_looked old mid seen risen) work.counted;
         puts = omega (arith, puts, work.puts);
-        balance = omega (arith, long, puts, taken, work.balance);
-        taken = omega (arith, taken, work.taken);
-        looks = omega (arith, few, turned, looks, puts, taken, long, low_part, high_part, short, work.put, work.taken, work.balance, work.looks, few_starts l h low high es w s, before_starts l es c, after_starts h es c);
+        looks = omega (arith, few, turned, looks, puts, taken, long, low_part, high_part, short, work.counted.puts, work.counted.taken, work.counted.balance, work.looks, few_starts l h low high es w s, before_starts l es c, after_starts h es c);
       }
 
   pub counted_paint : {A E : Type 0} (l h low high : ℤ) (old mid new : CountedEntries V) → l ≤ℤ h → StartsAscend low high old.entries → IsCanonical eq old.entries
-      → mid ≡ record old { looks = mid.looks } → mid.looks ≤ old.looks + answers l (reverse (below (h +ℤ pos 2) old.entries)) + 1
+      → mid ≡ record old { looks = mid.looks } → old.looks ≤ mid.looks → mid.looks ≤ old.looks + answers l (reverse (below (h +ℤ pos 2) old.entries)) + 1
       → (r : Result A E) → OnOk r (IsWorked 2 0 mid new) → OnOk r (length new.entries ≤ length (before l mid.entries) + length (after h mid.entries) + 1) → OnOk r (IsCountedPaint old new)
-  counted_paint l h low high old mid new w s c seen looks (Ok a) work short = counted l h low high old mid new w s c seen looks work short
-  counted_paint l h low high old mid new w s c seen looks (Err e) work short = tt
+  counted_paint l h low high old mid new w s c seen risen looks (Ok a) work short = counted l h low high old mid new w s c seen risen looks work short
+  counted_paint l h low high old mid new w s c seen risen looks (Err e) work short = tt
 
 -- what a walk leaves: the looks alone have risen
 module _ {V : Type 0} (old mid : CountedEntries V) (n : ℕ) (walked : mid ≡ record old { looks = old.looks + n }) where
@@ -106,6 +106,9 @@ module _ {V : Type 0} (old mid : CountedEntries V) (n : ℕ) (walked : mid ≡ r
   pub looked_alone : mid ≡ record old { looks = mid.looks }
   looked_alone = walked ∙ ap (λ k. record old { looks = k }) (sym looks_of)
 
+  pub looked_risen : old.looks ≤ mid.looks
+  looked_risen = omega (arith, looks_of)
+
   pub looked_few : mid.looks ≤ old.looks + n + 1
   looked_few = omega (arith, looks_of)
 
@@ -113,6 +116,9 @@ module _ {V : Type 0} (old mid : CountedEntries V) (n : ℕ) (walked : mid ≡ r
   module _ (next : CountedEntries V) (looked : next ≡ record mid { looks = next.looks }) where
     pub looked_again : next ≡ record old { looks = next.looks }
     looked_again = looked ∙ ap (λ (x : CountedEntries V). record x { looks = next.looks }) walked
+
+    pub looked_still_risen : mid.looks ≤ next.looks → old.looks ≤ next.looks
+    looked_still_risen u = omega (arith, looks_of, u)
 
     pub looked_once_more : next.looks ≤ mid.looks + 1 → next.looks ≤ old.looks + n + 1
     looked_once_more u = omega (arith, looks_of, u)

@@ -10,6 +10,7 @@ ghost use Rattle.blaze_table.specs.Planned.{ends_of, joined_start, ends_in, oute
 ghost use Rattle.blaze_table.specs.Planned.{IsRest, IsPutAt, IsExtended, IsPlanOf, IsWorked};
 ghost use Rattle.blaze_table.specs.Planned.{IsLikeAbove, IsUnlikeAbove};
 ghost use Rattle.blaze_table.specs.Splice.{IsPaintOf};
+ghost use Rattle.blaze_table.specs.Work.{IsCounted};
 
 use super::edits::{clear, trim};
 use super::inside::put_inside;
@@ -43,6 +44,7 @@ fn paint_beside<T: Integer, V: Eq + Drop>(
         (entry (T.rank lo) (T.rank plan.end) value) entries.old.entries entries.new.entries) }
     ensures worked { OnOk result (IsWorked 2 0 entries.old entries.new) }
     ensures err { OnErr result (entries.new.entries ≡ entries.old.entries) }
+    ensures err_counted { OnErr result (IsCounted entries.old entries.new) }
 {
     entries.in_hand();
     put(entries, lo, plan.end, value, plan.first, plan.rest)?;
@@ -77,6 +79,7 @@ fn paint_from<T: Integer, V: Eq + Drop>(
         (entry (T.rank lo) (T.rank plan.end) value) entries.old.entries entries.new.entries) }
     ensures worked { OnOk result (IsWorked 2 0 entries.old entries.new) }
     ensures err { OnErr result (entries.new.entries ≡ entries.old.entries) }
+    ensures err_counted { OnErr result (IsCounted entries.old entries.new) }
 {
     let end = plan.end;
     let left = plan.left;
@@ -108,6 +111,7 @@ fn paint_on<T: Integer, V: Eq + Drop>(
         (IsExtended V.eq (T.rank first) (T.rank end) entries.old.entries entries.new.entries) }
     ensures worked { OnOk result (IsWorked 1 0 entries.old entries.new) }
     ensures err { OnErr result (entries.new.entries ≡ entries.old.entries) }
+    ensures err_counted { OnErr result (IsCounted entries.old entries.new) }
 {
     entries.in_hand();
     move_rest(entries, first, end, rest)?;
@@ -168,6 +172,7 @@ pub fn apply<T: Integer, V: Eq + Drop>(
         (entry (T.rank lo) (T.rank hi) value) entries.old.entries entries.new.entries) }
     ensures worked { OnOk result (IsWorked 2 0 entries.old entries.new) }
     ensures err { OnErr result (entries.new.entries ≡ entries.old.entries) }
+    ensures err_counted { OnErr result (IsCounted entries.old entries.new) }
 {
     entries.in_hand();
     let _ = hi;

@@ -5,6 +5,7 @@ ghost use Rattle.blaze_table.specs.Canonical.{IsCanonical};
 ghost use Rattle.blaze_table.specs.Entries.{entry};
 ghost use Rattle.blaze_table.specs.LastBelow.{IsLastBelow};
 ghost use Rattle.blaze_table.specs.Planned.{IsPutAt, IsWorked};
+ghost use Rattle.blaze_table.specs.Work.{IsCounted};
 
 use blaze_entries::Counted;
 use blaze_int::Integer;
@@ -29,6 +30,7 @@ fn put_both<T: Integer, V: Drop>(
         (with_entry (entry (T.rank lo) (T.rank end) value) entries.old.entries)) }
     ensures worked { OnOk result (IsWorked 2 0 entries.old entries.new) }
     ensures err { OnErr result (entries.new.entries ≡ entries.old.entries) }
+    ensures err_counted { OnErr result (IsCounted entries.old entries.new) }
 {
     entries.insert(lo, end, value)?;
     let next = after(end, last);
@@ -62,6 +64,7 @@ pub fn put_inside<T: Integer, V: Eq + Drop>(
         (entry (T.rank lo) (T.rank end) value) entries.old.entries entries.new.entries) }
     ensures worked { OnOk result (IsWorked 2 0 entries.old entries.new) }
     ensures err { OnErr result (entries.new.entries ≡ entries.old.entries) }
+    ensures err_counted { OnErr result (IsCounted entries.old entries.new) }
 {
     entries.in_hand();
     put_both(entries, lo, end, value, last, above)?;

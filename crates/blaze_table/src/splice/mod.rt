@@ -4,7 +4,7 @@ ghost use Rattle.std.specs.Prelude.{◌≡◌, ◌+◌, ◌≤◌, length, pos, 
 ghost use Rattle.blaze_entries.specs.Found.{ranks_of};
 ghost use Rattle.blaze_entries.specs.Scanned.{seen_of};
 ghost use Rattle.blaze_table.specs.Count.{keys_in};
-ghost use Rattle.blaze_table.specs.Work.{IsCountedPaint};
+ghost use Rattle.blaze_table.specs.Work.{IsCountedPaint, IsCounted};
 ghost use Rattle.blaze_table.specs.Entries.{entry, at, SameOption};
 ghost use Rattle.blaze_table.specs.Painted.{IsInside, ClonesAreAlike};
 ghost use Rattle.blaze_table.specs.Planned.{ends_in, outer_starts, IsPlanOf, IsWorked, reaches};
@@ -74,6 +74,7 @@ fn paint_planned<T: Integer, V: Eq + Drop>(
         + length (after (T.rank hi) entries.old.entries)
         + 1) }
     ensures err { OnErr result (entries.new.entries ≡ entries.old.entries) }
+    ensures err_counted { OnErr result (IsCounted entries.old entries.new) }
 {
     entries.in_hand();
     lo.in_hand();
@@ -107,6 +108,7 @@ pub fn paint_by_splice<T: Integer, V: Eq + Clone>(
         → (result ≡ Ok len) × (entries.new.entries ≡ entries.old.entries) }
     ensures counted { OnOk result (IsCountedPaint entries.old entries.new) }
     ensures err { OnErr result (entries.new.entries ≡ entries.old.entries) }
+    ensures err_counted { OnErr result (IsCounted entries.old entries.new) }
 {
     entries.in_hand();
     let (plan, outside) = plan(entries, len, lo, hi, &value);
@@ -136,6 +138,7 @@ pub fn paint<T: Integer, V: Eq + Clone>(
         → (result ≡ Ok len) × (entries.new.entries ≡ entries.old.entries) }
     ensures counted { OnOk result (IsCountedPaint entries.old entries.new) }
     ensures err { OnErr result (entries.new.entries ≡ entries.old.entries) }
+    ensures err_counted { OnErr result (IsCounted entries.old entries.new) }
 {
     entries.in_hand();
     let (plan, outside, above) = entries.scan(len, lo, hi, &value)?;
@@ -162,6 +165,7 @@ pub fn insert<T: Integer, V: Eq + Clone>(
         → entries.new.entries ≡ entries.old.entries }
     ensures counted { OnOk result (IsCountedPaint entries.old entries.new) }
     ensures err { OnErr result (entries.new.entries ≡ entries.old.entries) }
+    ensures err_counted { OnErr result (IsCounted entries.old entries.new) }
 {
     entries.in_hand();
     let (plan, outside, above, old) = entries.scan_with_value(len, key, key, &value)?;

@@ -7,6 +7,7 @@ ghost use Rattle.blaze_entries.specs.Starts.{start_at};
 ghost use Rattle.blaze_table.specs.Canonical.{IsCanonical};
 ghost use Rattle.blaze_table.specs.Entries.{entry};
 ghost use Rattle.blaze_table.specs.Planned.{ends_of, IsRest, IsRestKept, IsStartPut, IsWorked};
+ghost use Rattle.blaze_table.specs.Work.{IsCounted};
 
 use blaze_entries::{Counted, Found};
 use blaze_int::Integer;
@@ -57,6 +58,7 @@ fn put_new<T: Integer, V: Eq + Drop>(
         (entry (T.rank lo) (T.rank end) value) entries.old.entries entries.new.entries) }
     ensures worked { OnOk result (IsWorked 2 0 entries.old entries.new) }
     ensures err { OnErr result (entries.new.entries ≡ entries.old.entries) }
+    ensures err_counted { OnErr result (IsCounted entries.old entries.new) }
 {
     entries.insert(lo, end, value)?;
     match rest {
@@ -89,6 +91,7 @@ fn put_over<T: Integer, V: Eq + Drop>(
         (entry (T.rank lo) (T.rank end) value) entries.old.entries entries.new.entries) }
     ensures worked { OnOk result (IsWorked 2 0 entries.old entries.new) }
     ensures err { OnErr result (entries.new.entries ≡ entries.old.entries) }
+    ensures err_counted { OnErr result (IsCounted entries.old entries.new) }
 {
     match rest {
         None => {
@@ -130,6 +133,7 @@ pub fn put<T: Integer, V: Eq + Drop>(
         (entry (T.rank lo) (T.rank end) value) entries.old.entries entries.new.entries) }
     ensures worked { OnOk result (IsWorked 2 0 entries.old entries.new) }
     ensures err { OnErr result (entries.new.entries ≡ entries.old.entries) }
+    ensures err_counted { OnErr result (IsCounted entries.old entries.new) }
 {
     match first {
         Some(_) => put_over(entries, lo, end, value, rest),

@@ -67,6 +67,7 @@ pub fn value_above<T: Integer, V: Eq + Clone>(
     ensures refused { OnErr result
         (GoesOnUnlike (T.rank hi) (option_map (found_of T.rank) left)) }
     ensures looked { entries.new ≡ record entries.old { looks = entries.new.looks } }
+    ensures risen { entries.old.looks ≤ entries.new.looks }
     ensures few { entries.new.looks ≤ entries.old.looks + 1 }
 {
     match left {

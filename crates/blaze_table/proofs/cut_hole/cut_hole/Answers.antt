@@ -39,4 +39,8 @@ returns-clause-worked g c =
     let was = ap (λ (s : CountedEntries g.row.V.Denot). s.put_in) e in
     let taken = ap (λ (s : CountedEntries g.row.V.Denot). s.taken_out) e ∙ ap (λ (s : CountedEntries g.row.V.Denot). s.taken_out) p in
     let looks = ap (λ (s : CountedEntries g.row.V.Denot). s.looks) e ∙ ap (λ (s : CountedEntries g.row.V.Denot). s.looks) p in
-    record { put = omega (arith, puts, was); puts = omega (arith, puts, was); balance = omega (arith, long, longer, puts, was, taken); taken = omega (arith, taken); looks = omega (arith, looks, taken) }
+    record {
+      counted = record { looks = omega (arith, looks); puts = omega (arith, puts, was); taken = omega (arith, taken); balance = omega (arith, long, longer, puts, was, taken) };
+      puts = omega (arith, puts, was);
+      looks = omega (arith, looks, taken);
+    }

@@ -49,10 +49,13 @@ returns-then-is_below-clause-worked g c =
     let i = c.loop-ends.invariant in
     let w = c.end_last.ensures.worked in
     record {
-      put = omega (arith, puts, i.puts, w.put);
+      counted = record {
+        looks = omega (arith, looks, taken, i.looks, i.taken, w.counted.looks);
+        puts = omega (arith, puts, i.puts, w.counted.puts);
+        taken = omega (arith, taken, i.taken, w.counted.taken);
+        balance = omega (arith, long, puts, taken, i.puts, i.balance, w.counted.balance);
+      };
       puts = omega (arith, puts, i.puts, w.puts);
-      balance = omega (arith, long, puts, taken, i.puts, i.balance, w.balance);
-      taken = omega (arith, taken, i.taken, w.taken);
       looks = omega (arith, looks, taken, i.looks, w.looks);
     }
 
@@ -111,9 +114,12 @@ returns-clause-worked g c =
     let long = ap (λ (s : CountedEntries g.row.V.Denot). length s.entries) seen in
     let i = c.loop-ends.invariant in
     record {
-      put = omega (arith, puts, i.puts);
+      counted = record {
+        looks = omega (arith, looks, taken, i.looks, i.taken);
+        puts = omega (arith, puts, i.puts);
+        taken = omega (arith, taken, i.taken);
+        balance = omega (arith, long, puts, taken, i.puts, i.balance);
+      };
       puts = omega (arith, puts, i.puts);
-      balance = omega (arith, long, puts, taken, i.puts, i.balance);
-      taken = omega (arith, taken, i.taken);
       looks = omega (arith, looks, taken, i.looks);
     }

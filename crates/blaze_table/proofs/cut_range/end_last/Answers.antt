@@ -7,6 +7,7 @@ use Rattle.blaze_table.proofs.Cuts.Cutting.{cut_table, covered_fits}
 use Rattle.blaze_table.proofs.Cuts.RangeCuts.{ends_up_to, end_covered, end_apart}
 use Rattle.blaze_table.proofs.Neighbours.Holders.{holder}
 use Rattle.blaze_table.proofs.Paints.EditLists.{length-with_end}
+use Rattle.blaze_table.proofs.Walks.Worked.{worked_none, worked_edited}
 use Rattle.blaze_table.proofs.cut_range.end_last.Goals as goal
 
 pub returns-then-is_below-clause-cut : goal.returns-then-is_below-clause-cut
@@ -68,9 +69,5 @@ returns-clause-cut g c =
 
 pub returns-clause-worked : goal.returns-clause-worked
 returns-clause-worked g c =
-    let e = c.set_end.ensures in
-    let long = ap (λ (s : CountedEntries g.row.V.Denot). length s.entries) e ∙ length-with_end (g.T.Integer.rank c.args.start) (g.T.Integer.rank c.before-2.result) c.args.entries.now.entries in
-    let puts = ap (λ (s : CountedEntries g.row.V.Denot). s.put_in) e in
-    let taken = ap (λ (s : CountedEntries g.row.V.Denot). s.taken_out) e in
-    let looks = ap (λ (s : CountedEntries g.row.V.Denot). s.looks) e in
-    record { put = omega (arith, puts); puts = omega (arith, puts); balance = omega (arith, long, puts, taken); taken = omega (arith, taken); looks = omega (arith, looks, taken) }
+    worked_edited 0 0 c.args.entries.now c.args.entries.now c.set_end.new.self _ (worked_none 0 0 c.args.entries.now) c.set_end.ensures
+    (length-with_end (g.T.Integer.rank c.args.start) (g.T.Integer.rank c.before-2.result) c.args.entries.now.entries)

@@ -3,7 +3,7 @@ use Rattle.std.proofs.lemmas.Int.{ints}
 use Rattle.std.specs.Option.{option_map}
 use Rattle.blaze_entries.specs.Found.{ranks_of}
 use Rattle.blaze_entries.specs.Scanned.{seen_of}
-use Rattle.blaze_table.proofs.Walks.FewLooks.{counted, looked_alone, looked_few}
+use Rattle.blaze_table.proofs.Walks.FewLooks.{counted, looked_alone, looked_few, looked_risen}
 use Rattle.blaze_table.proofs.Walks.Outside.{walked_fits}
 use Rattle.blaze_table.proofs.Walks.SeenPlans.{seen_plan, seen_covered, seen_above, seen_outside}
 use Rattle.blaze_table.proofs.Walks.WalkedValues.{walked_clone}
@@ -41,7 +41,7 @@ paint_planned-requires-clause-above g c =
 pub returns-clause-counted : goal.returns-clause-counted
 returns-clause-counted g c =
     let rank = g.T.Integer.rank in
-    counted g.V.PartialEq.eq (rank c.args.key) (rank c.args.key) g.T.Integer.low g.T.Integer.high c.args.entries.now c.scan_with_value.new.self c.paint_planned.new.entries (omega (arith, ints)) c.in_hand.ensures c.requires.table.canonical (looked_alone c.args.entries.now c.scan_with_value.new.self _ c.scan_with_value.ensures.looked) (looked_few c.args.entries.now c.scan_with_value.new.self _ c.scan_with_value.ensures.looked)
+    counted g.V.PartialEq.eq (rank c.args.key) (rank c.args.key) g.T.Integer.low g.T.Integer.high c.args.entries.now c.scan_with_value.new.self c.paint_planned.new.entries (omega (arith, ints)) c.in_hand.ensures c.requires.table.canonical (looked_alone c.args.entries.now c.scan_with_value.new.self _ c.scan_with_value.ensures.looked) (looked_risen c.args.entries.now c.scan_with_value.new.self _ c.scan_with_value.ensures.looked) (looked_few c.args.entries.now c.scan_with_value.new.self _ c.scan_with_value.ensures.looked)
     c.in_ok-rest.ensures.worked c.in_ok-rest.ensures.short
 
 pub returns-clause-value : goal.returns-clause-value

@@ -2,7 +2,7 @@ use Rattle.std.proofs.Common.{refl}
 use Rattle.std.specs.Option.{option_map}
 use Rattle.blaze_entries.specs.Found.{ranks_of}
 use Rattle.blaze_entries.specs.Scanned.{seen_of}
-use Rattle.blaze_table.proofs.Walks.FewLooks.{counted_paint, looked_alone, looked_few}
+use Rattle.blaze_table.proofs.Walks.FewLooks.{counted_paint, looked_alone, looked_few, looked_risen}
 use Rattle.blaze_table.proofs.Walks.Outside.{walked_fits}
 use Rattle.blaze_table.proofs.Walks.SeenPlans.{seen_plan, seen_covered, seen_above, seen_unlike, seen_outside}
 use Rattle.blaze_table.proofs.splice.paint.Goals as goal
@@ -39,7 +39,7 @@ paint_planned-requires-clause-above g c =
 pub returns-clause-counted : goal.returns-clause-counted
 returns-clause-counted g c =
     let rank = g.T.Integer.rank in
-    counted_paint g.V.PartialEq.eq (rank c.args.lo) (rank c.args.hi) g.T.Integer.low g.T.Integer.high c.args.entries.now c.scan.new.self c.paint_planned.new.entries c.requires.order c.in_hand.ensures c.requires.table.canonical (looked_alone c.args.entries.now c.scan.new.self _ c.scan.ensures.looked) (looked_few c.args.entries.now c.scan.new.self _ c.scan.ensures.looked)
+    counted_paint g.V.PartialEq.eq (rank c.args.lo) (rank c.args.hi) g.T.Integer.low g.T.Integer.high c.args.entries.now c.scan.new.self c.paint_planned.new.entries c.requires.order c.in_hand.ensures c.requires.table.canonical (looked_alone c.args.entries.now c.scan.new.self _ c.scan.ensures.looked) (looked_risen c.args.entries.now c.scan.new.self _ c.scan.ensures.looked) (looked_few c.args.entries.now c.scan.new.self _ c.scan.ensures.looked)
     c.paint_planned.result c.paint_planned.ensures.worked c.paint_planned.ensures.short
 
 pub returns-in_err-plan-clause-inside : goal.returns-in_err-plan-clause-inside

@@ -8,7 +8,7 @@ use Rattle.blaze_entries.specs.Starts.{start_at}
 use Rattle.blaze_table.specs.Entries.{Entry}
 use Rattle.blaze_table.specs.Planned.{IsUnlikeAbove}
 use Rattle.blaze_table.proofs.Walks.AboveValues.{left_there, looked_above}
-use Rattle.blaze_table.proofs.Walks.FewLooks.{counted_paint, looked_again, looked_once_more}
+use Rattle.blaze_table.proofs.Walks.FewLooks.{counted_paint, looked_again, looked_once_more, looked_still_risen}
 use Rattle.blaze_table.proofs.Walks.Outside.{walked_fits}
 use Rattle.blaze_table.proofs.Walks.SeenPlans.{seen_plan, seen_covered, seen_unlike, seen_outside}
 use Rattle.blaze_table.proofs.splice.paint_by_splice.Goals as goal
@@ -60,5 +60,6 @@ pub returns-clause-counted : goal.returns-clause-counted
 returns-clause-counted g c =
     let rank = g.T.Integer.rank in
     counted_paint g.V.PartialEq.eq (rank c.args.lo) (rank c.args.hi) g.T.Integer.low g.T.Integer.high c.args.entries.now c.value_above.new.entries c.paint_planned.new.entries c.requires.order c.in_hand.ensures c.requires.table.canonical (looked_again c.args.entries.now c.plan.new.entries _ c.plan.ensures.looked c.value_above.new.entries c.value_above.ensures.looked)
+    (looked_still_risen c.args.entries.now c.plan.new.entries _ c.plan.ensures.looked c.value_above.new.entries c.value_above.ensures.looked c.value_above.ensures.risen)
     (looked_once_more c.args.entries.now c.plan.new.entries _ c.plan.ensures.looked c.value_above.new.entries c.value_above.ensures.looked c.value_above.ensures.few)
     c.paint_planned.result c.paint_planned.ensures.worked c.paint_planned.ensures.short

@@ -1,10 +1,11 @@
-use Rattle.std.proofs.Common.{length, ap, sym, ◌∙◌, arith}
+use Rattle.std.proofs.Common.{ap, sym, ◌∙◌}
 use Rattle.blaze_entries.specs.Counted.{CountedEntries}
 use Rattle.blaze_entries.specs.Starts.{start_at}
 use Rattle.blaze_table.specs.Planned.{outer_starts}
 use Rattle.blaze_table.proofs.Paints.Composed.{extended}
 use Rattle.blaze_table.proofs.Paints.EditLists.{length-with_end}
 use Rattle.blaze_table.proofs.Cuts.Splits.{some_of}
+use Rattle.blaze_table.proofs.Walks.Worked.{worked_edited, worked_then}
 use Rattle.blaze_table.proofs.splice.apply.paint_on.Goals as goal
 
 pub clear-requires : goal.clear-requires
@@ -20,17 +21,6 @@ returns-clause-extended g c =
 
 pub returns-clause-worked : goal.returns-clause-worked
 returns-clause-worked g c =
-    let e = c.set_end.ensures in
-    let a = c.in_ok-move_rest.ensures.worked in
-    let b = c.clear.ensures.worked in
-    let long = ap (λ (s : CountedEntries g.row.V.Denot). length s.entries) e ∙ length-with_end (g.T.Integer.rank c.args.first) (g.T.Integer.rank c.args.end) c.clear.new.entries.entries in
-    let puts = ap (λ (s : CountedEntries g.row.V.Denot). s.put_in) e in
-    let taken = ap (λ (s : CountedEntries g.row.V.Denot). s.taken_out) e in
-    let looks = ap (λ (s : CountedEntries g.row.V.Denot). s.looks) e in
-    record {
-      put = omega (arith, puts, a.put, b.put);
-      puts = omega (arith, puts, a.puts, b.puts);
-      balance = omega (arith, long, puts, taken, a.balance, b.balance);
-      taken = omega (arith, taken, a.taken, b.taken);
-      looks = omega (arith, looks, taken, a.looks, b.looks);
-    }
+    worked_edited 1 0 c.args.entries.now c.clear.new.entries c.set_end.new.self _
+    (worked_then 1 0 0 c.args.entries.now c.move_rest.new.entries c.clear.new.entries c.in_ok-move_rest.ensures.worked c.clear.ensures.worked) c.set_end.ensures
+    (length-with_end (g.T.Integer.rank c.args.first) (g.T.Integer.rank c.args.end) c.clear.new.entries.entries)

@@ -32,10 +32,13 @@ returns-then-is_at_most-clause-worked g c =
     let long = ap (λ (s : CountedEntries g.row.V.Denot). length s.entries) seen in
     let i = c.loop-ends.invariant in
     record {
-      put = omega (arith, puts, i.puts);
+      counted = record {
+        looks = omega (arith, looks, looks_out, taken, taken_out, i.looks, i.taken);
+        puts = omega (arith, puts, i.puts);
+        taken = omega (arith, taken, taken_out, i.taken);
+        balance = omega (arith, c.remove.ensures.shorter, long, puts, taken, taken_out, i.puts, i.balance);
+      };
       puts = omega (arith, puts, i.puts);
-      balance = omega (arith, c.remove.ensures.shorter, long, puts, taken, taken_out, i.puts, i.balance);
-      taken = omega (arith, taken, taken_out, i.taken);
       looks = omega (arith, looks, looks_out, taken, taken_out, i.looks);
     }
 

@@ -1,10 +1,11 @@
-use Rattle.std.proofs.Common.{length, ap, sym, ◌∙◌, arith}
+use Rattle.std.proofs.Common.{ap, sym, ◌∙◌}
 use Rattle.std.specs.Option.{option_map}
 use Rattle.blaze_int.proofs.Comparisons.{le_holds, le_fails}
 use Rattle.blaze_entries.specs.Counted.{CountedEntries}
 use Rattle.blaze_table.specs.Planned.{ends_of}
 use Rattle.blaze_table.proofs.Paints.EditLists.{length-with_end}
 use Rattle.blaze_table.proofs.Neighbours.Growing.{trim_none, trim_short, trim_long, trim_starts}
+use Rattle.blaze_table.proofs.Walks.Worked.{worked_none, worked_edited}
 use Rattle.blaze_table.proofs.splice.edits.trim.Goals as goal
 
 pub before-end-requires : goal.before-end-requires
@@ -22,12 +23,8 @@ returns-then-is_at_most-clause-entries g c =
 
 pub returns-then-is_at_most-clause-worked : goal.returns-then-is_at_most-clause-worked
 returns-then-is_at_most-clause-worked g c =
-    let e = c.set_end.ensures in
-    let long = ap (λ (s : CountedEntries g.row.V.Denot). length s.entries) e ∙ length-with_end (g.T.Integer.rank c.in-Some.found.start) (g.T.Integer.rank c.before-end.result) c.args.entries.now.entries in
-    let puts = ap (λ (s : CountedEntries g.row.V.Denot). s.put_in) e in
-    let taken = ap (λ (s : CountedEntries g.row.V.Denot). s.taken_out) e in
-    let looks = ap (λ (s : CountedEntries g.row.V.Denot). s.looks) e in
-    record { put = omega (arith, puts); puts = omega (arith, puts); balance = omega (arith, long, puts, taken); taken = omega (arith, taken); looks = omega (arith, looks, taken) }
+    worked_edited 0 0 c.args.entries.now c.args.entries.now c.set_end.new.self _ (worked_none 0 0 c.args.entries.now) c.set_end.ensures
+    (length-with_end (g.T.Integer.rank c.in-Some.found.start) (g.T.Integer.rank c.before-end.result) c.args.entries.now.entries)
 
 pub returns-else-is_at_most-clause-entries : goal.returns-else-is_at_most-clause-entries
 returns-else-is_at_most-clause-entries g c =

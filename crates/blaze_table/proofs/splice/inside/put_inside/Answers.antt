@@ -1,9 +1,10 @@
-use Rattle.std.proofs.Common.{◌+ℤ◌, pos, length, ap, ◌∙◌, arith}
+use Rattle.std.proofs.Common.{◌+ℤ◌, pos, ap, arith}
 use Rattle.std.proofs.lemmas.Int.{ints}
 use Rattle.blaze_entries.specs.Counted.{CountedEntries}
 use Rattle.blaze_table.proofs.Paints.EditLists.{length-with_end}
 use Rattle.blaze_table.proofs.Neighbours.Holders.{holder, absent_inside}
 use Rattle.blaze_table.proofs.Paints.PutInside.{inside_put}
+use Rattle.blaze_table.proofs.Walks.Worked.{worked_edited}
 use Rattle.blaze_table.proofs.splice.inside.put_inside.Goals as goal
 
 pub put_both-requires-clause-absent : goal.put_both-requires-clause-absent
@@ -41,16 +42,5 @@ returns-clause-put g c =
 
 pub returns-clause-worked : goal.returns-clause-worked
 returns-clause-worked g c =
-    let p = c.in_ok-put_both.ensures.worked in
-    let e = c.set_end.ensures in
-    let long = ap (λ (s : CountedEntries g.row.V.Denot). length s.entries) e ∙ length-with_end (g.T.Integer.rank c.args.start) (g.T.Integer.rank c.before-2.result) c.put_both.new.entries.entries in
-    let puts = ap (λ (s : CountedEntries g.row.V.Denot). s.put_in) e in
-    let taken = ap (λ (s : CountedEntries g.row.V.Denot). s.taken_out) e in
-    let looks = ap (λ (s : CountedEntries g.row.V.Denot). s.looks) e in
-    record {
-      put = omega (arith, puts, p.put);
-      puts = omega (arith, puts, p.puts);
-      balance = omega (arith, long, puts, taken, p.balance);
-      taken = omega (arith, taken, p.taken);
-      looks = omega (arith, looks, taken, p.looks);
-    }
+    worked_edited 2 0 c.args.entries.now c.put_both.new.entries c.set_end.new.self _ c.in_ok-put_both.ensures.worked c.set_end.ensures
+    (length-with_end (g.T.Integer.rank c.args.start) (g.T.Integer.rank c.before-2.result) c.put_both.new.entries.entries)

@@ -6,6 +6,7 @@ use Rattle.blaze_entries.specs.Found.{ranks_of}
 use Rattle.blaze_entries.proofs.Moves.{length-with_end_value}
 use Rattle.blaze_table.specs.Planned.{IsRest}
 use Rattle.blaze_table.proofs.Paints.Placing.{kept_none, kept_moved, over_kept, over_front}
+use Rattle.blaze_table.proofs.Walks.Worked.{worked_none, worked_edited}
 use Rattle.blaze_table.proofs.splice.place.put_over.Goals as goal
 
 pub returns-in-None-clause-ok : goal.returns-in-None-clause-ok
@@ -20,12 +21,8 @@ returns-in-None-clause-ok g c =
 
 pub returns-in-None-clause-worked : goal.returns-in-None-clause-worked
 returns-in-None-clause-worked g c =
-    let e = c.replace.ensures in
-    let long = ap (λ (s : CountedEntries g.row.V.Denot). length s.entries) e ∙ length-with_end_value (g.T.Integer.rank c.args.lo) (g.T.Integer.rank c.args.end) c.args.value c.args.entries.now.entries in
-    let puts = ap (λ (s : CountedEntries g.row.V.Denot). s.put_in) e in
-    let taken = ap (λ (s : CountedEntries g.row.V.Denot). s.taken_out) e in
-    let looks = ap (λ (s : CountedEntries g.row.V.Denot). s.looks) e in
-    record { put = omega (arith, puts); puts = omega (arith, puts); balance = omega (arith, long, puts, taken); taken = omega (arith, taken); looks = omega (arith, looks, taken) }
+    worked_edited 2 0 c.args.entries.now c.args.entries.now c.replace.new.self _ (worked_none 2 0 c.args.entries.now) c.replace.ensures
+    (length-with_end_value (g.T.Integer.rank c.args.lo) (g.T.Integer.rank c.args.end) c.args.value c.args.entries.now.entries)
 
 pub returns-in_ok-move_start-in-Some-clause-ok : goal.returns-in_ok-move_start-in-Some-clause-ok
 returns-in_ok-move_start-in-Some-clause-ok g c =
@@ -40,13 +37,18 @@ returns-in_ok-move_start-in-Some-clause-ok g c =
 
 pub returns-in_ok-move_start-in-Some-clause-worked : goal.returns-in_ok-move_start-in-Some-clause-worked
 returns-in_ok-move_start-in-Some-clause-worked g c =
-    let e = c.replace-then-is_below.ensures in
     let m = c.in_ok-move_start-in-Some.ensures.counted in
-    let long = ap (λ (s : CountedEntries g.row.V.Denot). length s.entries) e ∙ length-with_end_value (g.T.Integer.rank c.args.lo) (g.T.Integer.rank c.args.end) c.args.value c.move_start.new.self.entries ∙ c.in_ok-move_start-in-Some.ensures.length in
-    let puts = ap (λ (s : CountedEntries g.row.V.Denot). s.put_in) e ∙ ap (λ (s : CountedEntries g.row.V.Denot). s.put_in) m in
-    let taken = ap (λ (s : CountedEntries g.row.V.Denot). s.taken_out) e ∙ ap (λ (s : CountedEntries g.row.V.Denot). s.taken_out) m in
-    let looks = ap (λ (s : CountedEntries g.row.V.Denot). s.looks) e ∙ ap (λ (s : CountedEntries g.row.V.Denot). s.looks) m in
-    record { put = omega (arith, puts); puts = omega (arith, puts); balance = omega (arith, long, puts, taken); taken = omega (arith, taken); looks = omega (arith, looks, taken) }
+    let long = c.in_ok-move_start-in-Some.ensures.length in
+    let puts = ap (λ (s : CountedEntries g.row.V.Denot). s.put_in) m in
+    let taken = ap (λ (s : CountedEntries g.row.V.Denot). s.taken_out) m in
+    let looks = ap (λ (s : CountedEntries g.row.V.Denot). s.looks) m in
+    worked_edited 2 0 c.args.entries.now c.move_start.new.self c.replace-then-is_below.new.self _
+    (record {
+      counted = record { looks = omega (arith, looks); puts = omega (arith, puts); taken = omega (arith, taken); balance = omega (arith, long, puts, taken) };
+      puts = omega (arith, puts);
+      looks = omega (arith, looks, taken);
+    }) c.replace-then-is_below.ensures
+    (length-with_end_value (g.T.Integer.rank c.args.lo) (g.T.Integer.rank c.args.end) c.args.value c.move_start.new.self.entries)
 
 pub returns-in_ok-replace_front-in-Some-clause-ok : goal.returns-in_ok-replace_front-in-Some-clause-ok
 returns-in_ok-replace_front-in-Some-clause-ok g c =
