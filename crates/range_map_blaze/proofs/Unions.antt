@@ -1,15 +1,15 @@
 -- A union has few entries: no more than a list that is made by painting the right list's entries over the left list.
 use Rattle.std.specs.Option.{option_or}
-use Rattle.std.proofs.Common.{◌+◌, ◌*◌, ◌≤◌, ℤ, Bool, cond, List, [], ◌∷◌, length, Some, None, refl, ◌∙◌, sym, ap, subst, arith}
+use Rattle.std.proofs.Common.{◌+◌, ◌*◌, ◌≤◌, ℤ, Bool, cond, List, [], ◌∷◌, length, Some, None, ◌∙◌, sym, ap, subst, arith}
 use Rattle.std.specs.Cmp.{IsEquivalence}
 use Rattle.blaze_entries.proofs.Alike.{same_itself, same_trans, same_back, same_or, or_assoc}
 use Rattle.blaze_table.specs.Entries.{Entry, at, holds, SameOption, SameContent}
 use Rattle.blaze_table.specs.Canonical.{IsCanonical, IsRangeMap}
 use Rattle.blaze_table.specs.Chosen.{right_first, IsChosen}
 use Rattle.blaze_table.specs.Painted.{last_at, painted_in_order}
-use Rattle.blaze_table.specs.Splice.{paint, after}
+use Rattle.blaze_table.specs.Splice.{paint}
 use Rattle.blaze_table.proofs.Canonical.Fewest.{fewest}
-use Rattle.blaze_table.proofs.Paints.Painted.{entries_themselves, is_painted}
+use Rattle.blaze_table.proofs.Paints.Painted.{is_painted, paint_itself}
 use Rattle.blaze_table.proofs.Canonical.Runs.{canonical, one_per_run}
 use Rattle.range_map_blaze.specs.Union.{IsUnion}
 use Rattle.range_map_blaze.proofs.Paints.PaintedOver.{last_is_first, turned}
@@ -26,7 +26,7 @@ module _ {V : Type 0} (eq : V → V → Bool) (laws : IsEquivalence eq) where
   many_painted [] old c d = (old, record { is_canonical = d; content = λ k. same_itself eq laws (at old k); few = omega arith })
   many_painted (p ∷ ps) old c d =
       let cur = paint eq p.lo p.hi p.value old in
-      let one = is_painted eq laws p old cur c.0 d (record { above = after p.hi old; like = entries_themselves eq laws (after p.hi old); glued = refl }) in
+      let one = is_painted eq laws p old cur c.0 d (paint_itself eq laws p old d) in
       let rest = many_painted ps cur c.2 one.canonical in (
         rest.0,
         record {

@@ -71,14 +71,14 @@ module _ {T V L : Type 0} (eq : V → V → Bool) (laws : IsEquivalence eq) (ran
         let n = length_more done s in
         record {
           puts = omega (arith, before.puts, step.puts, n);
-          balance = omega (arith, before.balance, step.balance);
-          taken = omega (arith, before.taken, step.taken);
+          balance = omega (arith, before.balance, step.counted.balance);
+          taken = omega (arith, before.taken, step.counted.taken);
           looks = omega (arith, before.looks, step.looks, n);
         };
     few = λ e none.
         let step = counts (edits_last done s e) in
         few_more (length done) (r.few (edits_front done s e) none) (λ i. alone (edits_last done s e) (nil_from_length now.entries i))
-        (omega (arith, step.puts, step.balance, step.taken)) (length_more done s);
+        (omega (arith, step.puts, step.counted.balance, step.counted.taken)) (length_more done s);
   }
     where
       few_more : (n : ℕ) → length now.entries ≤ 2 * n - 1 → (length now.entries ≡ 0 → length new.entries ≤ 1) → length new.entries ≤ length now.entries + 2 → length (done ++ s ∷ []) ≡ n + 1
