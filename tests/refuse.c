@@ -1,6 +1,6 @@
 /* Loaded before a program, this refuses one request for memory of those that the program makes between the lines
-   "begin" and "end" of its standard error: the REFUSE_NTH-th, from 1; with 0 none. With REFUSE_TELL it says at the end
-   how many requests there were. */
+   "begin" and "end" of its standard error, or with REFUSE_ALL of all: the REFUSE_NTH-th, from 1; with 0 none. With
+   REFUSE_TELL it says at the end how many requests there were. */
 #define _GNU_SOURCE
 #include <errno.h>
 #include <stdio.h>
@@ -26,11 +26,19 @@ static int refuses(void) {
 void *malloc(size_t size) { return refuses() ? NULL : __libc_malloc(size); }
 void *realloc(void *old, size_t size) { return refuses() ? NULL : __libc_realloc(old, size); }
 
+static void begin(void) {
+    const char *asked = getenv("REFUSE_NTH");
+    nth = asked ? atol(asked) : 0;
+    is_between = 1;
+}
+
+__attribute__((constructor)) static void start(void) {
+    if (getenv("REFUSE_ALL")) begin();
+}
+
 static ssize_t written(int file, const void *text, size_t size) {
     if (file == 2 && size >= 6 && !memcmp(text, "begin\n", 6)) {
-        const char *asked = getenv("REFUSE_NTH");
-        nth = asked ? atol(asked) : 0;
-        is_between = 1;
+        begin();
     } else if (file == 2 && size >= 4 && !memcmp(text, "end\n", 4)) {
         is_between = 0;
     }

@@ -3,6 +3,8 @@
 #![tactic(auto)]
 
 #[cfg(test)]
+mod cut;
+#[cfg(test)]
 mod keys;
 #[cfg(test)]
 mod serving;

@@ -1,16 +1,18 @@
 //! The program's engine over readers and writers that fail.
-ghost use Rattle.std.specs.Prelude.{Some};
-
+use crate::cut::{CutReader, CutWriter};
 use range_map_cli::{End, serve};
-use std::alloc::{AllocError, Global};
-use std::io;
-use std::io::{Read, Write};
+use std::alloc::Global;
 use std::process::Abort;
 use std::test::Fail;
 
-const FIRST_INPUT: &[u8] = b"paint 2 5 a\npaint 3 4 b\nget 4\nlen\nlist\n";
+const INPUT: &[u8] =
+    b"paint 1 3 red\npaint 7 10 blue\nat 5\nat 2\nget 4\ninsert 8 red\nlen\nlist\n";
 
-const FIRST_OUTPUT: &[u8] = b"true\nfalse\nb\n4\n(2..=2, \"a\"), (3..=4, \"b\"), (5..=5, \"a\")\n";
+const OUTPUT: &[u8] =
+    b"true\ntrue\n4..=6 -\n1..=3 red\n-\nblue\n7\n(1..=3, \"red\"), (7..=7, \"blue\"), (8..=8, \"red\"), (9..=10, \"blue\")\n";
+
+/// How many first bytes of each line of the input make a good line, which is answered as the whole is.
+const GOOD_LENGTHS: [usize; 8] = [11, 12, 4, 4, 5, 10, 3, 4];
 
 /// What a text in memory is answered.
 fn answers_to(alloc: Global, text: &[u8]) -> (Vec<u8>, End) {
@@ -30,7 +32,7 @@ fn assert_answers(rt: &impl Abort, alloc: Global, text: &[u8], want: &[u8], end:
 #[test]
 fn texts(rt: HostRuntime) {
     for (input, want, end) in [
-        (FIRST_INPUT, FIRST_OUTPUT, End::Done),
+        (INPUT, OUTPUT, End::Done),
         (b"".as_slice(), b"".as_slice(), End::Done),
         (
             b"len\npaint 1 x a\nlen\n".as_slice(),
@@ -88,69 +90,18 @@ fn bad_lines(rt: HostRuntime) -> Result<(), Fail> {
     Ok(())
 }
 
-/// Gives its text in pieces of at most `step` bytes, and fails once `left` bytes were given.
-#[derive(Drop)]
-struct Breaking<'a> {
-    text: &'a [u8],
-    step: usize,
-    left: usize,
-}
-
-impl<'a> Read for Breaking<'a> {
-    ghost remaining = { λ r. Some r.text.now };
-
-    fn read(&mut self, buf: &mut [u8]) -> io::Result<usize> {
-        if self.left == 0 {
-            return Err(io::Error::from(io::ErrorKind::Interrupted));
-        }
-        let most = self.step.min(self.left).min(buf.len());
-        if most == 0 {
-            return self.text.read(buf);
-        }
-        let count = self.text.read(&mut buf[..most])?;
-        self.left = self.left.saturating_sub(count);
-        Ok(count)
-    }
-}
-
-/// Takes at most `step` bytes at a call and `room` in all, and then fails, or takes nothing where it is silent.
-#[derive(Drop)]
-struct Bounded {
-    got: Vec<u8>,
-    step: usize,
-    room: usize,
-    is_silent: bool,
-}
-
-impl Write for Bounded {
-    ghost contents = { λ w. Some w.got.items };
-
-    fn write(&mut self, buf: &[u8]) -> io::Result<usize> {
-        let most = self.step.min(self.room).min(buf.len());
-        if most == 0 {
-            return if self.is_silent {
-                Ok(0)
-            } else {
-                Err(io::Error::from(io::ErrorKind::Interrupted))
-            };
-        }
-        let count = self.got.write(&buf[..most])?;
-        self.room = self.room.saturating_sub(count);
-        Ok(count)
-    }
-
-    fn flush(&mut self) -> io::Result<()> {
-        Ok(())
-    }
-}
-
-fn writer(alloc: Global, step: usize, room: usize, is_silent: bool) -> Bounded {
-    Bounded {
+fn cut_writer(alloc: Global, step: usize, room: usize, is_silent: bool) -> CutWriter {
+    CutWriter {
         got: Vec::new(alloc),
         step,
         room,
         is_silent,
     }
+}
+
+/// How many lines end in the text.
+fn line_count(text: &[u8]) -> usize {
+    text.iter().filter(|byte| **byte == b'\n').count()
 }
 
 /// The first lines of the text.
@@ -169,22 +120,68 @@ fn first_lines(text: &[u8], count: usize) -> &[u8] {
 }
 
 #[test]
+fn texts_that_are_cut(rt: HostRuntime) -> Result<(), Fail> {
+    for count in 0..=INPUT.len() {
+        let (text, _) = INPUT.split_at(count);
+        let lines = line_count(text);
+        let rest = count.saturating_sub(first_lines(text, lines).len());
+        let number = lines.saturating_add(1);
+        let is_good = GOOD_LENGTHS
+            .get(lines)
+            .is_some_and(|length| *length <= rest);
+        if rest == 0 || is_good {
+            let want = first_lines(OUTPUT, if is_good { number } else { lines });
+            assert_answers(&rt, rt.alloc(), text, want, End::Done);
+            continue;
+        }
+        let mut want = Vec::new(rt.alloc());
+        want.extend_from_slice(first_lines(OUTPUT, lines))?;
+        let last = format!(in rt.alloc(); "error line {number}\n")?;
+        want.extend_from_slice(last.as_bytes())?;
+        assert_answers(&rt, rt.alloc(), text, &want, End::BadLine);
+    }
+    Ok(())
+}
+
+#[test]
+fn long_text_byte_by_byte(rt: HostRuntime) -> Result<(), Fail> {
+    let mut text = Vec::new(rt.alloc());
+    let mut want = Vec::new(rt.alloc());
+    text.extend_from_slice(INPUT)?;
+    want.extend_from_slice(OUTPUT)?;
+    for _ in 0..2000 {
+        text.extend_from_slice(b"get 4\nat 2\n")?;
+        want.extend_from_slice(b"-\n1..=3 red\n")?;
+    }
+    let mut input = CutReader {
+        text: &text,
+        step: 1,
+        left: usize::MAX,
+    };
+    let mut output = Vec::new(rt.alloc());
+    let end = serve(rt.alloc(), &mut input, &mut output);
+    assert_eq!(rt; end, End::Done);
+    assert!(rt; output == want);
+    Ok(())
+}
+
+#[test]
 fn reads_that_fail(rt: HostRuntime) {
     for step in [1, 3, 5000] {
-        for left in 0..=FIRST_INPUT.len() {
-            let mut input = Breaking {
-                text: FIRST_INPUT,
+        for left in 0..=INPUT.len() {
+            let mut input = CutReader {
+                text: INPUT,
                 step,
                 left,
             };
-            let (read, _) = FIRST_INPUT.split_at(left);
-            let lines = read.iter().filter(|byte| **byte == b'\n').count();
+            let (read, _) = INPUT.split_at(left);
+            let lines = line_count(read);
             let mut output = Vec::new(rt.alloc());
             let end = serve(rt.alloc(), &mut input, &mut output);
             assert_eq!(rt; end, End::ReadFault, "after {left}");
             assert_eq!(rt;
                 output.as_slice(),
-                first_lines(FIRST_OUTPUT, lines),
+                first_lines(OUTPUT, lines),
                 "after {left}"
             );
         }
@@ -195,86 +192,19 @@ fn reads_that_fail(rt: HostRuntime) {
 fn writes_that_fail(rt: HostRuntime) {
     for step in [1, 3, 5000] {
         for is_silent in [false, true] {
-            for room in 0..FIRST_OUTPUT.len() {
-                let mut input = FIRST_INPUT;
-                let mut output = writer(rt.alloc(), step, room, is_silent);
+            for room in 0..OUTPUT.len() {
+                let mut input = INPUT;
+                let mut output = cut_writer(rt.alloc(), step, room, is_silent);
                 let end = serve(rt.alloc(), &mut input, &mut output);
-                let (front, _) = FIRST_OUTPUT.split_at(room);
+                let (front, _) = OUTPUT.split_at(room);
                 assert_eq!(rt; end, End::WriteFault);
                 assert_eq!(rt; output.got.as_slice(), front);
             }
         }
-        let mut input = FIRST_INPUT;
-        let mut output = writer(rt.alloc(), step, FIRST_OUTPUT.len(), false);
+        let mut input = INPUT;
+        let mut output = cut_writer(rt.alloc(), step, OUTPUT.len(), false);
         let end = serve(rt.alloc(), &mut input, &mut output);
         assert_eq!(rt; end, End::Done);
-        assert_eq!(rt; output.got.as_slice(), FIRST_OUTPUT);
+        assert_eq!(rt; output.got.as_slice(), OUTPUT);
     }
-}
-
-/// Takes all the memory that can be had, in ever smaller pieces.
-fn hoard(alloc: Global) -> Result<Vec<Vec<u8>>, AllocError> {
-    let mut held = Vec::with_capacity(alloc, 200_000)?;
-    let mut size: usize = 1 << 46;
-    for _ in 0..43 {
-        for _ in 0..100_000 {
-            match Vec::with_capacity(alloc, size) {
-                Ok(piece) => {
-                    let kept = held.push(piece);
-                    kept?;
-                }
-                Err(_) => break,
-            }
-        }
-        size /= 2;
-    }
-    Ok(held)
-}
-
-#[test]
-fn memory_that_is_refused(rt: HostRuntime) -> Result<(), Fail> {
-    let refusal = b"out of memory\n".as_slice();
-    let mut output = writer(rt.alloc(), 5000, 1_000_000, false);
-    output.got.reserve(1000)?;
-    let spare: Vec<u8> = Vec::with_capacity(rt.alloc(), 40_000)?;
-    let held = hoard(rt.alloc())?;
-    drop(spare);
-    let mut refused = 0usize;
-    let mut longest = 0usize;
-    for step in 0..600usize {
-        let filler: Result<Vec<u8>, AllocError> = Vec::with_capacity(
-            rt.alloc(),
-            40_000 - 64 * step,
-        );
-        output.got.clear();
-        let mut input = FIRST_INPUT;
-        let end = serve(rt.alloc(), &mut input, &mut output);
-        if end == End::NoMemory {
-            let got = output.got.as_slice();
-            assert!(rt; got.ends_with(refusal));
-            assert!(rt; refusal.len() <= got.len());
-            assert!(rt; FIRST_OUTPUT.starts_with(&got[..got.len() - refusal.len()]));
-            if longest < got.len() {
-                longest = got.len();
-                refused = refused.saturating_add(1);
-            }
-        } else {
-            assert_eq!(rt; output.got.as_slice(), FIRST_OUTPUT);
-        }
-        drop(filler);
-    }
-    assert!(rt; held.len() < 150_000);
-    assert!(rt; 2 <= refused, "{refused} places");
-    output.got.clear();
-    let mut blank = b"\n\n".as_slice();
-    let end = serve(rt.alloc(), &mut blank, &mut output);
-    assert_eq!(rt; end, End::Done);
-    assert!(rt; output.got.is_empty());
-    drop(held);
-    output.got.clear();
-    let mut input = FIRST_INPUT;
-    let end = serve(rt.alloc(), &mut input, &mut output);
-    assert_eq!(rt; end, End::Done);
-    assert_eq!(rt; output.got.as_slice(), FIRST_OUTPUT);
-    Ok(())
 }
