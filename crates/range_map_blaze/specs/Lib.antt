@@ -28,6 +28,7 @@ pub mod OneRange
 pub mod Somewhere
 pub mod Within
 pub mod Kept
+pub mod Made
 pub mod Extended
 pub mod Collected
 pub mod Underway

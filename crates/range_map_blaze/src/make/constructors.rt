@@ -6,6 +6,7 @@ ghost use Rattle.blaze_table.specs.CanonicalOf.{IsCanonicalOf};
 ghost use Rattle.blaze_streams.specs.Ranges.{shown_range};
 ghost use Rattle.range_map_blaze.specs.Collected.{CollectsItems};
 ghost use Rattle.range_map_blaze.specs.Extended.{shown_point};
+ghost use Rattle.range_map_blaze.specs.Made.{IsMade};
 
 use crate::make::lent_pairs::{LentPair, lent_pairs_of};
 use crate::make::pair_maps::{map_of_lent_pairs, map_of_pairs, pairs_of_points};
@@ -25,8 +26,8 @@ fn map_of_lent<
     requires ends { IsFiniteIterable I.into_iter_gives I.IntoIter.can_next
         I.IntoIter.remaining iter }
     requires clones { ClonesAreAlike V.is_clone V.eq }
-    ensures { IfOk result (λ new. CollectsItems I.into_iter_gives I.IntoIter.next_gives
-        (λ items list. IsCanonicalOf V.eq T.low T.high (map P.pair items) list) iter new.entries) }
+    ensures { IfOk result (IsMade (CollectsItems I.into_iter_gives I.IntoIter.next_gives
+        (λ items. IsCanonicalOf V.eq T.low T.high (map P.pair items)) iter)) }
 {
     let pairs = lent_pairs_of(alloc, iter)?;
     let new = map_of_lent_pairs(alloc, pairs)?;
@@ -43,9 +44,8 @@ impl<T: Integer, V: Eq + Clone> RangeMapBlaze<T, V> {
         requires ends { IsFiniteIterable I.into_iter_gives I.IntoIter.can_next
             I.IntoIter.remaining iter }
         requires clones { ClonesAreAlike V.is_clone V.eq }
-        ensures { IfOk result (λ new. CollectsItems I.into_iter_gives I.IntoIter.next_gives
-            (λ items list. IsCanonicalOf V.eq T.low T.high (map (shown_point T.rank (λ v. v)) items)
-            list) iter new.entries) }
+        ensures { IfOk result (IsMade (CollectsItems I.into_iter_gives I.IntoIter.next_gives
+            (λ items. IsCanonicalOf V.eq T.low T.high (map (shown_point T.rank (λ v. v)) items)) iter)) }
     {
         let mut pairs = Vec::new(alloc);
         for (key, value) in iter {
@@ -66,9 +66,8 @@ impl<T: Integer, V: Eq + Clone> RangeMapBlaze<T, V> {
         requires ends { IsFiniteIterable I.into_iter_gives I.IntoIter.can_next
             I.IntoIter.remaining iter }
         requires clones { ClonesAreAlike V.is_clone V.eq }
-        ensures { IfOk result (λ new. CollectsItems I.into_iter_gives I.IntoIter.next_gives
-            (λ items list. IsCanonicalOf V.eq T.low T.high (map (shown_range T.rank (λ v. v)) items)
-            list) iter new.entries) }
+        ensures { IfOk result (IsMade (CollectsItems I.into_iter_gives I.IntoIter.next_gives
+            (λ items. IsCanonicalOf V.eq T.low T.high (map (shown_range T.rank (λ v. v)) items)) iter)) }
     {
         let mut pairs = Vec::new(alloc);
         for (range, value) in iter {
@@ -91,9 +90,9 @@ impl<T: Integer, V: Eq + Clone> RangeMapBlaze<T, V> {
         requires ends { IsFiniteIterable I.into_iter_gives I.IntoIter.can_next
             I.IntoIter.remaining iter }
         requires clones { ClonesAreAlike V.is_clone V.eq }
-        ensures { IfOk result (λ new. CollectsItems I.into_iter_gives I.IntoIter.next_gives
-            (λ items list. IsCanonicalOf V.eq T.low T.high
-            (map (shown_point T.rank (λ v. v.now)) items) list) iter new.entries) }
+        ensures { IfOk result (IsMade (CollectsItems I.into_iter_gives I.IntoIter.next_gives
+            (λ items. IsCanonicalOf V.eq T.low T.high
+            (map (shown_point T.rank (λ v. v.now)) items)) iter)) }
     {
         map_of_lent(alloc, iter)
     }
@@ -109,9 +108,9 @@ impl<T: Integer, V: Eq + Clone> RangeMapBlaze<T, V> {
         requires ends { IsFiniteIterable I.into_iter_gives I.IntoIter.can_next
             I.IntoIter.remaining iter }
         requires clones { ClonesAreAlike V.is_clone V.eq }
-        ensures { IfOk result (λ new. CollectsItems I.into_iter_gives I.IntoIter.next_gives
-            (λ items list. IsCanonicalOf V.eq T.low T.high
-            (map (shown_range T.rank (λ v. v.now)) items) list) iter new.entries) }
+        ensures { IfOk result (IsMade (CollectsItems I.into_iter_gives I.IntoIter.next_gives
+            (λ items. IsCanonicalOf V.eq T.low T.high
+            (map (shown_range T.rank (λ v. v.now)) items)) iter)) }
     {
         map_of_lent(alloc, iter)
     }
@@ -127,9 +126,9 @@ impl<T: Integer, V: Eq + Clone> RangeMapBlaze<T, V> {
         requires ends { IsFiniteIterable I.into_iter_gives I.IntoIter.can_next
             I.IntoIter.remaining iter }
         requires clones { ClonesAreAlike V.is_clone V.eq }
-        ensures { IfOk result (λ new. CollectsItems I.into_iter_gives I.IntoIter.next_gives
-            (λ items list. IsCanonicalOf V.eq T.low T.high
-            (map (λ p. shown_point T.rank (λ v. v) p.now) items) list) iter new.entries) }
+        ensures { IfOk result (IsMade (CollectsItems I.into_iter_gives I.IntoIter.next_gives
+            (λ items. IsCanonicalOf V.eq T.low T.high
+            (map (λ p. shown_point T.rank (λ v. v) p.now) items)) iter)) }
     {
         map_of_lent(alloc, iter)
     }
@@ -145,9 +144,9 @@ impl<T: Integer, V: Eq + Clone> RangeMapBlaze<T, V> {
         requires ends { IsFiniteIterable I.into_iter_gives I.IntoIter.can_next
             I.IntoIter.remaining iter }
         requires clones { ClonesAreAlike V.is_clone V.eq }
-        ensures { IfOk result (λ new. CollectsItems I.into_iter_gives I.IntoIter.next_gives
-            (λ items list. IsCanonicalOf V.eq T.low T.high
-            (map (λ p. shown_range T.rank (λ v. v) p.now) items) list) iter new.entries) }
+        ensures { IfOk result (IsMade (CollectsItems I.into_iter_gives I.IntoIter.next_gives
+            (λ items. IsCanonicalOf V.eq T.low T.high
+            (map (λ p. shown_range T.rank (λ v. v) p.now) items)) iter)) }
     {
         map_of_lent(alloc, iter)
     }
@@ -163,9 +162,9 @@ impl<T: Integer, V: Eq + Clone> RangeMapBlaze<T, V> {
         requires ends { IsFiniteIterable I.into_iter_gives I.IntoIter.can_next
             I.IntoIter.remaining iter }
         requires clones { ClonesAreAlike V.is_clone V.eq }
-        ensures { IfOk result (λ new. CollectsItems I.into_iter_gives I.IntoIter.next_gives
-            (λ items list. IsCanonicalOf V.eq T.low T.high
-            (map (λ p. shown_point T.rank (λ v. v.now) p.now) items) list) iter new.entries) }
+        ensures { IfOk result (IsMade (CollectsItems I.into_iter_gives I.IntoIter.next_gives
+            (λ items. IsCanonicalOf V.eq T.low T.high
+            (map (λ p. shown_point T.rank (λ v. v.now) p.now) items)) iter)) }
     {
         map_of_lent(alloc, iter)
     }
@@ -181,9 +180,9 @@ impl<T: Integer, V: Eq + Clone> RangeMapBlaze<T, V> {
         requires ends { IsFiniteIterable I.into_iter_gives I.IntoIter.can_next
             I.IntoIter.remaining iter }
         requires clones { ClonesAreAlike V.is_clone V.eq }
-        ensures { IfOk result (λ new. CollectsItems I.into_iter_gives I.IntoIter.next_gives
-            (λ items list. IsCanonicalOf V.eq T.low T.high
-            (map (λ p. shown_range T.rank (λ v. v.now) p.now) items) list) iter new.entries) }
+        ensures { IfOk result (IsMade (CollectsItems I.into_iter_gives I.IntoIter.next_gives
+            (λ items. IsCanonicalOf V.eq T.low T.high
+            (map (λ p. shown_range T.rank (λ v. v.now) p.now) items)) iter)) }
     {
         map_of_lent(alloc, iter)
     }
@@ -191,8 +190,8 @@ impl<T: Integer, V: Eq + Clone> RangeMapBlaze<T, V> {
     /// The map of an array of keys with values, in order: the later pair wins. Refused memory drops the pairs.
     pub fn from_array<const N: usize>(alloc: Global, items: [(T, V); N]) -> Result<Self, AllocError>
         requires { ClonesAreAlike V.is_clone V.eq }
-        ensures { IfOk result (λ new. IsCanonicalOf V.eq T.low T.high
-            (map (shown_point T.rank (λ v. v)) items) new.entries) }
+        ensures { IfOk result (IsMade (IsCanonicalOf V.eq T.low T.high
+            (map (shown_point T.rank (λ v. v)) items))) }
     {
         let points = Vec::from_array(alloc, items)?;
         let pairs = pairs_of_points(alloc, points)?;

@@ -5,6 +5,7 @@ ghost use Rattle.blaze_table.specs.Listed.{listed};
 ghost use Rattle.blaze_table.specs.Painted.{ClonesAreAlike};
 ghost use Rattle.blaze_table.specs.CanonicalOf.{IsCanonicalOf};
 ghost use Rattle.range_map_blaze.specs.Extended.{shown_point};
+ghost use Rattle.range_map_blaze.specs.Made.{IsMade};
 
 use crate::map::RangeMapBlaze;
 use blaze_int::Integer;
@@ -33,8 +34,7 @@ pub(crate) fn map_of_pairs<T: Integer, V: Eq + Clone>(
     pairs: Vec<(T, T, V)>,
 ) -> Result<RangeMapBlaze<T, V>, AllocError>
     requires { ClonesAreAlike V.is_clone V.eq }
-    ensures { IfOk result (λ new. IsCanonicalOf V.eq T.low T.high
-        (listed T.rank pairs.items) new.entries) }
+    ensures { IfOk result (IsMade (IsCanonicalOf V.eq T.low T.high (listed T.rank pairs.items))) }
 {
     let entries = canonical_of(alloc, pairs)?;
     let table = RangeTable::from_canonical(alloc, entries)?;
@@ -64,8 +64,8 @@ pub(crate) fn map_of_lent_pairs<T: Integer, V: Eq + Clone>(
     pairs: Vec<(T, T, &V)>,
 ) -> Result<RangeMapBlaze<T, V>, AllocError>
     requires { ClonesAreAlike V.is_clone V.eq }
-    ensures { IfOk result (λ new. IsCanonicalOf V.eq T.low T.high
-        (map (shown_entry T.rank (λ v. v.now)) pairs.entry.items) new.entries) }
+    ensures { IfOk result (IsMade (IsCanonicalOf V.eq T.low T.high
+        (map (shown_entry T.rank (λ v. v.now)) pairs.entry.items))) }
 {
     let lent = canonical_of(alloc, pairs)?;
     let entries = cloned(alloc, lent)?;

@@ -54,4 +54,4 @@ returns g c =
     let all = i.1 ∙ ap (λ rs. i.0 ++ rs) (g.met.S.SortedDisjoint.gives _ _ _ c.in-None.ensures.steps).0 ∙ append-nil i.0 in
     on_all g.V.PartialEq.eq g.met.V.Eq.laws g.T.Integer.low g.T.Integer.high c.args.map.now.entries (g.S.SortedDisjoint.left c.args.ranges) (listed g.T.Integer.rank c.loop-range.pairs.items) c.in_ok-new.new.entries
     (subst (λ rs. AreOn g.V.PartialEq.eq c.args.map.now.entries rs (listed g.T.Integer.rank c.loop-range.pairs.items)) (sym all) i.2)
-    c.in_ok-new.ensures
+    c.in_ok-new.ensures.0

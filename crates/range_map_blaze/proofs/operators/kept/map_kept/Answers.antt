@@ -42,4 +42,4 @@ returns g c =
     let all = i.1 ∙ ap (λ es. i.0 ++ es) (g.met.S.SortedDisjointMap.gives _ _ _ c.in-None.ensures.steps).0 ∙ append-nil i.0 in
     are_all g.V.PartialEq.eq g.met.V.Eq.laws c.args.mapped c.args.keys.now.entries g.T.Integer.low g.T.Integer.high (g.S.SortedDisjointMap.left c.args.entries) (listed g.T.Integer.rank c.loop-range.pairs.items) c.in_ok-new.new.entries c.in_hand.ensures
     (subst (λ es. AreKept g.V.PartialEq.eq c.args.mapped c.args.keys.now.entries es (listed g.T.Integer.rank c.loop-range.pairs.items)) (sym all) i.2)
-    c.in_ok-new.ensures
+    c.in_ok-new.ensures.0

@@ -1,0 +1,16 @@
+-- A map that is made of a table.
+use Rattle.std.proofs.Common.{◌≡◌, List, ◌∙◌, sym, ap, subst}
+use Rattle.blaze_table.specs.Counted.{CountedEntries, uncounted}
+use Rattle.blaze_table.specs.Entries.{Entry}
+use Rattle.range_map_blaze.specs.Made.{IsMade}
+
+module _ {V : Type 0} where
+  -- of a list on which nothing is counted
+  pub made_of : (told : List (Entry V) → Type 0) (map : CountedEntries V) (es : List (Entry V)) → map ≡ uncounted es → told es → IsMade told map
+  made_of told map es p t =
+      let same = ap (λ (s : CountedEntries V). s.entries) p in
+      (subst told (sym same) t, p ∙ ap uncounted (sym same))
+
+  -- told in other words
+  pub made_as : (told other : List (Entry V) → Type 0) (map : CountedEntries V) → (told map.entries → other map.entries) → IsMade told map → IsMade other map
+  made_as told other map f m = (f m.0, m.1)
