@@ -1,6 +1,7 @@
 pub mod Nowhere
 pub mod PaintedOver
 pub mod Insides
+pub mod LeftAlone
 pub mod Paintings
 pub mod Joinings
 pub mod Gaps

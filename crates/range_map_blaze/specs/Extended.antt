@@ -1,8 +1,9 @@
 -- What painting pairs in order gives: each pair is a range with a value, seen as an entry, and the later pair wins.
+use Rattle.std.specs.List.{Contains}
 use Rattle.std.specs.Prelude.{◌≡◌, ℤ, ◌<ℤ◌, ◌+◌, ◌-◌, ◌*◌, ◌≤◌, ◌⊎◌, length, Bool, List, [], ◌∷◌, ◌++◌}
 use Rattle.blaze_table.specs.Entries.{Entry, at, SameOption}
 use Rattle.blaze_table.specs.Canonical.{IsRangeMap}
-use Rattle.blaze_table.specs.Painted.{IsInside, painted_in_order}
+use Rattle.blaze_table.specs.Painted.{IsInside, LeavesAlone, painted_in_order}
 
 -- a key and what shows its value, as the entry of that key alone
 abbrev pub shown_point : {T R V : Type 0} → (T → ℤ) → (R → V) → T × R → Entry V
@@ -13,14 +14,21 @@ abbrev pub AreInside : {V : Type 0} → (V → V → Bool) → List (Entry V) �
 AreInside eq [] es = Unit {0}
 AreInside eq (p ∷ ps) es = ((p.hi <ℤ p.lo) ⊎ IsInside eq p.lo p.hi p.value es) × AreInside eq ps es
 
+-- a paint of each pair leaves the entry alone
+abbrev pub AreLeftAlone : {V : Type 0} → (V → V → Bool) → List (Entry V) → Entry V → Type 0
+AreLeftAlone eq [] e = Unit {0}
+AreLeftAlone eq (p ∷ ps) e = LeavesAlone eq p e × AreLeftAlone eq ps e
+
 -- what painting pairs in order does to a range map: its content is the painted one, each pair adds two entries at most, the
--- first pair of all one, and pairs that all lie inside entries with equal values change nothing, the stored values neither
+-- first pair of all one; pairs that all lie inside entries with equal values change nothing, the stored values neither; and an
+-- entry that every pair leaves alone is still there, with its very value
 pub record IsExtended {V : Type 0} (eq : V → V → Bool) (low high : ℤ) (pairs old new : List (Entry V)) : Type 0 where
   pub range_map : IsRangeMap eq low high new
   pub content : (k : ℤ) → SameOption eq (at new k) (painted_in_order pairs (at old) k)
   pub few : length new ≤ length old + 2 * length pairs
   pub alone : old ≡ [] → length new ≤ 2 * length pairs - 1
   pub inside : AreInside eq pairs old → new ≡ old
+  pub kept : (e : Entry V) → Contains old e → AreLeftAlone eq pairs e → Contains new e
 
 -- a first part of the pairs, perhaps none of them, is painted
 pub record IsPartlyExtended {V : Type 0} (eq : V → V → Bool) (low high : ℤ) (pairs old new : List (Entry V)) : Type 0 where

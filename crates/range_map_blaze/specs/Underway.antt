@@ -4,7 +4,7 @@ use Rattle.std.specs.Option.{option_to_list}
 use Rattle.blaze_table.specs.Entries.{Entry, entry, SameOption}
 use Rattle.blaze_table.specs.Canonical.{IsCanonical}
 use Rattle.blaze_table.specs.Painted.{last_at}
-use Rattle.range_map_blaze.specs.Extended.{AreInside, IsExtended}
+use Rattle.range_map_blaze.specs.Extended.{AreInside, AreLeftAlone, IsExtended}
 
 -- the ranges touch or overlap, and the values are equal
 abbrev pub are_one_pair : {V : Type 0} → (V → V → Bool) → Entry V → Entry V → Bool
@@ -23,4 +23,5 @@ pub record IsUnderway {V : Type 0} (eq : V → V → Bool) (low high : ℤ) (pai
   pub same : (k : ℤ) → SameOption eq (last_at (option_to_list pending) k) (last_at others k)
   pub fewer : length (option_to_list pending) ≤ length others
   pub inside : (es : List (Entry V)) → IsCanonical eq es → AreInside eq others es → AreInside eq (option_to_list pending) es
+  pub alone : (e : Entry V) → e.lo ≤ℤ e.hi → AreLeftAlone eq others e → AreLeftAlone eq (option_to_list pending) e
   pub order : IfSome pending (λ p. p.lo ≤ℤ p.hi)

@@ -18,6 +18,7 @@ use Rattle.blaze_table.specs.Painted.{IsInside, last_at}
 use Rattle.range_map_blaze.specs.Extended.{AreInside, IsExtended}
 use Rattle.range_map_blaze.specs.Underway.{are_one_pair, joined_pair, IsUnderway}
 use Rattle.range_map_blaze.proofs.Paints.Insides.{inside_both, inside_parts}
+use Rattle.range_map_blaze.proofs.Paints.LeftAlone.{alone_parts, alone_joined}
 use Rattle.range_map_blaze.proofs.Paints.Paintings.{last_append, extended_none, extended_more}
 
 pub reversed : (a b : ℤ) (t : Bool) → t ≡ int_lt a b → t ≡ true → a <ℤ b
@@ -66,7 +67,7 @@ module _ {V : Type 0} (eq : V → V → Bool) where
   module _ (laws : IsEquivalence eq) (low high : ℤ) where
     -- nothing is pending where all is painted
     pub underway_none : (pairs old cur : List (Entry V)) → IsExtended eq low high pairs old cur → IsUnderway eq low high pairs old cur None
-    underway_none pairs old cur d = record { done = pairs; others = []; parts = sym (append-nil pairs); extended = d; same = λ k. tt; fewer = omega arith; inside = λ es c a. tt; order = tt }
+    underway_none pairs old cur d = record { done = pairs; others = []; parts = sym (append-nil pairs); extended = d; same = λ k. tt; fewer = omega arith; inside = λ es c a. tt; alone = λ e w a. tt; order = tt }
 
     -- before the first pair
     pub underway_begun : (es : List (Entry V)) → IsRangeMap eq low high es → IsUnderway eq low high [] es es None
@@ -74,7 +75,14 @@ module _ {V : Type 0} (eq : V → V → Bool) where
 
     -- the next pair is pending
     pub underway_one : (n : Entry V) (pairs old cur : List (Entry V)) → IsExtended eq low high pairs old cur → n.lo ≤ℤ n.hi → IsUnderway eq low high (pairs ++ n ∷ []) old cur (Some n)
-    underway_one n pairs old cur d q = record { done = pairs; others = n ∷ []; parts = refl; extended = d; same = λ k. same_itself eq laws (last_at (n ∷ []) k); fewer = omega arith; inside = λ es c a. a; order = q }
+    underway_one n pairs old cur d q = record { done = pairs; others = n ∷ []; parts = refl; extended = d; same = λ k. same_itself eq laws (last_at (n ∷ []) k); fewer = omega arith; inside = λ es c a. a; alone = λ e w a. a; order = q }
+
+    -- two pairs that are one touch or overlap
+    are_near : (p n : Entry V) → are_one_pair eq p n ≡ true → (n.lo ≤ℤ (p.hi +ℤ pos 1)) × (p.lo ≤ℤ (n.hi +ℤ pos 1))
+    are_near p n j =
+        let split = and_parts (int_le n.lo (p.hi +ℤ pos 1) && int_le p.lo (n.hi +ℤ pos 1)) (eq p.value n.value) j in
+        let near = and_parts (int_le n.lo (p.hi +ℤ pos 1)) (int_le p.lo (n.hi +ℤ pos 1)) split.0 in
+        (le_holds n.lo (p.hi +ℤ pos 1) near.0, le_holds p.lo (n.hi +ℤ pos 1) near.1)
 
     -- where both pairs lie inside, the joined one does
     inside_joined : (p n : Entry V) (es : List (Entry V)) → IsCanonical eq es → p.lo ≤ℤ p.hi → n.lo ≤ℤ n.hi → are_one_pair eq p n ≡ true → AreInside eq (p ∷ []) es → AreInside eq (n ∷ []) es → AreInside eq (joined_pair p n ∷ []) es
@@ -103,6 +111,10 @@ module _ {V : Type 0} (eq : V → V → Bool) where
       inside = λ es c a.
           let b = inside_parts eq u.others (n ∷ []) es a in
           inside_joined p n es c u.order q j (u.inside es c b.0) b.1;
+      alone = λ e w a.
+          let b = alone_parts eq u.others (n ∷ []) e a in
+          let near = are_near p n j in
+          (alone_joined eq laws e p n w u.order q near.0 near.1 (u.alone e w b.0).0 b.1.0, tt);
       order = joined_order p.lo p.hi n.lo n.hi u.order q;
     }
 
@@ -110,7 +122,7 @@ module _ {V : Type 0} (eq : V → V → Bool) where
     pub underway_painted : (pending : Option (Entry V)) (pairs old cur new : List (Entry V)) → IsUnderway eq low high pairs old cur pending → IsExtended eq low high (option_to_list pending) cur new
         → IsExtended eq low high pairs old new
     underway_painted pending pairs old cur new u e =
-        subst (λ ps. IsExtended eq low high ps old new) (sym u.parts) (extended_more eq laws low high u.done u.others (option_to_list pending) old cur new u.extended e u.same u.fewer u.inside)
+        subst (λ ps. IsExtended eq low high ps old new) (sym u.parts) (extended_more eq laws low high u.done u.others (option_to_list pending) old cur new u.extended e u.same u.fewer u.inside u.alone)
 
     -- no pair was pending
     pub underway_ended : (pairs old cur : List (Entry V)) → IsUnderway eq low high pairs old cur None → IsExtended eq low high pairs old cur

@@ -18,5 +18,5 @@ module _ {V : Type 0} (eq : V → V → Bool) (laws : IsEquivalence eq) where
     content = λ k. subst (λ b. SameOption eq (at es k) (cond b (Some p.value) (at es k))) (sym (no_key p.lo p.hi k w)) (same_itself eq laws (at es k));
     few = omega arith;
     alone = λ e. omega (arith, ap length e);
-    kept = λ e i a. i;
+    kept = λ e m a. m;
   }

@@ -11,8 +11,9 @@ use Rattle.blaze_table.specs.Painted.{IsInside, IsPainted, last_at, painted_in_o
 use Rattle.blaze_table.proofs.Pairs.Lasts.{painted_one}
 use Rattle.blaze_table.specs.Canonical.{IsCanonical, IsRangeMap}
 use Rattle.blaze_table.proofs.Canonical.Runs.{canonical}
-use Rattle.range_map_blaze.specs.Extended.{AreInside, IsExtended}
+use Rattle.range_map_blaze.specs.Extended.{AreInside, AreLeftAlone, IsExtended}
 use Rattle.range_map_blaze.proofs.Paints.Insides.{inside_equal, inside_parts}
+use Rattle.range_map_blaze.proofs.Paints.LeftAlone.{alone_parts, alone_equal, has_key}
 
 module _ {V : Type 0} where
   -- the last of two lists is that of the second, where it has one
@@ -30,7 +31,7 @@ module _ {V : Type 0} (eq : V → V → Bool) (laws : IsEquivalence eq) where
   module _ (low high : ℤ) where
     -- no pair
     pub extended_none : (es : List (Entry V)) → IsRangeMap eq low high es → IsExtended eq low high [] es es
-    extended_none es r = record { range_map = r; content = λ k. same_itself eq laws (at es k); few = omega arith; alone = λ e. omega (arith, ap length e); inside = λ _. refl }
+    extended_none es r = record { range_map = r; content = λ k. same_itself eq laws (at es k); few = omega arith; alone = λ e. omega (arith, ap length e); inside = λ _. refl; kept = λ e m a. m }
 
     -- one pair
     pub extended_one : (p : Entry V) (old new : List (Entry V)) → IsPainted eq low high p old new → p.lo ≤ℤ p.hi → (IsInside eq p.lo p.hi p.value old → new ≡ old) → IsExtended eq low high (p ∷ []) old new
@@ -40,6 +41,7 @@ module _ {V : Type 0} (eq : V → V → Bool) (laws : IsEquivalence eq) where
       few = omega (arith, i.few);
       alone = λ e. omega (arith, i.alone e);
       inside = λ a. elim a.0 [ inl h ↦ absurd (omega (arith, ints)) | inr h ↦ u h ];
+      kept = λ e m a. i.kept e m a.0;
     }
 
     empty : (es : List (Entry V)) → length es ≤ 0 → es ≡ []
@@ -56,8 +58,8 @@ module _ {V : Type 0} (eq : V → V → Bool) (laws : IsEquivalence eq) where
     -- a part, and then a part that stands for others
     pub extended_more : (done others part old cur new : List (Entry V)) → IsExtended eq low high done old cur → IsExtended eq low high part cur new
         → ((k : ℤ) → SameOption eq (last_at part k) (last_at others k)) → length part ≤ length others → ((es : List (Entry V)) → IsCanonical eq es → AreInside eq others es → AreInside eq part es)
-        → IsExtended eq low high (done ++ others) old new
-    extended_more done others part old cur new d p s l f = record {
+        → ((e : Entry V) → e.lo ≤ℤ e.hi → AreLeftAlone eq others e → AreLeftAlone eq part e) → IsExtended eq low high (done ++ others) old new
+    extended_more done others part old cur new d p s l f g = record {
       range_map = p.range_map;
       content = λ k. subst (SameOption eq (at new k)) (sym (or_assoc (last_at others k) (last_at done k) (at old k)) ∙ ap (λ o. option_or o (at old k)) (sym (last_append done others k)))
           (same_trans eq laws (at new k) (painted_in_order part (at cur) k) (option_or (last_at others k) (painted_in_order done (at old) k)) (p.content k)
@@ -68,12 +70,16 @@ module _ {V : Type 0} (eq : V → V → Bool) (laws : IsEquivalence eq) where
           let b = inside_parts eq done others old a in
           let same = d.inside b.0 in
           p.inside (f cur (canonical eq laws cur d.range_map.runs) (subst (AreInside eq others) (sym same) b.1)) ∙ same;
+      kept = λ e m a.
+          let b = alone_parts eq done others e a in
+          let here = d.kept e m b.0 in
+          p.kept e here (g e (has_key eq cur e (canonical eq laws cur d.range_map.runs) here) b.1);
     }
 
     -- a part, and then one pair, of which an equal one is painted
     pub extended_by : (p q : Entry V) (done old cur new : List (Entry V)) → IsExtended eq low high done old cur → IsExtended eq low high (q ∷ []) cur new
         → q.lo ≡ p.lo → q.hi ≡ p.hi → eq q.value p.value ≡ true → IsExtended eq low high (done ++ p ∷ []) old new
-    extended_by p q done old cur new d e lo hi v = extended_more done (p ∷ []) (q ∷ []) old cur new d e alike (omega arith) inside
+    extended_by p q done old cur new d e lo hi v = extended_more done (p ∷ []) (q ∷ []) old cur new d e alike (omega arith) inside (λ f w a. (alone_equal eq laws f p q lo hi v a.0, tt))
       where
         either : (b : Bool) → SameOption eq (cond b (Some q.value) None) (cond b (Some p.value) None)
         either true = v
@@ -103,4 +109,4 @@ module _ {V : Type 0} (eq : V → V → Bool) (laws : IsEquivalence eq) where
     -- a pair without a key
     pub extended_nowhere : (p : Entry V) (done old new : List (Entry V)) → IsExtended eq low high done old new → p.hi <ℤ p.lo → IsExtended eq low high (done ++ p ∷ []) old new
     extended_nowhere p done old new d w = extended_more done (p ∷ []) [] old new new d (extended_none new d.range_map)
-        (λ k. subst (SameOption eq None) (sym (last_nowhere p k w)) tt) (omega arith) (λ es c a. tt)
+        (λ k. subst (SameOption eq None) (sym (last_nowhere p k w)) tt) (omega arith) (λ es c a. tt) (λ e o a. tt)

@@ -34,8 +34,8 @@ impl<T: Integer, V: Eq + Clone> RangeMapBlaze<T, V> {
     ///
     /// The bounds are those that the range tells: through `RangeBounds` a `RangeInclusive` that was iterated to its end
     /// has an excluded end and names no key. Bounds that name no key answer false and change nothing. Inside one entry with
-    /// an equal value nothing changes, the stored value neither. Both take no memory. Refused memory leaves the map
-    /// unchanged.
+    /// an equal value nothing changes, the stored value neither. Both take no memory. An entry that the range does not touch
+    /// stays, its stored value too. Refused memory leaves the map unchanged.
     pub fn ranges_insert<R: RangeBounds<T> + Drop>(
         &mut self,
         range: R,
