@@ -4,6 +4,7 @@ ghost use Rattle.blaze_table.specs.Entries.{at};
 ghost use Rattle.blaze_table.specs.Painted.{ClonesAreAlike};
 ghost use Rattle.blaze_streams.specs.Fills.{IsFilled};
 ghost use Rattle.range_map_blaze.specs.GapsFilled.{AreGapsFilled};
+ghost use Rattle.range_map_blaze.specs.Made.{IsMade};
 
 use crate::map::RangeMapBlaze;
 use blaze_int::Integer;
@@ -27,7 +28,7 @@ impl<T: Integer, V: Eq + Clone> RangeMapBlaze<T, V> {
     pub fn fill_gaps(&self) -> Result<RangeMapBlaze<T, Option<V>>, AllocError>
         requires { ClonesAreAlike V.is_clone V.eq }
         ensures filled { IfOk result
-            (λ map. AreGapsFilled V.eq T.low T.high self.now.entries map.entries) }
+            (IsMade (AreGapsFilled V.eq T.low T.high self.now.entries)) }
         ensures universal { IfOk result (λ map. (k : ℤ) → T.low ≤ℤ k → k ≤ℤ T.high
             → IsSome (at map.entries k)) }
     {

@@ -4,6 +4,8 @@ ghost use Rattle.blaze_streams.specs.Answers.{values, IsCallableAtEach, IsTransf
 ghost use Rattle.blaze_streams.specs.JoinAnswers.{either, both, with_left, IsCallableAtSegments};
 ghost use Rattle.blaze_streams.specs.JoinAnswers.{IsJoined};
 ghost use Rattle.blaze_streams.specs.declared.segmenting.joins.JoinKind.TheVariants.{Inner, Left, Full};
+ghost use Rattle.blaze_table.specs.Counted.{uncounted};
+ghost use Rattle.range_map_blaze.specs.Made.{IsMade};
 
 use crate::map::RangeMapBlaze;
 use blaze_int::Integer;
@@ -19,7 +21,7 @@ pub fn map_of<T: Integer, W: Eq + Clone>(
     alloc: Global,
     stream: CanonMapIter<T, Owned<W>>,
 ) -> Result<RangeMapBlaze<T, W>, AllocError>
-    ensures { IfOk result (λ map. map.entries ≡ stream) }
+    ensures { IfOk result (λ map. map ≡ uncounted stream) }
 {
     stream.in_hand();
     let mut entries = Vec::new(alloc);
@@ -128,8 +130,8 @@ impl<T: Integer, V: Eq + Clone> RangeMapBlaze<T, V> {
         f: F,
     ) -> Result<RangeMapBlaze<T, W>, AllocError>
         requires { IsCallableAtEach (λ a. a.0.now) F.FnMut f (values self.now.entries) }
-        ensures { IfOk result (λ map. IsTransformed (λ a. a.0.now) F.FnMut W.eq T.low T.high f
-            self.now.entries map.entries) }
+        ensures { IfOk result (IsMade (IsTransformed (λ a. a.0.now) F.FnMut W.eq T.low T.high f
+            self.now.entries)) }
     {
         let alloc = self.allocator();
         let stream = transformed(alloc, &self.table, f)?;
@@ -147,8 +149,8 @@ impl<T: Integer, V: Eq + Clone> RangeMapBlaze<T, V> {
     ) -> Result<RangeMapBlaze<T, W>, AllocError>
         requires { IsCallableAtSegments (both (λ v. v.now) (λ v. v.now)) F.FnMut V.eq V2.eq T.low
             T.high Inner f self.now.entries other.now.entries }
-        ensures { IfOk result (λ map. IsJoined (both (λ v. v.now) (λ v. v.now)) F.FnMut V.eq V2.eq
-            T.low T.high Inner W.eq f self.now.entries other.now.entries map.entries) }
+        ensures { IfOk result (IsMade (IsJoined (both (λ v. v.now) (λ v. v.now)) F.FnMut V.eq V2.eq
+            T.low T.high Inner W.eq f self.now.entries other.now.entries)) }
     {
         let alloc = self.allocator();
         let stream = inner_joined(alloc, &self.table, &other.table, f)?;
@@ -165,8 +167,8 @@ impl<T: Integer, V: Eq + Clone> RangeMapBlaze<T, V> {
     ) -> Result<RangeMapBlaze<T, W>, AllocError>
         requires { IsCallableAtSegments (with_left (λ v. v.now) (λ v. v.now)) F.FnMut V.eq V2.eq
             T.low T.high Left f self.now.entries other.now.entries }
-        ensures { IfOk result (λ map. IsJoined (with_left (λ v. v.now) (λ v. v.now)) F.FnMut V.eq
-            V2.eq T.low T.high Left W.eq f self.now.entries other.now.entries map.entries) }
+        ensures { IfOk result (IsMade (IsJoined (with_left (λ v. v.now) (λ v. v.now)) F.FnMut V.eq
+            V2.eq T.low T.high Left W.eq f self.now.entries other.now.entries)) }
     {
         let alloc = self.allocator();
         let stream = left_joined(alloc, &self.table, &other.table, f)?;
@@ -182,8 +184,8 @@ impl<T: Integer, V: Eq + Clone> RangeMapBlaze<T, V> {
     ) -> Result<RangeMapBlaze<T, W>, AllocError>
         requires { IsCallableAtSegments (either (λ v. v.now) (λ v. v.now)) F.FnMut V.eq V2.eq T.low
             T.high Full f self.now.entries other.now.entries }
-        ensures { IfOk result (λ map. IsJoined (either (λ v. v.now) (λ v. v.now)) F.FnMut V.eq V2.eq
-            T.low T.high Full W.eq f self.now.entries other.now.entries map.entries) }
+        ensures { IfOk result (IsMade (IsJoined (either (λ v. v.now) (λ v. v.now)) F.FnMut V.eq V2.eq
+            T.low T.high Full W.eq f self.now.entries other.now.entries)) }
     {
         let alloc = self.allocator();
         let stream = full_joined(alloc, &self.table, &other.table, f)?;

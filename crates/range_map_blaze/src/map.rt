@@ -1,10 +1,12 @@
 //! The map.
 ghost use Rattle.std.specs.Prelude.{◌≡◌, ◌↔◌, ℤ, ◌≤ℤ◌, pos, [], length, IsTrue, IsSome, IfOk};
+ghost use Rattle.blaze_table.specs.Counted.{uncounted};
 ghost use Rattle.blaze_table.specs.Entries.{at, SameEntries};
 ghost use Rattle.blaze_table.specs.Canonical.{IsRangeMap};
 ghost use Rattle.blaze_table.specs.Count.{keys_in, mapped_keys};
 ghost use Rattle.blaze_table.specs.Laws.{IsShortest};
 ghost use Rattle.blaze_table.specs.Painted.{ClonesAreAlike};
+ghost use Rattle.range_map_blaze.specs.Made.{IsMade};
 
 use blaze_int::compare::length;
 use blaze_int::{Integer, differ};
@@ -35,7 +37,7 @@ impl<T: Integer, V: Eq> Model for RangeMapBlaze<T, V> {
 impl<T: Integer, V: Eq> RangeMapBlaze<T, V> {
     /// The empty map.
     pub fn new(alloc: Global) -> Self
-        ensures { result.entries ≡ [] }
+        ensures { result ≡ uncounted [] }
     {
         RangeMapBlaze {
             table: RangeTable::new(alloc),
@@ -44,7 +46,7 @@ impl<T: Integer, V: Eq> RangeMapBlaze<T, V> {
 
     /// The empty map.
     pub fn default(alloc: Global) -> Self
-        ensures { result.entries ≡ [] }
+        ensures { result ≡ uncounted [] }
     {
         Self::new(alloc)
     }
@@ -125,7 +127,7 @@ impl<T: Integer, V: Eq + Clone> RangeMapBlaze<T, V> {
     /// A map of the same ranges, each with a clone of its value. Refused memory leaves this map unchanged.
     pub fn clone(&self) -> Result<Self, AllocError>
         requires { ClonesAreAlike V.is_clone V.eq }
-        ensures { IfOk result (λ copy. SameEntries V.eq self.now.entries copy.entries) }
+        ensures { IfOk result (IsMade (SameEntries V.eq self.now.entries)) }
     {
         let table = self.table.clone()?;
         Ok(RangeMapBlaze { table })

@@ -1,6 +1,7 @@
 //! Maps of streams.
 ghost use Rattle.std.specs.Prelude.{IfOk};
 ghost use Rattle.blaze_table.specs.Entries.{SameEntries};
+ghost use Rattle.range_map_blaze.specs.Made.{IsMade};
 
 use crate::map::RangeMapBlaze;
 use blaze_int::Integer;
@@ -15,7 +16,7 @@ impl<T: Integer, V: Eq + Clone> RangeMapBlaze<T, V> {
         stream: I,
     ) -> Result<Self, AllocError>
         requires { VC.can_carry }
-        ensures { IfOk result (λ map. SameEntries V.eq (I.left stream) map.entries) }
+        ensures { IfOk result (IsMade (SameEntries V.eq (I.left stream))) }
     {
         stream.in_hand();
         let mut entries = Vec::new(alloc);
@@ -35,7 +36,7 @@ pub trait IntoRangeMapBlaze<T: Integer, VC: ValueCarrier>: SortedDisjointMap<T, 
     where
         Self: Sized,
         requires { VC.can_carry }
-        ensures { IfOk result (λ map. SameEntries VC.Value.eq (Self.left self) map.entries) }
+        ensures { IfOk result (IsMade (SameEntries VC.Value.eq (Self.left self))) }
     {
         RangeMapBlaze::from_sorted_disjoint_map(alloc, self)
     }

@@ -3,6 +3,7 @@ ghost use Rattle.std.specs.Prelude.{[], IfOk};
 ghost use Rattle.blaze_table.specs.Complement.{IsComplement};
 ghost use Rattle.blaze_table.specs.Painted.{ClonesAreAlike};
 ghost use Rattle.blaze_table.specs.RangeSets.{unit_eq};
+ghost use Rattle.range_map_blaze.specs.Made.{IsMade};
 
 use crate::map::RangeMapBlaze;
 use blaze_int::Integer;
@@ -32,7 +33,7 @@ impl<T: Integer, V: Eq + Clone> RangeMapBlaze<T, V> {
     pub fn universe_with(alloc: Global, value: &V) -> Result<Self, AllocError>
         requires { ClonesAreAlike V.is_clone V.eq }
         ensures { IfOk result
-            (λ map. IsComplement {V = V} V.eq T.low T.high value.now [] map.entries) }
+            (IsMade (IsComplement {V = V} V.eq T.low T.high value.now [])) }
     {
         Self::new(alloc).complement_with(value)
     }
@@ -41,7 +42,7 @@ impl<T: Integer, V: Eq + Clone> RangeMapBlaze<T, V> {
     pub fn complement_with(&self, value: &V) -> Result<Self, AllocError>
         requires { ClonesAreAlike V.is_clone V.eq }
         ensures { IfOk result
-            (λ map. IsComplement V.eq T.low T.high value.now self.now.entries map.entries) }
+            (IsMade (IsComplement V.eq T.low T.high value.now self.now.entries)) }
     {
         let alloc = self.allocator();
         let stream = complement(alloc, self.ranges())?;

@@ -2,7 +2,7 @@ use Rattle.std.proofs.Common.{◌∙◌, ◌++◌, ◌∷◌, [], refl, sym, ap,
 use Rattle.std.proofs.lemmas.List.{map-append}
 use Rattle.std.specs.Range.{range_inclusive_start}
 use Rattle.blaze_table.specs.Canonical.{IsRangeMap}
-use Rattle.blaze_table.specs.Counted.{CountedEntries}
+use Rattle.blaze_table.specs.Counted.{uncounted}
 use Rattle.blaze_table.specs.Entries.{Entry, entry, shown_entry}
 use Rattle.blaze_table.specs.Listed.{listed}
 use Rattle.range_map_blaze.proofs.joins.map_of.Goals as goal
@@ -36,4 +36,4 @@ from_canonical-requires g c =
 pub returns : goal.returns
 returns g c =
     let all = sym (append-nil _) ∙ ap (λ es. listed g.T.Integer.rank c.loop-item.entries.items ++ es) (sym c.in-None.ensures.steps.0.0) ∙ c.loop-item.invariant in
-    ap (λ (s : CountedEntries g.row.W.Denot). s.entries) c.in_ok-table.ensures ∙ all
+    c.in_ok-table.ensures ∙ ap uncounted all

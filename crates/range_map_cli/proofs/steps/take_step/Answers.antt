@@ -27,5 +27,5 @@ returns-in_ok-old-in-Remove-clause-answer g c =
 
 pub returns-in_ok-new-in-ComplementWith-clause-stepped : goal.returns-in_ok-new-in-ComplementWith-clause-stepped
 returns-in_ok-new-in-ComplementWith-clause-stepped g c =
-    let p = c.in_ok-new-in-ComplementWith.ensures in
+    let p = c.in_ok-new-in-ComplementWith.ensures.0 in
     stepped g.V.PartialEq.eq g.T.Integer.rank _ _ _ (ComplementWith c.in-ComplementWith.value) _ _ c.in-ComplementWith.is (record { range_map = p.range_map; content = complement_is g.V.PartialEq.eq _ _ _ _ _ p })

@@ -1,8 +1,10 @@
 use Rattle.std.proofs.Common.{[], ◌++◌, ◌∷◌, ◌∙◌, sym, ap, subst, append-nil, append_assoc, map}
 use Rattle.std.proofs.lemmas.List.{map-append}
+use Rattle.blaze_table.specs.Complement.{IsComplement}
 use Rattle.blaze_table.specs.Entries.{entry, SameEntries, shown_entry}
 use Rattle.blaze_table.specs.RangeSets.{bare_range, unit_eq}
 use Rattle.range_map_blaze.proofs.Choices.{complement_of}
+use Rattle.range_map_blaze.proofs.Made.{made_of}
 use Rattle.range_map_blaze.proofs.Streams.{same-push, range_map_as}
 use Rattle.range_map_blaze.proofs.Valued.{valued, valued-append, valued_map, complement_as}
 use Rattle.range_map_blaze.proofs.map.RangeMapBlaze.complement_with.Goals as goal
@@ -44,4 +46,4 @@ pub returns : goal.returns
 returns g c =
     let i = c.loop-range.invariant in
     let all = i.3 ∙ ap (λ es. i.1 ++ es) c.in-None.ensures.steps.0.0 ∙ append-nil i.1 in
-    rw c.in_ok-table.ensures (complement_as g.V.PartialEq.eq g.met.V.Eq.laws c.args.value.now g.T.Integer.low g.T.Integer.high c.args.self.now.entries i.1 _ (rw all at i.2) i.4)
+    made_of (IsComplement g.V.PartialEq.eq g.T.Integer.low g.T.Integer.high c.args.value.now c.args.self.now.entries) _ _ c.in_ok-table.ensures (complement_as g.V.PartialEq.eq g.met.V.Eq.laws c.args.value.now g.T.Integer.low g.T.Integer.high c.args.self.now.entries i.1 _ (rw all at i.2) i.4)

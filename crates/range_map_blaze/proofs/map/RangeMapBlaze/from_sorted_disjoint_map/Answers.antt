@@ -1,7 +1,7 @@
 use Rattle.std.proofs.Common.{[], ◌++◌, ◌∷◌, ◌∙◌, sym, ap, subst, map, append-nil}
-use Rattle.blaze_table.specs.Counted.{CountedEntries}
 use Rattle.blaze_table.specs.Entries.{SameEntries, shown_entry}
 use Rattle.blaze_streams.specs.Ranges.{shown_range}
+use Rattle.range_map_blaze.proofs.Made.{made_of}
 use Rattle.range_map_blaze.proofs.Streams.{range_map_as, taken_more}
 use Rattle.range_map_blaze.proofs.map.RangeMapBlaze.from_sorted_disjoint_map.Goals as goal
 
@@ -32,4 +32,4 @@ returns g c =
     let i = c.loop-range.invariant in
     let none = (g.met.I.SortedDisjointMap.gives _ _ _ c.in-None.ensures.steps).0 in
     let all = i.1 ∙ ap (λ es. i.0 ++ es) none ∙ append-nil i.0 in
-    subst (λ es. SameEntries g.V.PartialEq.eq (g.I.SortedDisjointMap.left c.args.stream) es) (sym (ap (λ (s : CountedEntries g.row.V.Denot). s.entries) c.in_ok-table.ensures)) (subst (λ es. SameEntries g.V.PartialEq.eq es (map (shown_entry g.T.Integer.rank (λ v. v)) c.loop-range.entries.items)) (sym all) i.2)
+    made_of (SameEntries g.V.PartialEq.eq (g.I.SortedDisjointMap.left c.args.stream)) _ _ c.in_ok-table.ensures (subst (λ es. SameEntries g.V.PartialEq.eq es (map (shown_entry g.T.Integer.rank (λ v. v)) c.loop-range.entries.items)) (sym all) i.2)

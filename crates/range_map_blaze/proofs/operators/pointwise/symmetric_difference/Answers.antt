@@ -4,7 +4,7 @@ use Rattle.range_map_blaze.proofs.operators.pointwise.symmetric_difference.Goals
 pub returns-then-are_few : goal.returns-then-are_few
 returns-then-are_few g c =
     let eq = g.V.PartialEq.eq in
-    xor_flipped eq g.met.V.Eq.laws _ _ _ _ _ (xor_in_like eq g.met.V.Eq.laws _ _ _ _ _ _ c.in_ok-clone.ensures c.in_ok-new.ensures)
+    xor_flipped eq g.met.V.Eq.laws _ _ _ _ _ (xor_in_like eq g.met.V.Eq.laws _ _ _ _ _ _ c.in_ok-clone.ensures.0 c.in_ok-new.ensures)
 
 pub returns-then-are_few-2 : goal.returns-then-are_few-2
-returns-then-are_few-2 g c = xor_in_like g.V.PartialEq.eq g.met.V.Eq.laws _ _ _ _ _ _ c.in_ok-clone-2.ensures c.in_ok-new-2.ensures
+returns-then-are_few-2 g c = xor_in_like g.V.PartialEq.eq g.met.V.Eq.laws _ _ _ _ _ _ c.in_ok-clone-2.ensures.0 c.in_ok-new-2.ensures
