@@ -1,7 +1,8 @@
 #!/usr/bin/env bash
 # Runs each line of tests/bad_lines.txt alone after a few good ones. It must be bad: `bad line N` is all that is printed of it,
-# and the status is 2. The last line is 'N passed, M failed'. SCRIPT_PROGRAM names the program; without it `./prove script` builds
-# one where that is needed.
+# and the status is 2. Then it is run with arguments that are not understood: the usage on standard error, status 2. The last
+# line is 'N passed, M failed'. SCRIPT_PROGRAM names the program; without it `./prove script` builds one where
+# that is needed.
 set -euo pipefail
 here="$(cd "$(dirname "${BASH_SOURCE[0]}")" && pwd)"
 program="${SCRIPT_PROGRAM:-$here/../crates/script/out/script}"
@@ -34,5 +35,17 @@ while IFS= read -r line; do
         echo "'$line': wanted '$wanted', got '$got'"
     fi
 done <"$here/bad_lines.txt"
+
+for arguments in mark 'mark x' 'mark +4' 'mark -4' 'mark 4 5' 'run 4' $'\xff' $'mark \xff'; do
+    read -ra words <<<"$arguments"
+    wanted="usage: script [mark LINE] < FILE, status 2"
+    got="$("$program" "${words[@]}" </dev/null 2>&1 && echo ", status 0" || echo ", status $?")"
+    if [ "${got//$'\n', status/, status}" = "$wanted" ]; then
+        passed=$((passed + 1))
+    else
+        failed=$((failed + 1))
+        echo "arguments '$arguments': wanted '$wanted', got '$got'"
+    fi
+done
 echo "$passed passed, $failed failed"
 [ "$failed" = 0 ]

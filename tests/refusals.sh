@@ -1,7 +1,7 @@
 #!/usr/bin/env bash
 # Each request for memory of each call in tests/refusals.txt refused in turn, and at last none. A refused call must leave the
 # maps and sets as they were, but for what it was given by value, which is gone; a call that paints pairs may leave a first
-# part of them painted; an iterator by value must end. Without a refusal the call must succeed. A call that is to take memory
+# part of them painted; a list of steps leaves what the steps before the refused one left; an iterator by value must end. Without a refusal the call must succeed. A call that is to take memory
 # must make a request that it can't do without, one that is to take none must make none.
 #
 # A call that collects pairs, to build a tree in one go or a list, may do without one of its requests: std's `collect` and
@@ -121,6 +121,13 @@ sweep() {
                 kept+=("$left")
             done
             ;;
+        steps)
+            refused=("refused at 0" "refused at 1")
+            run --
+            kept=("$left")
+            run -- "${gone[@]}"
+            kept+=("$left")
+            ;;
         *)
             run -- "${gone[@]}"
             kept=("$left")
@@ -131,7 +138,12 @@ sweep() {
         got="refused, kept"
         if [ "$status" != 0 ]; then got="status $status"; fi
         if ! is_among "$left" "${kept[@]}"; then got="refused, changed"; fi
-        if ! is_among "$answer" "${refused[@]}"; then got="$answer"; fi
+        if ! is_among "$answer" "${refused[@]}"; then
+            got="$answer"
+        elif [ "$takes" = steps ] && [ "$left" != "${kept[${answer##* }]}" ]; then
+            # (what a list of steps leaves is what its answer says)
+            got="$answer, changed"
+        fi
         if ((collects && spared == 0)) && [ "$answer" = "$done_answer" ] && [ "$left" = "$done_left" ]; then
             spared=1
             got="refused, kept"

@@ -9,9 +9,10 @@ mod prepared;
 mod whole;
 
 use crate::changes::{Change, change_maps, clumps, get, pop_first};
-use crate::makes::{Making, make};
+use crate::makes::{make, paint_one_by_one};
 use crate::many::union_of_many;
-use crate::whole::{Combination, append, combine, combine_by_value, split_off, walk, within};
+use crate::prepared::Work;
+use crate::whole::{append, combine, combine_by_value, combined, split_off, walk, within};
 use std::alloc::{AllocError, Global};
 
 /// Added to a work's number where the entries that are left are to be in the checksum.
@@ -20,50 +21,50 @@ const CHECKED: u32 = 100;
 /// Does a work and answers a checksum, which is not 0; 0 where memory was refused or there is no such work.
 #[unsafe(no_mangle)]
 pub extern "C" fn library_run(alloc: Global, work: u32, size: u64, count: u64) -> u64 {
-    match run(alloc, work, size, count) {
-        Ok(Some(sum)) => sum | 1,
+    let check = work >= CHECKED;
+    let number = if check { work - CHECKED } else { work };
+    let work = Work {
+        alloc,
+        check,
+        size,
+        count,
+    };
+    match on_keys(work, number) {
+        Some(Ok(sum)) => sum | 1,
         _ => 0,
     }
 }
 
-/// Does a work, where there is one of the number.
-fn run(alloc: Global, work: u32, size: u64, count: u64) -> Result<Option<u64>, AllocError> {
-    let check = work >= CHECKED;
-    let work = if check { work - CHECKED } else { work };
-    let sum = match work {
-        0 => change_maps(alloc, check, Change::Paint, size, count)?,
-        1 => change_maps(alloc, check, Change::Insert, size, count)?,
-        2 => change_maps(alloc, check, Change::Remove, size, count)?,
-        3 => clumps(alloc, check, count)?,
-        4 => get(alloc, size, count)?,
-        5 => split_off(alloc, check, size, count)?,
-        6 => append(alloc, check, size, count)?,
-        7 => pop_first(alloc, check, size, count)?,
-        8 => combine(alloc, check, Combination::Union, size, size, count)?,
-        9 => combine(alloc, check, Combination::Union, size, size / 10, count)?,
-        10 => combine(alloc, check, Combination::Union, size, 100, count)?,
-        11 => combine_by_value(alloc, check, Combination::Union, size, count)?,
-        12 => combine(alloc, check, Combination::Intersection, size, size, count)?,
-        13 => combine(alloc, check, Combination::Difference, size, size, count)?,
-        14 => combine(
-            alloc,
-            check,
-            Combination::SymmetricDifference,
-            size,
-            size,
-            count,
-        )?,
-        15 => walk(alloc, size, 100, count)?,
-        16 => walk(alloc, size, 1, count)?,
-        17 => make(alloc, check, Making::Unsorted, size, count)?,
-        18 => make(alloc, check, Making::Sorted, size, count)?,
-        19 => make(alloc, check, Making::OneByOne, size, count)?,
-        20 => union_of_many(alloc, check, size, count)?,
-        21 => combine(alloc, check, Combination::Restriction, size, 100, count)?,
-        22 => combine(alloc, check, Combination::Difference, size, 100, count)?,
-        23 => combine_by_value(alloc, check, Combination::Difference, size, count)?,
-        24 => within(alloc, size, count)?,
-        _ => return Ok(None),
-    };
-    Ok(Some(sum))
+/// A work on single keys and small ranges, or else one on whole maps.
+fn on_keys(work: Work, number: u32) -> Option<Result<u64, AllocError>> {
+    match number {
+        0 => Some(change_maps(work, Change::Paint)),
+        1 => Some(change_maps(work, Change::Insert)),
+        2 => Some(change_maps(work, Change::Remove)),
+        3 => Some(clumps(work)),
+        4 => Some(get(work)),
+        7 => Some(pop_first(work)),
+        15 => Some(walk(work, 100)),
+        16 => Some(walk(work, 1)),
+        24 => Some(within(work)),
+        _ => on_maps(work, number),
+    }
+}
+
+/// A work on whole maps, or else one that combines two.
+fn on_maps(work: Work, number: u32) -> Option<Result<u64, AllocError>> {
+    match number {
+        5 => Some(split_off(work)),
+        6 => Some(append(work)),
+        11 => Some(combine_by_value(work, true)),
+        17 => Some(make(work, false)),
+        18 => Some(make(work, true)),
+        19 => Some(paint_one_by_one(work)),
+        20 => Some(union_of_many(work)),
+        23 => Some(combine_by_value(work, false)),
+        _ => {
+            let (combination, other) = combined(number, work.size)?;
+            Some(combine(work, combination, other))
+        }
+    }
 }

@@ -1,5 +1,5 @@
 //! Unions of many maps.
-use crate::prepared::{Map, checksum, prepared};
+use crate::prepared::{Map, Work, checksum, prepared};
 use range_map_multi::MultiwayRangeMapBlazeRef;
 use std::alloc::{AllocError, Global};
 
@@ -17,16 +17,21 @@ fn maps_of(alloc: Global, count: u64) -> Result<Vec<Map>, AllocError> {
     Ok(maps)
 }
 
-/// The union of so many lent maps, again and again.
-pub fn union_of_many(alloc: Global, check: bool, maps: u64, count: u64) -> Result<u64, AllocError> {
-    let maps = maps_of(alloc, maps)?;
+/// The union of lent maps.
+fn union_of(alloc: Global, maps: &[Map]) -> Result<Map, AllocError> {
+    let mut lent = Vec::new(alloc);
+    for map in maps {
+        lent.push(map)?;
+    }
+    lent.union(alloc)
+}
+
+/// The union of `size` lent maps, again and again.
+pub fn union_of_many(work: Work) -> Result<u64, AllocError> {
+    let maps = maps_of(work.alloc, work.size)?;
     let mut sum = 0;
-    for _ in 0..count {
-        let mut lent = Vec::new(alloc);
-        for map in &maps {
-            lent.push(map)?;
-        }
-        sum = checksum(check, sum, &lent.union(alloc)?);
+    for _ in 0..work.count {
+        sum = checksum(work.check, sum, &union_of(work.alloc, &maps)?);
     }
     Ok(sum)
 }

@@ -1,10 +1,21 @@
 //! Maps that works start with, and checksums of what they leave.
 use crate::draw::Draw;
-use blaze_streams::CheckSortedDisjointMap;
 use range_map_blaze::RangeMapBlaze;
 use std::alloc::{AllocError, Global};
 
 pub type Map = RangeMapBlaze<i64, u64>;
+
+/// What a work is to do.
+#[derive(Clone, Copy)]
+pub struct Work {
+    pub alloc: Global,
+    /// Whether the entries that are left are to be in the checksum.
+    pub check: bool,
+    /// The entries of the maps.
+    pub size: u64,
+    /// The operations.
+    pub count: u64,
+}
 
 /// Keys for each entry of a prepared map, on average, with the gap before it.
 const SPACING: u64 = 17;
@@ -22,7 +33,6 @@ pub fn prepared(
     gap: u64,
     keys: u64,
 ) -> Result<Map, AllocError> {
-    let values = [0u64, 1, 2, 3];
     let mut draw = Draw::new(seed);
     let mut items = Vec::new(alloc);
     let mut next = 0i64;
@@ -35,18 +45,23 @@ pub fn prepared(
         };
         let end = start.wrapping_add(more);
         next = end.wrapping_add(2);
-        let value = match draw.below(4) {
-            0 => &values[0],
-            1 => &values[1],
-            2 => &values[2],
-            _ => &values[3],
-        };
-        items.push((start..=end, value))?;
+        items.push((start..=end, draw.below(4)))?;
     }
-    match CheckSortedDisjointMap::new(items) {
-        Ok(stream) => RangeMapBlaze::from_sorted_disjoint_map(alloc, stream),
-        Err(_) => Ok(RangeMapBlaze::new(alloc)),
+    RangeMapBlaze::from_ranges(alloc, items)
+}
+
+/// A map of entries of 1 to 16 keys behind gaps of 1 to 16.
+pub fn even(work: Work, seed: u64) -> Result<Map, AllocError> {
+    prepared(work.alloc, seed, work.size, 16, 0)
+}
+
+/// So many copies of a map.
+pub fn copies(alloc: Global, map: &Map, count: u64) -> Result<Vec<Map>, AllocError> {
+    let mut maps = Vec::new(alloc);
+    for _ in 0..count {
+        maps.push(map.clone()?)?;
     }
+    Ok(maps)
 }
 
 /// A sum with a further part.

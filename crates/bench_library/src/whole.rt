@@ -1,7 +1,7 @@
 //! Works on whole maps.
-use crate::prepared::{Map, checksum, mix, prepared, spread};
+use crate::prepared::{Map, Work, checksum, copies, even, mix, prepared, spread};
 use range_map_blaze::names_a_key;
-use std::alloc::{AllocError, Global};
+use std::alloc::AllocError;
 
 /// What is made of two maps.
 #[derive(Clone, Copy, Debug)]
@@ -14,37 +14,47 @@ pub enum Combination {
     SymmetricDifference,
 }
 
-/// Maps cut in the middle, of sixteen.
-pub fn split_off(alloc: Global, check: bool, size: u64, count: u64) -> Result<u64, AllocError> {
-    let map = prepared(alloc, 1, size, 16, 0)?;
-    let mut maps = Vec::new(alloc);
-    for _ in 0..16 {
-        maps.push(map.clone()?)?;
+/// What the work of a number makes of a map of so many entries and another one, and the entries of that one.
+pub fn combined(number: u32, size: u64) -> Option<(Combination, u64)> {
+    match number {
+        8 => Some((Combination::Union, size)),
+        9 => Some((Combination::Union, size / 10)),
+        10 => Some((Combination::Union, 100)),
+        12 => Some((Combination::Intersection, size)),
+        13 => Some((Combination::Difference, size)),
+        14 => Some((Combination::SymmetricDifference, size)),
+        21 => Some((Combination::Restriction, 100)),
+        22 => Some((Combination::Difference, 100)),
+        _ => None,
     }
-    let middle = (spread(size) / 2).cast_signed();
+}
+
+/// Maps cut in the middle, of sixteen.
+pub fn split_off(work: Work) -> Result<u64, AllocError> {
+    let map = even(work, 1)?;
+    let middle = (spread(work.size) / 2).cast_signed();
     let mut sum = 0;
-    let mut left = count;
-    for map in maps {
+    let mut left = work.count;
+    for map in copies(work.alloc, &map, 16)? {
         let mut map = map;
         if left > 0 {
             left -= 1;
-            let upper = map.split_off(middle)?;
-            sum = checksum(check, sum, &upper);
+            sum = checksum(work.check, sum, &map.split_off(middle)?);
         }
-        sum = checksum(check, sum, &map);
+        sum = checksum(work.check, sum, &map);
     }
     Ok(sum)
 }
 
 /// The keys in the lower half of a map, given by value again and again: the first of them.
-pub fn within(alloc: Global, size: u64, count: u64) -> Result<u64, AllocError> {
-    let map = prepared(alloc, 1, size, 16, 0)?;
-    let lower = 0..=(spread(size) / 2).cast_signed();
+pub fn within(work: Work) -> Result<u64, AllocError> {
+    let map = even(work, 1)?;
+    let lower = 0..=(spread(work.size) / 2).cast_signed();
     let mut sum = 0;
     if !names_a_key(&lower) {
         return Ok(sum);
     }
-    for _ in 0..count {
+    for _ in 0..work.count {
         if let Some(Ok((key, value))) = map.range(lower.clone()?)?.next() {
             sum = mix(mix(sum, key.cast_unsigned()), value);
         }
@@ -53,90 +63,74 @@ pub fn within(alloc: Global, size: u64, count: u64) -> Result<u64, AllocError> {
 }
 
 /// Maps taken over by others of the same size, of four.
-pub fn append(alloc: Global, check: bool, size: u64, count: u64) -> Result<u64, AllocError> {
-    let map = prepared(alloc, 1, size, 16, 0)?;
-    let other = prepared(alloc, 3, size, 16, 0)?;
-    let mut pairs = Vec::new(alloc);
-    for _ in 0..4 {
-        pairs.push((map.clone()?, other.clone()?))?;
-    }
+pub fn append(work: Work) -> Result<u64, AllocError> {
+    let mut maps = copies(work.alloc, &even(work, 1)?, 4)?;
     let mut sum = 0;
-    let mut left = count;
-    for (map, other) in pairs {
-        let mut map = map;
+    let mut left = work.count;
+    for other in copies(work.alloc, &even(work, 3)?, 4)? {
         let mut other = other;
-        if left > 0 {
-            left -= 1;
-            map.append(&mut other)?;
+        if let Some(mut map) = maps.pop() {
+            if left > 0 {
+                left -= 1;
+                map.append(&mut other)?;
+            }
+            sum = checksum(work.check, sum, &map);
         }
-        sum = checksum(check, sum, &map);
-        sum = checksum(check, sum, &other);
+        sum = checksum(work.check, sum, &other);
     }
     Ok(sum)
+}
+
+impl Combination {
+    /// What is made of two lent maps.
+    fn of(self, map: &Map, other: &Map) -> Result<Map, AllocError> {
+        match self {
+            Combination::Union => map | other,
+            Combination::Intersection => map & other,
+            Combination::Restriction => other & map,
+            Combination::Difference => map - other,
+            Combination::SymmetricDifference => map ^ other,
+        }
+    }
 }
 
 /// A map made of two lent maps, again and again.
-pub fn combine(
-    alloc: Global,
-    check: bool,
-    combination: Combination,
-    size: u64,
-    other: u64,
-    count: u64,
-) -> Result<u64, AllocError> {
-    let gap = if other == 0 { 0 } else { size / other };
-    let map = prepared(alloc, 1, size, 16, 0)?;
-    let other = prepared(alloc, 3, other, gap.saturating_mul(16), 0)?;
+pub fn combine(work: Work, combination: Combination, other: u64) -> Result<u64, AllocError> {
+    let gap = if other == 0 { 0 } else { work.size / other };
+    let map = even(work, 1)?;
+    let other = prepared(work.alloc, 3, other, gap.saturating_mul(16), 0)?;
     let mut sum = 0;
-    for _ in 0..count {
-        let made = match combination {
-            Combination::Union => (&map | &other)?,
-            Combination::Intersection => (&map & &other)?,
-            Combination::Restriction => (&other & &map)?,
-            Combination::Difference => (&map - &other)?,
-            Combination::SymmetricDifference => (&map ^ &other)?,
-        };
-        sum = checksum(check, sum, &made);
+    for _ in 0..work.count {
+        sum = checksum(work.check, sum, &combination.of(&map, &other)?);
     }
     Ok(sum)
 }
 
-/// A map that small maps, of a thousand, are combined with, one after another, all by value.
-pub fn combine_by_value(
-    alloc: Global,
-    check: bool,
-    combination: Combination,
-    size: u64,
-    count: u64,
-) -> Result<u64, AllocError> {
-    let mut map = prepared(alloc, 1, size, 16, 0)?;
-    let gap = (size / 100).saturating_mul(16);
-    let mut others = Vec::new(alloc);
+/// A map that is united with small maps, of a thousand, or from which they are taken, one after another, all by value.
+pub fn combine_by_value(work: Work, is_union: bool) -> Result<u64, AllocError> {
+    let mut map = even(work, 1)?;
+    let gap = (work.size / 100).saturating_mul(16);
+    let mut others = Vec::new(work.alloc);
     for seed in 3..1003 {
-        others.push(prepared(alloc, seed, 100, gap, 0)?)?;
+        others.push(prepared(work.alloc, seed, 100, gap, 0)?)?;
     }
-    let mut left = count;
+    let mut left = work.count;
     for other in others {
         if left == 0 {
             break;
         }
         left -= 1;
-        map = match combination {
-            Combination::Union => (map | other)?,
-            Combination::Intersection => (map & other)?,
-            Combination::Restriction => (other & map)?,
-            Combination::Difference => (map - other)?,
-            Combination::SymmetricDifference => (map ^ other)?,
-        };
+        let made = if is_union { map | other } else { map - other };
+        map = made?;
     }
-    Ok(checksum(check, 0, &map))
+    Ok(checksum(work.check, 0, &map))
 }
 
-/// Each key with its value, again and again.
-pub fn walk(alloc: Global, size: u64, keys: u64, count: u64) -> Result<u64, AllocError> {
-    let map = prepared(alloc, 1, size, 16, keys)?;
+/// Each key with its value, again and again, of entries of so many keys.
+pub fn walk(work: Work, keys: u64) -> Result<u64, AllocError> {
+    let map = prepared(work.alloc, 1, work.size, 16, keys)?;
     let mut sum = 0u64;
-    for _ in 0..count {
+    for _ in 0..work.count {
         for (key, value) in map.iter() {
             sum = (sum ^ key.cast_unsigned()).wrapping_add(*value);
         }

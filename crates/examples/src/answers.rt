@@ -1,111 +1,66 @@
-//! What closures answer at streams, filled gaps, and the segments of lists.
-use crate::fault::Fault;
-use crate::streams::{letters, show};
-use blaze_streams::{
-    CheckSortedDisjointMap, JoinKind, Owned, fill, full_join_of, inner_join_of, join_of,
-    left_join_of, segments, transform,
-};
-use std::alloc::{AllocError, Global};
+//! What closures with a state answer at the values of maps.
+use crate::maps::map_of;
+use range_map_blaze::RangeMapBlaze;
+use std::alloc::AllocError;
 
-/// A closure's answers at the values of a stream, and how often it was called.
-fn transformed(rt: &HostRuntime) -> Result<(), Fault> {
-    let map = letters(rt.alloc(), &[(1, 3, 'a'), (4, 6, 'b'), (8, 9, 'z')])?;
-    let mut calls = 0_u32;
-    let found = transform(rt.alloc(), map, |value: Owned<char>| {
+type Numbers = RangeMapBlaze<i64, u32>;
+
+/// The sums of two maps, with the number of the call.
+fn sums(rt: &HostRuntime, ones: &Numbers, tens: &Numbers) {
+    let mut calls = 0u32;
+    let sums = ones.full_join(tens, |one, ten| {
         calls = calls.wrapping_add(1);
-        value.0 < 'c'
-    })?;
-    show(rt, "transform", found);
-    let _ = println!(rt; "{calls} calls");
-    Ok(())
+        let one = one.map_or(0, |one| *one);
+        (one.wrapping_add(ten.map_or(0, |ten| *ten)), calls)
+    });
+    let _ = println!(rt; "full_join: {sums:?}; {calls} calls");
 }
 
-/// Every key, with what a stream has there.
-fn filled(rt: &HostRuntime) -> Result<(), Fault> {
-    let alloc = rt.alloc();
-    let list = vec![in alloc; (1..=3_u8, Owned('r'))]?;
-    let map = CheckSortedDisjointMap::new(list)?;
-    let every_key = fill(alloc, map)?;
-    show(rt, "fill", every_key);
-    let empty = CheckSortedDisjointMap::<u8, Owned<char>>::new(Vec::new(alloc))?;
-    let every_key = fill(alloc, empty)?;
-    show(rt, "fill", every_key);
-    Ok(())
-}
-
-type Lent<'a> = CheckSortedDisjointMap<i64, &'a char>;
-
-/// One range with a lent letter, as a stream.
-fn lent(alloc: Global, start: i64, end: i64, value: &char) -> Result<Lent<'_>, Fault> {
-    let list = vec![in alloc; (start..=end, value)]?;
-    Ok(CheckSortedDisjointMap::new(list)?)
-}
-
-/// The segments of two streams that a join is asked for.
-fn joined(rt: &HostRuntime) -> Result<(), Fault> {
-    let alloc = rt.alloc();
-    for kind in [JoinKind::Full, JoinKind::Left, JoinKind::Inner] {
-        let left = lent(alloc, 1, 5, &'a')?;
-        let right = lent(alloc, 4, 8, &'b')?;
-        let _ = println!(rt; "{kind:?}");
-        let found = join_of(alloc, left, right, kind)?;
-        show(rt, "join_of", found);
-    }
-    Ok(())
-}
-
-/// What a closure answers at the segments of a full join, and how often it was called.
-fn full_joined(rt: &HostRuntime) -> Result<(), Fault> {
-    let alloc = rt.alloc();
-    let (one, two) = (lent(alloc, 1, 5, &'a')?, lent(alloc, 4, 8, &'b')?);
-    let mut calls = 0_u32;
-    let full = |left: Option<&char>, _right: Option<&char>| {
+/// Whether a map has a value where another one has, with the number of the call.
+fn right_is_there(rt: &HostRuntime, ones: &Numbers, tens: &Numbers) {
+    let mut calls = 0u32;
+    let found = ones.left_join(tens, |_, ten| {
         calls = calls.wrapping_add(1);
-        left.is_some()
-    };
-    let found = full_join_of(alloc, one, two, full)?;
-    show(rt, "full_join_of", found);
-    let _ = println!(rt; "{calls} calls");
-    Ok(())
+        (ten.is_some(), calls)
+    });
+    let _ = println!(rt; "left_join: {found:?}; {calls} calls");
 }
 
-/// What closures answer at the segments of a left join and of an inner join.
-fn other_joined(rt: &HostRuntime) -> Result<(), Fault> {
-    let alloc = rt.alloc();
-    let (one, two) = (lent(alloc, 1, 5, &'a')?, lent(alloc, 4, 8, &'b')?);
-    let left = |_left: &char, right: Option<&char>| right.is_some();
-    let found = left_join_of(alloc, one, two, left)?;
-    show(rt, "left_join_of", found);
-    let (one, two) = (lent(alloc, 1, 5, &'a')?, lent(alloc, 4, 8, &'b')?);
-    let inner = |left: &char, right: &char| *left < *right;
-    let found = inner_join_of(alloc, one, two, inner)?;
-    show(rt, "inner_join_of", found);
-    Ok(())
+/// Values numbered as they are first seen.
+fn first_seen(rt: &HostRuntime, map: &RangeMapBlaze<i64, char>) {
+    let mut seen: Vec<char> = Vec::new(rt.alloc());
+    let numbered = map.transform_values(|value| {
+        let next = seen.len();
+        match seen.iter().position(|other| *other == *value) {
+            Some(place) => place,
+            None => {
+                let _ = seen.push(*value);
+                next
+            }
+        }
+    });
+    let _ = println!(rt; "transform_values: {numbered:?}");
 }
 
-/// The segments of lists, and of no list.
-fn of_lists(rt: &HostRuntime) -> Result<(), AllocError> {
-    let alloc = rt.alloc();
-    let first = vec![in alloc; (0, 3), (4, 9)]?;
-    let second = vec![in alloc; (5, 14)]?;
-    let third = vec![in alloc; (7, 8)]?;
-    let lists = vec![in alloc; first, second, third]?;
-    let _ = println!(rt; "segments");
-    for segment in segments(alloc, &lists)? {
-        let _ = println!(rt; "{}..={} {:?}", segment.lo, segment.hi, segment.at);
-    }
-    let none: Vec<Vec<(char, char)>> = Vec::new(alloc);
-    let _ = println!(rt; "{}", segments(alloc, &none)?.len());
-    Ok(())
+/// Tens, one call for each entry.
+fn tens_of(rt: &HostRuntime, map: &Numbers) {
+    let mut calls = 0u32;
+    let tens = map.transform_values(|number| {
+        calls = calls.wrapping_add(1);
+        *number / 10
+    });
+    let _ = println!(rt; "transform_values: {tens:?}; {calls} calls");
 }
 
 /// Makes all calls of this file.
-pub fn all(rt: &HostRuntime) -> Result<(), Fault> {
-    transformed(rt)?;
-    filled(rt)?;
-    joined(rt)?;
-    full_joined(rt)?;
-    other_joined(rt)?;
-    of_lists(rt)?;
+pub fn all(rt: &HostRuntime) -> Result<(), AllocError> {
+    let alloc = rt.alloc();
+    let ones = map_of(alloc, &[(1, 5, 1)])?;
+    let tens = map_of(alloc, &[(4, 8, 10)])?;
+    sums(rt, &ones, &tens);
+    right_is_there(rt, &ones, &tens);
+    let colours = [(0, 9, 'r'), (10, 19, 'b'), (20, 29, 'r')];
+    first_seen(rt, &map_of(alloc, &colours)?);
+    tens_of(rt, &map_of(alloc, &[(1, 3, 10), (4, 6, 11), (8, 9, 20)])?);
     Ok(())
 }

@@ -1,37 +1,34 @@
-//! Worked examples of what no line of a script says: tables, sets and streams, values that refuse to be cloned, closures with a
-//! state. Each line of the output is the answer of a call, or an entry of what it made.
+//! Worked examples of what no line of a script says: tables, sets and streams, values that refuse to be cloned or are equal by
+//! a part of them, closures with a state. Each line of the output is the answer of a call, or an entry of what it made.
 #![tactic(auto)]
 
 mod answers;
-mod fault;
-mod labelled;
+mod coarse;
+mod joins;
 mod many;
-mod many_joins;
-mod map_answers;
 mod maps;
 mod moved;
 mod refused;
 mod sets;
 mod streams;
+mod stubborn;
 mod tables;
 
-use crate::fault::Fault;
+use std::alloc::AllocError;
 use std::process::ExitCode;
 
 /// Makes all calls.
-fn run(rt: &HostRuntime) -> Result<(), Fault> {
+fn run(rt: &HostRuntime) -> Result<(), AllocError> {
     tables::all(rt)?;
-    refused::clones(rt)?;
     sets::all(rt)?;
     streams::all(rt)?;
-    answers::all(rt)?;
-    many::operations(rt)?;
-    many_joins::all(rt)?;
-    moved::all(rt)?;
-    labelled::all(rt)?;
+    joins::all(rt)?;
+    many::all(rt)?;
     maps::all(rt)?;
-    map_answers::all(rt)?;
-    Ok(())
+    answers::all(rt)?;
+    coarse::all(rt)?;
+    refused::all(rt)?;
+    moved::all(rt)
 }
 
 fn main(rt: HostRuntime) -> ExitCode {

@@ -1,109 +1,132 @@
-//! Operations between many maps, by value, in an array and as streams.
-use crate::fault::Fault;
+//! Operations between many maps by value, in an array and as streams, and their joins.
+use crate::maps::{Letters, map_of};
 use crate::streams::show;
 use blaze_streams::RangeValuesIter;
 use range_map_blaze::RangeMapBlaze;
 use range_map_multi::{MultiwayRangeMapBlaze, MultiwayRangeMapBlazeRef, MultiwaySortedDisjointMap};
-use std::alloc::{AllocError, Global};
+use std::alloc::AllocError;
 
-/// A map of letters.
-type Letters = RangeMapBlaze<i64, char>;
-
-/// A map of letters.
-fn letters(alloc: Global, ranges: &[(i64, i64, char)]) -> Result<Letters, AllocError> {
-    let mut map = RangeMapBlaze::new(alloc);
-    for (start, end, letter) in ranges {
-        let _ = map.ranges_insert(*start..=*end, *letter)?;
+/// Copies of maps, by value.
+fn copies(rt: &HostRuntime, maps: &[Letters; 3]) -> Result<Vec<Letters>, AllocError> {
+    let mut copies = Vec::new(rt.alloc());
+    for map in maps {
+        copies.push(map.clone()?)?;
     }
-    Ok(map)
+    Ok(copies)
 }
 
-/// Two ranges of z, one of a, two of b, each letter in a map.
-#[derive(Drop)]
-struct Maps {
-    z: Letters,
-    a: Letters,
-    b: Letters,
-}
+type Streams<'a> = Vec<RangeValuesIter<'a, i64, char>>;
 
-impl Maps {
-    fn new(alloc: Global) -> Result<Self, AllocError> {
-        let z = letters(alloc, &[(2, 2, 'z'), (6, 200, 'z')])?;
-        let a = letters(alloc, &[(2, 6, 'a')])?;
-        let b = letters(alloc, &[(1, 2, 'b'), (5, 100, 'b')])?;
-        Ok(Maps { z, a, b })
+/// The streams of maps.
+fn streams<'a>(rt: &HostRuntime, maps: &'a [Letters; 3]) -> Result<Streams<'a>, AllocError> {
+    let mut streams = Vec::new(rt.alloc());
+    for map in maps {
+        streams.push(map.range_values())?;
     }
-
-    /// The maps by value.
-    fn owned(&self, alloc: Global) -> Result<Vec<Letters>, AllocError> {
-        let mut owned = Vec::new(alloc);
-        owned.push(self.z.clone()?)?;
-        owned.push(self.a.clone()?)?;
-        owned.push(self.b.clone()?)?;
-        Ok(owned)
-    }
-
-    /// The maps as streams.
-    fn streams(&self, alloc: Global) -> Result<Vec<RangeValuesIter<'_, i64, char>>, AllocError> {
-        let mut streams = Vec::new(alloc);
-        streams.push(self.z.range_values())?;
-        streams.push(self.a.range_values())?;
-        streams.push(self.b.range_values())?;
-        Ok(streams)
-    }
+    Ok(streams)
 }
 
 /// The operations on maps by value.
-fn by_value(rt: &HostRuntime, maps: &Maps) -> Result<(), AllocError> {
-    let alloc = rt.alloc();
-    let owned = maps.owned(alloc)?;
-    let found = owned.union(alloc)?;
-    let _ = println!(rt; "{found}");
-    let owned = maps.owned(alloc)?;
+fn by_value(rt: &HostRuntime, maps: &[Letters; 3]) -> Result<(), AllocError> {
+    let _ = println!(rt; "union: {:?}", copies(rt, maps)?.union(rt.alloc()));
+    let owned = copies(rt, maps)?;
     if !owned.is_empty() {
-        let found = owned.intersection(alloc)?;
-        let _ = println!(rt; "{found}");
+        let _ = println!(rt; "intersection: {:?}", owned.intersection(rt.alloc()));
     }
-    let owned = maps.owned(alloc)?;
-    let found = owned.symmetric_difference(alloc)?;
-    let _ = println!(rt; "{found}");
+    let made = copies(rt, maps)?.symmetric_difference(rt.alloc());
+    let _ = println!(rt; "symmetric_difference: {made:?}");
     Ok(())
 }
 
 /// The operations on an array of lent maps.
-fn in_an_array(rt: &HostRuntime, maps: &Maps) -> Result<(), AllocError> {
-    let alloc = rt.alloc();
-    let found = [&maps.z, &maps.a, &maps.b].union(alloc)?;
-    let _ = println!(rt; "{found}");
-    let found = [&maps.z, &maps.a, &maps.b].intersection(alloc)?;
-    let _ = println!(rt; "{found}");
-    let found = [&maps.z, &maps.a, &maps.b].symmetric_difference(alloc)?;
-    let _ = println!(rt; "{found}");
-    Ok(())
+fn in_an_array(rt: &HostRuntime, [z, a, b]: &[Letters; 3]) {
+    let _ = println!(rt; "union: {:?}", [z, a, b].union(rt.alloc()));
+    let _ = println!(rt; "intersection: {:?}", [z, a, b].intersection(rt.alloc()));
+    let made = [z, a, b].symmetric_difference(rt.alloc());
+    let _ = println!(rt; "symmetric_difference: {made:?}");
 }
 
 /// The operations on streams.
-fn as_streams(rt: &HostRuntime, maps: &Maps) -> Result<(), AllocError> {
-    let alloc = rt.alloc();
-    let streams = maps.streams(alloc)?;
-    let found = streams.union(alloc)?;
-    show(rt, "union", found);
-    let streams = maps.streams(alloc)?;
-    if !streams.is_empty() {
-        let found = streams.intersection(alloc)?;
-        show(rt, "intersection", found);
+fn as_streams(rt: &HostRuntime, maps: &[Letters; 3]) -> Result<(), AllocError> {
+    show(rt, "union", streams(rt, maps)?.union(rt.alloc()))?;
+    let some = streams(rt, maps)?;
+    if !some.is_empty() {
+        show(rt, "intersection", some.intersection(rt.alloc()))?;
     }
-    let streams = maps.streams(alloc)?;
-    let found = streams.symmetric_difference(alloc)?;
-    show(rt, "symmetric_difference", found);
-    Ok(())
+    let made = streams(rt, maps)?.symmetric_difference(rt.alloc());
+    show(rt, "symmetric_difference", made)
 }
 
-/// The operations in each form that no line of a script names.
-pub fn operations(rt: &HostRuntime) -> Result<(), Fault> {
-    let maps = Maps::new(rt.alloc())?;
+/// The joins of streams: how many values a row has, and whether it has all.
+fn joined_streams(rt: &HostRuntime, maps: &[Letters; 3]) -> Result<(), AllocError> {
+    let made = streams(rt, maps)?.inner_join(rt.alloc(), |row| row.len());
+    show(rt, "inner_join", made)?;
+    let made = streams(rt, maps)?.full_join(
+        rt.alloc(),
+        |row| row.iter().all(|value| value.is_some()),
+    );
+    show(rt, "full_join", made)
+}
+
+/// A map of numbers.
+type Numbers = RangeMapBlaze<i64, u32>;
+
+/// The sums of three maps where all have a number.
+fn inner_joined(rt: &HostRuntime, maps: [&Numbers; 3]) {
+    let sums = maps.inner_join(rt.alloc(), |row| {
+        let mut sum = 0u32;
+        for number in row {
+            sum = sum.wrapping_add(**number);
+        }
+        sum
+    });
+    let _ = println!(rt; "inner_join: {sums:?}");
+}
+
+/// The sums of two maps where at least one has a number.
+fn full_joined(rt: &HostRuntime, maps: [&Numbers; 2]) {
+    let sums = maps.full_join(rt.alloc(), |row| {
+        let mut sum = 0u32;
+        for number in row {
+            sum = sum.wrapping_add(number.map_or(0, |number| *number));
+        }
+        sum
+    });
+    let _ = println!(rt; "full_join: {sums:?}");
+}
+
+/// The join of no maps: one call, whose answer every key has.
+fn none_joined(rt: &HostRuntime, none: [&RangeMapBlaze<u8, u32>; 0]) {
+    let mut calls = 0u32;
+    let everywhere = none.inner_join(rt.alloc(), |_| {
+        calls = calls.wrapping_add(1);
+        7u32
+    });
+    let _ = println!(rt; "inner_join: {everywhere:?}; {calls} calls");
+}
+
+/// Makes all calls of this file.
+pub fn all(rt: &HostRuntime) -> Result<(), AllocError> {
+    let alloc = rt.alloc();
+    let z = map_of(alloc, &[(2, 2, 'z'), (6, 200, 'z')])?;
+    let a = map_of(alloc, &[(2, 6, 'a')])?;
+    let b = map_of(alloc, &[(1, 2, 'b'), (5, 100, 'b')])?;
+    let maps = [z, a, b];
     by_value(rt, &maps)?;
-    in_an_array(rt, &maps)?;
+    in_an_array(rt, &maps);
     as_streams(rt, &maps)?;
+    joined_streams(rt, &maps)?;
+    numbers(rt)
+}
+
+/// Joins of maps of numbers, and of none.
+fn numbers(rt: &HostRuntime) -> Result<(), AllocError> {
+    let alloc = rt.alloc();
+    let a = map_of(alloc, &[(0, 9, 1), (10, 19, 2)])?;
+    let b = map_of(alloc, &[(5, 14, 30)])?;
+    inner_joined(rt, [&a, &b, &map_of(alloc, &[(0, 99, 400)])?]);
+    let a = map_of(alloc, &[(0, 9, 1)])?;
+    full_joined(rt, [&a, &map_of(alloc, &[(5, 14, 10)])?]);
+    none_joined(rt, []);
     Ok(())
 }

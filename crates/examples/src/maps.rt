@@ -1,26 +1,32 @@
-//! Maps in loops and chains, closures with a state, operators over any key type, maps of streams, orders.
-use range_map_blaze::{Integer, IntoRangeMapBlaze, RangeMapBlaze, Turns};
+//! Maps in loops, of streams and in their order; what closures keep.
+ghost use Rattle.blaze_table.specs.Painted.{ClonesAreAlike};
+
+use range_map_blaze::{IntoRangeMapBlaze, RangeMapBlaze, Turns};
 use std::alloc::{AllocError, Global};
+use std::cell::Cell;
 
-/// A map of words.
-pub type Words = RangeMapBlaze<i64, &'static str>;
+/// A map of letters.
+pub type Letters = RangeMapBlaze<i64, char>;
 
-/// A map of words.
-pub fn words(alloc: Global, ranges: &[(i64, i64, &'static str)]) -> Result<Words, AllocError> {
+/// A map of ranges painted in their order.
+pub fn map_of<V: Eq + Copy>(
+    alloc: Global,
+    ranges: &[(i64, i64, V)],
+) -> Result<RangeMapBlaze<i64, V>, AllocError>
+    requires { ClonesAreAlike V.is_clone V.eq }
+{
     let mut map = RangeMapBlaze::default(alloc);
-    for (start, end, word) in ranges {
-        let _ = map.ranges_insert(*start..=*end, *word)?;
+    for (start, end, value) in ranges {
+        let _ = map.ranges_insert(*start..=*end, *value)?;
     }
     Ok(map)
 }
 
 /// Loops over a map, lent and by value.
-fn loops(rt: &HostRuntime) -> Result<(), AllocError> {
-    let map = words(rt.alloc(), &[(1, 2, "a"), (5, 5, "b")])?;
+fn loops(rt: &HostRuntime, map: Letters) -> Result<(), AllocError> {
     for (key, value) in &map {
         let _ = println!(rt; "{key} {value}");
     }
-    adapted(rt, &map)?;
     for pair in map {
         let (key, value) = pair?;
         let _ = println!(rt; "{key} {value}");
@@ -28,81 +34,54 @@ fn loops(rt: &HostRuntime) -> Result<(), AllocError> {
     Ok(())
 }
 
-/// Adapters of a map's iterators.
-fn adapted(rt: &HostRuntime, map: &Words) -> Result<(), AllocError> {
-    let last = map.iter().rev().next();
-    let _ = println!(rt; "{last:?} {}", map.keys().take(10).count());
-    let keys: Vec<i64> = map.keys().collect(rt.alloc())?;
-    let _ = println!(rt; "{keys:?}");
-    Ok(())
-}
-
-/// Entries and keys that closures with a state keep.
-fn kept(rt: &HostRuntime) -> Result<(), AllocError> {
-    let mut map = words(rt.alloc(), &[(0, 3, "a"), (4, 7, "b"), (9, 9, "a")])?;
+/// Entries that a closure with a state keeps: one call an entry.
+fn kept_entries(rt: &HostRuntime, mut map: Letters) {
     let mut calls = 0u8;
-    map.ranges_retain(|range, word| {
+    map.ranges_retain(|range, value| {
         calls = calls.wrapping_add(1);
-        *word == "a" && *range.end() < 9
+        *value == 'a' && *range.end() < 9
     });
-    let _ = println!(rt; "{calls} calls: {map}");
-    map.retain(|key, _| *key % 2 == 0)?;
-    let _ = println!(rt; "{map}");
-    Ok(())
+    let _ = println!(rt; "{calls} calls: {map}, {}", map.range_values_len());
 }
 
-/// The keys that exactly one of two maps has, by the operators and `range`: over any key type, also one with a lifetime.
-fn exactly_one<T: Integer>(
-    left: &RangeMapBlaze<T, char>,
-    right: &RangeMapBlaze<T, char>,
-) -> Result<(RangeMapBlaze<T, char>, usize), AllocError> {
-    let both = (left & right)?;
-    let all = ((left - right)? | (right ^ &both)?)?;
-    let mut pairs = 0usize;
-    for _ in all.range(T::min_value()..=T::max_value())? {
-        pairs = pairs.saturating_add(1);
-    }
-    Ok((all, pairs))
-}
-
-/// Operators in a function over any key type.
-fn any_key_type(rt: &HostRuntime) -> Result<(), AllocError> {
-    let mut left: RangeMapBlaze<u8, char> = RangeMapBlaze::new(rt.alloc());
-    let _ = left.ranges_insert(0..=9, 'a')?;
-    let mut right = RangeMapBlaze::new(rt.alloc());
-    let _ = right.ranges_insert(5..=14, 'b')?;
-    let (found, pairs) = exactly_one(&left, &right)?;
-    let _ = println!(rt; "{pairs} pairs: {found}");
+/// The even keys, kept by a closure that counts its calls in a cell: one call a key.
+fn kept_keys(rt: &HostRuntime, mut map: Letters) -> Result<(), AllocError> {
+    let calls = Cell::new(0u8);
+    map.retain(|key, _| {
+        calls.set(calls.get().wrapping_add(1));
+        *key % 2 == 0
+    })?;
+    let _ = println!(rt; "{} calls: {map}", calls.get());
     Ok(())
 }
 
 /// Maps of streams.
-fn of_streams(rt: &HostRuntime) -> Result<(), AllocError> {
-    let map = words(rt.alloc(), &[(1, 3, "a"), (4, 6, "b")])?;
-    let made = RangeMapBlaze::from_sorted_disjoint_map(rt.alloc(), map.range_values())?;
-    let again = made.range_values().into_range_map_blaze(rt.alloc())?;
-    let _ = println!(rt; "{made}; {again}");
-    Ok(())
+fn of_streams(rt: &HostRuntime, map: &Letters) {
+    let made = RangeMapBlaze::from_sorted_disjoint_map(rt.alloc(), map.range_values());
+    let _ = println!(rt; "{made:?}");
+    let made = map.range_values().into_range_map_blaze(rt.alloc());
+    let _ = println!(rt; "{made:?}");
 }
 
 /// The order of maps.
-fn orders(rt: &HostRuntime) -> Result<(), AllocError> {
-    let left = words(rt.alloc(), &[(1, 3, "a")])?;
-    let right = words(rt.alloc(), &[(1, 2, "a"), (3, 3, "b")])?;
+fn orders(rt: &HostRuntime, left: &Letters, right: &Letters) {
     let mut turns = Turns::new();
-    let _ = println!(rt; "{:?}", left.cmp_counted(&right, &mut turns));
-    let _ = println!(rt; "{:?}", right.cmp_counted(&left, &mut turns));
-    let _ = println!(rt; "{:?}", left.cmp_counted(&left, &mut turns));
-    let _ = println!(rt; "{:?} {}", left.partial_cmp(&right), left < right);
-    Ok(())
+    let _ = println!(rt;
+        "{:?} {:?} {}",
+        left.cmp_counted(right, &mut turns),
+        left.partial_cmp(right),
+        left < right
+    );
 }
 
 /// Makes all calls of this file.
 pub fn all(rt: &HostRuntime) -> Result<(), AllocError> {
-    loops(rt)?;
-    kept(rt)?;
-    any_key_type(rt)?;
-    of_streams(rt)?;
-    orders(rt)?;
+    let alloc = rt.alloc();
+    loops(rt, map_of(alloc, &[(1, 2, 'a'), (5, 5, 'b')])?)?;
+    kept_entries(rt, map_of(alloc, &[(0, 3, 'a'), (4, 7, 'b'), (9, 9, 'a')])?);
+    kept_keys(rt, map_of(alloc, &[(0, 4, 'a')])?)?;
+    of_streams(rt, &map_of(alloc, &[(1, 3, 'a'), (4, 6, 'b')])?);
+    let left = map_of(alloc, &[(1, 3, 'a')])?;
+    orders(rt, &left, &map_of(alloc, &[(1, 2, 'a'), (3, 3, 'b')])?);
     Ok(())
 }

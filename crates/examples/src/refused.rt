@@ -1,148 +1,110 @@
-//! Values that refuse to be cloned: what a refused call leaves, and calls that clone nothing.
-ghost use Rattle.std.specs.Prelude.{◌≡◌, nat_eq};
-ghost use Rattle.std.proofs.Common.{rules};
-ghost use Rattle.std.specs.Cmp.Rules.{comparing};
-ghost use Rattle.std.specs.Ordering.{on};
-
+//! Values that refuse to be cloned: what a refused call leaves, and calls that clone none of them.
+use crate::stubborn::{Stubborn, deaf, heard};
 use blaze_table::RangeTable;
 use range_map_blaze::RangeMapBlaze;
 use std::alloc::{AllocError, Global};
-use std::cell::Cell;
+use std::fmt::Debug;
 
-/// A value whose clones are refused once as many were made as are left.
-#[derive(Drop)]
-struct Counted<'a> {
-    number: u32,
-    left: &'a Cell<u32>,
+type Map = RangeMapBlaze<i64, Stubborn>;
+
+/// A map of one range.
+fn one(alloc: Global, start: i64, end: i64, value: Stubborn) -> Result<Map, AllocError> {
+    let mut map = RangeMapBlaze::new(alloc);
+    let _ = map.ranges_insert(start..=end, value)?;
+    Ok(map)
 }
 
-impl<'a> PartialEq for Counted<'a> {
-    ghost eq = { on (λ a. a.number) nat_eq };
+/// Paints a range over the one range of a deaf value.
+fn painted(rt: &HostRuntime, start: i64, end: i64) -> Result<(), AllocError> {
+    let mut map = one(rt.alloc(), 0, 9, deaf(7))?;
+    let answer = map.ranges_insert(start..=end, heard(8));
+    show(rt, "ranges_insert", answer, &map);
+    Ok(())
+}
 
-    ghost laws = { Prim.search (comparing, rules) };
-
-    fn eq(&self, other: &Self) -> bool {
-        self.number == other.number
+/// The same by single looks.
+fn painted_by_splice(rt: &HostRuntime, start: i64, end: i64) -> Result<(), AllocError> {
+    let mut table = RangeTable::new(rt.alloc());
+    let _ = table.paint(0, 9, deaf(7))?;
+    if start <= end {
+        let answer = table.paint_by_splice(start, end, heard(8));
+        let _ = println!(rt;
+            "paint_by_splice: {answer:?} {:?} {:?}",
+            table.first(),
+            table.last()
+        );
     }
+    Ok(())
 }
 
-impl<'a> Eq for Counted<'a> {
-    ghost laws = { Prim.search (comparing, rules) };
+/// Prints what a call answered, and what it left.
+fn show<X: Debug + Drop>(rt: &HostRuntime, call: &str, answer: Result<X, AllocError>, map: &Map) {
+    let _ = println!(rt; "{call}: {answer:?} {map}");
 }
 
-impl<'a> Clone for Counted<'a> {
-    ghost is_clone = { λ a b. a.number ≡ b.number };
+/// Keys taken out of an entry whose value is cloned for them.
+fn cut(rt: &HostRuntime, mut map: Map) -> Result<(), AllocError> {
+    let answer = map.remove(5);
+    show(rt, "remove", answer, &map);
+    let answer = map.pop_first();
+    show(rt, "pop_first", answer, &map);
+    let answer = map.pop_last();
+    show(rt, "pop_last", answer, &map);
+    let answer = map.split_off(4);
+    show(rt, "split_off", answer, &map);
+    let answer = map.split_off(10);
+    show(rt, "split_off", answer, &map);
+    Ok(())
+}
 
-    fn clone(&self) -> Result<Self, AllocError> {
-        let Some(left) = self.left.get().checked_sub(1) else {
-            return Err(AllocError);
+/// A map takes another one whose last value refuses its clone.
+fn appended(rt: &HostRuntime, mut map: Map) -> Result<(), AllocError> {
+    let mut other = one(rt.alloc(), 5, 5, heard(2))?;
+    let _ = other.ranges_insert(7..=7, deaf(7))?;
+    let answer = map.append(&mut other);
+    show(rt, "append", answer, &other);
+    let _ = println!(rt; "{:?} {}", map.get(1), map.contains_key(7));
+    Ok(())
+}
+
+/// Pairs by value, by `f` from the front and by `b` from the back.
+fn pairs(rt: &HostRuntime, map: Map, ends: &str) {
+    let mut pairs = map.into_iter();
+    for end in ends.bytes() {
+        let pair = if end == b'f' {
+            pairs.next()
+        } else {
+            pairs.next_back()
         };
-        self.left.set(left);
-        Ok(Counted {
-            number: self.number,
-            left: self.left,
-        })
+        let _ = println!(rt; "into_iter: {pair:?}");
     }
 }
 
-type Table<'a> = RangeTable<i64, Counted<'a>>;
-
-/// The one range 0..=9 with the number 7.
-fn one_range<'a>(alloc: Global, left: &'a Cell<u32>) -> Result<Table<'a>, AllocError> {
-    let mut table = RangeTable::new(alloc);
-    let _ = table.paint(0, 9, Counted { number: 7, left })?;
-    Ok(table)
-}
-
-/// Prints whether a call was refused, and what it left.
-fn show(rt: &HostRuntime, call: &str, is_refused: bool, table: &Table<'_>) {
-    let _ = println!(rt; "{call}: {}", if is_refused { "refused" } else { "made" });
-    for (start, end, value) in table.iter() {
-        let _ = println!(rt; "{start}..={end} {}", value.number);
+/// Keys by value: no value is cloned.
+fn keys(rt: &HostRuntime, map: Map) {
+    for key in map.into_keys() {
+        let _ = println!(rt; "into_keys: {key}");
     }
-    let _ = println!(rt; "{} keys", table.len());
 }
 
-/// Paints a range with the number 8 over the one range, by one walk and by single looks.
-fn paint(rt: &HostRuntime, left: &Cell<u32>, start: i64, end: i64) -> Result<(), AllocError> {
-    if start > end {
-        return Ok(());
+/// Iterators by value.
+fn iterated(rt: &HostRuntime) -> Result<(), AllocError> {
+    let alloc = rt.alloc();
+    pairs(rt, one(alloc, 1, 3, deaf(7))?, "ffb");
+    keys(rt, one(alloc, 1, 3, deaf(7))?);
+    let mut map = one(alloc, 1, 1, deaf(7))?;
+    let _ = map.ranges_insert(3..=4, heard(8))?;
+    pairs(rt, map, "fbff");
+    Ok(())
+}
+
+/// Makes all calls of this file.
+pub fn all(rt: &HostRuntime) -> Result<(), AllocError> {
+    for (start, end) in [(4, 5), (0, 4), (5, 9)] {
+        painted(rt, start, end)?;
+        painted_by_splice(rt, start, end)?;
     }
-    let mut walked = one_range(rt.alloc(), left)?;
-    let refused = walked
-        .paint(start, end, Counted { number: 8, left })
-        .is_err();
-    show(rt, "paint", refused, &walked);
-    let mut looked = one_range(rt.alloc(), left)?;
-    let refused = looked
-        .paint_by_splice(start, end, Counted { number: 8, left })
-        .is_err();
-    show(rt, "paint_by_splice", refused, &looked);
-    Ok(())
-}
-
-/// Takes a key out of the one range, and splits the rest.
-fn cut(rt: &HostRuntime, left: &Cell<u32>) -> Result<(), AllocError> {
-    let mut table = one_range(rt.alloc(), left)?;
-    let refused = table.cut_key(5).is_err();
-    show(rt, "cut_key", refused, &table);
-    let refused = table.split_at(4).is_err();
-    show(rt, "split_at", refused, &table);
-    Ok(())
-}
-
-type Map<'a> = RangeMapBlaze<i64, Counted<'a>>;
-
-/// Prints whether a call was refused, and what it left.
-fn show_map(rt: &HostRuntime, call: &str, is_refused: bool, map: &Map<'_>) {
-    let made = if is_refused { "refused" } else { "made" };
-    let _ = println!(rt;
-        "{call}: {made}, len {}, ranges_len {}",
-        map.len(),
-        map.ranges_len()
-    );
-}
-
-/// Takes keys out of a map of one range, and splits it.
-fn cut_map(rt: &HostRuntime, left: &Cell<u32>) -> Result<(), AllocError> {
-    let mut map = RangeMapBlaze::new(rt.alloc());
-    let _ = map.ranges_insert(1..=9, Counted { number: 7, left })?;
-    let refused = map.remove(5).is_err();
-    show_map(rt, "remove", refused, &map);
-    let refused = map.pop_first().is_err();
-    show_map(rt, "pop_first", refused, &map);
-    let refused = map.pop_last().is_err();
-    show_map(rt, "pop_last", refused, &map);
-    let refused = map.split_off(4).is_err();
-    show_map(rt, "split_off", refused, &map);
-    let above = map.split_off(10)?;
-    show_map(rt, "what is above", false, &above);
-    Ok(())
-}
-
-/// The values of one range on the keys of two ranges that touch: one clone, with as many left.
-fn shared(rt: &HostRuntime, left: &Cell<u32>) -> Result<(), AllocError> {
-    let mut keys = RangeMapBlaze::new(rt.alloc());
-    let _ = keys.ranges_insert(0..=4, Counted { number: 2, left })?;
-    let _ = keys.ranges_insert(5..=9, Counted { number: 3, left })?;
-    let mut map = RangeMapBlaze::new(rt.alloc());
-    let _ = map.ranges_insert(-1..=10, Counted { number: 1, left })?;
-    for (range, value) in (&keys & &map)?.range_values() {
-        let _ = println!(rt; "{range:?} {}, {} left", value.number, left.get());
-    }
-    Ok(())
-}
-
-/// Paints, cuts and splits with no clone left, and with one. An intersection takes one clone for a range of its own.
-pub fn clones(rt: &HostRuntime) -> Result<(), AllocError> {
-    let left = Cell::new(0u32);
-    paint(rt, &left, 4, 5)?;
-    paint(rt, &left, 0, 4)?;
-    paint(rt, &left, 5, 9)?;
-    cut(rt, &left)?;
-    cut_map(rt, &left)?;
-    left.set(1);
-    cut(rt, &left)?;
-    left.set(1);
-    shared(rt, &left)
+    cut(rt, one(rt.alloc(), 1, 9, deaf(7))?)?;
+    appended(rt, one(rt.alloc(), 1, 3, heard(1))?)?;
+    iterated(rt)
 }

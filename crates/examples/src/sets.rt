@@ -1,77 +1,47 @@
-//! Sets: ranges from both ends, complements.
-use crate::fault::Fault;
-use blaze_streams::{CheckSortedDisjoint, complement};
+//! Sets: ranges from both ends, canonical lists, the keys that a set lacks.
+use blaze_streams::complement;
 use blaze_table::RangeSetBlaze;
 use std::alloc::AllocError;
 use std::ops::RangeInclusive;
 
-/// A set of three ranges.
-fn three_ranges(rt: &HostRuntime) -> Result<RangeSetBlaze<i64>, AllocError> {
-    let given = vec![in rt.alloc(); 8..=9, 1i64..=2i64, 4..=6]?;
-    RangeSetBlaze::from_ranges(rt.alloc(), given)
-}
-
-/// The ranges of a set from both ends.
-fn ends(rt: &HostRuntime) -> Result<(), AllocError> {
-    let set = three_ranges(rt)?;
-    let mut ranges = set.ranges();
-    let _ = println!(rt; "ranges: {:?}", ranges.size_hint());
-    let (last, first) = (ranges.next_back(), ranges.next());
-    let _ = println!(rt; "{last:?} {first:?}");
-    let left = ranges.len();
-    let (last, first) = (ranges.next_back(), ranges.next());
-    let _ = println!(rt; "{left} left: {last:?} {first:?}");
-    Ok(())
-}
-
-/// The ranges of a set by value from both ends.
-fn ends_by_value(rt: &HostRuntime) -> Result<(), AllocError> {
-    let set = three_ranges(rt)?;
-    let mut taken = set.into_ranges();
-    let _ = println!(rt; "into_ranges: {:?}", taken.size_hint());
+/// Prints what is left of three ranges from both ends.
+fn ends<I: DoubleEndedIterator<Item = RangeInclusive<u8>> + Drop>(
+    rt: &HostRuntime,
+    call: &str,
+    mut ranges: I,
+)
+    requires next { (s : I) → I.can_next s }
+    requires next_back { (s : I) → I.can_next_back s }
+{
+    let _ = println!(rt; "{call}: {:?}", ranges.size_hint());
     for _ in 0..2u8 {
-        let (first, last) = (taken.next(), taken.next_back());
-        let _ = println!(rt; "{first:?} {last:?}");
+        let _ = println!(rt; "{:?} {:?}", ranges.next_back(), ranges.next());
     }
-    canonical_ranges(rt)
 }
 
 /// A set of a canonical list.
-fn canonical_ranges(rt: &HostRuntime) -> Result<(), AllocError> {
-    let ranges = vec![in rt.alloc(); 1i64..=2i64, 4..=5]?;
+fn canonical(rt: &HostRuntime) -> Result<(), AllocError> {
+    let ranges = vec![in rt.alloc(); 1u8..=2, 4..=5]?;
     let set = RangeSetBlaze::from_canonical(rt.alloc(), ranges)?;
-    let _ = println!(rt;
-        "{set}: {} ranges, {} {}",
-        set.ranges_len(),
-        set.contains(5),
-        set.contains(3)
-    );
-    let table = set.as_table();
-    let _ = println!(rt; "as_table: {:?} {:?}", table.find(5), table.next_above(2));
+    let _ = println!(rt; "{set}: {:?}", set.as_table().find(5));
     Ok(())
 }
 
-/// Prints the keys that a set lacks.
-fn lacking(rt: &HostRuntime, ranges: Vec<RangeInclusive<u8>>) -> Result<(), Fault> {
-    let set = CheckSortedDisjoint::new(ranges)?;
-    let _ = println!(rt; "complement");
-    for range in complement(rt.alloc(), set)? {
-        let _ = println!(rt; "{range:?}");
+/// The keys that a set lacks.
+fn lacking(rt: &HostRuntime, set: &RangeSetBlaze<u8>) -> Result<(), AllocError> {
+    for range in complement(rt.alloc(), set.ranges())? {
+        let _ = println!(rt; "complement: {range:?}");
     }
     Ok(())
 }
 
-/// The keys that sets lack.
-fn complements(rt: &HostRuntime) -> Result<(), Fault> {
-    lacking(rt, vec![in rt.alloc(); 10..=25, 30..=40]?)?;
-    lacking(rt, Vec::new(rt.alloc()))?;
-    lacking(rt, vec![in rt.alloc(); 0..=255]?)
-}
-
 /// Makes all calls of this file.
-pub fn all(rt: &HostRuntime) -> Result<(), Fault> {
-    ends(rt)?;
-    ends_by_value(rt)?;
-    complements(rt)?;
+pub fn all(rt: &HostRuntime) -> Result<(), AllocError> {
+    canonical(rt)?;
+    let given = vec![in rt.alloc(); 8..=9, 1u8..=2, 4..=6]?;
+    let set = RangeSetBlaze::from_ranges(rt.alloc(), given)?;
+    lacking(rt, &set)?;
+    ends(rt, "ranges", set.ranges());
+    ends(rt, "into_ranges", set.into_ranges());
     Ok(())
 }

@@ -8,6 +8,8 @@ pub enum Fault {
     Bad,
     /// Memory was refused.
     Refused,
+    /// Memory was refused to a list of steps, behind so many of them.
+    RefusedAt(usize),
 }
 
 impl From<AllocError> for Fault {

@@ -1,28 +1,24 @@
 //! Key types, as scripts write and print them.
 use range_map_blaze::{Integer, UIntPlusOne};
 use std::alloc::AllocError;
-use std::fmt::Write;
+use std::fmt::{Debug, Write};
 use std::hash::Hash;
 use std::str::FromStr;
 
 /// A key type that a script can name.
-pub trait ScriptKey: Integer + Hash {
-    /// The key that a word writes.
-    fn read(word: &str) -> Option<Self>;
+pub trait ScriptKey: Integer<SafeLen: Debug> + Hash + FromStr<Err: Drop> {
+    /// The key that a word writes: a number of digits, after a minus at a signed type.
+    fn read(word: &str) -> Option<Self> {
+        if word.starts_with('+') {
+            return None;
+        }
+        word.parse::<Self>().ok()
+    }
 
     /// Prints a number of keys, in decimal.
-    fn print_len(len: Self::SafeLen, reply: &mut String) -> Result<(), AllocError>;
-}
-
-/// The number that a word writes: digits, after a minus at a signed type.
-fn number<N: FromStr>(word: &str) -> Option<N>
-where
-    N::Err: Drop,
-{
-    if word.starts_with('+') {
-        return None;
+    fn print_len(len: Self::SafeLen, reply: &mut String) -> Result<(), AllocError> {
+        write!(reply, "{len:?}")
     }
-    word.parse::<N>().ok()
 }
 
 /// The character that `U+` and one to six hexadecimal digits write.
@@ -42,102 +38,30 @@ fn print_wide_len(len: UIntPlusOne, reply: &mut String) -> Result<(), AllocError
     }
 }
 
-impl ScriptKey for u8 {
-    fn read(word: &str) -> Option<u8> {
-        number(word)
-    }
+impl ScriptKey for u8 {}
 
-    fn print_len(len: Self::SafeLen, reply: &mut String) -> Result<(), AllocError> {
-        write!(reply, "{len}")
-    }
-}
+impl ScriptKey for u16 {}
 
-impl ScriptKey for u16 {
-    fn read(word: &str) -> Option<u16> {
-        number(word)
-    }
+impl ScriptKey for u32 {}
 
-    fn print_len(len: Self::SafeLen, reply: &mut String) -> Result<(), AllocError> {
-        write!(reply, "{len}")
-    }
-}
+impl ScriptKey for u64 {}
 
-impl ScriptKey for u32 {
-    fn read(word: &str) -> Option<u32> {
-        number(word)
-    }
+impl ScriptKey for i8 {}
 
-    fn print_len(len: Self::SafeLen, reply: &mut String) -> Result<(), AllocError> {
-        write!(reply, "{len}")
-    }
-}
+impl ScriptKey for i16 {}
 
-impl ScriptKey for u64 {
-    fn read(word: &str) -> Option<u64> {
-        number(word)
-    }
+impl ScriptKey for i32 {}
 
-    fn print_len(len: Self::SafeLen, reply: &mut String) -> Result<(), AllocError> {
-        write!(reply, "{len}")
-    }
-}
-
-impl ScriptKey for i8 {
-    fn read(word: &str) -> Option<i8> {
-        number(word)
-    }
-
-    fn print_len(len: Self::SafeLen, reply: &mut String) -> Result<(), AllocError> {
-        write!(reply, "{len}")
-    }
-}
-
-impl ScriptKey for i16 {
-    fn read(word: &str) -> Option<i16> {
-        number(word)
-    }
-
-    fn print_len(len: Self::SafeLen, reply: &mut String) -> Result<(), AllocError> {
-        write!(reply, "{len}")
-    }
-}
-
-impl ScriptKey for i32 {
-    fn read(word: &str) -> Option<i32> {
-        number(word)
-    }
-
-    fn print_len(len: Self::SafeLen, reply: &mut String) -> Result<(), AllocError> {
-        write!(reply, "{len}")
-    }
-}
-
-impl ScriptKey for i64 {
-    fn read(word: &str) -> Option<i64> {
-        number(word)
-    }
-
-    fn print_len(len: Self::SafeLen, reply: &mut String) -> Result<(), AllocError> {
-        write!(reply, "{len}")
-    }
-}
+impl ScriptKey for i64 {}
 
 impl ScriptKey for u128 {
-    fn read(word: &str) -> Option<u128> {
-        number(word)
-    }
-
-    fn print_len(len: Self::SafeLen, reply: &mut String) -> Result<(), AllocError> {
+    fn print_len(len: UIntPlusOne, reply: &mut String) -> Result<(), AllocError> {
         print_wide_len(len, reply)
     }
 }
 
 impl ScriptKey for i128 {
-    fn read(word: &str) -> Option<i128> {
-        number(word)
-    }
-
-    fn print_len(len: Self::SafeLen, reply: &mut String) -> Result<(), AllocError> {
+    fn print_len(len: UIntPlusOne, reply: &mut String) -> Result<(), AllocError> {
         print_wide_len(len, reply)
     }
 }
@@ -145,9 +69,5 @@ impl ScriptKey for i128 {
 impl ScriptKey for char {
     fn read(word: &str) -> Option<char> {
         character(word)
-    }
-
-    fn print_len(len: Self::SafeLen, reply: &mut String) -> Result<(), AllocError> {
-        write!(reply, "{len}")
     }
 }

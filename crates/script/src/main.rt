@@ -5,6 +5,7 @@ mod calls;
 mod fault;
 mod keys;
 mod lines;
+mod print;
 mod script;
 mod state;
 mod words;
@@ -29,9 +30,13 @@ enum Asked {
     Unknown,
 }
 
-/// What the arguments ask: `mark` and a line's number are two, else there are none.
+/// What the arguments ask: `mark` and a line's number are two, else there are none. What is not text asks nothing known.
 fn read_arguments(rt: &HostRuntime) -> io::Result<Asked> {
-    let mut args = env::args(rt)?;
+    let mut args = match env::args(rt) {
+        Ok(args) => args,
+        Err(fault) if fault.kind() == io::ErrorKind::InvalidData => return Ok(Asked::Unknown),
+        Err(fault) => return Err(fault),
+    };
     let _program = args.next();
     let Some(first) = args.next() else {
         return Ok(Asked::Run);
@@ -43,8 +48,8 @@ fn read_arguments(rt: &HostRuntime) -> io::Result<Asked> {
         return Ok(Asked::Unknown);
     }
     match second.parse::<u64>() {
-        Ok(line) => Ok(Asked::Mark(line)),
-        Err(_) => Ok(Asked::Unknown),
+        Ok(line) if !second.starts_with('+') => Ok(Asked::Mark(line)),
+        _ => Ok(Asked::Unknown),
     }
 }
 

@@ -81,14 +81,13 @@ impl<R: Read + Drop> Script<R> {
 
     /// Answers the lines up to the next key type, the end or a bad line.
     fn answer_all<T: ScriptKey>(&mut self, rt: &HostRuntime) -> io::Result<Next> {
-        let alloc = rt.alloc();
-        let mut state = State::<T>::new(alloc);
+        let mut state = State::<T>::new(rt.alloc());
         for _ in 0..u64::MAX {
             let call = match self.lines.next_line()? {
                 Line::End => return Ok(Next::End(0)),
                 Line::Nothing => continue,
                 Line::Keys(key_type) => return Ok(Next::Keys(key_type)),
-                Line::Text(text) => Call::read(alloc, text),
+                Line::Text(text) => Call::read(&state, text),
                 Line::Bytes => Err(Fault::Bad),
             };
             match self.answer(rt, call, &mut state)? {
@@ -97,6 +96,7 @@ impl<R: Read + Drop> Script<R> {
                     println!(rt; "{reply}")?
                 }
                 Err(Fault::Refused) => println!(rt; "refused")?,
+                Err(Fault::RefusedAt(at)) => println!(rt; "refused at {at}")?,
                 Err(Fault::Bad) => return self.bad(rt),
             }
         }

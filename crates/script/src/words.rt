@@ -51,11 +51,8 @@ fn end_bound<T: ScriptKey>(word: &str) -> Result<Bound<T>, Fault> {
     if word.is_empty() {
         return Ok(Bound::Unbounded);
     }
-    if let Some(word) = word.strip_prefix('=') {
-        return Ok(Bound::Included(key(word)?));
-    }
-    match word.strip_prefix('<') {
-        Some(word) => Ok(Bound::Excluded(key(word)?)),
-        None => Ok(Bound::Excluded(key(word)?)),
+    match word.strip_prefix('=') {
+        Some(word) => Ok(Bound::Included(key(word)?)),
+        None => Ok(Bound::Excluded(key(word.strip_prefix('<').unwrap_or(word))?)),
     }
 }

@@ -1,10 +1,10 @@
 //! `a insert K V` and kin: calls that change one map.
 use crate::fault::Fault;
 use crate::keys::ScriptKey;
+use crate::print::print_made;
 use crate::state::Map;
 use crate::words::{bounds, key, value};
-use std::alloc::Global;
-use std::fmt::Write;
+use std::alloc::{AllocError, Global};
 use std::ops::Bound;
 
 /// What changes one map.
@@ -29,38 +29,43 @@ impl<T: ScriptKey> Change<T> {
                 Ok(Change::RangesInsert(bounds(word)?, value(alloc, text)?))
             }
             ["remove", word] => Ok(Change::Remove(key(word)?)),
-            ["pop_first"] => Ok(Change::PopFirst),
-            ["pop_last"] => Ok(Change::PopLast),
-            ["clear"] => Ok(Change::Clear),
             ["retain", text] => Ok(Change::Retain(value(alloc, text)?)),
             ["ranges_retain", text] => Ok(Change::RangesRetain(value(alloc, text)?)),
+            [word] => Self::read_bare(word),
+            _ => Err(Fault::Bad),
+        }
+    }
+
+    /// The change that one word asks for.
+    fn read_bare(word: &str) -> Result<Self, Fault> {
+        match word {
+            "pop_first" => Ok(Change::PopFirst),
+            "pop_last" => Ok(Change::PopLast),
+            "clear" => Ok(Change::Clear),
             _ => Err(Fault::Bad),
         }
     }
 
     /// Makes the call, and prints its answer.
-    pub fn make(self, map: &mut Map<T>, reply: &mut String) -> Result<(), Fault> {
+    pub fn make(self, map: &mut Map<T>, reply: &mut String) -> Result<(), AllocError> {
         match self {
-            Change::Insert(key, value) => write!(reply, "{:?}", map.insert(key, value)?)?,
-            Change::RangesInsert(range, value) => {
-                write!(reply, "{}", map.ranges_insert(range, value)?)?
-            }
-            Change::Remove(key) => write!(reply, "{:?}", map.remove(key)?)?,
-            Change::PopFirst => write!(reply, "{:?}", map.pop_first()?)?,
-            Change::PopLast => write!(reply, "{:?}", map.pop_last()?)?,
+            Change::Insert(key, value) => print_made(map.insert(key, value), reply),
+            Change::RangesInsert(range, value) => print_made(
+                map.ranges_insert(range, value),
+                reply,
+            ),
+            Change::Remove(key) => print_made(map.remove(key), reply),
+            Change::PopFirst => print_made(map.pop_first(), reply),
+            Change::PopLast => print_made(map.pop_last(), reply),
             Change::Clear => {
                 map.clear();
-                reply.push_str("()")?
+                print_made(Ok(()), reply)
             }
-            Change::Retain(kept) => {
-                map.retain(|_, value| *value == kept)?;
-                reply.push_str("()")?
-            }
+            Change::Retain(kept) => print_made(map.retain(|_, value| *value == kept), reply),
             Change::RangesRetain(kept) => {
                 map.ranges_retain(|_, value| *value == kept);
-                reply.push_str("()")?
+                print_made(Ok(()), reply)
             }
         }
-        Ok(())
     }
 }

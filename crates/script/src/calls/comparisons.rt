@@ -1,8 +1,9 @@
 //! `a == b` and kin: two maps compared.
 use crate::fault::Fault;
 use crate::keys::ScriptKey;
+use crate::print::print;
 use crate::state::{Map, MapName, State};
-use std::fmt::Write;
+use std::alloc::AllocError;
 use std::hash::{DefaultHasher, Hash, Hasher};
 
 /// How two maps are compared.
@@ -13,11 +14,10 @@ enum Kind {
     HashesAs,
 }
 
-/// Two maps, perhaps one, that are compared.
+/// A map, perhaps the same, with which one is compared.
 #[derive(Clone, Copy)]
 pub struct Comparison {
     kind: Kind,
-    map: MapName,
     other: MapName,
 }
 
@@ -30,7 +30,7 @@ fn hash_of<T: ScriptKey>(map: &Map<T>) -> u64 {
 
 impl Comparison {
     /// What the words behind a map's name ask for.
-    pub fn read(map: MapName, words: &[&str]) -> Result<Self, Fault> {
+    pub fn read(words: &[&str]) -> Result<Self, Fault> {
         let [call, other] = words else {
             return Err(Fault::Bad);
         };
@@ -41,17 +41,21 @@ impl Comparison {
             _ => return Err(Fault::Bad),
         };
         let other = MapName::read(other)?;
-        Ok(Comparison { kind, map, other })
+        Ok(Comparison { kind, other })
     }
 
     /// Makes the call, and prints its answer.
-    pub fn make<T: ScriptKey>(self, state: &State<T>, reply: &mut String) -> Result<(), Fault> {
-        let (map, other) = (state.map(self.map), state.map(self.other));
+    pub fn make<T: ScriptKey>(
+        self,
+        map: &Map<T>,
+        state: &State<T>,
+        reply: &mut String,
+    ) -> Result<(), AllocError> {
+        let other = state.map(self.other);
         match self.kind {
-            Kind::Equals => write!(reply, "{}", *map == *other)?,
-            Kind::Cmp => write!(reply, "{:?}", map.cmp(other))?,
-            Kind::HashesAs => write!(reply, "{}", hash_of(map) == hash_of(other))?,
+            Kind::Equals => print(*map == *other, reply),
+            Kind::Cmp => print(map.cmp(other), reply),
+            Kind::HashesAs => print(hash_of(map) == hash_of(other), reply),
         }
-        Ok(())
     }
 }

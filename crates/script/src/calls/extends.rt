@@ -1,9 +1,10 @@
 //! `a extend_points K V ..` and kin: pairs painted in order.
 use crate::fault::Fault;
 use crate::keys::ScriptKey;
+use crate::print::print_made;
 use crate::state::Map;
 use crate::words::{inclusive, key, value};
-use std::alloc::Global;
+use std::alloc::{AllocError, Global};
 use std::ops::RangeInclusive;
 
 /// Pairs that are painted in order.
@@ -25,15 +26,13 @@ impl<T: ScriptKey> Extend<T> {
         }
     }
 
-    /// Makes the call.
-    pub fn make(self, map: &mut Map<T>, reply: &mut String) -> Result<(), Fault> {
+    /// Makes the call, and prints its answer.
+    pub fn make(self, map: &mut Map<T>, reply: &mut String) -> Result<(), AllocError> {
         match self {
-            Extend::Points(pairs) => map.extend_points(pairs)?,
-            Extend::Ranges(pairs) => map.extend_ranges(pairs)?,
-            Extend::Simple(pairs) => map.extend_simple(pairs)?,
+            Extend::Points(pairs) => print_made(map.extend_points(pairs), reply),
+            Extend::Ranges(pairs) => print_made(map.extend_ranges(pairs), reply),
+            Extend::Simple(pairs) => print_made(map.extend_simple(pairs), reply),
         }
-        reply.push_str("()")?;
-        Ok(())
     }
 }
 

@@ -30,20 +30,12 @@ impl<T: ScriptKey> FromPairs<T> {
         let [call, pairs @ ..] = words else {
             return Err(Fault::Bad);
         };
-        let form = match *call {
-            "from_points" | "from_ranges" => Form::Owned,
-            "from_points_ref_value" | "from_ranges_ref_value" => Form::RefValue,
-            "from_ref_points" | "from_ref_ranges" => Form::Ref,
-            "from_ref_points_ref_value" | "from_ref_ranges_ref_value" => Form::RefRefValue,
-            "from_array" => return Ok(FromPairs::Array(points(alloc, pairs)?)),
-            _ => return Err(Fault::Bad),
-        };
-        match *call {
-            "from_points"
-            | "from_points_ref_value"
-            | "from_ref_points"
-            | "from_ref_points_ref_value" => { Ok(FromPairs::Points(form, points(alloc, pairs)?)) }
-            _ => Ok(FromPairs::Ranges(form, ranges(alloc, pairs)?)),
+        if *call == "from_array" {
+            return Ok(FromPairs::Array(points(alloc, pairs)?));
+        }
+        match point_form(call) {
+            Some(form) => Ok(FromPairs::Points(form, points(alloc, pairs)?)),
+            None => Ok(FromPairs::Ranges(range_form(call)?, ranges(alloc, pairs)?)),
         }
     }
 
@@ -56,6 +48,28 @@ impl<T: ScriptKey> FromPairs<T> {
             FromPairs::Ranges(form, pairs) => Ok(of_lent_ranges(alloc, form, &pairs)?),
             FromPairs::Array(pairs) => of_three(alloc, pairs),
         }
+    }
+}
+
+/// How a call is given keys with values.
+fn point_form(call: &str) -> Option<Form> {
+    match call {
+        "from_points" => Some(Form::Owned),
+        "from_points_ref_value" => Some(Form::RefValue),
+        "from_ref_points" => Some(Form::Ref),
+        "from_ref_points_ref_value" => Some(Form::RefRefValue),
+        _ => None,
+    }
+}
+
+/// How a call is given ranges with values.
+fn range_form(call: &str) -> Result<Form, Fault> {
+    match call {
+        "from_ranges" => Ok(Form::Owned),
+        "from_ranges_ref_value" => Ok(Form::RefValue),
+        "from_ref_ranges" => Ok(Form::Ref),
+        "from_ref_ranges_ref_value" => Ok(Form::RefRefValue),
+        _ => Err(Fault::Bad),
     }
 }
 

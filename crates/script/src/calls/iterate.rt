@@ -37,32 +37,28 @@ fn steps(alloc: Global, word: &str) -> Result<Vec<Step>, Fault> {
 /// An iterator of a map.
 #[derive(Clone, Copy)]
 enum Kind<T: ScriptKey> {
-    Iter,
+    Lent(Over),
+    Taking(Over),
+    Range((Bound<T>, Bound<T>)),
+}
+
+/// What an iterator gives.
+#[derive(Clone, Copy, PartialEq, Eq)]
+enum Over {
+    Pairs,
     Keys,
     Values,
     RangeValues,
     Ranges,
-    IntoIter,
-    IntoKeys,
-    IntoValues,
-    IntoRangeValues,
-    IntoRanges,
-    Range((Bound<T>, Bound<T>)),
 }
 
 impl<T: ScriptKey> Kind<T> {
     fn read(words: &[&str]) -> Result<Self, Fault> {
         match words {
-            ["iter"] => Ok(Kind::Iter),
-            ["keys"] => Ok(Kind::Keys),
-            ["values"] => Ok(Kind::Values),
-            ["range_values"] => Ok(Kind::RangeValues),
-            ["ranges"] => Ok(Kind::Ranges),
-            ["into_iter"] => Ok(Kind::IntoIter),
-            ["into_keys"] => Ok(Kind::IntoKeys),
-            ["into_values"] => Ok(Kind::IntoValues),
-            ["into_range_values"] => Ok(Kind::IntoRangeValues),
-            ["into_ranges"] => Ok(Kind::IntoRanges),
+            [call] => match call.strip_prefix("into_") {
+                Some(call) => Ok(Kind::Taking(Over::read(call)?)),
+                None => Ok(Kind::Lent(Over::read(call)?)),
+            },
             ["range", range] => Ok(Kind::Range(bounds(range)?)),
             _ => Err(Fault::Bad),
         }
@@ -70,7 +66,52 @@ impl<T: ScriptKey> Kind<T> {
 
     /// Whether the iterator goes forward alone.
     fn is_forward(self) -> bool {
-        matches!(self, Kind::Ranges | Kind::IntoRanges)
+        matches!(self, Kind::Lent(Over::Ranges) | Kind::Taking(Over::Ranges))
+    }
+}
+
+impl Over {
+    fn read(word: &str) -> Result<Self, Fault> {
+        match word {
+            "iter" => Ok(Over::Pairs),
+            "keys" => Ok(Over::Keys),
+            "values" => Ok(Over::Values),
+            "range_values" => Ok(Over::RangeValues),
+            "ranges" => Ok(Over::Ranges),
+            _ => Err(Fault::Bad),
+        }
+    }
+
+    /// Makes calls of an iterator over a lent map.
+    fn walk_lent<T: ScriptKey>(
+        self,
+        map: &Map<T>,
+        steps: &[Step],
+        reply: &mut String,
+    ) -> Result<(), AllocError> {
+        match self {
+            Over::Pairs => walk(map.iter(), steps, reply),
+            Over::Keys => walk(map.keys(), steps, reply),
+            Over::Values => walk_values(map, map.values(), steps, reply),
+            Over::RangeValues => walk(map.range_values(), steps, reply),
+            Over::Ranges => walk_forward(map.ranges(), steps.len(), reply),
+        }
+    }
+
+    /// Makes calls of an iterator that takes the map.
+    fn walk_taking<T: ScriptKey>(
+        self,
+        map: Map<T>,
+        steps: &[Step],
+        reply: &mut String,
+    ) -> Result<(), AllocError> {
+        match self {
+            Over::Pairs => walk_owned(map.into_iter(), steps, reply),
+            Over::Keys => walk(map.into_keys(), steps, reply),
+            Over::Values => walk_owned(map.into_values(), steps, reply),
+            Over::RangeValues => walk(map.into_range_values()?, steps, reply),
+            Over::Ranges => walk_forward(map.into_ranges(), steps.len(), reply),
+        }
     }
 }
 
@@ -102,42 +143,26 @@ impl<T: ScriptKey> Iterate<T> {
         state: &mut State<T>,
         reply: &mut String,
     ) -> Result<(), Fault> {
-        let Iterate { kind, steps } = self;
-        let steps = steps.as_slice();
-        let map = state.map(name);
-        match kind {
-            Kind::Iter => walk(map.iter(), steps, reply)?,
-            Kind::Keys => walk(map.keys(), steps, reply)?,
-            Kind::Values => walk_lent(map, map.values(), steps, reply)?,
-            Kind::RangeValues => walk(map.range_values(), steps, reply)?,
-            Kind::Ranges => walk_forward(map.ranges(), steps.len(), reply)?,
-            Kind::Range(range) => {
-                if !names_a_key(&range) {
-                    return Err(Fault::Bad);
-                }
-                walk_owned(map.range(range)?, steps, reply)?
-            }
-            _ => Self::make_taking(kind, state.take_map(name), steps, reply)?,
+        let steps = self.steps.as_slice();
+        match self.kind {
+            Kind::Lent(over) => Ok(over.walk_lent(state.map(name), steps, reply)?),
+            Kind::Taking(over) => Ok(over.walk_taking(state.take_map(name), steps, reply)?),
+            Kind::Range(range) => walk_range(state.map(name), range, steps, reply),
         }
-        Ok(())
     }
+}
 
-    /// The same for an iterator that takes the map.
-    fn make_taking(
-        kind: Kind<T>,
-        map: Map<T>,
-        steps: &[Step],
-        reply: &mut String,
-    ) -> Result<(), Fault> {
-        match kind {
-            Kind::IntoIter => walk_owned(map.into_iter(), steps, reply)?,
-            Kind::IntoKeys => walk(map.into_keys(), steps, reply)?,
-            Kind::IntoValues => walk_owned(map.into_values(), steps, reply)?,
-            Kind::IntoRangeValues => walk(map.into_range_values()?, steps, reply)?,
-            _ => walk_forward(map.into_ranges(), steps.len(), reply)?,
-        }
-        Ok(())
+/// Makes calls of the iterator over the pairs within bounds; bounds that name no key are bad.
+fn walk_range<T: ScriptKey>(
+    map: &Map<T>,
+    range: (Bound<T>, Bound<T>),
+    steps: &[Step],
+    reply: &mut String,
+) -> Result<(), Fault> {
+    if !names_a_key(&range) {
+        return Err(Fault::Bad);
     }
+    Ok(walk_owned(map.range(range)?, steps, reply)?)
 }
 
 /// Makes calls of an iterator.
@@ -164,7 +189,7 @@ fn walk<X: Debug + Drop, I: DoubleEndedIterator<Item = X> + Drop>(
 }
 
 /// Makes calls of an iterator whose items are lent as long as a map.
-fn walk_lent<'a, T: ScriptKey, I: DoubleEndedIterator<Item = &'a String> + Drop>(
+fn walk_values<'a, T: ScriptKey, I: DoubleEndedIterator<Item = &'a String> + Drop>(
     _lent: &'a Map<T>,
     iter: I,
     steps: &[Step],

@@ -41,12 +41,8 @@ pub fn answer(alloc: Global, made: Result<String, AllocError>, is_refused: &mut 
 pub fn unless_refused<T: ScriptKey>(
     made: Result<Map<T>, AllocError>,
     is_refused: bool,
-) -> Result<Map<T>, Fault> {
-    let map = made?;
-    if is_refused {
-        return Err(Fault::Refused);
-    }
-    Ok(map)
+) -> Result<Map<T>, AllocError> {
+    if is_refused { Err(AllocError) } else { made }
 }
 
 /// At which keys the words of two maps are joined.
@@ -85,7 +81,7 @@ impl Join {
     }
 
     /// Makes the call.
-    pub fn make<T: ScriptKey>(self, state: &State<T>) -> Result<Map<T>, Fault> {
+    pub fn make<T: ScriptKey>(self, state: &State<T>) -> Result<Map<T>, AllocError> {
         let alloc = state.alloc;
         let (left, right) = (state.map(self.left), state.map(self.right));
         let mut is_refused = false;
@@ -109,7 +105,7 @@ impl Join {
 }
 
 /// The first characters of the words of a map, on its keys.
-pub fn first_characters<T: ScriptKey>(alloc: Global, map: &Map<T>) -> Result<Map<T>, Fault> {
+pub fn first_characters<T: ScriptKey>(alloc: Global, map: &Map<T>) -> Result<Map<T>, AllocError> {
     let mut is_refused = false;
     let made = map.transform_values(|word| {
         answer(alloc, first_character(alloc, word), &mut is_refused)

@@ -1,19 +1,33 @@
 //! `a get K` and kin: calls that read one map.
 use crate::fault::Fault;
 use crate::keys::ScriptKey;
+use crate::print::{print, print_made};
 use crate::state::Map;
 use crate::words::key;
+use std::alloc::AllocError;
 use std::fmt::Write;
 
 /// What is asked of one map.
 #[derive(Clone, Copy, Drop)]
 pub enum LookUp<T: ScriptKey> {
-    Get(T),
-    GetKeyValue(T),
-    ContainsKey(T),
-    Index(T),
-    RangeAt(T),
-    RangeOrGapAt(T),
+    AtKey(AtKey, T),
+    OfWhole(OfWhole),
+}
+
+/// What is asked of a map at a key.
+#[derive(Clone, Copy)]
+pub enum AtKey {
+    Get,
+    GetKeyValue,
+    ContainsKey,
+    Index,
+    RangeAt,
+    RangeOrGapAt,
+}
+
+/// What is asked of a map alone.
+#[derive(Clone, Copy)]
+pub enum OfWhole {
     FirstKeyValue,
     LastKeyValue,
     Len,
@@ -29,21 +43,8 @@ impl<T: ScriptKey> LookUp<T> {
     /// The look-up that the words behind a map's name ask for.
     pub fn read(words: &[&str]) -> Result<Self, Fault> {
         match words {
-            ["get", word] => Ok(LookUp::Get(key(word)?)),
-            ["get_key_value", word] => Ok(LookUp::GetKeyValue(key(word)?)),
-            ["contains_key", word] => Ok(LookUp::ContainsKey(key(word)?)),
-            ["index", word] => Ok(LookUp::Index(key(word)?)),
-            ["range_at", word] => Ok(LookUp::RangeAt(key(word)?)),
-            ["range_or_gap_at", word] => Ok(LookUp::RangeOrGapAt(key(word)?)),
-            ["first_key_value"] => Ok(LookUp::FirstKeyValue),
-            ["last_key_value"] => Ok(LookUp::LastKeyValue),
-            ["len"] => Ok(LookUp::Len),
-            ["is_empty"] => Ok(LookUp::IsEmpty),
-            ["is_universal"] => Ok(LookUp::IsUniversal),
-            ["ranges_len"] => Ok(LookUp::RangesLen),
-            ["list"] => Ok(LookUp::List),
-            ["fill_gaps"] => Ok(LookUp::FillGaps),
-            ["debug"] => Ok(LookUp::Debug),
+            [call, word] => Ok(LookUp::AtKey(AtKey::read(call)?, key(word)?)),
+            [call] => Ok(LookUp::OfWhole(OfWhole::read(call)?)),
             _ => Err(Fault::Bad),
         }
     }
@@ -51,27 +52,77 @@ impl<T: ScriptKey> LookUp<T> {
     /// Makes the call, and prints its answer.
     pub fn make(self, map: &Map<T>, reply: &mut String) -> Result<(), Fault> {
         match self {
-            LookUp::Get(key) => write!(reply, "{:?}", map.get(key))?,
-            LookUp::GetKeyValue(key) => write!(reply, "{:?}", map.get_key_value(key))?,
-            LookUp::ContainsKey(key) => write!(reply, "{}", map.contains_key(key))?,
-            LookUp::Index(key) => {
-                if !map.contains_key(key) {
-                    return Err(Fault::Bad);
-                }
-                write!(reply, "{:?}", map[key])?
-            }
-            LookUp::RangeAt(key) => write!(reply, "{:?}", map.range_at(key))?,
-            LookUp::RangeOrGapAt(key) => write!(reply, "{:?}", map.range_or_gap_at(key))?,
-            LookUp::FirstKeyValue => write!(reply, "{:?}", map.first_key_value())?,
-            LookUp::LastKeyValue => write!(reply, "{:?}", map.last_key_value())?,
-            LookUp::Len => T::print_len(map.len(), reply)?,
-            LookUp::IsEmpty => write!(reply, "{}", map.is_empty())?,
-            LookUp::IsUniversal => write!(reply, "{}", map.is_universal())?,
-            LookUp::RangesLen => write!(reply, "{}", map.ranges_len())?,
-            LookUp::List => write!(reply, "{map}")?,
-            LookUp::FillGaps => write!(reply, "{}", map.fill_gaps()?)?,
-            LookUp::Debug => write!(reply, "{map:?}")?,
+            LookUp::AtKey(AtKey::Index, key) => index(map, key, reply),
+            LookUp::AtKey(call, key) => Ok(call.make(map, key, reply)?),
+            LookUp::OfWhole(call) => Ok(call.make(map, reply)?),
         }
-        Ok(())
+    }
+}
+
+/// Prints the value at a key; a key without one is bad.
+fn index<T: ScriptKey>(map: &Map<T>, key: T, reply: &mut String) -> Result<(), Fault> {
+    if !map.contains_key(key) {
+        return Err(Fault::Bad);
+    }
+    Ok(print(&map[key], reply)?)
+}
+
+impl AtKey {
+    fn read(word: &str) -> Result<Self, Fault> {
+        match word {
+            "get" => Ok(AtKey::Get),
+            "get_key_value" => Ok(AtKey::GetKeyValue),
+            "contains_key" => Ok(AtKey::ContainsKey),
+            "index" => Ok(AtKey::Index),
+            "range_at" => Ok(AtKey::RangeAt),
+            "range_or_gap_at" => Ok(AtKey::RangeOrGapAt),
+            _ => Err(Fault::Bad),
+        }
+    }
+
+    fn make<T: ScriptKey>(
+        self,
+        map: &Map<T>,
+        key: T,
+        reply: &mut String,
+    ) -> Result<(), AllocError> {
+        match self {
+            AtKey::Get | AtKey::Index => print(map.get(key), reply),
+            AtKey::GetKeyValue => print(map.get_key_value(key), reply),
+            AtKey::ContainsKey => print(map.contains_key(key), reply),
+            AtKey::RangeAt => print(map.range_at(key), reply),
+            AtKey::RangeOrGapAt => print(map.range_or_gap_at(key), reply),
+        }
+    }
+}
+
+impl OfWhole {
+    fn read(word: &str) -> Result<Self, Fault> {
+        match word {
+            "first_key_value" => Ok(OfWhole::FirstKeyValue),
+            "last_key_value" => Ok(OfWhole::LastKeyValue),
+            "len" => Ok(OfWhole::Len),
+            "is_empty" => Ok(OfWhole::IsEmpty),
+            "is_universal" => Ok(OfWhole::IsUniversal),
+            "ranges_len" => Ok(OfWhole::RangesLen),
+            "list" => Ok(OfWhole::List),
+            "fill_gaps" => Ok(OfWhole::FillGaps),
+            "debug" => Ok(OfWhole::Debug),
+            _ => Err(Fault::Bad),
+        }
+    }
+
+    fn make<T: ScriptKey>(self, map: &Map<T>, reply: &mut String) -> Result<(), AllocError> {
+        match self {
+            OfWhole::FirstKeyValue => print(map.first_key_value(), reply),
+            OfWhole::LastKeyValue => print(map.last_key_value(), reply),
+            OfWhole::Len => T::print_len(map.len(), reply),
+            OfWhole::IsEmpty => print(map.is_empty(), reply),
+            OfWhole::IsUniversal => print(map.is_universal(), reply),
+            OfWhole::RangesLen => print(map.ranges_len(), reply),
+            OfWhole::List => write!(reply, "{map}"),
+            OfWhole::FillGaps => print_made(map.fill_gaps(), reply),
+            OfWhole::Debug => print(map, reply),
+        }
     }
 }

@@ -1,10 +1,11 @@
 //! `c = clone a` and kin: a map made of one map or of a value.
 use crate::calls::joins::first_characters;
+use crate::calls::other_maps::other_map;
 use crate::fault::Fault;
 use crate::keys::ScriptKey;
 use crate::state::{Map, MapName, State};
 use crate::words::{key, value};
-use std::alloc::Global;
+use std::alloc::{AllocError, Global};
 
 /// How a map is made.
 #[derive(Drop)]
@@ -26,25 +27,19 @@ impl<T: ScriptKey> Make<T> {
                 Ok(Make::ComplementWith(MapName::read(map)?, value(alloc, text)?))
             }
             ["universe_with", text] => Ok(Make::UniverseWith(value(alloc, text)?)),
-            [map, "split_off", word] => {
-                let map = MapName::read(map)?;
-                if map == target {
-                    return Err(Fault::Bad);
-                }
-                Ok(Make::SplitOff(map, key(word)?))
-            }
+            [map, "split_off", word] => { Ok(Make::SplitOff(other_map(target, map)?, key(word)?)) }
             _ => Err(Fault::Bad),
         }
     }
 
     /// Makes the call.
-    pub fn make(self, state: &mut State<T>) -> Result<Map<T>, Fault> {
+    pub fn make(self, state: &mut State<T>) -> Result<Map<T>, AllocError> {
         match self {
-            Make::Clone(map) => Ok(state.map(map).clone()?),
-            Make::ComplementWith(map, value) => Ok(state.map(map).complement_with(&value)?),
-            Make::UniverseWith(value) => Ok(Map::universe_with(state.alloc, &value)?),
+            Make::Clone(map) => state.map(map).clone(),
+            Make::ComplementWith(map, value) => state.map(map).complement_with(&value),
+            Make::UniverseWith(value) => Map::universe_with(state.alloc, &value),
             Make::TransformValues(map) => first_characters(state.alloc, state.map(map)),
-            Make::SplitOff(map, key) => Ok(state.map_mut(map).split_off(key)?),
+            Make::SplitOff(map, key) => state.map_mut(map).split_off(key),
         }
     }
 }

@@ -46,13 +46,31 @@ impl Many {
     pub fn make<T: ScriptKey>(self, state: &State<T>) -> Result<Map<T>, Fault> {
         let lent = lent_maps(state, &self.maps)?;
         match self.kind {
-            Kind::Union => Ok(lent.union(state.alloc)?),
-            Kind::Intersection if lent.is_empty() => Err(Fault::Bad),
-            Kind::Intersection => Ok(lent.intersection(state.alloc)?),
-            Kind::SymmetricDifference => Ok(lent.symmetric_difference(state.alloc)?),
-            Kind::InnerJoin => inner_join(state.alloc, lent),
-            Kind::FullJoin => full_join(state.alloc, lent),
+            Kind::Intersection => intersection(state.alloc, lent),
+            kind => Ok(combined(state.alloc, kind, lent)?),
         }
+    }
+}
+
+/// The intersection of at least one map; that of no map is bad.
+fn intersection<T: ScriptKey>(alloc: Global, maps: Vec<&Map<T>>) -> Result<Map<T>, Fault> {
+    if maps.is_empty() {
+        return Err(Fault::Bad);
+    }
+    Ok(maps.intersection(alloc)?)
+}
+
+/// An operation between any number of maps, other than an intersection.
+fn combined<T: ScriptKey>(
+    alloc: Global,
+    kind: Kind,
+    maps: Vec<&Map<T>>,
+) -> Result<Map<T>, AllocError> {
+    match kind {
+        Kind::Union | Kind::Intersection => maps.union(alloc),
+        Kind::SymmetricDifference => maps.symmetric_difference(alloc),
+        Kind::InnerJoin => inner_join(alloc, maps),
+        Kind::FullJoin => full_join(alloc, maps),
     }
 }
 
@@ -111,7 +129,7 @@ fn present_joined(alloc: Global, row: &[Option<&String>]) -> Result<String, Allo
 }
 
 /// The words where all maps have one, joined.
-fn inner_join<T: ScriptKey>(alloc: Global, maps: Vec<&Map<T>>) -> Result<Map<T>, Fault> {
+fn inner_join<T: ScriptKey>(alloc: Global, maps: Vec<&Map<T>>) -> Result<Map<T>, AllocError> {
     let mut is_refused = false;
     let made = maps.inner_join(
         alloc,
@@ -121,7 +139,7 @@ fn inner_join<T: ScriptKey>(alloc: Global, maps: Vec<&Map<T>>) -> Result<Map<T>,
 }
 
 /// The words where at least one map has one, joined.
-fn full_join<T: ScriptKey>(alloc: Global, maps: Vec<&Map<T>>) -> Result<Map<T>, Fault> {
+fn full_join<T: ScriptKey>(alloc: Global, maps: Vec<&Map<T>>) -> Result<Map<T>, AllocError> {
     let mut is_refused = false;
     let made = maps.full_join(alloc, |row| {
         answer(alloc, present_joined(alloc, row), &mut is_refused)
@@ -143,36 +161,36 @@ impl Sweep {
     }
 
     /// Makes the call, and prints the events, joined by a semicolon and a space.
-    pub fn make<T: ScriptKey>(self, state: &State<T>, reply: &mut String) -> Result<(), Fault> {
-        let lent = lent_maps(state, &self.maps)?;
-        print_sweep(state.alloc, &lent, reply)
+    pub fn make<T: ScriptKey>(
+        self,
+        state: &State<T>,
+        reply: &mut String,
+    ) -> Result<(), AllocError> {
+        let mut streams = Vec::new(state.alloc);
+        for name in self.maps {
+            streams.push(state.map(name).range_values())?;
+        }
+        let mut lead = "";
+        for event in streams.sweep(state.alloc)? {
+            reply.push_str(lead)?;
+            print_event(event, reply)?;
+            lead = "; ";
+        }
+        Ok(())
     }
 }
 
-/// Prints the events of a sweep over maps.
-fn print_sweep<T: ScriptKey>(
-    alloc: Global,
-    maps: &[&Map<T>],
+/// Prints an event of a sweep.
+fn print_event<T: ScriptKey>(
+    event: SweepEvent<T, &String>,
     reply: &mut String,
-) -> Result<(), Fault> {
-    let mut streams = Vec::new(alloc);
-    for map in maps {
-        streams.push(map.range_values())?;
+) -> Result<(), AllocError> {
+    match event {
+        SweepEvent::Start {
+            range,
+            input,
+            value,
+        } => write!(reply, "Start({range:?}, {input}, {value:?})"),
+        SweepEvent::End { last, input } => write!(reply, "End({last:?}, {input})"),
     }
-    let mut is_first = true;
-    for event in streams.sweep(alloc)? {
-        if !is_first {
-            reply.push_str("; ")?;
-        }
-        is_first = false;
-        match event {
-            SweepEvent::Start {
-                range,
-                input,
-                value,
-            } => write!(reply, "Start({range:?}, {input}, {value:?})")?,
-            SweepEvent::End { last, input } => write!(reply, "End({last:?}, {input})")?,
-        }
-    }
-    Ok(())
 }

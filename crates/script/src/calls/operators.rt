@@ -7,7 +7,7 @@ use std::alloc::AllocError;
 
 /// An operand's name, and whether it is lent.
 #[derive(Clone, Copy)]
-pub struct Operand<N> {
+struct Operand<N> {
     name: N,
     is_lent: bool,
 }
@@ -98,7 +98,7 @@ fn difference_with_set<T: ScriptKey>(
 
 /// An operator between maps.
 #[derive(Clone, Copy)]
-pub enum Operator {
+enum Operator {
     Or,
     And,
     Minus,
@@ -117,12 +117,19 @@ impl Operator {
     }
 }
 
+/// The right operand.
+#[derive(Clone, Copy)]
+enum Right {
+    Map(Operand<MapName>),
+    Set(Operand<SetName>),
+}
+
 /// An operator between two maps, or a map and a set.
 #[derive(Clone, Copy)]
-pub enum Operation {
-    Maps(Operand<MapName>, Operator, Operand<MapName>),
-    AndSet(Operand<MapName>, Operand<SetName>),
-    MinusSet(Operand<MapName>, Operand<SetName>),
+pub struct Operation {
+    left: Operand<MapName>,
+    operator: Operator,
+    right: Right,
 }
 
 impl Operation {
@@ -132,47 +139,68 @@ impl Operation {
             return Err(Fault::Bad);
         };
         let left = Operand::<MapName>::read(left)?;
-        if let Ok(right) = Operand::<SetName>::read_set(right) {
-            return match *operator {
-                "&" => Ok(Operation::AndSet(left, right)),
-                "-" => Ok(Operation::MinusSet(left, right)),
-                _ => Err(Fault::Bad),
-            };
-        }
-        let right = Operand::<MapName>::read(right)?;
-        if left.name == right.name && !(left.is_lent && right.is_lent) {
+        let operator = Operator::read(operator)?;
+        let right = match Operand::<SetName>::read_set(right) {
+            Ok(right) => Right::Set(right),
+            Err(_) => Right::Map(Operand::<MapName>::read(right)?),
+        };
+        let is_good = match right {
+            Right::Map(right) => left.name != right.name || left.is_lent && right.is_lent,
+            Right::Set(_) => matches!(operator, Operator::And | Operator::Minus),
+        };
+        if !is_good {
             return Err(Fault::Bad);
         }
-        Ok(Operation::Maps(left, Operator::read(operator)?, right))
+        Ok(Operation {
+            left,
+            operator,
+            right,
+        })
     }
 
     /// Makes the call. An operand that is given by value is empty afterwards.
-    pub fn make<T: ScriptKey>(self, state: &mut State<T>) -> Result<Map<T>, Fault> {
-        match self {
-            Operation::Maps(left, operator, right) => {
-                let (owned_left, owned_right) = (owned(state, left), owned(state, right));
-                let left = by_value_or_lent(owned_left, state.map(left.name));
+    pub fn make<T: ScriptKey>(self, state: &mut State<T>) -> Result<Map<T>, AllocError> {
+        let owned_left = owned(state, self.left);
+        match self.right {
+            Right::Map(right) => {
+                let owned_right = owned(state, right);
+                let left = by_value_or_lent(owned_left, state.map(self.left.name));
                 let right = by_value_or_lent(owned_right, state.map(right.name));
-                Ok(match operator {
-                    Operator::Or => union(left, right)?,
-                    Operator::And => intersection(left, right)?,
-                    Operator::Minus => difference(left, right)?,
-                    Operator::Xor => symmetric_difference(left, right)?,
-                })
+                with_map(left, self.operator, right)
             }
-            Operation::AndSet(left, right) => {
-                let (owned_left, owned_right) = (owned(state, left), owned_set(state, right));
-                let left = by_value_or_lent(owned_left, state.map(left.name));
+            Right::Set(right) => {
+                let owned_right = owned_set(state, right);
+                let left = by_value_or_lent(owned_left, state.map(self.left.name));
                 let right = by_value_or_lent(owned_right, state.set(right.name));
-                Ok(intersection_with_set(left, right)?)
-            }
-            Operation::MinusSet(left, right) => {
-                let (owned_left, owned_right) = (owned(state, left), owned_set(state, right));
-                let left = by_value_or_lent(owned_left, state.map(left.name));
-                let right = by_value_or_lent(owned_right, state.set(right.name));
-                Ok(difference_with_set(left, right)?)
+                with_set(left, self.operator, right)
             }
         }
+    }
+}
+
+/// Applies an operator to two maps.
+fn with_map<T: ScriptKey>(
+    left: Given<'_, Map<T>>,
+    operator: Operator,
+    right: Given<'_, Map<T>>,
+) -> Result<Map<T>, AllocError> {
+    match operator {
+        Operator::Or => union(left, right),
+        Operator::And => intersection(left, right),
+        Operator::Minus => difference(left, right),
+        Operator::Xor => symmetric_difference(left, right),
+    }
+}
+
+/// Applies `&`, or else `-`, to a map and a set.
+fn with_set<T: ScriptKey>(
+    left: Given<'_, Map<T>>,
+    operator: Operator,
+    right: Given<'_, RangeSetBlaze<T>>,
+) -> Result<Map<T>, AllocError> {
+    match operator {
+        Operator::And => intersection_with_set(left, right),
+        _ => difference_with_set(left, right),
     }
 }
 
@@ -223,11 +251,11 @@ impl Complement {
     }
 
     /// Makes the call. A map that is given by value is empty afterwards.
-    pub fn make<T: ScriptKey>(self, state: &mut State<T>) -> Result<RangeSetBlaze<T>, Fault> {
+    pub fn make<T: ScriptKey>(self, state: &mut State<T>) -> Result<RangeSetBlaze<T>, AllocError> {
         let owned = owned(state, self.map);
         match by_value_or_lent(owned, state.map(self.map.name)) {
-            Given::Owned(map) => Ok((!map)?),
-            Given::Lent(map) => Ok((!map)?),
+            Given::Owned(map) => !map,
+            Given::Lent(map) => !map,
         }
     }
 }

@@ -1,7 +1,9 @@
 //! `a append b` and kin: another map painted over one.
 use crate::fault::Fault;
 use crate::keys::ScriptKey;
+use crate::print::print_made;
 use crate::state::{MapName, State};
+use std::alloc::AllocError;
 
 /// How another map is painted.
 #[derive(Clone, Copy)]
@@ -30,7 +32,6 @@ impl Kind {
 #[derive(Clone, Copy)]
 pub struct OtherMap {
     kind: Kind,
-    map: MapName,
     other: MapName,
 }
 
@@ -41,31 +42,36 @@ impl OtherMap {
             return Err(Fault::Bad);
         };
         let kind = Kind::read(call)?;
-        let other = MapName::read(other)?;
-        if map == other {
-            return Err(Fault::Bad);
-        }
-        Ok(OtherMap { kind, map, other })
+        let other = other_map(map, other)?;
+        Ok(OtherMap { kind, other })
     }
 
-    /// Makes the call. A map that is given by value is empty afterwards.
-    pub fn make<T: ScriptKey>(self, state: &mut State<T>, reply: &mut String) -> Result<(), Fault> {
+    /// Makes the call, and prints its answer. A map that is given by value is empty afterwards.
+    pub fn make<T: ScriptKey>(
+        self,
+        map: MapName,
+        state: &mut State<T>,
+        reply: &mut String,
+    ) -> Result<(), AllocError> {
         let mut other = state.take_map(self.other);
-        let map = state.map_mut(self.map);
-        match self.kind {
-            Kind::ExtendFrom => map.extend_from(other)?,
-            Kind::BitOrAssign => map.bitor_assign(other)?,
-            Kind::ExtendWith | Kind::BitOrAssignRef | Kind::Append => {
-                let done = match self.kind {
-                    Kind::ExtendWith => map.extend_with(&other),
-                    Kind::BitOrAssignRef => map.bitor_assign_ref(&other),
-                    _ => map.append(&mut other),
-                };
-                state.set_map(self.other, other);
-                done?
-            }
-        }
-        reply.push_str("()")?;
-        Ok(())
+        let map = state.map_mut(map);
+        let made = match self.kind {
+            Kind::ExtendFrom => return print_made(map.extend_from(other), reply),
+            Kind::BitOrAssign => return print_made(map.bitor_assign(other), reply),
+            Kind::ExtendWith => map.extend_with(&other),
+            Kind::BitOrAssignRef => map.bitor_assign_ref(&other),
+            Kind::Append => map.append(&mut other),
+        };
+        state.set_map(self.other, other);
+        print_made(made, reply)
     }
+}
+
+/// The map that a word names, which is not the one that is changed.
+pub fn other_map(map: MapName, word: &str) -> Result<MapName, Fault> {
+    let other = MapName::read(word)?;
+    if other == map {
+        return Err(Fault::Bad);
+    }
+    Ok(other)
 }

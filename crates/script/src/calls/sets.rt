@@ -1,23 +1,47 @@
 //! `s = set R ..` and kin: sets of keys.
+use crate::calls::operators::Complement;
 use crate::fault::Fault;
 use crate::keys::ScriptKey;
+use crate::print::print;
 use crate::state::{SetName, State};
 use crate::words::{inclusive, key};
 use range_map_blaze::RangeSetBlaze;
-use std::alloc::Global;
+use std::alloc::{AllocError, Global};
 use std::fmt::Write;
 use std::ops::RangeInclusive;
 
 /// The ranges that words write.
-pub fn ranges<T: ScriptKey>(
-    alloc: Global,
-    words: &[&str],
-) -> Result<Vec<RangeInclusive<T>>, Fault> {
+fn ranges<T: ScriptKey>(alloc: Global, words: &[&str]) -> Result<Vec<RangeInclusive<T>>, Fault> {
     let mut ranges = Vec::new(alloc);
     for word in words {
         ranges.push(inclusive(word)?)?;
     }
     Ok(ranges)
+}
+
+/// How a set is made.
+#[derive(Drop)]
+pub enum MakeSet<T: ScriptKey> {
+    Complement(Complement),
+    Of(Vec<RangeInclusive<T>>),
+}
+
+impl<T: ScriptKey> MakeSet<T> {
+    /// What the words behind `=` ask for.
+    pub fn read(alloc: Global, words: &[&str]) -> Result<Self, Fault> {
+        match words {
+            ["set", words @ ..] => Ok(MakeSet::Of(ranges(alloc, words)?)),
+            _ => Ok(MakeSet::Complement(Complement::read(words)?)),
+        }
+    }
+
+    /// Makes the call.
+    pub fn make(self, state: &mut State<T>) -> Result<RangeSetBlaze<T>, AllocError> {
+        match self {
+            MakeSet::Complement(complement) => complement.make(state),
+            MakeSet::Of(ranges) => RangeSetBlaze::from_ranges(state.alloc, ranges),
+        }
+    }
 }
 
 /// What is asked of a set.
@@ -44,15 +68,18 @@ impl<T: ScriptKey> SetLookUp<T> {
     }
 
     /// Makes the call, and prints its answer.
-    pub fn make(self, name: SetName, state: &State<T>, reply: &mut String) -> Result<(), Fault> {
-        let set: &RangeSetBlaze<T> = state.set(name);
+    pub fn make(
+        self,
+        set: &RangeSetBlaze<T>,
+        state: &State<T>,
+        reply: &mut String,
+    ) -> Result<(), AllocError> {
         match self {
-            SetLookUp::List => write!(reply, "{set}")?,
-            SetLookUp::Len => T::print_len(set.len(), reply)?,
-            SetLookUp::RangesLen => write!(reply, "{}", set.ranges_len())?,
-            SetLookUp::Contains(key) => write!(reply, "{}", set.contains(key))?,
-            SetLookUp::Equals(other) => write!(reply, "{}", *set == *state.set(other))?,
+            SetLookUp::List => write!(reply, "{set}"),
+            SetLookUp::Len => T::print_len(set.len(), reply),
+            SetLookUp::RangesLen => print(set.ranges_len(), reply),
+            SetLookUp::Contains(key) => print(set.contains(key), reply),
+            SetLookUp::Equals(other) => print(*set == *state.set(other), reply),
         }
-        Ok(())
     }
 }

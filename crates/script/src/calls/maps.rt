@@ -1,0 +1,67 @@
+//! Calls of a map that is named first.
+use crate::calls::changes::Change;
+use crate::calls::comparisons::Comparison;
+use crate::calls::extends::Extend;
+use crate::calls::iterate::Iterate;
+use crate::calls::look_ups::LookUp;
+use crate::calls::other_maps::OtherMap;
+use crate::calls::runs::Run;
+use crate::calls::unless_bad;
+use crate::fault::Fault;
+use crate::keys::ScriptKey;
+use crate::state::{MapName, State};
+
+/// A call of a map.
+#[derive(Drop)]
+pub enum OfMap<T: ScriptKey> {
+    LookUp(LookUp<T>),
+    Change(Change<T>),
+    Extend(Extend<T>),
+    OtherMap(OtherMap),
+    Compare(Comparison),
+    Run(Run<T>),
+    Iterate(Iterate<T>),
+}
+
+impl<T: ScriptKey> OfMap<T> {
+    /// The call that the words behind a map's name ask for.
+    pub fn read(state: &State<T>, map: MapName, words: &[&str]) -> Result<Self, Fault> {
+        if let Ok(look_up) = LookUp::read(words) {
+            return Ok(OfMap::LookUp(look_up));
+        }
+        if let Ok(other) = OtherMap::read(map, words) {
+            return Ok(OfMap::OtherMap(other));
+        }
+        if let Ok(comparison) = Comparison::read(words) {
+            return Ok(OfMap::Compare(comparison));
+        }
+        Self::read_owning(state, map, words)
+    }
+
+    /// The same of calls that own memory.
+    fn read_owning(state: &State<T>, map: MapName, words: &[&str]) -> Result<Self, Fault> {
+        if let Some(change) = unless_bad(Change::read(state.alloc, words))? {
+            return Ok(OfMap::Change(change));
+        }
+        if let Some(extend) = unless_bad(Extend::read(state.alloc, words))? {
+            return Ok(OfMap::Extend(extend));
+        }
+        if let Some(run) = unless_bad(Run::read(state, map, words))? {
+            return Ok(OfMap::Run(run));
+        }
+        Ok(OfMap::Iterate(Iterate::read(state.alloc, words)?))
+    }
+
+    /// Makes the call, and prints its answer.
+    pub fn make(self, map: MapName, state: &mut State<T>, reply: &mut String) -> Result<(), Fault> {
+        match self {
+            OfMap::LookUp(look_up) => look_up.make(state.map(map), reply),
+            OfMap::Change(change) => Ok(change.make(state.map_mut(map), reply)?),
+            OfMap::Extend(extend) => Ok(extend.make(state.map_mut(map), reply)?),
+            OfMap::OtherMap(other) => Ok(other.make(map, state, reply)?),
+            OfMap::Compare(comparison) => Ok(comparison.make(state.map(map), state, reply)?),
+            OfMap::Run(run) => run.make(state.alloc, state.map_mut(map), reply),
+            OfMap::Iterate(iterate) => iterate.make(map, state, reply),
+        }
+    }
+}
