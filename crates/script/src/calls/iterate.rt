@@ -35,7 +35,7 @@ fn steps(alloc: Global, word: &str) -> Result<Vec<Step>, Fault> {
 }
 
 /// An iterator of a map.
-#[derive(Clone, Copy)]
+#[derive(Drop)]
 enum Kind<T: ScriptKey> {
     Lent(Over),
     Taking(Over),
@@ -65,7 +65,7 @@ impl<T: ScriptKey> Kind<T> {
     }
 
     /// Whether the iterator goes forward alone.
-    fn is_forward(self) -> bool {
+    fn is_forward(&self) -> bool {
         matches!(self, Kind::Lent(Over::Ranges) | Kind::Taking(Over::Ranges))
     }
 }

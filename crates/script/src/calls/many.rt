@@ -170,11 +170,13 @@ impl Sweep {
         for name in self.maps {
             streams.push(state.map(name).range_values())?;
         }
-        let mut lead = "";
+        let mut is_first = true;
         for event in streams.sweep(state.alloc)? {
-            reply.push_str(lead)?;
+            if !is_first {
+                reply.push_str("; ")?;
+            }
+            is_first = false;
             print_event(event, reply)?;
-            lead = "; ";
         }
         Ok(())
     }
