@@ -60,7 +60,7 @@ impl<T: Integer, V> Model for Counted<T, V> {
 
 impl<T: Integer, V> Counted<T, V> {
     /// No entries.
-    pub fn new(alloc: Global) -> Self
+    pub(crate) fn new(alloc: Global) -> Self
         ensures { result ≡ uncounted [] }
     {
         Counted {
@@ -82,6 +82,20 @@ impl<T: Integer, V> Counted<T, V> {
         ensures { result ≡ length self.now.entries }
     {
         self.tree.len()
+    }
+
+    /// The same entries, of which nothing is counted yet.
+    pub(crate) fn uncounted(self) -> Self
+        ensures { result ≡ uncounted self.entries }
+    {
+        let Counted { tree, alloc, .. } = self;
+        Counted {
+            tree,
+            alloc,
+            looks: Count::new(),
+            put_in: Count::new(),
+            taken_out: Count::new(),
+        }
     }
 
     /// Keeps the entries that start below a key, and answers the others.

@@ -65,6 +65,15 @@ impl<T: Integer, V> Entries<T, V> {
         self.counted.allocator()
     }
 
+    /// The same entries, of which nothing is counted yet. No memory is taken.
+    pub fn uncounted(self) -> Self
+        ensures { result ≡ uncounted self.entries }
+    {
+        Entries {
+            counted: self.counted.uncounted(),
+        }
+    }
+
     /// The number of entries.
     pub fn len(&self) -> usize
         ensures { result ≡ length self.now.entries }

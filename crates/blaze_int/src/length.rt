@@ -10,10 +10,6 @@ pub trait SafeLength: Copy + Ord {
     // The greatest number that the type has.
     ghost most: { ℕ };
 
-    /// Does nothing. Its contract says that a value in hand is a length.
-    fn in_hand(self)
-        ensures { number self ≤ most };
-
     /// The length of no keys.
     fn zero() -> Self
         ensures { number result ≡ 0 };
@@ -30,7 +26,15 @@ pub trait SafeLength: Copy + Ord {
     /// What is left of a length after another is taken away, which may not be greater.
     fn minus(self, other: Self) -> Self
         requires { number other ≤ number self }
-        ensures { number result + number other ≡ number self };
+        ensures difference { number result + number other ≡ number self }
+        ensures fits { number self ≤ most };
+
+    /// Changes nothing. Its contract says that a value in hand is a length.
+    final fn in_hand(self)
+        ensures { number self ≤ most }
+    {
+        let _ = self.minus(Self::zero());
+    }
 
     // Each number up to `most` is that of one length, and lengths compare as their numbers.
     ghost counted: { IsCounted number most Self.cmp Self.eq };

@@ -9,8 +9,6 @@ impl SafeLength for u16 {
 
     ghost most = { 2 ^ 16 - 1 };
 
-    fn in_hand(self) {}
-
     fn zero() -> u16 {
         0
     }
@@ -34,8 +32,6 @@ impl SafeLength for u32 {
     ghost number = { λ x. x };
 
     ghost most = { 2 ^ 32 - 1 };
-
-    fn in_hand(self) {}
 
     fn zero() -> u32 {
         0
@@ -61,8 +57,6 @@ impl SafeLength for u64 {
 
     ghost most = { 2 ^ 64 - 1 };
 
-    fn in_hand(self) {}
-
     fn zero() -> u64 {
         0
     }
@@ -86,8 +80,6 @@ impl SafeLength for u128 {
     ghost number = { λ x. x };
 
     ghost most = { 2 ^ 128 - 1 };
-
-    fn in_hand(self) {}
 
     fn zero() -> u128 {
         0

@@ -24,8 +24,6 @@ impl SafeLength for UIntPlusOne {
 
     ghost most = { 2 ^ 128 };
 
-    fn in_hand(self) {}
-
     fn zero() -> UIntPlusOne {
         UIntPlusOne::UInt(0)
     }
