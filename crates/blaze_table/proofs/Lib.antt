@@ -5,3 +5,4 @@ pub mod Cuts
 pub mod Pairs
 pub mod Walks
 pub mod Sweeping
+pub mod Fills

@@ -26,3 +26,5 @@ pub mod Swept
 pub mod CanonicalOf
 pub mod Pieces
 pub mod Held
+pub mod Filled
+pub mod Filling

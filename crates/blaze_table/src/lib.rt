@@ -9,6 +9,7 @@ mod cut_last;
 mod cut_range;
 mod entry_keys;
 mod equality;
+mod fill;
 mod gaps;
 pub mod laws;
 mod retain_keys;

@@ -19,6 +19,8 @@ ghost use Rattle.blaze_table.specs.Work.{IsCounted, IsCountedPaint, IsCountedCut
 ghost use Rattle.blaze_table.specs.Retain.{AnswersAt, IsCallableAtEach, IsCallableAtPairs};
 ghost use Rattle.blaze_table.specs.Retain.{IsKeyRetained};
 
+mod fill;
+
 use crate::count::{count, count_list};
 use crate::cut::cut;
 use crate::cut_first::cut_first;
@@ -64,6 +66,17 @@ impl<T: Integer, V: Eq> RangeTable<T, V> {
         RangeTable {
             entries: Entries::new(alloc),
             len: T::SafeLen::zero(),
+        }
+    }
+
+    /// The same entries, of which nothing is counted yet: a call that makes a table out of one that it was given ends with it.
+    /// No memory is taken.
+    pub fn uncounted(self) -> Self
+        ensures { result ≡ uncounted self.entries }
+    {
+        RangeTable {
+            entries: self.entries.uncounted(),
+            len: self.len,
         }
     }
 

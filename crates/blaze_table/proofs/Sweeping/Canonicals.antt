@@ -74,18 +74,23 @@ module _ {V : Type 0} (eq : V → V → Bool) (laws : IsEquivalence eq) where
         },
       )
 
+  -- a canonical list with what painting the pairs gives where there was nothing has at most 2n - 1 entries where n pairs have a key
+  pub few_painted : (ps out : List (Entry V)) → IsCanonical eq out → ((k : ℤ) → SameOption eq (at out k) (painted_in_order ps (at []) k)) → length out ≤ 2 * keyed ps - 1
+  few_painted ps out c content =
+      let each = each_painted ps [] tt in
+      let same = unique eq laws each.0 out each.1.canonical c
+      (λ k. same_trans eq laws (at each.0 k) (painted_in_order ps (at []) k) (at out k) (each.1.content k) (same_back eq laws (at out k) (painted_in_order ps (at []) k) (content k))) in
+      omega (arith, length_as eq laws each.0 out same, each.1.alone refl)
+
   -- the list is the canonical list of the pairs
   pub canonical_of_swept : (low high a : ℤ) (ps out : List (Entry V)) → IsSwept eq low high (last_at ps) a out → ((k : ℤ) → a ≤ℤ k → last_at ps k ≡ None) → IsCanonicalOf eq low high ps out
   canonical_of_swept low high a ps out c none =
-      let each = each_painted ps [] tt in
       let content = λ (k : ℤ). same_along eq {a = at out k} {b = last_at ps k} refl (sym (or_none (last_at ps k)))
       (by_lt_z k a (c.content k) (λ h. same_along eq {a = None} {b = None} (sym (at_past a k out c.below h)) (sym (none k h)) tt)) in
-      let same = unique eq laws each.0 out each.1.canonical c.canonical
-      (λ k. same_trans eq laws (at each.0 k) (painted_in_order ps (at []) k) (at out k) (each.1.content k) (same_back eq laws (at out k) (painted_in_order ps (at []) k) (content k))) in
       record {
         range_map = record { runs = one_per_run eq laws out c.canonical; keys = c.keys };
         content = content;
-        few = omega (arith, length_as eq laws each.0 out same, each.1.alone refl);
+        few = few_painted ps out c.canonical content;
       }
 
   -- a list that is canonical already is its own canonical list

@@ -37,7 +37,7 @@ returns-clause-table g c =
     let h = holder eq (key +ℤ pos 1) g.T.Integer.high es g.T.Integer.low _ _ c.in_hand.ensures c.requires.table.canonical c.requires.found in
     let one = one_covered eq g.met.V.Eq.laws key g.T.Integer.high es _ _ h c.requires.table.canonical c.requires.ends in
     cut_table eq g.met.V.Eq.laws key key (omega (arith, ints)) es c.cut_holder.new.entries.entries c.requires.table.canonical c.in_ok-value.ensures.cut
-    g.T.Integer.low g.T.Integer.high _ _ c.requires.table (omega (arith, ints, one, c.minus-rest.ensures, c.one.ensures))
+    g.T.Integer.low g.T.Integer.high _ _ c.requires.table (omega (arith, ints, one, c.minus-rest.ensures.difference, c.one.ensures))
 
 pub returns-clause-cut : goal.returns-clause-cut
 returns-clause-cut g c =

@@ -25,7 +25,7 @@ returns-clause-table g c =
     let es = c.args.entries.now.entries in
     let one = first_covered eq key es c.requires.table.canonical c.in_ok-pair.ensures.first in
     cut_table eq g.met.V.Eq.laws key key (omega (arith, ints)) es c.cut_front.new.entries.entries c.requires.table.canonical c.in_ok-pair.ensures.cut
-    g.T.Integer.low g.T.Integer.high _ _ c.requires.table (omega (arith, ints, one, c.minus-rest.ensures, c.one.ensures))
+    g.T.Integer.low g.T.Integer.high _ _ c.requires.table (omega (arith, ints, one, c.minus-rest.ensures.difference, c.one.ensures))
 
 pub returns-clause-cut : goal.returns-clause-cut
 returns-clause-cut g c =

@@ -54,7 +54,7 @@ returns-clause-table g c =
     let all = front_covered eq laws hi g.T.Integer.high es _ _ h c.requires.table.canonical start (omega (arith, ints)) starts c.requires.ends_above in
     cut_table eq laws start hi starts es new c.requires.table.canonical
     (moved_cut eq laws hi g.T.Integer.high es _ _ h (g.T.Integer.rank c.after.result) starts c.requires.ends_above c.after.ensures new c.in_ok-move_start.ensures.ok)
-    g.T.Integer.low g.T.Integer.high _ _ c.requires.table (omega (arith, ints, all, c.minus.ensures, c.length.ensures))
+    g.T.Integer.low g.T.Integer.high _ _ c.requires.table (omega (arith, ints, all, c.minus.ensures.difference, c.length.ensures))
 
 pub returns-clause-kept : goal.returns-clause-kept
 returns-clause-kept g c = λ l w.

@@ -30,7 +30,7 @@ returns-in_ok-cut_hole-in-Some-clause-table g c =
     let starts : rank c.args.start ≤ℤ lo = omega (arith, ints, lt_holds (rank c.args.start) lo (sym c.is_below.ensures ∙ c.if-is_below.true)) in
     let all = front_covered eq laws hi g.T.Integer.high es _ _ h c.requires.table.canonical lo starts c.requires.order c.requires.ends_above in
     cut_table eq laws lo hi c.requires.order es c.cut_hole.new.entries.entries c.requires.table.canonical c.in_ok-cut_hole-in-Some.ensures.cut
-    g.T.Integer.low g.T.Integer.high _ _ c.requires.table (omega (arith, ints, all, c.minus.ensures, c.length.ensures))
+    g.T.Integer.low g.T.Integer.high _ _ c.requires.table (omega (arith, ints, all, c.minus.ensures.difference, c.length.ensures))
 
 pub returns-in_ok-rest-clause-cut : goal.returns-in_ok-rest-clause-cut
 returns-in_ok-rest-clause-cut g c =

@@ -53,7 +53,7 @@ returns-clause-table g c =
     let all = end_covered eq laws hi g.T.Integer.high es _ _ h c.requires.table.canonical lo (omega (arith, ints)) reaches ends in
     cut_table eq laws lo hi c.requires.order es new c.requires.table.canonical
     (end_cut eq laws hi g.T.Integer.high es _ _ h lo c.requires.order reaches ends (rank c.before-2.result) new starts c.before-2.ensures (ap (λ (s : CountedEntries g.row.V.Denot). s.entries) c.set_end.ensures))
-    g.T.Integer.low g.T.Integer.high _ _ c.requires.table (omega (arith, ints, all, c.minus.ensures, c.length.ensures))
+    g.T.Integer.low g.T.Integer.high _ _ c.requires.table (omega (arith, ints, all, c.minus.ensures.difference, c.length.ensures))
 
 pub returns-clause-cut : goal.returns-clause-cut
 returns-clause-cut g c =

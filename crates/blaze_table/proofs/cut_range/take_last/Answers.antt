@@ -46,7 +46,7 @@ returns-clause-table g c =
     let all = end_covered eq laws hi g.T.Integer.high es _ _ h c.requires.table.canonical start (omega (arith, ints)) long ends in
     cut_table eq laws start hi (omega (arith, ints)) es c.remove.new.self.entries c.requires.table.canonical
     (whole_cut eq laws hi g.T.Integer.high es _ _ h start (omega (arith, ints)) (omega (arith, ints)) ends (omega (arith, ints)) c.remove.new.self.entries (ap (λ (s : CountedEntries g.row.V.Denot). s.entries) c.remove.ensures.entries))
-    g.T.Integer.low g.T.Integer.high _ _ c.requires.table (omega (arith, ints, all, c.minus.ensures, c.length.ensures))
+    g.T.Integer.low g.T.Integer.high _ _ c.requires.table (omega (arith, ints, all, c.minus.ensures.difference, c.length.ensures))
 
 pub returns-clause-kept : goal.returns-clause-kept
 returns-clause-kept g c = λ l w.

@@ -14,11 +14,6 @@ pub record IsFilled {V : Type 0} (eq : V → V → Bool) (low high : ℤ) (p : E
   pub range_map : IsRangeMap eq low high new
   pub content : (k : ℤ) → SameOption eq (at new k) (filled p.lo p.hi p.value (at old) k)
 
--- a range map that has at each key what was there, or what filling gives there
-pub record IsPartlyFilled {V : Type 0} (eq : V → V → Bool) (low high : ℤ) (p : Entry V) (old new : List (Entry V)) : Type 0 where
-  pub range_map : IsRangeMap eq low high new
-  pub content : (k : ℤ) → SameOption eq (at new k) (at old k) ⊎ SameOption eq (at new k) (filled p.lo p.hi p.value (at old) k)
-
 -- each key from a up to b has a value
 abbrev pub IsHeldFrom : {V : Type 0} → (ℤ → Option V) → ℤ → ℤ → Type 0
 IsHeldFrom content a b = (k : ℤ) → a ≤ℤ k → k ≤ℤ b → IsSome (content k)

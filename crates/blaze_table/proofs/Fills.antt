@@ -1,0 +1,11 @@
+pub mod HeldKeys
+pub mod Ordered
+pub mod Puts
+pub mod Joins
+pub mod Looks
+pub mod TakenBack
+pub mod Noted
+pub mod Joints
+pub mod Gaps
+pub mod Fillings
+pub mod Filled

@@ -1,0 +1,39 @@
+-- What filling gives, key by key.
+use Rattle.std.specs.Option.{option_or}
+use Rattle.std.proofs.Common.{◌≡◌, ℤ, ◌≤ℤ◌, ◌<ℤ◌, Bool, cond, List, Option, Some, None, refl, ◌∙◌, sym, ap}
+use Rattle.std.specs.Prelude.{IsSome}
+use Rattle.std.specs.Cmp.{IsEquivalence}
+use Rattle.blaze_entries.proofs.Alike.{same_along, same_itself, or_none}
+use Rattle.blaze_table.specs.Entries.{Entry, entry, at}
+use Rattle.blaze_table.specs.Canonical.{IsRangeMap}
+use Rattle.blaze_table.specs.Filled.{filled, IsFilled, IsHeldFrom}
+use Rattle.blaze_table.proofs.Canonical.Lookup.{by_place, holds_in, holds_under, holds_over}
+
+module _ {V : Type 0} where
+  module _ (content : ℤ → Option V) (v : V) (l h k : ℤ) where
+    pub filled_in : l ≤ℤ k → k ≤ℤ h → filled l h v content k ≡ option_or (content k) (Some v)
+    filled_in a b = ap (λ t. option_or (content k) (cond t (Some v) None)) (holds_in (entry l h v) k a b)
+
+    pub filled_under : k <ℤ l → filled l h v content k ≡ content k
+    filled_under a = ap (λ t. option_or (content k) (cond t (Some v) None)) (holds_under (entry l h v) k a) ∙ or_none (content k)
+
+    pub filled_over : h <ℤ k → filled l h v content k ≡ content k
+    filled_over b = ap (λ t. option_or (content k) (cond t (Some v) None)) (holds_over (entry l h v) k b) ∙ or_none (content k)
+
+  pub or_some : (a b : Option V) → IsSome a → option_or a b ≡ a
+  or_some (Some x) b s = refl
+  or_some None b s = cc
+
+  -- where the range has values already, filling changes nothing
+  pub filled_held : (content : ℤ → Option V) (v : V) (l h : ℤ) → IsHeldFrom content l h → (k : ℤ) → filled l h v content k ≡ content k
+  filled_held content v l h s k = by_place (entry l h v) k
+      (λ a b. filled_in content v l h k a b ∙ or_some (content k) (Some v) (s k a b))
+      (filled_under content v l h k)
+      (filled_over content v l h k)
+
+-- where each key of the range has a value the list is filled already
+pub filled_none : {V : Type 0} (eq : V → V → Bool) (laws : IsEquivalence eq) (low high l h : ℤ) (v : V) (old : List (Entry V)) → IsRangeMap eq low high old → IsHeldFrom (at old) l h → IsFilled eq low high (entry l h v) old old
+filled_none eq laws low high l h v old r s = record {
+  range_map = r;
+  content = λ k. same_along eq {a = at old k} refl (sym (filled_held (at old) v l h s k)) (same_itself eq laws (at old k));
+}

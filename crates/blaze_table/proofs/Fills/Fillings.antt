@@ -1,0 +1,150 @@
+-- A value put on the gaps of a range, one after another.
+use Rattle.std.specs.Option.{option_or}
+use Rattle.std.proofs.Common.{◌≡◌, ℕ, ℤ, pos, ◌+ℤ◌, ◌-ℤ◌, ◌≤ℤ◌, ◌<ℤ◌, Bool, true, false, cond, List, [], Option, Some, None, refl, ◌∙◌, sym, ap, subst, arith, inl}
+use Rattle.std.specs.Prelude.{IsSome}
+use Rattle.std.specs.Cmp.{IsEquivalence}
+use Rattle.std.specs.List.{Contains}
+use Rattle.std.proofs.lemmas.Int.{ints, by_lt_z}
+use Rattle.blaze_entries.proofs.Alike.{same_along, same_itself, same_trans, some_of_same, none_of_same}
+use Rattle.blaze_table.specs.Canonical.{AreKeys, IsCanonical}
+use Rattle.blaze_table.specs.Entries.{Entry, entry, at, holds, SameOption, SameContent}
+use Rattle.blaze_table.specs.Filled.{filled, IsFilled, IsHeldFrom, IsFirstGap}
+use Rattle.blaze_table.specs.Filling.{never, IsFilledBut, IsFilling, IsGapFilled, IsJoinedBut, IsOrdered, IsOrderedTable}
+use Rattle.blaze_table.specs.Gap.{IsClearFrom}
+use Rattle.blaze_table.specs.Painted.{painted}
+use Rattle.blaze_table.proofs.Canonical.Counted.{keys_among}
+use Rattle.blaze_table.proofs.Canonical.Lookup.{by_place, holds_in, holds_under, holds_over}
+use Rattle.blaze_table.proofs.Canonical.Runs.{one_per_run}
+use Rattle.blaze_table.proofs.Fills.Filled.{filled_in, filled_under, filled_over, filled_held, or_some}
+use Rattle.blaze_table.proofs.Fills.Gaps.{joined_more, new_over}
+use Rattle.blaze_table.proofs.Fills.Puts.{IsPut, put_in}
+use Rattle.blaze_table.proofs.Fills.TakenBack.{goes_back_more}
+
+module _ {V : Type 0} where
+  -- up to a key that is filled, as filling up to a later one
+  filled_less : (content : ℤ → Option V) (v : V) (l m h : ℤ) → m ≤ℤ h → (k : ℤ) → k ≤ℤ m → filled l m v content k ≡ filled l h v content k
+  filled_less content v l m h o k u = by_lt_z k l
+      (λ a. filled_under content v l m k a ∙ sym (filled_under content v l h k a))
+      (λ a. filled_in content v l m k a u ∙ sym (filled_in content v l h k a (omega (arith, ints))))
+
+module _ {V : Type 0} (eq : V → V → Bool) (laws : IsEquivalence eq) where
+  none_back : (a b : Option V) → SameOption eq a b → b ≡ None → a ≡ None
+  none_back None b s p = refl
+  none_back (Some x) None s p = absurd s
+  none_back (Some x) (Some y) s p = cc
+
+  -- the gap from a up to b is painted, and behind it up to n there are values: so all is filled up to n
+  filled_more : (old cur new : ℤ → Option V) (v w : V) (l a b n : ℤ) → l ≤ℤ a → a ≤ℤ b → b ≤ℤ n → ((k : ℤ) → SameOption eq (cur k) (filled l (a -ℤ pos 1) v old k))
+      → IsClearFrom cur a b → IsHeldFrom cur (b +ℤ pos 1) n → ((k : ℤ) → SameOption eq (new k) (painted a b w cur k)) → eq v w ≡ true → (k : ℤ) → SameOption eq (new k) (filled l n v old k)
+  filled_more old cur new v w l a b n o p q before clear held one like k = by_place (entry a b w) k
+      (λ x y.
+      let none : old k ≡ None = sym (filled_over old v l (a -ℤ pos 1) k (omega (arith, ints))) ∙ none_of_same eq (cur k) _ (before k) (clear k x y) in
+      same_along eq {a = new k} refl (sym (filled_in old v l n k (omega (arith, ints)) (omega (arith, ints)) ∙ ap (λ o. option_or o (Some v)) none))
+      (with_clone (new k) (same_along eq {a = new k} refl (ap (λ t. cond t (Some w) (cur k)) (holds_in (entry a b w) k x y)) (one k))))
+      (λ x.
+      same_along eq {a = new k} refl (filled_less old v l (a -ℤ pos 1) n (omega (arith, ints)) k (omega (arith, ints)))
+      (beside (holds_under (entry a b w) k x)))
+      (λ y.
+      let stays = same_along eq {a = new k} refl (filled_over old v l (a -ℤ pos 1) k (omega (arith, ints))) (beside (holds_over (entry a b w) k y)) in
+      by_lt_z n k
+      (λ z. same_along eq {a = new k} refl (sym (filled_over old v l n k z)) stays)
+      (λ z.
+      let some : IsSome (old k) = some_of_same eq (cur k) (old k) (same_along eq {a = cur k} refl (filled_over old v l (a -ℤ pos 1) k (omega (arith, ints))) (before k)) (held k (omega (arith, ints)) z) in
+      same_along eq {a = new k} refl (sym (filled_in old v l n k (omega (arith, ints)) z ∙ or_some (old k) (Some v) some)) stays))
+    where
+      with_clone : (x : Option V) → SameOption eq x (Some w) → SameOption eq x (Some v)
+      with_clone None s = s
+      with_clone (Some x) s = laws.congr x w v s ∙ laws.symm w v ∙ like
+
+      beside : holds (entry a b w) k ≡ false → SameOption eq (new k) (filled l (a -ℤ pos 1) v old k)
+      beside off = same_trans eq laws (new k) (cur k) _ (same_along eq {a = new k} refl (ap (λ t. cond t (Some w) (cur k)) off) (one k)) (before k)
+
+  no_joint : (es : List (Entry V)) → IsCanonical eq es → IsJoinedBut eq [] es
+  no_joint es c = record {
+    starts = λ k h. inl (((one_per_run eq laws es c).starts k).0 h);
+    equal = λ k h. absurd (not_in k h);
+  }
+    where
+      not_in : (k : ℤ) → Contains {X = ℤ} [] k → ⊥
+      not_in k (i, u, q) = omega arith
+
+  -- before the first gap is filled
+  pub filling_first : (old : List (Entry V)) (a b h : ℤ) (v : V) (starts joints : List ℤ) → IsCanonical eq old → IsFirstGap (at old) a h a b → starts ≡ [] → joints ≡ [] → IsFilling eq a h v starts joints old old a b
+  filling_first old a b h v starts joints c g q r = subst (λ ss. IsFilling eq a h v ss joints old old a b) (sym q) (subst (λ js. IsFilling eq a h v [] js old old a b) (sym r) (record {
+    content = λ k. same_along eq {a = at old k} refl (sym (filled_held (at old) v a (a -ℤ pos 1) (λ j x y. absurd (omega (arith, ints))) k)) (same_itself eq laws (at old k));
+    from = omega (arith, ints);
+    order = g.order;
+    to = g.to;
+    clear = g.clear;
+    joined = no_joint old c;
+    back = record { there = tt; taken = refl };
+  }))
+
+  module _ (low high l h a b : ℤ) (v w : V) (starts more joints all : List ℤ) (old cur new : List (Entry V)) (f : low ≤ℤ l) (t : h ≤ℤ high) (c : IsOrdered cur)
+      (i : IsFilling eq l h v starts joints old cur a b) (d : IsGapFilled eq a b w cur new starts more joints all) (like : eq v w ≡ true) where
+    pub is_put : IsPut low high (entry a b w) cur new
+    is_put = subst (IsPut low high (entry a b w) cur) (sym d.put) (put_in low high (entry a b w) (omega (arith, ints, i.from)) i.order (omega (arith, ints, i.to)) cur c i.clear)
+
+    one : (k : ℤ) → SameOption eq (at new k) (painted a b w (at cur) k)
+    one k = same_along eq {a = at new k} refl (is_put.content k) (same_itself eq laws (at new k))
+
+    joined : IsJoinedBut eq all new
+    joined = joined_more eq laws low high a b w cur new i.order i.clear is_put joints d.half all d.below d.above i.joined
+
+    -- the next gap
+    pub filling_next : (c d : ℤ) → IsFirstGap (at cur) (b +ℤ pos 1) h c d → IsFilling eq l h v more all old new c d
+    filling_next c e g = record {
+      content = filled_more (at old) (at cur) (at new) v w l a b (c -ℤ pos 1) i.from i.order (omega (arith, ints, g.from)) i.content i.clear (λ k x y. g.held k x (omega (arith, ints))) one like;
+      from = omega (arith, ints, i.from, i.order, g.from);
+      order = g.order;
+      to = g.to;
+      clear = λ k x y. new_over eq laws low high a b w cur new i.order i.clear is_put k (omega (arith, ints, g.from)) ∙ g.clear k x y;
+      joined = joined;
+      back = goes_back_more starts more (entry a b w) cur new old d.remembered d.put is_put.absent i.back;
+    }
+
+    -- no gap is left
+    pub filling_last : IsHeldFrom (at cur) (b +ℤ pos 1) h → IsFilledBut eq l h v more all old new
+    filling_last s = record {
+      content = filled_more (at old) (at cur) (at new) v w l a b h i.from i.order i.to i.content i.clear s one like;
+      joined = joined;
+      back = goes_back_more starts more (entry a b w) cur new old d.remembered d.put is_put.absent i.back;
+    }
+
+    pub table_more : (n m : ℕ) → IsOrderedTable low high n cur → pos m ≡ pos n +ℤ ((b -ℤ a) +ℤ pos 1) → IsOrderedTable low high m new
+    table_more n m r q = record {
+      canonical = is_put.ordered;
+      are_keys = is_put.are_keys r.are_keys;
+      counted = omega (arith, ints, q, r.counted, is_put.count);
+    }
+
+    pub room_more : (n : ℕ) → low ≤ℤ high → IsOrderedTable low high n cur → (pos n +ℤ ((b -ℤ a) +ℤ pos 1)) ≤ℤ ((high -ℤ low) +ℤ pos 1)
+    room_more n some r = omega (arith, ints, keys_among never low high new some is_put.ordered (is_put.are_keys r.are_keys), is_put.count, r.counted)
+
+  -- where the keys before a have values, the fill from a on is the whole
+  filled_from : (content : ℤ → Option V) (v : V) (l a h : ℤ) → l ≤ℤ a → a ≤ℤ h → ((k : ℤ) → l ≤ℤ k → k <ℤ a → IsSome (content k)) → (k : ℤ) → filled a h v content k ≡ filled l h v content k
+  filled_from content v l a h o p s k = by_lt_z k a
+      (λ u. filled_under content v a h k u ∙ by_lt_z k l
+      (λ m. sym (filled_under content v l h k m))
+      (λ m. sym (filled_in content v l h k m (omega (arith, ints)) ∙ or_some (content k) (Some v) (s k m u))))
+      (λ u. by_lt_z h k
+      (λ m. filled_over content v a h k m ∙ sym (filled_over content v l h k m))
+      (λ m. filled_in content v a h k u m ∙ sym (filled_in content v l h k (omega (arith, ints)) m)))
+
+  -- what is filled, and then joined
+  pub filled_whole : (low high l h a b : ℤ) (v : V) (starts joints : List ℤ) (old cur put new : List (Entry V)) → cur ≡ old → IsFirstGap (at old) l h a b → IsFilledBut eq a h v starts joints cur put
+      → SameContent eq new put → IsCanonical eq new → AreKeys low high new → IsFilled eq low high (entry l h v) old new
+  filled_whole low high l h a b v starts joints old cur put new q g f s c k = record {
+    range_map = record { runs = one_per_run eq laws new c; keys = k };
+    content = λ j. same_along eq {a = at new j} refl
+        (ap (λ x. filled a h v (at x) j) q ∙ filled_from (at old) v l a h g.from (omega (arith, ints, g.order, g.to)) g.held j)
+        (same_trans eq laws (at new j) (at put j) (filled a h v (at cur) j) (s j) (f.content j));
+  }
+
+  -- where there is a gap, not each key has a value
+  pub gap_is_not_held : (old : List (Entry V)) (l h a b : ℤ) → IsFirstGap (at old) l h a b → IsHeldFrom (at old) l h → ⊥
+  gap_is_not_held old l h a b g s = none_is_not (at old a) (g.clear a (omega (arith, ints)) g.order) (s a g.from (omega (arith, ints, g.order, g.to)))
+    where
+      none_is_not : (o : Option V) → o ≡ None → IsSome o → ⊥
+      none_is_not None q t = cc
+      none_is_not (Some x) q t = cc

@@ -1,0 +1,63 @@
+-- Joints, joined one after another.
+use Rattle.std.proofs.Common.{◌≡◌, ℤ, pos, ◌-ℤ◌, Bool, List, [], ◌∷◌, ◌++◌, length, Option, Some, map, ◌∙◌, sym, subst, ap, arith, inl, inr}
+use Rattle.std.specs.Prelude.{option_to_list}
+use Rattle.std.specs.Cmp.{IsEquivalence}
+use Rattle.std.specs.List.{Contains}
+use Rattle.std.proofs.lemmas.List.Elements.{Contains-append_left, Contains-push, Contains-push_cases}
+use Rattle.blaze_entries.proofs.Alike.{same_back, same_itself, same_trans, some_of_same}
+use Rattle.blaze_table.specs.Canonical.{IsCanonical, IsRunStart}
+use Rattle.blaze_table.specs.Entries.{Entry, at, SameOption, SameContent}
+use Rattle.blaze_table.specs.Filling.{IsJoint, IsJoinedAt, IsJoinedBut, IsOrdered}
+use Rattle.blaze_table.proofs.Fills.Ordered.{canonical_by_starts}
+use Rattle.blaze_table.proofs.Fills.TakenBack.{map_last}
+
+module _ {V : Type 0} (eq : V → V → Bool) (laws : IsEquivalence eq) where
+  -- a joint, and a run start, of the same content
+  joint_as : (old new : ℤ → Option V) (k : ℤ) → ((j : ℤ) → SameOption eq (new j) (old j)) → IsJoint eq old k → IsJoint eq new k
+  joint_as old new k s h = (
+    some_of_same eq (old k) (new k) (same_back eq laws (new k) (old k) (s k)) h.0,
+    same_trans eq laws (new (k -ℤ pos 1)) (old (k -ℤ pos 1)) (new k) (s (k -ℤ pos 1)) (same_trans eq laws (old (k -ℤ pos 1)) (old k) (new k) h.1 (same_back eq laws (new k) (old k) (s k))),
+  )
+
+  run_start_as : (old new : ℤ → Option V) (k : ℤ) → ((j : ℤ) → SameOption eq (new j) (old j)) → IsRunStart eq old k → IsRunStart eq new k
+  run_start_as old new k s h = (
+    some_of_same eq (old k) (new k) (same_back eq laws (new k) (old k) (s k)) h.0,
+    λ q. h.1 (same_trans eq laws (old (k -ℤ pos 1)) (new (k -ℤ pos 1)) (old k) (same_back eq laws (new (k -ℤ pos 1)) (old (k -ℤ pos 1)) (s (k -ℤ pos 1)))
+        (same_trans eq laws (new (k -ℤ pos 1)) (new k) (old k) q (s k))),
+  )
+
+  -- by what is left of the joints after the last is taken
+  module _ {T : Type 0} (rank : T → ℤ) (all rest : List T) (t : T) (q : all ≡ rest ++ option_to_list (Some t)) (es : List (Entry V)) (i : IsJoinedBut eq (map rank all) es) where
+    parts : map rank all ≡ map rank rest ++ rank t ∷ []
+    parts = ap (map rank) q ∙ map_last rank rest t
+
+    pub joint_next : IsJoint eq (at es) (rank t)
+    joint_next = i.equal (rank t) (subst (λ ks. Contains ks (rank t)) (sym parts) (Contains-push (map rank rest) (rank t)))
+
+    pub joined_next : (low high : ℤ) (new : List (Entry V)) → IsJoinedAt eq low high (rank t) es new → IsJoinedBut eq (map rank rest) new
+    joined_next low high new j = record {
+      starts = λ k h.
+          let was = j.starts k h in
+          elim (i.starts k was.0) [
+            | inl r ↦ inl (run_start_as (at es) (at new) k j.same r)
+            | inr r ↦ elim (Contains-push_cases (map rank rest) (rank t) k (subst (λ ks. Contains ks k) parts r)) [
+              | inl u ↦ inr u
+              | inr u ↦ absurd (was.1 (sym u))
+            ]
+          ];
+      equal = λ k h. joint_as (at es) (at new) k j.same (i.equal k (subst (λ ks. Contains ks k) (sym parts) (Contains-append_left (map rank rest) (rank t ∷ []) k h)));
+    }
+
+  -- where no joint is left
+  pub joined_all : {T : Type 0} (rank : T → ℤ) (joints : List T) (es : List (Entry V)) → length joints ≡ 0 → IsOrdered es → IsJoinedBut eq (map rank joints) es → IsCanonical eq es
+  joined_all rank [] es q c i = canonical_by_starts eq es c (λ k h. elim (i.starts k h) [ inl r ↦ r | inr r ↦ absurd (not_in k r) ])
+    where
+      not_in : (k : ℤ) → Contains {X = ℤ} [] k → ⊥
+      not_in k (i, u, q) = omega arith
+  joined_all rank (t ∷ ts) es q c i = absurd (omega arith)
+
+  pub same_then : (new mid old : List (Entry V)) → SameContent eq new mid → SameContent eq mid old → SameContent eq new old
+  same_then new mid old a b k = same_trans eq laws (at new k) (at mid k) (at old k) (a k) (b k)
+
+  pub same_content : (es : List (Entry V)) → SameContent eq es es
+  same_content es k = same_itself eq laws (at es k)

@@ -1,0 +1,85 @@
+-- A fill under way: the words of this crate's own functions. No public clause names them.
+use Rattle.std.specs.Prelude.{◌≡◌, ◌⊎◌, ℕ, ℤ, pos, ◌+ℤ◌, ◌-ℤ◌, ◌≤ℤ◌, Bool, false, List, [], ◌∷◌, ◌++◌, Option, Some, IsSome}
+use Rattle.std.specs.List.{Contains}
+use Rattle.blaze_entries.specs.Starts.{start_at, with_entry, without}
+use Rattle.blaze_table.specs.Canonical.{AreKeys, IsCanonical, IsRunStart, HasStart}
+use Rattle.blaze_table.specs.Count.{keys_in}
+use Rattle.blaze_table.specs.Entries.{Entry, entry, at, SameOption, SameContent}
+use Rattle.blaze_table.specs.Filled.{filled}
+use Rattle.blaze_table.specs.Gap.{IsClearFrom}
+use Rattle.blaze_table.specs.Table.{IsTable}
+
+-- no two values are equal
+abbrev pub never : {V : Type 0} → V → V → Bool
+never x y = false
+
+-- no range is empty, and each starts above the end of the one before
+abbrev pub IsOrdered : {V : Type 0} → List (Entry V) → Type 0
+IsOrdered es = IsCanonical never es
+
+-- an ordered list of keys, with its count
+abbrev pub IsOrderedTable : {V : Type 0} → ℤ → ℤ → ℕ → List (Entry V) → Type 0
+IsOrderedTable low high n es = IsTable never low high n es
+
+-- the key k has a value, and the key before it an equal one
+abbrev pub IsJoint : {V : Type 0} → (V → V → Bool) → (ℤ → Option V) → ℤ → Type 0
+IsJoint eq content k = IsSome (content k) × SameOption eq (content (k -ℤ pos 1)) (content k)
+
+-- the keys at which entries are still to be joined with the one before: every other start is a run start
+pub record IsJoinedBut {V : Type 0} (eq : V → V → Bool) (joints : List ℤ) (es : List (Entry V)) : Type 0 where
+  pub starts : (k : ℤ) → HasStart es k → IsRunStart eq (at es) k ⊎ Contains joints k
+  pub equal : (k : ℤ) → Contains joints k → IsJoint eq (at es) k
+
+-- the key k is added to the joints where the value at the key j is equal to v
+pub record IsNoted {V : Type 0} (eq : V → V → Bool) (es : List (Entry V)) (j k : ℤ) (v : V) (old new : List ℤ) : Type 0 where
+  pub kept : (i : ℤ) → Contains old i → Contains new i
+  pub noted : SameOption eq (at es j) (Some v) → Contains new k
+  pub only : (i : ℤ) → Contains new i → Contains old i ⊎ ((i ≡ k) × SameOption eq (at es j) (Some v))
+
+-- The gap from a up to b has an entry with v of its own, which is remembered by its start. Its start and the key after it are
+-- joints where the values beside it are equal.
+pub record IsGapFilled {V : Type 0} (eq : V → V → Bool) (a b : ℤ) (v : V) (old new : List (Entry V)) (starts more joints all : List ℤ) : Type 0 where
+  pub put : new ≡ with_entry (entry a b v) old
+  pub remembered : more ≡ starts ++ a ∷ []
+  pub half : List ℤ
+  pub below : IsNoted eq old (a -ℤ pos 1) a v joints half
+  pub above : IsNoted eq old (b +ℤ pos 1) (b +ℤ pos 1) v half all
+
+-- without the entries that start at the keys, the last first
+abbrev pub taken : {V : Type 0} → List ℤ → List (Entry V) → List (Entry V)
+taken [] es = es
+taken (s ∷ ss) es = without s (taken ss es)
+
+-- each of them is there when it is taken
+abbrev pub AreThere : {V : Type 0} → List ℤ → List (Entry V) → Type 0
+AreThere [] es = Unit {0}
+AreThere (s ∷ ss) es = IsSome (start_at s (taken ss es)) × AreThere ss es
+
+-- entries put in at the starts can be taken back to a list
+pub record GoesBack {V : Type 0} (starts : List ℤ) (es old : List (Entry V)) : Type 0 where
+  pub there : AreThere starts es
+  pub taken : taken starts es ≡ old
+
+-- of the keys from l up to h all before a are filled with v, and the gap from a up to b is the next
+pub record IsFilling {V : Type 0} (eq : V → V → Bool) (l h : ℤ) (v : V) (starts joints : List ℤ) (old cur : List (Entry V)) (a b : ℤ) : Type 0 where
+  pub content : (k : ℤ) → SameOption eq (at cur k) (filled l (a -ℤ pos 1) v (at old) k)
+  pub from : l ≤ℤ a
+  pub order : a ≤ℤ b
+  pub to : b ≤ℤ h
+  pub clear : IsClearFrom (at cur) a b
+  pub joined : IsJoinedBut eq joints cur
+  pub back : GoesBack starts cur old
+
+-- the keys from l up to h are filled with v, but for joints
+pub record IsFilledBut {V : Type 0} (eq : V → V → Bool) (l h : ℤ) (v : V) (starts joints : List ℤ) (old cur : List (Entry V)) : Type 0 where
+  pub content : (k : ℤ) → SameOption eq (at cur k) (filled l h v (at old) k)
+  pub joined : IsJoinedBut eq joints cur
+  pub back : GoesBack starts cur old
+
+-- the entry that starts at s, if one does, is one with that before it: the same at each key, and as many keys
+pub record IsJoinedAt {V : Type 0} (eq : V → V → Bool) (low high : ℤ) (s : ℤ) (old new : List (Entry V)) : Type 0 where
+  pub ordered : IsOrdered new
+  pub are_keys : AreKeys low high new
+  pub count : keys_in new ≡ keys_in old
+  pub same : SameContent eq new old
+  pub starts : (k : ℤ) → HasStart new k → HasStart old k × (k ≡ s → ⊥)
