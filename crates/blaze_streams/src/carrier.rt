@@ -22,10 +22,6 @@ pub trait ValueCarrier: Drop {
     fn value_eq(&self, other: &Self) -> bool
         ensures { result ≡ Self.Value.eq (shown self.now) (shown other.now) };
 
-    /// Whether the carrier's value is `==` to a value.
-    fn has_value(&self, value: &Self::Value) -> bool
-        ensures { result ≡ Self.Value.eq (shown self.now) value.now };
-
     /// A value that is `==` to the carrier's. Refused memory drops the carrier.
     fn into_value(self) -> Result<Self::Value, AllocError>
         requires { can_carry }
@@ -35,6 +31,13 @@ pub trait ValueCarrier: Drop {
     fn carry(&self) -> Result<Self, AllocError>
         requires { can_carry }
         ensures { IfOk result (λ other. Self.Value.eq (shown self.now) (shown other) ≡ true) };
+}
+
+/// A carrier whose value can be compared with a value.
+pub trait HasValue: ValueCarrier {
+    /// Whether the carrier's value is `==` to a value.
+    fn has_value(&self, value: &Self::Value) -> bool
+        ensures { result ≡ Self.Value.eq (Self.shown self.now) value.now };
 }
 
 /// A reference stands for what it refers to. `into_value` clones, `carry` takes no memory.
@@ -49,16 +52,18 @@ impl<V: Eq + Clone> ValueCarrier for &V {
         **self == **other
     }
 
-    fn has_value(&self, value: &V) -> bool {
-        **self == *value
-    }
-
     fn into_value(self) -> Result<V, AllocError> {
         (*self).clone()
     }
 
     fn carry(&self) -> Result<Self, AllocError> {
         Ok(*self)
+    }
+}
+
+impl<V: Eq + Clone> HasValue for &V {
+    fn has_value(&self, value: &V) -> bool {
+        **self == *value
     }
 }
 
@@ -72,10 +77,6 @@ impl ValueCarrier for () {
 
     fn value_eq(&self, other: &Self) -> bool {
         *self == *other
-    }
-
-    fn has_value(&self, value: &()) -> bool {
-        *self == *value
     }
 
     fn into_value(self) -> Result<(), AllocError> {
@@ -99,10 +100,6 @@ impl ValueCarrier for usize {
         *self == *other
     }
 
-    fn has_value(&self, value: &usize) -> bool {
-        *self == *value
-    }
-
     fn into_value(self) -> Result<usize, AllocError> {
         Ok(self)
     }
@@ -122,10 +119,6 @@ impl ValueCarrier for bool {
 
     fn value_eq(&self, other: &Self) -> bool {
         *self == *other
-    }
-
-    fn has_value(&self, value: &bool) -> bool {
-        *self == *value
     }
 
     fn into_value(self) -> Result<bool, AllocError> {
@@ -149,10 +142,6 @@ impl<V: Eq + Clone> ValueCarrier for Rc<V> {
         *self.as_ref() == *other.as_ref()
     }
 
-    fn has_value(&self, value: &V) -> bool {
-        *self.as_ref() == *value
-    }
-
     fn into_value(self) -> Result<V, AllocError> {
         Rc::unwrap_or_clone(self)
     }
@@ -174,14 +163,6 @@ impl<VC: ValueCarrier> ValueCarrier for Option<VC> {
         match (self, other) {
             (None, None) => true,
             (Some(carrier), Some(other)) => carrier.value_eq(other),
-            _ => false,
-        }
-    }
-
-    fn has_value(&self, value: &Option<VC::Value>) -> bool {
-        match (self, value) {
-            (None, None) => true,
-            (Some(carrier), Some(value)) => carrier.has_value(value),
             _ => false,
         }
     }
@@ -211,10 +192,6 @@ impl<VCL: ValueCarrier, VCR: ValueCarrier> ValueCarrier for (VCL, VCR) {
 
     fn value_eq(&self, other: &Self) -> bool {
         self.0.value_eq(&other.0) && self.1.value_eq(&other.1)
-    }
-
-    fn has_value(&self, value: &(VCL::Value, VCR::Value)) -> bool {
-        self.0.has_value(&value.0) && self.1.has_value(&value.1)
     }
 
     fn into_value(self) -> Result<(VCL::Value, VCR::Value), AllocError> {

@@ -49,6 +49,8 @@ pub use transforms::transform;
 
 // For `range_map_blaze` alone, whose maps are made of entries that are chosen, and whose joins answer segments.
 #[doc(hidden)]
+pub use carrier::HasValue;
+#[doc(hidden)]
 pub use merge::choice::{Choice, ExactlyOne, LeftAlone, LeftWithRight, RightFirst};
 #[doc(hidden)]
 pub use merge::chosen::entries_chosen_of;

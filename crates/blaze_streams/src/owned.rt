@@ -1,7 +1,7 @@
 //! A value that stands for itself.
 ghost use Rattle.blaze_table.specs.Painted.{ClonesAreAlike};
 
-use crate::carrier::ValueCarrier;
+use crate::carrier::{HasValue, ValueCarrier};
 use std::alloc::AllocError;
 use std::fmt::{self, Debug, Formatter};
 
@@ -29,10 +29,6 @@ impl<V: Eq + Clone> ValueCarrier for Owned<V> {
         self.0 == other.0
     }
 
-    fn has_value(&self, value: &V) -> bool {
-        self.0 == *value
-    }
-
     fn into_value(self) -> Result<V, AllocError> {
         let Owned(value) = self;
         Ok(value)
@@ -40,5 +36,11 @@ impl<V: Eq + Clone> ValueCarrier for Owned<V> {
 
     fn carry(&self) -> Result<Self, AllocError> {
         Ok(Owned(self.0.clone()?))
+    }
+}
+
+impl<V: Eq + Clone> HasValue for Owned<V> {
+    fn has_value(&self, value: &V) -> bool {
+        self.0 == *value
     }
 }

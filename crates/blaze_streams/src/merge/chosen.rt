@@ -5,7 +5,7 @@ ghost use Rattle.blaze_table.specs.Chosen.{IsChosen};
 ghost use Rattle.blaze_table.specs.Listed.{listed};
 ghost use Rattle.blaze_streams.specs.Choosing.{PutsAlike};
 
-use crate::carrier::ValueCarrier;
+use crate::carrier::{HasValue, ValueCarrier};
 use crate::cursor::Cursor;
 use crate::lists::canon_map::CanonMapIter;
 use crate::merge::choice::Choice;
@@ -79,7 +79,7 @@ pub fn chosen_of<
 /// as the choice says of the least lengths. Refused memory drops both.
 pub fn entries_chosen_of<
     T: Integer,
-    VCL: ValueCarrier,
+    VCL: HasValue,
     VCR: ValueCarrier,
     L: SortedDisjointMap<T, VCL>,
     R: SortedDisjointMap<T, VCR>,

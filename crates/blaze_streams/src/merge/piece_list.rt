@@ -5,7 +5,7 @@ ghost use Rattle.blaze_table.specs.Listed.{listed};
 ghost use Rattle.blaze_streams.specs.Choosing.{PutsAlike};
 ghost use Rattle.blaze_streams.specs.RangeLists.{shown_ranges};
 
-use crate::carrier::ValueCarrier;
+use crate::carrier::{HasValue, ValueCarrier};
 use crate::merge::push::{push_joined, push_value};
 use blaze_int::Integer;
 use std::alloc::AllocError;
@@ -35,7 +35,7 @@ impl<T: Integer, VC: ValueCarrier> PieceList<T, VC> for Vec<(RangeInclusive<T>, 
 }
 
 /// A list of entries, of first key, last key and value, takes a value of the carrier, but where its last entry goes on with it.
-impl<T: Integer, V: Eq + Clone, VC: ValueCarrier<Value = V>> PieceList<T, VC> for Vec<(T, T, V)> {
+impl<T: Integer, V: Eq + Clone, VC: HasValue<Value = V>> PieceList<T, VC> for Vec<(T, T, V)> {
     ghost entries = { λ list. listed T.rank list.items };
 
     fn put(&mut self, start: T, end: T, carrier: VC) -> Result<(), AllocError> {

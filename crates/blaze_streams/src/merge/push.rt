@@ -6,7 +6,7 @@ ghost use Rattle.blaze_table.specs.Splice.{glue};
 ghost use Rattle.blaze_streams.specs.Choosing.{PutsAlike};
 ghost use Rattle.blaze_streams.specs.RangeLists.{shown_ranges};
 
-use crate::carrier::ValueCarrier;
+use crate::carrier::{HasValue, ValueCarrier};
 use blaze_int::Integer;
 use blaze_int::compare::is_next;
 use std::alloc::AllocError;
@@ -54,7 +54,7 @@ pub fn push_joined<T: Integer, VC: ValueCarrier>(
 
 /// Lets the last entry go on up to `end` where it ends right below `start` and has a value equal to the carrier's, and answers
 /// whether it does. Where it does not, no value equal to the carrier's is joined with it there.
-fn lengthen_entry<T: Integer, VC: ValueCarrier>(
+fn lengthen_entry<T: Integer, VC: HasValue>(
     out: &mut Vec<(T, T, VC::Value)>,
     start: T,
     end: T,
@@ -79,7 +79,7 @@ fn lengthen_entry<T: Integer, VC: ValueCarrier>(
 
 /// Adds an entry with a value equal to the carrier's, in one with the last where the two touch with equal values. A value is
 /// taken of the carrier where the entry is one of its own. Refused memory leaves the list unchanged.
-pub fn push_value<T: Integer, VC: ValueCarrier>(
+pub fn push_value<T: Integer, VC: HasValue>(
     out: &mut Vec<(T, T, VC::Value)>,
     start: T,
     end: T,
