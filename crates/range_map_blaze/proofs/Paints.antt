@@ -5,8 +5,7 @@ pub mod LeftAlone
 pub mod Paintings
 pub mod Joinings
 pub mod Gaps
-pub mod Fillings
-pub mod FilledUnder
+pub mod FilledFrom
 pub mod Following
 pub mod OnRanges
 pub mod CutRanges

@@ -8,6 +8,7 @@ pub use Rattle.blaze_table.specs.Complement
 pub use Rattle.blaze_table.specs.Count
 pub use Rattle.blaze_table.specs.Cut
 pub use Rattle.blaze_table.specs.Equality
+pub use Rattle.blaze_table.specs.Filled
 pub use Rattle.blaze_table.specs.Gap
 pub use Rattle.blaze_table.specs.Painted
 pub use Rattle.blaze_table.specs.RangeSets
@@ -33,7 +34,7 @@ pub mod Extended
 pub mod Collected
 pub mod Underway
 pub mod Union
-pub mod Filled
+pub mod FilledFrom
 pub mod Order
 pub mod Hashed
 pub mod OrderLaws

@@ -1,4 +1,4 @@
--- The laws of joins of maps, and of maps with what a closure answers at their values.
+-- The laws of filling one map from another, of joins of maps, and of maps with what a closure answers at their values.
 use Rattle.std.specs.Prelude.{◌≡◌, ℤ, ◌≤ℤ◌, Bool, List, Option, IsSome}
 use Rattle.std.specs.Option.{is_some}
 use Rattle.std.specs.Fn.{Mut}
@@ -8,6 +8,12 @@ use Rattle.blaze_table.specs.Count.{mapped_keys}
 use Rattle.blaze_streams.specs.declared.segmenting.joins.JoinKind.TheVariants.{Inner, Left, Full}
 use Rattle.blaze_streams.specs.Answers.{IsTransformed}
 use Rattle.blaze_streams.specs.JoinAnswers.{IsJoined}
+use Rattle.range_map_blaze.specs.FilledFrom.{IsFilledFrom}
+use Rattle.range_map_blaze.specs.Union.{IsUnion}
+
+-- a map whose gaps are filled from another is the other with it painted over: the ranges are the same, and values equal
+abbrev pub FillingIsUnion : {V : Type 0} → (V → V → Bool) → ℤ → ℤ → Type 0
+FillingIsUnion {V} eq low high = (other old filled union : List (Entry V)) → IsFilledFrom eq low high other old filled → IsUnion eq low high other old union → SameEntries eq filled union
 
 -- two lists map the same keys, and so as many
 pub record HaveSameKeys {V W : Type 0} (low high : ℤ) (entries : List (Entry V)) (new : List (Entry W)) : Type 0 where

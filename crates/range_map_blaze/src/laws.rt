@@ -1,9 +1,14 @@
-//! The laws of joins of maps, and of maps with what a closure answers at their values.
+//! The laws of filling one map from another, of joins of maps, and of maps with what a closure answers at their values.
 ghost use Rattle.blaze_streams.specs.JoinAnswers.{either, both, with_left};
-ghost use Rattle.range_map_blaze.specs.MapLaws.{AnswersAreOnItsKeys, FullJoinIsInnerJoin};
+ghost use Rattle.range_map_blaze.specs.MapLaws.{AnswersAreOnItsKeys, FillingIsUnion, FullJoinIsInnerJoin};
 ghost use Rattle.range_map_blaze.specs.MapLaws.{LeftJoinIsOnTheLeftKeys};
 
 use blaze_int::Integer;
+
+/// `a.extend_absent(&b)` leaves the entries of `b | a`: the same ranges, with equal values.
+pub fn extend_absent_is_or<T: Integer, V: Eq>()
+    ensures { FillingIsUnion V.eq T.low T.high }
+{}
 
 /// `transform_values` keeps the mapped keys, and so `len`.
 pub fn transform_values_keeps_keys<T: Integer, V: Eq, W: Eq, F: FnMut(&V) -> W>()

@@ -101,6 +101,15 @@ impl<T: Integer, V: Eq> RangeMapBlaze<T, V> {
         RangeValuesIter::new(&self.table)
     }
 
+    // The same entries, of which nothing is counted yet: a call that makes a map out of one that it was given ends with it.
+    pub(crate) fn uncounted(self) -> Self
+        ensures { result ≡ uncounted self.entries }
+    {
+        RangeMapBlaze {
+            table: self.table.uncounted(),
+        }
+    }
+
     // The allocator of the map's memory.
     pub(crate) fn allocator(&self) -> Global {
         self.table.allocator()

@@ -4,6 +4,7 @@ ghost use Rattle.std.specs.Prelude.{◌≡◌, ◌<◌, List, length, map, refl,
 ghost use Rattle.blaze_table.specs.Entries.{Entry};
 ghost use Rattle.blaze_table.specs.Painted.{ClonesAreAlike};
 ghost use Rattle.range_map_multi.specs.Many.{last_value, last_of_all, last_of_odd, IsChosenOfMany};
+ghost use Rattle.range_map_blaze.specs.Made.{IsMade};
 
 use crate::merges::{merged_intersection, merged_union};
 use crate::parity::merged_symmetric_difference;
@@ -88,8 +89,7 @@ pub fn lent_union<'a, T: Integer, V: Eq + Clone, M: AsMap<T, V>>(
     maps: &'a [M],
 ) -> Result<RangeMapBlaze<T, V>, AllocError>
     requires { ClonesAreAlike V.is_clone V.eq }
-    ensures { IfOk result (λ new. IsChosenOfMany V.eq T.low T.high last_value
-        (map M.shown maps.now) new.entries) }
+    ensures { IfOk result (IsMade (IsChosenOfMany V.eq T.low T.high last_value (map M.shown maps.now))) }
 {
     let streams = streams_of(alloc, maps)?;
     let stream = merged_union(alloc, streams)?;
@@ -104,8 +104,7 @@ pub fn lent_intersection<'a, T: Integer, V: Eq + Clone, M: AsMap<T, V>>(
 ) -> Result<RangeMapBlaze<T, V>, AllocError>
     requires clones { ClonesAreAlike V.is_clone V.eq }
     requires some { 0 < length maps.now }
-    ensures { IfOk result (λ new. IsChosenOfMany V.eq T.low T.high last_of_all
-        (map M.shown maps.now) new.entries) }
+    ensures { IfOk result (IsMade (IsChosenOfMany V.eq T.low T.high last_of_all (map M.shown maps.now))) }
 {
     let streams = streams_of(alloc, maps)?;
     let stream = merged_intersection(alloc, streams)?;
@@ -119,8 +118,7 @@ pub fn lent_symmetric_difference<'a, T: Integer, V: Eq + Clone, M: AsMap<T, V>>(
     maps: &'a [M],
 ) -> Result<RangeMapBlaze<T, V>, AllocError>
     requires { ClonesAreAlike V.is_clone V.eq }
-    ensures { IfOk result (λ new. IsChosenOfMany V.eq T.low T.high last_of_odd
-        (map M.shown maps.now) new.entries) }
+    ensures { IfOk result (IsMade (IsChosenOfMany V.eq T.low T.high last_of_odd (map M.shown maps.now))) }
 {
     let streams = streams_of(alloc, maps)?;
     let stream = merged_symmetric_difference(alloc, streams)?;

@@ -3,6 +3,7 @@ ghost use Rattle.std.specs.Prelude.{map, is_some, IfOk};
 ghost use Rattle.std.specs.List.{list_all, list_any};
 ghost use Rattle.range_map_multi.specs.ManyJoins.{shown_row, shown_full_row, IsCallableAtRows};
 ghost use Rattle.range_map_multi.specs.ManyJoins.{IsManyJoined};
+ghost use Rattle.range_map_blaze.specs.Made.{IsMade};
 
 use crate::lent::{AsMap, streams_of};
 use crate::parts::all_parts_of;
@@ -32,8 +33,7 @@ pub fn lent_inner_join<
 >(alloc: Global, maps: &'a [M], f: F) -> Result<RangeMapBlaze<T, W>, AllocError>
     requires { IsCallableAtRows (λ a. shown_full_row (λ v. v.now) a.0.now) F.FnMut V.eq T.low T.high
         (list_all is_some) f (map M.shown maps.now) }
-    ensures { IfOk result (λ new. IsManyJoined (λ a. shown_full_row (λ v. v.now) a.0.now) F.FnMut
-        V.eq T.low T.high (list_all is_some) W.eq f (map M.shown maps.now) new.entries) }
+    ensures { IfOk result (IsMade (IsManyJoined (λ a. shown_full_row (λ v. v.now) a.0.now) F.FnMut V.eq T.low T.high (list_all is_some) W.eq f (map M.shown maps.now))) }
 {
     let streams = streams_of(alloc, maps)?;
     let (mut cursors, values) = all_parts_of(alloc, streams)?;
@@ -53,8 +53,7 @@ pub fn lent_full_join<
 >(alloc: Global, maps: &'a [M], f: F) -> Result<RangeMapBlaze<T, W>, AllocError>
     requires { IsCallableAtRows (λ a. shown_row (λ v. v.now) a.0.now) F.FnMut V.eq T.low T.high
         (list_any is_some) f (map M.shown maps.now) }
-    ensures { IfOk result (λ new. IsManyJoined (λ a. shown_row (λ v. v.now) a.0.now) F.FnMut V.eq
-        T.low T.high (list_any is_some) W.eq f (map M.shown maps.now) new.entries) }
+    ensures { IfOk result (IsMade (IsManyJoined (λ a. shown_row (λ v. v.now) a.0.now) F.FnMut V.eq T.low T.high (list_any is_some) W.eq f (map M.shown maps.now))) }
 {
     let streams = streams_of(alloc, maps)?;
     let (mut cursors, values) = all_parts_of(alloc, streams)?;

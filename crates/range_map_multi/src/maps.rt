@@ -6,6 +6,7 @@ ghost use Rattle.blaze_table.specs.Painted.{ClonesAreAlike};
 ghost use Rattle.range_map_multi.specs.Many.{last_value, last_of_all, last_of_odd, IsChosenOfMany};
 ghost use Rattle.range_map_multi.specs.ManyJoins.{shown_row, shown_full_row, IsCallableAtRows};
 ghost use Rattle.range_map_multi.specs.ManyJoins.{IsManyJoined};
+ghost use Rattle.range_map_blaze.specs.Made.{IsMade};
 
 use crate::lent::{AsMap, lent_intersection, lent_symmetric_difference, lent_union};
 use crate::lent_joins::{lent_full_join, lent_inner_join};
@@ -22,23 +23,20 @@ pub trait MultiwayRangeMapBlazeRef<T: Integer, V: Eq + Clone>: Sized {
     /// one clone of its value. With n entries in k maps it takes O(n log k) steps.
     fn union(self, alloc: Global) -> Result<RangeMapBlaze<T, V>, AllocError>
         requires { ClonesAreAlike V.is_clone V.eq }
-        ensures { IfOk result (λ new. IsChosenOfMany V.eq T.low T.high last_value
-            (lists self) new.entries) };
+        ensures { IfOk result (IsMade (IsChosenOfMany V.eq T.low T.high last_value (lists self))) };
 
     /// Each key that all maps have, with the last map's value. There is to be at least one map. Each entry of the answer takes
     /// one clone of its value. With n entries in k maps it takes O(n log k) steps.
     fn intersection(self, alloc: Global) -> Result<RangeMapBlaze<T, V>, AllocError>
         requires clones { ClonesAreAlike V.is_clone V.eq }
         requires some { 0 < length (lists self) }
-        ensures { IfOk result (λ new. IsChosenOfMany V.eq T.low T.high last_of_all
-            (lists self) new.entries) };
+        ensures { IfOk result (IsMade (IsChosenOfMany V.eq T.low T.high last_of_all (lists self))) };
 
     /// Each key that an odd number of maps have, with the value of the last map that has it; of no maps nothing. Each entry of
     /// the answer takes one clone of its value. With n entries in k maps it takes O(n log k) steps.
     fn symmetric_difference(self, alloc: Global) -> Result<RangeMapBlaze<T, V>, AllocError>
         requires { ClonesAreAlike V.is_clone V.eq }
-        ensures { IfOk result (λ new. IsChosenOfMany V.eq T.low T.high last_of_odd
-            (lists self) new.entries) };
+        ensures { IfOk result (IsMade (IsChosenOfMany V.eq T.low T.high last_of_odd (lists self))) };
 
     /// What a closure answers where all maps have a value: one call for each of the greatest ranges on which no map changes and
     /// all have a value, ascending. A call gets the row of the maps' values, first to last. Touching equal answers are one
@@ -51,8 +49,7 @@ pub trait MultiwayRangeMapBlazeRef<T: Integer, V: Eq + Clone>: Sized {
     ) -> Result<RangeMapBlaze<T, W>, AllocError>
         requires { IsCallableAtRows (λ a. shown_full_row (λ v. v.now) a.0.now) F.FnMut V.eq T.low
             T.high (list_all is_some) f (lists self) }
-        ensures { IfOk result (λ new. IsManyJoined (λ a. shown_full_row (λ v. v.now) a.0.now)
-            F.FnMut V.eq T.low T.high (list_all is_some) W.eq f (lists self) new.entries) };
+        ensures { IfOk result (IsMade (IsManyJoined (λ a. shown_full_row (λ v. v.now) a.0.now) F.FnMut V.eq T.low T.high (list_all is_some) W.eq f (lists self))) };
 
     /// The same where at least one map has a value, with `None` for each that has none; of no maps nothing, and no call.
     fn full_join<W: Eq + Clone, F: FnMut(&[Option<&V>]) -> W>(
@@ -62,8 +59,7 @@ pub trait MultiwayRangeMapBlazeRef<T: Integer, V: Eq + Clone>: Sized {
     ) -> Result<RangeMapBlaze<T, W>, AllocError>
         requires { IsCallableAtRows (λ a. shown_row (λ v. v.now) a.0.now) F.FnMut V.eq T.low T.high
             (list_any is_some) f (lists self) }
-        ensures { IfOk result (λ new. IsManyJoined (λ a. shown_row (λ v. v.now) a.0.now) F.FnMut
-            V.eq T.low T.high (list_any is_some) W.eq f (lists self) new.entries) };
+        ensures { IfOk result (IsMade (IsManyJoined (λ a. shown_row (λ v. v.now) a.0.now) F.FnMut V.eq T.low T.high (list_any is_some) W.eq f (lists self))) };
 }
 
 impl<'a, T: Integer, V: Eq + Clone> MultiwayRangeMapBlazeRef<T, V>
@@ -156,23 +152,20 @@ pub trait MultiwayRangeMapBlaze<T: Integer, V: Eq + Clone>: Sized {
     /// one clone of its value. With n entries in k maps it takes O(n log k) steps.
     fn union(self, alloc: Global) -> Result<RangeMapBlaze<T, V>, AllocError>
         requires { ClonesAreAlike V.is_clone V.eq }
-        ensures { IfOk result (λ new. IsChosenOfMany V.eq T.low T.high last_value
-            (lists self) new.entries) };
+        ensures { IfOk result (IsMade (IsChosenOfMany V.eq T.low T.high last_value (lists self))) };
 
     /// Each key that all maps have, with the last map's value. There is to be at least one map. Each entry of the answer takes
     /// one clone of its value. With n entries in k maps it takes O(n log k) steps.
     fn intersection(self, alloc: Global) -> Result<RangeMapBlaze<T, V>, AllocError>
         requires clones { ClonesAreAlike V.is_clone V.eq }
         requires some { 0 < length (lists self) }
-        ensures { IfOk result (λ new. IsChosenOfMany V.eq T.low T.high last_of_all
-            (lists self) new.entries) };
+        ensures { IfOk result (IsMade (IsChosenOfMany V.eq T.low T.high last_of_all (lists self))) };
 
     /// Each key that an odd number of maps have, with the value of the last map that has it; of no maps nothing. Each entry of
     /// the answer takes one clone of its value. With n entries in k maps it takes O(n log k) steps.
     fn symmetric_difference(self, alloc: Global) -> Result<RangeMapBlaze<T, V>, AllocError>
         requires { ClonesAreAlike V.is_clone V.eq }
-        ensures { IfOk result (λ new. IsChosenOfMany V.eq T.low T.high last_of_odd
-            (lists self) new.entries) };
+        ensures { IfOk result (IsMade (IsChosenOfMany V.eq T.low T.high last_of_odd (lists self))) };
 }
 
 impl<T: Integer, V: Eq + Clone> MultiwayRangeMapBlaze<T, V> for Vec<RangeMapBlaze<T, V>> {

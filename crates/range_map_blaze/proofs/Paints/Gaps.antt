@@ -1,48 +1,12 @@
--- The entry at a key, and the first gap behind it.
-use Rattle.blaze_int.specs.Unsigned.{nat_of}
-use Rattle.std.proofs.Common.{◌≡◌, ◌<◌, ℤ, pos, ◌-ℤ◌, ◌≤ℤ◌, ◌<ℤ◌, Bool, true, false, cond, List, [], ◌∷◌, Some, None, refl, ◌∙◌, sym, subst, arith}
-use Rattle.std.specs.Prelude.{IsSome, find, int_lt}
+-- The entry above a key without a value.
+use Rattle.std.proofs.Common.{◌≡◌, ℤ, Bool, List, None}
+use Rattle.std.specs.Prelude.{find, int_lt}
 use Rattle.std.specs.Cmp.{IsEquivalence}
-use Rattle.std.proofs.lemmas.Int.{ints, by_lt_z}
-use Rattle.blaze_int.proofs.Naturals.{nat_of-pos}
-use Rattle.blaze_table.specs.Entries.{Entry, at, entry_at, holds}
+use Rattle.blaze_table.specs.Entries.{Entry, at}
 use Rattle.blaze_table.specs.Canonical.{IsRangeMap}
 use Rattle.blaze_table.proofs.Neighbours.Between.{IsAboveGap, above_gap}
-use Rattle.blaze_table.proofs.Canonical.Lookup.{by_place, entry_in, entry_under, entry_over, holds_in}
 use Rattle.blaze_table.proofs.Canonical.RangeMaps.{starts_ascend}
 use Rattle.blaze_table.proofs.Canonical.Runs.{canonical}
-use Rattle.range_map_blaze.specs.Filled.{IsHeldFrom}
-
-module _ {V : Type 0} where
-  -- the entry found at a key has it
-  pub entry_has : (e : Entry V) (es : List (Entry V)) (k : ℤ) → Some e ≡ entry_at es k → (e.lo ≤ℤ k) × (k ≤ℤ e.hi)
-  entry_has e [] k p = cc
-  entry_has e (f ∷ fs) k p = by_place f k
-      (λ a b. let same : e ≡ f = cc (p, entry_in f fs k a b) in subst (λ (x : Entry V). (x.lo ≤ℤ k) × (k ≤ℤ x.hi)) (sym same) (a, b))
-      (λ a. entry_has e fs k (p ∙ entry_under f fs k a))
-      (λ b. entry_has e fs k (p ∙ entry_over f fs k b))
-
-  -- the list has a value at each key of an entry found in it
-  pub entry_held : (e : Entry V) (es : List (Entry V)) (k : ℤ) → Some e ≡ entry_at es k → IsHeldFrom (at es) e.lo e.hi
-  entry_held e [] k p j l h = cc
-  entry_held e (f ∷ fs) k p j l h = by_place f k
-      (λ a b. let same : e ≡ f = cc (p, entry_in f fs k a b) in rw (holds_in f j (subst (λ (x : Entry V). x.lo ≤ℤ j) same l) (subst (λ (x : Entry V). j ≤ℤ x.hi) same h)) refl)
-      (λ a. more (holds f j) (entry_held e fs k (p ∙ entry_under f fs k a) j l h))
-      (λ b. more (holds f j) (entry_held e fs k (p ∙ entry_over f fs k b) j l h))
-    where
-      more : (b : Bool) → IsSome (at fs j) → IsSome (cond b (Some f.value) (at fs j))
-      more true s = refl
-      more false s = s
-
-  -- up to the entry's end there are values, where there are up to the key
-  pub held_more : (e : Entry V) (es : List (Entry V)) (l k h : ℤ) → Some e ≡ entry_at es k → h ≤ℤ e.hi → IsHeldFrom (at es) l (k -ℤ pos 1) → IsHeldFrom (at es) l h
-  held_more e es l k h p u s j a b = by_lt_z j k
-      (λ x. s j a (omega (arith, ints)))
-      (λ x. let has = entry_has e es k p in entry_held e es k p j (omega (arith, ints, has)) (omega (arith, ints)))
-
--- a later key is nearer to the end
-pub nearer : (a b end : ℤ) → a <ℤ b → b ≤ℤ end → nat_of (end -ℤ b) < nat_of (end -ℤ a)
-nearer a b end l h = omega (arith, ints, nat_of-pos (end -ℤ b) (omega (arith, ints)), nat_of-pos (end -ℤ a) (omega (arith, ints)))
 
 -- the entry above a key without a value, and the keys between
 pub above_key : {V : Type 0} (eq : V → V → Bool) (laws : IsEquivalence eq) (low high k : ℤ) (es : List (Entry V)) → IsRangeMap eq low high es → at es k ≡ None → IsAboveGap k es (find (λ e. int_lt k e.lo) es)

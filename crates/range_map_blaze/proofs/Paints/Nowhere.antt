@@ -8,7 +8,7 @@ use Rattle.blaze_table.specs.Entries.{Entry, at, SameOption}
 use Rattle.blaze_table.specs.Canonical.{IsRangeMap}
 use Rattle.blaze_table.specs.Painted.{IsPainted}
 
-no_key : (l h k : ℤ) → h <ℤ l → (int_le l k && int_le k h) ≡ false
+pub no_key : (l h k : ℤ) → h <ℤ l → (int_le l k && int_le k h) ≡ false
 no_key l h k w = grind (arith, ints)
 
 module _ {V : Type 0} (eq : V → V → Bool) (laws : IsEquivalence eq) where

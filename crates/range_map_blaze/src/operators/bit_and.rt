@@ -3,11 +3,10 @@
 ghost use Rattle.std.specs.Prelude.{IfOk};
 ghost use Rattle.blaze_table.specs.Chosen.{left_with_right, IsChosen};
 ghost use Rattle.blaze_table.specs.Painted.{ClonesAreAlike};
+ghost use Rattle.range_map_blaze.specs.Made.{IsMade};
 
 use crate::map::RangeMapBlaze;
-use crate::operators::pointwise::{
-    intersection, intersection_by_value, intersection_by_value_with_set, intersection_with_set,
-};
+use crate::operators::by_keys::{within_keys, within_keys_by_value};
 use blaze_int::Integer;
 use blaze_table::RangeSetBlaze;
 use std::alloc::AllocError;
@@ -19,11 +18,10 @@ impl<T: Integer, V: Eq + Clone> BitAnd for RangeMapBlaze<T, V> {
     ghost can_bitand = { λ _ _. ClonesAreAlike V.is_clone V.eq };
 
     ghost bitand_gives = { λ left right result. IfOk result
-        (λ map. IsChosen V.eq T.low T.high left_with_right right.entries
-        left.entries map.entries) };
+        (IsMade (IsChosen V.eq T.low T.high left_with_right right.entries left.entries)) };
 
     fn bitand(self, right: RangeMapBlaze<T, V>) -> Result<RangeMapBlaze<T, V>, AllocError> {
-        intersection_by_value(&self, right)
+        Ok(within_keys_by_value(right, &self.table)?.uncounted())
     }
 }
 
@@ -33,11 +31,10 @@ impl<'b, T: Integer, V: Eq + Clone> BitAnd<&'b RangeMapBlaze<T, V>> for RangeMap
     ghost can_bitand = { λ _ _. ClonesAreAlike V.is_clone V.eq };
 
     ghost bitand_gives = { λ left right result. IfOk result
-        (λ map. IsChosen V.eq T.low T.high left_with_right right.now.entries
-        left.entries map.entries) };
+        (IsMade (IsChosen V.eq T.low T.high left_with_right right.now.entries left.entries)) };
 
     fn bitand(self, right: &'b RangeMapBlaze<T, V>) -> Result<RangeMapBlaze<T, V>, AllocError> {
-        intersection(&self, right)
+        Ok(within_keys(right, &self.table)?.uncounted())
     }
 }
 
@@ -47,11 +44,10 @@ impl<'a, T: Integer, V: Eq + Clone> BitAnd<RangeMapBlaze<T, V>> for &'a RangeMap
     ghost can_bitand = { λ _ _. ClonesAreAlike V.is_clone V.eq };
 
     ghost bitand_gives = { λ left right result. IfOk result
-        (λ map. IsChosen V.eq T.low T.high left_with_right right.entries
-        left.now.entries map.entries) };
+        (IsMade (IsChosen V.eq T.low T.high left_with_right right.entries left.now.entries)) };
 
     fn bitand(self, right: RangeMapBlaze<T, V>) -> Result<RangeMapBlaze<T, V>, AllocError> {
-        intersection_by_value(self, right)
+        Ok(within_keys_by_value(right, &self.table)?.uncounted())
     }
 }
 
@@ -62,11 +58,10 @@ impl<'a, 'b, T: Integer, V: Eq + Clone> BitAnd<&'b RangeMapBlaze<T, V>>
     ghost can_bitand = { λ _ _. ClonesAreAlike V.is_clone V.eq };
 
     ghost bitand_gives = { λ left right result. IfOk result
-        (λ map. IsChosen V.eq T.low T.high left_with_right right.now.entries
-        left.now.entries map.entries) };
+        (IsMade (IsChosen V.eq T.low T.high left_with_right right.now.entries left.now.entries)) };
 
     fn bitand(self, right: &'b RangeMapBlaze<T, V>) -> Result<RangeMapBlaze<T, V>, AllocError> {
-        intersection(self, right)
+        Ok(within_keys(right, &self.table)?.uncounted())
     }
 }
 
@@ -76,10 +71,10 @@ impl<T: Integer, V: Eq + Clone> BitAnd<RangeSetBlaze<T>> for RangeMapBlaze<T, V>
     ghost can_bitand = { λ _ _. ClonesAreAlike V.is_clone V.eq };
 
     ghost bitand_gives = { λ left right result. IfOk result
-        (λ map. IsChosen V.eq T.low T.high left_with_right left.entries right map.entries) };
+        (IsMade (IsChosen V.eq T.low T.high left_with_right left.entries right)) };
 
     fn bitand(self, right: RangeSetBlaze<T>) -> Result<RangeMapBlaze<T, V>, AllocError> {
-        intersection_by_value_with_set(self, &right)
+        Ok(within_keys_by_value(self, right.as_table())?.uncounted())
     }
 }
 
@@ -89,10 +84,10 @@ impl<'b, T: Integer, V: Eq + Clone> BitAnd<&'b RangeSetBlaze<T>> for RangeMapBla
     ghost can_bitand = { λ _ _. ClonesAreAlike V.is_clone V.eq };
 
     ghost bitand_gives = { λ left right result. IfOk result
-        (λ map. IsChosen V.eq T.low T.high left_with_right left.entries right.now map.entries) };
+        (IsMade (IsChosen V.eq T.low T.high left_with_right left.entries right.now)) };
 
     fn bitand(self, right: &'b RangeSetBlaze<T>) -> Result<RangeMapBlaze<T, V>, AllocError> {
-        intersection_by_value_with_set(self, right)
+        Ok(within_keys_by_value(self, right.as_table())?.uncounted())
     }
 }
 
@@ -102,10 +97,10 @@ impl<'a, T: Integer, V: Eq + Clone> BitAnd<RangeSetBlaze<T>> for &'a RangeMapBla
     ghost can_bitand = { λ _ _. ClonesAreAlike V.is_clone V.eq };
 
     ghost bitand_gives = { λ left right result. IfOk result
-        (λ map. IsChosen V.eq T.low T.high left_with_right left.now.entries right map.entries) };
+        (IsMade (IsChosen V.eq T.low T.high left_with_right left.now.entries right)) };
 
     fn bitand(self, right: RangeSetBlaze<T>) -> Result<RangeMapBlaze<T, V>, AllocError> {
-        intersection_with_set(self, &right)
+        Ok(within_keys(self, right.as_table())?.uncounted())
     }
 }
 
@@ -115,10 +110,9 @@ impl<'a, 'b, T: Integer, V: Eq + Clone> BitAnd<&'b RangeSetBlaze<T>> for &'a Ran
     ghost can_bitand = { λ _ _. ClonesAreAlike V.is_clone V.eq };
 
     ghost bitand_gives = { λ left right result. IfOk result
-        (λ map. IsChosen V.eq T.low T.high left_with_right left.now.entries
-        right.now map.entries) };
+        (IsMade (IsChosen V.eq T.low T.high left_with_right left.now.entries right.now)) };
 
     fn bitand(self, right: &'b RangeSetBlaze<T>) -> Result<RangeMapBlaze<T, V>, AllocError> {
-        intersection_with_set(self, right)
+        Ok(within_keys(self, right.as_table())?.uncounted())
     }
 }

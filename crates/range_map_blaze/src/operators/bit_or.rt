@@ -3,6 +3,7 @@
 ghost use Rattle.std.specs.Prelude.{IfOk};
 ghost use Rattle.blaze_table.specs.Painted.{ClonesAreAlike};
 ghost use Rattle.range_map_blaze.specs.Union.{IsUnion};
+ghost use Rattle.range_map_blaze.specs.Made.{IsMade};
 
 use crate::map::RangeMapBlaze;
 use crate::operators::union::{union, union_by_value, union_under, union_with};
@@ -16,10 +17,10 @@ impl<T: Integer, V: Eq + Clone> BitOr for RangeMapBlaze<T, V> {
     ghost can_bitor = { λ _ _. ClonesAreAlike V.is_clone V.eq };
 
     ghost bitor_gives = { λ left right result. IfOk result
-        (λ map. IsUnion V.eq T.low T.high left.entries right.entries map.entries) };
+        (IsMade (IsUnion V.eq T.low T.high left.entries right.entries)) };
 
     fn bitor(self, right: RangeMapBlaze<T, V>) -> Result<RangeMapBlaze<T, V>, AllocError> {
-        union_by_value(self, right)
+        Ok(union_by_value(self, right)?.uncounted())
     }
 }
 
@@ -29,10 +30,10 @@ impl<'b, T: Integer, V: Eq + Clone> BitOr<&'b RangeMapBlaze<T, V>> for RangeMapB
     ghost can_bitor = { λ _ _. ClonesAreAlike V.is_clone V.eq };
 
     ghost bitor_gives = { λ left right result. IfOk result
-        (λ map. IsUnion V.eq T.low T.high left.entries right.now.entries map.entries) };
+        (IsMade (IsUnion V.eq T.low T.high left.entries right.now.entries)) };
 
     fn bitor(self, right: &'b RangeMapBlaze<T, V>) -> Result<RangeMapBlaze<T, V>, AllocError> {
-        union_with(self, right)
+        Ok(union_with(self, right)?.uncounted())
     }
 }
 
@@ -42,10 +43,10 @@ impl<'a, T: Integer, V: Eq + Clone> BitOr<RangeMapBlaze<T, V>> for &'a RangeMapB
     ghost can_bitor = { λ _ _. ClonesAreAlike V.is_clone V.eq };
 
     ghost bitor_gives = { λ left right result. IfOk result
-        (λ map. IsUnion V.eq T.low T.high left.now.entries right.entries map.entries) };
+        (IsMade (IsUnion V.eq T.low T.high left.now.entries right.entries)) };
 
     fn bitor(self, right: RangeMapBlaze<T, V>) -> Result<RangeMapBlaze<T, V>, AllocError> {
-        union_under(self, right)
+        Ok(union_under(self, right)?.uncounted())
     }
 }
 
@@ -55,9 +56,9 @@ impl<'a, 'b, T: Integer, V: Eq + Clone> BitOr<&'b RangeMapBlaze<T, V>> for &'a R
     ghost can_bitor = { λ _ _. ClonesAreAlike V.is_clone V.eq };
 
     ghost bitor_gives = { λ left right result. IfOk result
-        (λ map. IsUnion V.eq T.low T.high left.now.entries right.now.entries map.entries) };
+        (IsMade (IsUnion V.eq T.low T.high left.now.entries right.now.entries)) };
 
     fn bitor(self, right: &'b RangeMapBlaze<T, V>) -> Result<RangeMapBlaze<T, V>, AllocError> {
-        union(self, right)
+        Ok(union(self, right)?.uncounted())
     }
 }

@@ -4,9 +4,10 @@ ghost use Rattle.std.specs.Option.{option_xor};
 ghost use Rattle.std.specs.Prelude.{IfOk};
 ghost use Rattle.blaze_table.specs.Chosen.{IsChosen};
 ghost use Rattle.blaze_table.specs.Painted.{ClonesAreAlike};
+ghost use Rattle.range_map_blaze.specs.Made.{IsMade};
 
 use crate::map::RangeMapBlaze;
-use crate::operators::pointwise::{
+use crate::operators::exactly_one::{
     symmetric_difference, symmetric_difference_by_value, symmetric_difference_with,
 };
 use blaze_int::Integer;
@@ -19,10 +20,10 @@ impl<T: Integer, V: Eq + Clone> BitXor for RangeMapBlaze<T, V> {
     ghost can_bitxor = { λ _ _. ClonesAreAlike V.is_clone V.eq };
 
     ghost bitxor_gives = { λ left right result. IfOk result
-        (λ map. IsChosen V.eq T.low T.high option_xor left.entries right.entries map.entries) };
+        (IsMade (IsChosen V.eq T.low T.high option_xor left.entries right.entries)) };
 
     fn bitxor(self, right: RangeMapBlaze<T, V>) -> Result<RangeMapBlaze<T, V>, AllocError> {
-        symmetric_difference_by_value(self, right)
+        Ok(symmetric_difference_by_value(self, right)?.uncounted())
     }
 }
 
@@ -32,11 +33,10 @@ impl<'b, T: Integer, V: Eq + Clone> BitXor<&'b RangeMapBlaze<T, V>> for RangeMap
     ghost can_bitxor = { λ _ _. ClonesAreAlike V.is_clone V.eq };
 
     ghost bitxor_gives = { λ left right result. IfOk result
-        (λ map. IsChosen V.eq T.low T.high option_xor left.entries
-        right.now.entries map.entries) };
+        (IsMade (IsChosen V.eq T.low T.high option_xor left.entries right.now.entries)) };
 
     fn bitxor(self, right: &'b RangeMapBlaze<T, V>) -> Result<RangeMapBlaze<T, V>, AllocError> {
-        symmetric_difference_with(self, right)
+        Ok(symmetric_difference_with(self, right)?.uncounted())
     }
 }
 
@@ -46,12 +46,11 @@ impl<'a, T: Integer, V: Eq + Clone> BitXor<RangeMapBlaze<T, V>> for &'a RangeMap
     ghost can_bitxor = { λ _ _. ClonesAreAlike V.is_clone V.eq };
 
     ghost bitxor_gives = { λ left right result. IfOk result
-        (λ map. IsChosen V.eq T.low T.high option_xor left.now.entries
-        right.entries map.entries) };
+        (IsMade (IsChosen V.eq T.low T.high option_xor left.now.entries right.entries)) };
 
     fn bitxor(self, right: RangeMapBlaze<T, V>) -> Result<RangeMapBlaze<T, V>, AllocError> {
         let new = symmetric_difference_with(right, self)?;
-        Ok(new)
+        Ok(new.uncounted())
     }
 }
 
@@ -62,10 +61,9 @@ impl<'a, 'b, T: Integer, V: Eq + Clone> BitXor<&'b RangeMapBlaze<T, V>>
     ghost can_bitxor = { λ _ _. ClonesAreAlike V.is_clone V.eq };
 
     ghost bitxor_gives = { λ left right result. IfOk result
-        (λ map. IsChosen V.eq T.low T.high option_xor left.now.entries
-        right.now.entries map.entries) };
+        (IsMade (IsChosen V.eq T.low T.high option_xor left.now.entries right.now.entries)) };
 
     fn bitxor(self, right: &'b RangeMapBlaze<T, V>) -> Result<RangeMapBlaze<T, V>, AllocError> {
-        symmetric_difference(self, right)
+        Ok(symmetric_difference(self, right)?.uncounted())
     }
 }

@@ -3,11 +3,10 @@
 ghost use Rattle.std.specs.Prelude.{IfOk};
 ghost use Rattle.blaze_table.specs.Chosen.{left_alone, IsChosen};
 ghost use Rattle.blaze_table.specs.Painted.{ClonesAreAlike};
+ghost use Rattle.range_map_blaze.specs.Made.{IsMade};
 
 use crate::map::RangeMapBlaze;
-use crate::operators::pointwise::{
-    difference, difference_by_value, difference_by_value_with_set, difference_with_set,
-};
+use crate::operators::by_keys::{outside_keys, outside_keys_by_value};
 use blaze_int::Integer;
 use blaze_table::RangeSetBlaze;
 use std::alloc::AllocError;
@@ -19,10 +18,10 @@ impl<T: Integer, V: Eq + Clone> Sub for RangeMapBlaze<T, V> {
     ghost can_sub = { λ _ _. ClonesAreAlike V.is_clone V.eq };
 
     ghost sub_gives = { λ left right result. IfOk result
-        (λ map. IsChosen V.eq T.low T.high left_alone left.entries right.entries map.entries) };
+        (IsMade (IsChosen V.eq T.low T.high left_alone left.entries right.entries)) };
 
     fn sub(self, right: RangeMapBlaze<T, V>) -> Result<RangeMapBlaze<T, V>, AllocError> {
-        difference_by_value(self, &right)
+        Ok(outside_keys_by_value(self, &right.table)?.uncounted())
     }
 }
 
@@ -32,10 +31,10 @@ impl<'b, T: Integer, V: Eq + Clone> Sub<&'b RangeMapBlaze<T, V>> for RangeMapBla
     ghost can_sub = { λ _ _. ClonesAreAlike V.is_clone V.eq };
 
     ghost sub_gives = { λ left right result. IfOk result
-        (λ map. IsChosen V.eq T.low T.high left_alone left.entries right.now.entries map.entries) };
+        (IsMade (IsChosen V.eq T.low T.high left_alone left.entries right.now.entries)) };
 
     fn sub(self, right: &'b RangeMapBlaze<T, V>) -> Result<RangeMapBlaze<T, V>, AllocError> {
-        difference_by_value(self, right)
+        Ok(outside_keys_by_value(self, &right.table)?.uncounted())
     }
 }
 
@@ -45,10 +44,10 @@ impl<'a, T: Integer, V: Eq + Clone> Sub<RangeMapBlaze<T, V>> for &'a RangeMapBla
     ghost can_sub = { λ _ _. ClonesAreAlike V.is_clone V.eq };
 
     ghost sub_gives = { λ left right result. IfOk result
-        (λ map. IsChosen V.eq T.low T.high left_alone left.now.entries right.entries map.entries) };
+        (IsMade (IsChosen V.eq T.low T.high left_alone left.now.entries right.entries)) };
 
     fn sub(self, right: RangeMapBlaze<T, V>) -> Result<RangeMapBlaze<T, V>, AllocError> {
-        difference(self, &right)
+        Ok(outside_keys(self, &right.table)?.uncounted())
     }
 }
 
@@ -58,11 +57,10 @@ impl<'a, 'b, T: Integer, V: Eq + Clone> Sub<&'b RangeMapBlaze<T, V>> for &'a Ran
     ghost can_sub = { λ _ _. ClonesAreAlike V.is_clone V.eq };
 
     ghost sub_gives = { λ left right result. IfOk result
-        (λ map. IsChosen V.eq T.low T.high left_alone left.now.entries
-        right.now.entries map.entries) };
+        (IsMade (IsChosen V.eq T.low T.high left_alone left.now.entries right.now.entries)) };
 
     fn sub(self, right: &'b RangeMapBlaze<T, V>) -> Result<RangeMapBlaze<T, V>, AllocError> {
-        difference(self, right)
+        Ok(outside_keys(self, &right.table)?.uncounted())
     }
 }
 
@@ -72,10 +70,10 @@ impl<T: Integer, V: Eq + Clone> Sub<RangeSetBlaze<T>> for RangeMapBlaze<T, V> {
     ghost can_sub = { λ _ _. ClonesAreAlike V.is_clone V.eq };
 
     ghost sub_gives = { λ left right result. IfOk result
-        (λ map. IsChosen V.eq T.low T.high left_alone left.entries right map.entries) };
+        (IsMade (IsChosen V.eq T.low T.high left_alone left.entries right)) };
 
     fn sub(self, right: RangeSetBlaze<T>) -> Result<RangeMapBlaze<T, V>, AllocError> {
-        difference_by_value_with_set(self, &right)
+        Ok(outside_keys_by_value(self, right.as_table())?.uncounted())
     }
 }
 
@@ -85,10 +83,10 @@ impl<'b, T: Integer, V: Eq + Clone> Sub<&'b RangeSetBlaze<T>> for RangeMapBlaze<
     ghost can_sub = { λ _ _. ClonesAreAlike V.is_clone V.eq };
 
     ghost sub_gives = { λ left right result. IfOk result
-        (λ map. IsChosen V.eq T.low T.high left_alone left.entries right.now map.entries) };
+        (IsMade (IsChosen V.eq T.low T.high left_alone left.entries right.now)) };
 
     fn sub(self, right: &'b RangeSetBlaze<T>) -> Result<RangeMapBlaze<T, V>, AllocError> {
-        difference_by_value_with_set(self, right)
+        Ok(outside_keys_by_value(self, right.as_table())?.uncounted())
     }
 }
 
@@ -98,10 +96,10 @@ impl<'a, T: Integer, V: Eq + Clone> Sub<RangeSetBlaze<T>> for &'a RangeMapBlaze<
     ghost can_sub = { λ _ _. ClonesAreAlike V.is_clone V.eq };
 
     ghost sub_gives = { λ left right result. IfOk result
-        (λ map. IsChosen V.eq T.low T.high left_alone left.now.entries right map.entries) };
+        (IsMade (IsChosen V.eq T.low T.high left_alone left.now.entries right)) };
 
     fn sub(self, right: RangeSetBlaze<T>) -> Result<RangeMapBlaze<T, V>, AllocError> {
-        difference_with_set(self, &right)
+        Ok(outside_keys(self, right.as_table())?.uncounted())
     }
 }
 
@@ -111,9 +109,9 @@ impl<'a, 'b, T: Integer, V: Eq + Clone> Sub<&'b RangeSetBlaze<T>> for &'a RangeM
     ghost can_sub = { λ _ _. ClonesAreAlike V.is_clone V.eq };
 
     ghost sub_gives = { λ left right result. IfOk result
-        (λ map. IsChosen V.eq T.low T.high left_alone left.now.entries right.now map.entries) };
+        (IsMade (IsChosen V.eq T.low T.high left_alone left.now.entries right.now)) };
 
     fn sub(self, right: &'b RangeSetBlaze<T>) -> Result<RangeMapBlaze<T, V>, AllocError> {
-        difference_with_set(self, right)
+        Ok(outside_keys(self, right.as_table())?.uncounted())
     }
 }

@@ -164,10 +164,7 @@ pub fn painted_under<T: Integer, V: Eq + Clone>(
     let mut map = right;
     left.in_hand();
     map.in_hand();
-    for (start, end, value) in left.table.iter() {
-        let value = value.clone()?;
-        map.fill(start, end, value)?;
-    }
+    map.fill_clones(left)?;
     Ok(map)
 }
 
@@ -183,8 +180,6 @@ pub fn painted_under_by<T: Integer, V: Eq + Clone>(
     let mut map = right;
     left.in_hand();
     map.in_hand();
-    for (start, end, value) in left.table {
-        map.fill(start, end, value)?;
-    }
+    map.fill_entries(left)?;
     Ok(map)
 }

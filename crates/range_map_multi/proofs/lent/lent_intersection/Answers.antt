@@ -8,6 +8,8 @@ pub returns : goal.returns
 returns g c =
     let eq = g.V.PartialEq.eq in
     let low = g.T.Integer.low in
-    let high = g.T.Integer.high in
-    many_as eq g.met.V.Eq.laws low high last_of_all _ _ _
-    (subst (λ Ls. IsChosenOfMany eq low high last_of_all Ls c.in_ok-stream.stream) (map-id c.in_ok-streams.streams.items ∙ c.in_ok-streams.ensures) c.in_ok-stream.ensures) c.in_ok-new.ensures.0
+    let high = g.T.Integer.high in (
+      many_as eq g.met.V.Eq.laws low high last_of_all _ _ _
+          (subst (λ Ls. IsChosenOfMany eq low high last_of_all Ls c.in_ok-stream.stream) (map-id c.in_ok-streams.streams.items ∙ c.in_ok-streams.ensures) c.in_ok-stream.ensures) c.in_ok-new.ensures.0,
+      c.in_ok-new.ensures.1,
+    )

@@ -4,8 +4,8 @@ use Rattle.std.specs.Prelude.{IfSome}
 use Rattle.std.proofs.lemmas.List.{map-append}
 use Rattle.blaze_table.specs.Entries.{shown_entry}
 use Rattle.blaze_table.specs.Listed.{listed}
+use Rattle.blaze_table.proofs.Fills.HeldKeys.{nearer}
 use Rattle.range_map_blaze.specs.Kept.{on_piece, reach}
-use Rattle.range_map_blaze.proofs.Paints.Gaps.{nearer}
 use Rattle.range_map_blaze.proofs.Paints.KeptValues.{IsKeptTo, as_wanted, kept_last, kept_more, kept_skip, not_as_wanted}
 use Rattle.range_map_blaze.proofs.operators.kept.push_kept.Goals.{then-has-mapped+in_ok-hold_back, else-has-mapped}
 use Rattle.range_map_blaze.proofs.operators.kept.push_kept.Goals as goal

@@ -2,8 +2,8 @@ use Rattle.std.proofs.Common.{◌≤ℤ◌, arith}
 use Rattle.std.proofs.lemmas.Int.{ints}
 use Rattle.std.specs.Int.{int_min}
 use Rattle.blaze_table.specs.Entries.{shown_entry}
+use Rattle.blaze_table.proofs.Fills.HeldKeys.{entry_has, entry_held}
 use Rattle.range_map_blaze.proofs.Paints.Following.{by_earlier}
-use Rattle.range_map_blaze.proofs.Paints.Gaps.{entry_has, entry_held}
 use Rattle.range_map_blaze.proofs.operators.kept.steady_from.Goals as goal
 
 pub returns-in-Some-clause-from : goal.returns-in-Some-clause-from

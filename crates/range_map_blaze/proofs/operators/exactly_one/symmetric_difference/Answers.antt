@@ -1,5 +1,5 @@
 use Rattle.range_map_blaze.proofs.Choices.{xor_flipped, xor_in_like}
-use Rattle.range_map_blaze.proofs.operators.pointwise.symmetric_difference.Goals as goal
+use Rattle.range_map_blaze.proofs.operators.exactly_one.symmetric_difference.Goals as goal
 
 pub returns-then-are_few : goal.returns-then-are_few
 returns-then-are_few g c =
