@@ -55,6 +55,11 @@ fn texts(rt: HostRuntime) {
             End::Done,
         ),
         (
+            b"insert 5 x\nfill 3 8 y\nfill 4 7 z\nfill 9 3 z\nlist\n".as_slice(),
+            b"-\ntrue\nfalse\nfalse\n(3..=4, \"y\"), (5..=5, \"x\"), (6..=8, \"y\")\n".as_slice(),
+            End::Done,
+        ),
+        (
             b"insert 5 x\nremove 5\nremove 5\nlen\nat 0\n".as_slice(),
             b"-\nx\n-\n0\n-9223372036854775808..=9223372036854775807 -\n".as_slice(),
             End::Done,
@@ -78,7 +83,7 @@ fn bad_lines(rt: HostRuntime) -> Result<(), Fail> {
         b"get -".as_slice(),
         b"get".as_slice(),
         b"list\r".as_slice(),
-        b"fill 1 2 a".as_slice(),
+        b"fill 1 a".as_slice(),
         b"insert 1 a b".as_slice(),
         b"insert 1 -".as_slice(),
         b"remove 1 2".as_slice(),

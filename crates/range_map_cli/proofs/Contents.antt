@@ -4,9 +4,11 @@ use Rattle.std.specs.declared.string.String.{String}
 use Rattle.std.specs.declared.alloc.Global.{Global}
 use Rattle.std.specs.String.{string_eq}
 use Rattle.std.specs.Cmp.Lexicographic.{bytes_decides}
+use Rattle.std.specs.Option.{option_or}
 use Rattle.std.specs.Ordering.{int_eq}
 use Rattle.std.proofs.lemmas.Option.{same_Some}
 use Rattle.blaze_table.specs.Entries.{Entry, at, SameOption}
+use Rattle.blaze_table.specs.Filled.{filled}
 use Rattle.blaze_table.specs.Painted.{painted}
 use Rattle.blaze_table.specs.Cut.{cut_at}
 use Rattle.range_map_cli.specs.States.{content_of}
@@ -35,6 +37,18 @@ pub content_of-painted : (lo hi : ℤ) (text : String Global) (word : List ℕ) 
 content_of-painted lo hi text word old new same is k =
     let t = int_le lo k && int_le k hi in
     same_words (at new k) (painted lo hi text (at old) k) (same k) ∙ words_if t text (at old k) ∙ ap (λ w. cond t (Some w) (content_of old k)) is
+
+words_or : (t : Bool) (text : String Global) (old : Option (String Global)) → option_map string_bytes (option_or old (cond t (Some text) None)) ≡ option_or (option_map string_bytes old) (cond t (Some (string_bytes text)) None)
+words_or t text (Some old) = refl
+words_or true text None = refl
+words_or false text None = refl
+
+-- the keys that have no word are filled
+pub content_of-filled : (lo hi : ℤ) (text : String Global) (word : List ℕ) (old new : List (Entry (String Global))) → ((k : ℤ) → SameOption string_eq (at new k) (filled lo hi text (at old) k))
+    → string_bytes text ≡ word → (k : ℤ) → content_of new k ≡ filled lo hi word (content_of old) k
+content_of-filled lo hi text word old new same is k =
+    let t = int_le lo k && int_le k hi in
+    same_words (at new k) (filled lo hi text (at old) k) (same k) ∙ words_or t text (at old k) ∙ ap (λ w. option_or (content_of old k) (cond t (Some w) None)) is
 
 no_word_if : (t : Bool) (old : Option (String Global)) → option_map string_bytes (cond t None old) ≡ cond t None (option_map string_bytes old)
 no_word_if true old = refl

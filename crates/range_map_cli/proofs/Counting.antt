@@ -7,9 +7,8 @@ use Rattle.std.specs.declared.alloc.Global.{Global}
 use Rattle.blaze_int.proofs.Naturals.{pos_injective}
 use Rattle.blaze_table.specs.Entries.{Entry, at}
 use Rattle.blaze_table.specs.Count.{keys_in, mapped, mapped_keys}
-use Rattle.blaze_table.specs.Painted.{painted}
-use Rattle.range_map_cli.specs.Replies.{Content, greatest_key, mapped_count, line, least_key, Replies}
-use Rattle.range_map_cli.specs.Commands.{Paint, Len}
+use Rattle.range_map_cli.specs.Replies.{Content, changed_text, greatest_key, mapped_count, line, least_key, Replies}
+use Rattle.range_map_cli.specs.Commands.{Len}
 use Rattle.range_map_cli.specs.States.{content_of}
 
 some_word : (o : Option (String Global)) → is_some (option_map string_bytes o) ≡ is_some o
@@ -25,11 +24,10 @@ pub mapped_count-content_of : (es : List (Entry (String Global))) → mapped_cou
 mapped_count-content_of es = mapped-words (at es) least_key _
 
 -- the number of keys that have a word changes where the lengths do
-pub changed_counts : (changed : Bool) (lo hi : ℤ) (word : List ℕ) (old new : List (Entry (String Global)))
-    → keys_in old ≡ pos (mapped_keys least_key greatest_key (at old)) → keys_in new ≡ pos (mapped_keys least_key greatest_key (at new)) → ((k : ℤ) → content_of new k ≡ painted lo hi word (content_of old) k)
-    → (IsTrue changed ↔ (¬ (keys_in new ≡ keys_in old))) → (IsTrue changed ↔ (¬ (mapped_count (painted lo hi word (content_of old)) ≡ mapped_count (content_of old))))
-changed_counts changed lo hi word old new counted_old counted_new same says =
-    let now : mapped_count (painted lo hi word (content_of old)) ≡ mapped_keys least_key greatest_key (at new) = ap mapped_count (sym (fun_ext same)) ∙ mapped_count-content_of new in
+pub changed_counts : (changed : Bool) (meant : Content) (old new : List (Entry (String Global))) → keys_in old ≡ pos (mapped_keys least_key greatest_key (at old)) → keys_in new ≡ pos (mapped_keys least_key greatest_key (at new))
+    → ((k : ℤ) → content_of new k ≡ meant k) → (IsTrue changed ↔ (¬ (keys_in new ≡ keys_in old))) → (IsTrue changed ↔ (¬ (mapped_count meant ≡ mapped_count (content_of old))))
+changed_counts changed meant old new counted_old counted_new same says =
+    let now : mapped_count meant ≡ mapped_keys least_key greatest_key (at new) = ap mapped_count (sym (fun_ext same)) ∙ mapped_count-content_of new in
     let before : mapped_count (content_of old) ≡ mapped_keys least_key greatest_key (at old) = mapped_count-content_of old in (
       λ is e. says.0 is (counted_new ∙ ap pos (sym now ∙ e ∙ before) ∙ sym counted_old),
       λ ne. says.1 (λ e. ne (now ∙ pos_injective _ _ (sym counted_new ∙ e ∙ counted_old) ∙ sym before)),
@@ -43,14 +41,12 @@ differ_text false m n says = ⊎_elim (λ e. ap (λ t. cond t (codes "false") (c
     refuse : IsTrue false → ⊥
     refuse e = cc
 
--- what is printed for a paint
-pub Replies-paint : (changed : Bool) (content : Content) (l h lo hi : ℤ) (word empty bytes : List ℕ) → l ≡ lo → h ≡ hi
-    → (IsTrue changed ↔ (¬ (mapped_count (painted l h word content) ≡ mapped_count content))) → empty ≡ []
-    → bytes ≡ empty ++ (cond changed (codes "true") (codes "false") ++ 10 ∷ []) → Replies content (Paint lo hi word) bytes
-Replies-paint changed content l h lo hi word empty bytes low_is high_is says none written =
-    let text = ap (λ x. line (cond (eqb (mapped_count (painted x h word content)) (mapped_count content)) (codes "false") (codes "true"))) (sym low_is)
-    ∙ ap (λ t. line t) (differ_text changed _ _ says) in
-    written ∙ ap (λ l. l ++ (cond changed (codes "true") (codes "false") ++ 10 ∷ [])) none ∙ sym (ap (λ y. line (cond (eqb (mapped_count (painted lo y word content)) (mapped_count content)) (codes "false") (codes "true"))) (sym high_is) ∙ text)
+-- what is printed for a paint or a fill
+pub Replies-changed : (changed : Bool) (after : ℤ → ℤ → Content) (content : Content) (l h lo hi : ℤ) (empty bytes : List ℕ) → l ≡ lo → h ≡ hi
+    → (IsTrue changed ↔ (¬ (mapped_count (after l h) ≡ mapped_count content))) → empty ≡ [] → bytes ≡ empty ++ (cond changed (codes "true") (codes "false") ++ 10 ∷ []) → bytes ≡ changed_text (after lo hi) content
+Replies-changed changed after content l h lo hi empty bytes low_is high_is says none written =
+    written ∙ ap (λ l. l ++ (cond changed (codes "true") (codes "false") ++ 10 ∷ [])) none ∙ ap (λ t. line t) (sym (differ_text changed _ _ says))
+    ∙ ap (λ x. changed_text (after x h) content) low_is ∙ ap (λ y. changed_text (after lo y) content) high_is
 
 -- and for the number of keys
 pub Replies-len : (es : List (Entry (String Global))) (n : ℕ) (empty bytes : List ℕ) → n ≡ mapped_keys least_key greatest_key (at es) → empty ≡ [] → bytes ≡ empty ++ (decimal n ++ 10 ∷ []) → Replies (content_of es) Len bytes

@@ -2,6 +2,7 @@ pub mod EntryAt
 pub mod EndKeys
 pub mod Stepped
 pub mod Alike
+pub mod Filling
 pub mod Running
 pub mod LookUps
 pub mod Calls

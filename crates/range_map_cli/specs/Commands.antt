@@ -8,11 +8,12 @@ use Rattle.std.specs.Str.Parse.{digits_value}
 use Rattle.range_map_cli.specs.declared.request.Request.{Request}
 use Rattle.range_map_cli.specs.declared.request.Request.TheVariants as requests
 
--- what a good line asks: nothing, a paint of the keys from one to another, a word put on a key, a key taken out, the word
--- at a key, the entry or the gap round a key, the number of keys, or all entries
+-- what a good line asks: nothing, a paint of the keys from one to another, a word put on those of them that have none, a word
+-- put on a key, a key taken out, the word at a key, the entry or the gap round a key, the number of keys, or all entries
 pub data Command : Type 0 where
   Blank : Command
   Paint : ℤ → ℤ → List ℕ → Command
+  Fill : ℤ → ℤ → List ℕ → Command
   Insert : ℤ → List ℕ → Command
   Remove : ℤ → Command
   Get : ℤ → Command
@@ -40,10 +41,10 @@ abbrev pub words_of : List ℕ → List (List ℕ)
 words_of line = slice_split (λ b. b == 32) line
 
 -- a command of two numbers and a word
-abbrev pub paint_of : Option ℤ → Option ℤ → List ℕ → Option Command
-paint_of None hi word = None
-paint_of (Some lo) None word = None
-paint_of (Some lo) (Some hi) word = if is_word word then Some (Paint lo hi word) else None
+abbrev pub range_of : (ℤ → ℤ → List ℕ → Command) → Option ℤ → Option ℤ → List ℕ → Option Command
+range_of command None hi word = None
+range_of command (Some lo) None word = None
+range_of command (Some lo) (Some hi) word = if is_word word then Some (command lo hi word) else None
 
 -- a command of a number and a word
 abbrev pub insert_of : Option ℤ → List ℕ → Option Command
@@ -63,7 +64,8 @@ command_of_words (name ∷ key ∷ []) =
 command_of_words (name ∷ key ∷ word ∷ []) =
     if bytes_eq name (codes "insert") then insert_of (number_of key) word else None
 command_of_words (name ∷ lo ∷ hi ∷ word ∷ []) =
-    if bytes_eq name (codes "paint") then paint_of (number_of lo) (number_of hi) word else None
+    if bytes_eq name (codes "paint") then range_of Paint (number_of lo) (number_of hi) word else
+    (if bytes_eq name (codes "fill") then range_of Fill (number_of lo) (number_of hi) word else None)
 command_of_words (_ ∷ _ ∷ _ ∷ _ ∷ _ ∷ _) = None
 
 -- what a line asks, or none where it is bad
@@ -75,6 +77,7 @@ command_of (b ∷ bs) = command_of_words (words_of (b ∷ bs))
 abbrev pub asked : Request → Command
 asked requests.Blank = Blank
 asked (requests.Paint lo hi word) = Paint lo hi word.now
+asked (requests.Fill lo hi word) = Fill lo hi word.now
 asked (requests.Insert key word) = Insert key word.now
 asked (requests.Remove key) = Remove key
 asked (requests.Get key) = Get key

@@ -6,4 +6,5 @@ pub mod Output
 pub mod States
 pub mod Sessions
 pub mod Steps
+pub mod Fills
 pub mod Laws

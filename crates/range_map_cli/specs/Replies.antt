@@ -5,9 +5,10 @@ use Rattle.std.specs.Str.{bytes_eq}
 use Rattle.blaze_table.specs.Entries.{Entry, at}
 use Rattle.blaze_table.specs.Canonical.{IsOnePerRun}
 use Rattle.blaze_table.specs.Count.{mapped_keys}
+use Rattle.blaze_table.specs.Filled.{filled}
 use Rattle.blaze_table.specs.Painted.{painted}
 use Rattle.blaze_table.specs.Cut.{cut_at}
-use Rattle.range_map_cli.specs.Commands.{Command, Blank, Paint, Insert, Remove, Get, At, Len, Entries}
+use Rattle.range_map_cli.specs.Commands.{Command, Blank, Paint, Fill, Insert, Remove, Get, At, Len, Entries}
 use Rattle.range_map_cli.specs.Pieces.{IsPiece}
 
 -- the word at each key, or none
@@ -34,6 +35,7 @@ mapped_count content = mapped_keys least_key greatest_key content
 abbrev pub content_after : Command → Content → Content
 content_after Blank content = content
 content_after (Paint lo hi word) content = painted lo hi word content
+content_after (Fill lo hi word) content = filled lo hi word content
 content_after (Insert key word) content = painted key key word content
 content_after (Remove key) content = cut_at key content
 content_after (Get key) content = content
@@ -67,10 +69,15 @@ piece_text lo hi word = signed_decimal lo ++ (codes "..=" ++ (signed_decimal hi 
 abbrev pub line : List ℕ → List ℕ
 line text = text ++ 10 ∷ []
 
+-- what is printed where words are put on keys: whether that changes the number of keys that have one
+abbrev pub changed_text : Content → Content → List ℕ
+changed_text new old = line (if mapped_count new == mapped_count old then codes "false" else codes "true")
+
 -- the text is what is printed for the command
 abbrev pub Replies : Content → Command → List ℕ → Type 0
 Replies content Blank text = text ≡ []
-Replies content (Paint lo hi word) text = text ≡ line (if mapped_count (painted lo hi word content) == mapped_count content then codes "false" else codes "true")
+Replies content (Paint lo hi word) text = text ≡ changed_text (painted lo hi word content) content
+Replies content (Fill lo hi word) text = text ≡ changed_text (filled lo hi word content) content
 Replies content (Insert key word) text = text ≡ line (word_or_dash (content key))
 Replies content (Remove key) text = text ≡ line (word_or_dash (content key))
 Replies content (Get key) text = text ≡ line (word_or_dash (content key))

@@ -9,9 +9,10 @@ use Rattle.blaze_table.specs.Chosen.{right_first, left_with_right, left_alone}
 use Rattle.blaze_table.specs.Complement.{absent}
 use Rattle.blaze_table.specs.Count.{mapped_keys}
 use Rattle.blaze_table.specs.Cut.{cut_at, below_at, from_at}
+use Rattle.blaze_table.specs.Filled.{filled}
 use Rattle.blaze_table.specs.Painted.{painted}
 use Rattle.range_map_cli.specs.declared.step.Step.{Step}
-use Rattle.range_map_cli.specs.declared.step.Step.TheVariants.{Paint, Insert, Remove, PopFirst, PopLast, Clear, KeepBelow, KeepFrom, Or, And, Minus, Xor, AndSet, MinusSet, ComplementWith}
+use Rattle.range_map_cli.specs.declared.step.Step.TheVariants.{Paint, Fill, Insert, Remove, PopFirst, PopLast, Clear, KeepBelow, KeepFrom, Or, And, Minus, Xor, AndSet, MinusSet, ComplementWith}
 use Rattle.range_map_cli.specs.declared.step.Answer.{Answer}
 use Rattle.range_map_cli.specs.declared.step.Answer.TheVariants.{Wrote, Old, Popped, Done}
 
@@ -65,6 +66,7 @@ module _ {T V L : Type 0} (rank : T → ℤ) (low high : ℤ) where
   -- the content after a step
   abbrev pub content_after : Step T V L → (ℤ → Option V) → ℤ → Option V
   content_after (Paint lo hi v) content = painted (rank lo) (rank hi) v content
+  content_after (Fill lo hi v) content = filled (rank lo) (rank hi) v content
   content_after (Insert k v) content = painted (rank k) (rank k) v content
   content_after (Remove k) content = cut_at (rank k) content
   content_after PopFirst content = without (first_key low high content) content
@@ -83,6 +85,7 @@ module _ {T V L : Type 0} (rank : T → ℤ) (low high : ℤ) where
   -- what a step answers on a content: keys are told by their ranks
   abbrev pub answer : Step T V L → (ℤ → Option V) → Answer ℤ V
   answer (Paint lo hi v) content = Wrote (not (mapped_keys low high (painted (rank lo) (rank hi) v content) == mapped_keys low high content))
+  answer (Fill lo hi v) content = Wrote (not (mapped_keys low high (filled (rank lo) (rank hi) v content) == mapped_keys low high content))
   answer (Insert k v) content = Old (content (rank k))
   answer (Remove k) content = Old (content (rank k))
   answer PopFirst content = Popped (with_value content (first_key low high content))

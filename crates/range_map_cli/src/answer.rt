@@ -3,6 +3,7 @@ ghost use Rattle.std.specs.Prelude.{◌≡◌, ◌≢◌, ◌↔◌, ℤ, IsTrue
 ghost use Rattle.std.specs.Prelude.{string_bytes};
 ghost use Rattle.std.specs.Option.{option_copied};
 ghost use Rattle.blaze_table.specs.Cut.{cut_at};
+ghost use Rattle.blaze_table.specs.Filled.{filled};
 ghost use Rattle.blaze_table.specs.Painted.{painted};
 ghost use Rattle.range_map_cli.specs.Commands.{asked, Blank};
 ghost use Rattle.range_map_cli.specs.Pieces.{IsPiece};
@@ -34,6 +35,26 @@ fn paint(
     lengths_are_mapped::<String>();
     map.in_hand();
     map.ranges_insert(lo..=hi, String::from_str(alloc, word)?)
+}
+
+/// Puts a word on those keys from one to another that have none, and answers whether the number of keys changed.
+fn fill(
+    map: &mut RangeMapBlaze<i64, String>,
+    alloc: Global,
+    lo: i64,
+    hi: i64,
+    word: &str,
+) -> Result<bool, AllocError>
+    ensures content { OnOk result ((key : ℤ) → content_of map.new.entries key
+        ≡ filled lo hi word.now (content_of map.old.entries) key) }
+    ensures changed { IfOk result
+        (λ changed. IsTrue changed ↔
+        (¬ (mapped_count (filled lo hi word.now (content_of map.old.entries))
+        ≡ mapped_count (content_of map.old.entries)))) }
+{
+    lengths_are_mapped::<String>();
+    map.in_hand();
+    map.ranges_insert_absent(lo..=hi, String::from_str(alloc, word)?)
 }
 
 /// Puts a word on a key, and answers the word that was there.
@@ -101,6 +122,10 @@ pub fn answer(
         Request::Blank => Ok(()),
         Request::Paint(lo, hi, word) => {
             let changed = paint(map, alloc, lo, hi, word)?;
+            writeln!(reply, "{changed}")
+        }
+        Request::Fill(lo, hi, word) => {
+            let changed = fill(map, alloc, lo, hi, word)?;
             writeln!(reply, "{changed}")
         }
         Request::Insert(key, word) => {

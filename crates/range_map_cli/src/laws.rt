@@ -1,6 +1,7 @@
 //! The laws of range maps, for every key type and every value type with a lawful equality.
 ghost use Rattle.blaze_iters.specs.Left.{pairs_left, shown_pair};
 ghost use Rattle.range_map_blaze.specs.MapLaws.{AnswersAreOnItsKeys};
+ghost use Rattle.range_map_cli.specs.Fills.{PaintsAloneAreInOrder, StepsPaintAndFill};
 ghost use Rattle.range_map_cli.specs.Laws.{EqualWhereGetsAre, IsOrderOfMaps};
 ghost use Rattle.range_map_cli.specs.Laws.{AppendUndoesSplit, CountsAddUp, LookUpsCover};
 ghost use Rattle.range_map_cli.specs.Laws.{EachOnce, EachOnceOwned};
@@ -60,6 +61,14 @@ pub fn transform_values_keeps_keys<T: Integer, V: Eq, W: Eq, F: FnMut(&V) -> W>(
 /// key. All give equal maps, and so do all paths of a union.
 pub fn union_is_painting<T: Integer, V: Eq>()
     ensures { UnionIsPainting V.eq T.low T.high }
+{}
+
+/// Paints and fills in any order, one after another: the value at a key is that of the last painted range that has it; without
+/// one, what was there; without that, the value of the first filled range that has it; else none. Without a fill it is painting
+/// in order.
+pub fn paints_and_fills_in_any_order<T: Integer, V: Eq>()
+    ensures steps { StepsPaintAndFill V T.SafeLen T.rank T.low T.high }
+    ensures paints { PaintsAloneAreInOrder V }
 {}
 
 /// `(a | b) | c` is `a | (b | c)`.

@@ -13,6 +13,7 @@ use crate::split::split_once;
 pub enum Request<'a> {
     Blank,
     Paint(i64, i64, &'a str),
+    Fill(i64, i64, &'a str),
     Insert(i64, &'a str),
     Remove(i64),
     Get(i64),
@@ -126,6 +127,10 @@ fn read_four<'a>(name: &[u8], lo: &[u8], hi: &[u8], value: &'a [u8]) -> Option<R
         let lo = number(lo)?;
         let hi = number(hi)?;
         Some(Request::Paint(lo, hi, word(value)?))
+    } else if name == b"fill".as_slice() {
+        let lo = number(lo)?;
+        let hi = number(hi)?;
+        Some(Request::Fill(lo, hi, word(value)?))
     } else {
         None
     }

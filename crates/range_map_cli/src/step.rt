@@ -12,6 +12,8 @@ use std::fmt::{self, Display, Formatter};
 pub enum Step<T: Integer, V: Eq> {
     /// Puts a value on the keys from one to another; where the first is above the last it changes nothing.
     Paint(T, T, V),
+    /// Puts a value on those keys from one to another that have none; where the first is above the last it changes nothing.
+    Fill(T, T, V),
     /// Puts a value on a key.
     Insert(T, V),
     /// Takes a key out.
@@ -45,7 +47,7 @@ pub enum Step<T: Integer, V: Eq> {
 /// What a step answers.
 #[derive(Clone, Copy, Debug, Drop, PartialEq, Eq)]
 pub enum Answer<T, V> {
-    /// Of a paint: whether the number of keys changed.
+    /// Of a paint or a fill: whether the number of keys changed.
     Wrote(bool),
     /// Of an insertion or a removal: the value that the key had.
     Old(Option<V>),

@@ -3,9 +3,11 @@ ghost use Rattle.std.specs.Prelude.{◌≡◌, ◌≤◌, ◌-◌, ◌*◌, ◌=
 ghost use Rattle.std.specs.Prelude.{OnOk, OnErr};
 ghost use Rattle.blaze_table.specs.Count.{mapped_keys};
 ghost use Rattle.blaze_table.specs.Entries.{entry, at};
+ghost use Rattle.blaze_table.specs.Filled.{filled, IsFilled};
 ghost use Rattle.blaze_table.specs.Laws.{IsShortest};
 ghost use Rattle.blaze_table.specs.Painted.{painted, IsPainted, ClonesAreAlike};
 ghost use Rattle.blaze_table.specs.Work.{IsCountedCut, IsCountedPaint, PutsAtMost};
+ghost use Rattle.range_map_cli.specs.Fills.{ranges_in, IsPaintOrFill};
 ghost use Rattle.range_map_cli.specs.Steps.{answer, first_key, last_key, with_value, answers};
 ghost use Rattle.range_map_cli.specs.Steps.{IsCountedRun, IsEdit, IsRefusedAt, IsStepped};
 ghost use Rattle.range_map_cli.specs.Steps.{IsSteppedAll, IsWithout, SameAnswer, SameAnswers};
@@ -37,6 +39,28 @@ fn paint<T: Integer, V: Eq + Clone>(
     lengths_are_mapped::<V>();
     map.in_hand();
     let changed = map.ranges_insert(start..=end, value)?;
+    Ok(changed)
+}
+
+/// Puts a value on those keys from `start` up to `end` that have none, and answers whether the number of keys changed.
+fn fill<T: Integer, V: Eq + Clone>(
+    map: &mut RangeMapBlaze<T, V>,
+    start: T,
+    end: T,
+    value: V,
+) -> Result<bool, AllocError>
+    requires { ClonesAreAlike V.is_clone V.eq }
+    ensures ok { OnOk result (IsFilled V.eq T.low T.high (entry (T.rank start) (T.rank end) value)
+        map.old.entries map.new.entries) }
+    ensures changed { IfOk result (λ changed. changed
+        ≡ not (mapped_keys T.low T.high (filled (T.rank start) (T.rank end) value
+        (at map.old.entries))
+        == mapped_keys T.low T.high (at map.old.entries))) }
+    ensures err { OnErr result (map.new.entries ≡ map.old.entries) }
+{
+    lengths_are_mapped::<V>();
+    map.in_hand();
+    let changed = map.ranges_insert_absent(start..=end, value)?;
     Ok(changed)
 }
 
@@ -93,6 +117,10 @@ fn take_step<T: Integer, V: Eq + Clone>(
     match step {
         Step::Paint(start, end, value) => {
             let changed = paint(map, start, end, value)?;
+            Ok(Answer::Wrote(changed))
+        }
+        Step::Fill(start, end, value) => {
+            let changed = fill(map, start, end, value)?;
             Ok(Answer::Wrote(changed))
         }
         Step::Insert(key, value) => {
@@ -186,6 +214,8 @@ pub fn run<T: Integer, V: Eq + Clone>(
         → OnOk result (IsCountedRun (length steps.items) map.old map.new) }
     ensures few { All IsEdit steps.items → map.old.entries ≡ []
         → OnOk result (length map.new.entries ≤ 2 * length steps.items - 1) }
+    ensures few_filled { All IsPaintOrFill steps.items → map.old.entries ≡ []
+        → OnOk result (length map.new.entries ≤ 2 * ranges_in T.rank steps.items - 1) }
 {
     canonical_is_shortest::<V>();
     map.in_hand();

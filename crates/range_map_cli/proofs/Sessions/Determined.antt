@@ -7,7 +7,7 @@ use Rattle.std.specs.Str.{bytes_eq}
 use Rattle.blaze_entries.proofs.Alike.{same_along, same_itself}
 use Rattle.blaze_table.specs.Entries.{Entry, at, entry, SameEntries}
 use Rattle.blaze_table.proofs.Canonical.ListLaws.{canonical_is_unique}
-use Rattle.range_map_cli.specs.Commands.{Command, Blank, Paint, Insert, Remove, Get, At, Len, Entries}
+use Rattle.range_map_cli.specs.Commands.{Command, Blank, Paint, Fill, Insert, Remove, Get, At, Len, Entries}
 use Rattle.range_map_cli.specs.Lines.{lines_of}
 use Rattle.range_map_cli.specs.Pieces.{IsPiece}
 use Rattle.range_map_cli.specs.Replies.{Content, nothing, content_after, greatest_key, least_key, entries_text, line, Lists, piece_text, Replies}
@@ -38,6 +38,7 @@ one_piece low high content k a b c d p q =
 one_reply : (content : Content) (command : Command) (a b : List ℕ) → Replies content command a → Replies content command b → a ≡ b
 one_reply content Blank a b h k = h ∙ sym k
 one_reply content (Paint lo hi word) a b h k = h ∙ sym k
+one_reply content (Fill lo hi word) a b h k = h ∙ sym k
 one_reply content (Insert key word) a b h k = h ∙ sym k
 one_reply content (Remove key) a b h k = h ∙ sym k
 one_reply content (Get key) a b h k = h ∙ sym k
@@ -87,6 +88,7 @@ whole_append xs ys h (inr k) = inr (xs ++ k.0, ap (λ l. xs ++ l) k.1 ∙ sym (a
 reply_line : (content : Content) (command : Command) (text : List ℕ) → Replies content command text → ((command ≡ Blank) × (text ≡ [])) ⊎ ((front : List ℕ) × (text ≡ front ++ 10 ∷ []))
 reply_line content Blank text h = inl (refl, h)
 reply_line content (Paint lo hi word) text h = inr (_, h)
+reply_line content (Fill lo hi word) text h = inr (_, h)
 reply_line content (Insert key word) text h = inr (_, h)
 reply_line content (Remove key) text h = inr (_, h)
 reply_line content (Get key) text h = inr (_, h)

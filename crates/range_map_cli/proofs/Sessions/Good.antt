@@ -1,7 +1,9 @@
 -- The word of a good line is a word.
 use Rattle.std.proofs.Common.{◌≡◌, ℕ, ℤ, List, [], ◌∷◌, true, false, cond, refl, subst, Option, Some, None, Bool, ◌&&◌, codes, option_map, bytes_eq, IfSome, int_le}
 use Rattle.std.specs.Ordering.{int_eq}
-use Rattle.range_map_cli.specs.Commands.{Command, Blank, Paint, Insert, Remove, Get, At, Len, Entries, command_of, command_of_words, paint_of, insert_of, words_of, number_of, is_word}
+use Rattle.std.specs.Option.{option_or}
+use Rattle.range_map_cli.specs.Commands.{Command, Blank, Paint, Fill, Insert, Remove, Get, At, Len, Entries, command_of, command_of_words, range_of, insert_of, words_of, number_of, is_word}
+use Rattle.blaze_table.specs.Filled.{filled}
 use Rattle.blaze_table.specs.Painted.{painted}
 use Rattle.range_map_cli.specs.Replies.{Content, content_after}
 use Rattle.range_map_cli.specs.States.{HasWords}
@@ -9,6 +11,7 @@ use Rattle.range_map_cli.specs.States.{HasWords}
 abbrev IsGood : Command → Type 0
 IsGood Blank = Unit {0}
 IsGood (Paint lo hi word) = is_word word ≡ true
+IsGood (Fill lo hi word) = is_word word ≡ true
 IsGood (Insert key word) = is_word word ≡ true
 IsGood (Remove key) = Unit {0}
 IsGood (Get key) = Unit {0}
@@ -29,10 +32,11 @@ key_good : (f : ℤ → Command) (key : Option ℤ) → ((k : ℤ) → IsGood (f
 key_good f None h = tt
 key_good f (Some key) h = h key
 
-paint_good : (lo hi : Option ℤ) (word : List ℕ) → IfGood (paint_of lo hi word)
-paint_good None hi word = tt
-paint_good (Some l) None word = tt
-paint_good (Some l) (Some h) word = choose (is_word word) (Some (Paint l h word)) None (λ good. good) tt
+-- a command of two keys and a word
+range_good : (f : ℤ → ℤ → List ℕ → Command) (lo hi : Option ℤ) (word : List ℕ) → ((l h : ℤ) → is_word word ≡ true → IsGood (f l h word)) → IfGood (range_of f lo hi word)
+range_good f None hi word g = tt
+range_good f (Some l) None word g = tt
+range_good f (Some l) (Some h) word g = choose (is_word word) (Some (f l h word)) None (g l h) tt
 
 insert_good : (key : Option ℤ) (word : List ℕ) → IfGood (insert_of key word)
 insert_good None word = tt
@@ -46,7 +50,9 @@ words_good (n ∷ k ∷ []) =
     (choose (bytes_eq n (codes "remove")) (option_map Remove (number_of k)) _ (λ e. key_good Remove (number_of k) (λ key. tt))
     (choose (bytes_eq n (codes "at")) (option_map At (number_of k)) None (λ e. key_good At (number_of k) (λ key. tt)) tt))
 words_good (n ∷ k ∷ w ∷ []) = choose (bytes_eq n (codes "insert")) (insert_of (number_of k) w) None (λ e. insert_good (number_of k) w) tt
-words_good (n ∷ l ∷ k ∷ w ∷ []) = choose (bytes_eq n (codes "paint")) (paint_of (number_of l) (number_of k) w) None (λ e. paint_good (number_of l) (number_of k) w) tt
+words_good (n ∷ l ∷ k ∷ w ∷ []) =
+    choose (bytes_eq n (codes "paint")) (range_of Paint (number_of l) (number_of k) w) _ (λ e. range_good Paint (number_of l) (number_of k) w (λ lo hi good. good))
+    (choose (bytes_eq n (codes "fill")) (range_of Fill (number_of l) (number_of k) w) None (λ e. range_good Fill (number_of l) (number_of k) w (λ lo hi good. good)) tt)
 words_good (a ∷ b ∷ c ∷ d ∷ e ∷ ws) = tt
 
 line_good : (line : List ℕ) → IfGood (command_of line)
@@ -60,9 +66,18 @@ painted_good lo hi word content good words = λ key. place (int_le lo key && int
     place true old h = good
     place false old h = h
 
+filled_good : (lo hi : ℤ) (word : List ℕ) (content : Content) → is_word word ≡ true → HasWords content → HasWords (filled lo hi word content)
+filled_good lo hi word content good words = λ key. place (int_le lo key && int_le key hi) (content key) (words key)
+  where
+    place : (t : Bool) (old : Option (List ℕ)) → IfSome old (λ w. is_word w ≡ true) → IfSome (option_or old (cond t (Some word) None)) (λ w. is_word w ≡ true)
+    place true None h = good
+    place false None h = tt
+    place t (Some old) h = h
+
 after_good : (command : Command) (content : Content) → IsGood command → HasWords content → HasWords (content_after command content)
 after_good Blank content good words = words
 after_good (Paint lo hi word) content good words = painted_good lo hi word content good words
+after_good (Fill lo hi word) content good words = filled_good lo hi word content good words
 after_good (Insert key word) content good words = painted_good key key word content good words
 after_good (Remove key) content good words = λ j. take (int_eq j key) (content j) (words j)
   where

@@ -7,7 +7,7 @@ use Rattle.std.specs.List.{onto_first, list_all}
 use Rattle.std.specs.Char.{is_ascii_alphanumeric, is_ascii_digit}
 use Rattle.std.proofs.str.Laws.{order}
 use Rattle.std.proofs.lemmas.Bool.{and_parts}
-use Rattle.range_map_cli.specs.Commands.{Command, Paint, Insert, Remove, Get, At, Len, Entries, command_of, command_of_words, paint_of, insert_of, words_of, number_of, is_word, is_digits}
+use Rattle.range_map_cli.specs.Commands.{Command, Paint, Fill, Insert, Remove, Get, At, Len, Entries, command_of, command_of_words, range_of, insert_of, words_of, number_of, is_word, is_digits}
 
 -- the bytes of the words, with one more for each
 total : List (List ℕ) → ℕ
@@ -58,20 +58,20 @@ choose true o p h n = h refl
 choose false o p h n = n
 
 -- one of the three is too long
-paint_long : (lo hi word : List ℕ) → 72 < length lo + (length hi + length word) → paint_of (number_of lo) (number_of hi) word ≡ None
-paint_long lo hi word h =
-    ⊎_elim (λ long. ap (λ n. paint_of n (number_of hi) word) (number_long lo long)) (λ low.
-    ⊎_elim (λ long. ap (λ n. paint_of (number_of lo) n word) (number_long hi long) ∙ no_high (number_of lo)) (λ high.
+range_long : (f : ℤ → ℤ → List ℕ → Command) (lo hi word : List ℕ) → 72 < length lo + (length hi + length word) → range_of f (number_of lo) (number_of hi) word ≡ None
+range_long f lo hi word h =
+    ⊎_elim (λ long. ap (λ n. range_of f n (number_of hi) word) (number_long lo long)) (λ low.
+    ⊎_elim (λ long. ap (λ n. range_of f (number_of lo) n word) (number_long hi long) ∙ no_high (number_of lo)) (λ high.
     both (number_of lo) (number_of hi) (λ good. absurd (omega (arith, low, high, h, word_short word good)))) (order 20 (length hi))) (order 20 (length lo))
   where
-    no_high : (a : Option ℤ) → paint_of a None word ≡ None
+    no_high : (a : Option ℤ) → range_of f a None word ≡ None
     no_high None = refl
     no_high (Some l) = refl
 
-    both : (a b : Option ℤ) → (is_word word ≡ true → ⊥) → paint_of a b word ≡ None
+    both : (a b : Option ℤ) → (is_word word ≡ true → ⊥) → range_of f a b word ≡ None
     both None b n = refl
     both (Some l) None n = refl
-    both (Some l) (Some m) n = choose (is_word word) (Some (Paint l m word)) None (λ good. absurd (n good)) refl
+    both (Some l) (Some m) n = choose (is_word word) (Some (f l m word)) None (λ good. absurd (n good)) refl
 
 -- one of the two is too long
 insert_long : (key word : List ℕ) → 52 < length key + length word → insert_of (number_of key) word ≡ None
@@ -93,7 +93,9 @@ words_long (n ∷ k ∷ []) h =
     (choose (bytes_eq n (codes "remove")) (option_map Remove (number_of k)) _ (λ e. ap (option_map Remove) (number_long k (omega (arith, name_length n (codes "remove") e))))
     (choose (bytes_eq n (codes "at")) (option_map At (number_of k)) None (λ e. ap (option_map At) (number_long k (omega (arith, name_length n (codes "at") e)))) refl))
 words_long (n ∷ k ∷ w ∷ []) h = choose (bytes_eq n (codes "insert")) (insert_of (number_of k) w) None (λ e. insert_long k w (omega (arith, name_length n (codes "insert") e))) refl
-words_long (n ∷ l ∷ k ∷ w ∷ []) h = choose (bytes_eq n (codes "paint")) (paint_of (number_of l) (number_of k) w) None (λ e. paint_long l k w (omega (arith, name_length n (codes "paint") e))) refl
+words_long (n ∷ l ∷ k ∷ w ∷ []) h =
+    choose (bytes_eq n (codes "paint")) (range_of Paint (number_of l) (number_of k) w) _ (λ e. range_long Paint l k w (omega (arith, name_length n (codes "paint") e)))
+    (choose (bytes_eq n (codes "fill")) (range_of Fill (number_of l) (number_of k) w) None (λ e. range_long Fill l k w (omega (arith, name_length n (codes "fill") e))) refl)
 words_long (a ∷ b ∷ c ∷ d ∷ e ∷ ws) h = refl
 
 too_long : (line : List ℕ) → 80 < length line → command_of line ≡ None

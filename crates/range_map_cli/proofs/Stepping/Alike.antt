@@ -4,15 +4,16 @@ use Rattle.std.proofs.Common.{◌≡◌, ℤ, Bool, true, false, not, eqb, cond,
 use Rattle.std.specs.Prelude.{int_le, int_lt, ◌&&◌}
 use Rattle.std.specs.Ordering.{int_eq}
 use Rattle.std.specs.Cmp.{IsEquivalence}
-use Rattle.blaze_entries.proofs.Alike.{same_itself, same_trans, is_some_alike}
+use Rattle.blaze_entries.proofs.Alike.{same_itself, same_trans, same_or_left, is_some_alike}
 use Rattle.blaze_table.specs.Entries.{at, SameOption}
 use Rattle.blaze_table.specs.Chosen.{right_first, left_with_right, left_alone}
 use Rattle.blaze_table.specs.Complement.{absent}
 use Rattle.blaze_table.specs.Count.{mapped_keys}
+use Rattle.blaze_table.specs.Filled.{filled}
 use Rattle.blaze_table.specs.Painted.{painted}
 use Rattle.range_map_cli.specs.Steps.{content_after, after_all, answer, answers, first_key, last_key, pair_of, with_value, without, SameAnswer, SameAnswers, SamePair}
 use Rattle.range_map_cli.specs.declared.step.Step.{Step}
-use Rattle.range_map_cli.specs.declared.step.Step.TheVariants.{Paint, Insert, Remove, PopFirst, PopLast, Clear, KeepBelow, KeepFrom, Or, And, Minus, Xor, AndSet, MinusSet, ComplementWith}
+use Rattle.range_map_cli.specs.declared.step.Step.TheVariants.{Paint, Fill, Insert, Remove, PopFirst, PopLast, Clear, KeepBelow, KeepFrom, Or, And, Minus, Xor, AndSet, MinusSet, ComplementWith}
 use Rattle.range_map_cli.specs.declared.step.Answer.{Answer}
 use Rattle.range_map_cli.specs.declared.step.Answer.TheVariants.{Wrote, Old, Popped, Done}
 use Rattle.range_map_cli.proofs.Stepping.EndKeys.{first_alike, last_alike, mapped_alike}
@@ -74,10 +75,18 @@ module _ {V : Type 0} (eq : V → V → Bool) (laws : IsEquivalence eq) where
   last_same : (low high : ℤ) (c d : ℤ → Option V) → ((k : ℤ) → SameOption eq (c k) (d k)) → last_key low high c ≡ last_key low high d
   last_same low high c d same = last_alike c d (λ k. is_some_alike eq (c k) (d k) (same k)) high _
 
+  -- whether the number of keys changes
+  changed_alike : (low high : ℤ) (c d new_c new_d : ℤ → Option V) → ((k : ℤ) → SameOption eq (c k) (d k)) → ((k : ℤ) → SameOption eq (new_c k) (new_d k))
+      → not (eqb (mapped_keys low high new_c) (mapped_keys low high c)) ≡ not (eqb (mapped_keys low high new_d) (mapped_keys low high d))
+  changed_alike low high c d new_c new_d same alike =
+      ap not (ap (λ n. eqb n (mapped_keys low high c)) (mapped_alike new_c new_d (λ k. is_some_alike eq (new_c k) (new_d k) (alike k)) low _)
+      ∙ ap (λ n. eqb (mapped_keys low high new_d) n) (mapped_alike c d (λ k. is_some_alike eq (c k) (d k) (same k)) low _))
+
   module _ {T L : Type 0} (rank : T → ℤ) (low high : ℤ) (c d : ℤ → Option V) (same : (k : ℤ) → SameOption eq (c k) (d k)) where
     -- the content after a step
     pub after_alike : (s : Step T V L) (k : ℤ) → SameOption eq (content_after rank low high s c k) (content_after rank low high s d k)
     after_alike (Paint lo hi v) k = same_cond (int_le (rank lo) k && int_le k (rank hi)) (Some v) (c k) (Some v) (d k) (laws.refl v) (same k)
+    after_alike (Fill lo hi v) k = same_or_left eq laws (c k) (d k) (cond (int_le (rank lo) k && int_le k (rank hi)) (Some v) None) (same k)
     after_alike (Insert j v) k = same_cond (int_le (rank j) k && int_le k (rank j)) (Some v) (c k) (Some v) (d k) (laws.refl v) (same k)
     after_alike (Remove j) k = same_cond (int_eq k (rank j)) None (c k) None (d k) tt (same k)
     after_alike PopFirst k = subst (λ o. SameOption eq (without (first_key low high c) c k) (without o d k)) (first_same low high c d same) (same_without (first_key low high c) c d same k)
@@ -95,9 +104,8 @@ module _ {V : Type 0} (eq : V → V → Bool) (laws : IsEquivalence eq) where
 
     -- the answer
     pub answer_alike : (s : Step T V L) → SameAnswer (λ (j : ℤ). j) eq (answer rank low high s c) (answer rank low high s d)
-    answer_alike (Paint lo hi v) =
-        ap not (ap (λ n. eqb n (mapped_keys low high c)) (mapped_alike (painted (rank lo) (rank hi) v c) (painted (rank lo) (rank hi) v d) (λ k. is_some_alike eq _ _ (after_alike (Paint lo hi v) k)) low _)
-        ∙ ap (λ n. eqb (mapped_keys low high (painted (rank lo) (rank hi) v d)) n) (mapped_alike c d (λ k. is_some_alike eq (c k) (d k) (same k)) low _))
+    answer_alike (Paint lo hi v) = changed_alike low high c d (painted (rank lo) (rank hi) v c) (painted (rank lo) (rank hi) v d) same (after_alike (Paint lo hi v))
+    answer_alike (Fill lo hi v) = changed_alike low high c d (filled (rank lo) (rank hi) v c) (filled (rank lo) (rank hi) v d) same (after_alike (Fill lo hi v))
     answer_alike (Insert j v) = same (rank j)
     answer_alike (Remove j) = same (rank j)
     answer_alike PopFirst = subst (λ o. SamePair (λ (j : ℤ). j) eq (with_value c (first_key low high c)) (with_value d o)) (first_same low high c d same) (same_pairs (first_key low high c) c d same)

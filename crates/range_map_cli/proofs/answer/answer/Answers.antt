@@ -1,9 +1,11 @@
 use Rattle.std.proofs.Common.{sym, subst, rules, string_bytes}
 use Rattle.std.proofs.lemmas.Result.{on_ok_weaker}
+use Rattle.blaze_table.specs.Filled.{filled}
+use Rattle.blaze_table.specs.Painted.{painted}
 use Rattle.range_map_cli.specs.Commands.{asked}
 use Rattle.range_map_cli.specs.Replies.{Replies}
 use Rattle.range_map_cli.specs.States.{content_of}
-use Rattle.range_map_cli.proofs.Counting.{Replies-paint, Replies-len}
+use Rattle.range_map_cli.proofs.Counting.{Replies-changed, Replies-len}
 use Rattle.range_map_cli.proofs.Listing.{Replies-entries}
 use Rattle.range_map_cli.proofs.Pieces.{Replies-at}
 use Rattle.range_map_cli.proofs.answer.answer.Goals as goal
@@ -11,7 +13,12 @@ use Rattle.range_map_cli.proofs.answer.answer.Goals as goal
 pub returns-in_ok-changed-in-Paint-clause-reply : goal.returns-in_ok-changed-in-Paint-clause-reply
 returns-in_ok-changed-in-Paint-clause-reply c = on_ok_weaker c.writeln.result (λ written words.
     subst (λ r. Replies (content_of c.args.map.now.entries) (asked r) (string_bytes c.writeln.new.self)) (sym c.in-Paint.is)
-    (Replies-paint c.in_ok-changed-in-Paint.changed (content_of c.args.map.now.entries) _ _ c.in-Paint.lo c.in-Paint.hi c.in-Paint.word.now _ _ (search rules) (search rules) c.in_ok-changed-in-Paint.ensures.changed c.clear.ensures.bytes written)) c.writeln.ensures.bytes
+    (Replies-changed c.in_ok-changed-in-Paint.changed (λ lo hi. painted lo hi c.in-Paint.word.now (content_of c.args.map.now.entries)) _ _ _ c.in-Paint.lo c.in-Paint.hi _ _ (search rules) (search rules) c.in_ok-changed-in-Paint.ensures.changed c.clear.ensures.bytes written)) c.writeln.ensures.bytes
+
+pub returns-in_ok-changed-in-Fill-clause-reply : goal.returns-in_ok-changed-in-Fill-clause-reply
+returns-in_ok-changed-in-Fill-clause-reply c = on_ok_weaker c.writeln-in-Fill.result (λ written words.
+    subst (λ r. Replies (content_of c.args.map.now.entries) (asked r) (string_bytes c.writeln-in-Fill.new.self)) (sym c.in-Fill.is)
+    (Replies-changed c.in_ok-changed-in-Fill.changed (λ lo hi. filled lo hi c.in-Fill.word.now (content_of c.args.map.now.entries)) _ _ _ c.in-Fill.lo c.in-Fill.hi _ _ (search rules) (search rules) c.in_ok-changed-in-Fill.ensures.changed c.clear.ensures.bytes written)) c.writeln-in-Fill.ensures.bytes
 
 pub returns-in-At-clause-reply : goal.returns-in-At-clause-reply
 returns-in-At-clause-reply c = on_ok_weaker c.writeln-in-At.result (λ written words.

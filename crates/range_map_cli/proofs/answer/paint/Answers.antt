@@ -26,6 +26,6 @@ returns-clause-changed c =
     let start : range_inclusive_start c.new.result ≡ c.args.lo = omega (arith, ints) in
     let end : range_inclusive_end c.new.result ≡ c.args.hi = omega (arith, ints) in
     both_ok c.ranges_insert.result (c.ranges_insert.ensures.ok c.new.ensures.exhausted) c.ranges_insert.ensures.changed (λ changed painting says.
-    changed_counts changed c.args.lo c.args.hi word old new (c.lengths_are_mapped.ensures _ _ old c.in_hand.ensures) (c.lengths_are_mapped.ensures _ _ new painting.range_map)
+    changed_counts changed (painted c.args.lo c.args.hi word (content_of old)) old new (c.lengths_are_mapped.ensures _ _ old c.in_hand.ensures) (c.lengths_are_mapped.ensures _ _ new painting.range_map)
     (λ key. content_of-painted _ _ c.in_ok-from_str.field-0 word old new painting.content c.in_ok-from_str.ensures.ok key ∙ ap (λ l. painted l (range_inclusive_end c.new.result) word (content_of old) key) start ∙ ap (λ h. painted c.args.lo h word (content_of old) key) end)
     says)

@@ -1,6 +1,7 @@
 use Rattle.std.proofs.Common.{rules, ◌≡◌, ◌++◌, ◌∷◌, ◌∙◌, [], length, inl, inr, refl, sym, ap, subst, arith, append_assoc}
 use Rattle.std.proofs.lemmas.List.{length-append, nil_from_length}
 use Rattle.std.specs.Vec.Iter.{into_iter_items}
+use Rattle.range_map_cli.proofs.Stepping.Filling.{few_filled}
 use Rattle.range_map_cli.proofs.Stepping.Running.{IsRunning, all_done, counted_run, refused_at, running_more, running_none}
 use Rattle.range_map_cli.proofs.steps.run.Goals as goal
 
@@ -71,6 +72,13 @@ returns-clause-few g c =
     let none : into_iter_items c.loop-step.step-iterator ≡ [] = nil_from_length (into_iter_items c.loop-step.step-iterator) (sym c.loop-step.step-iterator.rest.ok.0 ∙ c.in-None.ensures.steps.0) in
     let ran = all_done g.V.PartialEq.eq g.T.Integer.rank g.T.Integer.low g.T.Integer.high i.0 _ c.args.steps.items c.args.map.now c.loop-step.map c.loop-step.answers.items i.1 none i.2 in
     ran.few
+
+pub returns-clause-few_filled : goal.returns-clause-few_filled
+returns-clause-few_filled g c =
+    let i = c.loop-step.invariant in
+    let none : into_iter_items c.loop-step.step-iterator ≡ [] = nil_from_length (into_iter_items c.loop-step.step-iterator) (sym c.loop-step.step-iterator.rest.ok.0 ∙ c.in-None.ensures.steps.0) in
+    let ran = all_done g.V.PartialEq.eq g.T.Integer.rank g.T.Integer.low g.T.Integer.high i.0 _ c.args.steps.items c.args.map.now c.loop-step.map c.loop-step.answers.items i.1 none i.2 in
+    λ fills empty. few_filled g.V.PartialEq.eq g.met.V.Eq.laws g.T.Integer.rank _ _ c.args.steps.items c.args.map.now.entries _ fills empty ran.stepped
 
 -- the list is canonical at each end, so it is the only shortest
 pub returns-in_default-clause-shortest : goal.returns-in_default-clause-shortest

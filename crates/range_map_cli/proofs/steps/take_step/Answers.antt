@@ -1,4 +1,4 @@
-use Rattle.range_map_cli.specs.declared.step.Step.TheVariants.{Paint, Insert, Remove, ComplementWith}
+use Rattle.range_map_cli.specs.declared.step.Step.TheVariants.{Paint, Fill, Insert, Remove, ComplementWith}
 use Rattle.range_map_cli.specs.declared.step.Answer.TheVariants.{Wrote, Old}
 use Rattle.range_map_cli.proofs.Stepping.Stepped.{answered, complement_is, same_back, stepped}
 use Rattle.range_map_cli.proofs.steps.take_step.Goals as goal
@@ -11,6 +11,15 @@ returns-in_ok-changed-in-Paint-clause-stepped g c =
 pub returns-in_ok-changed-in-Paint-clause-answer : goal.returns-in_ok-changed-in-Paint-clause-answer
 returns-in_ok-changed-in-Paint-clause-answer g c =
     answered g.V.PartialEq.eq g.T.Integer.rank _ _ _ (Paint c.in-Paint.start c.in-Paint.end c.in-Paint.value) _ (Wrote c.in_ok-changed-in-Paint.changed) c.in-Paint.is c.in_ok-changed-in-Paint.ensures.changed
+
+pub returns-in_ok-changed-in-Fill-clause-stepped : goal.returns-in_ok-changed-in-Fill-clause-stepped
+returns-in_ok-changed-in-Fill-clause-stepped g c =
+    let p = c.in_ok-changed-in-Fill.ensures.ok in
+    stepped g.V.PartialEq.eq g.T.Integer.rank _ _ _ (Fill c.in-Fill.start c.in-Fill.end c.in-Fill.value) _ _ c.in-Fill.is (record { range_map = p.range_map; content = p.content })
+
+pub returns-in_ok-changed-in-Fill-clause-answer : goal.returns-in_ok-changed-in-Fill-clause-answer
+returns-in_ok-changed-in-Fill-clause-answer g c =
+    answered g.V.PartialEq.eq g.T.Integer.rank _ _ _ (Fill c.in-Fill.start c.in-Fill.end c.in-Fill.value) _ (Wrote c.in_ok-changed-in-Fill.changed) c.in-Fill.is c.in_ok-changed-in-Fill.ensures.changed
 
 pub returns-in_ok-old-in-Insert-clause-answer : goal.returns-in_ok-old-in-Insert-clause-answer
 returns-in_ok-old-in-Insert-clause-answer g c =
