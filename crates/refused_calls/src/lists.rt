@@ -1,0 +1,98 @@
+//! Tables and sets of lists, a copy of a table, the segments of lists.
+use crate::calls::{begin, end, show_answer, show_refused};
+use crate::tables::{Words, leaf, show_table};
+use blaze_streams::{canonical_of, segments};
+use blaze_table::{RangeSetBlaze, RangeTable};
+use std::alloc::{AllocError, Global};
+
+/// A copy of a table.
+fn clone(rt: &HostRuntime, table: &Words) {
+    begin(rt, "clone");
+    let made = table.clone();
+    end(rt);
+    match &made {
+        Ok(copy) => show_table(rt, copy),
+        Err(_) => show_refused(rt),
+    }
+}
+
+/// The table of a canonical list of two entries.
+fn from_canonical(rt: &HostRuntime) -> Result<(), AllocError> {
+    let entries = vec![in rt.alloc(); (0i32, 3i32, 'a'), (4, 4, 'b')]?;
+    begin(rt, "from_canonical");
+    let made = RangeTable::from_canonical(rt.alloc(), entries);
+    end(rt);
+    match &made {
+        Ok(table) => {
+            let _ = print!(rt; " {:?} {:?},", table.first(), table.last());
+            let _ = println!(rt; " {} entries, {} keys", table.entries(), table.len());
+        }
+        Err(_) => show_refused(rt),
+    }
+    Ok(())
+}
+
+/// Two pairs, of which the second is painted inside the first.
+fn pairs(alloc: Global) -> Result<Vec<(i32, i32, String)>, AllocError> {
+    let outer = String::from_str(alloc, "a")?;
+    let inner = String::from_str(alloc, "b")?;
+    let pairs = vec![in alloc; (0, 9, outer), (3, 4, inner)]?;
+    Ok(pairs)
+}
+
+/// The canonical list of pairs: the first one's word is cloned for its second piece.
+fn canonical(rt: &HostRuntime) -> Result<(), AllocError> {
+    let pairs = pairs(rt.alloc())?;
+    begin(rt, "canonical_of");
+    let made = canonical_of(rt.alloc(), pairs);
+    end(rt);
+    show_answer(rt, made);
+    Ok(())
+}
+
+/// The set of ranges that do not ascend.
+fn from_ranges(rt: &HostRuntime) -> Result<(), AllocError> {
+    let ranges = vec![in rt.alloc(); 8i32..=9, 1..=2, 2..=6]?;
+    begin(rt, "from_ranges");
+    let made = RangeSetBlaze::from_ranges(rt.alloc(), ranges);
+    end(rt);
+    match &made {
+        Ok(set) => {
+            let _ = println!(rt; " {set}, {} ranges, {} keys", set.ranges_len(), set.len());
+        }
+        Err(_) => show_refused(rt),
+    }
+    Ok(())
+}
+
+/// The segments of two lists.
+fn segments_of(rt: &HostRuntime, lists: &[Vec<(i32, i32)>]) {
+    begin(rt, "segments");
+    let made = segments(rt.alloc(), lists);
+    end(rt);
+    let Ok(made) = made else {
+        return show_refused(rt);
+    };
+    for segment in made {
+        let _ = print!(rt; " {}..={} {:?},", segment.lo, segment.hi, segment.at);
+    }
+    let _ = println!(rt; " end");
+}
+
+/// The segments of two lists of a range each.
+fn two_lists(rt: &HostRuntime) -> Result<(), AllocError> {
+    let first = vec![in rt.alloc(); (0, 9)]?;
+    let second = vec![in rt.alloc(); (5, 14)]?;
+    let lists = vec![in rt.alloc(); first, second]?;
+    segments_of(rt, &lists);
+    Ok(())
+}
+
+/// Makes all calls of this file.
+pub fn all(rt: &HostRuntime) -> Result<(), AllocError> {
+    clone(rt, &leaf(rt.alloc(), 2)?);
+    from_canonical(rt)?;
+    canonical(rt)?;
+    from_ranges(rt)?;
+    two_lists(rt)
+}

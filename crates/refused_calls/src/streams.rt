@@ -1,0 +1,117 @@
+//! Streams that stay streams: two as one, one on the keys of a set and off them, and a table and a map of a stream's entries.
+use crate::calls::{begin, end, show_answer, show_refused};
+use crate::tables::{Words, table_of};
+use blaze_streams::{
+    CanonMapIter, IntoRangeValuesIter, RangeValuesIter, complement, intersect_with_ranges,
+    subtract_ranges, symmetric_difference_of, union_of,
+};
+use blaze_table::RangeSetBlaze;
+use range_map_blaze::IntoRangeMapBlaze;
+use std::alloc::AllocError;
+
+/// Ends the line of a call with the stream that it made.
+fn show(rt: &HostRuntime, made: Result<CanonMapIter<i32, &String>, AllocError>) {
+    let Ok(stream) = made else {
+        return show_refused(rt);
+    };
+    for (range, word) in stream {
+        let _ = print!(rt; " {range:?} {word},");
+    }
+    let _ = println!(rt; " end");
+}
+
+/// One stream over another.
+fn union(rt: &HostRuntime, one: &Words, two: &Words) {
+    let (left, right) = (RangeValuesIter::new(one), RangeValuesIter::new(two));
+    begin(rt, "union_of");
+    let made = union_of(rt.alloc(), left, right);
+    end(rt);
+    show(rt, made);
+}
+
+/// The keys of exactly one stream.
+fn symmetric_difference(rt: &HostRuntime, one: &Words, two: &Words) {
+    let (left, right) = (RangeValuesIter::new(one), RangeValuesIter::new(two));
+    begin(rt, "symmetric_difference_of");
+    let made = symmetric_difference_of(rt.alloc(), left, right);
+    end(rt);
+    show(rt, made);
+}
+
+/// A stream on the keys of a set.
+fn intersect(rt: &HostRuntime, one: &Words, set: &RangeSetBlaze<i32>) {
+    let stream = RangeValuesIter::new(one);
+    begin(rt, "intersect_with_ranges");
+    let made = intersect_with_ranges(rt.alloc(), stream, set.ranges());
+    end(rt);
+    show(rt, made);
+}
+
+/// A stream off the keys of a set.
+fn subtract(rt: &HostRuntime, one: &Words, set: &RangeSetBlaze<i32>) {
+    let stream = RangeValuesIter::new(one);
+    begin(rt, "subtract_ranges");
+    let made = subtract_ranges(rt.alloc(), stream, set.ranges());
+    end(rt);
+    show(rt, made);
+}
+
+/// The keys that a set lacks.
+fn lacking(rt: &HostRuntime, set: &RangeSetBlaze<i32>) {
+    begin(rt, "complement");
+    let made = complement(rt.alloc(), set.ranges());
+    end(rt);
+    let Ok(ranges) = made else {
+        return show_refused(rt);
+    };
+    for range in ranges {
+        let _ = print!(rt; " {range:?},");
+    }
+    let _ = println!(rt; " end");
+}
+
+/// The entries of a table by value, each word shared.
+fn shared(rt: &HostRuntime, table: Words) {
+    begin(rt, "IntoRangeValuesIter::new");
+    let made = IntoRangeValuesIter::new(rt.alloc(), table);
+    end(rt);
+    let Ok(stream) = made else {
+        return show_refused(rt);
+    };
+    for (range, word) in stream {
+        let _ = print!(rt; " {range:?} {word:?},");
+    }
+    let _ = println!(rt; " end");
+}
+
+/// The map of a stream.
+fn map_of(rt: &HostRuntime, table: &Words) {
+    let stream = RangeValuesIter::new(table);
+    begin(rt, "into_range_map_blaze");
+    let made = stream.into_range_map_blaze(rt.alloc());
+    end(rt);
+    show_answer(rt, made);
+}
+
+/// Two streams as one, and one with a set.
+fn merges(rt: &HostRuntime, one: &Words, two: &Words) -> Result<(), AllocError> {
+    union(rt, one, two);
+    symmetric_difference(rt, one, two);
+    let ranges = vec![in rt.alloc(); 4i32..=8]?;
+    let set = RangeSetBlaze::from_ranges(rt.alloc(), ranges)?;
+    intersect(rt, one, &set);
+    subtract(rt, one, &set);
+    lacking(rt, &set);
+    Ok(())
+}
+
+/// Makes all calls of this file.
+pub fn all(rt: &HostRuntime) -> Result<(), AllocError> {
+    let one = table_of(rt.alloc(), &[(1, 5, "a")])?;
+    let two = table_of(rt.alloc(), &[(4, 8, "b")])?;
+    merges(rt, &one, &two)?;
+    let both = table_of(rt.alloc(), &[(1, 5, "a"), (4, 8, "b")])?;
+    map_of(rt, &both);
+    shared(rt, both);
+    Ok(())
+}

@@ -1,0 +1,67 @@
+#!/usr/bin/env bash
+# Each request for memory of each call of the program `refused_calls` refused in turn, and at last none. The program makes calls
+# that no line of a script makes, each between lines `begin` and `end` of its standard error, and prints for each a line: what it
+# answered, and what it left. Without a refusal these are the lines of its `stdout`. Where a request is refused, the line of the
+# call that made it is to be that of tests/refused_calls.txt, and all others stay. The file has as many lines as there are calls,
+# in their order; '-' is a call that is to make no request. '? ' stands before a call that builds a tree in one go, which may do
+# without one of its requests: std's `collect` asks for the room that the iterator's hint names, and where that is refused for
+# the room of one item. The last line is 'N passed, M failed'.
+#
+# REFUSED_CALLS_PROGRAM names the program; without it the one that the gate built is taken.
+set -euo pipefail
+here="$(cd "$(dirname "${BASH_SOURCE[0]}")" && pwd)"
+program="${REFUSED_CALLS_PROGRAM:-$here/../crates/refused_calls/out/refused_calls}"
+work="$(mktemp -d)"
+trap 'rm -rf "$work"' EXIT
+cc -shared -fPIC -O1 -o "$work/refuse.so" "$here/refuse.c"
+
+mapfile -t made <"$here/../crates/refused_calls/stdout"
+mapfile -t kept <"$here/refused_calls.txt"
+
+passed=0
+failed=0
+judge() { # what is wanted, what was got, what was run
+    if [ "$1" = "$2" ]; then passed=$((passed + 1)); else failed=$((failed + 1)) && echo "$3: wanted '$1', got '$2'"; fi
+}
+
+# Runs the program with one request refused, 0 for none: `got` is what it prints and its status, `told` what the preloaded code
+# says: how many requests there were, and in which call one was refused.
+run() {
+    local status=0
+    REFUSE_NTH=$1 REFUSE_TELL=1 LD_PRELOAD="$work/refuse.so" "$program" >"$work/got" 2>"$work/told" || status=$?
+    mapfile -t got <"$work/got"
+    got+=("status $status")
+    requests="$(sed -n 's/^requests=//p' "$work/told")"
+    call="$(sed -n 's/^refused in call //p' "$work/told")"
+}
+
+# Each line of a run, beside the line that is wanted there.
+judge_lines() { # what was run
+    local place
+    judge "${#wanted[@]} lines" "${#got[@]} lines" "$1"
+    for place in "${!wanted[@]}"; do judge "${wanted[place]}" "${got[place]:-}" "$1"; done
+}
+
+judge "${#made[@]}" "${#kept[@]}" "lines of refused_calls.txt"
+run 0
+wanted=("${made[@]}" "status 0")
+judge_lines "none refused"
+refusals=("${made[@]/*/0}") spared=("${made[@]/*/0}")
+for ((nth = 1, all = requests; nth <= all; nth++)); do
+    run "$nth"
+    wanted=("${made[@]}" "status 0")
+    place=$((call - 1))
+    if [[ "${kept[place]}" = '? '* ]] && [ "${got[place]}" = "${made[place]}" ] && [ "${spared[place]}" = 0 ]; then
+        spared[place]=1
+    else
+        wanted[place]="${kept[place]#'? '}"
+        refusals[place]=$((refusals[place] + 1))
+    fi
+    judge_lines "request $nth of $all refused"
+done
+for place in "${!kept[@]}"; do
+    if [ "${kept[place]}" = - ]; then continue; fi
+    judge yes "$([ "${refusals[place]}" -gt 0 ] && echo yes || echo no)" "a request that '${made[place]}' needs"
+done
+echo "$passed passed, $failed failed"
+[ "$failed" = 0 ]
