@@ -96,6 +96,9 @@ const Work works[] = {
     {"a map of unsorted ranges; plain paints them", 17, 1'000'000, 10, 1e6, "range", 0.25},
     {"the same, painted one by one", 19, 1'000'000, 10, 1e6, "range", 0},
     {"a map of sorted ranges; plain copies them", 18, 1'000'000, 100, 1e6, "range", 2.0},
+    {"filled ranges of so many gaps, 10^5 entries; plain paints them", 25, 1, 100'000, 1, "gap", 0},
+    {"filled ranges of so many gaps, 10^5 entries; plain paints them", 25, 10, 10'000, 10, "gap", 0},
+    {"filled ranges of so many gaps, 10^5 entries; plain paints them", 25, 1'000, 100, thousand, "gap", 0},
     {"the union of so many maps of 10^5 entries in all", 20, 2, 1'000, 1e5, "entry", 0},
     {"the union of so many maps of 10^5 entries in all", 20, 16, 1'000, 1e5, "entry", 0},
     {"the union of so many maps of 10^5 entries in all", 20, 256, 1'000, 1e5, "entry", 0},
@@ -206,6 +209,9 @@ string number(double value, const char* form = "%.3g") {
 string size_text(std::uint64_t size) {
     if (size == 0) {
         return "from none";
+    }
+    if (size < 100) {
+        return std::to_string(size);
     }
     int power = 0;
     std::uint64_t rest = size;

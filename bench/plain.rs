@@ -84,6 +84,26 @@ fn remove(map: &mut Map, draw: &mut Draw, limit: u64, count: u64) -> u64 {
     sum
 }
 
+/// Ranges with about so many gaps each, one above another, in a map of 100,000 entries: their gaps are looked up and painted.
+fn fill(check: bool, gaps: u64, count: u64) -> u64 {
+    let mut map = prepared(1, 100_000, 16, 0);
+    let mut draw = Draw(2);
+    let mut key = 0;
+    for _ in 0..count {
+        let value = draw.below(4);
+        let above = key + (SPACING * gaps) as i64;
+        while key < above {
+            let (_, end, found) = map.range_or_gap_at(key);
+            let end = end.min(above - 1);
+            if found.is_none() {
+                map.paint(key, end, value);
+            }
+            key = end + 1;
+        }
+    }
+    checksum(check, 0, &map)
+}
+
 /// Sixteen paints at a time among the same 64 keys, then among the next 64.
 fn paint_clumps(check: bool, count: u64) -> u64 {
     let mut draw = Draw(2);
@@ -297,6 +317,7 @@ pub extern "C" fn plain_run(work: u32, size: u64, count: u64) -> u64 {
         22 => combine(check, size, 100, count, Map::difference),
         23 => combine_by_value(check, size, count, |map, other| map.difference_by_value(&other)),
         24 => within(size, count),
+        25 => fill(check, size, count),
         _ => return 0,
     };
     sum | 1

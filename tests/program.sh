@@ -25,9 +25,10 @@ run() { # a file
     echo "status $status"
 }
 
-lines=('paint 1 3 red' 'paint 7 10 blue' 'at 5' 'at 2' 'get 4' 'insert 8 red' 'len' 'list')
+lines=('paint 1 3 red' 'paint 7 10 blue' 'at 5' 'at 2' 'get 4' 'insert 8 red' 'len' 'list' 'fill 0 12 green' 'list')
 answers=('true' 'true' '4..=6 -' '1..=3 red' '-' 'blue' '7'
-    '(1..=3, "red"), (7..=7, "blue"), (8..=8, "red"), (9..=10, "blue")')
+    '(1..=3, "red"), (7..=7, "blue"), (8..=8, "red"), (9..=10, "blue")' 'true'
+    '(0..=0, "green"), (1..=3, "red"), (4..=6, "green"), (7..=7, "blue"), (8..=8, "red"), (9..=10, "blue"), (11..=12, "green")')
 text="$work/text"
 all="$(printf '%s\n' "${answers[@]}" 'status 0')"
 
@@ -40,6 +41,12 @@ done
 judge 'status 0' "$(run /dev/null)" 'no text'
 printf '%s\n' "${lines[@]}" >"$text"
 judge "$all" "$(run "$text")" 'all lines'
+printf '%s\n' 'paint 2 3 a' 'paint 6 6 b' 'fill 0 9 z' 'fill 0 9 y' 'list' >"$text"
+judge "$(printf '%s\n' true true true false \
+    '(0..=1, "z"), (2..=3, "a"), (4..=5, "z"), (6..=6, "b"), (7..=9, "z")' 'status 0')" "$(run "$text")" 'fills'
+printf 'fill 1 2\n' >"$text"
+judge "$(printf '%s\n' 'error line 1' 'status 2')" "$(run "$text")" 'a fill without a word'
+printf '%s\n' "${lines[@]}" >"$text"
 
 # ---- Faults
 judge 'status 1' "$(run "$work")" 'a folder as input'

@@ -1,16 +1,18 @@
 #!/usr/bin/env bash
 # Each request for memory of each call in tests/refusals.txt refused in turn, and at last none. A refused call must leave the
-# maps and sets as they were, but for what it was given by value, which is gone; a call that paints pairs may leave a first
-# part of them painted; a list of steps leaves what the steps before the refused one left; an iterator by value must end. Without a refusal the call must succeed. A call that is to take memory
-# must make a request that it can't do without, one that is to take none must make none.
+# maps and sets as they were, but for what it was given by value, which is gone; a call that paints or fills pairs may leave a
+# first part of them painted or filled; a list of steps leaves what the steps before the refused one left; an iterator by value
+# must end. Without a refusal the call must succeed. A call that is to take memory must make a request that it can't do without,
+# one that is to take none must make none.
 #
 # A call that collects pairs, to build a tree in one go or a list, may do without one of its requests: std's `collect` and
 # `extend` ask for the room that the iterator's hint names, and where that is refused for the room of one item. The answer and
 # the state are then those of the call without a refusal. The last line is 'N passed, M failed'.
 #
-# Calls without a line in a script are not swept by themselves. `symmetric_difference_of`, `intersect_with_ranges`,
-# `subtract_ranges`, `complement` and `from_sorted_disjoint_map` run inside the operators `^`, `&`, `-` and `!`, and are
-# refused there; `union_of` runs inside `|` of two maps of like size. `segments`, `into_range_map_blaze` and carriers are not refused here.
+# Calls without a line in a script are not swept by themselves. `complement` runs inside `!`, `join_of`, `transform` and `fill`
+# inside joins, other values and filled gaps, `union_of`, `intersection_of`, `symmetric_difference_of` and `sweep_of` inside the
+# operations on many maps, and they are refused there. `segments`, `intersect_with_ranges`, `subtract_ranges`, the joins of streams
+# with closures, `into_range_map_blaze` and carriers are not refused here.
 #
 #     tests/refusals.sh          all cases
 #     tests/refusals.sh WORD     those whose call has the word
@@ -49,14 +51,22 @@ run() { # the arguments of the program, '--', lines
     if ((${#got[@]} > printed + 1)); then answer="${got[-printed - 2]}"; fi
 }
 
-# The lines that stand for a refused call: what it was given by value is gone, and of its pairs the first so many are painted.
+# The lines that stand for a refused call: what it was given by value is gone, and of its pairs, or of those of the other map, the
+# first so many are painted, or put on keys without a value.
 first_pairs() { # how many
-    local words count="$1"
+    local words count="$1" place
     read -ra words <<<"$call"
     if [ "${#words[@]}" = 3 ]; then
         read -ra words <<<"${words[0]} extend_simple $others"
     fi
-    instead=("${words[*]:0:2 + 2 * count}" "${gone[@]}")
+    instead=("${words[*]:0:2 + 2 * count}")
+    if [[ "$call" = *" extend_absent "* ]]; then
+        instead=()
+        for ((place = 2; place < 2 + 2 * count; place += 2)); do
+            instead+=("${words[0]} ranges_insert_absent ${words[*]:place:2}")
+        done
+    fi
+    instead+=("${gone[@]}")
 }
 pair_count() {
     local words
@@ -184,6 +194,7 @@ sweep_group() {
             line="${line//' {turns}'/"$turns"}"
             line="${line//' {others}'/"$others"}"
             line="${line//' {other ranges}'/"$ranges"}"
+            if [[ "$line" = 'b extend_simple '* ]]; then others=" ${line#b extend_simple }"; fi
             before+=("$line")
         done
         for call in "${calls[@]}"; do

@@ -1,6 +1,6 @@
 //! Works on single keys and small ranges.
 use crate::draw::Draw;
-use crate::prepared::{Map, Work, checksum, copies, even, mix, spread};
+use crate::prepared::{ENTRIES, Map, Work, checksum, copies, even, mix, prepared, spread};
 use std::alloc::AllocError;
 
 /// What is done at random places.
@@ -87,6 +87,19 @@ pub fn clumps(work: Work) -> Result<u64, AllocError> {
         let lo = clump.wrapping_add(draw.key(64));
         let hi = lo.wrapping_add(draw.key(16));
         let _ = map.ranges_insert(lo..=hi, draw.below(4))?;
+    }
+    Ok(checksum(work.check, 0, &map))
+}
+
+/// Ranges with about `size` gaps each, one above another, that are filled in a map of `ENTRIES` entries.
+pub fn fill(work: Work) -> Result<u64, AllocError> {
+    let mut map = prepared(work.alloc, 1, ENTRIES, 16, 0)?;
+    let mut draw = Draw::new(2);
+    let mut key = 0i64;
+    for _ in 0..work.count {
+        let above = key.wrapping_add(spread(work.size).cast_signed());
+        let _ = map.ranges_insert_absent(key..above, draw.below(4))?;
+        key = above;
     }
     Ok(checksum(work.check, 0, &map))
 }

@@ -8,7 +8,7 @@ mod many;
 mod prepared;
 mod whole;
 
-use crate::changes::{Change, change_maps, clumps, get, pop_first};
+use crate::changes::{Change, change_maps, clumps, fill, get, pop_first};
 use crate::makes::{make, paint_one_by_one};
 use crate::many::union_of_many;
 use crate::prepared::Work;
@@ -47,6 +47,7 @@ fn on_keys(work: Work, number: u32) -> Option<Result<u64, AllocError>> {
         15 => Some(walk(work, 100)),
         16 => Some(walk(work, 1)),
         24 => Some(within(work)),
+        25 => Some(fill(work)),
         _ => on_maps(work, number),
     }
 }

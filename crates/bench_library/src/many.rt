@@ -1,10 +1,7 @@
 //! Unions of many maps.
-use crate::prepared::{Map, Work, checksum, prepared};
+use crate::prepared::{ENTRIES, Map, Work, checksum, prepared};
 use range_map_multi::MultiwayRangeMapBlazeRef;
 use std::alloc::{AllocError, Global};
-
-/// The entries of all maps together.
-const ENTRIES: u64 = 100_000;
 
 /// So many maps that spread over the same keys.
 fn maps_of(alloc: Global, count: u64) -> Result<Vec<Map>, AllocError> {

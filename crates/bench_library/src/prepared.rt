@@ -17,6 +17,9 @@ pub struct Work {
     pub count: u64,
 }
 
+/// The entries of the maps together, where a work's size is another number.
+pub const ENTRIES: u64 = 100_000;
+
 /// Keys for each entry of a prepared map, on average, with the gap before it.
 const SPACING: u64 = 17;
 

@@ -46,91 +46,72 @@ type Map = RangeMapBlaze<i64, Labelled>;
 
 type Pairs = Vec<(RangeInclusive<i64>, Labelled)>;
 
-/// The range 1..=9 with the value (1, x).
-fn first(alloc: Global) -> Result<Map, AllocError> {
-    let mut map = RangeMapBlaze::new(alloc);
-    let _ = map.ranges_insert(1..=9, Labelled(1, 'x'))?;
-    Ok(map)
-}
-
-/// A range inside that one with the equal value (1, y), and a range beside it with (2, z).
+/// A range inside 1..=9 with the value (1, y), and a range beside it with (2, z).
 fn pairs(alloc: Global) -> Result<Pairs, AllocError> {
     Ok(vec![in alloc; (1..=4, Labelled(1, 'y')), (20..=20, Labelled(2, 'z'))]?)
 }
 
 /// The same as a map.
-fn second(alloc: Global) -> Result<Map, AllocError> {
+fn map_of_pairs(alloc: Global) -> Result<Map, AllocError> {
     RangeMapBlaze::from_ranges(alloc, pairs(alloc)?)
 }
 
-/// Paints inside an entry with an equal value.
-fn painted(rt: &HostRuntime) -> Result<(), AllocError> {
-    let mut map = first(rt.alloc())?;
+/// Paints inside the entry 1..=9 with the value (1, x).
+fn painted(rt: &HostRuntime, map: &mut Map) -> Result<(), AllocError> {
     let changed = map.ranges_insert(3..=4, Labelled(1, 'y'))?;
-    let _ = println!(rt; "{changed} {:?} {map}", map.get(3));
     let old = map.insert(3, Labelled(1, 'y'))?;
-    let _ = println!(rt; "{old:?} {map}");
-    labels(rt, &map);
-    Ok(())
-}
-
-/// The labels of a map: one call for each entry.
-fn labels(rt: &HostRuntime, map: &Map) {
-    let mut calls = 0u32;
-    let labels = map.transform_values(|value| {
-        calls = calls.wrapping_add(1);
-        value.1
-    });
-    let _ = println!(rt; "{labels:?}; {calls} calls");
-}
-
-/// The first map after an extension by the second.
-fn extended<F: FnOnce(&mut Map) -> Result<(), AllocError> + Drop>(
-    rt: &HostRuntime,
-    call: &str,
-    extend: F,
-) -> Result<(), AllocError>
-    requires { F.IsAlwaysCallable extend }
-{
-    let mut map = first(rt.alloc())?;
-    extend(&mut map)?;
-    let _ = println!(rt; "{call}: {map}");
+    let _ = println!(rt; "{changed} {old:?} {map}");
     Ok(())
 }
 
 /// Extensions by pairs.
-fn extended_by_pairs(rt: &HostRuntime) -> Result<(), AllocError> {
+fn extended_by_pairs(rt: &HostRuntime, map: &mut Map) -> Result<(), AllocError> {
     let alloc = rt.alloc();
-    extended(rt, "extend_points", |map| {
-        let one = Labelled(1, 'y');
-        map.extend_points(vec![in alloc; (1, one), (20, Labelled(2, 'z'))]?)
-    })?;
-    extended(rt, "extend_ranges", |map| {
-        map.extend_ranges(pairs(alloc)?)
-    })?;
-    extended(rt, "extend_simple", |map| {
-        map.extend_simple(pairs(alloc)?)
-    })
+    map.extend_points(vec![in alloc; (1, Labelled(1, 'y'))]?)?;
+    map.extend_ranges(pairs(alloc)?)?;
+    map.extend_simple(pairs(alloc)?)?;
+    let _ = println!(rt; "pairs: {map}");
+    Ok(())
 }
 
 /// Extensions by a map that is given by value, or emptied.
-fn extended_by_value(rt: &HostRuntime) -> Result<(), AllocError> {
+fn extended_by_value(rt: &HostRuntime, map: &mut Map) -> Result<(), AllocError> {
     let alloc = rt.alloc();
-    extended(rt, "extend_from", |map| map.extend_from(second(alloc)?))?;
-    extended(rt, "bitor_assign", |map| map.bitor_assign(second(alloc)?))?;
-    extended(rt, "append", |map| map.append(&mut second(alloc)?))
+    map.extend_from(map_of_pairs(alloc)?)?;
+    map.bitor_assign(map_of_pairs(alloc)?)?;
+    map.append(&mut map_of_pairs(alloc)?)?;
+    let _ = println!(rt; "by value: {map}");
+    Ok(())
 }
 
 /// Extensions by a map that is lent.
-fn extended_by_lent(rt: &HostRuntime, other: &Map) -> Result<(), AllocError> {
-    extended(rt, "extend_with", |map| map.extend_with(other))?;
-    extended(rt, "bitor_assign_ref", |map| map.bitor_assign_ref(other))
+fn extended_by_lent(rt: &HostRuntime, map: &mut Map, other: &Map) -> Result<(), AllocError> {
+    map.extend_with(other)?;
+    map.bitor_assign_ref(other)?;
+    let _ = println!(rt; "lent: {map}");
+    Ok(())
+}
+
+/// Fills round the entry 3..=5 with an equal value: all are one entry.
+fn filled(rt: &HostRuntime) -> Result<(), AllocError> {
+    let mut map = Map::new(rt.alloc());
+    let _ = map.ranges_insert(3..=5, Labelled(1, 'x'))?;
+    let grown = map.ranges_insert_absent(1..=9, Labelled(1, 'y'))?;
+    let is_equal = match map.get(4) {
+        Some(value) => *value == Labelled(1, 'y'),
+        None => false,
+    };
+    let _ = println!(rt; "{grown}, {} entry, {is_equal}", map.ranges_len());
+    Ok(())
 }
 
 /// Makes all calls of this file.
 pub fn all(rt: &HostRuntime) -> Result<(), AllocError> {
-    painted(rt)?;
-    extended_by_pairs(rt)?;
-    extended_by_value(rt)?;
-    extended_by_lent(rt, &second(rt.alloc())?)
+    let mut map = RangeMapBlaze::new(rt.alloc());
+    let _ = map.ranges_insert(1..=9, Labelled(1, 'x'))?;
+    painted(rt, &mut map)?;
+    extended_by_pairs(rt, &mut map)?;
+    extended_by_value(rt, &mut map)?;
+    extended_by_lent(rt, &mut map, &map_of_pairs(rt.alloc())?)?;
+    filled(rt)
 }

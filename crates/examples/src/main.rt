@@ -1,8 +1,8 @@
-//! Worked examples of what no line of a script says: tables, sets and streams, values that refuse to be cloned or are equal by
-//! a part of them, closures with a state. Each line of the output is the answer of a call, or an entry of what it made.
+//! Worked examples of what no line of a script says, nor runs inside a call of its lines: tables, sets and streams, values that
+//! refuse to be cloned or are equal by a part of them, closures with a state. Each line of the output is the answer of a call,
+//! or an entry of what it made.
 #![tactic(auto)]
 
-mod answers;
 mod coarse;
 mod joins;
 mod many;
@@ -25,7 +25,6 @@ fn run(rt: &HostRuntime) -> Result<(), AllocError> {
     joins::all(rt)?;
     many::all(rt)?;
     maps::all(rt)?;
-    answers::all(rt)?;
     coarse::all(rt)?;
     refused::all(rt)?;
     moved::all(rt)

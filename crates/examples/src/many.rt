@@ -1,5 +1,5 @@
 //! Operations between many maps by value, in an array and as streams, and their joins.
-use crate::maps::{Letters, map_of};
+use crate::maps::{Letters, Numbers, map_of};
 use crate::streams::show;
 use blaze_streams::RangeValuesIter;
 use range_map_blaze::RangeMapBlaze;
@@ -57,34 +57,20 @@ fn as_streams(rt: &HostRuntime, maps: &[Letters; 3]) -> Result<(), AllocError> {
     show(rt, "symmetric_difference", made)
 }
 
-/// The joins of streams: how many values a row has, and whether it has all.
-fn joined_streams(rt: &HostRuntime, maps: &[Letters; 3]) -> Result<(), AllocError> {
-    let made = streams(rt, maps)?.inner_join(rt.alloc(), |row| row.len());
-    show(rt, "inner_join", made)?;
-    let made = streams(rt, maps)?.full_join(
-        rt.alloc(),
-        |row| row.iter().all(|value| value.is_some()),
-    );
+/// An inner join of streams: how many values a row has.
+fn inner_joined(rt: &HostRuntime, streams: Streams<'_>) -> Result<(), AllocError> {
+    let made = streams.inner_join(rt.alloc(), |row| row.len());
+    show(rt, "inner_join", made)
+}
+
+/// A full join of streams: whether a row has all values.
+fn full_joined(rt: &HostRuntime, streams: Streams<'_>) -> Result<(), AllocError> {
+    let made = streams.full_join(rt.alloc(), |row| row.iter().all(|value| value.is_some()));
     show(rt, "full_join", made)
 }
 
-/// A map of numbers.
-type Numbers = RangeMapBlaze<i64, u32>;
-
-/// The sums of three maps where all have a number.
-fn inner_joined(rt: &HostRuntime, maps: [&Numbers; 3]) {
-    let sums = maps.inner_join(rt.alloc(), |row| {
-        let mut sum = 0u32;
-        for number in row {
-            sum = sum.wrapping_add(**number);
-        }
-        sum
-    });
-    let _ = println!(rt; "inner_join: {sums:?}");
-}
-
 /// The sums of two maps where at least one has a number.
-fn full_joined(rt: &HostRuntime, maps: [&Numbers; 2]) {
+fn sums(rt: &HostRuntime, maps: [&Numbers; 2]) {
     let sums = maps.full_join(rt.alloc(), |row| {
         let mut sum = 0u32;
         for number in row {
@@ -105,6 +91,14 @@ fn none_joined(rt: &HostRuntime, none: [&RangeMapBlaze<u8, u32>; 0]) {
     let _ = println!(rt; "inner_join: {everywhere:?}; {calls} calls");
 }
 
+/// Joins of maps of numbers, and of none.
+fn numbers(rt: &HostRuntime) -> Result<(), AllocError> {
+    let a = map_of(rt.alloc(), &[(0, 9, 1)])?;
+    sums(rt, [&a, &map_of(rt.alloc(), &[(5, 14, 10)])?]);
+    none_joined(rt, []);
+    Ok(())
+}
+
 /// Makes all calls of this file.
 pub fn all(rt: &HostRuntime) -> Result<(), AllocError> {
     let alloc = rt.alloc();
@@ -115,18 +109,7 @@ pub fn all(rt: &HostRuntime) -> Result<(), AllocError> {
     by_value(rt, &maps)?;
     in_an_array(rt, &maps);
     as_streams(rt, &maps)?;
-    joined_streams(rt, &maps)?;
+    inner_joined(rt, streams(rt, &maps)?)?;
+    full_joined(rt, streams(rt, &maps)?)?;
     numbers(rt)
-}
-
-/// Joins of maps of numbers, and of none.
-fn numbers(rt: &HostRuntime) -> Result<(), AllocError> {
-    let alloc = rt.alloc();
-    let a = map_of(alloc, &[(0, 9, 1), (10, 19, 2)])?;
-    let b = map_of(alloc, &[(5, 14, 30)])?;
-    inner_joined(rt, [&a, &b, &map_of(alloc, &[(0, 99, 400)])?]);
-    let a = map_of(alloc, &[(0, 9, 1)])?;
-    full_joined(rt, [&a, &map_of(alloc, &[(5, 14, 10)])?]);
-    none_joined(rt, []);
-    Ok(())
 }

@@ -1,4 +1,4 @@
-//! Maps in loops, of streams and in their order; what closures keep.
+//! Maps in loops, of streams and in their order; closures with a state.
 ghost use Rattle.blaze_table.specs.Painted.{ClonesAreAlike};
 
 use range_map_blaze::{IntoRangeMapBlaze, RangeMapBlaze, Turns};
@@ -7,6 +7,9 @@ use std::cell::Cell;
 
 /// A map of letters.
 pub type Letters = RangeMapBlaze<i64, char>;
+
+/// A map of numbers.
+pub type Numbers = RangeMapBlaze<i64, u32>;
 
 /// A map of ranges painted in their order.
 pub fn map_of<V: Eq + Copy>(
@@ -22,11 +25,15 @@ pub fn map_of<V: Eq + Copy>(
     Ok(map)
 }
 
-/// Loops over a map, lent and by value.
-fn loops(rt: &HostRuntime, map: Letters) -> Result<(), AllocError> {
-    for (key, value) in &map {
+/// A loop over a map that is lent.
+fn lent_loop(rt: &HostRuntime, map: &Letters) {
+    for (key, value) in map {
         let _ = println!(rt; "{key} {value}");
     }
+}
+
+/// A loop over a map by value.
+fn owned_loop(rt: &HostRuntime, map: Letters) -> Result<(), AllocError> {
     for pair in map {
         let (key, value) = pair?;
         let _ = println!(rt; "{key} {value}");
@@ -55,33 +62,62 @@ fn kept_keys(rt: &HostRuntime, mut map: Letters) -> Result<(), AllocError> {
     Ok(())
 }
 
-/// Maps of streams.
-fn of_streams(rt: &HostRuntime, map: &Letters) {
-    let made = RangeMapBlaze::from_sorted_disjoint_map(rt.alloc(), map.range_values());
-    let _ = println!(rt; "{made:?}");
+/// The sums of two maps, with the number of the call: one call for each segment.
+fn sums(rt: &HostRuntime, ones: &Numbers, tens: &Numbers) {
+    let mut calls = 0u32;
+    let sums = ones.full_join(tens, |one, ten| {
+        calls = calls.wrapping_add(1);
+        let one = one.map_or(0, |one| *one);
+        (one.wrapping_add(ten.map_or(0, |ten| *ten)), calls)
+    });
+    let _ = println!(rt; "full_join: {sums:?}; {calls} calls");
+}
+
+/// Tens: one call for each entry.
+fn tens_of(rt: &HostRuntime, map: &Numbers) {
+    let mut calls = 0u32;
+    let tens = map.transform_values(|number| {
+        calls = calls.wrapping_add(1);
+        *number / 10
+    });
+    let _ = println!(rt; "transform_values: {tens:?}; {calls} calls");
+}
+
+/// A map of a stream.
+fn of_stream(rt: &HostRuntime, map: &Letters) {
     let made = map.range_values().into_range_map_blaze(rt.alloc());
     let _ = println!(rt; "{made:?}");
 }
 
 /// The order of maps.
 fn orders(rt: &HostRuntime, left: &Letters, right: &Letters) {
-    let mut turns = Turns::new();
-    let _ = println!(rt;
-        "{:?} {:?} {}",
-        left.cmp_counted(right, &mut turns),
-        left.partial_cmp(right),
-        left < right
-    );
+    let order = left.cmp_counted(right, &mut Turns::new());
+    let _ = println!(rt; "{order:?} {:?} {}", left.partial_cmp(right), left < right);
+}
+
+/// Calls of maps of letters.
+fn of_letters(rt: &HostRuntime) -> Result<(), AllocError> {
+    let alloc = rt.alloc();
+    let map = map_of(alloc, &[(1, 2, 'a'), (5, 5, 'b')])?;
+    lent_loop(rt, &map);
+    of_stream(rt, &map);
+    orders(rt, &map, &map_of(alloc, &[(1, 2, 'b')])?);
+    owned_loop(rt, map)
+}
+
+/// Calls with closures.
+fn with_closures(rt: &HostRuntime) -> Result<(), AllocError> {
+    let alloc = rt.alloc();
+    kept_entries(rt, map_of(alloc, &[(0, 3, 'a'), (4, 7, 'b'), (9, 9, 'a')])?);
+    kept_keys(rt, map_of(alloc, &[(0, 4, 'a')])?)?;
+    let tens = map_of(alloc, &[(4, 8, 10)])?;
+    sums(rt, &map_of(alloc, &[(1, 5, 1)])?, &tens);
+    tens_of(rt, &map_of(alloc, &[(1, 3, 10), (4, 6, 11), (8, 9, 20)])?);
+    Ok(())
 }
 
 /// Makes all calls of this file.
 pub fn all(rt: &HostRuntime) -> Result<(), AllocError> {
-    let alloc = rt.alloc();
-    loops(rt, map_of(alloc, &[(1, 2, 'a'), (5, 5, 'b')])?)?;
-    kept_entries(rt, map_of(alloc, &[(0, 3, 'a'), (4, 7, 'b'), (9, 9, 'a')])?);
-    kept_keys(rt, map_of(alloc, &[(0, 4, 'a')])?)?;
-    of_streams(rt, &map_of(alloc, &[(1, 3, 'a'), (4, 6, 'b')])?);
-    let left = map_of(alloc, &[(1, 3, 'a')])?;
-    orders(rt, &left, &map_of(alloc, &[(1, 2, 'a'), (3, 3, 'b')])?);
-    Ok(())
+    of_letters(rt)?;
+    with_closures(rt)
 }

@@ -61,11 +61,6 @@ fn few(alloc: Global) -> Result<Map, AllocError> {
     map_of(alloc, &[(28, 29, 2)])
 }
 
-/// A set with the keys of one range.
-fn set(alloc: Global, keys: RangeInclusive<i64>) -> Result<RangeSetBlaze<i64>, AllocError> {
-    RangeSetBlaze::from_ranges(alloc, vec![in alloc; keys]?)
-}
-
 /// The even keys up to 30.
 fn even_keys(alloc: Global) -> Result<Vec<RangeInclusive<i64>>, AllocError> {
     let mut ranges = Vec::new(alloc);
@@ -85,72 +80,63 @@ fn many(alloc: Global) -> Result<Map, AllocError> {
     Ok(map)
 }
 
-/// Makes an operation on two operands, and prints the map.
-fn operate<A: Drop, B: Drop, F: FnOnce(A, B) -> Result<Map, AllocError> + Drop>(
-    rt: &HostRuntime,
-    call: &str,
-    left: Result<A, AllocError>,
-    right: Result<B, AllocError>,
-    operation: F,
-) -> Result<(), AllocError>
-    requires { F.IsAlwaysCallable operation }
-{
-    let left = left?;
-    let right = right?;
-    let _ = println!(rt; "{call}: {:?}", operation(left, right));
+/// Prints what an operation made.
+fn show(rt: &HostRuntime, call: &str, made: Result<Map, AllocError>) {
+    let _ = println!(rt; "{call}: {made:?}");
+}
+
+/// Operators on maps of like sizes, in which no piece leaves a rest of its range behind.
+fn with_maps(rt: &HostRuntime) -> Result<(), AllocError> {
+    let alloc = rt.alloc();
+    show(rt, "a & b", left(alloc)? & right(alloc)?);
+    show(rt, "a - b", left(alloc)? - right(alloc)?);
+    show(rt, "a ^ b", left(alloc)? ^ right(alloc)?);
     Ok(())
 }
 
-/// Operators on maps of like sizes, in which no piece leaves a rest of its range behind; one of a map that is lent.
-fn with_maps(rt: &HostRuntime) -> Result<(), AllocError> {
+/// The same with the keys of a set.
+fn with_a_set(rt: &HostRuntime, s: &RangeSetBlaze<i64>) -> Result<(), AllocError> {
     let alloc = rt.alloc();
-    operate(rt, "a & b", left(alloc), right(alloc), |a, b| a & b)?;
-    operate(rt, "&a & b", left(alloc), right(alloc), |a, b| &a & b)?;
-    operate(rt, "a & &b", left(alloc), right(alloc), |a, b| a & &b)?;
-    operate(rt, "a - b", left(alloc), right(alloc), |a, b| a - b)?;
-    operate(rt, "a - &b", left(alloc), right(alloc), |a, b| a - &b)?;
-    operate(rt, "a ^ b", left(alloc), right(alloc), |a, b| a ^ b)
+    show(rt, "a & &s", left(alloc)? & s);
+    show(rt, "a - &s", left(alloc)? - s);
+    show(rt, "many - &s", many(alloc)? - s);
+    Ok(())
 }
 
-/// The same with a set.
-fn with_sets(rt: &HostRuntime) -> Result<(), AllocError> {
-    let alloc = rt.alloc();
-    operate(rt, "a & s", left(alloc), set(alloc, 0..=9), |a, s| a & s)?;
-    operate(rt, "a & &s", left(alloc), set(alloc, 0..=9), |a, s| a & &s)?;
-    operate(rt, "a - s", left(alloc), set(alloc, 0..=9), |a, s| a - s)?;
-    operate(rt, "a - &s", left(alloc), set(alloc, 0..=9), |a, s| a - &s)
-}
-
-/// A map of many entries beside a map of few.
+/// A map of many entries by value beside a map of few.
 fn with_many(rt: &HostRuntime) -> Result<(), AllocError> {
     let alloc = rt.alloc();
-    operate(rt, "many - &a", many(alloc), few(alloc), |m, a| m - &a)?;
-    operate(rt, "&many & a", many(alloc), few(alloc), |m, a| &m & a)?;
-    operate(rt, "a - &many", many(alloc), few(alloc), |m, a| a - &m)?;
-    operate(rt, "many ^ a", many(alloc), few(alloc), |m, a| m ^ a)?;
-    operate(rt, "a ^ many", many(alloc), few(alloc), |m, a| a ^ m)
+    show(rt, "many - a", many(alloc)? - few(alloc)?);
+    show(rt, "many ^ a", many(alloc)? ^ few(alloc)?);
+    Ok(())
 }
 
-/// The same with a set of one range, and of many.
-fn with_many_and_sets(rt: &HostRuntime) -> Result<(), AllocError> {
+/// A map of few entries by value beside a map and a set of many that are lent.
+fn with_lent_many(rt: &HostRuntime, many: &Map, t: &RangeSetBlaze<i64>) -> Result<(), AllocError> {
     let alloc = rt.alloc();
-    let s = set(alloc, 40..=49)?;
-    operate(rt, "many - &s", many(alloc), Ok(&s), |m, s| m - s)?;
+    show(rt, "&many & a", many & few(alloc)?);
+    show(rt, "a - &many", few(alloc)? - many);
+    show(rt, "a & &t", few(alloc)? & t);
+    Ok(())
+}
+
+/// Makes all calls of operators.
+fn operators(rt: &HostRuntime) -> Result<(), AllocError> {
+    let alloc = rt.alloc();
+    with_maps(rt)?;
+    with_many(rt)?;
+    with_a_set(
+        rt,
+        &RangeSetBlaze::from_ranges(alloc, vec![in alloc; 0..=9]?)?,
+    )?;
     let t = RangeSetBlaze::from_ranges(alloc, even_keys(alloc)?)?;
-    operate(rt, "a & &t", few(alloc), Ok(&t), |a, t| a & t)?;
-    operate(rt, "a - &t", few(alloc), Ok(&t), |a, t| a - t)
+    with_lent_many(rt, &many(alloc)?, &t)
 }
 
 /// Makes all calls of this file.
 pub fn all(rt: &HostRuntime) -> Result<(), AllocError> {
-    let (left, right) = (
-        stream_of(rt.alloc(), 0, 9, 1)?,
-        stream_of(rt.alloc(), -1, 4, 2)?,
-    );
-    merged(rt, left, right)?;
+    let left = stream_of(rt.alloc(), 0, 9, 1)?;
+    merged(rt, left, stream_of(rt.alloc(), -1, 4, 2)?)?;
     painted(rt)?;
-    with_maps(rt)?;
-    with_sets(rt)?;
-    with_many(rt)?;
-    with_many_and_sets(rt)
+    operators(rt)
 }

@@ -14,7 +14,12 @@ fn one(alloc: Global, start: i64, end: i64, value: Stubborn) -> Result<Map, Allo
     Ok(map)
 }
 
-/// Paints a range over the one range of a deaf value.
+/// Prints what a call answered, and what it left.
+fn show<X: Debug + Drop>(rt: &HostRuntime, call: &str, answer: Result<X, AllocError>, map: &Map) {
+    let _ = println!(rt; "{call}: {answer:?} {map}");
+}
+
+/// Paints a range over the one range of a deaf value: a rest on either side wants a clone, one rest is moved.
 fn painted(rt: &HostRuntime, start: i64, end: i64) -> Result<(), AllocError> {
     let mut map = one(rt.alloc(), 0, 9, deaf(7))?;
     let answer = map.ranges_insert(start..=end, heard(8));
@@ -28,74 +33,32 @@ fn painted_by_splice(rt: &HostRuntime, start: i64, end: i64) -> Result<(), Alloc
     let _ = table.paint(0, 9, deaf(7))?;
     if start <= end {
         let answer = table.paint_by_splice(start, end, heard(8));
-        let _ = println!(rt;
-            "paint_by_splice: {answer:?} {:?} {:?}",
-            table.first(),
-            table.last()
-        );
+        let _ = println!(rt; "paint_by_splice: {answer:?} {:?}", table.first());
     }
     Ok(())
 }
 
-/// Prints what a call answered, and what it left.
-fn show<X: Debug + Drop>(rt: &HostRuntime, call: &str, answer: Result<X, AllocError>, map: &Map) {
-    let _ = println!(rt; "{call}: {answer:?} {map}");
+/// Fills from 0 up to a key round two entries: the last gap gets the value itself, each gap before it wants a clone.
+fn filled(rt: &HostRuntime, end: i64) -> Result<(), AllocError> {
+    let mut map = one(rt.alloc(), 2, 3, heard(1))?;
+    let _ = map.ranges_insert(6..=6, heard(2))?;
+    let answer = map.ranges_insert_absent(0..=end, deaf(9));
+    show(rt, "ranges_insert_absent", answer, &map);
+    Ok(())
 }
 
-/// Keys taken out of an entry whose value is cloned for them.
-fn cut(rt: &HostRuntime, mut map: Map) -> Result<(), AllocError> {
-    let answer = map.remove(5);
-    show(rt, "remove", answer, &map);
+/// A key taken out of an entry whose value is cloned for it, and a split that clones none.
+fn cut(rt: &HostRuntime, mut map: Map) {
     let answer = map.pop_first();
     show(rt, "pop_first", answer, &map);
-    let answer = map.pop_last();
-    show(rt, "pop_last", answer, &map);
-    let answer = map.split_off(4);
-    show(rt, "split_off", answer, &map);
     let answer = map.split_off(10);
     show(rt, "split_off", answer, &map);
-    Ok(())
 }
 
-/// A map takes another one whose last value refuses its clone.
-fn appended(rt: &HostRuntime, mut map: Map) -> Result<(), AllocError> {
-    let mut other = one(rt.alloc(), 5, 5, heard(2))?;
-    let _ = other.ranges_insert(7..=7, deaf(7))?;
-    let answer = map.append(&mut other);
-    show(rt, "append", answer, &other);
-    let _ = println!(rt; "{:?} {}", map.get(1), map.contains_key(7));
-    Ok(())
-}
-
-/// Pairs by value, by `f` from the front and by `b` from the back.
-fn pairs(rt: &HostRuntime, map: Map, ends: &str) {
+/// Pairs by value: the last key of an entry gets the value itself.
+fn pairs(rt: &HostRuntime, map: Map) {
     let mut pairs = map.into_iter();
-    for end in ends.bytes() {
-        let pair = if end == b'f' {
-            pairs.next()
-        } else {
-            pairs.next_back()
-        };
-        let _ = println!(rt; "into_iter: {pair:?}");
-    }
-}
-
-/// Keys by value: no value is cloned.
-fn keys(rt: &HostRuntime, map: Map) {
-    for key in map.into_keys() {
-        let _ = println!(rt; "into_keys: {key}");
-    }
-}
-
-/// Iterators by value.
-fn iterated(rt: &HostRuntime) -> Result<(), AllocError> {
-    let alloc = rt.alloc();
-    pairs(rt, one(alloc, 1, 3, deaf(7))?, "ffb");
-    keys(rt, one(alloc, 1, 3, deaf(7))?);
-    let mut map = one(alloc, 1, 1, deaf(7))?;
-    let _ = map.ranges_insert(3..=4, heard(8))?;
-    pairs(rt, map, "fbff");
-    Ok(())
+    let _ = println!(rt; "into_iter: {:?} {:?}", pairs.next(), pairs.next_back());
 }
 
 /// Makes all calls of this file.
@@ -104,7 +67,10 @@ pub fn all(rt: &HostRuntime) -> Result<(), AllocError> {
         painted(rt, start, end)?;
         painted_by_splice(rt, start, end)?;
     }
-    cut(rt, one(rt.alloc(), 1, 9, deaf(7))?)?;
-    appended(rt, one(rt.alloc(), 1, 3, heard(1))?)?;
-    iterated(rt)
+    for end in [9, 6, 3] {
+        filled(rt, end)?;
+    }
+    cut(rt, one(rt.alloc(), 1, 9, deaf(7))?);
+    pairs(rt, one(rt.alloc(), 1, 1, deaf(7))?);
+    Ok(())
 }

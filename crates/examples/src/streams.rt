@@ -1,13 +1,13 @@
-//! Streams: lists that keep their law, carriers, the streams of a table, one stream over another.
+//! Streams: lists that keep their law, carriers, one stream over another and on the keys of a set.
+ghost use Rattle.std.specs.Prelude.{⊤};
+
 use crate::maps::{Letters, map_of};
 use blaze_int::Integer;
 use blaze_streams::{
-    BothEnds, CheckSortedDisjoint, CheckSortedDisjointMap, IntoRangeValuesIter, Owned,
-    RangeValuesIter, SortedDisjointMap, ValueCarrier, fill, intersect_with_ranges, intersection_of,
-    into_ranges_of, ranges_of, subtract_ranges, symmetric_difference_of, transform, union_of,
+    CheckSortedDisjoint, CheckSortedDisjointMap, Owned, SortedDisjointMap, ValueCarrier,
+    intersect_with_ranges, intersection_of, subtract_ranges, symmetric_difference_of,
 };
-use blaze_table::RangeTable;
-use std::alloc::{AllocError, Global};
+use std::alloc::AllocError;
 use std::fmt::Debug;
 use std::rc::Rc;
 
@@ -59,23 +59,21 @@ fn checked_ranges(rt: &HostRuntime, items: &[(i64, i64)]) -> Result<(), AllocErr
     Ok(())
 }
 
-/// Lists that keep the law of a stream, and lists that don't.
+/// Lists that violate the law of a stream, and one that keeps it.
 fn lists(rt: &HostRuntime) -> Result<(), AllocError> {
-    let rows: [&[(i64, i64, char)]; 5] = [
-        &[(1, 3, 'a'), (3, 5, 'b')],
-        &[(1, 2, 'a'), (3, 4, 'a')],
-        &[(5, 4, 'a')],
-        &[],
-        &[(1, 3, 'a'), (4, 4, 'b')],
-    ];
-    for row in rows {
-        checked(rt, row)?;
-    }
+    checked(rt, &[(1, 3, 'a'), (3, 5, 'b')])?;
+    checked(rt, &[(1, 2, 'a'), (3, 4, 'a')])?;
+    checked(rt, &[(5, 4, 'a')])?;
+    checked(rt, &[(1, 3, 'a'), (4, 4, 'b')])
+}
+
+/// The same of ranges alone.
+fn lists_of_ranges(rt: &HostRuntime) -> Result<(), AllocError> {
     checked_ranges(rt, &[(1, 3), (4, 5)])?;
     checked_ranges(rt, &[(1, 3), (5, 5)])
 }
 
-/// Prints whether a carrier stands for the same value as its copy and as another one, whether it has that value, and the value.
+/// Prints whether a carrier stands for the same value as its copy, whether it stands for another than another one, and the value.
 fn carry<VC: ValueCarrier<Value: Debug>>(
     rt: &HostRuntime,
     carrier: VC,
@@ -86,31 +84,60 @@ fn carry<VC: ValueCarrier<Value: Debug>>(
     let copy = carrier.carry()?;
     let (same, differs) = (carrier.value_eq(&copy), !carrier.value_eq(&other));
     let value = copy.into_value()?;
-    let _ = println!(rt; "{same} {differs} {} {value:?}", carrier.has_value(&value));
+    let _ = println!(rt; "{same} {differs} {value:?}");
     Ok(())
+}
+
+/// A carrier of one's own.
+#[derive(Drop)]
+struct Level(u8);
+
+impl ValueCarrier for Level {
+    type Value = u8;
+
+    ghost shown = { λ level. level.0 };
+
+    ghost can_carry = { ⊤ };
+
+    fn value_eq(&self, other: &Self) -> bool {
+        self.0 == other.0
+    }
+
+    fn into_value(self) -> Result<u8, AllocError> {
+        Ok(self.0)
+    }
+
+    fn carry(&self) -> Result<Self, AllocError> {
+        Ok(Level(self.0))
+    }
 }
 
 /// Carriers of each kind.
 fn carriers(rt: &HostRuntime) -> Result<(), AllocError> {
+    carry(rt, Level(3), Level(4))?;
     carry(rt, true, false)?;
     carry(rt, &'a', &'b')?;
     carry(rt, Owned('b'), Owned('c'))?;
     carry(rt, Some(true), None)?;
-    carry(rt, (true, Owned('d')), (true, Owned('e')))?;
-    let (shared, other) = (Rc::new(rt.alloc(), 'c')?, Rc::new(rt.alloc(), 'd')?);
-    carry(rt, shared, other)
+    carry(rt, (true, Owned('d')), (true, Owned('e')))
 }
 
-/// Two streams as one.
-fn of_two(rt: &HostRuntime, a: &Letters, b: &Letters) -> Result<(), AllocError> {
-    let alloc = rt.alloc();
-    let (one, two) = (a.range_values(), b.range_values());
-    show(rt, "union_of", union_of(alloc, one, two))?;
-    let (one, two) = (a.range_values(), b.range_values());
-    let made = symmetric_difference_of(alloc, one, two);
-    show(rt, "symmetric_difference_of", made)?;
-    let (one, two) = (a.range_values(), b.range_values());
-    show(rt, "intersection_of", intersection_of(alloc, one, two))
+/// A shared carrier.
+fn shared_carrier(rt: &HostRuntime) -> Result<(), AllocError> {
+    let shared = Rc::new(rt.alloc(), 'c')?;
+    carry(rt, shared, Rc::new(rt.alloc(), 'd')?)
+}
+
+/// The values of one stream where both have one.
+fn in_both(rt: &HostRuntime, a: &Letters, b: &Letters) -> Result<(), AllocError> {
+    let made = intersection_of(rt.alloc(), a.range_values(), b.range_values());
+    show(rt, "intersection_of", made)
+}
+
+/// The values where exactly one stream has one.
+fn in_one(rt: &HostRuntime, a: &Letters, b: &Letters) -> Result<(), AllocError> {
+    let made = symmetric_difference_of(rt.alloc(), a.range_values(), b.range_values());
+    show(rt, "symmetric_difference_of", made)
 }
 
 /// A stream on the keys of a set, and off them.
@@ -121,52 +148,15 @@ fn with_sets(rt: &HostRuntime, a: &Letters, b: &Letters) -> Result<(), AllocErro
     show(rt, "subtract_ranges", made)
 }
 
-/// A table of two ranges that touch.
-fn two_ranges(alloc: Global) -> Result<RangeTable<u8, char>, AllocError> {
-    let mut table = RangeTable::new(alloc);
-    let _ = table.paint(4, 6, 'b')?;
-    let _ = table.paint(1, 3, 'a')?;
-    Ok(table)
-}
-
-/// What a closure answers at the values of a table, called once for each, and every key with what the table has there.
-fn answered(rt: &HostRuntime, table: &RangeTable<u8, char>) -> Result<(), AllocError> {
-    let mut calls = 0_u8;
-    let made = transform(rt.alloc(), RangeValuesIter::new(table), |value: &char| {
-        calls = calls.wrapping_add(1);
-        *value < 'c'
-    });
-    show(rt, "transform", made)?;
-    let _ = println!(rt; "{calls} calls");
-    show(rt, "fill", fill(rt.alloc(), RangeValuesIter::new(table)))
-}
-
-/// The last and then the first of a stream.
-fn show_ends<S: BothEnds<u8, Rc<char>>>(rt: &HostRuntime, mut stream: S) {
-    let _ = println!(rt; "{}: {:?}", stream.least_len(), stream.next_back());
-    let _ = println!(rt; "{:?} {:?}", stream.next(), stream.next());
-}
-
-/// The ranges of a table's keys, lent and by value, and its entries by value from both ends.
-fn of_tables(rt: &HostRuntime, table: RangeTable<u8, char>) -> Result<(), AllocError> {
-    let _ = println!(rt; "{:?}", ranges_of(&table).next());
-    let _ = println!(rt; "{:?}", into_ranges_of(table).next());
-    show_ends(
-        rt,
-        IntoRangeValuesIter::new(rt.alloc(), two_ranges(rt.alloc())?)?,
-    );
-    Ok(())
-}
-
 /// Makes all calls of this file.
 pub fn all(rt: &HostRuntime) -> Result<(), AllocError> {
     lists(rt)?;
+    lists_of_ranges(rt)?;
     carriers(rt)?;
+    shared_carrier(rt)?;
     let a = map_of(rt.alloc(), &[(2, 6, 'a')])?;
     let b = map_of(rt.alloc(), &[(1, 2, 'b'), (5, 100, 'b')])?;
-    of_two(rt, &a, &b)?;
-    with_sets(rt, &a, &b)?;
-    let table = two_ranges(rt.alloc())?;
-    answered(rt, &table)?;
-    of_tables(rt, table)
+    in_both(rt, &a, &b)?;
+    in_one(rt, &a, &b)?;
+    with_sets(rt, &a, &b)
 }

@@ -12,6 +12,7 @@ use std::ops::Bound;
 pub enum Change<T: ScriptKey> {
     Insert(T, String),
     RangesInsert((Bound<T>, Bound<T>), String),
+    RangesInsertAbsent((Bound<T>, Bound<T>), String),
     Remove(T),
     PopFirst,
     PopLast,
@@ -27,6 +28,9 @@ impl<T: ScriptKey> Change<T> {
             ["insert", word, text] => Ok(Change::Insert(key(word)?, value(alloc, text)?)),
             ["ranges_insert", word, text] => {
                 Ok(Change::RangesInsert(bounds(word)?, value(alloc, text)?))
+            }
+            ["ranges_insert_absent", word, text] => {
+                Ok(Change::RangesInsertAbsent(bounds(word)?, value(alloc, text)?))
             }
             ["remove", word] => Ok(Change::Remove(key(word)?)),
             ["retain", text] => Ok(Change::Retain(value(alloc, text)?)),
@@ -52,6 +56,10 @@ impl<T: ScriptKey> Change<T> {
             Change::Insert(key, value) => print_made(map.insert(key, value), reply),
             Change::RangesInsert(range, value) => print_made(
                 map.ranges_insert(range, value),
+                reply,
+            ),
+            Change::RangesInsertAbsent(range, value) => print_made(
+                map.ranges_insert_absent(range, value),
                 reply,
             ),
             Change::Remove(key) => print_made(map.remove(key), reply),

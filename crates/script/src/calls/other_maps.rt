@@ -1,15 +1,16 @@
-//! `a append b` and kin: another map painted over one.
+//! `a append b` and kin: another map painted over one, or its entries where that has none.
 use crate::fault::Fault;
 use crate::keys::ScriptKey;
 use crate::print::print_made;
 use crate::state::{MapName, State};
 use std::alloc::AllocError;
 
-/// How another map is painted.
+/// How another map is taken over.
 #[derive(Clone, Copy)]
 enum Kind {
     ExtendFrom,
     ExtendWith,
+    ExtendAbsent,
     BitOrAssign,
     BitOrAssignRef,
     Append,
@@ -20,6 +21,7 @@ impl Kind {
         match word {
             "extend_from" => Ok(Kind::ExtendFrom),
             "extend_with" => Ok(Kind::ExtendWith),
+            "extend_absent" => Ok(Kind::ExtendAbsent),
             "bitor_assign" => Ok(Kind::BitOrAssign),
             "bitor_assign_ref" => Ok(Kind::BitOrAssignRef),
             "append" => Ok(Kind::Append),
@@ -28,7 +30,7 @@ impl Kind {
     }
 }
 
-/// Another map painted over one.
+/// Another map that one takes over.
 #[derive(Clone, Copy)]
 pub struct OtherMap {
     kind: Kind,
@@ -59,6 +61,7 @@ impl OtherMap {
             Kind::ExtendFrom => return print_made(map.extend_from(other), reply),
             Kind::BitOrAssign => return print_made(map.bitor_assign(other), reply),
             Kind::ExtendWith => map.extend_with(&other),
+            Kind::ExtendAbsent => map.extend_absent(&other),
             Kind::BitOrAssignRef => map.bitor_assign_ref(&other),
             Kind::Append => map.append(&mut other),
         };

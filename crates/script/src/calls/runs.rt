@@ -61,6 +61,20 @@ fn step_at_key<T: ScriptKey>(call: &str, key: T) -> Result<WordStep<T>, Fault> {
     }
 }
 
+/// A step on the keys from one up to another.
+fn step_on_range<T: ScriptKey>(
+    call: &str,
+    start: T,
+    end: T,
+    value: String,
+) -> Result<WordStep<T>, Fault> {
+    match call {
+        "paint" => Ok(Step::Paint(start, end, value)),
+        "fill" => Ok(Step::Fill(start, end, value)),
+        _ => Err(Fault::Bad),
+    }
+}
+
 /// A step of one word.
 fn bare_step<T: ScriptKey>(call: &str) -> Result<WordStep<T>, Fault> {
     match call {
@@ -81,8 +95,8 @@ fn read_step<T: ScriptKey>(
         [call] => bare_step(call),
         [call, word] => step_with_word(state, map, call, word),
         ["insert", word, text] => Ok(Step::Insert(key(word)?, value(state.alloc, text)?)),
-        ["paint", start, end, text] => {
-            Ok(Step::Paint(key(start)?, key(end)?, value(state.alloc, text)?))
+        [call, start, end, text] => {
+            step_on_range(call, key(start)?, key(end)?, value(state.alloc, text)?)
         }
         _ => Err(Fault::Bad),
     }
