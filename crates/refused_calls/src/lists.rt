@@ -1,7 +1,7 @@
 //! Tables and sets of lists, a copy of a table, the segments of lists.
 use crate::calls::{begin, end, show_answer, show_refused};
 use crate::tables::{Words, leaf, show_table};
-use blaze_streams::{canonical_of, segments};
+use blaze_streams::{Segment, canonical_of, segments};
 use blaze_table::{RangeSetBlaze, RangeTable};
 use std::alloc::{AllocError, Global};
 
@@ -65,11 +65,8 @@ fn from_ranges(rt: &HostRuntime) -> Result<(), AllocError> {
     Ok(())
 }
 
-/// The segments of two lists.
-fn segments_of(rt: &HostRuntime, lists: &[Vec<(i32, i32)>]) {
-    begin(rt, "segments");
-    let made = segments(rt.alloc(), lists);
-    end(rt);
+/// Ends the line of a call with its segments.
+fn show_segments(rt: &HostRuntime, made: Result<Vec<Segment<i32>>, AllocError>) {
     let Ok(made) = made else {
         return show_refused(rt);
     };
@@ -81,10 +78,14 @@ fn segments_of(rt: &HostRuntime, lists: &[Vec<(i32, i32)>]) {
 
 /// The segments of two lists of a range each.
 fn two_lists(rt: &HostRuntime) -> Result<(), AllocError> {
-    let first = vec![in rt.alloc(); (0, 9)]?;
-    let second = vec![in rt.alloc(); (5, 14)]?;
-    let lists = vec![in rt.alloc(); first, second]?;
-    segments_of(rt, &lists);
+    let alloc = rt.alloc();
+    let first = vec![in alloc; (0, 9)]?;
+    let second = vec![in alloc; (5, 14)]?;
+    let lists = vec![in alloc; first, second]?;
+    begin(rt, "segments");
+    let made = segments(alloc, &lists);
+    end(rt);
+    show_segments(rt, made);
     Ok(())
 }
 
