@@ -6,7 +6,7 @@ use Rattle.std.specs.declared.cmp.Ordering.TheVariants.{Less, Equal, Greater}
 use Rattle.std.specs.List.{filter, last_or}
 use Rattle.std.specs.Option.{option_map}
 use Rattle.blaze_entries.specs.Entries.{Entry, entry}
-use Rattle.blaze_entries.specs.Starts.{StartsAscend, below, from, first_entry, last_below, first_from, start_at, with_entry, without, with_end, with_end_value, IsStartMoved, IsFrontReplaced}
+use Rattle.blaze_entries.specs.Starts.{StartsAscend, below, from, up_to, first_entry, last_below, first_from, start_at, with_entry, without, with_end, with_end_value, IsStartMoved, IsFrontReplaced}
 use Rattle.blaze_entries.specs.Places.{held, full, AreFull, AreHeld}
 
 module _ {V : Type 0} where
@@ -45,6 +45,9 @@ module _ {V : Type 0} where
 
   pub from-held : (k : ℤ) (es : List (Entry V)) → from k (map held es) ≡ map held (from k es)
   from-held k es = filter-held (λ z. int_le k z) es
+
+  pub up_to-held : (k : ℤ) (es : List (Entry V)) → up_to k (map held es) ≡ map held (up_to k es)
+  up_to-held k es = filter-held (λ z. int_le z k) es
 
   last-held : (o : Option (Entry V)) (es : List (Entry V)) → last_or (option_map held o) (map held es) ≡ option_map held (last_or o es)
   last-held o [] = refl

@@ -1,7 +1,7 @@
 -- What the map's own edits and searches are on the entries that it shows.
 use Rattle.std.proofs.Common.{◌≡◌, ℤ, pos, ◌+ℤ◌, Bool, true, false, cond, not, ◌&&◌, List, [], ◌∷◌, ◌++◌, Option, Some, None, refl, ◌∙◌, sym, ap, arith}
 use Rattle.std.specs.Prelude.{int_lt, int_le, map}
-use Rattle.std.specs.Ordering.{int_cmp, int_eq, is_gt, is_le, match_ordering, on}
+use Rattle.std.specs.Ordering.{int_cmp, int_eq, is_gt, is_le, is_lt, match_ordering, on}
 use Rattle.std.specs.declared.cmp.Ordering.{Ordering}
 use Rattle.std.specs.declared.cmp.Ordering.TheVariants.{Less, Equal, Greater}
 use Rattle.std.specs.List.{filter, last_or}
@@ -16,7 +16,7 @@ use Rattle.blaze_entries.specs.Entries.{entry}
 use Rattle.blaze_entries.specs.Changed.{changed}
 use Rattle.blaze_entries.specs.declared.nodes.EndValue.{EndValue}
 use Rattle.blaze_entries.specs.Places.{places, place_of, place_at}
-use Rattle.blaze_entries.specs.Starts.{StartsAscend, below, from, first_entry, last_below, start_at, with_entry, without, with_end, with_end_value}
+use Rattle.blaze_entries.specs.Starts.{StartsAscend, below, from, up_to, first_entry, last_below, start_at, with_entry, without, with_end, with_end_value}
 use Rattle.blaze_entries.proofs.Ascending.{by_order}
 
 last_of_append : {X : Type 0} (o : Option X) (t : List X) (e : X) → last_or o (t ++ e ∷ []) ≡ Some e
@@ -54,6 +54,10 @@ module _ (k z : ℤ) where
   not_above_is = by_order k z
       (λ o p e. rw p (sym (grind (arith, ints)))) (λ o p e. rw p (sym (grind (arith, ints)))) (λ o p e. rw p (sym (grind (arith, ints))))
 
+  not_past_is : not (is_lt (int_cmp k z)) ≡ int_le z k
+  not_past_is = by_order k z
+      (λ o p e. rw p (sym (grind (arith, ints)))) (λ o p e. rw p (sym (grind (arith, ints)))) (λ o p e. rw p (sym (grind (arith, ints))))
+
   up_to_is : is_le (int_cmp k z) ≡ int_le k z
   up_to_is = by_order k z
       (λ o p e. rw p (sym (grind (arith, ints)))) (λ o p e. rw p (sym (grind (arith, ints)))) (λ o p e. rw p (sym (grind (arith, ints))))
@@ -61,6 +65,15 @@ module _ (k z : ℤ) where
   up_to_and_is : is_le (int_cmp k z) && true ≡ int_le k z
   up_to_and_is = by_order k z
       (λ o p e. rw p (sym (grind (arith, ints)))) (λ o p e. rw p (sym (grind (arith, ints)))) (λ o p e. rw p (sym (grind (arith, ints))))
+
+-- what passes two tests
+filter_both : {X : Type 0} (p q : X → Bool) (xs : List X) → filter (λ x. p x && q x) xs ≡ filter q (filter p xs)
+filter_both p q [] = refl
+filter_both p q (x ∷ xs) =
+    elim (p x) as (λ b. cond (b && q x) (x ∷ filter (λ x. p x && q x) xs) (filter (λ x. p x && q x) xs) ≡ filter q (cond b (x ∷ filter p xs) (filter p xs))) [
+      | true ↦ ap (λ l. cond (q x) (x ∷ l) l) (filter_both p q xs)
+      | false ↦ filter_both p q xs
+    ]
 
 module _ {T V : Type 0} (rank : T → ℤ) where
   module _ (k : T) where
@@ -139,6 +152,13 @@ module _ {T V : Type 0} (rank : T → ℤ) where
     -- the nodes that start from a key on
     pub places_at_or_above : places rank (entries_between (on rank int_cmp) (Included k) Unbounded m) ≡ from (rank k) (places rank m)
     places_at_or_above = places_filter (λ q. is_le (int_cmp (rank k) (rank q)) && true) (λ z. int_le (rank k) z) (λ q. up_to_and_is (rank k) (rank q)) m
+
+    -- the nodes that start from a key on, up to another
+    pub places_from_up_to : (last : T) → places rank (entries_between (on rank int_cmp) (Included k) (Included last) m) ≡ up_to (rank last) (from (rank k) (places rank m))
+    places_from_up_to last =
+        places_filter (λ q. is_le (int_cmp (rank k) (rank q)) && not (is_lt (int_cmp (rank last) (rank q)))) (λ z. int_le (rank k) z && int_le z (rank last))
+        (λ q. rw (up_to_is (rank k) (rank q)) (rw (not_past_is (rank last) (rank q)) refl)) m
+        ∙ filter_both (λ e. int_le (rank k) e.lo) (λ e. int_le e.lo (rank last)) (places rank m)
 
     -- the parts below a key and from it on
     pub places_below : places rank (entries_below (on rank int_cmp k) m) ≡ below (rank k) (places rank m)

@@ -16,6 +16,10 @@ below k es = filter (λ e. int_lt e.lo k) es
 abbrev pub from : {V : Type 0} → ℤ → List (Entry V) → List (Entry V)
 from k es = filter (λ e. int_le k e.lo) es
 
+-- the entries that start up to k
+abbrev pub up_to : {V : Type 0} → ℤ → List (Entry V) → List (Entry V)
+up_to k es = filter (λ e. int_le e.lo k) es
+
 abbrev pub first_entry : {X : Type 0} → List X → Option X
 first_entry [] = None
 first_entry (e ∷ es) = Some e

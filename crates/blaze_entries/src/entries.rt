@@ -1,5 +1,5 @@
 //! The entries as a table has them: reads that aren't counted, beside the counted ones.
-ghost use Rattle.std.specs.Prelude.{◌≡◌, ◌-◌, [], ◌+ℤ◌, pos, length, slice_get, map, Some, None};
+ghost use Rattle.std.specs.Prelude.{◌≡◌, ◌-◌, [], ◌+ℤ◌, ◌≤ℤ◌, pos, length, slice_get, map, Some, None};
 ghost use Rattle.std.specs.Prelude.{IsSome, IfOk, OnOk, OnErr};
 ghost use Rattle.std.specs.List.Retain.{IsFiltered};
 ghost use Rattle.std.specs.Option.{option_map};
@@ -8,12 +8,12 @@ ghost use Rattle.blaze_entries.specs.Counted.{uncounted};
 ghost use Rattle.blaze_entries.specs.Cloned.{AreCloned};
 ghost use Rattle.blaze_entries.specs.Entries.{shown_entry};
 ghost use Rattle.blaze_entries.specs.Starts.{StartsAscend, last_below, first_from, start_at, below};
-ghost use Rattle.blaze_entries.specs.Starts.{from, without, with_end, IsCloneInserted};
+ghost use Rattle.blaze_entries.specs.Starts.{from, up_to, without, with_end, IsCloneInserted};
 
 use crate::counted::Counted;
 use crate::into_iter::IntoIter;
 use crate::iter::Iter;
-use crate::nodes::{node_at_or_above, node_at_or_below, node_below, nodes_from};
+use crate::nodes::{node_at_or_above, node_at_or_below, node_below, nodes_between, nodes_from};
 use crate::places::shown;
 use crate::range::Range;
 use blaze_int::Integer;
@@ -147,6 +147,16 @@ impl<T: Integer, V> Entries<T, V> {
     {
         let counted = &self.counted;
         Range::new(nodes_from(&counted.tree, key))
+    }
+
+    /// The entries that start from one key on, up to another, ascending, from both ends: first key, last key and value. Two
+    /// searches find the first and the last.
+    pub fn iter_between(&self, first: T, last: T) -> Range<'_, T, V>
+        requires { T.rank first ≤ℤ T.rank last }
+        ensures { result ≡ up_to (T.rank last) (from (T.rank first) self.now.entries) }
+    {
+        let counted = &self.counted;
+        Range::new(nodes_between(&counted.tree, first, last))
     }
 
     /// Moves the end of the entry at a start.

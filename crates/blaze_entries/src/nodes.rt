@@ -1,11 +1,11 @@
 //! The tree: from each start to its end and value. Searches, and edits of its nodes.
 ghost use Rattle.std.specs.BTreeMap.{is_at, get};
-ghost use Rattle.std.specs.Prelude.{◌≡◌, ℤ, pos, ◌+ℤ◌, Some, None, IsSome, IfSome, OnOk, OnErr, IfOk};
+ghost use Rattle.std.specs.Prelude.{◌≡◌, ℤ, pos, ◌+ℤ◌, ◌≤ℤ◌, Some, None, IsSome, IfSome, OnOk, OnErr, IfOk};
 ghost use Rattle.std.specs.Option.{option_map, option_copied};
 ghost use Rattle.std.specs.Ordering.{int_cmp, on};
 ghost use Rattle.blaze_entries.specs.Changed.{changed};
 ghost use Rattle.blaze_entries.specs.Places.{places, place_lent, place_at};
-ghost use Rattle.blaze_entries.specs.Starts.{StartsAscend, below, from, last_below};
+ghost use Rattle.blaze_entries.specs.Starts.{StartsAscend, below, from, up_to, last_below};
 ghost use Rattle.blaze_entries.specs.Starts.{first_from};
 ghost use Rattle.blaze_entries.specs.Starts.{start_at, with_entry, without, with_end};
 ghost use Rattle.blaze_entries.specs.Starts.{with_end_value, IsStartMoved, IsFrontReplaced};
@@ -126,6 +126,19 @@ pub fn nodes_from<'a, T: Integer, V>(
     ensures { places T.rank result ≡ from (T.rank key) (places T.rank tree.now.entries) }
 {
     tree.range(Start(key)..)
+}
+
+/// The nodes that start from one key on, up to another.
+pub fn nodes_between<'a, T: Integer, V>(
+    tree: &'a Tree<T, V>,
+    first: T,
+    last: T,
+) -> btree_map::Range<'a, Start<T>, EndValue<T, V>>
+    requires { T.rank first ≤ℤ T.rank last }
+    ensures { places T.rank result
+        ≡ up_to (T.rank last) (from (T.rank first) (places T.rank tree.now.entries)) }
+{
+    tree.range(Start(first)..=Start(last))
 }
 
 /// The node with the least start from a key on.

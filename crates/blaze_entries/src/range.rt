@@ -1,6 +1,6 @@
-//! Entries from a key on, one after another.
+//! Entries from a key on, one after another, from both ends.
 ghost use Rattle.std.specs.Prelude.{◌≡◌};
-ghost use Rattle.std.specs.Iterator.{YieldsFirstBy, item_count};
+ghost use Rattle.std.specs.Iterator.{YieldsFirstBy, YieldsLastBy, item_count};
 ghost use Rattle.blaze_entries.specs.Entries.{shown_entry};
 ghost use Rattle.blaze_entries.specs.Places.{places, entries_of, AreFull};
 
@@ -12,7 +12,7 @@ use std::collections::btree_map;
 use std::iter::FusedIterator;
 use std::marker::Model;
 
-/// Entries from a key on, ascending: first key, last key and value.
+/// Entries from a key on, perhaps up to another, ascending: first key, last key and value.
 #[derive(Drop)]
 pub struct Range<'a, T: Integer, V> {
     rest: btree_map::Range<'a, Start<T>, EndValue<T, Option<V>>>,
@@ -52,6 +52,14 @@ impl<'a, T: Integer, V> Iterator for Range<'a, T, V> {
 
     fn next(&mut self) -> Option<(T, T, &'a V)> {
         shown(self.rest.next())
+    }
+}
+
+impl<'a, T: Integer, V> DoubleEndedIterator for Range<'a, T, V> {
+    ghost next_back_gives = { YieldsLastBy (shown_entry T.rank (λ v. v.now)) (λ s. s) };
+
+    fn next_back(&mut self) -> Option<(T, T, &'a V)> {
+        shown(self.rest.next_back())
     }
 }
 

@@ -29,22 +29,22 @@ pub trait SafeLength: Copy + Ord {
         ensures difference { number result + number other ≡ number self }
         ensures fits { number self ≤ most };
 
-    /// Changes nothing. Its contract says that a value in hand is a length.
-    final fn in_hand(self)
-        ensures { number self ≤ most }
-    {
-        let _ = self.minus(Self::zero());
-    }
-
     // Each number up to `most` is that of one length, and lengths compare as their numbers.
     ghost counted: { IsCounted number most Self.cmp Self.eq };
+}
+
+/// Changes nothing. Its contract says that a value in hand is a length.
+pub fn length_in_hand<L: SafeLength>(length: L)
+    ensures { L.number length ≤ L.most }
+{
+    let _ = length.minus(L::zero());
 }
 
 /// Whether two lengths have different numbers.
 pub fn differ<L: SafeLength>(a: L, b: L) -> bool
     ensures { IsTrue result ↔ (¬ (L.number a ≡ L.number b)) }
 {
-    a.in_hand();
-    b.in_hand();
+    length_in_hand(a);
+    length_in_hand(b);
     a != b
 }

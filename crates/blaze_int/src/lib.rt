@@ -16,5 +16,5 @@ mod unsigned;
 
 pub use bounds::{bounds_of, names_a_key};
 pub use integer::Integer;
-pub use length::{SafeLength, differ};
+pub use length::{SafeLength, differ, length_in_hand};
 pub use uint_plus_one::UIntPlusOne;

@@ -1,8 +1,10 @@
 //! The lengths of ranges of keys of 128 bits, which go one past the greatest `u128`.
-ghost use Rattle.std.specs.Prelude.{◌^◌};
+ghost use Rattle.std.specs.Prelude.{◌^◌, Some};
+ghost use Rattle.std.specs.Fmt.{decimal};
 ghost use Rattle.std.proofs.Common.{refl};
 
 use crate::length::SafeLength;
+use std::fmt::{self, Display, Formatter};
 
 /// A whole number from 0 to 2^128. They compare as numbers: each `UInt` is below `MaxPlusOne`.
 #[derive(Clone, Copy, PartialEq, Eq, PartialOrd, Ord, Debug)]
@@ -69,4 +71,18 @@ impl SafeLength for UIntPlusOne {
         ]
       ];
     } };
+}
+
+/// The number in decimal, that of `MaxPlusOne` too.
+impl Display for UIntPlusOne {
+    ghost use Rattle.blaze_int.specs.UIntPlusOne.{number_of};
+
+    ghost output = { λ length. Some (decimal (number_of length)) };
+
+    fn fmt<W: fmt::Write>(&self, f: &mut Formatter<W>) -> fmt::Result {
+        match *self {
+            UIntPlusOne::UInt(number) => write!(f, "{number}"),
+            UIntPlusOne::MaxPlusOne => f.write_str("340282366920938463463374607431768211456"),
+        }
+    }
 }

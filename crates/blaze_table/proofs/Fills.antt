@@ -2,7 +2,7 @@ pub mod HeldKeys
 pub mod Ordered
 pub mod Puts
 pub mod Joins
-pub mod Looks
+pub mod Upwards
 pub mod TakenBack
 pub mod Noted
 pub mod Joints

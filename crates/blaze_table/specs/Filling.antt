@@ -1,5 +1,5 @@
 -- A fill under way: the words of this crate's own functions. No public clause names them.
-use Rattle.std.specs.Prelude.{◌≡◌, ◌⊎◌, ℕ, ℤ, pos, ◌+ℤ◌, ◌-ℤ◌, ◌≤ℤ◌, Bool, false, List, [], ◌∷◌, ◌++◌, Option, Some, IsSome}
+use Rattle.std.specs.Prelude.{◌≡◌, ◌⊎◌, ◌↔◌, ℕ, ℤ, pos, ◌+ℤ◌, ◌-ℤ◌, ◌≤ℤ◌, Bool, false, List, [], ◌∷◌, ◌++◌, Option, Some, IsSome, IsTrue}
 use Rattle.std.specs.List.{Contains}
 use Rattle.blaze_entries.specs.Starts.{start_at, with_entry, without}
 use Rattle.blaze_table.specs.Canonical.{AreKeys, IsCanonical, IsRunStart, HasStart}
@@ -30,20 +30,25 @@ pub record IsJoinedBut {V : Type 0} (eq : V → V → Bool) (joints : List ℤ) 
   pub starts : (k : ℤ) → HasStart es k → IsRunStart eq (at es) k ⊎ Contains joints k
   pub equal : (k : ℤ) → Contains joints k → IsJoint eq (at es) k
 
--- the key k is added to the joints where the value at the key j is equal to v
-pub record IsNoted {V : Type 0} (eq : V → V → Bool) (es : List (Entry V)) (j k : ℤ) (v : V) (old new : List ℤ) : Type 0 where
-  pub kept : (i : ℤ) → Contains old i → Contains new i
-  pub noted : SameOption eq (at es j) (Some v) → Contains new k
-  pub only : (i : ℤ) → Contains new i → Contains old i ⊎ ((i ≡ k) × SameOption eq (at es j) (Some v))
+-- whether the values right below and right above the keys from a up to b are equal to v
+pub record IsBeside {V : Type 0} (eq : V → V → Bool) (content : ℤ → Option V) (v : V) (a b : ℤ) (t u : Bool) : Type 0 where
+  pub below : IsTrue t ↔ SameOption eq (content (a -ℤ pos 1)) (Some v)
+  pub above : IsTrue u ↔ SameOption eq (content (b +ℤ pos 1)) (Some v)
 
--- The gap from a up to b has an entry with v of its own, which is remembered by its start. Its start and the key after it are
--- joints where the values beside it are equal.
-pub record IsGapFilled {V : Type 0} (eq : V → V → Bool) (a b : ℤ) (v : V) (old new : List (Entry V)) (starts more joints all : List ℤ) : Type 0 where
+-- the key k is added to the joints where it is one
+pub record IsNoted (is_joint : Bool) (k : ℤ) (old new : List ℤ) : Type 0 where
+  pub kept : (i : ℤ) → Contains old i → Contains new i
+  pub noted : IsTrue is_joint → Contains new k
+  pub only : (i : ℤ) → Contains new i → Contains old i ⊎ ((i ≡ k) × IsTrue is_joint)
+
+-- The gap from a up to b has an entry with v of its own, which is remembered by its start. Its start is a joint where t says so,
+-- the key after it where u does.
+pub record IsGapFilled {V : Type 0} (a b : ℤ) (v : V) (t u : Bool) (old new : List (Entry V)) (starts more joints all : List ℤ) : Type 0 where
   pub put : new ≡ with_entry (entry a b v) old
   pub remembered : more ≡ starts ++ a ∷ []
   pub half : List ℤ
-  pub below : IsNoted eq old (a -ℤ pos 1) a v joints half
-  pub above : IsNoted eq old (b +ℤ pos 1) (b +ℤ pos 1) v half all
+  pub below : IsNoted t a joints half
+  pub above : IsNoted u (b +ℤ pos 1) half all
 
 -- without the entries that start at the keys, the last first
 abbrev pub taken : {V : Type 0} → List ℤ → List (Entry V) → List (Entry V)
@@ -67,6 +72,7 @@ pub record IsFilling {V : Type 0} (eq : V → V → Bool) (l h : ℤ) (v : V) (s
   pub order : a ≤ℤ b
   pub to : b ≤ℤ h
   pub clear : IsClearFrom (at cur) a b
+  pub greatest : (b ≡ h) ⊎ IsSome (at cur (b +ℤ pos 1))
   pub joined : IsJoinedBut eq joints cur
   pub back : GoesBack starts cur old
 

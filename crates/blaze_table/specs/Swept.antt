@@ -1,7 +1,7 @@
 -- Lists made from the least key up: the words of this crate's own functions. No public clause names them.
 use Rattle.std.specs.Prelude.{◌≡◌, ℤ, pos, ◌+ℤ◌, ◌≤ℤ◌, ◌<ℤ◌, Bool, List, [], ◌∷◌, Option, Some, None}
 use Rattle.blaze_table.specs.Entries.{Entry, at, SameOption}
-use Rattle.blaze_table.specs.Canonical.{IsApart, IsCanonical, AreKeys}
+use Rattle.blaze_table.specs.Canonical.{IsCanonical, AreKeys}
 use Rattle.blaze_table.specs.Splice.{IsBelow}
 
 -- no key from a up to below b has a value
@@ -24,13 +24,3 @@ AreApart b (e ∷ es) = (b ≤ℤ e.lo) × (e.lo ≤ℤ e.hi) × AreApart (e.hi 
 abbrev pub first_from : {T : Type 0} → (T → ℤ) → ℤ → Option T → ℤ
 first_from rank low None = low
 first_from rank low (Some end) = rank end +ℤ pos 1
-
--- the entry has a key, its ends are keys, and it is apart from the one before it, where there is one
-abbrev pub Continues : {V : Type 0} → (V → V → Bool) → ℤ → ℤ → Option (Entry V) → Entry V → Type 0
-Continues eq low high None e = (low ≤ℤ e.lo) × (e.lo ≤ℤ e.hi) × (e.hi ≤ℤ high)
-Continues eq low high (Some d) e = (low ≤ℤ e.lo) × (e.lo ≤ℤ e.hi) × (e.hi ≤ℤ high) × IsApart eq d (e ∷ [])
-
--- the list is canonical among the keys, and apart from the entry before it, where there is one
-abbrev pub IsCanonicalAfter : {V : Type 0} → (V → V → Bool) → ℤ → ℤ → Option (Entry V) → List (Entry V) → Type 0
-IsCanonicalAfter eq low high None es = IsCanonical eq es × AreKeys low high es
-IsCanonicalAfter eq low high (Some d) es = IsCanonical eq es × AreKeys low high es × IsApart eq d es

@@ -1,16 +1,17 @@
 //! Entries found by a key.
-ghost use Rattle.std.specs.Prelude.{◌≡◌, int_lt, find, reverse, option_map};
+ghost use Rattle.std.specs.Prelude.{◌≡◌, ◌≤ℤ◌, int_lt, find, reverse, option_map};
 ghost use Rattle.blaze_table.specs.Canonical.{IsCanonical};
-ghost use Rattle.blaze_table.specs.Ending.{ending_from};
+ghost use Rattle.blaze_table.specs.Ending.{ending_from, overlapping};
 ghost use Rattle.blaze_table.specs.Entries.{entry_at, shown_entry};
+ghost use Rattle.blaze_table.specs.Filling.{IsOrdered};
 
 use blaze_entries::{Entries, Range};
 use blaze_int::Integer;
 use blaze_int::compare::{is_at_most, is_below};
 
 /// The entry that holds a key: its first key, last key and value.
-pub fn entry_holding<T: Integer, V: Eq>(entries: &Entries<T, V>, key: T) -> Option<(T, T, &V)>
-    requires { IsCanonical V.eq entries.now.entries }
+pub fn entry_holding<T: Integer, V>(entries: &Entries<T, V>, key: T) -> Option<(T, T, &V)>
+    requires { IsOrdered entries.now.entries }
     ensures { option_map (shown_entry T.rank (λ v. v.now)) result
         ≡ entry_at entries.now.entries (T.rank key) }
 {
@@ -49,12 +50,24 @@ pub fn entry_below<T: Integer, V: Eq>(entries: &Entries<T, V>, key: T) -> Option
 }
 
 /// The entries that end at a key or above it, ascending: first key, last key and value.
-pub fn entries_ending_from<T: Integer, V: Eq>(entries: &Entries<T, V>, key: T) -> Range<'_, T, V>
-    requires { IsCanonical V.eq entries.now.entries }
+pub fn entries_ending_from<T: Integer, V>(entries: &Entries<T, V>, key: T) -> Range<'_, T, V>
+    requires { IsOrdered entries.now.entries }
     ensures { result ≡ ending_from (T.rank key) entries.now.entries }
 {
     match entry_holding(entries, key) {
         Some(found) => entries.iter_from(found.0),
         None => entries.iter_from(key),
+    }
+}
+
+/// The entries that share a key with the range from `lo` up to `hi`, ascending, from both ends: first key, last key and value.
+pub fn entries_overlapping<T: Integer, V>(entries: &Entries<T, V>, lo: T, hi: T) -> Range<'_, T, V>
+    requires ordered { IsOrdered entries.now.entries }
+    requires order { T.rank lo ≤ℤ T.rank hi }
+    ensures { result ≡ overlapping (T.rank lo) (T.rank hi) entries.now.entries }
+{
+    match entry_holding(entries, lo) {
+        Some(found) => entries.iter_between(found.0, hi),
+        None => entries.iter_between(lo, hi),
     }
 }

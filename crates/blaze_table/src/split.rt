@@ -15,7 +15,7 @@ ghost use Rattle.blaze_table.specs.Table.{IsTable};
 use crate::count::count;
 use blaze_entries::Entries;
 use blaze_int::compare::{before, is_at_most};
-use blaze_int::{Integer, SafeLength};
+use blaze_int::{Integer, SafeLength, length_in_hand};
 use std::alloc::AllocError;
 
 // The first and last key of the entry with the greatest start below a key.
@@ -92,7 +92,7 @@ fn count_parts<T: Integer, V: Eq>(
     ensures below { pos (T.SafeLen.number result.0) ≡ keys_in below.now.entries }
     ensures from { pos (T.SafeLen.number result.1) ≡ keys_in from.now.entries }
 {
-    len.in_hand();
+    length_in_hand(len);
     if below.len() < from.len() {
         let below_len = count(below);
         (below_len, len.minus(below_len))

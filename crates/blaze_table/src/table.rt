@@ -12,7 +12,7 @@ ghost use Rattle.blaze_table.specs.Count.{keys_in, mapped_keys};
 ghost use Rattle.blaze_table.specs.Painted.{IsPainted, ClonesAreAlike, IsInside};
 ghost use Rattle.blaze_table.specs.Cut.{IsCut, IsFirstCut, IsLastCut, IsRangeCut, IsSplit, IsAmongOthers};
 ghost use Rattle.blaze_table.specs.Cut.{GoesOnAbove};
-ghost use Rattle.blaze_table.specs.Ending.{ending_from};
+ghost use Rattle.blaze_table.specs.Ending.{ending_from, overlapping};
 ghost use Rattle.blaze_table.specs.Gap.{IsGap};
 ghost use Rattle.blaze_table.specs.Listed.{listed};
 ghost use Rattle.blaze_table.specs.Work.{IsCounted, IsCountedPaint, IsCountedCut};
@@ -28,7 +28,9 @@ use crate::cut_last::cut_last;
 use crate::cut_range::cut_range;
 use crate::gaps::gap_round;
 use crate::retain_keys::retain_keys;
-use crate::search::{entries_ending_from, entry_above, entry_below, entry_holding};
+use crate::search::{
+    entries_ending_from, entries_overlapping, entry_above, entry_below, entry_holding,
+};
 use crate::splice::{insert, paint, paint_by_splice};
 use crate::split::split;
 use blaze_entries::{Entries, IntoIter, Iter, Range};
@@ -160,6 +162,15 @@ impl<T: Integer, V: Eq> RangeTable<T, V> {
         ensures { result ≡ ending_from (T.rank key) self.now.entries }
     {
         entries_ending_from(&self.entries, key)
+    }
+
+    /// The entries that share a key with the range from `lo` up to `hi`, whole, ascending, from both ends: first key, last key
+    /// and value. It takes three searches, and no memory.
+    pub fn overlapping(&self, lo: T, hi: T) -> Range<'_, T, V>
+        requires { T.rank lo ≤ℤ T.rank hi }
+        ensures { result ≡ overlapping (T.rank lo) (T.rank hi) self.now.entries }
+    {
+        entries_overlapping(&self.entries, lo, hi)
     }
 
     /// The greatest range of keys without a value that holds a key without one: its first and last key.

@@ -67,6 +67,8 @@ fn sums_past_the_greatest_u128(rt: HostRuntime) -> Result<(), Fail> {
     assert!(rt; !(all < UIntPlusOne::UInt(0)));
     let text = format!(in rt.alloc(); "{one:?} {all:?}")?;
     assert_eq!(rt; text.as_str(), "UInt(1) MaxPlusOne");
+    let text = format!(in rt.alloc(); "{one} {all}")?;
+    assert_eq!(rt; text.as_str(), "1 340282366920938463463374607431768211456");
     Ok(())
 }
 

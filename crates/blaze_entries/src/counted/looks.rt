@@ -89,16 +89,6 @@ impl<T: Integer, V: Eq> Counted<T, V> {
         self.looks = self.looks.one_more();
         found(node_at_or_below(&self.tree, key), value)
     }
-
-    /// The entry with the least start from a key on.
-    pub fn at_or_above(&mut self, key: T, value: &V) -> Option<Found<T>>
-        ensures found { option_map (found_of T.rank) result
-            ≡ option_map (found_in V.eq value.now) (first_from (T.rank key) self.old.entries) }
-        ensures looked { self.new ≡ record self.old { looks = self.old.looks + 1 } }
-    {
-        self.looks = self.looks.one_more();
-        found(node_at_or_above(&self.tree, key), value)
-    }
 }
 
 impl<T: Integer, V: Eq + Clone> Counted<T, V> {

@@ -1,7 +1,7 @@
 -- A value put on the gaps of a range, one after another.
 use Rattle.std.specs.Option.{option_or}
-use Rattle.std.proofs.Common.{◌≡◌, ℕ, ℤ, pos, ◌+ℤ◌, ◌-ℤ◌, ◌≤ℤ◌, ◌<ℤ◌, Bool, true, false, cond, List, [], Option, Some, None, refl, ◌∙◌, sym, ap, subst, arith, inl}
-use Rattle.std.specs.Prelude.{IsSome}
+use Rattle.std.proofs.Common.{◌≡◌, ℕ, ℤ, pos, ◌+ℤ◌, ◌-ℤ◌, ◌≤ℤ◌, ◌<ℤ◌, Bool, true, false, cond, List, [], Option, Some, None, refl, ◌∙◌, sym, ap, subst, arith, inl, inr}
+use Rattle.std.specs.Prelude.{◌↔◌, IsSome, IsTrue}
 use Rattle.std.specs.Cmp.{IsEquivalence}
 use Rattle.std.specs.List.{Contains}
 use Rattle.std.proofs.lemmas.Int.{ints, by_lt_z}
@@ -9,7 +9,7 @@ use Rattle.blaze_entries.proofs.Alike.{same_along, same_itself, same_trans, some
 use Rattle.blaze_table.specs.Canonical.{AreKeys, IsCanonical}
 use Rattle.blaze_table.specs.Entries.{Entry, entry, at, holds, SameOption, SameContent}
 use Rattle.blaze_table.specs.Filled.{filled, IsFilled, IsHeldFrom, IsFirstGap}
-use Rattle.blaze_table.specs.Filling.{never, IsFilledBut, IsFilling, IsGapFilled, IsJoinedBut, IsOrdered, IsOrderedTable}
+use Rattle.blaze_table.specs.Filling.{never, IsBeside, IsFilledBut, IsFilling, IsGapFilled, IsJoinedBut, IsOrdered, IsOrderedTable}
 use Rattle.blaze_table.specs.Gap.{IsClearFrom}
 use Rattle.blaze_table.specs.Painted.{painted}
 use Rattle.blaze_table.proofs.Canonical.Counted.{keys_among}
@@ -33,6 +33,11 @@ module _ {V : Type 0} (eq : V → V → Bool) (laws : IsEquivalence eq) where
   none_back (Some x) None s p = absurd s
   none_back (Some x) (Some y) s p = cc
 
+  -- equal to a value, equal to its clone
+  like_clone : (v w : V) → eq v w ≡ true → (o : Option V) → SameOption eq o (Some v) ↔ SameOption eq o (Some w)
+  like_clone v w like None = (λ s. s, λ s. s)
+  like_clone v w like (Some x) = (λ s. laws.congr x v w s ∙ like, λ s. laws.congr x w v s ∙ laws.symm w v ∙ like)
+
   -- the gap from a up to b is painted, and behind it up to n there are values: so all is filled up to n
   filled_more : (old cur new : ℤ → Option V) (v w : V) (l a b n : ℤ) → l ≤ℤ a → a ≤ℤ b → b ≤ℤ n → ((k : ℤ) → SameOption eq (cur k) (filled l (a -ℤ pos 1) v old k))
       → IsClearFrom cur a b → IsHeldFrom cur (b +ℤ pos 1) n → ((k : ℤ) → SameOption eq (new k) (painted a b w cur k)) → eq v w ≡ true → (k : ℤ) → SameOption eq (new k) (filled l n v old k)
@@ -40,7 +45,7 @@ module _ {V : Type 0} (eq : V → V → Bool) (laws : IsEquivalence eq) where
       (λ x y.
       let none : old k ≡ None = sym (filled_over old v l (a -ℤ pos 1) k (omega (arith, ints))) ∙ none_of_same eq (cur k) _ (before k) (clear k x y) in
       same_along eq {a = new k} refl (sym (filled_in old v l n k (omega (arith, ints)) (omega (arith, ints)) ∙ ap (λ o. option_or o (Some v)) none))
-      (with_clone (new k) (same_along eq {a = new k} refl (ap (λ t. cond t (Some w) (cur k)) (holds_in (entry a b w) k x y)) (one k))))
+      ((like_clone v w like (new k)).1 (same_along eq {a = new k} refl (ap (λ t. cond t (Some w) (cur k)) (holds_in (entry a b w) k x y)) (one k))))
       (λ x.
       same_along eq {a = new k} refl (filled_less old v l (a -ℤ pos 1) n (omega (arith, ints)) k (omega (arith, ints)))
       (beside (holds_under (entry a b w) k x)))
@@ -52,12 +57,21 @@ module _ {V : Type 0} (eq : V → V → Bool) (laws : IsEquivalence eq) where
       let some : IsSome (old k) = some_of_same eq (cur k) (old k) (same_along eq {a = cur k} refl (filled_over old v l (a -ℤ pos 1) k (omega (arith, ints))) (before k)) (held k (omega (arith, ints)) z) in
       same_along eq {a = new k} refl (sym (filled_in old v l n k (omega (arith, ints)) z ∙ or_some (old k) (Some v) some)) stays))
     where
-      with_clone : (x : Option V) → SameOption eq x (Some w) → SameOption eq x (Some v)
-      with_clone None s = s
-      with_clone (Some x) s = laws.congr x w v s ∙ laws.symm w v ∙ like
-
       beside : holds (entry a b w) k ≡ false → SameOption eq (new k) (filled l (a -ℤ pos 1) v old k)
       beside off = same_trans eq laws (new k) (cur k) _ (same_along eq {a = new k} refl (ap (λ t. cond t (Some w) (cur k)) off) (one k)) (before k)
+
+  -- beside a value, beside its clone
+  beside_like : (content : ℤ → Option V) (v w : V) (a b : ℤ) (t u : Bool) → eq v w ≡ true → IsBeside eq content v a b t u → IsBeside eq content w a b t u
+  beside_like content v w a b t u like s =
+      let first = like_clone v w like (content (a -ℤ pos 1)) in
+      let last = like_clone v w like (content (b +ℤ pos 1)) in record {
+        below = (λ x. first.0 (s.below.0 x), λ x. s.below.1 (first.1 x));
+        above = (λ x. last.0 (s.above.0 x), λ x. s.above.1 (last.1 x));
+      }
+
+  no_value : (o : Option V) → o ≡ None → IsSome o → ⊥
+  no_value None q s = cc
+  no_value (Some x) q s = cc
 
   no_joint : (es : List (Entry V)) → IsCanonical eq es → IsJoinedBut eq [] es
   no_joint es c = record {
@@ -76,12 +90,13 @@ module _ {V : Type 0} (eq : V → V → Bool) (laws : IsEquivalence eq) where
     order = g.order;
     to = g.to;
     clear = g.clear;
+    greatest = g.greatest;
     joined = no_joint old c;
     back = record { there = tt; taken = refl };
   }))
 
-  module _ (low high l h a b : ℤ) (v w : V) (starts more joints all : List ℤ) (old cur new : List (Entry V)) (f : low ≤ℤ l) (t : h ≤ℤ high) (c : IsOrdered cur)
-      (i : IsFilling eq l h v starts joints old cur a b) (d : IsGapFilled eq a b w cur new starts more joints all) (like : eq v w ≡ true) where
+  module _ (low high l h a b : ℤ) (v w : V) (starts more joints all : List ℤ) (old cur new : List (Entry V)) (f : low ≤ℤ l) (top : h ≤ℤ high) (c : IsOrdered cur)
+      (i : IsFilling eq l h v starts joints old cur a b) (t u : Bool) (beside : IsBeside eq (at cur) v a b t u) (d : IsGapFilled a b w t u cur new starts more joints all) (like : eq v w ≡ true) where
     pub is_put : IsPut low high (entry a b w) cur new
     is_put = subst (IsPut low high (entry a b w) cur) (sym d.put) (put_in low high (entry a b w) (omega (arith, ints, i.from)) i.order (omega (arith, ints, i.to)) cur c i.clear)
 
@@ -89,7 +104,21 @@ module _ {V : Type 0} (eq : V → V → Bool) (laws : IsEquivalence eq) where
     one k = same_along eq {a = at new k} refl (is_put.content k) (same_itself eq laws (at new k))
 
     joined : IsJoinedBut eq all new
-    joined = joined_more eq laws low high a b w cur new i.order i.clear is_put joints d.half all d.below d.above i.joined
+    joined = joined_more eq laws low high a b w cur new i.order i.clear is_put t u (beside_like (at cur) v w a b t u like beside) joints d.half all d.below d.above i.joined
+
+    over : (k : ℤ) → b <ℤ k → at new k ≡ at cur k
+    over k m = new_over eq laws low high a b w cur new i.order i.clear is_put k m
+
+    -- a key between the gap and the next has a value
+    pub beside_next : (c e : ℤ) (t u : Bool) → IsFirstGap (at cur) (b +ℤ pos 1) h c e → IsBeside eq (at cur) v c e t u → IsBeside eq (at new) v c e t u
+    beside_next c e t u g s =
+        let apart : b <ℤ (c -ℤ pos 1) = elim i.greatest [
+          | inl q ↦ absurd (omega (arith, ints, g.from, g.order, g.to))
+          | inr q ↦ by_lt_z (b +ℤ pos 1) c (λ m. omega (arith, ints)) (λ m. absurd (no_value (at cur c) (g.clear c (omega (arith, ints)) g.order) (subst (λ k. IsSome (at cur k)) (omega (arith, ints, g.from)) q)))
+        ] in record {
+          below = subst (λ o. IsTrue t ↔ SameOption eq o (Some v)) (sym (over (c -ℤ pos 1) apart)) s.below;
+          above = subst (λ o. IsTrue u ↔ SameOption eq o (Some v)) (sym (over (e +ℤ pos 1) (omega (arith, ints, g.from, g.order)))) s.above;
+        }
 
     -- the next gap
     pub filling_next : (c d : ℤ) → IsFirstGap (at cur) (b +ℤ pos 1) h c d → IsFilling eq l h v more all old new c d
@@ -98,7 +127,8 @@ module _ {V : Type 0} (eq : V → V → Bool) (laws : IsEquivalence eq) where
       from = omega (arith, ints, i.from, i.order, g.from);
       order = g.order;
       to = g.to;
-      clear = λ k x y. new_over eq laws low high a b w cur new i.order i.clear is_put k (omega (arith, ints, g.from)) ∙ g.clear k x y;
+      clear = λ k x y. over k (omega (arith, ints, g.from)) ∙ g.clear k x y;
+      greatest = elim g.greatest [ inl q ↦ inl q | inr s ↦ inr (subst IsSome (sym (over (e +ℤ pos 1) (omega (arith, ints, g.from, g.order)))) s) ];
       joined = joined;
       back = goes_back_more starts more (entry a b w) cur new old d.remembered d.put is_put.absent i.back;
     }
@@ -132,19 +162,15 @@ module _ {V : Type 0} (eq : V → V → Bool) (laws : IsEquivalence eq) where
       (λ m. filled_in content v a h k u m ∙ sym (filled_in content v l h k (omega (arith, ints)) m)))
 
   -- what is filled, and then joined
-  pub filled_whole : (low high l h a b : ℤ) (v : V) (starts joints : List ℤ) (old cur put new : List (Entry V)) → cur ≡ old → IsFirstGap (at old) l h a b → IsFilledBut eq a h v starts joints cur put
+  pub filled_whole : (low high l h a b : ℤ) (v : V) (starts joints : List ℤ) (old put new : List (Entry V)) → IsFirstGap (at old) l h a b → IsFilledBut eq a h v starts joints old put
       → SameContent eq new put → IsCanonical eq new → AreKeys low high new → IsFilled eq low high (entry l h v) old new
-  filled_whole low high l h a b v starts joints old cur put new q g f s c k = record {
+  filled_whole low high l h a b v starts joints old put new g f s c k = record {
     range_map = record { runs = one_per_run eq laws new c; keys = k };
     content = λ j. same_along eq {a = at new j} refl
-        (ap (λ x. filled a h v (at x) j) q ∙ filled_from (at old) v l a h g.from (omega (arith, ints, g.order, g.to)) g.held j)
-        (same_trans eq laws (at new j) (at put j) (filled a h v (at cur) j) (s j) (f.content j));
+        (filled_from (at old) v l a h g.from (omega (arith, ints, g.order, g.to)) g.held j)
+        (same_trans eq laws (at new j) (at put j) (filled a h v (at old) j) (s j) (f.content j));
   }
 
   -- where there is a gap, not each key has a value
   pub gap_is_not_held : (old : List (Entry V)) (l h a b : ℤ) → IsFirstGap (at old) l h a b → IsHeldFrom (at old) l h → ⊥
-  gap_is_not_held old l h a b g s = none_is_not (at old a) (g.clear a (omega (arith, ints)) g.order) (s a g.from (omega (arith, ints, g.order, g.to)))
-    where
-      none_is_not : (o : Option V) → o ≡ None → IsSome o → ⊥
-      none_is_not None q t = cc
-      none_is_not (Some x) q t = cc
+  gap_is_not_held old l h a b g s = no_value (at old a) (g.clear a (omega (arith, ints)) g.order) (s a g.from (omega (arith, ints, g.order, g.to)))

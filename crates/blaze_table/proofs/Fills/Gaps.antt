@@ -7,7 +7,7 @@ use Rattle.std.proofs.lemmas.Int.{ints, by_lt_z}
 use Rattle.blaze_entries.proofs.Alike.{same_along, same_back, some_of_same}
 use Rattle.blaze_table.specs.Canonical.{IsRunStart}
 use Rattle.blaze_table.specs.Entries.{Entry, entry, at, SameOption}
-use Rattle.blaze_table.specs.Filling.{IsJoinedBut, IsJoint, IsNoted}
+use Rattle.blaze_table.specs.Filling.{IsBeside, IsJoinedBut, IsJoint, IsNoted}
 use Rattle.blaze_table.specs.Gap.{IsClearFrom}
 use Rattle.blaze_table.proofs.Canonical.Lookup.{holds_in, holds_under, holds_over}
 use Rattle.blaze_table.proofs.Fills.Puts.{IsPut}
@@ -44,7 +44,7 @@ module _ {V : Type 0} (eq : V → V → Bool) (laws : IsEquivalence eq) (low hig
   some_w : (o : Option V) → o ≡ Some w → IsSome o
   some_w o q = subst IsSome (sym q) refl
 
-  module _ (joints half all : List ℤ) (below : IsNoted eq cur (a -ℤ pos 1) a w joints half) (above : IsNoted eq cur (b +ℤ pos 1) (b +ℤ pos 1) w half all) (i : IsJoinedBut eq joints cur) where
+  module _ (t u : Bool) (beside : IsBeside eq (at cur) w a b t u) (joints half all : List ℤ) (below : IsNoted t a joints half) (above : IsNoted u (b +ℤ pos 1) half all) (i : IsJoinedBut eq joints cur) where
     before : at new (a -ℤ pos 1) ≡ at cur (a -ℤ pos 1)
     before = new_under (a -ℤ pos 1) (omega (arith, ints))
 
@@ -59,23 +59,23 @@ module _ {V : Type 0} (eq : V → V → Bool) (laws : IsEquivalence eq) (low hig
 
     at_first : IsRunStart eq (at new) a ⊎ Contains all a
     at_first = by_same (at cur (a -ℤ pos 1))
-        (λ s. inr (above.kept a (below.noted s)))
+        (λ s. inr (above.kept a (below.noted (beside.below.1 s))))
         (λ n. inl (some_w (at new a) first, λ s. n (same_along eq before first s)))
 
     at_behind : IsRunStart eq (at cur) (b +ℤ pos 1) → IsRunStart eq (at new) (b +ℤ pos 1) ⊎ Contains all (b +ℤ pos 1)
     at_behind r = by_same (at cur (b +ℤ pos 1))
-        (λ s. inr (above.noted s))
+        (λ s. inr (above.noted (beside.above.1 s)))
         (λ n. inl (subst IsSome (sym behind) r.0, λ s. n (same_back eq laws (Some w) (at cur (b +ℤ pos 1)) (same_along eq last behind s))))
 
-    beside : (k : ℤ) → at new k ≡ at cur k → at new (k -ℤ pos 1) ≡ at cur (k -ℤ pos 1) → IsRunStart eq (at cur) k → IsRunStart eq (at new) k
-    beside k q r s = (subst IsSome (sym q) s.0, λ t. s.1 (same_along eq r q t))
+    neighbours : (k : ℤ) → at new k ≡ at cur k → at new (k -ℤ pos 1) ≡ at cur (k -ℤ pos 1) → IsRunStart eq (at cur) k → IsRunStart eq (at new) k
+    neighbours k q r s = (subst IsSome (sym q) s.0, λ t. s.1 (same_along eq r q t))
 
     at_other : (k : ℤ) → IsRunStart eq (at cur) k → IsRunStart eq (at new) k ⊎ Contains all k
     at_other k r = by_lt_z k a
-        (λ l. inl (beside k (new_under k l) (new_under (k -ℤ pos 1) (omega (arith, ints))) r))
+        (λ l. inl (neighbours k (new_under k l) (new_under (k -ℤ pos 1) (omega (arith, ints))) r))
         (λ l. by_lt_z b k
         (λ u. by_lt_z (b +ℤ pos 1) k
-        (λ m. inl (beside k (new_over k u) (new_over (k -ℤ pos 1) (omega (arith, ints))) r))
+        (λ m. inl (neighbours k (new_over k u) (new_over (k -ℤ pos 1) (omega (arith, ints))) r))
         (λ m.
         let is : b +ℤ pos 1 ≡ k = omega (arith, ints) in
         subst (λ j. IsRunStart eq (at new) j ⊎ Contains all j) is (at_behind (subst (IsRunStart eq (at cur)) (sym is) r))))
@@ -106,8 +106,8 @@ module _ {V : Type 0} (eq : V → V → Bool) (laws : IsEquivalence eq) (low hig
       equal = λ k h. elim (above.only k h) [
         | inl q ↦ elim (below.only k q) [
           | inl r ↦ joint_kept k (i.equal k r)
-          | inr r ↦ subst (IsJoint eq (at new)) (sym r.0) (joint_first r.1)
+          | inr r ↦ subst (IsJoint eq (at new)) (sym r.0) (joint_first (beside.below.0 r.1))
         ]
-        | inr q ↦ subst (IsJoint eq (at new)) (sym q.0) (joint_behind q.1)
+        | inr q ↦ subst (IsJoint eq (at new)) (sym q.0) (joint_behind (beside.above.0 q.1))
       ];
     }

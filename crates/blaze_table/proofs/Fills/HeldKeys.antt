@@ -1,8 +1,8 @@
 -- Keys that have values, entry by entry.
 use Rattle.blaze_int.specs.Unsigned.{nat_of}
-use Rattle.std.proofs.Common.{◌≡◌, ◌<◌, ℤ, pos, ◌-ℤ◌, ◌≤ℤ◌, ◌<ℤ◌, Bool, true, false, cond, List, [], ◌∷◌, Some, refl, ◌∙◌, sym, subst, arith}
+use Rattle.std.proofs.Common.{◌≡◌, ◌<◌, ℤ, ◌-ℤ◌, ◌≤ℤ◌, ◌<ℤ◌, Bool, true, false, cond, List, [], ◌∷◌, Some, refl, ◌∙◌, sym, subst, arith}
 use Rattle.std.specs.Prelude.{IsSome}
-use Rattle.std.proofs.lemmas.Int.{ints, by_lt_z}
+use Rattle.std.proofs.lemmas.Int.{ints}
 use Rattle.blaze_int.proofs.Naturals.{nat_of-pos}
 use Rattle.blaze_table.specs.Entries.{Entry, at, entry_at, holds}
 use Rattle.blaze_table.specs.Filled.{IsHeldFrom}
@@ -28,12 +28,6 @@ module _ {V : Type 0} where
       more : (b : Bool) → IsSome (at fs j) → IsSome (cond b (Some f.value) (at fs j))
       more true s = refl
       more false s = s
-
-  -- up to the entry's end there are values, where there are up to the key
-  pub held_more : (e : Entry V) (es : List (Entry V)) (l k h : ℤ) → Some e ≡ entry_at es k → h ≤ℤ e.hi → IsHeldFrom (at es) l (k -ℤ pos 1) → IsHeldFrom (at es) l h
-  held_more e es l k h p u s j a b = by_lt_z j k
-      (λ x. s j a (omega (arith, ints)))
-      (λ x. let has = entry_has e es k p in entry_held e es k p j (omega (arith, ints, has)) (omega (arith, ints)))
 
 -- a later key is nearer to the end
 pub nearer : (a b end : ℤ) → a <ℤ b → b ≤ℤ end → nat_of (end -ℤ b) < nat_of (end -ℤ a)

@@ -18,7 +18,7 @@ use Rattle.blaze_table.proofs.Cuts.Splits.{no_last_from}
 use Rattle.blaze_table.proofs.Neighbours.Holders.{Holder, holder, there, end_moved, without-between, starts_behind}
 use Rattle.blaze_table.proofs.Neighbours.NextEntries.{holding_none, holding_some, holding_not}
 use Rattle.blaze_table.proofs.Paints.EditLists.{start_skips}
-use Rattle.blaze_table.proofs.Fills.Looks.{none_under}
+use Rattle.blaze_table.proofs.Fills.Upwards.{none_under}
 use Rattle.blaze_table.proofs.Fills.Ordered.{apart_by, start_above}
 
 module _ {V : Type 0} (eq : V → V → Bool) (laws : IsEquivalence eq) (low high : ℤ) where

@@ -16,6 +16,14 @@ module _ {V : Type 0} where
   pub ending_skips : (k : ℤ) (e : Entry V) (es : List (Entry V)) → e.hi <ℤ k → ending_from k (e ∷ es) ≡ ending_from k es
   ending_skips k e es l = ap (λ b. cond b (e ∷ ending_from k es) (ending_from k es)) (le_false k e.hi l)
 
+  -- the entry that has a key starts up to it
+  pub found_from : (k : ℤ) (e : Entry V) (es : List (Entry V)) → Some e ≡ entry_at es k → e.lo ≤ℤ k
+  found_from k e [] p = cc
+  found_from k e (d ∷ ds) p = by_place d k
+      (λ l h. let same : d ≡ e = cc (p, entry_in d ds k l h) in subst (λ (x : Entry V). x.lo ≤ℤ k) same l)
+      (λ l. found_from k e ds (p ∙ entry_under d ds k l))
+      (λ h. found_from k e ds (p ∙ entry_over d ds k h))
+
 module _ {V : Type 0} (eq : V → V → Bool) where
   -- all of them, where they lie above the key
   pub ending_all : (k b : ℤ) (es : List (Entry V)) → IsCanonical eq es → k ≤ℤ b → IsAbove b es → ending_from k es ≡ es

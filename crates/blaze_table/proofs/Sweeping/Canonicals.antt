@@ -1,36 +1,26 @@
 -- A list with all that pairs paint is their canonical list; how long it is.
 use Rattle.std.specs.Option.{option_or}
-use Rattle.std.proofs.Common.{◌≡◌, ℕ, suc, ◌+◌, ◌-◌, ◌*◌, ◌≤◌, ℤ, pos, ◌+ℤ◌, ◌-ℤ◌, ◌≤ℤ◌, Bool, true, false, cond, List, [], ◌∷◌, length, Option, Some, None, refl, ◌∙◌, sym, ap, subst, arith, inl, inr, ⊎_elim}
+use Rattle.std.proofs.Common.{◌≡◌, ℕ, ◌+◌, ◌-◌, ◌*◌, ◌≤◌, ℤ, ◌≤ℤ◌, Bool, cond, List, [], ◌∷◌, length, Some, None, refl, ◌∙◌, sym, ap, subst, arith, inl, inr, ⊎_elim}
 use Rattle.std.specs.Prelude.{int_le, ◌⊎◌}
 use Rattle.std.specs.Cmp.{IsEquivalence}
-use Rattle.std.proofs.lemmas.Int.{ints, by_lt_z}
+use Rattle.std.proofs.lemmas.Int.{by_lt_z}
 use Rattle.blaze_int.proofs.Comparisons.{le_true, le_false}
 use Rattle.blaze_entries.proofs.Alike.{same_along, same_itself, same_trans, same_or_right, same_back, or_none, or_assoc}
 use Rattle.blaze_table.specs.Entries.{Entry, at, holds, SameOption}
-use Rattle.blaze_table.specs.Canonical.{AreKeys, IsCanonical, IsRangeMap}
+use Rattle.blaze_table.specs.Canonical.{IsCanonical}
 use Rattle.blaze_table.specs.Painted.{last_at, painted_in_order}
 use Rattle.blaze_table.specs.Splice.{IsListPainted, paint}
-use Rattle.blaze_table.proofs.Canonical.Lookup.{IsAbove, IsAbove-from_apart, at_in, at_under, at_over, by_place, above_by}
 use Rattle.blaze_table.proofs.Paints.Painted.{is_painted, paint_itself, painted_nowhere, length_as}
-use Rattle.blaze_table.proofs.Canonical.Runs.{canonical, one_per_run}
+use Rattle.blaze_table.proofs.Canonical.Runs.{one_per_run}
 use Rattle.blaze_table.proofs.Canonical.Unique.{unique}
 use Rattle.blaze_table.specs.CanonicalOf.{keyed, IsCanonicalOf}
-use Rattle.blaze_table.specs.Swept.{Continues, AreApart, IsSwept, IsCanonicalAfter}
-use Rattle.blaze_table.proofs.Pairs.Lasts.{painted_one, last_below, last_first, last_over}
+use Rattle.blaze_table.specs.Swept.{IsSwept}
+use Rattle.blaze_table.proofs.Pairs.Lasts.{painted_one}
 use Rattle.blaze_table.proofs.Sweeping.Sweeps.{at_past}
 
 -- whether the pair has a key, as a number
 abbrev is_keyed : {V : Type 0} → Entry V → ℕ
 is_keyed p = cond (int_le p.lo p.hi) 1 0
-
--- all are at least those that have a key
-pub keyed_at_most : {V : Type 0} (ps : List (Entry V)) → keyed ps ≤ length ps
-keyed_at_most [] = omega arith
-keyed_at_most (p ∷ ps) = at_most (int_le p.lo p.hi) (keyed_at_most ps)
-  where
-    at_most : (b : Bool) → keyed ps ≤ length ps → cond b 1 0 + keyed ps ≤ suc (length ps)
-    at_most true l = omega arith
-    at_most false l = omega arith
 
 -- a list that painting the pair gives, if it has a key
 record IsPaintedOne {V : Type 0} (eq : V → V → Bool) (p : Entry V) (old new : List (Entry V)) : Type 0 where
@@ -92,50 +82,3 @@ module _ {V : Type 0} (eq : V → V → Bool) (laws : IsEquivalence eq) where
         content = content;
         few = few_painted ps out c.canonical content;
       }
-
-  -- a list that is canonical already is its own canonical list
-  apart_above : (b : ℤ) (es : List (Entry V)) → IsCanonical eq es → IsAbove (b -ℤ pos 1) es → AreApart b es
-  apart_above b [] c a = tt
-  apart_above b (e ∷ es) c a = (omega (arith, ints, a), c.0, apart_above (e.hi +ℤ pos 1) es c.2 (above_by e.hi (e.hi +ℤ pos 1 -ℤ pos 1) es (omega (arith, ints)) (IsAbove-from_apart eq e es c.1)))
-
-  at_is_last : (b k : ℤ) (es : List (Entry V)) → AreApart b es → at es k ≡ last_at es k
-  at_is_last b k [] a = refl
-  at_is_last b k (e ∷ es) a = by_place e k
-      (λ l u. at_in e es k l u ∙ sym (last_first k e es a.2 l u))
-      (λ l. at_under e es k l ∙ at_is_last (e.hi +ℤ pos 1) k es a.2 ∙ last_below (e.hi +ℤ pos 1) k es a.2 (omega (arith, ints, a.1)) ∙ sym (last_below e.lo k (e ∷ es) (omega (arith, ints), a.1, a.2) l))
-      (λ u. at_over e es k u ∙ at_is_last (e.hi +ℤ pos 1) k es a.2 ∙ sym (last_over k e es u))
-
-  pub canonical_of_itself : (low high : ℤ) (es : List (Entry V)) → IsRangeMap eq low high es → IsCanonicalOf eq low high es es
-  canonical_of_itself low high es r =
-      let c = canonical eq laws es r.runs in
-      record {
-        range_map = r;
-        content = λ k. same_along eq {a = at es k} {b = at es k} refl (at_is_last low k es (apart_above low es c (first_above es c r.keys)) ∙ sym (or_none (last_at es k))) (same_itself eq laws (at es k));
-        few = let all = count es c in omega (arith, all);
-      }
-    where
-      first_above : (fs : List (Entry V)) → IsCanonical eq fs → AreKeys low high fs → IsAbove (low -ℤ pos 1) fs
-      first_above [] c a = tt
-      first_above (f ∷ fs) c a = omega (arith, ints, a.0)
-
-      count : (fs : List (Entry V)) → IsCanonical eq fs → length fs ≤ keyed fs
-      count [] d = omega arith
-      count (f ∷ fs) d =
-          let one : is_keyed f ≡ 1 = ap (λ b. cond b 1 0) (le_true f.lo f.hi d.0) in
-          let rest = count fs d.2 in
-          omega (arith, one, rest)
-
-  -- a range map's list is canonical among the keys, and apart from no entry before it
-  pub canonical_list : (low high : ℤ) (es : List (Entry V)) → IsRangeMap eq low high es → IsCanonicalAfter eq low high None es
-  canonical_list low high es m = (canonical eq laws es m.runs, m.keys)
-
-  -- the first of a canonical list goes on from the entry before it
-  pub after_first : (low high : ℤ) (before : Option (Entry V)) (e : Entry V) (es : List (Entry V)) → IsCanonicalAfter eq low high before (e ∷ es) → Continues eq low high before e
-  after_first low high None e es c = (c.1.0, c.0.0, c.1.1)
-  after_first low high (Some d) e es c = (c.1.0, c.0.0, c.1.1, c.2)
-
-  -- nothing is left after the last entry
-  pub range_map_after : (low high : ℤ) (before : Option (Entry V)) (all rest : List (Entry V)) → length rest ≡ 0 → (IsCanonicalAfter eq low high before rest → IsCanonicalAfter eq low high None all) → IsRangeMap eq low high all
-  range_map_after low high None all [] n k = let c = k (tt, tt) in record { runs = one_per_run eq laws all c.0; keys = c.1 }
-  range_map_after low high (Some d) all [] n k = let c = k (tt, tt, tt) in record { runs = one_per_run eq laws all c.0; keys = c.1 }
-  range_map_after low high before all (e ∷ es) n k = absurd (omega arith)

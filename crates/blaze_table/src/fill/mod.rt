@@ -7,21 +7,21 @@ ghost use Rattle.blaze_table.specs.Painted.{ClonesAreAlike};
 ghost use Rattle.blaze_table.specs.Table.{IsTable};
 ghost use Rattle.blaze_table.specs.Work.{IsCounted};
 
+mod gap;
 mod join;
-mod look;
 mod put;
 
-use blaze_entries::Counted;
+use blaze_entries::Entries;
 use blaze_int::Integer;
+use gap::first_gap;
 use join::join_all;
-use look::first_gap;
-use put::{put_all, take_back};
+use put::{Made, put_all, take_back};
 use std::alloc::AllocError;
 
 /// Puts a value on those keys from lo up to hi that have none, where `len` is the count of keys, and answers the new count.
 /// Refused memory leaves the entries.
 pub fn fill<T: Integer, V: Eq + Clone>(
-    entries: &mut Counted<T, V>,
+    entries: &mut Entries<T, V>,
     len: T::SafeLen,
     lo: T,
     hi: T,
@@ -42,16 +42,14 @@ pub fn fill<T: Integer, V: Eq + Clone>(
     let Some(first) = first_gap(entries, lo, hi, &value) else {
         return Ok(len);
     };
-    let alloc = entries.allocator();
-    let mut starts = Vec::new(alloc);
-    let mut joints = Vec::new(alloc);
-    match put_all(entries, &mut starts, &mut joints, len, hi, first, value) {
+    let mut made = Made::new(entries.allocator());
+    match put_all(entries, &mut made, len, hi, first, value) {
         Ok(new_len) => {
-            join_all(entries, joints);
+            join_all(&mut entries.counted, made.joints);
             Ok(new_len)
         }
         Err(refused) => {
-            take_back(entries, starts);
+            take_back(&mut entries.counted, made.starts);
             Err(refused)
         }
     }

@@ -1,58 +1,58 @@
 //! Entries put into gaps, one after another, and taken back where memory is refused.
-ghost use Rattle.std.specs.Prelude.{◌≡◌, [], ◌∷◌, ◌++◌, map, pos, ◌+ℤ◌, ◌-ℤ◌, ◌≤ℤ◌, None, OnOk, OnErr, IfOk};
+ghost use Rattle.std.specs.Prelude.{◌≡◌, [], ◌∷◌, ◌++◌, map, pos, ◌+ℤ◌, ◌<ℤ◌, None, IsTrue, OnOk, OnErr, IfOk};
 ghost use Rattle.blaze_entries.specs.Starts.{start_at, with_entry};
-ghost use Rattle.blaze_table.specs.Canonical.{AreKeys, IsCanonical};
 ghost use Rattle.blaze_table.specs.Entries.{entry, at};
 ghost use Rattle.blaze_table.specs.Filled.{IsFirstGap};
-ghost use Rattle.blaze_table.specs.Filling.{AreThere, GoesBack, IsFilledBut, IsNoted};
-ghost use Rattle.blaze_table.specs.Filling.{IsGapFilled, IsOrdered, IsOrderedTable, taken};
-ghost use Rattle.blaze_table.specs.Gap.{IsClearFrom};
+ghost use Rattle.blaze_table.specs.Filling.{AreThere, GoesBack, IsBeside, IsFilledBut, IsGapFilled};
+ghost use Rattle.blaze_table.specs.Filling.{IsNoted, IsOrderedTable, taken};
 ghost use Rattle.blaze_table.specs.Painted.{ClonesAreAlike};
 ghost use Rattle.blaze_table.specs.Table.{IsTable};
 ghost use Rattle.blaze_table.specs.Work.{IsCounted};
 
-use super::look::{gap_above, is_equal_above, is_equal_below};
-use blaze_entries::Counted;
+use super::gap::{Gap, gap_above};
+use blaze_entries::{Counted, Entries};
 use blaze_int::compare::{after, length};
 use blaze_int::{Integer, SafeLength};
-use std::alloc::AllocError;
+use std::alloc::{AllocError, Global};
 
-// Adds a key to the joints where the key before it has an equal value.
-fn note_below<T: Integer, V: Eq>(
-    entries: &mut Counted<T, V>,
-    joints: &mut Vec<T>,
-    key: T,
-    value: &V,
-) -> Result<(), AllocError>
-    requires ordered { IsOrdered entries.old.entries }
-    requires keys { AreKeys T.low T.high entries.old.entries }
-    ensures ok { OnOk result (IsNoted V.eq entries.old.entries (T.rank key -ℤ pos 1) (T.rank key)
-        value.now (map T.rank joints.old.items) (map T.rank joints.new.items)) }
-    ensures same { entries.new.entries ≡ entries.old.entries }
-    ensures counted { IsCounted entries.old entries.new }
+/// What a fill has put in: the starts of its entries, and the keys at which entries are to be joined with the one before.
+#[derive(Drop)]
+pub struct Made<T> {
+    pub starts: Vec<T>,
+    pub joints: Vec<T>,
+}
+
+impl<T> Made<T> {
+    /// Nothing. No memory is taken.
+    pub fn new(alloc: Global) -> Self
+        ensures starts { result.starts.items ≡ [] }
+        ensures joints { result.joints.items ≡ [] }
+    {
+        Made {
+            starts: Vec::new(alloc),
+            joints: Vec::new(alloc),
+        }
+    }
+}
+
+// Adds a key to the joints where it is one.
+fn note<T: Integer>(joints: &mut Vec<T>, key: T, is_joint: bool) -> Result<(), AllocError>
+    ensures { OnOk result (IsNoted is_joint (T.rank key) (map T.rank joints.old.items)
+        (map T.rank joints.new.items)) }
 {
-    if is_equal_below(entries, key, value) {
+    if is_joint {
         joints.push(key)?;
     }
     Ok(())
 }
 
-// Adds the key after one to the joints where it has an equal value.
-fn note_above<T: Integer, V: Eq>(
-    entries: &mut Counted<T, V>,
-    joints: &mut Vec<T>,
-    key: T,
-    value: &V,
-) -> Result<(), AllocError>
-    requires ordered { IsOrdered entries.old.entries }
-    requires keys { AreKeys T.low T.high entries.old.entries }
-    ensures ok { OnOk result (IsNoted V.eq entries.old.entries (T.rank key +ℤ pos 1)
-        (T.rank key +ℤ pos 1) value.now (map T.rank joints.old.items)
+// Adds the key after one to the joints where it is one.
+fn note_after<T: Integer>(joints: &mut Vec<T>, key: T, is_joint: bool) -> Result<(), AllocError>
+    requires { IsTrue is_joint → T.rank key <ℤ T.high }
+    ensures { OnOk result (IsNoted is_joint (T.rank key +ℤ pos 1) (map T.rank joints.old.items)
         (map T.rank joints.new.items)) }
-    ensures same { entries.new.entries ≡ entries.old.entries }
-    ensures counted { IsCounted entries.old entries.new }
 {
-    if is_equal_above(entries, key, value) {
+    if is_joint {
         let next = after(key, T::max_value());
         joints.push(next)?;
     }
@@ -63,89 +63,87 @@ fn note_above<T: Integer, V: Eq>(
 fn put<T: Integer, V: Drop>(
     entries: &mut Counted<T, V>,
     starts: &mut Vec<T>,
-    gap: (T, T),
+    gap: Gap<T>,
     value: V,
 ) -> Result<(), AllocError>
-    requires absent { start_at (T.rank gap.0) entries.old.entries ≡ None }
+    requires absent { start_at (T.rank gap.start) entries.old.entries ≡ None }
     ensures ok { OnOk result
-        (entries.new.entries ≡ with_entry (entry (T.rank gap.0) (T.rank gap.1) value) entries.old.entries) }
-    ensures starts { OnOk result (starts.new.items ≡ starts.old.items ++ gap.0 ∷ []) }
+        (entries.new.entries ≡ with_entry (entry (T.rank gap.start) (T.rank gap.end) value) entries.old.entries) }
+    ensures starts { OnOk result (starts.new.items ≡ starts.old.items ++ gap.start ∷ []) }
     ensures counted { IsCounted entries.old entries.new }
     ensures err { OnErr result (entries.new.entries ≡ entries.old.entries) }
     ensures err_starts { OnErr result (starts.new.items ≡ starts.old.items) }
 {
     entries.in_hand();
-    entries.insert(gap.0, gap.1, value)?;
-    if starts.push(gap.0).is_err() {
-        entries.remove(gap.0);
+    entries.insert(gap.start, gap.end, value)?;
+    if starts.push(gap.start).is_err() {
+        entries.remove(gap.start);
         return Err(AllocError);
     }
     Ok(())
 }
 
 // Gives a gap an entry of its own.
-fn fill_gap<T: Integer, V: Eq + Drop>(
-    entries: &mut Counted<T, V>,
-    starts: &mut Vec<T>,
-    joints: &mut Vec<T>,
-    gap: (T, T),
+fn fill_gap<T: Integer, V: Drop>(
+    entries: &mut Entries<T, V>,
+    made: &mut Made<T>,
+    gap: Gap<T>,
     value: V,
 ) -> Result<(), AllocError>
-    requires ordered { IsOrdered entries.old.entries }
-    requires keys { AreKeys T.low T.high entries.old.entries }
-    requires order { T.rank gap.0 ≤ℤ T.rank gap.1 }
-    requires clear { IsClearFrom (at entries.old.entries) (T.rank gap.0) (T.rank gap.1) }
-    ensures ok { OnOk result (IsGapFilled V.eq (T.rank gap.0) (T.rank gap.1) value
-        entries.old.entries entries.new.entries (map T.rank starts.old.items)
-        (map T.rank starts.new.items) (map T.rank joints.old.items)
-        (map T.rank joints.new.items)) }
+    requires absent { start_at (T.rank gap.start) entries.old.entries ≡ None }
+    requires above { IsTrue gap.equal_above → T.rank gap.end <ℤ T.high }
+    ensures ok { OnOk result (IsGapFilled (T.rank gap.start) (T.rank gap.end) value
+        gap.equal_below gap.equal_above entries.old.entries entries.new.entries
+        (map T.rank made.old.starts.items) (map T.rank made.new.starts.items)
+        (map T.rank made.old.joints.items) (map T.rank made.new.joints.items)) }
     ensures counted { IsCounted entries.old entries.new }
     ensures err { OnErr result (entries.new.entries ≡ entries.old.entries) }
-    ensures err_starts { OnErr result (starts.new.items ≡ starts.old.items) }
+    ensures err_starts { OnErr result (made.new.starts.items ≡ made.old.starts.items) }
 {
-    entries.in_hand();
-    note_below(entries, joints, gap.0, &value)?;
-    note_above(entries, joints, gap.1, &value)?;
-    put(entries, starts, gap, value)?;
+    note(&mut made.joints, gap.start, gap.equal_below)?;
+    note_after(&mut made.joints, gap.end, gap.equal_above)?;
+    put(&mut entries.counted, &mut made.starts, gap, value)?;
     Ok(())
 }
 
 /// Gives each gap from a first one up to `hi` an entry of its own, the last one with the value, the others with clones,
 /// and answers the count of keys, where `len` is that before. Refused memory leaves what can be taken back.
 pub fn put_all<T: Integer, V: Eq + Clone>(
-    entries: &mut Counted<T, V>,
-    starts: &mut Vec<T>,
-    joints: &mut Vec<T>,
+    entries: &mut Entries<T, V>,
+    made: &mut Made<T>,
     len: T::SafeLen,
     hi: T,
-    first: (T, T),
+    first: Gap<T>,
     value: V,
 ) -> Result<T::SafeLen, AllocError>
     requires clones { ClonesAreAlike V.is_clone V.eq }
     requires table { IsTable V.eq T.low T.high (T.SafeLen.number len) entries.old.entries }
-    requires first { IsFirstGap (at entries.old.entries) (T.rank first.0) (T.rank hi)
-        (T.rank first.0) (T.rank first.1) }
-    requires starts { starts.old.items ≡ [] }
-    requires joints { joints.old.items ≡ [] }
+    requires first { IsFirstGap (at entries.old.entries) (T.rank first.start) (T.rank hi)
+        (T.rank first.start) (T.rank first.end) }
+    requires beside { IsBeside V.eq (at entries.old.entries) value (T.rank first.start)
+        (T.rank first.end) first.equal_below first.equal_above }
+    requires starts { made.old.starts.items ≡ [] }
+    requires joints { made.old.joints.items ≡ [] }
     ensures table { IfOk result (λ new. IsOrderedTable T.low T.high (T.SafeLen.number new) entries.new.entries) }
-    ensures filled { OnOk result (IsFilledBut V.eq (T.rank first.0) (T.rank hi) value
-        (map T.rank starts.new.items) (map T.rank joints.new.items)
+    ensures filled { OnOk result (IsFilledBut V.eq (T.rank first.start) (T.rank hi) value
+        (map T.rank made.new.starts.items) (map T.rank made.new.joints.items)
         entries.old.entries entries.new.entries) }
     ensures counted { IsCounted entries.old entries.new }
-    ensures back { OnErr result (GoesBack (map T.rank starts.new.items) entries.new.entries entries.old.entries) }
+    ensures back { OnErr result (GoesBack (map T.rank made.new.starts.items)
+        entries.new.entries entries.old.entries) }
 {
-    first.0.in_hand();
+    first.start.in_hand();
     hi.in_hand();
     let mut gap = first;
     let mut sum = len;
-    while let Some(next) = gap_above(entries, gap.1, hi, &value) {
+    while let Some(next) = gap_above(entries, gap.end, hi, &value) {
         let clone = value.clone()?;
-        fill_gap(entries, starts, joints, gap, clone)?;
-        sum = sum.plus(length(gap.0, gap.1));
+        fill_gap(entries, made, gap, clone)?;
+        sum = sum.plus(length(gap.start, gap.end));
         gap = next;
     }
-    fill_gap(entries, starts, joints, gap, value)?;
-    Ok(sum.plus(length(gap.0, gap.1)))
+    fill_gap(entries, made, gap, value)?;
+    Ok(sum.plus(length(gap.start, gap.end)))
 }
 
 /// Takes the entries that start at some keys out, the last first.

@@ -3,7 +3,7 @@ ghost use Rattle.blaze_table.specs.Printed.{set_text};
 
 use crate::set::range_set::RangeSetBlaze;
 use blaze_int::Integer;
-use std::fmt;
+use std::fmt::{self, Debug};
 
 /// The ranges `start..=end`, keys in debug form, joined by a comma and a space. The empty set prints nothing.
 impl<T: Integer> fmt::Display for RangeSetBlaze<T> {
@@ -19,5 +19,14 @@ impl<T: Integer> fmt::Display for RangeSetBlaze<T> {
             lead = ", ";
         }
         Ok(())
+    }
+}
+
+/// The text that `Display` gives.
+impl<T: Integer> Debug for RangeSetBlaze<T> {
+    ghost debug_output = { λ s. set_text T.debug_output T.of_rank s };
+
+    fn fmt<W: fmt::Write>(&self, f: &mut fmt::Formatter<W>) -> fmt::Result {
+        fmt::Display::fmt(self, f)
     }
 }

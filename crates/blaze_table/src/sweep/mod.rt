@@ -6,7 +6,6 @@ ghost use Rattle.blaze_table.specs.CanonicalOf.{IsCanonicalOf};
 
 use crate::entry_keys::keys_in_hand;
 use crate::sweep::ascending::{is_ascending, joined_entries};
-use crate::sweep::canonical::is_canonical;
 use crate::sweep::fill::entries_of_pieces;
 use crate::sweep::pieces::pieces_of;
 use crate::sweep::placed::placed_of;
@@ -14,7 +13,6 @@ use blaze_int::Integer;
 use std::alloc::{AllocError, Global};
 
 mod ascending;
-mod canonical;
 mod fill;
 mod held;
 mod pieces;
@@ -28,10 +26,9 @@ pub use push::push_entry;
 /// The canonical list of pairs painted in order, where there was nothing: of first key, last key and value. The later pair
 /// wins, a pair whose last key is below its first paints nothing, and touching entries with equal values are one.
 ///
-/// Pairs that are canonical already are answered as they are, after one pass. Pairs that are ascending and disjoint are joined
-/// in one pass more. All others are sorted by their first keys, with their values, and swept from the least key up, with the pairs
-/// that reach the key in a heap whose top is the latest: O(n log n) steps for n pairs. A value is cloned only where its pair is
-/// cut into several pieces; else it is moved. Refused memory drops the list.
+/// Pairs that are ascending and disjoint are joined in one pass. All others are sorted by their first keys, with their values, and
+/// swept from the least key up, with the pairs that reach the key in a heap whose top is the latest: O(n log n) steps for n pairs.
+/// A value is cloned only where its pair is cut into several pieces; else it is moved. Refused memory drops the list.
 pub fn canonical_of<T: Integer, V: Eq + Clone>(
     alloc: Global,
     pairs: Vec<(T, T, V)>,
@@ -40,9 +37,6 @@ pub fn canonical_of<T: Integer, V: Eq + Clone>(
     ensures { IfOk result (λ entries. IsCanonicalOf V.eq T.low T.high (listed T.rank pairs.items)
         (listed T.rank entries.items)) }
 {
-    if is_canonical(pairs.as_slice()) {
-        return Ok(pairs);
-    }
     if is_ascending(pairs.as_slice()) {
         let entries = joined_entries(alloc, pairs)?;
         return Ok(entries);

@@ -1,5 +1,6 @@
 use Rattle.std.proofs.Common.{◌≡◌, ◌∙◌, subst, option_map}
 use Rattle.blaze_table.specs.Entries.{shown_entry, entry_at}
+use Rattle.blaze_table.specs.Filling.{never}
 use Rattle.blaze_table.proofs.Neighbours.Ending.{ending_clear, ending_held}
 use Rattle.blaze_table.proofs.search.entries_ending_from.Goals as goal
 
@@ -8,7 +9,7 @@ returns-in-Some g c =
     let rank = g.T.Integer.rank in
     let es = c.args.entries.now.entries in
     c.iter_from.ensures
-    ∙ ending_held g.V.PartialEq.eq (rank c.args.key) (shown_entry rank (λ v. v.now) c.in-Some.found) es c.requires
+    ∙ ending_held never (rank c.args.key) (shown_entry rank (λ v. v.now) c.in-Some.found) es c.requires
     (subst (λ o. option_map (shown_entry rank (λ v. v.now)) o ≡ entry_at es (rank c.args.key)) c.in-Some.is c.entry_holding.ensures)
 
 pub returns-in-None : goal.returns-in-None
@@ -16,5 +17,5 @@ returns-in-None g c =
     let rank = g.T.Integer.rank in
     let es = c.args.entries.now.entries in
     c.iter_from-in-None.ensures
-    ∙ ending_clear g.V.PartialEq.eq (rank c.args.key) es c.requires
+    ∙ ending_clear never (rank c.args.key) es c.requires
     (subst (λ o. option_map (shown_entry rank (λ v. v.now)) o ≡ entry_at es (rank c.args.key)) c.in-None.is c.entry_holding.ensures)

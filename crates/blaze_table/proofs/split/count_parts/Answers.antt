@@ -4,13 +4,13 @@ use Rattle.blaze_table.proofs.Canonical.Counted.{some_keys}
 use Rattle.blaze_table.proofs.split.count_parts.Goals as goal
 
 pub count-below_len-requires-clause-fits : goal.count-below_len-requires-clause-fits
-count-below_len-requires-clause-fits g c = omega (arith, ints, c.requires.counted, c.in_hand.ensures, some_keys g.V.PartialEq.eq c.args.from.now.entries c.requires.from)
+count-below_len-requires-clause-fits g c = omega (arith, ints, c.requires.counted, c.length_in_hand.ensures, some_keys g.V.PartialEq.eq c.args.from.now.entries c.requires.from)
 
 pub minus-requires : goal.minus-requires
 minus-requires g c = omega (arith, ints, c.requires.counted, c.count-below_len.ensures, some_keys g.V.PartialEq.eq c.args.from.now.entries c.requires.from)
 
 pub count-from_len-requires-clause-fits : goal.count-from_len-requires-clause-fits
-count-from_len-requires-clause-fits g c = omega (arith, ints, c.requires.counted, c.in_hand.ensures, some_keys g.V.PartialEq.eq c.args.below.now.entries c.requires.below)
+count-from_len-requires-clause-fits g c = omega (arith, ints, c.requires.counted, c.length_in_hand.ensures, some_keys g.V.PartialEq.eq c.args.below.now.entries c.requires.below)
 
 pub minus-requires-else-len : goal.minus-requires-else-len
 minus-requires-else-len g c = omega (arith, ints, c.requires.counted, c.count-from_len.ensures, some_keys g.V.PartialEq.eq c.args.below.now.entries c.requires.below)

@@ -1,6 +1,7 @@
 use Rattle.blaze_int.specs.Unsigned.{nat_of}
 use Rattle.std.proofs.Common.{map, ◌-ℤ◌}
-use Rattle.blaze_table.specs.Filling.{IsFilling, IsOrderedTable}
+use Rattle.blaze_table.specs.Entries.{at}
+use Rattle.blaze_table.specs.Filling.{IsBeside, IsFilling, IsOrderedTable}
 use Rattle.blaze_table.specs.Work.{IsCounted}
 use Rattle.blaze_table.proofs.fill.put.put_all.Given as goal
 
@@ -10,9 +11,10 @@ invariant-loop-next g l =
     let rank = g.T.Integer.rank in
     record {
       table : IsOrderedTable g.T.Integer.low g.T.Integer.high (g.T.SafeLen.SafeLength.number l.sum) l.entries.entries;
-      filling : IsFilling g.V.PartialEq.eq (rank l.fn.first.0) (rank l.hi) l.value (map rank l.starts.items) (map rank l.joints.items) l.fn.entries.entries l.entries.entries (rank l.gap.0) (rank l.gap.1);
+      filling : IsFilling g.V.PartialEq.eq (rank l.fn.first.start) (rank l.hi) l.value (map rank l.made.starts.items) (map rank l.made.joints.items) l.fn.entries.entries l.entries.entries (rank l.gap.start) (rank l.gap.end);
+      beside : IsBeside g.V.PartialEq.eq (at l.entries.entries) l.value (rank l.gap.start) (rank l.gap.end) l.gap.equal_below l.gap.equal_above;
       counted : IsCounted l.fn.entries l.entries;
     }
 
 abbrev pub decreases-loop-next : goal.decreases-loop-next
-decreases-loop-next g l = nat_of (g.T.Integer.rank l.hi -ℤ g.T.Integer.rank l.gap.1)
+decreases-loop-next g l = nat_of (g.T.Integer.rank l.hi -ℤ g.T.Integer.rank l.gap.end)

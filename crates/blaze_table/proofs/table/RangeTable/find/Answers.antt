@@ -2,6 +2,7 @@ use Rattle.std.proofs.Common.{◌≡◌, ◌∙◌, ℤ, ap, refl, Bor, Option, 
 use Rattle.blaze_table.specs.Counted.{CountedEntries}
 use Rattle.blaze_table.specs.Entries.{Entry, at, shown_entry}
 use Rattle.blaze_table.proofs.Canonical.Lookup.{value-entry_at}
+use Rattle.blaze_table.proofs.Fills.Ordered.{ordered_of}
 use Rattle.blaze_table.proofs.table.RangeTable.find.Goals as goal
 
 value_shown : {T R V : Type 0} (rank : T → ℤ) (shown : R → V) (o : Option (T × T × R)) → option_map (λ p. shown p.2) o ≡ option_map (λ (e : Entry V). e.value) (option_map (shown_entry rank shown) o)
@@ -15,3 +16,6 @@ returns-clause-value g c =
     ∙ ap (option_map (λ (e : Entry g.row.V.Denot). e.value)) c.entry_holding.ensures
     ∙ value-entry_at c.self.inside.entries.entries k
     ∙ ap (λ (s : CountedEntries g.row.V.Denot). at s.entries k) c.self.view_is
+
+pub entry_holding-requires : goal.entry_holding-requires
+entry_holding-requires g c = ordered_of g.V.PartialEq.eq c.self.inside.entries.entries c.self.invariant.canonical
