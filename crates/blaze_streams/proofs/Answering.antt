@@ -1,4 +1,5 @@
 -- What a closure answered so far at the entries of a list, and one answer more.
+use Rattle.std.specs.Bool.{⊤}
 use Rattle.std.specs.Option.{option_or}
 use Rattle.std.proofs.Common.{◌≡◌, ℤ, pos, ◌+ℤ◌, ◌-ℤ◌, Bool, List, [], ◌∷◌, ◌++◌, Some, length, map, refl, ◌∙◌, sym, ap, subst, append_assoc, arith}
 use Rattle.std.specs.List.{FoldsTo, zip}
@@ -15,7 +16,7 @@ use Rattle.blaze_table.proofs.Canonical.Counted.{are_keys_glue}
 use Rattle.blaze_table.proofs.Canonical.Runs.{canonical, one_per_run}
 use Rattle.blaze_table.proofs.Paints.Splices.{canonical_glue, at_glue, below_glue, below_more}
 use Rattle.blaze_table.proofs.Canonical.Lookup.{at_append}
-use Rattle.blaze_streams.specs.Answers.{values, answered, AnswersAt, SomeCallAt, TakesValue, IsCallableAtEach, IsTransformed}
+use Rattle.blaze_streams.specs.Answers.{values, answered, EachValue, AnswersAt, SomeCallAt, TakesValue, IsCallableAtEach, IsTransformed}
 use Rattle.blaze_streams.specs.Cursors.{first_key}
 use Rattle.blaze_streams.proofs.Steady.{same_some}
 
@@ -26,6 +27,19 @@ asked calls = map (λ c. c.0) calls
 -- an entry with the answer in place of its value
 abbrev pub with_answer : {V W : Type 0} → Entry V × W → Entry W
 with_answer c = entry c.0.lo c.0.hi c.1
+
+-- what holds of each value
+pub each_any : {V : Type 0} (es : List (Entry V)) → EachValue (λ _. ⊤) es
+each_any [] = tt
+each_any (e ∷ es) = (tt, each_any es)
+
+pub each_then : {V : Type 0} (P Q : V → Type 0) → ((v : V) → P v → Q v) → (es : List (Entry V)) → EachValue P es → EachValue Q es
+each_then P Q q [] h = tt
+each_then P Q q (e ∷ es) h = (q e.value h.0, each_then P Q q es h.1)
+
+pub each_next : {V : Type 0} (P : V → Type 0) (xs es left : List (Entry V)) (e : Entry V) → EachValue P (xs ++ left) → left ≡ e ∷ es → P e.value
+each_next P [] es left e h is = (subst (EachValue P) is h).0
+each_next P (x ∷ xs) es left e h is = each_next P xs es left e h.1 is
 
 module _ {F A V W : Type 0} (shows : A → V) (g : Mut F A W) where
   -- the calls, one after another

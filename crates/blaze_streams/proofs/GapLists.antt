@@ -104,7 +104,7 @@ module _ {V : Type 0} (high n : ℤ) (old new all : List (Entry (Unit {0}))) (le
   gap_last is pushed = pushed ∙ (ap (λ es. old ++ gaps n high es) (sym is) ∙ i)
 
 module _ {V : Type 0} (eq : V → V → Bool) (laws : IsEquivalence eq) (low high : ℤ) (es : List (Entry V)) (r : IsRangeMap eq low high es) where
-  gaps_complement : IsComplement unit_eq low high tt es (gaps low high es)
+  pub gaps_complement : IsComplement unit_eq low high tt es (gaps low high es)
   gaps_complement =
       let c = canonical eq laws es r.runs in
       let above = above_low low high es r.keys in

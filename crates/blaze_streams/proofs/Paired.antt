@@ -18,7 +18,7 @@ use Rattle.blaze_streams.specs.declared.segmenting.joins.JoinKind.{JoinKind}
 use Rattle.blaze_streams.specs.declared.segmenting.joins.JoinKind.TheVariants.{Inner, Left, Full}
 use Rattle.blaze_streams.specs.Cursors.{first_key, steady_to, lesser}
 use Rattle.blaze_streams.specs.Joins.{is_joined, paired, pair_eq, IsJoinOf, piece_of, IsSegmentPut}
-use Rattle.blaze_streams.specs.JoinAnswers.{AllJoined}
+use Rattle.blaze_streams.specs.Answers.{EachValue}
 use Rattle.blaze_streams.proofs.ChosenSoFar.{both_from, none_there, no_first, first_above}
 use Rattle.blaze_streams.proofs.Fewer.{both_less}
 use Rattle.blaze_streams.proofs.FoundSegments.{option_same, EndsApart, canonical_push, apart_push}
@@ -139,10 +139,10 @@ module _ {A B : Type 0} (eqa : A → A → Bool) (eqb : B → B → Bool) (low h
           keys_push [] k = (from, to, tt)
           keys_push (x ∷ xs) k = (k.0, k.1, keys_push xs k.2)
 
-  module _ (left L L' : List (Entry A)) (right R R' : List (Entry B)) (out new : List (Entry (Option A × Option B))) (s : ℤ) (ca : IsCanonical eqa L) (cb : IsCanonical eqb R) (starts : lesser (first_key L) (first_key R) ≡ Some s) (m : IsSegmentPut low high kind s L L' R R' out new) where
+  module _ (carrieda : A → A → Type 0) (carriedb : B → B → Type 0) (left L L' : List (Entry A)) (right R R' : List (Entry B)) (out new : List (Entry (Option A × Option B))) (s : ℤ) (ca : IsCanonical eqa L) (cb : IsCanonical eqb R) (starts : lesser (first_key L) (first_key R) ≡ Some s) (m : IsSegmentPut carrieda carriedb low high kind s L L' R R' out new) where
     -- one segment more
-    pub paired_more : IsEquivalence eqa → IsEquivalence eqb → IsPairedSoFar left right L R out → IsPairedSoFar left right L' R' new
-    paired_more lawsa lawsb h = rw (m.put, m.left_is, m.right_is) (pair_put L R s m.end ca cb starts m.ends lawsa lawsb left right out m.from m.to (pair_at kind L R m.end) refl h)
+    pub paired_more : (exact : List (Entry (Option A × Option B))) → IsEquivalence eqa → IsEquivalence eqb → IsPairedSoFar left right L R exact → IsPairedSoFar left right L' R' (exact ++ piece_of s m.end (pair_at kind L R m.end))
+    paired_more exact lawsa lawsb h = rw (m.left_is, m.right_is) (pair_put L R s m.end ca cb starts m.ends lawsa lawsb left right exact m.from m.to (pair_at kind L R m.end) refl h)
 
     pub paired_less : lengths_left L' + lengths_left R' < lengths_left L + lengths_left R
     paired_less = rw (m.left_is, m.right_is) (both_less eqa eqb s m.end L R ca cb starts (in_order L R s m.end ca cb starts m.ends))
@@ -163,7 +163,7 @@ module _ {A B : Type 0} (eqa : A → A → Bool) (eqb : B → B → Bool) (kind 
   is_joined_there true p v q e = let is : v ≡ p = cc in ap (λ z. is_joined kind z.0 z.1) is ∙ sym q
   is_joined_there false p v q e = cc
 
-  joined_each : (es : List (Entry (Option A × Option B))) → IsCanonical (pair_eq eqa eqb) es → ((k : ℤ) (v : Option A × Option B) → at es k ≡ Some v → is_joined kind v.0 v.1 ≡ true) → AllJoined kind es
+  joined_each : (es : List (Entry (Option A × Option B))) → IsCanonical (pair_eq eqa eqb) es → ((k : ℤ) (v : Option A × Option B) → at es k ≡ Some v → is_joined kind v.0 v.1 ≡ true) → EachValue (λ p. is_joined kind p.0 p.1 ≡ true) es
   joined_each [] c p = tt
   joined_each (e ∷ es) c p = (
     p e.lo e.value (at_in e es e.lo (omega (arith, ints)) (omega (arith, ints, c.0))),
@@ -176,11 +176,7 @@ module _ {A B : Type 0} (eqa : A → A → Bool) (eqb : B → B → Bool) (kind 
       rest : (k : ℤ) (v : Option A × Option B) → at es k ≡ Some v → at (e ∷ es) k ≡ Some v
       rest k v q = by_lt_z e.hi k (λ h. at_over e es k h ∙ q) (λ h. absurd (nothing k v h q))
 
-  pub joined_all : (low high : ℤ) (left : List (Entry A)) (right : List (Entry B)) (segments : List (Entry (Option A × Option B))) → IsEquivalence eqa → IsEquivalence eqb → IsJoinOf eqa eqb low high kind left right segments → AllJoined kind segments
+  pub joined_all : (low high : ℤ) (left : List (Entry A)) (right : List (Entry B)) (segments : List (Entry (Option A × Option B))) → IsEquivalence eqa → IsEquivalence eqb → IsJoinOf eqa eqb low high kind left right segments → EachValue (λ p. is_joined kind p.0 p.1 ≡ true) segments
   joined_all low high left right segments lawsa lawsb j =
       joined_each segments (canonical (pair_eq eqa eqb) (pair_laws eqa eqb lawsa lawsb) segments j.range_map.runs)
       (λ k v q. is_joined_there (is_joined kind (at left k) (at right k)) (at left k, at right k) v refl (sym q ∙ j.content k))
-
-pub joined_next : {A B : Type 0} (kind : JoinKind) (xs es left : List (Entry (Option A × Option B))) (e : Entry (Option A × Option B)) → AllJoined kind (xs ++ left) → left ≡ e ∷ es → is_joined kind e.value.0 e.value.1 ≡ true
-joined_next kind [] es left e h is = (subst (AllJoined kind) is h).0
-joined_next kind (x ∷ xs) es left e h is = joined_next kind xs es left e h.1 is

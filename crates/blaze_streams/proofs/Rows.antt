@@ -1,7 +1,7 @@
 -- How far many lists stay as they are, and their first segment.
-use Rattle.std.proofs.Common.{◌≡◌, ℤ, ◌≤ℤ◌, ◌<ℤ◌, Bool, true, false, List, [], ◌∷◌, Option, Some, None, refl, ◌∙◌, sym, ap, arith, inl, inr, ⊎_elim}
+use Rattle.std.proofs.Common.{◌≡◌, ℤ, ◌≤ℤ◌, ◌<ℤ◌, Bool, true, false, List, [], ◌∷◌, Option, Some, None, Bor, refl, ◌∙◌, sym, ap, arith, inl, inr, ⊎_elim}
 use Rattle.std.specs.Prelude.{◌⊎◌}
-use Rattle.std.specs.Option.{is_some}
+use Rattle.std.specs.Option.{is_some, option_copied}
 use Rattle.std.specs.List.{list_any}
 use Rattle.std.proofs.lemmas.Int.{ints}
 use Rattle.blaze_table.specs.Entries.{Entry, at}
@@ -19,10 +19,10 @@ abbrev pub AnyStops : {A : Type 0} → ℤ → List (List (Entry A)) → Type 0
 AnyStops t [] = ⊥
 AnyStops t (L ∷ Ls) = Stops t L ⊎ AnyStops t Ls
 
--- what stands for itself
-pub shown_itself : {A : Type 0} (o : Option A) → shown_option (λ a. a) o ≡ o
-shown_itself None = refl
-shown_itself (Some a) = refl
+-- what is copied of a reference
+pub shown_copied : {A : Type 0} (o : Option (Bor A)) → shown_option (λ r. r.now) o ≡ option_copied o
+shown_copied None = refl
+shown_copied (Some r) = refl
 
 module _ {A : Type 0} where
   none_present : (x : Option A) (r : List (Option A)) → x ≡ None → list_any is_some r ≡ false → list_any is_some (x ∷ r) ≡ false

@@ -2,7 +2,7 @@
 use Rattle.std.specs.Int.{int_max, int_min}
 use Rattle.std.specs.Prelude.{◌⊎◌, int_le}
 use Rattle.std.specs.Option.{option_map}
-use Rattle.std.proofs.Common.{◌≡◌, ℤ, ◌≤ℤ◌, ◌<ℤ◌, Bool, cond, List, [], ◌∷◌, Option, Some, None, refl, ◌∙◌, sym, subst, ap, arith, ⊎_elim}
+use Rattle.std.proofs.Common.{◌≡◌, ℤ, pos, ◌-ℤ◌, ◌≤ℤ◌, ◌<ℤ◌, Bool, cond, List, [], ◌∷◌, Option, Some, None, refl, ◌∙◌, sym, subst, ap, arith, ⊎_elim}
 use Rattle.std.proofs.lemmas.Int.{ints, by_lt_z}
 use Rattle.blaze_int.proofs.Comparisons.{le_true, le_false}
 use Rattle.blaze_entries.specs.Found.{range_in}
@@ -27,8 +27,26 @@ at_most_max a b = grind (arith, ints)
 min_at_most : (a b : ℤ) → int_min a b ≤ℤ b
 min_at_most a b = grind (arith, ints)
 
+-- up to a key up to which nothing is chosen
+nothing_to : {A B V : Type 0} (eq : V → V → Bool) (choose : Option A → Option B → Option V) (s t : ℤ) (L L' : List (Entry A)) (R R' : List (Entry B)) → lesser (first_key L) (first_key R) ≡ Some s → s ≤ℤ t → ((k : ℤ) → k ≤ℤ t → chosen_at choose L R k ≡ None) → L' ≡ after t L → R' ≡ after t R → IsTaken eq choose L L' R R' s t None
+nothing_to eq choose s t L L' R R' starts order nothing = taken_to eq choose L L' R R' s t None starts order (λ k a b. nothing k b ∙ sym (nothing s order)) (same_none eq (chosen_at choose L R s) (nothing s order))
+
+-- the right list lets the keys below the left one go, where nothing is chosen without the left one
+pub right_gone : {A B V : Type 0} (eqa : A → A → Bool) (eqb : B → B → Bool) (eq : V → V → Bool) (choose : Option A → Option B → Option V) → ((o : Option B) → choose None o ≡ None) → (l x r y t : ℤ) (L L' : List (Entry A)) (R R' : List (Entry B))
+    → IsCanonical eqa L → IsCanonical eqb R → Some (l, x) ≡ option_map range_in (first_entry L) → Some (r, y) ≡ option_map range_in (first_entry R) → y <ℤ l → t ≡ l -ℤ pos 1 → L' ≡ L → R' ≡ after t R → IsTaken eq choose L L' R R' r t None
+right_gone eqa eqb eq choose nothing l x r y t [] L' R R' ca cb p q u is left_is right_is = cc
+right_gone eqa eqb eq choose nothing l x r y t (e ∷ es) L' [] R' ca cb p q u is left_is right_is = cc
+right_gone eqa eqb eq choose nothing l x r y t (e ∷ es) L' (f ∷ fs) R' ca cb p q u is left_is right_is =
+    let left = ends e l x p in
+    let right = ends f r y q in
+    nothing_to eq choose r t (e ∷ es) L' (f ∷ fs) R'
+    (lesser_exchanged (Some e.lo) (Some f.lo) ∙ lesser_first f.lo (Some e.lo) (omega (arith, ints, cb.0, right.1, u, left.0)) ∙ ap (λ z. Some z) right.0)
+    (omega (arith, ints, cb.0, right.0, right.1, u, is))
+    (λ k h. ap (λ o. choose o (at (f ∷ fs) k)) (at_first eqa e es k ca (omega (arith, ints, h, is, left.0))) ∙ nothing (at (f ∷ fs) k))
+    (left_is ∙ sym (after_keeps t e es (omega (arith, ints, is, ca.0, left.0)) (omega (arith, ints, is, left.0)))) right_is
+
 module _ {A B : Type 0} where
-  none_with : (y : Option B) → left_with_right {A = A} None y ≡ None
+  pub none_with : (y : Option B) → left_with_right {A = A} None y ≡ None
   none_with None = refl
   none_with (Some y) = refl
 
@@ -46,39 +64,21 @@ module _ {A B : Type 0} where
           ap (λ x. left_with_right x (at (f ∷ fs) k)) (at_in e es k (grind (arith, ints, l)) (grind (arith, ints, h)))
           ∙ ap (left_with_right (Some e.value)) (at_in f fs k (grind (arith, ints, l)) (grind (arith, ints, h)))
 
-    -- up to a key up to which nothing is chosen
-    nothing_to : (s t : ℤ) (L L' : List (Entry A)) (R R' : List (Entry B)) → lesser (first_key L) (first_key R) ≡ Some s → s ≤ℤ t → ((k : ℤ) → k ≤ℤ t → chosen_at left_with_right L R k ≡ None) → L' ≡ after t L → R' ≡ after t R → IsTaken eqa left_with_right L L' R R' s t None
-    nothing_to s t L L' R R' starts order nothing = taken_to eqa left_with_right L L' R R' s t None starts order (λ k a b. nothing k b ∙ sym (nothing s order)) (same_none eqa (chosen_at left_with_right L R s) (nothing s order))
+    -- the left list lets the keys below the right one go
+    pub left_gone : (l x r y t : ℤ) (L L' : List (Entry A)) (R : List (Entry B)) → IsCanonical eqa L → IsCanonical eqb R → Some (l, x) ≡ option_map range_in (first_entry L) → Some (r, y) ≡ option_map range_in (first_entry R) → x <ℤ r → t ≡ r -ℤ pos 1 → L' ≡ after t L
+        → IsTaken eqa left_with_right L L' R R l t None
+    left_gone l x r y t [] L' R ca cb p q u is left_is = cc
+    left_gone l x r y t (e ∷ es) L' [] ca cb p q u is left_is = cc
+    left_gone l x r y t (e ∷ es) L' (f ∷ fs) ca cb p q u is left_is =
+        let left = ends e l x p in
+        let right = ends f r y q in
+        nothing_to eqa left_with_right l t (e ∷ es) L' (f ∷ fs) (f ∷ fs)
+        (lesser_first e.lo (Some f.lo) (omega (arith, ints, ca.0, left.1, u, right.0)) ∙ ap (λ z. Some z) left.0)
+        (omega (arith, ints, ca.0, left.0, left.1, u, is))
+        (λ k h. none_before e es f fs ca cb k (grind (arith, ints, h, is, right.0)))
+        left_is (sym (after_keeps t f fs (omega (arith, ints, is, cb.0, right.0)) (omega (arith, ints, is, right.0))))
 
     module _ (l x r y first end : ℤ) (first_is : first ≡ int_max r l) (end_is : end ≡ int_min y x) where
-      -- the left range goes, which ends below the right one
-      pub left_gone : (L L' : List (Entry A)) (R : List (Entry B)) → IsCanonical eqa L → IsCanonical eqb R → Some (l, x) ≡ option_map range_in (first_entry L) → Some (r, y) ≡ option_map range_in (first_entry R) → x <ℤ r → L' ≡ after x L
-          → IsTaken eqa left_with_right L L' R R l x None
-      left_gone [] L' R ca cb p q u left_is = cc
-      left_gone (e ∷ es) L' [] ca cb p q u left_is = cc
-      left_gone (e ∷ es) L' (f ∷ fs) ca cb p q u left_is =
-          let left = ends e l x p in
-          let right = ends f r y q in
-          nothing_to l x (e ∷ es) L' (f ∷ fs) (f ∷ fs)
-          (lesser_first e.lo (Some f.lo) (omega (arith, ints, ca.0, left.1, u, right.0)) ∙ ap (λ z. Some z) left.0)
-          (omega (arith, ints, ca.0, left.0, left.1))
-          (λ k h. none_before e es f fs ca cb k (grind (arith, ints, h, u, right.0)))
-          left_is (sym (after_keeps x f fs (omega (arith, ints, u, cb.0, right.0)) (omega (arith, ints, u, right.0))))
-
-      -- the right range goes, which ends below the left one
-      pub right_gone : (L : List (Entry A)) (R R' : List (Entry B)) → IsCanonical eqa L → IsCanonical eqb R → Some (l, x) ≡ option_map range_in (first_entry L) → Some (r, y) ≡ option_map range_in (first_entry R) → y <ℤ l → R' ≡ after y R
-          → IsTaken eqa left_with_right L L R R' r y None
-      right_gone [] R R' ca cb p q u right_is = cc
-      right_gone (e ∷ es) [] R' ca cb p q u right_is = cc
-      right_gone (e ∷ es) (f ∷ fs) R' ca cb p q u right_is =
-          let left = ends e l x p in
-          let right = ends f r y q in
-          nothing_to r y (e ∷ es) (e ∷ es) (f ∷ fs) R'
-          (lesser_exchanged (Some e.lo) (Some f.lo) ∙ lesser_first f.lo (Some e.lo) (omega (arith, ints, cb.0, right.1, u, left.0)) ∙ ap (λ z. Some z) right.0)
-          (omega (arith, ints, cb.0, right.0, right.1))
-          (λ k h. none_before e es f fs ca cb k (grind (arith, ints, h, u, left.0)))
-          (sym (after_keeps y e es (omega (arith, ints, u, ca.0, left.0)) (omega (arith, ints, u, left.0)))) right_is
-
       in_order : l ≤ℤ x → r ≤ℤ y → r ≤ℤ x → l ≤ℤ y → first ≤ℤ end
       in_order a b u v = grind (arith, ints, first_is, end_is, a, b, u, v)
 

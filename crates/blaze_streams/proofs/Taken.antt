@@ -137,13 +137,13 @@ pub nothing_left : {A B V : Type 0} (choose : Option A → Option B → Option V
 nothing_left choose nothing L [] n p k = ap (λ o. choose o None) (none_there L k n) ∙ nothing
 nothing_left choose nothing L (f ∷ fs) n p k = cc
 
+pub none_alone : {A B : Type 0} (o : Option B) → left_alone {A = A} None o ≡ None
+none_alone None = refl
+none_alone (Some v) = refl
+
 -- where the left list has no range, it has nothing alone
 pub nothing_alone : {A B : Type 0} (L : List (Entry A)) (R : List (Entry B)) → None ≡ option_map range_in (first_entry L) → (k : ℤ) → chosen_at left_alone L R k ≡ None
-nothing_alone {A = A} {B = B} [] R p k = none_alone (at R k)
-  where
-    none_alone : (o : Option B) → left_alone {A = A} None o ≡ None
-    none_alone None = refl
-    none_alone (Some v) = refl
+nothing_alone [] R p k = none_alone (at R k)
 nothing_alone (e ∷ es) R p k = cc
 
 pub xor_none : {A : Type 0} (x : Option A) → option_xor x None ≡ x

@@ -1,5 +1,5 @@
 -- What a closure answers at values, one call for each, and where it may be called.
-use Rattle.std.specs.Prelude.{◌≡◌, ℤ, Bool, List, ◌∷◌, ◌++◌, length, map}
+use Rattle.std.specs.Prelude.{◌≡◌, ℤ, Bool, List, [], ◌∷◌, ◌++◌, length, map}
 use Rattle.std.specs.Fn.{Mut, Called, Takes}
 use Rattle.std.specs.List.{FoldsTo, zip}
 use Rattle.blaze_table.specs.Entries.{Entry, entry, at, SameOption}
@@ -12,6 +12,11 @@ values es = map (λ e. e.value) es
 -- the entries, each with an answer in place of its value
 abbrev pub answered : {V W : Type 0} → List (Entry V) → List W → List (Entry W)
 answered es answers = map (λ c. entry c.0.lo c.0.hi c.1) (zip es answers)
+
+-- P holds of the value of each entry
+abbrev pub EachValue : {V : Type 0} → (V → Type 0) → List (Entry V) → Type 0
+EachValue P [] = Unit {0}
+EachValue P (e ∷ es) = P e.value × EachValue P es
 
 -- `shows` is the value that the arguments of a call stand for
 module _ {F A V W : Type 0} (shows : A → V) (g : Mut F A W) where

@@ -1,11 +1,11 @@
 -- What a closure answers at the segments of two lists.
-use Rattle.std.specs.Prelude.{◌≡◌, ℤ, Bool, true, List, [], ◌∷◌, Option, Some}
+use Rattle.std.specs.Prelude.{ℤ, Bool, List, Option, Some}
 use Rattle.std.specs.Fn.{Mut}
 use Rattle.blaze_table.specs.Entries.{Entry}
 use Rattle.blaze_streams.specs.declared.segmenting.joins.JoinKind.{JoinKind}
 use Rattle.blaze_streams.specs.Carried.{shown_option}
 use Rattle.blaze_streams.specs.Answers.{values, IsCallableAtEach, IsTransformed}
-use Rattle.blaze_streams.specs.Joins.{is_joined, IsJoinOf}
+use Rattle.blaze_streams.specs.Joins.{IsJoinOf}
 
 -- what two lists have where the two arguments of a call stand for it
 abbrev pub either : {C D A B : Type 0} → (C → A) → (D → B) → Option C × (Option D × Unit {0}) → Option A × Option B
@@ -18,11 +18,6 @@ with_left left right a = (Some (left a.0), shown_option right a.1.0)
 -- the same where both are there
 abbrev pub both : {C D A B : Type 0} → (C → A) → (D → B) → C × (D × Unit {0}) → Option A × Option B
 both left right a = (Some (left a.0), Some (right a.1.0))
-
--- a join of the kind is asked for each of the segments
-abbrev pub AllJoined : {A B : Type 0} → JoinKind → List (Entry (Option A × Option B)) → Type 0
-AllJoined kind [] = Unit {0}
-AllJoined kind (e ∷ es) = (is_joined kind e.value.0 e.value.1 ≡ true) × AllJoined kind es
 
 -- `shows` is what two lists have where the arguments of a call stand for it
 module _ {F X W A B : Type 0} (shows : X → Option A × Option B) (g : Mut F X W) (eqa : A → A → Bool) (eqb : B → B → Bool) (low high : ℤ) (kind : JoinKind) where

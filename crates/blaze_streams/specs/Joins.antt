@@ -2,11 +2,13 @@
 -- a join is asked for.
 use Rattle.std.specs.Prelude.{◌≡◌, ℤ, ◌≤ℤ◌, Bool, ◌&&◌, ◌||◌, if◌then◌else◌, List, [], ◌∷◌, ◌++◌, Option, Some, None}
 use Rattle.std.specs.Option.{option_eq, is_some}
+use Rattle.blaze_entries.specs.Cloned.{AreCloned}
 use Rattle.blaze_table.specs.Entries.{Entry, entry, at}
 use Rattle.blaze_table.specs.Canonical.{IsRangeMap}
 use Rattle.blaze_table.specs.Splice.{after}
 use Rattle.blaze_streams.specs.declared.segmenting.joins.JoinKind.{JoinKind}
 use Rattle.blaze_streams.specs.declared.segmenting.joins.JoinKind.TheVariants.{Inner, Left, Full}
+use Rattle.blaze_streams.specs.Carried.{AreOptions, ArePairsCarried}
 use Rattle.blaze_streams.specs.Cursors.{steady_to, lesser}
 
 -- whether a join of the kind is asked for what two lists have at a key
@@ -29,6 +31,13 @@ pub record IsJoinOf {A B : Type 0} (eqa : A → A → Bool) (eqb : B → B → B
   pub range_map : IsRangeMap (pair_eq eqa eqb) low high segments
   pub content : (k : ℤ) → at segments k ≡ paired kind (at left k) (at right k)
 
+-- these segments with values that are carried: each value is that of the segment, or one that `carry` may give for it, as it
+-- does for each segment but the last that a range has a part in
+pub record IsCarriedJoin {A B : Type 0} (carrieda : A → A → Type 0) (carriedb : B → B → Type 0) (eqa : A → A → Bool) (eqb : B → B → Bool) (low high : ℤ) (kind : JoinKind) (left : List (Entry A)) (right : List (Entry B)) (segments : List (Entry (Option A × Option B))) : Type 0 where
+  pub exact : List (Entry (Option A × Option B))
+  pub is_join : IsJoinOf eqa eqb low high kind left right exact
+  pub carried : AreCloned (ArePairsCarried carrieda carriedb) exact segments
+
 -- ---- one step of a walk over two lists
 
 -- a value on the keys from s up to t, where there is one
@@ -37,11 +46,13 @@ piece_of s t None = []
 piece_of s t (Some v) = entry s t v ∷ []
 
 -- the first segment of two lists, which starts at s, put behind a list where the kind asks for it; and what is left of the two
-pub record IsSegmentPut {A B : Type 0} (low high : ℤ) (kind : JoinKind) (s : ℤ) (left left_new : List (Entry A)) (right right_new : List (Entry B)) (out out_new : List (Entry (Option A × Option B))) : Type 0 where
+pub record IsSegmentPut {A B : Type 0} (carrieda : A → A → Type 0) (carriedb : B → B → Type 0) (low high : ℤ) (kind : JoinKind) (s : ℤ) (left left_new : List (Entry A)) (right right_new : List (Entry B)) (out out_new : List (Entry (Option A × Option B))) : Type 0 where
   pub end : ℤ
   pub from : low ≤ℤ s
   pub to : end ≤ℤ high
   pub ends : lesser (steady_to s left) (steady_to s right) ≡ Some end
   pub left_is : left_new ≡ after end left
   pub right_is : right_new ≡ after end right
-  pub put : out_new ≡ out ++ piece_of s end (paired kind (at left end) (at right end))
+  pub given : Option (Option A × Option B)
+  pub carried : AreOptions (ArePairsCarried carrieda carriedb) (paired kind (at left end) (at right end)) given
+  pub put : out_new ≡ out ++ piece_of s end given

@@ -2,7 +2,7 @@
 ghost use Rattle.std.specs.Prelude.{◌≡◌, true, IfOk, ⊤};
 ghost use Rattle.std.specs.Rc.{rc_value};
 ghost use Rattle.blaze_table.specs.Painted.{ClonesAreAlike};
-ghost use Rattle.blaze_streams.specs.Carried.{shown_option};
+ghost use Rattle.blaze_streams.specs.Carried.{shown_option, AreOptions};
 
 use std::alloc::AllocError;
 use std::rc::Rc;
@@ -16,7 +16,10 @@ pub trait ValueCarrier: Drop {
     ghost shown: { Self → Self.Value };
 
     // A clone of a value is `==` to it.
-    ghost can_carry: { Type 0 };
+    ghost can_carry: { Type 0 } = { ⊤ };
+
+    // The second value is one that `carry` may give for the first.
+    ghost is_carried: { Self.Value → Self.Value → Type 0 } = { λ v w. w ≡ v };
 
     /// Whether the values of two carriers are `==`.
     fn value_eq(&self, other: &Self) -> bool
@@ -29,8 +32,9 @@ pub trait ValueCarrier: Drop {
 
     /// Another carrier, of a value that is `==` to this one's. Refused memory leaves this one.
     fn carry(&self) -> Result<Self, AllocError>
-        requires { can_carry }
-        ensures { IfOk result (λ other. Self.Value.eq (shown self.now) (shown other) ≡ true) };
+        ensures carried { IfOk result (λ other. is_carried (shown self.now) (shown other)) }
+        ensures alike { can_carry
+            → IfOk result (λ other. Self.Value.eq (shown self.now) (shown other) ≡ true) };
 }
 
 /// A carrier whose value can be compared with a value.
@@ -73,8 +77,6 @@ impl ValueCarrier for () {
 
     ghost shown = { λ u. u };
 
-    ghost can_carry = { ⊤ };
-
     fn value_eq(&self, other: &Self) -> bool {
         *self == *other
     }
@@ -94,8 +96,6 @@ impl ValueCarrier for usize {
 
     ghost shown = { λ i. i };
 
-    ghost can_carry = { ⊤ };
-
     fn value_eq(&self, other: &Self) -> bool {
         *self == *other
     }
@@ -114,8 +114,6 @@ impl ValueCarrier for bool {
     type Value = bool;
 
     ghost shown = { λ b. b };
-
-    ghost can_carry = { ⊤ };
 
     fn value_eq(&self, other: &Self) -> bool {
         *self == *other
@@ -159,6 +157,8 @@ impl<VC: ValueCarrier> ValueCarrier for Option<VC> {
 
     ghost can_carry = { VC.can_carry };
 
+    ghost is_carried = { AreOptions VC.is_carried };
+
     fn value_eq(&self, other: &Self) -> bool {
         match (self, other) {
             (None, None) => true,
@@ -189,6 +189,8 @@ impl<VCL: ValueCarrier, VCR: ValueCarrier> ValueCarrier for (VCL, VCR) {
     ghost shown = { λ p. (VCL.shown p.0, VCR.shown p.1) };
 
     ghost can_carry = { VCL.can_carry × VCR.can_carry };
+
+    ghost is_carried = { λ p q. VCL.is_carried p.0 q.0 × VCR.is_carried p.1 q.1 };
 
     fn value_eq(&self, other: &Self) -> bool {
         self.0.value_eq(&other.0) && self.1.value_eq(&other.1)

@@ -6,14 +6,14 @@ ghost use Rattle.blaze_entries.specs.Starts.{first_entry};
 ghost use Rattle.blaze_table.specs.Entries.{at, SameOption};
 ghost use Rattle.blaze_table.specs.Canonical.{IsCanonical};
 ghost use Rattle.blaze_table.specs.Splice.{after};
-ghost use Rattle.blaze_streams.specs.Carried.{shown_option};
+ghost use Rattle.blaze_streams.specs.Carried.{shown_option, AreOptions, IsItOrCarried};
 ghost use Rattle.blaze_streams.specs.Choosing.{ahead_of};
 ghost use Rattle.blaze_streams.specs.Cursors.{first_key, steady_to, IsFrom, Reaches, FirstHas};
 
 use crate::carrier::ValueCarrier;
 use crate::sorted_disjoint_map::SortedDisjointMap;
 use blaze_int::Integer;
-use blaze_int::compare::{after, before, is_at_most, is_below};
+use blaze_int::compare::{after, before, greater, is_at_most, is_below};
 use std::alloc::AllocError;
 use std::marker::Model;
 use std::mem;
@@ -54,8 +54,11 @@ fn take_first<T: Integer, VC: ValueCarrier, I: SortedDisjointMap<T, VC>>(
     Some((start, end, carrier))
 }
 
+/// How many ranges are passed one by one before a stream seeks.
+const STEPS: usize = 4;
+
 /// Takes the ranges up to `end` out of a stream, and the first of what lies above: its first key, its last key and its
-/// carrier.
+/// carrier. After a few ranges the stream seeks.
 fn take_above<T: Integer, VC: ValueCarrier, I: SortedDisjointMap<T, VC>>(
     stream: &mut I,
     end: T,
@@ -64,12 +67,15 @@ fn take_above<T: Integer, VC: ValueCarrier, I: SortedDisjointMap<T, VC>>(
         ≡ after (T.rank end) (I.left stream.old) }
     ensures none { IfNone result (I.left stream.new ≡ []) }
 {
+    let mut steps = STEPS;
     while let Some((lo, hi, carrier)) = take_first(stream) {
-        if !is_at_most(hi, end) {
-            if is_at_most(lo, end) {
-                return Some((after(end, hi), hi, carrier));
-            }
-            return Some((lo, hi, carrier));
+        if is_below(end, hi) {
+            return Some((greater(lo, after(end, hi)), hi, carrier));
+        }
+        if steps > 0 {
+            steps -= 1;
+        } else if is_below(hi, end) {
+            stream.seek(end);
         }
     }
     None
@@ -155,8 +161,53 @@ impl<T: Integer, VC: ValueCarrier, I: SortedDisjointMap<T, VC>> Cursor<T, VC, I>
         }
     }
 
-    /// Takes what the first range has up to `end`, which is one of its keys: a carrier of its value, the range's own where it
-    /// ends there, else another. Refused memory then lets the keys go all the same.
+    /// The carrier of the value at a key, which is not above the end of the first range.
+    pub fn here(&self, key: T) -> Option<&VC>
+        requires { Reaches (T.rank key) self.now }
+        ensures { shown_option (λ c. VC.shown c.now) result ≡ at self.now (T.rank key) }
+    {
+        match &self.head {
+            None => None,
+            Some((lo, _, carrier)) => {
+                if is_at_most(*lo, key) {
+                    Some(carrier)
+                } else {
+                    None
+                }
+            }
+        }
+    }
+
+    /// Gives what stands at `end`, which is not above the end of the first range, and lets the keys up to it go: the range's own
+    /// carrier where it ends there, else another. Refused memory then lets the keys go all the same.
+    pub fn give(&mut self, end: T) -> Result<Option<VC>, AllocError>
+        requires { Reaches (T.rank end) self.old }
+        ensures carried { IfOk result (λ given. AreOptions (IsItOrCarried VC.is_carried)
+            (at self.old (T.rank end)) (shown_option VC.shown given)) }
+        ensures alike { VC.can_carry
+            → IfOk result (λ given. SameOption VC.Value.eq (at self.old (T.rank end))
+            (shown_option VC.shown given)) }
+        ensures rest { self.new ≡ after (T.rank end) self.old }
+    {
+        let Some((lo, hi, carrier)) = &mut self.head else {
+            return Ok(None);
+        };
+        if is_below(end, *lo) {
+            return Ok(None);
+        }
+        if is_below(end, *hi) {
+            let other = carrier.carry();
+            *lo = after(end, *hi);
+            return Ok(Some(other?));
+        }
+        let next = take_first(&mut self.rest);
+        match mem::replace(&mut self.head, next) {
+            Some((_, _, carrier)) => Ok(Some(carrier)),
+            None => unreachable!(),
+        }
+    }
+
+    /// The same, where `end` is one of the first range's keys.
     pub fn take(&mut self, end: T) -> Result<VC, AllocError>
         requires can { VC.can_carry }
         requires has { FirstHas (T.rank end) self.old }
@@ -164,37 +215,9 @@ impl<T: Integer, VC: ValueCarrier, I: SortedDisjointMap<T, VC>> Cursor<T, VC, I>
             (Some (VC.shown carrier))) }
         ensures rest { self.new ≡ after (T.rank end) self.old }
     {
-        let Some((lo, hi, carrier)) = &mut self.head else {
-            unreachable!()
-        };
-        if is_below(end, *hi) {
-            let other = carrier.carry();
-            *lo = after(end, *hi);
-            return other;
-        }
-        let next = take_first(&mut self.rest);
-        match mem::replace(&mut self.head, next) {
-            Some((_, _, carrier)) => Ok(carrier),
+        match self.give(end)? {
+            Some(carrier) => Ok(carrier),
             None => unreachable!(),
-        }
-    }
-}
-
-impl<T: Integer, VC: ValueCarrier + Copy, I: SortedDisjointMap<T, VC>> Cursor<T, VC, I> {
-    /// The carrier of the value at a key, which is not above the end of the first range.
-    pub fn here(&self, key: T) -> Option<VC>
-        requires { Reaches (T.rank key) self.now }
-        ensures { shown_option VC.shown result ≡ at self.now (T.rank key) }
-    {
-        match &self.head {
-            None => None,
-            Some((lo, _, carrier)) => {
-                if is_at_most(*lo, key) {
-                    Some(*carrier)
-                } else {
-                    None
-                }
-            }
         }
     }
 }

@@ -1,6 +1,7 @@
 //! Sorted streams of disjoint ranges with their values.
 #![tactic(auto)]
 
+mod asks;
 mod carrier;
 mod complements;
 mod cursor;
@@ -36,7 +37,6 @@ pub use multiway::{
     MultiwaySymmetricDifferenceMap, MultiwayUnionMap,
 };
 pub use owned::Owned;
-pub use segmenting::join_answers::{full_join_of, inner_join_of, left_join_of};
 pub use segmenting::joins::{JoinKind, join_of};
 pub use segmenting::list_segments::{Segment, segments};
 pub use sorted_disjoint::SortedDisjoint;
@@ -49,17 +49,19 @@ pub use transforms::transform;
 
 // For `range_map_blaze` alone, whose maps are made of entries that are chosen, and whose joins answer segments.
 #[doc(hidden)]
+pub use asks::{Asks, Both, Either, WithLeft};
+#[doc(hidden)]
 pub use carrier::HasValue;
 #[doc(hidden)]
 pub use merge::choice::{Choice, ExactlyOne, LeftAlone, LeftWithRight, RightFirst};
 #[doc(hidden)]
 pub use merge::chosen::entries_chosen_of;
 #[doc(hidden)]
-pub use merge::with_unit::WithUnit;
-#[doc(hidden)]
-pub use segmenting::join_answers::{answer_both, answer_either, answer_left};
-#[doc(hidden)]
 pub use tables::key_ranges::{into_ranges_of, ranges_of};
+#[doc(hidden)]
+pub use tables::seeking_range_values::SeekingRangeValuesIter;
+#[doc(hidden)]
+pub use transforms::answers_of;
 // For `range_map_multi` alone, which goes through many streams as this crate does through many lists.
 #[doc(hidden)]
 pub use cursor::Cursor;

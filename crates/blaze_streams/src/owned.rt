@@ -25,6 +25,8 @@ impl<V: Eq + Clone> ValueCarrier for Owned<V> {
 
     ghost can_carry = { ClonesAreAlike V.is_clone V.eq };
 
+    ghost is_carried = { V.is_clone };
+
     fn value_eq(&self, other: &Self) -> bool {
         self.0 == other.0
     }

@@ -1,7 +1,8 @@
 //! A stream with what a closure answers at its values.
 ghost use Rattle.std.specs.Prelude.{IfOk};
-ghost use Rattle.blaze_streams.specs.Answers.{values, IsCallableAtEach, IsTransformed};
+ghost use Rattle.blaze_streams.specs.Answers.{values, EachValue, IsCallableAtEach, IsTransformed};
 
+use crate::asks::{Asks, Whole};
 use crate::carrier::ValueCarrier;
 use crate::lists::canon_map::CanonMapIter;
 use crate::merge::push::push_joined;
@@ -9,6 +10,32 @@ use crate::owned::Owned;
 use crate::sorted_disjoint_map::SortedDisjointMap;
 use blaze_int::Integer;
 use std::alloc::{AllocError, Global};
+
+/// The ranges of a stream, each with what a closure answers at its value, with the arguments that `C` gives it: one call for each
+/// range, ascending, and no other. Touching ranges with equal answers are one. Refused memory drops the stream and the answers.
+pub fn answers_of<
+    T: Integer,
+    VC: ValueCarrier,
+    S: SortedDisjointMap<T, VC>,
+    W: Eq + Clone,
+    F: Drop,
+    C: Asks<F, VC, W>,
+>(alloc: Global, stream: S, mut f: F) -> Result<CanonMapIter<T, Owned<W>>, AllocError>
+    requires have { EachValue C.has_arguments (S.left stream) }
+    requires callable { IsCallableAtEach C.shows C.calls f (values (S.left stream)) }
+    ensures { IfOk result (λ new. IsTransformed C.shows C.calls W.eq T.low T.high f
+        (S.left stream) new) }
+{
+    stream.in_hand();
+    let mut out = Vec::new(alloc);
+    for item in stream {
+        let (range, carrier) = item;
+        let (start, end) = range.into_inner();
+        let answer = C::ask(&mut f, carrier);
+        push_joined(&mut out, start, end, Owned(answer))?;
+    }
+    Ok(CanonMapIter::new(out))
+}
 
 /// The ranges of a stream, each with what a closure answers at its value: one call for each range, ascending, and no other.
 /// Touching ranges with equal answers are one. Refused memory drops the stream and the answers.
@@ -18,18 +45,10 @@ pub fn transform<
     S: SortedDisjointMap<T, VC>,
     W: Eq + Clone,
     F: FnMut(VC) -> W,
->(alloc: Global, stream: S, mut f: F) -> Result<CanonMapIter<T, Owned<W>>, AllocError>
+>(alloc: Global, stream: S, f: F) -> Result<CanonMapIter<T, Owned<W>>, AllocError>
     requires { IsCallableAtEach (λ a. VC.shown a.0) F.FnMut f (values (S.left stream)) }
     ensures { IfOk result (λ new. IsTransformed (λ a. VC.shown a.0) F.FnMut W.eq T.low T.high f
         (S.left stream) new) }
 {
-    stream.in_hand();
-    let mut out = Vec::new(alloc);
-    for item in stream {
-        let (range, carrier) = item;
-        let (start, end) = range.into_inner();
-        let answer = f(carrier);
-        push_joined(&mut out, start, end, Owned(answer))?;
-    }
-    Ok(CanonMapIter::new(out))
+    answers_of::<T, VC, S, W, F, Whole>(alloc, stream, f)
 }

@@ -1,11 +1,11 @@
 //! Key types with the types of their lengths, and steps between keys.
 use blaze_int::{Integer, SafeLength, UIntPlusOne};
 use blaze_table::RangeTable;
-use std::fmt::Debug;
+use std::fmt::{Debug, Display};
 
 fn is_ordered<X: Copy + Ord + Debug>() {}
 
-fn is_key<T: Integer<SafeLen = L>, L: SafeLength + Debug>() {
+fn is_key<T: Integer<SafeLen = L>, L: SafeLength + Debug + Display>() {
     is_ordered::<T>();
     is_ordered::<L>();
 }

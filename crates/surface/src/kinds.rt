@@ -21,7 +21,7 @@ fn is_owned<X: Debug + PartialEq + Eq + Hash>() {}
 
 fn is_same<X: PartialEq + Eq>() {}
 
-fn is_shown<X: Display>() {}
+fn is_shown<X: Debug + Display>() {}
 
 fn is_fault<X: Error + Debug + Display>() {}
 

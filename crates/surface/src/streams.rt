@@ -2,13 +2,13 @@
 use blaze_int::Integer;
 use blaze_streams::{
     BothEnds, CanonIter, CanonMapIter, CheckSortedDisjoint, CheckSortedDisjointMap,
-    IntoRangeValuesIter, MapIntoRangesIter, MapRangesIter, MultiwayFullJoinMap,
+    IntoRangeValuesIter, JoinKind, MapIntoRangesIter, MapRangesIter, MultiwayFullJoinMap,
     MultiwayInnerJoinMap, MultiwayIntersectionMap, MultiwaySweep, MultiwaySymmetricDifferenceMap,
     MultiwayUnionMap, Owned, RangeValuesIter, SortedDisjoint, SortedDisjointMap, SweepEvent,
-    ValueCarrier,
+    ValueCarrier, join_of,
 };
 use blaze_table::{IntoRangesIter, RangeTable, RangesIter};
-use std::alloc::Global;
+use std::alloc::{AllocError, Global};
 use std::ops::RangeInclusive;
 use std::rc::Rc;
 
@@ -53,6 +53,16 @@ pub fn computed(alloc: Global) -> (CanonMapIter<u8, bool>, CanonIter<u8>) {
     let items: Vec<(RangeInclusive<u8>, bool)> = Vec::new(alloc);
     let ranges: Vec<RangeInclusive<u8>> = Vec::new(alloc);
     (CanonMapIter::new(items), CanonIter::new(ranges))
+}
+
+/// What two streams of any carriers have at the segments of a join.
+pub fn joined(
+    alloc: Global,
+    left: CanonMapIter<u8, Owned<char>>,
+    right: CanonMapIter<u8, Rc<char>>,
+    kind: JoinKind,
+) -> Result<CanonMapIter<u8, (Option<Owned<char>>, Option<Rc<char>>)>, AllocError> {
+    join_of(alloc, left, right, kind)
 }
 
 /// The sweep of no events.

@@ -1,5 +1,5 @@
 //! What is chosen from what two streams have at a key.
-ghost use Rattle.std.specs.Prelude.{◌≡◌, ◌≤◌, ◌+◌, ℤ, Option, None, refl, IfOk, MatchOption};
+ghost use Rattle.std.specs.Prelude.{◌≡◌, ℤ, Option, None, refl, IfOk, MatchOption};
 ghost use Rattle.std.specs.Option.{option_map, option_xor};
 ghost use Rattle.blaze_table.specs.Canonical.{IsCanonical};
 ghost use Rattle.blaze_table.specs.Entries.{at};
@@ -11,17 +11,13 @@ use crate::cursor::Cursor;
 use crate::merge::pieces::{take_before, take_both};
 use crate::sorted_disjoint_map::SortedDisjointMap;
 use blaze_int::Integer;
-use blaze_int::compare::lesser;
+use blaze_int::compare::{before, is_below, lesser};
 use std::alloc::AllocError;
 
 /// A choice from what two streams have at a key, by which of them have it.
 pub trait Choice<VCL: ValueCarrier, VCR: ValueCarrier> {
     // The value that is chosen.
     ghost choice: { Option VCL.Value → Option VCR.Value → Option VCL.Value };
-
-    /// For how many entries room is asked at first, where the streams have so many ranges at least.
-    fn room(&self, left: usize, right: usize) -> usize
-        ensures { result ≤ left + right };
 
     /// Takes the first piece that is chosen from two streams: its first key, its last key and a carrier of its value, or no
     /// carrier where nothing is chosen on its keys. The keys up to its end go in both. None where nothing is chosen from what is
@@ -49,10 +45,6 @@ pub struct RightFirst;
 impl<VC: ValueCarrier> Choice<VC, VC> for RightFirst {
     ghost choice = { right_first };
 
-    fn room(&self, left: usize, right: usize) -> usize {
-        left.saturating_add(right)
-    }
-
     fn take<T: Integer, L: SortedDisjointMap<T, VC>, R: SortedDisjointMap<T, VC>>(
         &self,
         left: &mut Cursor<T, VC, L>,
@@ -77,10 +69,6 @@ pub struct ExactlyOne;
 
 impl<VC: ValueCarrier> Choice<VC, VC> for ExactlyOne {
     ghost choice = { option_xor };
-
-    fn room(&self, left: usize, right: usize) -> usize {
-        left.saturating_add(right)
-    }
 
     fn take<T: Integer, L: SortedDisjointMap<T, VC>, R: SortedDisjointMap<T, VC>>(
         &self,
@@ -111,10 +99,6 @@ pub struct LeftWithRight;
 impl<VCL: ValueCarrier, VCR: ValueCarrier> Choice<VCL, VCR> for LeftWithRight {
     ghost choice = { left_with_right };
 
-    fn room(&self, left: usize, right: usize) -> usize {
-        if right == 0 { 0 } else { left }
-    }
-
     fn take<T: Integer, L: SortedDisjointMap<T, VCL>, R: SortedDisjointMap<T, VCR>>(
         &self,
         left: &mut Cursor<T, VCL, L>,
@@ -126,15 +110,11 @@ impl<VCL: ValueCarrier, VCR: ValueCarrier> Choice<VCL, VCR> for LeftWithRight {
     ghost from_nothing = { refl };
 }
 
-/// The left one, where the right is not there.
+/// The left one, where the right is not there. Where the right stream is behind, it lets all keys below the left one go.
 pub struct LeftAlone;
 
 impl<VCL: ValueCarrier, VCR: ValueCarrier> Choice<VCL, VCR> for LeftAlone {
     ghost choice = { left_alone };
-
-    fn room(&self, left: usize, _right: usize) -> usize {
-        left
-    }
 
     fn take<T: Integer, L: SortedDisjointMap<T, VCL>, R: SortedDisjointMap<T, VCR>>(
         &self,
@@ -144,12 +124,17 @@ impl<VCL: ValueCarrier, VCR: ValueCarrier> Choice<VCL, VCR> for LeftAlone {
         if let Some(piece) = take_before(left, right)? {
             return Ok(Some((piece.0, piece.1, Some(piece.2))));
         }
-        let (Some(_), Some((start, end))) = (left.range(), right.range()) else {
+        let (Some(ours), Some(theirs)) = (left.range(), right.range()) else {
             return Ok(None);
         };
-        right.advance_in_first(end);
-        left.advance(end);
-        Ok(Some((start, end, None)))
+        if is_below(theirs.1, ours.0) {
+            let end = before(ours.0, theirs.1);
+            right.advance(end);
+            return Ok(Some((theirs.0, end, None)));
+        }
+        right.advance_in_first(theirs.1);
+        left.advance(theirs.1);
+        Ok(Some((theirs.0, theirs.1, None)))
     }
 
     ghost from_nothing = { refl };

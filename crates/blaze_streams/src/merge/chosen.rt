@@ -75,8 +75,8 @@ pub fn chosen_of<
     Ok(CanonMapIter::new(out))
 }
 
-/// What is chosen from two streams, as a list of entries: first key, last key and value. Room is asked for once, for as many
-/// as the choice says of the least lengths. Refused memory drops both.
+/// What is chosen from two streams, as a list of entries: first key, last key and value. Room is asked for at first for so many
+/// entries as the caller expects. Refused memory drops both.
 pub fn entries_chosen_of<
     T: Integer,
     VCL: HasValue,
@@ -84,12 +84,17 @@ pub fn entries_chosen_of<
     L: SortedDisjointMap<T, VCL>,
     R: SortedDisjointMap<T, VCR>,
     C: Choice<VCL, VCR>,
->(alloc: Global, left: L, right: R, choice: &C) -> Result<Vec<(T, T, VCL::Value)>, AllocError>
+>(
+    alloc: Global,
+    room: usize,
+    left: L,
+    right: R,
+    choice: &C,
+) -> Result<Vec<(T, T, VCL::Value)>, AllocError>
     requires { VCL.can_carry }
     ensures { IfOk result (λ entries. IsChosen VCL.Value.eq T.low T.high C.choice (L.left left)
         (R.left right) (listed T.rank entries.items)) }
 {
-    let room = choice.room(left.least_len(), right.least_len());
     let mut entries: Vec<(T, T, VCL::Value)> = Vec::with_capacity(alloc, room)?;
     put_chosen(left, right, choice, &mut entries)?;
     Ok(entries)

@@ -51,8 +51,8 @@ pub fn take_before<
 }
 
 /// Takes the keys that the first ranges of two streams share: the first of them, the last, and a carrier of the left one's value.
-/// Where they share none, the range that ends below the other goes, and nothing is chosen on its keys. Where a stream has no
-/// range, nothing is taken.
+/// Where one ends below the other, its stream lets all keys below the other go, and nothing is chosen on these. Where a stream
+/// has no range, nothing is taken.
 pub fn take_both<
     T: Integer,
     VCL: ValueCarrier,
@@ -75,12 +75,14 @@ pub fn take_both<
         return Ok(None);
     };
     if compare::is_below(ours.1, theirs.0) {
-        left.advance_in_first(ours.1);
-        return Ok(Some((ours.0, ours.1, None)));
+        let end = compare::before(theirs.0, ours.1);
+        left.advance(end);
+        return Ok(Some((ours.0, end, None)));
     }
     if compare::is_below(theirs.1, ours.0) {
-        right.advance_in_first(theirs.1);
-        return Ok(Some((theirs.0, theirs.1, None)));
+        let end = compare::before(ours.0, theirs.1);
+        right.advance(end);
+        return Ok(Some((theirs.0, end, None)));
     }
     let first = compare::greater(ours.0, theirs.0);
     let end = compare::lesser(ours.1, theirs.1);

@@ -58,7 +58,7 @@ pub fn row_at<T: Integer>(
 {
     let mut found = Vec::new(alloc);
     for list in lists {
-        found.push(list.here(key))?;
+        found.push(list.here(key).copied())?;
     }
     Ok(found)
 }

@@ -1,9 +1,10 @@
 //! The segments of two streams.
-ghost use Rattle.std.specs.Prelude.{◌≡◌, ◌++◌, Some, IfOk, OnOk};
+ghost use Rattle.std.specs.Prelude.{◌≡◌, Some, IfOk, OnOk};
 ghost use Rattle.blaze_table.specs.Canonical.{IsCanonical};
-ghost use Rattle.blaze_streams.specs.Carried.{shown_option, shown_pair};
+ghost use Rattle.blaze_table.specs.Painted.{ClonesAreAlike};
+ghost use Rattle.blaze_streams.specs.Carried.{shown_pair};
 ghost use Rattle.blaze_streams.specs.Cursors.{first_key, steady_to, Reaches, lesser};
-ghost use Rattle.blaze_streams.specs.Joins.{is_joined, paired, piece_of, IsJoinOf, IsSegmentPut};
+ghost use Rattle.blaze_streams.specs.Joins.{is_joined, IsCarriedJoin, IsSegmentPut};
 ghost use Rattle.blaze_streams.specs.RangeLists.{shown_ranges};
 
 use crate::carrier::ValueCarrier;
@@ -27,34 +28,14 @@ pub enum JoinKind {
 }
 
 /// Whether a join of the kind is asked for what two streams have at a key.
-fn is_joined<A, B>(kind: JoinKind, left: &Option<A>, right: &Option<B>) -> bool
-    ensures { result ≡ is_joined kind left.now right.now }
+fn is_joined<A, B>(kind: JoinKind, left: Option<&A>, right: Option<&B>) -> bool
+    ensures { result ≡ is_joined kind left.entry right.entry }
 {
     match kind {
         JoinKind::Inner => left.is_some() && right.is_some(),
         JoinKind::Left => left.is_some(),
         JoinKind::Full => left.is_some() || right.is_some(),
     }
-}
-
-/// Puts what two streams have on the keys from `start` up to `end` behind a list, where a join of the kind is asked for it.
-fn put_pair<T: Integer, VCL: ValueCarrier + Copy, VCR: ValueCarrier + Copy>(
-    out: &mut Vec<(RangeInclusive<T>, (Option<VCL>, Option<VCR>))>,
-    start: T,
-    end: T,
-    left: Option<VCL>,
-    right: Option<VCR>,
-    kind: JoinKind,
-) -> Result<(), AllocError>
-    ensures { OnOk result (shown_ranges T.rank (shown_pair VCL.shown VCR.shown) out.new.items
-        ≡ shown_ranges T.rank (shown_pair VCL.shown VCR.shown) out.old.items ++ piece_of
-        (T.rank start) (T.rank end) (paired kind (shown_option VCL.shown left)
-        (shown_option VCR.shown right))) }
-{
-    if is_joined(kind, &left, &right) {
-        out.push((start..=end, (left, right)))?;
-    }
-    Ok(())
 }
 
 /// The last key up to which neither of two streams changes, from their first key on.
@@ -82,8 +63,8 @@ fn steady_end<
 /// Puts the first segment of two streams behind a list, where the kind asks for it, and lets its keys go.
 fn join_next<
     T: Integer,
-    VCL: ValueCarrier + Copy,
-    VCR: ValueCarrier + Copy,
+    VCL: ValueCarrier,
+    VCR: ValueCarrier,
     L: SortedDisjointMap<T, VCL>,
     R: SortedDisjointMap<T, VCR>,
 >(
@@ -96,25 +77,31 @@ fn join_next<
     requires left { IsCanonical VCL.Value.eq left.old }
     requires right { IsCanonical VCR.Value.eq right.old }
     requires starts { lesser (first_key left.old) (first_key right.old) ≡ Some (T.rank start) }
-    ensures { OnOk result (IsSegmentPut T.low T.high kind (T.rank start) left.old left.new right.old
-        right.new (shown_ranges T.rank (shown_pair VCL.shown VCR.shown) out.old.items)
+    ensures { OnOk result (IsSegmentPut VCL.is_carried VCR.is_carried T.low T.high kind
+        (T.rank start) left.old left.new right.old right.new
+        (shown_ranges T.rank (shown_pair VCL.shown VCR.shown) out.old.items)
         (shown_ranges T.rank (shown_pair VCL.shown VCR.shown) out.new.items)) }
 {
     let end = steady_end(start, left, right);
     start.in_hand();
     end.in_hand();
-    put_pair(out, start, end, left.here(end), right.here(end), kind)?;
-    left.advance_in_first(end);
-    right.advance_in_first(end);
+    if is_joined(kind, left.here(end), right.here(end)) {
+        let given = (left.give(end)?, right.give(end)?);
+        out.push((start..=end, given))?;
+    } else {
+        left.advance_in_first(end);
+        right.advance_in_first(end);
+    }
     Ok(())
 }
 
-/// The segments of two streams that a join of a kind is asked for, each with what the two have there, in one pass over both.
-/// No carrier is cloned. Refused memory drops both streams.
+/// The segments of two streams that a join of a kind is asked for, each with carriers of what the two have there, in one pass
+/// over both. The segment that a range ends with has the range's own carrier, each one before it another (`carry`), whose value
+/// is to be `==`. Refused memory drops both streams.
 pub fn join_of<
     T: Integer,
-    VCL: ValueCarrier + Copy,
-    VCR: ValueCarrier + Copy,
+    VCL: ValueCarrier,
+    VCR: ValueCarrier,
     L: SortedDisjointMap<T, VCL>,
     R: SortedDisjointMap<T, VCR>,
 >(
@@ -123,8 +110,10 @@ pub fn join_of<
     right: R,
     kind: JoinKind,
 ) -> Result<CanonMapIter<T, (Option<VCL>, Option<VCR>)>, AllocError>
-    ensures { IfOk result (λ segments. IsJoinOf VCL.Value.eq VCR.Value.eq T.low T.high kind
-        (L.left left) (R.left right) segments) }
+    requires left { ClonesAreAlike VCL.is_carried VCL.Value.eq }
+    requires right { ClonesAreAlike VCR.is_carried VCR.Value.eq }
+    ensures { IfOk result (λ segments. IsCarriedJoin VCL.is_carried VCR.is_carried VCL.Value.eq
+        VCR.Value.eq T.low T.high kind (L.left left) (R.left right) segments) }
 {
     let mut out = Vec::new(alloc);
     let mut left = Cursor::new(left);

@@ -4,4 +4,5 @@ pub mod into_range_values;
 pub mod key_ranges;
 pub mod owned_range_values;
 pub mod range_values;
+pub mod seeking_range_values;
 pub mod set_ranges;

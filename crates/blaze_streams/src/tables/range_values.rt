@@ -103,6 +103,8 @@ impl<'a, T: Integer, V: Eq + Clone> SortedDisjointMap<T, &'a V> for RangeValuesI
         self.size_hint().0
     }
 
+    fn seek(&mut self, _key: T) {}
+
     ghost ready = { λ _. tt };
 
     ghost counted = { λ _. refl };

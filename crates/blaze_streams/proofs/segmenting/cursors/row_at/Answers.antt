@@ -3,7 +3,7 @@ use Rattle.blaze_table.specs.Entries.{at}
 use Rattle.blaze_table.proofs.Pairs.Indexed.{from_index}
 use Rattle.blaze_streams.specs.Cursors.{AllReach}
 use Rattle.blaze_streams.specs.Segments.{row}
-use Rattle.blaze_streams.proofs.Rows.{shown_itself}
+use Rattle.blaze_streams.proofs.Rows.{shown_copied}
 use Rattle.blaze_streams.proofs.segmenting.cursors.row_at.Goals as goal
 
 pub loop-list-preserved : goal.loop-list-preserved
@@ -14,10 +14,10 @@ loop-list-preserved g c =
     let found = c.loop-list.found.items in
     let rest = row (drop (i + 1) all) key in
     let there = from_index all i c.list-item.result c.loop-list-test.true c.list-item.is in
-    let same : c.here.result ≡ at c.list-item.result key = sym (shown_itself c.here.result) ∙ c.here.ensures in
+    let same : c.copied.result ≡ at c.list-item.result key = c.copied.ensures ∙ sym (shown_copied c.here.result) ∙ c.here.ensures in
     record {
       found = ap (λ xs. xs ++ rest) c.in_ok-push.ensures.items
-          ∙ append_assoc found (c.here.result ∷ []) rest
+          ∙ append_assoc found (c.copied.result ∷ []) rest
           ∙ ap (λ o. found ++ o ∷ rest) same
           ∙ sym (ap (λ l. found ++ row l key) there)
           ∙ c.loop-list.invariant.found;

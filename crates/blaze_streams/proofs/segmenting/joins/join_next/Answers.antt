@@ -1,0 +1,52 @@
+use Rattle.std.proofs.Common.{◌∙◌, ◌++◌, ◌∷◌, [], Option, Some, None, sym, ap, append-nil}
+use Rattle.std.proofs.lemmas.List.{map-append}
+use Rattle.blaze_table.specs.Entries.{at, entry}
+use Rattle.blaze_streams.specs.Carried.{shown_option, shown_pair}
+use Rattle.blaze_streams.specs.Joins.{is_joined}
+use Rattle.blaze_streams.specs.Ranges.{shown_range}
+use Rattle.blaze_streams.specs.RangeLists.{shown_ranges}
+use Rattle.blaze_streams.proofs.CarriedJoins.{joined_as_shown, given_there, none_given}
+use Rattle.blaze_streams.proofs.segmenting.joins.join_next.Goals as goal
+
+pub returns-in_ok-push : goal.returns-in_ok-push
+returns-in_ok-push g c =
+    let rank = g.T.Integer.rank in
+    let left = g.VCL.ValueCarrier.shown in
+    let right = g.VCR.ValueCarrier.shown in
+    let t = rank c.steady_end-end.result in
+    let given : Option g.row.VCL-Value.Denot × Option g.row.VCR-Value.Denot = (shown_option left c.in_ok-give.field-0, shown_option right c.in_ok-give-2.field-0) in
+    let old = shown_ranges rank (shown_pair left right) c.args.out.now.items in
+    record {
+      end = t;
+      from = c.in_hand.ensures.from;
+      to = c.in_hand-2.ensures.to;
+      ends = c.steady_end-end.ensures.ends;
+      left_is = c.give.ensures.rest;
+      right_is = c.give-then-is_joined.ensures.rest;
+      given = Some given;
+      carried = given_there g.VCL.ValueCarrier.is_carried g.VCR.ValueCarrier.is_carried (is_joined c.args.kind (at c.args.left.now t) (at c.args.right.now t)) (at c.args.left.now t, at c.args.right.now t) given
+          (sym (joined_as_shown (λ x. left x.now) (λ x. right x.now) c.args.kind _ _ _ _ c.here.ensures c.here-2.ensures) ∙ sym c.is_joined.ensures ∙ c.if-is_joined.true)
+          (c.in_ok-give.ensures.carried, c.in_ok-give-2.ensures.carried);
+      put = ap (shown_ranges rank (shown_pair left right)) c.in_ok-push.ensures.items
+          ∙ map-append (shown_range rank (shown_pair left right)) c.args.out.now.items _
+          ∙ ap (λ k. old ++ entry (rank k) (rank c.new.result.end) given ∷ []) c.new.ensures.start
+          ∙ ap (λ k. old ++ entry (rank c.args.start) (rank k) given ∷ []) c.new.ensures.end;
+    }
+
+pub returns-else-is_joined : goal.returns-else-is_joined
+returns-else-is_joined g c =
+    let t = g.T.Integer.rank c.steady_end-end.result in
+    let left = g.VCL.ValueCarrier.shown in
+    let right = g.VCR.ValueCarrier.shown in
+    record {
+      end = t;
+      from = c.in_hand.ensures.from;
+      to = c.in_hand-2.ensures.to;
+      ends = c.steady_end-end.ensures.ends;
+      left_is = c.advance_in_first.ensures;
+      right_is = c.advance_in_first-else-is_joined.ensures;
+      given = None;
+      carried = none_given g.VCL.ValueCarrier.is_carried g.VCR.ValueCarrier.is_carried (is_joined c.args.kind (at c.args.left.now t) (at c.args.right.now t)) (at c.args.left.now t, at c.args.right.now t)
+          (sym (joined_as_shown (λ x. left x.now) (λ x. right x.now) c.args.kind _ _ _ _ c.here.ensures c.here-2.ensures) ∙ sym c.is_joined.ensures ∙ c.if-is_joined.false);
+      put = sym (append-nil _);
+    }

@@ -1,0 +1,39 @@
+use Rattle.std.proofs.Common.{sym, ap, subst}
+use Rattle.blaze_streams.specs.Answers.{EachValue, IsTransformed}
+use Rattle.blaze_streams.specs.Ranges.{shown_range}
+use Rattle.blaze_streams.proofs.Answering.{asked, answered_none, takes_next, answered_more, answered_all, each_next}
+use Rattle.blaze_streams.proofs.transforms.answers_of.Goals as goal
+
+pub loop-item-init : goal.loop-item-init
+loop-item-init g c =
+    rw (c.new-out.ensures.items, c.into_iter-item-iterator.ensures.into_iter_gives)
+    (answered_none g.C.Asks.shows g.C.Asks.calls g.VC.Value.PartialEq.eq g.W.PartialEq.eq g.T.Integer.low g.T.Integer.high c.args.f _ g.met.VC.Value.Eq.laws c.in_hand.ensures)
+
+pub ask-answer-requires-clause-has : goal.ask-answer-requires-clause-has
+ask-answer-requires-clause-has g c =
+    each_next g.C.Asks.has_arguments (asked c.loop-item.invariant.calls) _ _ (shown_range g.T.Integer.rank g.VC.ValueCarrier.shown c.in-Some.item)
+    (subst (EachValue g.C.Asks.has_arguments) c.loop-item.invariant.whole c.requires.have) (g.met.S.SortedDisjointMap.gives _ _ _ c.in-Some.ensures.steps)
+
+pub ask-answer-requires-clause-callable : goal.ask-answer-requires-clause-callable
+ask-answer-requires-clause-callable g c =
+    takes_next g.C.Asks.shows g.C.Asks.calls g.VC.Value.PartialEq.eq g.W.PartialEq.eq g.T.Integer.low g.T.Integer.high c.args.f _ c.requires.callable _ _
+    (shown_range g.T.Integer.rank g.VC.ValueCarrier.shown c.in-Some.item) c.loop-item.f _ c.loop-item.invariant
+    (g.met.S.SortedDisjointMap.gives _ _ _ c.in-Some.ensures.steps)
+
+pub loop-item-preserved : goal.loop-item-preserved
+loop-item-preserved g c =
+    answered_more g.C.Asks.shows g.C.Asks.calls g.VC.Value.PartialEq.eq g.W.PartialEq.eq g.T.Integer.low g.T.Integer.high c.args.f _ g.met.W.Eq.laws _ _
+    (shown_range g.T.Integer.rank g.VC.ValueCarrier.shown c.in-Some.item) c.loop-item.f _ _ _ c.ask-answer.result _ _ c.loop-item.invariant
+    (g.met.S.SortedDisjointMap.gives _ _ _ c.in-Some.ensures.steps) c.ask-answer.ensures
+    (ap g.T.Integer.rank c.into_inner-start.ensures.start) (ap g.T.Integer.rank c.into_inner-start.ensures.end) c.in_ok-push_joined.ensures.ok
+
+pub new-requires : goal.new-requires
+new-requires g c =
+    (answered_all g.C.Asks.shows g.C.Asks.calls g.VC.Value.PartialEq.eq g.W.PartialEq.eq g.T.Integer.low g.T.Integer.high c.args.f _ g.met.W.Eq.laws _ _ _ c.loop-item.invariant
+    (g.met.S.SortedDisjointMap.gives _ _ _ c.in-None.ensures.steps).0).range_map
+
+pub returns : goal.returns
+returns g c =
+    subst (IsTransformed g.C.Asks.shows g.C.Asks.calls g.W.PartialEq.eq g.T.Integer.low g.T.Integer.high c.args.f (g.S.SortedDisjointMap.left c.args.stream)) (sym c.new.ensures)
+    (answered_all g.C.Asks.shows g.C.Asks.calls g.VC.Value.PartialEq.eq g.W.PartialEq.eq g.T.Integer.low g.T.Integer.high c.args.f _ g.met.W.Eq.laws _ _ _ c.loop-item.invariant
+    (g.met.S.SortedDisjointMap.gives _ _ _ c.in-None.ensures.steps).0)

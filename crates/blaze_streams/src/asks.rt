@@ -1,0 +1,139 @@
+//! How a closure is asked at a carrier: which arguments it gets.
+ghost use Rattle.std.specs.Prelude.{◌≡◌, true, ⊤};
+ghost use Rattle.std.specs.Fn.{Mut};
+ghost use Rattle.blaze_streams.specs.Answers.{TakesValue, AnswersAt};
+ghost use Rattle.blaze_streams.specs.Carried.{shown_pair};
+ghost use Rattle.blaze_streams.specs.JoinAnswers.{either, with_left, both};
+ghost use Rattle.blaze_streams.specs.Joins.{is_joined};
+ghost use Rattle.blaze_streams.specs.declared.segmenting.joins.JoinKind.TheVariants.{Inner, Left};
+ghost use Rattle.blaze_streams.specs.declared.segmenting.joins.JoinKind.TheVariants.{Full};
+
+use crate::carrier::ValueCarrier;
+
+/// Asks closures at carriers.
+pub trait Asks<F, VC: ValueCarrier, W> {
+    /// The arguments of a call.
+    type Arguments;
+
+    // The value that the arguments stand for.
+    ghost shows: { Self.Arguments → VC.Value };
+
+    // The calls of the closure.
+    ghost calls: { Mut F Self.Arguments W };
+
+    // There are arguments that stand for the value.
+    ghost has_arguments: { VC.Value → Type 0 };
+
+    /// What the closure answers at the carrier, by one call.
+    fn ask(f: &mut F, carrier: VC) -> W
+        requires has { has_arguments (VC.shown carrier) }
+        requires callable { TakesValue shows calls f.old (VC.shown carrier) }
+        ensures { AnswersAt shows calls f.old (VC.shown carrier) result f.new };
+}
+
+/// The closure gets the carrier.
+pub struct Whole;
+
+impl<VC: ValueCarrier, W, F: FnMut(VC) -> W> Asks<F, VC, W> for Whole {
+    type Arguments = (VC, ());
+
+    ghost shows = { λ a. VC.shown a.0 };
+
+    ghost calls = { F.FnMut };
+
+    ghost has_arguments = { λ _. ⊤ };
+
+    fn ask(f: &mut F, carrier: VC) -> W
+        requires callable { TakesValue (λ a. VC.shown a.0) F.FnMut f.old (VC.shown carrier) }
+        ensures { AnswersAt (λ a. VC.shown a.0) F.FnMut f.old (VC.shown carrier) result f.new }
+    {
+        f(carrier)
+    }
+}
+
+/// The closure gets what two streams have, at a segment of a full join.
+pub struct Either;
+
+impl<VCL: ValueCarrier, VCR: ValueCarrier, W, F: FnMut(Option<VCL>, Option<VCR>) -> W> Asks<
+    F,
+    (Option<VCL>, Option<VCR>),
+    W,
+> for Either {
+    type Arguments = (Option<VCL>, (Option<VCR>, ()));
+
+    ghost shows = { either VCL.shown VCR.shown };
+
+    ghost calls = { F.FnMut };
+
+    ghost has_arguments = { λ p. is_joined Full p.0 p.1 ≡ true };
+
+    fn ask(f: &mut F, carrier: (Option<VCL>, Option<VCR>)) -> W
+        requires callable { TakesValue (either VCL.shown VCR.shown) F.FnMut f.old
+            (shown_pair VCL.shown VCR.shown carrier) }
+        ensures { AnswersAt (either VCL.shown VCR.shown) F.FnMut f.old
+            (shown_pair VCL.shown VCR.shown carrier) result f.new }
+    {
+        f(carrier.0, carrier.1)
+    }
+}
+
+/// The closure gets the left stream's carrier, and what the right one has, at a segment of a left join.
+pub struct WithLeft;
+
+impl<VCL: ValueCarrier, VCR: ValueCarrier, W, F: FnMut(VCL, Option<VCR>) -> W> Asks<
+    F,
+    (Option<VCL>, Option<VCR>),
+    W,
+> for WithLeft {
+    type Arguments = (VCL, (Option<VCR>, ()));
+
+    ghost shows = { with_left VCL.shown VCR.shown };
+
+    ghost calls = { F.FnMut };
+
+    ghost has_arguments = { λ p. is_joined Left p.0 p.1 ≡ true };
+
+    fn ask(f: &mut F, carrier: (Option<VCL>, Option<VCR>)) -> W
+        requires has { let pair = shown_pair VCL.shown VCR.shown carrier in is_joined Left pair.0
+            pair.1 ≡ true }
+        requires callable { TakesValue (with_left VCL.shown VCR.shown) F.FnMut f.old
+            (shown_pair VCL.shown VCR.shown carrier) }
+        ensures { AnswersAt (with_left VCL.shown VCR.shown) F.FnMut f.old
+            (shown_pair VCL.shown VCR.shown carrier) result f.new }
+    {
+        let (left, right) = carrier;
+        let Some(left) = left else { unreachable!() };
+        f(left, right)
+    }
+}
+
+/// The closure gets the carriers of both streams, at a segment of an inner join.
+pub struct Both;
+
+impl<VCL: ValueCarrier, VCR: ValueCarrier, W, F: FnMut(VCL, VCR) -> W> Asks<
+    F,
+    (Option<VCL>, Option<VCR>),
+    W,
+> for Both {
+    type Arguments = (VCL, (VCR, ()));
+
+    ghost shows = { both VCL.shown VCR.shown };
+
+    ghost calls = { F.FnMut };
+
+    ghost has_arguments = { λ p. is_joined Inner p.0 p.1 ≡ true };
+
+    fn ask(f: &mut F, carrier: (Option<VCL>, Option<VCR>)) -> W
+        requires has { let pair = shown_pair VCL.shown VCR.shown carrier in is_joined Inner pair.0
+            pair.1 ≡ true }
+        requires callable { TakesValue (both VCL.shown VCR.shown) F.FnMut f.old
+            (shown_pair VCL.shown VCR.shown carrier) }
+        ensures { AnswersAt (both VCL.shown VCR.shown) F.FnMut f.old
+            (shown_pair VCL.shown VCR.shown carrier) result f.new }
+    {
+        let (left, right) = carrier;
+        let Some(left) = left else { unreachable!() };
+        let Some(right) = right else { unreachable!() };
+        f(left, right)
+    }
+}

@@ -1,0 +1,94 @@
+//! A table's entries as ranges with their values, in which a key is found by a search.
+ghost use Rattle.std.specs.Prelude.{◌≡◌, refl};
+ghost use Rattle.std.specs.Iterator.{YieldsFirstBy, item_count};
+ghost use Rattle.blaze_streams.specs.Ranges.{shown_range};
+
+use crate::carrier::ValueCarrier;
+use crate::sorted_disjoint_map::SortedDisjointMap;
+use blaze_int::Integer;
+use blaze_int::compare::greater;
+use blaze_table::{Range, RangeTable};
+use std::iter::FusedIterator;
+use std::marker::Model;
+use std::ops::RangeInclusive;
+
+/// The entries of a table that is lent, ascending: each range with its value. It seeks by a search of the table.
+#[derive(Drop)]
+pub struct SeekingRangeValuesIter<'a, T: Integer, V: Eq> {
+    entries: Range<'a, T, V>,
+    table: &'a RangeTable<T, V>,
+}
+
+impl<'a, T: Integer, V: Eq> Model for SeekingRangeValuesIter<'a, T, V> {
+    ghost use Rattle.std.specs.Prelude.{List};
+    ghost use Rattle.std.specs.Coded.{coded_list};
+    ghost use Rattle.blaze_table.specs.Entries.{Entry, entry_code};
+    ghost use Rattle.blaze_streams.specs.LastParts.{IsLastPart};
+
+    ghost Value = { List (Entry V) };
+
+    ghost coded = { coded_list (entry_code V.code) };
+
+    ghost view = { λ s. s.entries };
+
+    ghost invariant = { λ s. IsLastPart s.table.now.entries s.entries };
+}
+
+impl<'a, T: Integer, V: Eq> SeekingRangeValuesIter<'a, T, V> {
+    /// The table's entries.
+    pub fn new(table: &'a RangeTable<T, V>) -> Self
+        ensures { result ≡ table.now.entries }
+    {
+        table.in_hand();
+        SeekingRangeValuesIter {
+            entries: table.iter_from(T::min_value()),
+            table,
+        }
+    }
+}
+
+impl<'a, T: Integer, V: Eq> Iterator for SeekingRangeValuesIter<'a, T, V> {
+    type Item = (RangeInclusive<T>, &'a V);
+
+    ghost next_gives = { YieldsFirstBy (shown_range T.rank (λ v. v.now)) (λ s. s) };
+
+    ghost remaining = { item_count (λ s. s) };
+
+    fn next(&mut self) -> Option<(RangeInclusive<T>, &'a V)> {
+        let (start, end, value) = self.entries.next()?;
+        Some((start..=end, value))
+    }
+}
+
+impl<'a, T: Integer, V: Eq> FusedIterator for SeekingRangeValuesIter<'a, T, V> {}
+
+impl<'a, T: Integer, V: Eq + Clone> SortedDisjointMap<T, &'a V>
+    for SeekingRangeValuesIter<'a, T, V> {
+    ghost left = { λ s. s };
+
+    ghost least = { λ _. 0 };
+
+    fn in_hand(&self) {
+        let table = self.table;
+        table.in_hand();
+    }
+
+    fn least_len(&self) -> usize {
+        0
+    }
+
+    /// By a search, which finds the next entry where it does not end below the key.
+    fn seek(&mut self, key: T) {
+        let table = self.table;
+        table.in_hand();
+        if let Some(found) = self.entries.next() {
+            self.entries = table.iter_from(greater(found.0, key));
+        }
+    }
+
+    ghost ready = { λ _. tt };
+
+    ghost counted = { λ _. refl };
+
+    ghost gives = { λ _ _ _ given. given };
+}
