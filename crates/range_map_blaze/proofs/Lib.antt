@@ -10,3 +10,4 @@ pub mod Unions
 pub mod LentValues
 pub mod AllKeys
 pub mod JoinedKeys
+pub mod GapsWithin

@@ -4,9 +4,6 @@ pub mod Insides
 pub mod LeftAlone
 pub mod Paintings
 pub mod Joinings
-pub mod Gaps
 pub mod FilledFrom
 pub mod Following
-pub mod OnRanges
 pub mod CutRanges
-pub mod KeptValues

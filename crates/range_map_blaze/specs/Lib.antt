@@ -28,7 +28,6 @@ pub mod Printed
 pub mod OneRange
 pub mod Somewhere
 pub mod Within
-pub mod Kept
 pub mod Made
 pub mod Extended
 pub mod Collected

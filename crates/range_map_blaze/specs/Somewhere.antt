@@ -3,7 +3,10 @@ use Rattle.std.specs.Prelude.{◌≡◌, ◌⊎◌, ℤ, Bool, List, []}
 use Rattle.blaze_table.specs.Entries.{Entry, entry}
 use Rattle.blaze_table.specs.Painted.{IsPainted}
 use Rattle.blaze_table.specs.Filled.{IsFilled}
-use Rattle.blaze_table.specs.Chosen.{left_with_right, IsChosen}
+use Rattle.blaze_table.specs.Chosen.{left_with_right, left_alone, IsChosen}
+use Rattle.blaze_table.specs.Cut.{IsRangeCut}
+use Rattle.blaze_table.specs.Ending.{overlapping}
+use Rattle.blaze_table.specs.RangeSets.{unit_eq}
 use Rattle.range_map_blaze.specs.OneRange.{one_range}
 
 -- the value is painted on some range of keys, or nothing is changed
@@ -17,3 +20,15 @@ IsFilledSomewhere eq low high v old new = (new ≡ old) ⊎ ((l : ℤ) × (h : �
 -- the entries are those of the list on some range of keys, or there are none
 abbrev pub IsTakenSomewhere : {V : Type 0} → (V → V → Bool) → ℤ → ℤ → List (Entry V) → List (Entry V) → Type 0
 IsTakenSomewhere eq low high old new = (new ≡ []) ⊎ ((l : ℤ) × (h : ℤ) × IsChosen eq low high left_with_right old (one_range l h) new)
+
+-- the keys of some range are taken out, or nothing is changed
+abbrev pub IsCutSomewhere : {V : Type 0} → (V → V → Bool) → ℤ → ℤ → List (Entry V) → List (Entry V) → Type 0
+IsCutSomewhere eq low high old new = (new ≡ old) ⊎ ((l : ℤ) × (h : ℤ) × IsRangeCut eq low high l h old new)
+
+-- the entries share a key with some range, or there are none
+abbrev pub IsOverlappingSomewhere : {V : Type 0} → List (Entry V) → List (Entry V) → Type 0
+IsOverlappingSomewhere old new = (new ≡ []) ⊎ ((l : ℤ) × (h : ℤ) × (new ≡ overlapping l h old))
+
+-- the ranges are the keys of some range that no entry has, or there are none
+abbrev pub AreGapsSomewhere : {V : Type 0} → ℤ → ℤ → List (Entry V) → List (Entry (Unit {0})) → Type 0
+AreGapsSomewhere low high old new = (new ≡ []) ⊎ ((l : ℤ) × (h : ℤ) × IsChosen unit_eq low high left_alone (one_range l h) old new)

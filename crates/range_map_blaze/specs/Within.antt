@@ -1,8 +1,24 @@
--- The entries on the keys of a range: the words of this crate's own functions. No public clause names them.
-use Rattle.std.specs.Prelude.{ℤ, pos, ◌+ℤ◌, ◌-ℤ◌, List}
+-- The entries on the keys of a range, and the gaps there: the words of this crate's own functions. No public clause names them.
+use Rattle.std.specs.Prelude.{ℤ, pos, ◌+ℤ◌, ◌-ℤ◌, int_lt, if◌then◌else◌, List, [], ◌∷◌, ◌++◌, Option, Some, None}
+use Rattle.blaze_streams.specs.Gaps.{gap_before}
 use Rattle.blaze_table.specs.Entries.{Entry}
 use Rattle.blaze_table.specs.Splice.{before, after}
 
 -- the entries on the keys from l up to h: what lies above the key before l and below the key after h
 abbrev pub within : {V : Type 0} → ℤ → ℤ → List (Entry V) → List (Entry V)
 within l h es = before (h +ℤ pos 1) (after (l -ℤ pos 1) es)
+
+-- a list that is there, or none
+abbrev pub all_or_none : {X : Type 0} → Option (List X) → List X
+all_or_none None = []
+all_or_none (Some xs) = xs
+
+-- the keys from l up to h that no entry has, as ranges: the entries share a key with that range
+abbrev pub gaps_within : {V : Type 0} → ℤ → ℤ → List (Entry V) → List (Entry (Unit {0}))
+gaps_within l h [] = gap_before l (h +ℤ pos 1)
+gaps_within l h (e ∷ es) = gap_before l e.lo ++ (if int_lt e.hi h then gaps_within (e.hi +ℤ pos 1) h es else [])
+
+-- the same, from the first key that was not gone through up to the last of a range, or of nothing where no key is left
+abbrev pub gaps_left : {T V : Type 0} → (T → ℤ) → Option (T × T) → List (Entry V) → List (Entry (Unit {0}))
+gaps_left rank None es = []
+gaps_left rank (Some p) es = gaps_within (rank p.0) (rank p.1) es

@@ -1,8 +1,9 @@
 //! Joins of two maps, and a map with other values: what a closure answers, once for each segment or entry.
-ghost use Rattle.std.specs.Prelude.{◌≡◌, IfOk};
+ghost use Rattle.std.specs.Prelude.{◌≡◌, true, IfOk};
 ghost use Rattle.blaze_streams.specs.Answers.{values, IsCallableAtEach, IsTransformed};
 ghost use Rattle.blaze_streams.specs.JoinAnswers.{either, both, with_left, IsCallableAtSegments};
 ghost use Rattle.blaze_streams.specs.JoinAnswers.{IsJoined};
+ghost use Rattle.blaze_streams.specs.Joins.{is_joined};
 ghost use Rattle.blaze_streams.specs.declared.segmenting.joins.JoinKind.TheVariants.{Inner, Left, Full};
 ghost use Rattle.blaze_table.specs.Counted.{uncounted};
 ghost use Rattle.range_map_blaze.specs.Made.{IsMade};
@@ -10,8 +11,8 @@ ghost use Rattle.range_map_blaze.specs.Made.{IsMade};
 use crate::map::RangeMapBlaze;
 use blaze_int::Integer;
 use blaze_streams::{
-    CanonMapIter, JoinKind, Owned, RangeValuesIter, SortedDisjointMap, answer_both, answer_either,
-    answer_left, join_of, transform,
+    Asks, Both, CanonMapIter, Either, JoinKind, Owned, RangeValuesIter, SortedDisjointMap,
+    WithLeft, answers_of, join_of, transform,
 };
 use blaze_table::RangeTable;
 use std::alloc::{AllocError, Global};
@@ -47,79 +48,32 @@ fn transformed<T: Integer, V: Eq + Clone, W: Eq + Clone, F: FnMut(&V) -> W>(
     transform(alloc, RangeValuesIter::new(table), f)
 }
 
-/// A closure's answers where both tables have a value, as a stream.
-fn inner_joined<T: Integer, V: Eq + Clone, V2: Eq + Clone, W: Eq + Clone, F: FnMut(&V, &V2) -> W>(
-    alloc: Global,
-    table: &RangeTable<T, V>,
-    other: &RangeTable<T, V2>,
-    f: F,
-) -> Result<CanonMapIter<T, Owned<W>>, AllocError>
-    requires { IsCallableAtSegments (both (λ v. v.now) (λ v. v.now)) F.FnMut V.eq V2.eq T.low T.high
-        Inner f table.now.entries other.now.entries }
-    ensures { IfOk result (λ new. IsJoined (both (λ v. v.now) (λ v. v.now)) F.FnMut V.eq V2.eq T.low
-        T.high Inner W.eq f table.now.entries other.now.entries new) }
-{
-    let segments = join_of(
-        alloc,
-        RangeValuesIter::new(table),
-        RangeValuesIter::new(other),
-        JoinKind::Inner,
-    )?;
-    answer_both(alloc, segments, f)
-}
-
-/// A closure's answers where the first table has a value, as a stream.
-fn left_joined<
+/// A closure's answers at the segments of two tables that a join is asked for, with the arguments that `C` gives it, as a stream.
+fn joined<
+    'a,
     T: Integer,
     V: Eq + Clone,
     V2: Eq + Clone,
     W: Eq + Clone,
-    F: FnMut(&V, Option<&V2>) -> W,
+    F: Drop,
+    C: Asks<F, (Option<&'a V>, Option<&'a V2>), W>,
 >(
     alloc: Global,
-    table: &RangeTable<T, V>,
-    other: &RangeTable<T, V2>,
+    table: &'a RangeTable<T, V>,
+    other: &'a RangeTable<T, V2>,
+    kind: JoinKind,
     f: F,
 ) -> Result<CanonMapIter<T, Owned<W>>, AllocError>
-    requires { IsCallableAtSegments (with_left (λ v. v.now) (λ v. v.now)) F.FnMut V.eq V2.eq T.low
-        T.high Left f table.now.entries other.now.entries }
-    ensures { IfOk result (λ new. IsJoined (with_left (λ v. v.now) (λ v. v.now)) F.FnMut V.eq V2.eq
-        T.low T.high Left W.eq f table.now.entries other.now.entries new) }
+    requires have { (pair : _) → is_joined kind pair.0 pair.1 ≡ true → C.has_arguments pair }
+    requires callable { IsCallableAtSegments C.shows C.calls V.eq V2.eq T.low T.high kind f
+        table.now.entries other.now.entries }
+    ensures { IfOk result (λ new. IsJoined C.shows C.calls V.eq V2.eq T.low T.high kind W.eq f
+        table.now.entries other.now.entries new) }
 {
-    let segments = join_of(
-        alloc,
-        RangeValuesIter::new(table),
-        RangeValuesIter::new(other),
-        JoinKind::Left,
-    )?;
-    answer_left(alloc, segments, f)
-}
-
-/// A closure's answers where at least one table has a value, as a stream.
-fn full_joined<
-    T: Integer,
-    V: Eq + Clone,
-    V2: Eq + Clone,
-    W: Eq + Clone,
-    F: FnMut(Option<&V>, Option<&V2>) -> W,
->(
-    alloc: Global,
-    table: &RangeTable<T, V>,
-    other: &RangeTable<T, V2>,
-    f: F,
-) -> Result<CanonMapIter<T, Owned<W>>, AllocError>
-    requires { IsCallableAtSegments (either (λ v. v.now) (λ v. v.now)) F.FnMut V.eq V2.eq T.low
-        T.high Full f table.now.entries other.now.entries }
-    ensures { IfOk result (λ new. IsJoined (either (λ v. v.now) (λ v. v.now)) F.FnMut V.eq V2.eq
-        T.low T.high Full W.eq f table.now.entries other.now.entries new) }
-{
-    let segments = join_of(
-        alloc,
-        RangeValuesIter::new(table),
-        RangeValuesIter::new(other),
-        JoinKind::Full,
-    )?;
-    answer_either(alloc, segments, f)
+    let (left, right) = (RangeValuesIter::new(table), RangeValuesIter::new(other));
+    let segments = join_of(alloc, left, right, kind)?;
+    let answers = answers_of::<_, _, _, W, F, C>(alloc, segments, f)?;
+    Ok(answers)
 }
 
 impl<T: Integer, V: Eq + Clone> RangeMapBlaze<T, V> {
@@ -153,7 +107,13 @@ impl<T: Integer, V: Eq + Clone> RangeMapBlaze<T, V> {
             T.low T.high Inner W.eq f self.now.entries other.now.entries)) }
     {
         let alloc = self.allocator();
-        let stream = inner_joined(alloc, &self.table, &other.table, f)?;
+        let stream = joined::<T, V, V2, W, F, Both>(
+            alloc,
+            &self.table,
+            &other.table,
+            JoinKind::Inner,
+            f,
+        )?;
         let map = map_of(alloc, stream)?;
         Ok(map)
     }
@@ -171,7 +131,13 @@ impl<T: Integer, V: Eq + Clone> RangeMapBlaze<T, V> {
             V2.eq T.low T.high Left W.eq f self.now.entries other.now.entries)) }
     {
         let alloc = self.allocator();
-        let stream = left_joined(alloc, &self.table, &other.table, f)?;
+        let stream = joined::<T, V, V2, W, F, WithLeft>(
+            alloc,
+            &self.table,
+            &other.table,
+            JoinKind::Left,
+            f,
+        )?;
         let map = map_of(alloc, stream)?;
         Ok(map)
     }
@@ -188,7 +154,13 @@ impl<T: Integer, V: Eq + Clone> RangeMapBlaze<T, V> {
             T.low T.high Full W.eq f self.now.entries other.now.entries)) }
     {
         let alloc = self.allocator();
-        let stream = full_joined(alloc, &self.table, &other.table, f)?;
+        let stream = joined::<T, V, V2, W, F, Either>(
+            alloc,
+            &self.table,
+            &other.table,
+            JoinKind::Full,
+            f,
+        )?;
         let map = map_of(alloc, stream)?;
         Ok(map)
     }

@@ -3,6 +3,7 @@
 
 mod compare;
 mod display;
+mod gaps;
 mod gaps_filled;
 mod iter;
 mod joins;
@@ -11,6 +12,7 @@ mod lookup;
 mod make;
 mod map;
 mod operators;
+mod overlapping;
 mod paint;
 mod range;
 mod ranges;
@@ -26,13 +28,15 @@ pub use blaze_streams::{
     MultiwayInnerJoinMap, MultiwayIntersectionMap, MultiwaySweep, MultiwaySymmetricDifferenceMap,
     MultiwayUnionMap, NotSorted, Owned, OwnedRangeValuesIter, RangeValuesIter, Segment,
     SortedDisjoint, SortedDisjointMap, SweepEvent, ValueCarrier, canonical_of, complement, fill,
-    full_join_of, inner_join_of, intersect_with_ranges, intersection_of, join_of, left_join_of,
-    segments, subtract_ranges, sweep_of, symmetric_difference_of, transform, union_of,
+    intersect_with_ranges, intersection_of, join_of, segments, subtract_ranges, sweep_of,
+    symmetric_difference_of, transform, union_of,
 };
 pub use blaze_table::{IntoRangesIter, RangeSetBlaze, RangesIter};
 pub use compare::turns::Turns;
+pub use gaps::Gaps;
 pub use make::stream::IntoRangeMapBlaze;
 pub use map::RangeMapBlaze;
+pub use overlapping::Overlapping;
 
 // For `range_map_multi` alone, whose joins give such streams.
 #[doc(hidden)]

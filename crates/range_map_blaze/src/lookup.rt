@@ -1,18 +1,16 @@
 //! Look-ups by key.
 ghost use Rattle.std.specs.Prelude.{◌≡◌, ◌↔◌, Option, Some, None, MatchOption, IfSome};
-ghost use Rattle.std.specs.Prelude.{IsSome, IsTrue, option_map, [], ◌⊎◌, ◌≤ℤ◌, ◌+ℤ◌, pos};
+ghost use Rattle.std.specs.Prelude.{IsSome, IsTrue, option_map, []};
 ghost use Rattle.std.specs.Option.{option_copied};
 ghost use Rattle.std.specs.Range.{range_inclusive_start, range_inclusive_end};
 ghost use Rattle.blaze_streams.specs.Ranges.{shown_range};
 ghost use Rattle.blaze_table.specs.Entries.{entry, at, entry_at};
-ghost use Rattle.blaze_table.specs.Gap.{IsGap, IsClearFrom};
+ghost use Rattle.blaze_table.specs.Gap.{IsGap};
 ghost use Rattle.blaze_table.specs.Whole.{IsWhole};
 ghost use Rattle.range_map_blaze.specs.Pairs.{IsFirstPair, IsLastPair};
 
 use crate::map::RangeMapBlaze;
 use blaze_int::Integer;
-use blaze_int::compare::{before, is_at_most};
-use blaze_table::RangeTable;
 use std::ops::{Index, RangeInclusive};
 
 impl<T: Integer, V: Eq> RangeMapBlaze<T, V> {
@@ -115,28 +113,5 @@ impl<T: Integer, V: Eq> Index<T> for RangeMapBlaze<T, V> {
 
     fn index(&self, key: T) -> &V {
         self.get(key).unwrap()
-    }
-}
-
-/// The last key, up to the end, of the gap of a table that starts at a key without a value.
-pub(crate) fn gap_last<T: Integer, V: Eq>(table: &RangeTable<T, V>, key: T, end: T) -> T
-    requires order { T.rank key ≤ℤ T.rank end }
-    requires unmapped { at table.now.entries (T.rank key) ≡ None }
-    ensures from { T.rank key ≤ℤ T.rank result }
-    ensures to { T.rank result ≤ℤ T.rank end }
-    ensures clear { IsClearFrom (at table.now.entries) (T.rank key) (T.rank result) }
-    ensures greatest { (T.rank result
-        ≡ T.rank end) ⊎ IsSome (at table.now.entries (T.rank result +ℤ pos 1)) }
-{
-    table.in_hand();
-    match table.next_above(key) {
-        Some(found) => {
-            if is_at_most(found.0, end) {
-                before(found.0, key)
-            } else {
-                end
-            }
-        }
-        None => end,
     }
 }

@@ -10,7 +10,7 @@ ghost use Rattle.range_map_blaze.specs.Made.{IsMade};
 
 use blaze_int::compare::length;
 use blaze_int::{Integer, differ};
-use blaze_streams::RangeValuesIter;
+use blaze_streams::{RangeValuesIter, SeekingRangeValuesIter};
 use blaze_table::RangeTable;
 use blaze_table::laws::canonical_is_shortest;
 use std::alloc::{AllocError, Global};
@@ -99,6 +99,14 @@ impl<T: Integer, V: Eq> RangeMapBlaze<T, V> {
         ensures { result ≡ self.now.entries }
     {
         RangeValuesIter::new(&self.table)
+    }
+
+    /// The entries, ascending, as a stream that seeks.
+    #[doc(hidden)]
+    pub fn seeking_range_values(&self) -> SeekingRangeValuesIter<'_, T, V>
+        ensures { result ≡ self.now.entries }
+    {
+        SeekingRangeValuesIter::new(&self.table)
     }
 
     // The same entries, of which nothing is counted yet: a call that makes a map out of one that it was given ends with it.

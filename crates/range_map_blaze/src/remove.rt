@@ -1,15 +1,18 @@
 //! Keys taken out.
-ghost use Rattle.std.specs.Prelude.{◌≡◌, ℤ, [], None, Ok, MatchOption, IfOk, OnOk, OnErr};
+ghost use Rattle.std.specs.Prelude.{◌≡◌, ◌<ℤ◌, ℤ, [], None, Ok, MatchOption, IfOk, OnOk, OnErr};
+ghost use Rattle.blaze_int.specs.Bounds.{start_rank, end_rank};
 ghost use Rattle.blaze_table.specs.Entries.{at, SameOption};
 ghost use Rattle.blaze_table.specs.Counted.{uncounted};
 ghost use Rattle.blaze_table.specs.Work.{IsCountedCut};
-ghost use Rattle.blaze_table.specs.Cut.{IsCut, IsSplit, IsAmongOthers};
+ghost use Rattle.blaze_table.specs.Cut.{IsCut, IsRangeCut, IsSplit, IsAmongOthers, GoesOnAbove};
 ghost use Rattle.blaze_table.specs.Painted.{ClonesAreAlike};
 ghost use Rattle.range_map_blaze.specs.Pairs.{IsFirstPair, IsLastPair, PopsFirst, PopsLast};
+ghost use Rattle.range_map_blaze.specs.Somewhere.{IsCutSomewhere};
 
 use crate::map::RangeMapBlaze;
-use blaze_int::Integer;
+use blaze_int::{Integer, bounds_of};
 use std::alloc::AllocError;
+use std::ops::RangeBounds;
 
 impl<T: Integer, V: Eq + Clone> RangeMapBlaze<T, V> {
     /// Takes a key out, and answers the value that was there. Refused memory leaves the map unchanged. No memory is taken
@@ -27,6 +30,32 @@ impl<T: Integer, V: Eq + Clone> RangeMapBlaze<T, V> {
         ensures err { OnErr result (self.new.entries ≡ self.old.entries) }
     {
         self.table.cut_key(key)
+    }
+
+    /// Takes the keys of a range out. Bounds that name no key take nothing out and take no memory. Refused memory leaves the map
+    /// unchanged. Memory is taken only where an entry with keys of the range goes on above it. It takes two searches, and one for
+    /// each entry that goes.
+    pub fn ranges_remove<R: RangeBounds<T> + Drop>(&mut self, range: R) -> Result<(), AllocError>
+        requires { ClonesAreAlike V.is_clone V.eq }
+        ensures ok { R.has_bounds range → OnOk result (IsRangeCut V.eq T.low T.high
+            (start_rank T.rank T.low (R.start_bound range))
+            (end_rank T.rank T.high (R.end_bound range)) self.old.entries self.new.entries) }
+        ensures somewhere { OnOk result (IsCutSomewhere V.eq T.low T.high self.old.entries
+            self.new.entries) }
+        ensures none { R.has_bounds range
+            → end_rank T.rank T.high (R.end_bound range) <ℤ start_rank T.rank T.low
+            (R.start_bound range)
+            → (result ≡ Ok tt) × (self.new ≡ self.old) }
+        ensures refused { R.has_bounds range → OnErr result
+            (GoesOnAbove (end_rank T.rank T.high (R.end_bound range)) self.old.entries) }
+        ensures counted { OnOk result (IsCountedCut self.old self.new) }
+        ensures err { OnErr result (self.new.entries ≡ self.old.entries) }
+    {
+        self.in_hand();
+        match bounds_of(&range) {
+            Some((start, end)) => self.table.cut_range(start, end),
+            None => Ok(()),
+        }
     }
 
     /// Takes the least key out, and answers it with the value that was there; `None` on the empty map. Refused memory leaves

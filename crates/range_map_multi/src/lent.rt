@@ -6,10 +6,9 @@ ghost use Rattle.blaze_table.specs.Painted.{ClonesAreAlike};
 ghost use Rattle.range_map_multi.specs.Many.{last_value, last_of_all, last_of_odd, IsChosenOfMany};
 ghost use Rattle.range_map_blaze.specs.Made.{IsMade};
 
-use crate::merges::{merged_intersection, merged_union};
-use crate::parity::merged_symmetric_difference;
+use crate::merges::{merged_intersection, merged_odd_keys, merged_union};
 use blaze_int::Integer;
-use blaze_streams::RangeValuesIter;
+use blaze_streams::{SeekingRangeValuesIter, intersection_of};
 use range_map_blaze::RangeMapBlaze;
 use std::alloc::{AllocError, Global};
 
@@ -63,17 +62,17 @@ impl<'a, T: Integer, V: Eq + Clone> AsMap<T, V> for &'a RangeMapBlaze<T, V> {
 // The entries of a map, as a stream.
 fn entries_of<'a, T: Integer, V: Eq + Clone, M: AsMap<T, V>>(
     map: &'a M,
-) -> RangeValuesIter<'a, T, V>
+) -> SeekingRangeValuesIter<'a, T, V>
     ensures { result ≡ M.shown map.now }
 {
-    map.lent().range_values()
+    map.lent().seeking_range_values()
 }
 
 /// The entries of each map, as streams.
 pub fn streams_of<'a, T: Integer, V: Eq + Clone, M: AsMap<T, V>>(
     alloc: Global,
     maps: &'a [M],
-) -> Result<Vec<RangeValuesIter<'a, T, V>>, AllocError>
+) -> Result<Vec<SeekingRangeValuesIter<'a, T, V>>, AllocError>
     ensures { IfOk result (λ streams. streams.items ≡ map M.shown maps.now) }
 {
     let mut streams = Vec::new(alloc);
@@ -120,8 +119,9 @@ pub fn lent_symmetric_difference<'a, T: Integer, V: Eq + Clone, M: AsMap<T, V>>(
     requires { ClonesAreAlike V.is_clone V.eq }
     ensures { IfOk result (IsMade (IsChosenOfMany V.eq T.low T.high last_of_odd (map M.shown maps.now))) }
 {
-    let streams = streams_of(alloc, maps)?;
-    let stream = merged_symmetric_difference(alloc, streams)?;
+    let union = merged_union(alloc, streams_of(alloc, maps)?)?;
+    let odd = merged_odd_keys(alloc, streams_of(alloc, maps)?)?;
+    let stream = intersection_of(alloc, union, odd)?;
     let new = RangeMapBlaze::from_sorted_disjoint_map(alloc, stream)?;
     Ok(new)
 }

@@ -11,6 +11,7 @@ mod parity;
 mod parts;
 mod row_answers;
 mod rows;
+mod sources;
 mod stream_joins;
 mod streams;
 

@@ -88,12 +88,14 @@ impl<T: Integer, VC: ValueCarrier, I: SortedDisjointMap<T, VC>> MultiwaySortedDi
 
     fn union(self, alloc: Global) -> Result<MultiwayUnionMap<T, VC>, AllocError> {
         let new = merged_union(alloc, self)?;
-        Ok(new)
+        let list = new.into_list(alloc)?;
+        Ok(list)
     }
 
     fn intersection(self, alloc: Global) -> Result<MultiwayIntersectionMap<T, VC>, AllocError> {
         let new = merged_intersection(alloc, self)?;
-        Ok(new)
+        let list = new.into_list(alloc)?;
+        Ok(list)
     }
 
     fn symmetric_difference(

@@ -110,7 +110,7 @@ module _ {V : Type 0} (eq : V → V → Bool) where
 
   module _ (laws : IsEquivalence eq) (low high l h : ℤ) (es : List (Entry V)) where
     -- what the entries have on the keys from l up to h
-    content_within : (k : ℤ) → IsCanonical eq es → IsCanonical eq (after (l -ℤ pos 1) es) → at (within l h es) k ≡ left_with_right (at es k) (at (one_range l h) k)
+    pub content_within : (k : ℤ) → IsCanonical eq es → IsCanonical eq (after (l -ℤ pos 1) es) → at (within l h es) k ≡ left_with_right (at es k) (at (one_range l h) k)
     content_within k c d =
         let one : Entry (Unit {0}) = entry l h tt in
         let above = after (l -ℤ pos 1) es in

@@ -8,6 +8,12 @@ use blaze_int::Integer;
 use blaze_streams::SortedDisjoint;
 use std::alloc::AllocError;
 
+/// Whether so few ranges take less time, each by a search or a paint in a map of `len` entries, than a pass over both: a search
+/// or a paint takes about as long as a pass over sixteen entries.
+pub fn are_few(few: usize, len: usize) -> bool {
+    few <= len / 16
+}
+
 /// The values of a map off the keys of ranges, with the map's own values. It takes a search or two for each range, and one for
 /// each entry that goes, however many entries stay. A value is cloned only where a range lies inside its entry.
 pub fn cut_ranges<T: Integer, V: Eq + Clone, S: SortedDisjoint<T>>(

@@ -10,7 +10,7 @@ use blaze_streams::{Choice, SortedDisjointMap, ValueCarrier, entries_chosen_of};
 use blaze_table::RangeTable;
 use std::alloc::AllocError;
 
-/// What is chosen from two streams.
+/// What is chosen from two streams. Room is asked for at first for so many entries.
 pub fn lent_chosen<
     'a,
     T: Integer,
@@ -24,13 +24,14 @@ pub fn lent_chosen<
     left: L,
     right: R,
     choice: &C,
+    room: usize,
 ) -> Result<RangeMapBlaze<T, V>, AllocError>
     requires { ClonesAreAlike V.is_clone V.eq }
     ensures { IfOk result (λ new. IsChosen V.eq T.low T.high C.choice (L.left left)
         (R.left right) new.entries) }
 {
     let alloc = lent.allocator();
-    let entries = entries_chosen_of(alloc, left, right, choice)?;
+    let entries = entries_chosen_of(alloc, room, left, right, choice)?;
     let table = RangeTable::from_canonical(alloc, entries)?;
     Ok(RangeMapBlaze { table })
 }

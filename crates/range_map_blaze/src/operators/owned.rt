@@ -12,21 +12,26 @@ use blaze_table::RangeTable;
 use std::alloc::AllocError;
 
 /// What is chosen from a map and a stream, with the map's own values: one is cloned only for a piece that leaves a rest of its
-/// range behind.
+/// range behind. Room is asked for at first for so many entries.
 pub fn owned_chosen<
     T: Integer,
     V: Eq + Clone,
     VCR: ValueCarrier,
     R: SortedDisjointMap<T, VCR>,
     C: Choice<Owned<V>, VCR>,
->(left: RangeMapBlaze<T, V>, right: R, choice: &C) -> Result<RangeMapBlaze<T, V>, AllocError>
+>(
+    left: RangeMapBlaze<T, V>,
+    right: R,
+    choice: &C,
+    room: usize,
+) -> Result<RangeMapBlaze<T, V>, AllocError>
     requires { ClonesAreAlike V.is_clone V.eq }
     ensures { IfOk result (λ new. IsChosen V.eq T.low T.high C.choice left.entries
         (R.left right) new.entries) }
 {
     let alloc = left.allocator();
     let left = OwnedRangeValuesIter::new(left.table);
-    let entries = entries_chosen_of(alloc, left, right, choice)?;
+    let entries = entries_chosen_of(alloc, room, left, right, choice)?;
     let table = RangeTable::from_canonical(alloc, entries)?;
     Ok(RangeMapBlaze { table })
 }

@@ -1,14 +1,14 @@
-//! One map over another.
+//! One map over another: the values of the right map where it has some, and else those of the left.
 ghost use Rattle.std.specs.Prelude.{IfOk};
 ghost use Rattle.blaze_table.specs.Painted.{ClonesAreAlike};
 ghost use Rattle.range_map_blaze.specs.Union.{IsUnion};
 
 use crate::map::RangeMapBlaze;
-use crate::operators::few::are_few;
+use crate::operators::cut::are_few;
 use crate::operators::lent::lent_chosen;
 use crate::operators::owned::owned_chosen;
 use blaze_int::Integer;
-use blaze_streams::{OwnedRangeValuesIter, RightFirst};
+use blaze_streams::{OwnedRangeValuesIter, RightFirst, SortedDisjointMap, ValueCarrier};
 use std::alloc::AllocError;
 
 /// How a union is made, which changes nothing of what it is.
@@ -33,7 +33,7 @@ fn path_for(left_len: usize, right_len: usize) -> Path {
     }
 }
 
-/// The values of the right map where it has some, and else those of the left.
+/// The union of two maps that are lent.
 pub fn union<T: Integer, V: Eq + Clone>(
     left: &RangeMapBlaze<T, V>,
     right: &RangeMapBlaze<T, V>,
@@ -46,21 +46,23 @@ pub fn union<T: Integer, V: Eq + Clone>(
     right.in_hand();
     match path_for(left.ranges_len(), right.ranges_len()) {
         Path::Over => {
-            let map = painted_over(left.clone()?, right)?;
+            let map = painted_over(left.clone()?, right.range_values())?;
             Ok(map)
         }
         Path::Under => {
-            let map = painted_under(left, right.clone()?)?;
+            let map = painted_under(left.range_values(), right.clone()?)?;
             Ok(map)
         }
         Path::Merge => {
-            let map = lent_chosen(left, left.range_values(), right.range_values(), &RightFirst)?;
+            let room = left.ranges_len().saturating_add(right.ranges_len());
+            let (under, over) = (left.seeking_range_values(), right.range_values());
+            let map = lent_chosen(left, under, over, &RightFirst, room)?;
             Ok(map)
         }
     }
 }
 
-/// The same, where either map may be painted into.
+/// The union of two maps by value, with their own values.
 pub fn union_by_value<T: Integer, V: Eq + Clone>(
     left: RangeMapBlaze<T, V>,
     right: RangeMapBlaze<T, V>,
@@ -70,13 +72,80 @@ pub fn union_by_value<T: Integer, V: Eq + Clone>(
         (λ map. IsUnion V.eq T.low T.high left.entries right.entries map.entries) }
 {
     match path_for(left.ranges_len(), right.ranges_len()) {
-        Path::Over => painted_over_by(left, right),
-        Path::Under => painted_under_by(left, right),
+        Path::Over => painted_over(left, OwnedRangeValuesIter::new(right.table)),
+        Path::Under => painted_under(OwnedRangeValuesIter::new(left.table), right),
         Path::Merge => merged_by_value(left, right),
     }
 }
 
-/// The same, by one pass over both maps' own values. A value is cloned only for a piece that leaves a rest of its range
+/// The union of a map by value and a map that is lent.
+pub fn union_with<T: Integer, V: Eq + Clone>(
+    left: RangeMapBlaze<T, V>,
+    right: &RangeMapBlaze<T, V>,
+) -> Result<RangeMapBlaze<T, V>, AllocError>
+    requires { ClonesAreAlike V.is_clone V.eq }
+    ensures { IfOk result
+        (λ map. IsUnion V.eq T.low T.high left.entries right.now.entries map.entries) }
+{
+    match path_for(left.ranges_len(), right.ranges_len()) {
+        Path::Over => painted_over(left, right.range_values()),
+        Path::Under | Path::Merge => union(&left, right),
+    }
+}
+
+/// The union of a map that is lent and a map by value.
+pub fn union_under<T: Integer, V: Eq + Clone>(
+    left: &RangeMapBlaze<T, V>,
+    right: RangeMapBlaze<T, V>,
+) -> Result<RangeMapBlaze<T, V>, AllocError>
+    requires { ClonesAreAlike V.is_clone V.eq }
+    ensures { IfOk result
+        (λ map. IsUnion V.eq T.low T.high left.now.entries right.entries map.entries) }
+{
+    match path_for(left.ranges_len(), right.ranges_len()) {
+        Path::Under => painted_under(left.range_values(), right),
+        Path::Over | Path::Merge => union(left, &right),
+    }
+}
+
+/// A stream's ranges painted over a map, each with a value equal to its carrier's.
+fn painted_over<
+    T: Integer,
+    V: Eq + Clone,
+    VC: ValueCarrier<Value = V>,
+    S: SortedDisjointMap<T, VC>,
+>(left: RangeMapBlaze<T, V>, right: S) -> Result<RangeMapBlaze<T, V>, AllocError>
+    requires can { VC.can_carry }
+    requires clones { ClonesAreAlike V.is_clone V.eq }
+    ensures { IfOk result
+        (λ map. IsUnion V.eq T.low T.high left.entries (S.left right) map.entries) }
+{
+    let mut map = left;
+    right.in_hand();
+    map.paint_ranges(right)?;
+    Ok(map)
+}
+
+/// A stream's ranges filled into a map's gaps, each with a value equal to its carrier's.
+fn painted_under<
+    T: Integer,
+    V: Eq + Clone,
+    VC: ValueCarrier<Value = V>,
+    S: SortedDisjointMap<T, VC>,
+>(left: S, right: RangeMapBlaze<T, V>) -> Result<RangeMapBlaze<T, V>, AllocError>
+    requires can { VC.can_carry }
+    requires clones { ClonesAreAlike V.is_clone V.eq }
+    ensures { IfOk result
+        (λ map. IsUnion V.eq T.low T.high (S.left left) right.entries map.entries) }
+{
+    let mut map = right;
+    left.in_hand();
+    map.in_hand();
+    map.fill_ranges(left)?;
+    Ok(map)
+}
+
+/// The union of two maps by value, by one pass over both. A value is cloned only for a piece that leaves a rest of its range
 /// behind.
 fn merged_by_value<T: Integer, V: Eq + Clone>(
     left: RangeMapBlaze<T, V>,
@@ -88,98 +157,12 @@ fn merged_by_value<T: Integer, V: Eq + Clone>(
 {
     left.in_hand();
     right.in_hand();
-    let map = owned_chosen(left, OwnedRangeValuesIter::new(right.table), &RightFirst)?;
-    Ok(map)
-}
-
-/// The same, where the left map may be painted over.
-pub fn union_with<T: Integer, V: Eq + Clone>(
-    left: RangeMapBlaze<T, V>,
-    right: &RangeMapBlaze<T, V>,
-) -> Result<RangeMapBlaze<T, V>, AllocError>
-    requires { ClonesAreAlike V.is_clone V.eq }
-    ensures { IfOk result
-        (λ map. IsUnion V.eq T.low T.high left.entries right.now.entries map.entries) }
-{
-    match path_for(left.ranges_len(), right.ranges_len()) {
-        Path::Over => painted_over(left, right),
-        Path::Under | Path::Merge => union(&left, right),
-    }
-}
-
-/// The same, where the right map may be painted under.
-pub fn union_under<T: Integer, V: Eq + Clone>(
-    left: &RangeMapBlaze<T, V>,
-    right: RangeMapBlaze<T, V>,
-) -> Result<RangeMapBlaze<T, V>, AllocError>
-    requires { ClonesAreAlike V.is_clone V.eq }
-    ensures { IfOk result
-        (λ map. IsUnion V.eq T.low T.high left.now.entries right.entries map.entries) }
-{
-    match path_for(left.ranges_len(), right.ranges_len()) {
-        Path::Under => painted_under(left, right),
-        Path::Over | Path::Merge => union(left, &right),
-    }
-}
-
-/// The right map's entries painted over the left map, with clones of their values.
-fn painted_over<T: Integer, V: Eq + Clone>(
-    left: RangeMapBlaze<T, V>,
-    right: &RangeMapBlaze<T, V>,
-) -> Result<RangeMapBlaze<T, V>, AllocError>
-    requires { ClonesAreAlike V.is_clone V.eq }
-    ensures { IfOk result
-        (λ map. IsUnion V.eq T.low T.high left.entries right.now.entries map.entries) }
-{
-    let mut map = left;
-    right.in_hand();
-    map.paint_clones(right)?;
-    Ok(map)
-}
-
-/// The right map's entries painted over the left map, with their own values.
-fn painted_over_by<T: Integer, V: Eq + Clone>(
-    left: RangeMapBlaze<T, V>,
-    right: RangeMapBlaze<T, V>,
-) -> Result<RangeMapBlaze<T, V>, AllocError>
-    requires { ClonesAreAlike V.is_clone V.eq }
-    ensures { IfOk result
-        (λ map. IsUnion V.eq T.low T.high left.entries right.entries map.entries) }
-{
-    let mut map = left;
-    right.in_hand();
-    map.paint_entries(right)?;
-    Ok(map)
-}
-
-/// The left map's entries filled into the right map, with clones of their values.
-pub fn painted_under<T: Integer, V: Eq + Clone>(
-    left: &RangeMapBlaze<T, V>,
-    right: RangeMapBlaze<T, V>,
-) -> Result<RangeMapBlaze<T, V>, AllocError>
-    requires { ClonesAreAlike V.is_clone V.eq }
-    ensures { IfOk result
-        (λ map. IsUnion V.eq T.low T.high left.now.entries right.entries map.entries) }
-{
-    let mut map = right;
-    left.in_hand();
-    map.in_hand();
-    map.fill_clones(left)?;
-    Ok(map)
-}
-
-/// The left map's entries filled into the right map, with their own values.
-pub fn painted_under_by<T: Integer, V: Eq + Clone>(
-    left: RangeMapBlaze<T, V>,
-    right: RangeMapBlaze<T, V>,
-) -> Result<RangeMapBlaze<T, V>, AllocError>
-    requires { ClonesAreAlike V.is_clone V.eq }
-    ensures { IfOk result
-        (λ map. IsUnion V.eq T.low T.high left.entries right.entries map.entries) }
-{
-    let mut map = right;
-    left.in_hand();
-    map.in_hand();
-    map.fill_entries(left)?;
+    let room = left.ranges_len().saturating_add(right.ranges_len());
+    let map = owned_chosen(
+        left,
+        OwnedRangeValuesIter::new(right.table),
+        &RightFirst,
+        room,
+    )?;
     Ok(map)
 }

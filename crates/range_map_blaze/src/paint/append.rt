@@ -5,6 +5,7 @@ ghost use Rattle.range_map_blaze.specs.Extended.{IsExtended, IsPartlyExtended};
 
 use crate::map::RangeMapBlaze;
 use blaze_int::Integer;
+use blaze_streams::{OwnedRangeValuesIter, SortedDisjointMap, ValueCarrier};
 use std::alloc::AllocError;
 
 impl<T: Integer, V: Eq + Clone> RangeMapBlaze<T, V> {
@@ -24,22 +25,7 @@ impl<T: Integer, V: Eq + Clone> RangeMapBlaze<T, V> {
         if other.is_empty() {
             return Ok(());
         }
-        self.paint_entries(other)
-    }
-
-    // Paints the entries of another map, ascending.
-    pub(crate) fn paint_entries(&mut self, other: Self) -> Result<(), AllocError>
-        requires { ClonesAreAlike V.is_clone V.eq }
-        ensures ok { OnOk result (IsExtended V.eq T.low T.high other.entries self.old.entries
-            self.new.entries) }
-        ensures err { OnErr result
-            (IsPartlyExtended V.eq T.low T.high other.entries self.old.entries self.new.entries) }
-    {
-        self.in_hand();
-        for (start, end, value) in other.table {
-            self.paint_pair((start, end, value))?;
-        }
-        Ok(())
+        self.paint_ranges(OwnedRangeValuesIter::new(other.table))
     }
 
     /// Puts clones of the entries of another map over this one's: where both have a value, the other's wins. They are painted
@@ -58,22 +44,25 @@ impl<T: Integer, V: Eq + Clone> RangeMapBlaze<T, V> {
         if other.is_empty() {
             return Ok(());
         }
-        self.paint_clones(other)
+        self.paint_ranges(other.range_values())
     }
 
-    // Paints clones of the entries of another map, ascending.
-    pub(crate) fn paint_clones(&mut self, other: &Self) -> Result<(), AllocError>
-        requires { ClonesAreAlike V.is_clone V.eq }
-        ensures ok { OnOk result (IsExtended V.eq T.low T.high other.now.entries self.old.entries
+    // Paints the ranges of a stream, ascending, each with a value equal to its carrier's.
+    pub(crate) fn paint_ranges<VC: ValueCarrier<Value = V>, S: SortedDisjointMap<T, VC>>(
+        &mut self,
+        ranges: S,
+    ) -> Result<(), AllocError>
+        requires can { VC.can_carry }
+        requires clones { ClonesAreAlike V.is_clone V.eq }
+        ensures ok { OnOk result (IsExtended V.eq T.low T.high (S.left ranges) self.old.entries
             self.new.entries) }
-        ensures err { OnErr result
-            (IsPartlyExtended V.eq T.low T.high other.now.entries self.old.entries
-            self.new.entries) }
+        ensures err { OnErr result (IsPartlyExtended V.eq T.low T.high (S.left ranges)
+            self.old.entries self.new.entries) }
     {
         self.in_hand();
-        for (start, end, value) in other.table.iter() {
-            let value = value.clone()?;
-            self.paint_pair((start, end, value))?;
+        for (range, carrier) in ranges {
+            let (start, end) = range.into_inner();
+            self.paint_pair((start, end, carrier.into_value()?))?;
         }
         Ok(())
     }

@@ -7,6 +7,7 @@ ghost use Rattle.range_map_blaze.specs.FilledFrom.{IsFilledFrom, IsPartlyFilledF
 
 use crate::map::RangeMapBlaze;
 use blaze_int::Integer;
+use blaze_streams::{SortedDisjointMap, ValueCarrier};
 use std::alloc::AllocError;
 
 impl<T: Integer, V: Eq + Clone> RangeMapBlaze<T, V> {
@@ -26,7 +27,7 @@ impl<T: Integer, V: Eq + Clone> RangeMapBlaze<T, V> {
         if other.is_empty() {
             return Ok(());
         }
-        self.fill_clones(other)
+        self.fill_ranges(other.range_values())
     }
 
     // Puts a value on those keys from one up to another that have none.
@@ -41,34 +42,23 @@ impl<T: Integer, V: Eq + Clone> RangeMapBlaze<T, V> {
         Ok(())
     }
 
-    // Fills in clones of the entries of another map, ascending.
-    pub(crate) fn fill_clones(&mut self, other: &Self) -> Result<(), AllocError>
-        requires { ClonesAreAlike V.is_clone V.eq }
-        ensures ok { OnOk result (IsFilledFrom V.eq T.low T.high other.now.entries self.old.entries
+    // Fills in the ranges of a stream, ascending, each with a value equal to its carrier's.
+    pub(crate) fn fill_ranges<VC: ValueCarrier<Value = V>, S: SortedDisjointMap<T, VC>>(
+        &mut self,
+        ranges: S,
+    ) -> Result<(), AllocError>
+        requires can { VC.can_carry }
+        requires clones { ClonesAreAlike V.is_clone V.eq }
+        ensures ok { OnOk result (IsFilledFrom V.eq T.low T.high (S.left ranges) self.old.entries
             self.new.entries) }
-        ensures err { OnErr result
-            (IsPartlyFilledFrom V.eq T.low T.high other.now.entries self.old.entries
-            self.new.entries) }
+        ensures err { OnErr result (IsPartlyFilledFrom V.eq T.low T.high (S.left ranges)
+            self.old.entries self.new.entries) }
     {
         self.in_hand();
-        other.in_hand();
-        for (start, end, value) in other.table.iter() {
-            let value = value.clone()?;
-            self.fill(start, end, value)?;
-        }
-        Ok(())
-    }
-
-    // Fills in the entries of another map, ascending.
-    pub(crate) fn fill_entries(&mut self, other: Self) -> Result<(), AllocError>
-        requires { ClonesAreAlike V.is_clone V.eq }
-        ensures { OnOk result (IsFilledFrom V.eq T.low T.high other.entries self.old.entries
-            self.new.entries) }
-    {
-        self.in_hand();
-        other.in_hand();
-        for (start, end, value) in other.table {
-            self.fill(start, end, value)?;
+        ranges.in_hand();
+        for (range, carrier) in ranges {
+            let (start, end) = range.into_inner();
+            self.fill(start, end, carrier.into_value()?)?;
         }
         Ok(())
     }

@@ -10,7 +10,7 @@ returns-then-len-lt2 g t c =
     let laws = g.met.VC.Value.Eq.laws in
     let low = g.T.Integer.low in
     let high = g.T.Integer.high in
-    of_only eq laws low high last_of_all refl (all_one eq laws low high) _ _ c.in_ok-list.ensures.only c.in_ok-list.ensures.range_map
+    of_only eq laws low high last_of_all refl (all_one eq laws low high) _ _ c.only.ensures.only c.only.ensures.range_map
 
 pub returns : goal.returns
 returns g t c =

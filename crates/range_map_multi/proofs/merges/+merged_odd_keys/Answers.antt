@@ -4,7 +4,7 @@ use Rattle.range_map_multi.proofs.Many.{halves, odd_only, odd_both}
 use Rattle.range_map_multi.proofs.merges.+merged_odd_keys.Goals as goal
 
 pub returns-then-len-lt2 : goal.returns-then-len-lt2
-returns-then-len-lt2 g t c = odd_only (map g.I.SortedDisjointMap.left c.args.streams.items) _ c.in_ok-list.ensures.only
+returns-then-len-lt2 g t c = odd_only (map g.I.SortedDisjointMap.left c.args.streams.items) _ c.only.ensures.only
 
 pub returns : goal.returns
 returns g t c =

@@ -5,7 +5,7 @@ use Rattle.range_map_multi.proofs.merges.+merged_union.Goals as goal
 
 pub returns-then-len-lt2 : goal.returns-then-len-lt2
 returns-then-len-lt2 g t c =
-    of_only g.VC.Value.PartialEq.eq g.met.VC.Value.Eq.laws g.T.Integer.low g.T.Integer.high last_value refl (λ x. refl) _ _ c.in_ok-list.ensures.only c.in_ok-list.ensures.range_map
+    of_only g.VC.Value.PartialEq.eq g.met.VC.Value.Eq.laws g.T.Integer.low g.T.Integer.high last_value refl (λ x. refl) _ _ c.only.ensures.only c.only.ensures.range_map
 
 pub returns : goal.returns
 returns g t c =

@@ -1,8 +1,5 @@
 use Rattle.range_map_blaze.proofs.Choices.{chosen_without}
 use Rattle.range_map_blaze.proofs.operators.by_keys.outside_keys_by_value.Goals as goal
 
-pub returns : goal.returns
-returns g c = chosen_without g.V.PartialEq.eq g.met.V.Eq.laws _ _ _ _ _ _ c.ranges_of-2.ensures.same_keys (rw c.new.ensures at c.in_ok-new.ensures)
-
-pub returns-then-are_few-2 : goal.returns-then-are_few-2
-returns-then-are_few-2 g c = chosen_without g.V.PartialEq.eq g.met.V.Eq.laws _ _ _ _ _ _ c.ranges_of.ensures.same_keys c.in_ok-most.ensures
+pub returns-then-are_few : goal.returns-then-are_few
+returns-then-are_few g c = chosen_without g.V.PartialEq.eq g.met.V.Eq.laws _ _ _ _ _ _ c.ranges_of.ensures.same_keys c.in_ok-most.ensures

@@ -3,5 +3,5 @@ use Rattle.range_map_blaze.proofs.operators.union.painted_over.Goals as goal
 
 pub returns : goal.returns
 returns g c =
-    let extended = c.in_ok-paint_clones.ensures.ok in
+    let extended = c.in_ok-paint_ranges.ensures.ok in
     record { chosen = painted_over g.V.PartialEq.eq g.met.V.Eq.laws _ _ _ _ _ c.in_hand.ensures extended; few = extended.few }

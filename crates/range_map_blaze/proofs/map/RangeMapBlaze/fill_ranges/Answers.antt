@@ -1,0 +1,42 @@
+use Rattle.std.proofs.Common.{[], ◌++◌, ◌∷◌, ◌∙◌, sym, ap, append-nil, append_assoc, subst}
+use Rattle.std.specs.Iterator.{IsFinite}
+use Rattle.blaze_streams.specs.Ranges.{shown_range}
+use Rattle.range_map_blaze.specs.FilledFrom.{IsFilledFrom}
+use Rattle.range_map_blaze.proofs.Paints.FilledFrom.{filled_from_none, filled_from_more}
+use Rattle.range_map_blaze.proofs.Paints.Insides.{with_key}
+use Rattle.range_map_blaze.proofs.map.RangeMapBlaze.fill_ranges.Goals as goal
+
+pub loop-range-init-derived : goal.loop-range-init-derived
+loop-range-init-derived g c = (g.met.S.SortedDisjointMap.ready _, subst IsFinite (sym (g.met.S.SortedDisjointMap.counted _)) tt)
+
+pub loop-range-init : goal.loop-range-init
+loop-range-init g c = (
+  [],
+  ap g.S.SortedDisjointMap.left (sym c.into_iter-range-iterator.ensures.into_iter_gives),
+  filled_from_none g.V.PartialEq.eq g.met.V.Eq.laws g.T.Integer.low g.T.Integer.high _ c.in_hand.ensures,
+)
+
+pub fill-requires-clause-order : goal.fill-requires-clause-order
+fill-requires-clause-order g c =
+    let i = c.loop-range.invariant in
+    let e = shown_range g.T.Integer.rank g.VC.ValueCarrier.shown (c.in-Some.range, c.in-Some.carrier) in
+    let took = g.met.S.SortedDisjointMap.gives _ _ _ c.in-Some.ensures.steps in
+    rw (c.into_inner-start.ensures.start, c.into_inner-start.ensures.end)
+    (with_key g.V.PartialEq.eq g.met.V.Eq.laws g.T.Integer.low g.T.Integer.high i.0 e _ _ (i.1 ∙ ap (λ es. i.0 ++ es) took) c.in_hand-2.ensures)
+
+pub loop-range-preserved : goal.loop-range-preserved
+loop-range-preserved g c =
+    let i = c.loop-range.invariant in
+    let e = shown_range g.T.Integer.rank g.VC.ValueCarrier.shown (c.in-Some.range, c.in-Some.carrier) in
+    let took = g.met.S.SortedDisjointMap.gives _ _ _ c.in-Some.ensures.steps in (
+      i.0 ++ e ∷ [],
+      i.1 ∙ ap (λ es. i.0 ++ es) took ∙ sym (append_assoc i.0 (e ∷ []) _),
+      filled_from_more g.V.PartialEq.eq g.met.V.Eq.laws g.T.Integer.low g.T.Integer.high c.args.self.now.entries e c.in_ok-into_value.field-0 i.0 c.loop-range.self.entries c.fill.new.self.entries i.2
+          (rw (c.into_inner-start.ensures.start, c.into_inner-start.ensures.end) at c.in_ok-fill.ensures.ok) c.in_ok-into_value.ensures,
+    )
+
+pub returns-clause-ok : goal.returns-clause-ok
+returns-clause-ok g c =
+    let i = c.loop-range.invariant in
+    let all = i.1 ∙ ap (λ es. i.0 ++ es) (g.met.S.SortedDisjointMap.gives _ _ _ c.in-None.ensures.steps).0 ∙ append-nil i.0 in
+    subst (λ es. IsFilledFrom g.V.PartialEq.eq g.T.Integer.low g.T.Integer.high es c.args.self.now.entries c.loop-range.self.entries) (sym all) i.2

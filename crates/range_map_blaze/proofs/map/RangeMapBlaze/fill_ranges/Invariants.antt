@@ -1,0 +1,11 @@
+use Rattle.std.proofs.Common.{◌≡◌, ◌++◌, List}
+use Rattle.blaze_table.specs.Entries.{Entry}
+use Rattle.range_map_blaze.specs.FilledFrom.{IsFilledFrom}
+use Rattle.range_map_blaze.proofs.map.RangeMapBlaze.fill_ranges.Given as goal
+
+-- the ranges that were taken are filled in
+abbrev pub invariant-loop-range : goal.invariant-loop-range
+invariant-loop-range g l =
+    (done : List (Entry g.row.V.Denot))
+    × (g.S.SortedDisjointMap.left l.fn.ranges ≡ done ++ g.S.SortedDisjointMap.left l.range-iterator)
+    × IsFilledFrom g.V.PartialEq.eq g.T.Integer.low g.T.Integer.high done l.fn.self.entries l.self.entries

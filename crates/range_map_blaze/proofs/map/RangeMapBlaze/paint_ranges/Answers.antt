@@ -1,0 +1,28 @@
+use Rattle.std.proofs.Common.{[], ◌++◌, ◌∷◌, ◌∙◌, sym, ap, append_assoc, subst}
+use Rattle.std.specs.Iterator.{IsFinite}
+use Rattle.blaze_streams.specs.Ranges.{shown_range}
+use Rattle.blaze_table.specs.Entries.{entry}
+use Rattle.range_map_blaze.proofs.Paints.Paintings.{extended_none, extended_by}
+use Rattle.range_map_blaze.proofs.map.RangeMapBlaze.paint_ranges.Goals as goal
+
+pub loop-range-init-derived : goal.loop-range-init-derived
+loop-range-init-derived g c = (g.met.S.SortedDisjointMap.ready _, subst IsFinite (sym (g.met.S.SortedDisjointMap.counted _)) tt)
+
+pub loop-range-init : goal.loop-range-init
+loop-range-init g c = (
+  [],
+  ap g.S.SortedDisjointMap.left (sym c.into_iter-range-iterator.ensures.into_iter_gives),
+  extended_none g.V.PartialEq.eq g.met.V.Eq.laws g.T.Integer.low g.T.Integer.high _ c.in_hand.ensures,
+)
+
+pub loop-range-preserved : goal.loop-range-preserved
+loop-range-preserved g c =
+    let i = c.loop-range.invariant in
+    let e = shown_range g.T.Integer.rank g.VC.ValueCarrier.shown (c.in-Some.range, c.in-Some.carrier) in
+    let painted = entry (g.T.Integer.rank c.into_inner-start.result.0) (g.T.Integer.rank c.into_inner-start.result.1) c.in_ok-into_value.field-0 in
+    let took = g.met.S.SortedDisjointMap.gives _ _ _ c.in-Some.ensures.steps in (
+      i.0 ++ e ∷ [],
+      i.1 ∙ ap (λ es. i.0 ++ es) took ∙ sym (append_assoc i.0 (e ∷ []) _),
+      extended_by g.V.PartialEq.eq g.met.V.Eq.laws g.T.Integer.low g.T.Integer.high e painted i.0 c.args.self.now.entries c.loop-range.self.entries c.paint_pair.new.self.entries i.2 c.in_ok-paint_pair.ensures.ok
+          (ap g.T.Integer.rank c.into_inner-start.ensures.start) (ap g.T.Integer.rank c.into_inner-start.ensures.end) (g.met.V.Eq.laws.symm _ _ ∙ c.in_ok-into_value.ensures),
+    )

@@ -1,0 +1,33 @@
+use Rattle.std.proofs.Common.{◌≡◌, ℤ, ◌≤ℤ◌, ◌<ℤ◌, Bool, true, false, ◌&&◌, cond, List, None, refl, ◌∙◌, ap, sym, subst, arith}
+use Rattle.std.specs.Cmp.{IsEquivalence}
+use Rattle.std.specs.Prelude.{int_le}
+use Rattle.std.proofs.lemmas.Int.{ints, by_lt_z}
+use Rattle.blaze_int.proofs.Comparisons.{le_false}
+use Rattle.blaze_entries.proofs.Alike.{same_itself}
+use Rattle.blaze_table.specs.Canonical.{IsRangeMap}
+use Rattle.blaze_table.specs.Cut.{cut_range_at, IsRangeCut}
+use Rattle.blaze_table.specs.Entries.{Entry, at, SameOption}
+use Rattle.range_map_blaze.proofs.map.RangeMapBlaze.ranges_remove.Goals as goal
+
+never : (a : Bool) → (a && false) ≡ false
+never true = refl
+never false = refl
+
+module _ {V : Type 0} (eq : V → V → Bool) (laws : IsEquivalence eq) (low high l h : ℤ) (es : List (Entry V)) (w : h <ℤ l) where
+  off : (j : ℤ) → (int_le l j && int_le j h) ≡ false
+  off j = by_lt_z j l
+      (λ u. ap (λ b. b && int_le j h) (le_false l j u))
+      (λ u. ap (λ b. int_le l j && b) (le_false j h (omega (arith, ints))) ∙ never (int_le l j))
+
+  -- a range without a key takes nothing out
+  cut_nowhere : IsRangeMap eq low high es → IsRangeCut eq low high l h es es
+  cut_nowhere r = record {
+    range_map = r;
+    content = λ j. subst (SameOption eq (at es j)) (sym (ap (λ b. cond b None (at es j)) (off j))) (same_itself eq laws (at es j));
+  }
+
+pub returns-in-Some-clause-none : goal.returns-in-Some-clause-none
+returns-in-Some-clause-none g c = λ told below. let ends = c.in-Some.ensures.ranks told in absurd (omega (arith, ints, ends.0, ends.1, c.in-Some.ensures.order))
+
+pub returns-clause-ok : goal.returns-clause-ok
+returns-clause-ok g c = λ told. cut_nowhere g.V.PartialEq.eq g.met.V.Eq.laws g.T.Integer.low g.T.Integer.high _ _ _ (c.in-None.ensures.ranks told) c.in_hand.ensures

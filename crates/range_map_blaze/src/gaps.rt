@@ -1,0 +1,107 @@
+//! The gaps of a map within a range.
+ghost use Rattle.std.specs.Prelude.{◌≡◌, ◌≤ℤ◌, IfSome};
+ghost use Rattle.std.specs.Iterator.{item_count};
+ghost use Rattle.blaze_int.specs.Bounds.{start_rank, end_rank};
+ghost use Rattle.blaze_table.specs.Chosen.{left_alone, IsChosen};
+ghost use Rattle.blaze_table.specs.RangeSets.{bare_range, unit_eq};
+ghost use Rattle.blaze_table.specs.Whole.{YieldsWholeFirst};
+ghost use Rattle.range_map_blaze.specs.OneRange.{one_range};
+ghost use Rattle.range_map_blaze.specs.Somewhere.{AreGapsSomewhere};
+
+use crate::map::RangeMapBlaze;
+use crate::overlapping::{Overlapping, entries_on, no_entries};
+use blaze_int::compare::{after, before, is_below};
+use blaze_int::{Integer, bounds_of};
+use blaze_table::RangeTable;
+use std::iter::FusedIterator;
+use std::marker::Model;
+use std::ops::{RangeBounds, RangeInclusive};
+
+/// The greatest ranges of keys without a value within a range, ascending.
+#[derive(Drop)]
+pub struct Gaps<'a, T: Integer, V: Eq> {
+    // The first key that was not gone through, and the last key of the range. None where none is left.
+    left: Option<(T, T)>,
+    entries: Overlapping<'a, T, V>,
+}
+
+impl<'a, T: Integer, V: Eq> Model for Gaps<'a, T, V> {
+    ghost use Rattle.std.specs.Prelude.{List, IfSome, ◌≤ℤ◌};
+    ghost use Rattle.std.specs.Coded.{coded_list};
+    ghost use Rattle.blaze_table.specs.Entries.{Entry};
+    ghost use Rattle.blaze_table.specs.RangeSets.{bare_code};
+    ghost use Rattle.range_map_blaze.specs.Within.{gaps_left};
+
+    ghost Value = { List (Entry (Unit {0})) };
+
+    ghost coded = { coded_list bare_code };
+
+    ghost view = { λ s. gaps_left T.rank s.left s.entries };
+
+    ghost invariant = { λ s. IfSome s.left (λ p. T.rank p.0 ≤ℤ T.rank p.1) };
+}
+
+impl<T: Integer, V: Eq> RangeMapBlaze<T, V> {
+    /// The greatest ranges of keys without a value within a range, ascending. Bounds that name no key give none. It takes three
+    /// searches, and a step for each entry that shares a key with the range, however many the map has elsewhere. No memory is
+    /// taken.
+    pub fn gaps<R: RangeBounds<T> + Drop>(&self, range: R) -> Gaps<'_, T, V>
+        ensures within { R.has_bounds range → IsChosen unit_eq T.low T.high left_alone
+            (one_range (start_rank T.rank T.low (R.start_bound range))
+            (end_rank T.rank T.high (R.end_bound range))) self.now.entries result }
+        ensures somewhere { AreGapsSomewhere T.low T.high self.now.entries result }
+    {
+        self.in_hand();
+        match bounds_of(&range) {
+            Some((start, end)) => gaps_on(&self.table, start, end),
+            None => Gaps {
+                left: None,
+                entries: no_entries(),
+            },
+        }
+    }
+}
+
+// The gaps of a table within the range from `start` up to `end`.
+fn gaps_on<T: Integer, V: Eq>(table: &RangeTable<T, V>, start: T, end: T) -> Gaps<'_, T, V>
+    requires { T.rank start ≤ℤ T.rank end }
+    ensures { IsChosen unit_eq T.low T.high left_alone (one_range (T.rank start) (T.rank end))
+        table.now.entries result }
+{
+    table.in_hand();
+    start.in_hand();
+    end.in_hand();
+    Gaps {
+        left: Some((start, end)),
+        entries: entries_on(table, start, end),
+    }
+}
+
+impl<'a, T: Integer, V: Eq> Iterator for Gaps<'a, T, V> {
+    type Item = RangeInclusive<T>;
+
+    ghost next_gives = { YieldsWholeFirst (λ r. r) (bare_range T.rank) (λ s. s) };
+
+    ghost remaining = { item_count (λ s. s) };
+
+    fn next(&mut self) -> Option<RangeInclusive<T>> {
+        while let Some((first, last)) = self.left {
+            let Some((range, _)) = self.entries.next() else {
+                self.left = None;
+                return Some(first..=last);
+            };
+            let (start, end) = range.into_inner();
+            self.left = if is_below(end, last) {
+                Some((after(end, last), last))
+            } else {
+                None
+            };
+            if is_below(first, start) {
+                return Some(first..=before(start, first));
+            }
+        }
+        None
+    }
+}
+
+impl<'a, T: Integer, V: Eq> FusedIterator for Gaps<'a, T, V> {}
