@@ -111,9 +111,7 @@ pub fn close<W: Write>(waiting: &mut Vec<u8>, output: &mut W, text: &[u8], end: 
     end
 }
 
-/// Answers a line, and puts the answer behind the others; the bytes that are kept of a line stay. It stands out of line, so that
-/// the loop over lines stays short where they are empty.
-#[inline(never)]
+/// Answers a line, and puts the answer behind the others; the bytes that are kept of a line stay.
 fn answer_line<W: Write>(
     session: &mut Session,
     alloc: Global,
@@ -145,7 +143,7 @@ fn answer_line<W: Write>(
     }
 }
 
-/// Ends a line: the bytes that are kept of it, and then these, its last. An empty line has no answer.
+/// Ends a line: the bytes that are kept of it, and then these, its last.
 fn end_line<W: Write>(
     session: &mut Session,
     alloc: Global,
@@ -167,10 +165,6 @@ fn end_line<W: Write>(
         let mut line = mem::replace(&mut session.line, Line::new());
         line.keep(bytes);
         return answer_line(session, alloc, output, line.as_slice());
-    }
-    if bytes.is_empty() {
-        session.number = session.number.saturating_add(1);
-        return Ok(());
     }
     answer_line(session, alloc, output, bytes)
 }

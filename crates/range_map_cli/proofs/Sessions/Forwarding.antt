@@ -1,5 +1,5 @@
 -- What a writer took and what waits, from one step to the next.
-use Rattle.std.proofs.Common.{◌≡◌, ℕ, List, [], ◌∷◌, ◌++◌, refl, sym, ap, ◌∙◌, append_assoc, append-nil, Option, Some, None}
+use Rattle.std.proofs.Common.{◌≡◌, ℕ, List, [], ◌∷◌, ◌++◌, refl, sym, ap, ◌∙◌, append_assoc, append-nil, Option}
 use Rattle.std.proofs.KnownBytes.{Appends-trans}
 use Rattle.std.specs.Io.KnownBytes.{Appends}
 use Rattle.range_map_cli.specs.Sessions.{Forwards}
@@ -11,14 +11,6 @@ front_none (x ∷ xs) ys e = cc
 
 pub Forwards-all : (a b : Option (List ℕ)) (all waits : List ℕ) → Appends a b all → waits ≡ [] → Forwards a b all waits
 Forwards-all a b all waits h none = (all, h, sym (ap (λ l. all ++ l) none ∙ append-nil all))
-
-Appends-none : (a : Option (List ℕ)) → Appends a a []
-Appends-none None = tt
-Appends-none (Some xs) = sym (append-nil xs)
-
--- nothing is to be written
-pub Forwards-none : (a : Option (List ℕ)) (waits : List ℕ) → Forwards a a (waits ++ []) waits
-Forwards-none a waits = ([], Appends-none a, append-nil waits)
 
 -- one more text waits
 pub Forwards-push : (a b : Option (List ℕ)) (all waits text : List ℕ) → Forwards a b all waits → Forwards a b (all ++ text) (waits ++ text)

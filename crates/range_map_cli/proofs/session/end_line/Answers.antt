@@ -1,12 +1,10 @@
-use Rattle.std.proofs.Common.{◌≡◌, ◌++◌, [], ◌∷◌, refl, ap, sym, ◌∙◌, subst, take}
+use Rattle.std.proofs.Common.{◌≡◌, ◌++◌, [], ◌∷◌, refl, ap, sym, ◌∙◌, take}
 use Rattle.std.proofs.lemmas.Bool.{eqb-true}
 use Rattle.std.proofs.lemmas.Result.{on_ok_weaker, IfErr-weaker}
-use Rattle.range_map_cli.specs.Commands.{Blank, command_of}
-use Rattle.range_map_cli.specs.Sessions.{IsAt, with_line}
+use Rattle.range_map_cli.specs.Sessions.{with_line}
 use Rattle.range_map_cli.proofs.Sessions.Cuts.{empty_list}
-use Rattle.range_map_cli.proofs.Sessions.Forwarding.{Forwards-none}
 use Rattle.range_map_cli.proofs.Sessions.Kept.{kept_again}
-use Rattle.range_map_cli.proofs.Sessions.Progress.{next_line, next_part, without_line}
+use Rattle.range_map_cli.proofs.Sessions.Progress.{next_part, without_line}
 use Rattle.range_map_cli.proofs.session.end_line.Goals as goal
 
 -- bytes of the line were kept, and the last ones are put behind them
@@ -23,16 +21,6 @@ returns-then-not-is_empty-clause-err g c =
     let bytes = c.args.bytes.now in
     let line = kept_again _ (session.line ++ bytes) (c.as_slice.ensures ∙ c.keep.ensures ∙ ap (λ l. take 81 (l ++ bytes)) c.replace-line.ensures.value) in
     IfErr-weaker c.answer_line.result _ _ (λ end err held text rest lines none at. err held text rest lines (next_part held _ text session (with_line c.as_slice.result.now session) bytes (10 ∷ rest) lines at none refl line)) c.answer_line.ensures.err
-
--- an empty line
-pub returns-then-is_empty-clause-ok : goal.returns-then-is_empty-clause-ok
-returns-then-is_empty-clause-ok g c = λ held text rest lines none at.
-    let session = c.args.session.now in
-    let now = g.W.Write.contents c.args.output.now in
-    let line : session.line ≡ [] = empty_list session.line (eqb-true _ 0 (sym c.if-not-is_empty.ensures)) in
-    let bytes : c.args.bytes.now ≡ [] = empty_list c.args.bytes.now (eqb-true _ 0 (sym c.if-is_empty.ensures)) in
-    let here = subst (λ b. IsAt held now text session (b ++ 10 ∷ rest) lines) bytes at in
-    next_line held now text session rest lines here Blank [] (ap command_of line) (λ words. refl) now _ (λ key. refl) (Forwards-none now session.waiting.items) c.saturating_add-session.ensures line
 
 -- the whole line lies in the bytes
 pub returns-clause-ok : goal.returns-clause-ok
