@@ -4,6 +4,7 @@ ghost use Rattle.std.proofs.Common.{rules};
 ghost use Rattle.std.specs.Cmp.Rules.{comparing};
 ghost use Rattle.std.specs.Ordering.{on};
 
+use blaze_table::RangeTable;
 use range_map_blaze::RangeMapBlaze;
 use std::alloc::{AllocError, Global};
 use std::fmt::{self, Debug, Formatter};
@@ -105,6 +106,19 @@ fn filled(rt: &HostRuntime) -> Result<(), AllocError> {
     Ok(())
 }
 
+/// The same of a table.
+fn filled_table(rt: &HostRuntime) -> Result<(), AllocError> {
+    let mut table: RangeTable<i64, Labelled> = RangeTable::new(rt.alloc());
+    let _ = table.paint(3, 5, Labelled(1, 'x'))?;
+    let grown = table.fill_absent(1, 9, Labelled(1, 'y'))?;
+    let is_equal = match table.find(4) {
+        Some(entry) => *entry.2 == Labelled(1, 'y'),
+        None => false,
+    };
+    let _ = println!(rt; "{grown}, {} entry, {is_equal}", table.entries());
+    Ok(())
+}
+
 /// Makes all calls of this file.
 pub fn all(rt: &HostRuntime) -> Result<(), AllocError> {
     let mut map = RangeMapBlaze::new(rt.alloc());
@@ -113,5 +127,6 @@ pub fn all(rt: &HostRuntime) -> Result<(), AllocError> {
     extended_by_pairs(rt, &mut map)?;
     extended_by_value(rt, &mut map)?;
     extended_by_lent(rt, &mut map, &map_of_pairs(rt.alloc())?)?;
-    filled(rt)
+    filled(rt)?;
+    filled_table(rt)
 }

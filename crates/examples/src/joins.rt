@@ -1,28 +1,29 @@
 //! Joins of streams, and the segments of lists.
 use crate::maps::{Letters, map_of};
-use crate::streams::show;
-use blaze_streams::{Segment, full_join_of, inner_join_of, left_join_of, segments};
+use crate::streams::{Level, show};
+use blaze_streams::{
+    CheckSortedDisjointMap, JoinKind, Owned, Segment, SortedDisjointMap, join_of, segments,
+};
 use std::alloc::AllocError;
 
-/// Whether the left stream has a value at the segments of a full join.
-fn full_joined(rt: &HostRuntime, one: &Letters, two: &Letters) -> Result<(), AllocError> {
-    let full = |left: Option<&char>, _right: Option<&char>| left.is_some();
-    let made = full_join_of(rt.alloc(), one.range_values(), two.range_values(), full);
-    show(rt, "full_join_of", made)
+/// What two lent streams have at the segments of a join.
+fn lent(rt: &HostRuntime, kind: JoinKind, one: &Letters, two: &Letters) -> Result<(), AllocError> {
+    let made = join_of(rt.alloc(), one.range_values(), two.range_values(), kind);
+    let _ = print!(rt; "{kind:?} ");
+    show(rt, "join_of", made)
 }
 
-/// Whether the right stream has a value at the segments of a left join.
-fn left_joined(rt: &HostRuntime, one: &Letters, two: &Letters) -> Result<(), AllocError> {
-    let left = |_left: &char, right: Option<&char>| right.is_some();
-    let made = left_join_of(rt.alloc(), one.range_values(), two.range_values(), left);
-    show(rt, "left_join_of", made)
-}
-
-/// Whether the left value is less at the segments of an inner join.
-fn inner_joined(rt: &HostRuntime, one: &Letters, two: &Letters) -> Result<(), AllocError> {
-    let inner = |left: &char, right: &char| *left < *right;
-    let made = inner_join_of(rt.alloc(), one.range_values(), two.range_values(), inner);
-    show(rt, "inner_join_of", made)
+/// The same of streams whose carriers are values. The segment that a range ends with has the value itself, one before it a clone.
+fn of_values(rt: &HostRuntime) -> Result<(), AllocError> {
+    let levels = vec![in rt.alloc(); (1..=9, Level(3))]?;
+    let letters = vec![in rt.alloc(); (4..=5, Owned('a')), (6..=20, Owned('b'))]?;
+    let (Ok(one), Ok(two)) = (
+        CheckSortedDisjointMap::new(levels),
+        CheckSortedDisjointMap::new(letters),
+    ) else {
+        return Ok(());
+    };
+    show(rt, "join_of", join_of(rt.alloc(), one, two, JoinKind::Full))
 }
 
 /// Prints segments.
@@ -46,8 +47,9 @@ fn of_lists(rt: &HostRuntime) -> Result<(), AllocError> {
 pub fn all(rt: &HostRuntime) -> Result<(), AllocError> {
     let one = map_of(rt.alloc(), &[(1, 5, 'a')])?;
     let two = map_of(rt.alloc(), &[(4, 8, 'b')])?;
-    full_joined(rt, &one, &two)?;
-    left_joined(rt, &one, &two)?;
-    inner_joined(rt, &one, &two)?;
+    lent(rt, JoinKind::Full, &one, &two)?;
+    lent(rt, JoinKind::Left, &one, &two)?;
+    lent(rt, JoinKind::Inner, &one, &two)?;
+    of_values(rt)?;
     of_lists(rt)
 }

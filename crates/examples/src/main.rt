@@ -4,6 +4,7 @@
 #![tactic(auto)]
 
 mod coarse;
+mod fills;
 mod joins;
 mod many;
 mod maps;
@@ -20,6 +21,7 @@ use std::process::ExitCode;
 /// Makes all calls.
 fn run(rt: &HostRuntime) -> Result<(), AllocError> {
     tables::all(rt)?;
+    fills::all(rt)?;
     sets::all(rt)?;
     streams::all(rt)?;
     joins::all(rt)?;

@@ -18,7 +18,7 @@ fn owned_ends(rt: &HostRuntime, set: RangeSetBlaze<u8>) {
 fn canonical(rt: &HostRuntime) -> Result<(), AllocError> {
     let ranges = vec![in rt.alloc(); 1u8..=2, 4..=5]?;
     let set = RangeSetBlaze::from_canonical(rt.alloc(), ranges)?;
-    let _ = println!(rt; "{set}: {:?}", set.as_table().find(5));
+    let _ = println!(rt; "{set}, {set:?}: {:?}", set.as_table().find(5));
     Ok(())
 }
 

@@ -1,6 +1,4 @@
 //! Streams: lists that keep their law, carriers, one stream over another and on the keys of a set.
-ghost use Rattle.std.specs.Prelude.{⊤};
-
 use crate::maps::{Letters, map_of};
 use blaze_int::Integer;
 use blaze_streams::{
@@ -89,15 +87,13 @@ fn carry<VC: ValueCarrier<Value: Debug>>(
 }
 
 /// A carrier of one's own.
-#[derive(Drop)]
-struct Level(u8);
+#[derive(Debug, Drop)]
+pub struct Level(pub u8);
 
 impl ValueCarrier for Level {
     type Value = u8;
 
     ghost shown = { λ level. level.0 };
-
-    ghost can_carry = { ⊤ };
 
     fn value_eq(&self, other: &Self) -> bool {
         self.0 == other.0

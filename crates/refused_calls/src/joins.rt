@@ -1,22 +1,46 @@
 //! Streams of other values: what two have at the same keys, answers of a closure, every key of the type, events.
 use crate::calls::{begin, end, show_refused};
 use crate::tables::{Words, table_of};
-use blaze_streams::{JoinKind, RangeValuesIter, fill, join_of, sweep_of, transform};
+use blaze_streams::{
+    JoinKind, OwnedRangeValuesIter, RangeValuesIter, SortedDisjointMap, ValueCarrier, fill,
+    join_of, sweep_of, transform,
+};
 use std::alloc::AllocError;
+use std::fmt::Debug;
 
-/// What two streams have at the keys of at least one.
+/// Ends the line of a call with the stream that it made.
+fn show_stream<VC: ValueCarrier + Debug, S: SortedDisjointMap<i32, VC>>(
+    rt: &HostRuntime,
+    made: Result<S, AllocError>,
+) {
+    let Ok(stream) = made else {
+        return show_refused(rt);
+    };
+    for (range, carrier) in stream {
+        let _ = print!(rt; " {range:?} {carrier:?},");
+    }
+    let _ = println!(rt; " end");
+}
+
+/// What two lent streams have at the keys of at least one.
 fn joined(rt: &HostRuntime, one: &Words, two: &Words) {
     let (left, right) = (RangeValuesIter::new(one), RangeValuesIter::new(two));
     begin(rt, "join_of");
     let made = join_of(rt.alloc(), left, right, JoinKind::Full);
     end(rt);
-    let Ok(stream) = made else {
-        return show_refused(rt);
-    };
-    for (range, words) in stream {
-        let _ = print!(rt; " {range:?} {words:?},");
-    }
-    let _ = println!(rt; " end");
+    show_stream(rt, made);
+}
+
+/// The same of streams by value: a word is cloned for each segment that its range goes on behind.
+fn joined_values(rt: &HostRuntime, one: Words, two: Words) {
+    let (left, right) = (
+        OwnedRangeValuesIter::new(one),
+        OwnedRangeValuesIter::new(two),
+    );
+    begin(rt, "join_of by value");
+    let made = join_of(rt.alloc(), left, right, JoinKind::Full);
+    end(rt);
+    show_stream(rt, made);
 }
 
 /// The length of each word: equal answers that touch are one range.
@@ -25,13 +49,7 @@ fn transformed(rt: &HostRuntime, table: &Words) {
     begin(rt, "transform");
     let made = transform(rt.alloc(), stream, |word: &String| word.len());
     end(rt);
-    let Ok(stream) = made else {
-        return show_refused(rt);
-    };
-    for (range, length) in stream {
-        let _ = print!(rt; " {range:?} {length:?},");
-    }
-    let _ = println!(rt; " end");
+    show_stream(rt, made);
 }
 
 /// Every key with its word, or none.
@@ -40,13 +58,7 @@ fn filled(rt: &HostRuntime, table: &Words) {
     begin(rt, "fill");
     let made = fill(rt.alloc(), stream);
     end(rt);
-    let Ok(stream) = made else {
-        return show_refused(rt);
-    };
-    for (range, word) in stream {
-        let _ = print!(rt; " {range:?} {word:?},");
-    }
-    let _ = println!(rt; " end");
+    show_stream(rt, made);
 }
 
 /// The events of two streams.
@@ -73,5 +85,6 @@ pub fn all(rt: &HostRuntime) -> Result<(), AllocError> {
     let both = table_of(rt.alloc(), &[(1, 5, "a"), (4, 8, "b")])?;
     transformed(rt, &both);
     filled(rt, &both);
+    joined_values(rt, one, two);
     Ok(())
 }

@@ -13,6 +13,7 @@ pub enum Change<T: ScriptKey> {
     Insert(T, String),
     RangesInsert((Bound<T>, Bound<T>), String),
     RangesInsertAbsent((Bound<T>, Bound<T>), String),
+    RangesRemove((Bound<T>, Bound<T>)),
     Remove(T),
     PopFirst,
     PopLast,
@@ -32,6 +33,7 @@ impl<T: ScriptKey> Change<T> {
             ["ranges_insert_absent", word, text] => {
                 Ok(Change::RangesInsertAbsent(bounds(word)?, value(alloc, text)?))
             }
+            ["ranges_remove", word] => Ok(Change::RangesRemove(bounds(word)?)),
             ["remove", word] => Ok(Change::Remove(key(word)?)),
             ["retain", text] => Ok(Change::Retain(value(alloc, text)?)),
             ["ranges_retain", text] => Ok(Change::RangesRetain(value(alloc, text)?)),
@@ -62,6 +64,7 @@ impl<T: ScriptKey> Change<T> {
                 map.ranges_insert_absent(range, value),
                 reply,
             ),
+            Change::RangesRemove(range) => print_made(map.ranges_remove(range), reply),
             Change::Remove(key) => print_made(map.remove(key), reply),
             Change::PopFirst => print_made(map.pop_first(), reply),
             Change::PopLast => print_made(map.pop_last(), reply),

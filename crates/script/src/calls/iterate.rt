@@ -40,6 +40,8 @@ enum Kind<T: ScriptKey> {
     Lent(Over),
     Taking(Over),
     Range((Bound<T>, Bound<T>)),
+    Overlapping((Bound<T>, Bound<T>)),
+    Gaps((Bound<T>, Bound<T>)),
 }
 
 /// What an iterator gives.
@@ -60,13 +62,18 @@ impl<T: ScriptKey> Kind<T> {
                 None => Ok(Kind::Lent(Over::read(call)?)),
             },
             ["range", range] => Ok(Kind::Range(bounds(range)?)),
+            ["overlapping", range] => Ok(Kind::Overlapping(bounds(range)?)),
+            ["gaps", range] => Ok(Kind::Gaps(bounds(range)?)),
             _ => Err(Fault::Bad),
         }
     }
 
     /// Whether the iterator goes forward alone.
     fn is_forward(&self) -> bool {
-        matches!(self, Kind::Lent(Over::Ranges) | Kind::Taking(Over::Ranges))
+        matches!(
+            self,
+            Kind::Lent(Over::Ranges) | Kind::Taking(Over::Ranges) | Kind::Gaps(_)
+        )
     }
 }
 
@@ -148,6 +155,8 @@ impl<T: ScriptKey> Iterate<T> {
             Kind::Lent(over) => Ok(over.walk_lent(state.map(name), steps, reply)?),
             Kind::Taking(over) => Ok(over.walk_taking(state.take_map(name), steps, reply)?),
             Kind::Range(range) => walk_range(state.map(name), range, steps, reply),
+            Kind::Overlapping(range) => Ok(walk(state.map(name).overlapping(range), steps, reply)?),
+            Kind::Gaps(range) => Ok(walk_forward(state.map(name).gaps(range), steps.len(), reply)?),
         }
     }
 }
