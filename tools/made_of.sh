@@ -3,8 +3,10 @@
 # Beside a proved program, crates/NAME/out/NAME, the file made_of keeps what it was made of: the toolchain, the crates with what
 # they stand on, and the sum of each source file. The program fits as long as that is what stands there.
 root="$(cd "$(dirname "${BASH_SOURCE[0]}")/.." && pwd)"
-programs=(rangemap script)
+programs=(rangemap script scripts regions ports calendar routes picture)
 declare -A proof_takes=([rangemap]="25 to 40 minutes on four processors" [script]="40 to 60 minutes on four processors")
+proof_time() { echo "${proof_takes[$1]:-${proof_takes[rangemap]}}"; }
+is_program() { case " ${programs[*]} " in *" $1 "*) return 0 ;; *) return 1 ;; esac }
 
 program_of() { echo "$root/crates/$1/out/$1"; }
 note_of() { echo "$root/crates/$1/out/made_of"; }

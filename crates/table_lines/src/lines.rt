@@ -1,0 +1,89 @@
+//! The lines of a table.
+ghost use Rattle.std.specs.Prelude.{◌≡◌, ◌<◌, IfSome, length};
+ghost use Rattle.std.specs.Str.Parse.{IsNumeral, digits_value, without_leading_plus};
+
+use crate::fault::Fault;
+use std::io::{BufRead, BufReader};
+use std::process::ExitCode;
+
+/// A table that is read line by line.
+pub trait Table {
+    /// Takes a line in, which comes without its line feed. `Fault::Line` says that it is no line of the table.
+    fn add(&mut self, rt: &HostRuntime, line: &str) -> Result<(), Fault>;
+
+    /// Prints what the table answers, once all lines are in.
+    fn print(&mut self, rt: &HostRuntime) -> Result<(), Fault>;
+}
+
+/// Reads standard input into a table, line by line, and prints what the table answers. A faulty line ends it: `line N: TEXT` is
+/// told on standard error, N from 1, and nothing more is read. The exit status is 0, or that of the fault.
+pub fn run<T: Table>(rt: &HostRuntime, table: &mut T) -> ExitCode {
+    match read(rt, table) {
+        Ok(()) => match table.print(rt) {
+            Ok(()) => ExitCode::SUCCESS,
+            Err(fault) => ExitCode::from(fault.status()),
+        },
+        Err(fault) => ExitCode::from(fault.status()),
+    }
+}
+
+/// What a line says where `#` begins a comment: the text before that, without the white space round it. None where that is nothing.
+pub fn content(line: &str) -> Option<&str>
+    ensures { IfSome result (λ text. 0 < length text.now) }
+{
+    let text = line
+        .split_once('#')
+        .map_or(line, |(text, _comment)| text)
+        .trim();
+    if text.is_empty() { None } else { Some(text) }
+}
+
+/// The number that decimal digits write, without a sign.
+pub fn decimal(digits: &str) -> Option<u64>
+    ensures { IfSome result (λ number. digits_value 10 (without_leading_plus digits.now) ≡ number) }
+{
+    if digits.starts_with('+') {
+        None
+    } else {
+        digits.parse::<u64>().ok()
+    }
+}
+
+/// The number that hexadecimal digits write, without a sign.
+pub fn hexadecimal(digits: &str) -> Option<u64>
+    ensures { IfSome result (λ number. digits_value 16 (without_leading_plus digits.now) ≡ number) }
+{
+    if digits.starts_with('+') {
+        None
+    } else {
+        u64::from_str_radix(digits, 16).ok()
+    }
+}
+
+// Reads standard input into a table.
+fn read<T: Table>(rt: &HostRuntime, table: &mut T) -> Result<(), Fault> {
+    let mut reader = BufReader::new(rt.alloc(), rt.stdin())?;
+    let mut bytes = Vec::new(rt.alloc());
+    for number in 1..u64::MAX {
+        bytes.clear();
+        if reader.read_until(b'\n', &mut bytes)? == 0 {
+            break;
+        }
+        let line = bytes.as_slice();
+        add(rt, table, number, line.strip_suffix(b"\n").unwrap_or(line))?;
+    }
+    Ok(())
+}
+
+// Takes in the bytes of a line, and tells a faulty one.
+fn add<T: Table>(rt: &HostRuntime, table: &mut T, number: u64, line: &[u8]) -> Result<(), Fault> {
+    let taken = match str::from_utf8(line) {
+        Ok(text) => table.add(rt, text),
+        Err(_) => Err(Fault::Line),
+    };
+    if let Err(Fault::Line) = taken {
+        let text = String::from_utf8_lossy(rt.alloc(), line)?;
+        eprintln!(rt; "line {number}: {text}")?;
+    }
+    taken
+}

@@ -1,0 +1,119 @@
+#!/usr/bin/env bash
+# The programs over tables that people know. What `rt ci` compares with their excerpts is compared with what tests/tables/NAME.py
+# prints of these: it goes key by key, without ranges. So are the programs with whole tables, where these are there: Scripts.txt of
+# Debian's package unicode-data, /etc/services, the memory of a process, and lists that are made here. Then faulty lines, a
+# folder as input, an output that is full, and each request for memory refused in turn. Last, each line of code of docs/TASKS.md
+# stands in the crate `tasks`. Programs that are not built are left out, and named. The last line is 'N passed, M failed'.
+set -euo pipefail
+cd "$(dirname "${BASH_SOURCE[0]}")/.."
+names=(scripts regions ports calendar routes picture)
+work="$(mktemp -d)"
+trap 'rm -rf "$work"' EXIT
+
+passed=0
+failed=0
+judge() { # what is wanted, what was got, what was run
+    if [ "$1" = "$2" ]; then passed=$((passed + 1)); else failed=$((failed + 1)) && echo "$3: wanted '$1', got '$2'"; fi
+}
+expected() { python3 "tests/tables/$1.py"; } # of the table on standard input
+program_of() { echo "crates/$1/out/$1"; }
+
+# ---- Excerpts
+for name in "${names[@]}"; do judge "$(cat "crates/$name/stdout")" "$(expected "$name" <"crates/$name/stdin")" "the excerpt of $name"; done
+
+# ---- Lines of docs/TASKS.md
+while IFS= read -r line; do
+    judge yes "$(grep -q -F -- "$line" crates/tasks/src/*.rt && echo yes || echo no)" "'$line' of docs/TASKS.md"
+done < <(sed -n '/^| [^|]/{s/\\|/\x01/g; s/^|[^|]*|[^|]*|//p}' docs/TASKS.md | grep -o '`[^`]*`' | tr -d '`' | tr '\001' '|')
+
+built=()
+for name in "${names[@]}"; do if [ -x "$(program_of "$name")" ]; then built+=("$name"); else echo "$name is not built"; fi; done
+
+# ---- Whole tables
+if [ -f /usr/share/unicode/Scripts.txt ]; then
+    { cat /usr/share/unicode/Scripts.txt && echo '? Ωmega のabc'; } >"$work/scripts"
+fi
+printf 'D7FE..E001 ; One\nD800..DFFF ; None\nDC00..E003 ; Two\n10FFFF ; Two\n0 ; One\n? \n' >"$work/scripts.ends"
+{ cat /etc/services && printf '? %s\n' 1 10 100 1000 10000 40000; } >"$work/ports"
+{ cat /proc/$$/maps && echo && cat /proc/self/maps; } >"$work/regions"
+cat /proc/self/maps >"$work/regions.one"
+python3 - "$work" <<'END'
+import random
+import sys
+from datetime import date, timedelta
+from ipaddress import IPv4Network
+
+random.seed(1)
+work = sys.argv[1]
+with open(f"{work}/calendar", "w") as out:
+    for _ in range(300):
+        start = date.fromordinal(random.randint(1, 3652059 - 40))
+        out.write(f"{start} {start + timedelta(random.randint(0, 40))} {random.choice('abc')}\n")
+    for _ in range(100):
+        start = date(1999, 12, 1) + timedelta(random.randint(0, 500))
+        out.write(f"{start} {start + timedelta(random.randint(0, 9))} {random.choice('abc')}\n")
+    out.write("0001-01-01 0001-01-01 first\n9999-12-31 9999-12-31 last\n")
+    out.write("".join(f"? {year:04}\n" for year in (1, 1900, 1999, 2000, 2001, 2100, 9999)))
+with open(f"{work}/routes", "w") as out:
+    for _ in range(400):
+        length = random.randint(0, 32)
+        address = random.getrandbits(32) & random.getrandbits(32)
+        out.write(f"{IPv4Network((address, length), strict=False)} {random.choice('abcdef')}\n")
+    out.write("".join("? " + ".".join(str(random.getrandbits(8)) for _ in range(4)) + "\n" for _ in range(50)))
+with open(f"{work}/picture", "w") as out:
+    for _ in range(40):
+        start = random.randint(-500, 500)
+        out.write(f"{start} {start + random.randint(0, 60)} {random.choice('abc')}\n")
+END
+for name in "${built[@]}"; do
+    for table in "$work/$name" "$work/$name".*; do
+        if [ ! -f "$table" ]; then continue; fi
+        expected "$name" <"$table" >"$work/wanted"
+        "$(program_of "$name")" <"$table" >"$work/got" || true
+        judge yes "$(cmp -s "$work/wanted" "$work/got" && echo yes || diff "$work/wanted" "$work/got" | head -n 5)" "the whole table ${table##*/}"
+    done
+done
+if [ -x "$(program_of picture)" ]; then
+    judge "$(cat docs/example.svg)" "$(printf 'svg\n2 5 a\n3 4 b\n' | "$(program_of picture)")" "docs/example.svg"
+fi
+
+# ---- Faults
+status_of() { # the program, its standard input; its standard error goes to $work/told
+    local status=0
+    "$(program_of "$1")" <"$2" >"$work/printed" 2>"$work/told" || status=$?
+    echo "$status"
+}
+while IFS='|' read -r name line; do
+    if [ ! -x "$(program_of "$name")" ]; then continue; fi
+    { head -n 2 "crates/$name/stdin" && echo "$line" && tail -n 2 "crates/$name/stdin"; } >"$work/faulty"
+    judge 2 "$(status_of "$name" "$work/faulty")" "$name: '$line': status"
+    judge "line 3: $line" "$(cat "$work/told")" "$name: '$line': standard error"
+    judge '' "$(grep -v ' meets ' "$work/printed" || true)" "$name: '$line': standard output"
+done <tests/tables/faulty_lines.txt
+if [ -x "$(program_of scripts)" ]; then
+    printf '0041 ; Latin\n\xff\n' >"$work/faulty"
+    judge "2 line 2: �" "$(status_of scripts "$work/faulty") $(cat "$work/told")" "scripts: a line that is no text"
+fi
+cc -shared -fPIC -O1 -o "$work/refuse.so" tests/refuse.c
+for name in "${built[@]}"; do
+    judge 1 "$(status_of "$name" "$work")" "$name: a folder as input"
+    status=0
+    "$(program_of "$name")" <"crates/$name/stdin" >/dev/full || status=$?
+    judge 1 "$status" "$name: an output that is full"
+    { head -n 4 "crates/$name/stdin" && grep '^?' "crates/$name/stdin" || true; } >"$work/short"
+    judge 0 "$(status_of "$name" "$work/short")" "$name: a short table"
+    cp "$work/printed" "$work/wanted"
+    requests="$(REFUSE_ALL=1 REFUSE_TELL=1 LD_PRELOAD="$work/refuse.so" "$(program_of "$name")" <"$work/short" 2>&1 >/dev/null | sed -n 's/^requests=//p')"
+    refusals=0
+    for ((nth = 1; nth <= requests; nth++)); do
+        status="$(REFUSE_ALL=1 REFUSE_NTH=$nth LD_PRELOAD="$work/refuse.so" status_of "$name" "$work/short")"
+        if [ "$status" = 3 ]; then
+            refusals=$((refusals + 1))
+        else
+            judge "0 yes" "$status $(cmp -s "$work/wanted" "$work/printed" && echo yes)" "$name: request $nth of $requests refused"
+        fi
+    done
+    judge yes "$([ "$refusals" -gt 0 ] && echo yes || echo no)" "$name: requests are made that are needed"
+done
+echo "$passed passed, $failed failed"
+[ "$failed" = 0 ]
