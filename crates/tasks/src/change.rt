@@ -3,12 +3,17 @@ use crate::Map;
 use range_map_blaze::RangeMapBlaze;
 use std::alloc::AllocError;
 
-/// Keys and ranges are put in and taken out.
-fn edits(rt: &HostRuntime, map: &mut Map) -> Result<(), AllocError> {
+/// A key is put in and taken out.
+fn keys(rt: &HostRuntime, map: &mut Map) -> Result<(), AllocError> {
     let old = map.insert(12, 'x')?;
     let _ = println!(rt; "{old:?} {map}");
     let old = map.remove(12)?;
     let _ = println!(rt; "{old:?} {map}");
+    Ok(())
+}
+
+/// A range is taken out, and others are put in.
+fn ranges(rt: &HostRuntime, map: &mut Map) -> Result<(), AllocError> {
     map.ranges_remove(14..=16)?;
     let _ = println!(rt; "{map}");
     map.extend_ranges([(0..=4, 'f'), (4..=5, 'g')])?;
@@ -16,13 +21,18 @@ fn edits(rt: &HostRuntime, map: &mut Map) -> Result<(), AllocError> {
     Ok(())
 }
 
-/// Another map is taken in, and parts of a map are kept.
-fn parts(rt: &HostRuntime, map: &mut Map) -> Result<(), AllocError> {
+/// Another map is taken in, and entries are kept by a test.
+fn entries(rt: &HostRuntime, map: &mut Map) -> Result<(), AllocError> {
     let other = RangeMapBlaze::from_ranges(rt.alloc(), [(3..=20, 'z')])?;
     map.bitor_assign_ref(&other)?;
     let _ = println!(rt; "{map}");
     map.ranges_retain(|range, value| *value != 'f' && *range.start() < 100);
     let _ = println!(rt; "{map}");
+    Ok(())
+}
+
+/// A map is parted, and the pairs of a range are given by value.
+fn parts(rt: &HostRuntime, map: &mut Map) -> Result<(), AllocError> {
     let above = map.split_off(20)?;
     let _ = println!(rt; "{map}; {above}");
     for pair in above.range(22..=23)? {
@@ -32,9 +42,12 @@ fn parts(rt: &HostRuntime, map: &mut Map) -> Result<(), AllocError> {
     Ok(())
 }
 
-/// The last key is taken out, and then all keys at which a closure says so: it is called for each key.
+/// Makes all calls of this file. At the end the last key is taken out, and then all keys at which a closure says so: it is called
+/// for each key.
 pub fn all(rt: &HostRuntime, mut map: Map) -> Result<(), AllocError> {
-    edits(rt, &mut map)?;
+    keys(rt, &mut map)?;
+    ranges(rt, &mut map)?;
+    entries(rt, &mut map)?;
     parts(rt, &mut map)?;
     let popped = map.pop_last()?;
     let _ = println!(rt; "{popped:?} {map}");

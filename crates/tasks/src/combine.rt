@@ -4,12 +4,17 @@ use range_map_blaze::{RangeMapBlaze, RangeSetBlaze};
 use range_map_multi::MultiwayRangeMapBlazeRef;
 use std::alloc::AllocError;
 
-/// Operators on two maps.
-fn operators(rt: &HostRuntime, map: &Map, other: &Map) -> Result<(), AllocError> {
+/// The keys of either map, and those of both.
+fn either_and_both(rt: &HostRuntime, map: &Map, other: &Map) -> Result<(), AllocError> {
     let either = (map | other)?;
     let _ = println!(rt; "{either}");
     let both = (map & other)?;
     let _ = println!(rt; "{both}");
+    Ok(())
+}
+
+/// The keys of one map alone, and the free keys.
+fn alone_and_free(rt: &HostRuntime, map: &Map, other: &Map) -> Result<(), AllocError> {
     let alone = (map - other)?;
     let _ = println!(rt; "{alone}");
     let free = (!map)?;
@@ -17,16 +22,31 @@ fn operators(rt: &HostRuntime, map: &Map, other: &Map) -> Result<(), AllocError>
     Ok(())
 }
 
-/// A map cut to a set of keys, a map of answers, a comparison of two maps, and many maps.
-fn others(rt: &HostRuntime, map: &Map, other: &Map) -> Result<(), AllocError> {
-    let alloc = rt.alloc();
-    let keys = RangeSetBlaze::from_ranges(alloc, [0..=11, 20..=21])?;
+/// A map cut to a set of keys.
+fn on_a_set(rt: &HostRuntime, map: &Map) -> Result<(), AllocError> {
+    let keys = RangeSetBlaze::from_ranges(rt.alloc(), [0..=11, 20..=21])?;
     let cut = (map & &keys)?;
     let _ = println!(rt; "{cut}");
+    Ok(())
+}
+
+/// Other values on the same keys.
+fn capitals_of(rt: &HostRuntime, map: &Map) -> Result<Map, AllocError> {
     let capitals = map.transform_values(|value| value.to_ascii_uppercase())?;
     let _ = println!(rt; "{capitals}");
+    Ok(capitals)
+}
+
+/// Answers where two maps meet.
+fn joined(rt: &HostRuntime, map: &Map, other: &Map) -> Result<(), AllocError> {
     let pairs = map.inner_join(other, |value, new| (*value, *new))?;
     let _ = println!(rt; "{pairs}");
+    Ok(())
+}
+
+/// Three maps in one, and two maps compared.
+fn many(rt: &HostRuntime, map: &Map, other: &Map, capitals: Map) -> Result<(), AllocError> {
+    let alloc = rt.alloc();
     let all = [map, other, &capitals].union(alloc)?;
     let _ = println!(rt; "{all}");
     let is_same = *map == map.clone()?;
@@ -37,6 +57,10 @@ fn others(rt: &HostRuntime, map: &Map, other: &Map) -> Result<(), AllocError> {
 /// Makes all calls of this file.
 pub fn all(rt: &HostRuntime, map: &Map) -> Result<(), AllocError> {
     let other = RangeMapBlaze::from_ranges(rt.alloc(), [(0..=12, 'x')])?;
-    operators(rt, map, &other)?;
-    others(rt, map, &other)
+    either_and_both(rt, map, &other)?;
+    alone_and_free(rt, map, &other)?;
+    on_a_set(rt, map)?;
+    let capitals = capitals_of(rt, map)?;
+    joined(rt, map, &other)?;
+    many(rt, map, &other, capitals)
 }
