@@ -27,20 +27,13 @@ struct Plan {
     first: Option<(i64, bool)>,
     /// The entry that starts below the range: first key, last key, and whether its value is the same.
     left: Option<(i64, i64, bool)>,
-    /// The least and the greatest start of the covered entries above the first.
-    covered: Option<(i64, i64)>,
     /// How many keys of the range have a value.
     keys: u128,
 }
 
-/// The least and the greatest of some starts, with a start below them.
-fn with_least(start: i64, starts: Option<(i64, i64)>) -> (i64, i64) {
-    (start, starts.map_or(start, |(_, greatest)| greatest))
-}
-
 impl<V: Eq + Clone> RangeMap<V> {
     fn plan(&self, lo: i64, hi: i64, value: &V) -> Plan {
-        let mut plan = Plan { end: hi, rest: None, first: None, left: None, covered: None, keys: 0 };
+        let mut plan = Plan { end: hi, rest: None, first: None, left: None, keys: 0 };
         for (&start, node) in self.tree.range(..=hi.saturating_add(1)).rev() {
             let is_same = held(&node.1) == value;
             if start <= hi && node.0 >= lo {
@@ -51,9 +44,7 @@ impl<V: Eq + Clone> RangeMap<V> {
             } else if node.0 > hi && start <= hi {
                 plan.rest = Some(start);
             }
-            if start > lo && (is_same || node.0 <= hi) {
-                plan.covered = Some(with_least(start, plan.covered));
-            } else if start < lo {
+            if start < lo {
                 plan.left = Some((start, node.0, is_same));
                 break;
             } else if start == lo {
@@ -77,7 +68,7 @@ impl<V: Eq + Clone> RangeMap<V> {
         self.len = self.len - plan.keys + painted;
         let is_changed = plan.keys != painted;
         match plan.left {
-            Some((start, end, true)) if end >= lo - 1 => self.paint_on(start, lo, plan),
+            Some((start, end, true)) if end >= lo - 1 => self.paint_on(start, plan),
             Some((start, end, _)) if end > plan.end => {
                 let copy = self.set_end(start, lo - 1, |node| node.clone());
                 self.tree.insert(plan.end + 1, (end, copy));
@@ -89,15 +80,11 @@ impl<V: Eq + Clone> RangeMap<V> {
     }
 
     /// Lengthens the entry that starts at `start` over the range.
-    fn paint_on(&mut self, start: i64, lo: i64, plan: Plan) {
+    fn paint_on(&mut self, start: i64, plan: Plan) {
         if let Some(rest) = plan.rest {
             self.move_start(rest, plan.end + 1);
         }
-        let covered = match plan.first {
-            Some((end, _)) if end <= plan.end => Some(with_least(lo, plan.covered)),
-            _ => plan.covered,
-        };
-        self.clear(start, covered);
+        self.clear(start, plan.end);
         self.set_end(start, plan.end, |_| ());
     }
 
@@ -123,7 +110,7 @@ impl<V: Eq + Clone> RangeMap<V> {
         {
             self.set_end(start, lo - 1, |_| ());
         }
-        self.clear(lo, plan.covered);
+        self.clear(lo, plan.end);
     }
 
     fn set_end<R>(&mut self, start: i64, end: i64, answer: impl Fn(&Held<V>) -> R) -> R {
@@ -145,14 +132,13 @@ impl<V: Eq + Clone> RangeMap<V> {
         }
     }
 
-    /// Takes out what starts above `first`, where the least and the greatest start are known.
-    fn clear(&mut self, first: i64, covered: Option<(i64, i64)>) {
-        let Some((least, greatest)) = covered else { return };
-        self.tree.remove(&least);
-        let mut last = least;
-        while last < greatest && let Some((&start, _)) = self.tree.range(first + 1..).next() {
+    /// Takes out what starts above `first`, up to `end`.
+    fn clear(&mut self, first: i64, end: i64) {
+        while first < end
+            && let Some((&start, _)) = self.tree.range(first + 1..).next()
+            && start <= end
+        {
             self.tree.remove(&start);
-            last = start;
         }
     }
 

@@ -8,7 +8,7 @@ use Rattle.blaze_entries.specs.Found.{found_in, IsFoundAt}
 use Rattle.blaze_entries.specs.Places.{held, full, places, place_of, AreFull}
 use Rattle.std.specs.Int.{int_max, int_min}
 use Rattle.blaze_entries.specs.Overlap.{shared, overlap}
-use Rattle.blaze_entries.specs.Scanned.{Seen, seen, walked, seen_covered, walked_covered, seen_value, walked_value, answers, walked_keys}
+use Rattle.blaze_entries.specs.Scanned.{Seen, seen, walked, seen_value, walked_value, answers, walked_keys}
 use Rattle.blaze_entries.specs.declared.found.Found.{Found}
 use Rattle.blaze_entries.specs.declared.nodes.EndValue.{EndValue}
 
@@ -78,9 +78,6 @@ module _ {V : Type 0} (l h : ℤ) where
       pub last_walked : (s : Seen) → walked eq v l h s es ≡ seen l h s f
       last_walked s = ap (walked eq v l h s) parts ∙ ap (λ b. cond b (seen l h s (found_in eq v e)) (walked eq v l h (seen l h s (found_in eq v e)) fs)) here ∙ ap (seen l h s) (sym is)
 
-      pub last_covered : (s : Option (ℤ × ℤ)) → walked_covered eq v l h s es ≡ seen_covered l h s f
-      last_covered s = ap (walked_covered eq v l h s) parts ∙ ap (λ b. cond b (seen_covered l h s (found_in eq v e)) (walked_covered eq v l h (seen_covered l h s (found_in eq v e)) fs)) here ∙ ap (seen_covered l h s) (sym is)
-
       pub last_value : (o : Option V) → walked_value l o es ≡ seen_value l o e
       last_value o = ap (walked_value l o) parts ∙ ap (λ b. cond b (seen_value l o e) (walked_value l (seen_value l o e) fs)) here
 
@@ -100,10 +97,6 @@ module _ {V : Type 0} (l h : ℤ) where
       pub next_walked : (s : Seen) → walked eq v l h s es ≡ walked eq v l h (seen l h s f) fs
       next_walked s = ap (walked eq v l h s) parts ∙ ap (λ b. cond b (seen l h s (found_in eq v e)) (walked eq v l h (seen l h s (found_in eq v e)) fs)) here_not
           ∙ ap (λ t. walked eq v l h (seen l h s t) fs) (sym is)
-
-      pub next_covered : (s : Option (ℤ × ℤ)) → walked_covered eq v l h s es ≡ walked_covered eq v l h (seen_covered l h s f) fs
-      next_covered s = ap (walked_covered eq v l h s) parts ∙ ap (λ b. cond b (seen_covered l h s (found_in eq v e)) (walked_covered eq v l h (seen_covered l h s (found_in eq v e)) fs)) here_not
-          ∙ ap (λ t. walked_covered eq v l h (seen_covered l h s t) fs) (sym is)
 
       pub next_value : (o : Option V) → walked_value l o es ≡ walked_value l (seen_value l o e) fs
       next_value o = ap (walked_value l o) parts ∙ ap (λ b. cond b (seen_value l o e) (walked_value l (seen_value l o e) fs)) here_not

@@ -1,5 +1,5 @@
 -- A walk down the entries from above a range, and what it has seen.
-use Rattle.std.specs.Prelude.{◌≡◌, ℕ, ◌+◌, ℤ, pos, ◌+ℤ◌, ◌<ℤ◌, false, MatchOption, IsSomeAnd, int_lt, int_le, Bool, ◌||◌, if◌then◌else◌, List, [], ◌∷◌, Option, Some, None}
+use Rattle.std.specs.Prelude.{◌≡◌, ℕ, ◌+◌, ℤ, pos, ◌+ℤ◌, ◌<ℤ◌, false, MatchOption, IsSomeAnd, int_lt, int_le, Bool, if◌then◌else◌, List, [], ◌∷◌, Option, Some, None}
 use Rattle.std.specs.Option.{option_map}
 use Rattle.blaze_entries.specs.Entries.{Entry, holds}
 use Rattle.blaze_entries.specs.Found.{found_in, found_of}
@@ -37,22 +37,6 @@ module _ {V : Type 0} (eq : V → V → Bool) (v : V) (l h : ℤ) where
   abbrev pub walked : Seen → List (Entry V) → Seen
   walked s [] = s
   walked s (e ∷ es) = if int_lt e.lo l then seen l h s (found_in eq v e) else walked (seen l h s (found_in eq v e)) es
-
--- the least and the greatest of some starts, with the start k below them
-abbrev pub with_least : ℤ → Option (ℤ × ℤ) → ℤ × ℤ
-with_least k None = (k, k)
-with_least k (Some c) = (k, c.1)
-
--- The least and the greatest start of the covered entries, after an entry. It is covered if it starts above l, and ends up to h
--- or has an equal value.
-abbrev pub seen_covered : ℤ → ℤ → Option (ℤ × ℤ) → ℤ × ℤ × Bool → Option (ℤ × ℤ)
-seen_covered l h c t = if int_lt l t.0 then (if t.2 || int_le t.1 h then Some (with_least t.0 c) else c) else c
-
-module _ {V : Type 0} (eq : V → V → Bool) (v : V) (l h : ℤ) where
-  -- of a walk's entries, as `walked`
-  abbrev pub walked_covered : Option (ℤ × ℤ) → List (Entry V) → Option (ℤ × ℤ)
-  walked_covered c [] = c
-  walked_covered c (e ∷ es) = if int_lt e.lo l then seen_covered l h c (found_in eq v e) else walked_covered (seen_covered l h c (found_in eq v e)) es
 
 -- the value of the key l, after an entry
 abbrev pub seen_value : {V : Type 0} → ℤ → Option V → Entry V → Option V

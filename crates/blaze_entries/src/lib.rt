@@ -24,4 +24,4 @@ pub use into_iter::IntoIter;
 pub use iter::Iter;
 pub use overlap::less;
 pub use range::Range;
-pub use scan::{Plan, next_or_last, with_least};
+pub use scan::{Plan, next_or_last};

@@ -3,12 +3,11 @@ ghost use Rattle.std.specs.Prelude.{◌≡◌, ◌⊎◌, ◌+◌, ◌++◌, ◌
 ghost use Rattle.std.specs.Prelude.{reverse, None, MatchOption, OnSome, IfOk, OnErr};
 ghost use Rattle.std.specs.Option.{option_map, option_copied};
 ghost use Rattle.blaze_entries.specs.Entries.{Entry, entry};
-ghost use Rattle.blaze_entries.specs.Found.{found_of, ranks_of, IsFoundAt};
+ghost use Rattle.blaze_entries.specs.Found.{found_of, IsFoundAt};
 ghost use Rattle.blaze_entries.specs.Places.{places, entries_of, AreFull, AreHeld};
 ghost use Rattle.blaze_entries.specs.Scanned.{seen_of, unseen, seen_end, seen_start, seen, walked};
-ghost use Rattle.blaze_entries.specs.Scanned.{with_least, seen_covered, walked_covered, answers};
-ghost use Rattle.blaze_entries.specs.Scanned.{walked_keys, seen_value, walked_value, IsAboveCloned};
-ghost use Rattle.blaze_entries.specs.Scanned.{GoesOnUnlike};
+ghost use Rattle.blaze_entries.specs.Scanned.{answers, walked_keys, seen_value, walked_value};
+ghost use Rattle.blaze_entries.specs.Scanned.{IsAboveCloned, GoesOnUnlike};
 ghost use Rattle.blaze_entries.specs.Starts.{below};
 
 use crate::count::Count;
@@ -33,42 +32,25 @@ pub struct Plan<T> {
     pub first: Option<Found<T>>,
     /// The entry with the greatest start below the range.
     pub left: Option<Found<T>>,
-    /// The least and the greatest start of the entries that the range covers, joined as it is, but for the one that starts
-    /// where it does.
-    pub covered: Option<(T, T)>,
-}
-
-/// The least and the greatest of some starts, with a start below them.
-pub fn with_least<T: Integer>(start: T, starts: Option<(T, T)>) -> (T, T)
-    ensures { ranks_of T.rank result
-        ≡ with_least (T.rank start) (option_map (ranks_of T.rank) starts) }
-{
-    match starts {
-        Some(ends) => (start, ends.1),
-        None => (start, start),
-    }
 }
 
 impl<T: Integer> Plan<T> {
     /// The plan before the first entry.
     pub fn new(hi: T) -> Plan<T>
-        ensures seen { seen_of T.rank result ≡ unseen (T.rank hi) }
-        ensures covered { option_map (ranks_of T.rank) result.covered ≡ None }
+        ensures { seen_of T.rank result ≡ unseen (T.rank hi) }
     {
         Plan {
             end: hi,
             rest: None,
             first: None,
             left: None,
-            covered: None,
         }
     }
 
     // Takes in an entry's end.
     fn see_end(&mut self, hi: T, found: Found<T>)
-        ensures seen { seen_of T.rank self.new
+        ensures { seen_of T.rank self.new
             ≡ seen_end (T.rank hi) (seen_of T.rank self.old) (found_of T.rank found) }
-        ensures covered { self.new.covered ≡ self.old.covered }
     {
         if is_below(hi, found.end) {
             if found.is_equal {
@@ -81,9 +63,8 @@ impl<T: Integer> Plan<T> {
 
     // Takes in an entry's start.
     fn see_start(&mut self, lo: T, found: Found<T>)
-        ensures seen { seen_of T.rank self.new
+        ensures { seen_of T.rank self.new
             ≡ seen_start (T.rank lo) (seen_of T.rank self.old) (found_of T.rank found) }
-        ensures covered { self.new.covered ≡ self.old.covered }
     {
         if is_below(found.start, lo) {
             self.left = Some(found);
@@ -92,29 +73,13 @@ impl<T: Integer> Plan<T> {
         }
     }
 
-    // Takes in whether the range covers an entry.
-    fn see_covered(&mut self, lo: T, hi: T, found: Found<T>)
-        ensures seen { seen_of T.rank self.new ≡ seen_of T.rank self.old }
-        ensures covered { option_map (ranks_of T.rank) self.new.covered
-            ≡ seen_covered (T.rank lo) (T.rank hi) (option_map (ranks_of T.rank) self.old.covered)
-            (found_of T.rank found) }
-    {
-        if is_below(lo, found.start) && (found.is_equal || is_at_most(found.end, hi)) {
-            self.covered = Some(with_least(found.start, self.covered));
-        }
-    }
-
     /// Takes in an entry.
     pub fn see(&mut self, lo: T, hi: T, found: Found<T>)
-        ensures seen { seen_of T.rank self.new
+        ensures { seen_of T.rank self.new
             ≡ seen (T.rank lo) (T.rank hi) (seen_of T.rank self.old) (found_of T.rank found) }
-        ensures covered { option_map (ranks_of T.rank) self.new.covered
-            ≡ seen_covered (T.rank lo) (T.rank hi) (option_map (ranks_of T.rank) self.old.covered)
-            (found_of T.rank found) }
     {
         self.see_end(hi, found);
         self.see_start(lo, found);
-        self.see_covered(lo, hi, found);
     }
 }
 
@@ -199,9 +164,6 @@ pub fn walk<'a, T: Integer, V: Eq>(
         ≤ℤ pos (T.SafeLen.number len) }
     ensures plan { seen_of T.rank result.0
         ≡ walked V.eq value.now (T.rank lo) (T.rank hi) (unseen (T.rank hi))
-        (reverse (below (T.rank hi +ℤ pos 2) (entries_of T.rank tree.now.entries))) }
-    ensures covered { option_map (ranks_of T.rank) result.0.covered
-        ≡ walked_covered V.eq value.now (T.rank lo) (T.rank hi) None
         (reverse (below (T.rank hi +ℤ pos 2) (entries_of T.rank tree.now.entries))) }
     ensures len { pos (T.SafeLen.number result.1)
         +ℤ walked_keys (T.rank lo) (T.rank hi)

@@ -5,8 +5,6 @@ pub mod Inside
 pub mod PutInside
 pub mod EditLists
 pub mod Clearing
-pub mod StartsIn
-pub mod CoveredOut
 pub mod Placing
 pub mod Widened
 pub mod Composed

@@ -4,7 +4,6 @@ pub mod Walked
 pub mod Worked
 pub mod WalkedPlans
 pub mod Outside
-pub mod Covering
 pub mod FewLooks
 pub mod Descents
 pub mod SeenPlans

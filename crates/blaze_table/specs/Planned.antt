@@ -1,12 +1,11 @@
 -- A paint planned by what lies beside its range, and the steps that make it or a cut, in the words of the list.
 use Rattle.std.specs.Prelude.{◌≡◌, ℕ, ◌+◌, ◌≤◌, ◌⊎◌, ◌++◌, ◌&&◌, ◌||◌, ℤ, pos, ◌+ℤ◌, ◌≤ℤ◌, ◌<ℤ◌, int_lt, int_le, if◌then◌else◌, Bool, true, false, List, [], ◌∷◌, Option, Some, None, IfSome, IsSomeAnd}
-use Rattle.std.specs.List.{filter}
 use Rattle.std.specs.Option.{option_map}
 use Rattle.std.specs.Ordering.{int_eq}
 use Rattle.blaze_entries.specs.Cloned.{IsRestCloned}
 use Rattle.blaze_entries.specs.Counted.{CountedEntries}
 use Rattle.blaze_entries.specs.Found.{found_in}
-use Rattle.blaze_entries.specs.Scanned.{Seen, with_least}
+use Rattle.blaze_entries.specs.Scanned.{Seen}
 use Rattle.blaze_entries.specs.Starts.{below, from, last_below, start_at}
 use Rattle.blaze_entries.specs.declared.found.Found.{Found}
 use Rattle.blaze_table.specs.Entries.{Entry, entry}
@@ -59,29 +58,6 @@ pub record IsPlanOf {V : Type 0} (eq : V → V → Bool) (l h : ℤ) (v : V) (es
   pub first : s.first ≡ option_map (found_in eq v) (start_at l es)
   pub left : s.left ≡ option_map (found_in eq v) (last_below l es)
 
--- the entries that start above f, up to z
-abbrev pub starts_in : {V : Type 0} → ℤ → ℤ → List (Entry V) → List (Entry V)
-starts_in f z es = from (f +ℤ pos 1) (below (z +ℤ pos 1) es)
-
--- the entries that start above f and end up to z
-abbrev pub ends_in : {V : Type 0} → ℤ → ℤ → List (Entry V) → List (Entry V)
-ends_in f z es = filter (λ e. int_le e.hi z) (from (f +ℤ pos 1) es)
-
--- the starts of the first and the last of the entries
-abbrev pub outer_starts : {V : Type 0} → List (Entry V) → Option (ℤ × ℤ)
-outer_starts [] = None
-outer_starts (e ∷ es) = Some (with_least e.lo (outer_starts es))
-
--- they are those of the entries that start above f, up to z
-pub record AreOuterStarts {V : Type 0} (f z : ℤ) (es : List (Entry V)) (starts : Option (ℤ × ℤ)) : Type 0 where
-  pub order : f ≤ℤ z
-  pub are : starts ≡ outer_starts (starts_in f z es)
-
--- the same with an entry before them that was looked at, if it ends up to z
-abbrev pub outer_with : ℤ → Option (ℤ × ℤ × Bool) → Option (ℤ × ℤ) → Option (ℤ × ℤ)
-outer_with z None c = c
-outer_with z (Some t) c = if int_le t.1 z then Some (with_least t.0 c) else c
-
 -- a value equal to that of the last entry that starts below l, where that one goes on above z
 abbrev pub IsLikeAbove : {V : Type 0} → (V → V → Bool) → ℤ → ℤ → List (Entry V) → Option V → Type 0
 IsLikeAbove eq l z es o = IfSome (last_below l es) (λ e. z <ℤ e.hi → IsSomeAnd o (λ u. eq e.value u ≡ true))
@@ -111,19 +87,15 @@ abbrev pub IsRest : {V : Type 0} → ℤ → List (Entry V) → Option (ℤ × �
 IsRest z es None = after z es ≡ from (z +ℤ pos 1) es
 IsRest z es (Some r) = IsRestOf z es r.0 r.1
 
--- what lies above z starts above it, the same as before, what starts up to k is as before, and what starts between them is what
--- ended there
+-- what lies above z starts above it, the same as before, and what starts up to k is as before
 pub record IsRestKept {V : Type 0} (eq : V → V → Bool) (k z : ℤ) (old new : List (Entry V)) : Type 0 where
   pub below : below (k +ℤ pos 1) new ≡ below (k +ℤ pos 1) old
-  pub amid : starts_in k z new ≡ ends_in k z old
   pub like : IsSameAbove eq z old (from (z +ℤ pos 1) new)
 
--- the entry p is there, what lies above its end starts above it, the same as before, what starts below p is as before, and what
--- starts in it is what ended there
+-- the entry p is there, what lies above its end starts above it, the same as before, and what starts below p is as before
 pub record IsStartPut {V : Type 0} (eq : V → V → Bool) (p : Entry V) (old new : List (Entry V)) : Type 0 where
   pub below : below p.lo new ≡ below p.lo old
   pub here : start_at p.lo new ≡ Some p
-  pub amid : starts_in p.lo p.hi new ≡ ends_in p.lo p.hi old
   pub like : IsSameAbove eq p.hi old (from (p.hi +ℤ pos 1) new)
 
 -- the entry p stands in the list, between what lies below and above it

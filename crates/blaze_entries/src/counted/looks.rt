@@ -4,7 +4,7 @@ ghost use Rattle.std.specs.Prelude.{None, MatchOption, IfOk, OnErr, IfSome, IsSo
 ghost use Rattle.std.specs.Option.{option_map};
 ghost use Rattle.blaze_entries.specs.Cloned.{IsAround};
 ghost use Rattle.blaze_entries.specs.Found.{found_in, found_of, range_in, ranks_of};
-ghost use Rattle.blaze_entries.specs.Scanned.{seen_of, unseen, walked, walked_covered, walked_value};
+ghost use Rattle.blaze_entries.specs.Scanned.{seen_of, unseen, walked, walked_value};
 ghost use Rattle.blaze_entries.specs.Scanned.{answers, walked_keys, IsAboveCloned, GoesOnUnlike};
 ghost use Rattle.blaze_entries.specs.Starts.{below, last_below, first_from};
 
@@ -108,9 +108,6 @@ impl<T: Integer, V: Eq + Clone> Counted<T, V> {
         ensures plan { IfOk result (λ r. seen_of T.rank r.0
             ≡ walked V.eq value.now (T.rank lo) (T.rank hi) (unseen (T.rank hi))
             (reverse (below (T.rank hi +ℤ pos 2) self.old.entries))) }
-        ensures covered { IfOk result (λ r. option_map (ranks_of T.rank) r.0.covered
-            ≡ walked_covered V.eq value.now (T.rank lo) (T.rank hi) None
-            (reverse (below (T.rank hi +ℤ pos 2) self.old.entries))) }
         ensures len { IfOk result (λ r. pos (T.SafeLen.number r.1)
             +ℤ walked_keys (T.rank lo) (T.rank hi)
             (reverse (below (T.rank hi +ℤ pos 2) self.old.entries))
@@ -147,9 +144,6 @@ impl<T: Integer, V: Eq + Clone> Counted<T, V> {
             ≤ℤ pos (T.SafeLen.number len) }
         ensures plan { IfOk result (λ r. seen_of T.rank r.0
             ≡ walked V.eq value.now (T.rank lo) (T.rank hi) (unseen (T.rank hi))
-            (reverse (below (T.rank hi +ℤ pos 2) self.old.entries))) }
-        ensures covered { IfOk result (λ r. option_map (ranks_of T.rank) r.0.covered
-            ≡ walked_covered V.eq value.now (T.rank lo) (T.rank hi) None
             (reverse (below (T.rank hi +ℤ pos 2) self.old.entries))) }
         ensures len { IfOk result (λ r. pos (T.SafeLen.number r.1)
             +ℤ walked_keys (T.rank lo) (T.rank hi)

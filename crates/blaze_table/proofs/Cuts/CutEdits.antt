@@ -16,7 +16,7 @@ use Rattle.blaze_table.specs.LastBelow.{IsAroundLike}
 use Rattle.blaze_table.specs.Painted.{ClonesAreAlike}
 use Rattle.blaze_table.specs.Splice.{IsBelow, IsCutOf, IsRangeCutOf, overlap, covered}
 use Rattle.blaze_table.proofs.Cuts.Cutting.{cut_whole, cut_end, cut_start, cut_inside, at_cut, covered_past}
-use Rattle.blaze_table.proofs.Neighbours.Holders.{Holder, there, is_holder, taken_out, taken_from, put_inside, end_moved, of_last, for_last, holder, with_entry-between}
+use Rattle.blaze_table.proofs.Neighbours.Holders.{Holder, there, is_holder, taken_out, taken_from, put_inside, end_moved, for_last, holder, with_entry-between}
 use Rattle.blaze_table.proofs.Canonical.Lookup.{IsAbove, at_over, at_before, entry_in, entry_over}
 use Rattle.blaze_table.proofs.Paints.Splices.{below_more}
 use Rattle.blaze_table.proofs.Canonical.Counted.{overlap_whole}
@@ -84,14 +84,7 @@ module _ {V : Type 0} (eq : V → V → Bool) (laws : IsEquivalence eq) (k high 
       ap (λ l. at l j) h.parts ∙ at_past j h.front (e ∷ h.back) (under j (omega (arith, ints))) ∙ at_over e h.back j (omega (arith, ints))
       ∙ at_before eq h.back k j h.here.2 over w
 
-  -- a value is equal to it where it goes on below l and above the key
-  pub around_held : (l : ℤ) (o : Option V) → IsAroundLike eq l k es o → s <ℤ l → k <ℤ z → IsSomeAnd o (λ v. eq e.value v ≡ true)
-  around_held l o i u w =
-      let f = h.lo in
-      let t = h.hi in
-      of_last eq b high es s z h (λ x. IsAround l k x → IsSomeAnd o (λ v. eq x.value v ≡ true)) i (omega (arith, ints), omega (arith, ints))
-
-  -- which is asked of no entry that ends at the key
+  -- no value is asked to be equal to that of an entry that ends at the key
   pub around_none : (l : ℤ) (o : Option V) → z ≤ℤ k → IsAroundLike eq l k es o
   around_none l o u =
       let t = h.hi in

@@ -5,7 +5,7 @@ use Rattle.std.specs.List.{last_or}
 use Rattle.std.proofs.lemmas.Int.{ints, by_lt_z}
 use Rattle.std.proofs.lemmas.List.Elements.{filter-append}
 use Rattle.blaze_entries.specs.Starts.{StartsAscend, below, from, first_entry, last_below, first_from, start_at}
-use Rattle.blaze_entries.proofs.Ascending.{by_order, start_none, first_none}
+use Rattle.blaze_entries.proofs.Ascending.{by_order, start_none}
 use Rattle.blaze_entries.proofs.Halves.{StartsBelow, below_takes, below_skips, from_takes, from_skips, below_none, from_all, from_none, more_below}
 use Rattle.blaze_table.specs.Entries.{Entry, entry}
 use Rattle.blaze_table.specs.Canonical.{IsApart, IsCanonical}
@@ -125,9 +125,6 @@ module _ {V : Type 0} where
     where
       some_same : Some f ≡ Some e → f ≡ e
       some_same p = cc
-
-  pub no_first : (k : ℤ) (es : List (Entry V)) → first_from k es ≡ None → from k es ≡ []
-  no_first k es n = first_none (from k es) n
 
   -- the entries from k on, by whether one starts there
   pub from_at : (k b high : ℤ) (e : Entry V) (es : List (Entry V)) → StartsAscend b high es → start_at k es ≡ Some e → (e.lo ≡ k) × (from k es ≡ e ∷ from (k +ℤ pos 1) es)

@@ -1,17 +1,15 @@
 -- Entries taken out between two keys, and the parts of parts of a list.
 use Rattle.std.proofs.Common.{◌≡◌, ℤ, pos, ◌+ℤ◌, ◌≤ℤ◌, ◌<ℤ◌, cond, List, [], ◌∷◌, ◌++◌, Option, Some, None, refl, ◌∙◌, sym, subst, ap, arith}
-use Rattle.std.specs.Prelude.{IsSome, int_lt, int_le}
+use Rattle.std.specs.Prelude.{IsSome, IfSome, int_lt, int_le}
 use Rattle.std.specs.Option.{option_map}
 use Rattle.std.proofs.lemmas.Int.{ints, by_lt_z}
 use Rattle.blaze_int.proofs.Comparisons.{lt_true, lt_false, le_true, le_false}
 use Rattle.blaze_entries.specs.Found.{range_in}
-use Rattle.blaze_entries.specs.Starts.{StartsAscend, below, from, first_from, start_at, without}
-use Rattle.blaze_entries.proofs.Halves.{starts_from, from_all, more_below}
-use Rattle.blaze_entries.proofs.Alike.{none_from_map}
+use Rattle.blaze_entries.specs.Starts.{StartsAscend, below, from, first_entry, first_from, start_at, without}
+use Rattle.blaze_entries.proofs.Halves.{starts_from, from_all}
 use Rattle.blaze_table.specs.Entries.{Entry}
-use Rattle.blaze_table.proofs.Cuts.Splits.{some_of, starts_below, halves, first_there, no_first, from_at}
+use Rattle.blaze_table.proofs.Cuts.Splits.{halves, first_there}
 use Rattle.blaze_table.proofs.Paints.EditLists.{below_without, from_without}
-use Rattle.blaze_table.proofs.Neighbours.Holders.{without-between}
 
 module _ {V : Type 0} where
   pub from_from : (j k : ℤ) (es : List (Entry V)) → j ≤ℤ k → from k (from j es) ≡ from k es
@@ -37,56 +35,34 @@ module _ {V : Type 0} where
   started s t None p = cc
   started s t (Some e) p = let q : (s, t) ≡ range_in e = cc in (e, (refl, sym (ap (λ (x : ℤ × ℤ). x.0) q)))
 
-  module _ (f k z low high : ℤ) (l : f <ℤ z) (at : k ≡ f +ℤ pos 1) (cur was : List (Entry V)) (same : cur ≡ was) where
-    looked : first_from (f +ℤ pos 1) cur ≡ first_from k was
-    looked = ap (first_from (f +ℤ pos 1)) same ∙ ap (λ x. first_from x was) (sym at)
+  -- the entries after a look for the next that starts above f
+  module _ (f n low high : ℤ) (at : n ≡ f +ℤ pos 1) (cur was : List (Entry V)) (same : cur ≡ was) (h : StartsAscend low high cur) where
+    found : first_from n was ≡ first_from (f +ℤ pos 1) cur
+    found = ap (λ (x : ℤ). first_from x was) at ∙ ap (first_from (f +ℤ pos 1)) (sym same)
 
-    -- the next entry
-    next : StartsAscend low high cur → (s t : ℤ) → Some (s, t) ≡ option_map range_in (first_from k was)
-        → (e : Entry V) × ((e.lo ≡ s) × (((f +ℤ pos 1) ≤ℤ e.lo) × (start_at e.lo cur ≡ Some e) × (from (f +ℤ pos 1) cur ≡ from e.lo cur)))
-    next h s t p = let d = started s t (first_from k was) p in (d.0, (d.1.1, first_there (f +ℤ pos 1) low high d.0 cur h (looked ∙ d.1.0)))
+    -- it is there
+    pub there : (s t : ℤ) → Some (s, t) ≡ option_map range_in (first_from n was) → (f <ℤ s) × IsSome (start_at s cur)
+    there s t p =
+        let d = started s t (first_from n was) p in
+        let e = first_there (f +ℤ pos 1) low high d.0 cur h (sym found ∙ d.1.0) in
+        let over = e.0 in
+        let is = d.1.1 in
+        (omega (arith, ints), subst (λ o. IsSome o) (sym (subst (λ (x : ℤ). start_at x cur ≡ Some d.0) is e.1)) refl)
 
-    -- the entry to be taken out is there
-    pub there : StartsAscend low high cur → (s t : ℤ) → Some (s, t) ≡ option_map range_in (first_from k was) → (f <ℤ s) × IsSome (start_at s cur)
-    there h s t p =
-        let e = next h s t p in
-        let is = e.1.0 in
-        let up = e.1.1.0 in
-        (omega (arith, ints), subst (λ o. IsSome o) (sym (subst (λ (x : ℤ). start_at x cur ≡ Some e.0) is e.1.1.1)) refl)
-
-    -- the last to be taken out, at z, is left
-    module _ (args : List (Entry V)) (g : StartsAscend low high args) (last : IsSome (start_at z args)) (a : from z was ≡ from z args) where
-      left : (e : Entry V) × (from z cur ≡ e ∷ from (z +ℤ pos 1) args)
-      left = let e = some_of (start_at z args) last in (e.0, ap (from z) same ∙ a ∙ (from_at z low high e.0 args g e.1).1)
-
-      -- so there is a next one
-      pub not_ended : None ≡ option_map range_in (first_from k was) → ⊥
-      not_ended p =
-          let none = no_first (f +ℤ pos 1) cur (looked ∙ none_from_map range_in (first_from k was) p) in
-          let empty : left.0 ∷ from (z +ℤ pos 1) args ≡ [] = sym left.1 ∙ sym (from_from (f +ℤ pos 1) z cur (omega (arith, ints))) ∙ ap (from z) none in
-          not_empty empty
-        where
-          not_empty : {e : Entry V} {es : List (Entry V)} → e ∷ es ≡ [] → ⊥
-          not_empty p = cc
-
-      -- where that is the last, all are taken out with it
-      pub last_out : StartsAscend low high cur → (s t : ℤ) → Some (s, t) ≡ option_map range_in (first_from k was) → z ≤ℤ s → below (f +ℤ pos 1) was ≡ below (f +ℤ pos 1) args → (new : List (Entry V)) → new ≡ without s cur
-          → new ≡ below (f +ℤ pos 1) args ++ from (z +ℤ pos 1) args
-      last_out h s t p u b new q =
-          let n = next h s t p in
-          let e = n.0 in
-          let is = n.1.0 in
-          let up = n.1.1.0 in
-          let same_from = n.1.1.2 in
-          let first = same_from ∙ (from_at e.lo low high e cur h n.1.1.1).1 in
-          let all = from_all z e.lo high (from e.lo cur) (omega (arith, ints)) (starts_from e.lo low high cur h) in
-          let alike : e ∷ from (e.lo +ℤ pos 1) cur ≡ left.0 ∷ from (z +ℤ pos 1) args = sym first ∙ same_from ∙ sym all ∙ ap (from z) (sym same_from) ∙ from_from (f +ℤ pos 1) z cur (omega (arith, ints)) ∙ left.1 in
-          q ∙ ap (without s) (halves (f +ℤ pos 1) low high cur h ∙ ap (λ x. below (f +ℤ pos 1) cur ++ x) first)
-          ∙ without-between s e (below (f +ℤ pos 1) cur) (from (e.lo +ℤ pos 1) cur) is (more_below (f +ℤ pos 1) s (below (f +ℤ pos 1) cur) (omega (arith, ints)) (starts_below (f +ℤ pos 1) cur))
-          ∙ ap (λ x. x ++ from (e.lo +ℤ pos 1) cur) (ap (below (f +ℤ pos 1)) same ∙ b) ∙ ap (λ x. below (f +ℤ pos 1) args ++ x) (behind alike)
-        where
-          behind : {x y : Entry V} {xs ys : List (Entry V)} → x ∷ xs ≡ y ∷ ys → xs ≡ ys
-          behind p = cc
+    -- or it starts above z, or there is none: then all that started up to z is taken out
+    pub all_out : (z : ℤ) (old : List (Entry V)) → f ≤ℤ z → below (f +ℤ pos 1) was ≡ below (f +ℤ pos 1) old → from (z +ℤ pos 1) was ≡ from (z +ℤ pos 1) old
+        → (r : Option (ℤ × ℤ)) → r ≡ option_map range_in (first_from n was) → IfSome r (λ x. z <ℤ x.0) → cur ≡ below (f +ℤ pos 1) old ++ from (z +ℤ pos 1) old
+    all_out z old w b a r p u =
+        halves (f +ℤ pos 1) low high cur h ∙ ap (λ x. x ++ from (f +ℤ pos 1) cur) (ap (below (f +ℤ pos 1)) same ∙ b)
+        ∙ ap (λ x. below (f +ℤ pos 1) old ++ x) (all_above (from (f +ℤ pos 1) cur) (starts_from (f +ℤ pos 1) low high cur h) r (p ∙ ap (option_map range_in) found) u ∙ from_from (f +ℤ pos 1) (z +ℤ pos 1) cur (omega (arith, ints)) ∙ ap (from (z +ℤ pos 1)) same ∙ a)
+      where
+        all_above : (xs : List (Entry V)) → StartsAscend (f +ℤ pos 1) high xs → (r : Option (ℤ × ℤ)) → r ≡ option_map range_in (first_entry xs) → IfSome r (λ x. z <ℤ x.0) → xs ≡ from (z +ℤ pos 1) xs
+        all_above [] h r p u = refl
+        all_above (e ∷ xs) h None p u = cc
+        all_above (e ∷ xs) h (Some x) p u =
+            let is : x ≡ range_in e = cc in
+            let start : x.0 ≡ e.lo = ap (λ (y : ℤ × ℤ). y.0) is in
+            sym (from_all (z +ℤ pos 1) e.lo high (e ∷ xs) (omega (arith, ints)) (omega (arith, ints), h.1, h.2))
 
   -- what is kept when one more is taken out
   pub kept_below : (k s : ℤ) (new cur was args : List (Entry V)) → k ≤ℤ s → new ≡ without s cur → cur ≡ was → below k was ≡ below k args → below k new ≡ below k args

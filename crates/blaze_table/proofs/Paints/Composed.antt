@@ -1,5 +1,5 @@
 -- The steps of a paint in place one after another.
-use Rattle.std.proofs.Common.{◌≡◌, ℤ, pos, ◌+ℤ◌, ◌≤ℤ◌, Bool, List, [], ◌∷◌, ◌++◌, Option, Some, refl, ◌∙◌, sym, subst, ap, arith}
+use Rattle.std.proofs.Common.{◌≡◌, ℤ, pos, ◌+ℤ◌, ◌≤ℤ◌, Bool, List, [], ◌∷◌, ◌++◌, Some, refl, ◌∙◌, sym, subst, ap, arith}
 use Rattle.std.specs.Prelude.{int_lt, int_le}
 use Rattle.std.proofs.lemmas.Int.{ints, by_lt_z}
 use Rattle.std.proofs.lemmas.List.{append_assoc}
@@ -8,13 +8,12 @@ use Rattle.blaze_entries.specs.Starts.{StartsAscend, below, from, start_at, with
 use Rattle.blaze_entries.proofs.Halves.{StartsBelow, below_takes, from_skips, below_all, below_none, from_none, more_below}
 use Rattle.blaze_table.specs.Entries.{Entry, entry}
 use Rattle.blaze_table.specs.Canonical.{IsCanonical}
-use Rattle.blaze_table.specs.Planned.{starts_in, ends_in, outer_starts, AreOuterStarts, IsRestKept, IsStartPut, IsPutAt, IsExtended}
+use Rattle.blaze_table.specs.Planned.{IsRestKept, IsStartPut, IsPutAt, IsExtended}
 use Rattle.blaze_table.specs.Splice.{before}
 use Rattle.blaze_table.proofs.Paints.Splices.{by_before, before_ends, before_keeps, before_cuts}
 use Rattle.blaze_table.proofs.Cuts.Splits.{starts_below, halves, from_at}
 use Rattle.blaze_table.proofs.Paints.EditLists.{end_put}
 use Rattle.blaze_table.proofs.Paints.Clearing.{below_from, from_from}
-use Rattle.blaze_table.proofs.Paints.StartsIn.{amid_same}
 
 module _ {V : Type 0} (eq : V → V → Bool) where
   canonical_first : (xs ys : List (Entry V)) → IsCanonical eq (xs ++ ys) → IsCanonical eq xs
@@ -50,17 +49,6 @@ module _ {V : Type 0} (eq : V → V → Bool) where
       pub put_canonical : IsCanonical eq (below l c2)
       put_canonical = subst (IsCanonical eq) (sym r.below) (canonical_below l low high es s c)
 
-      -- what starts in it, once the entry below it is shortened
-      put_amid : (c3 : List (Entry V)) → c3 ≡ before l (below l c2) ++ from l c2 → starts_in l z c3 ≡ ends_in l z es
-      put_amid c3 q =
-          let front = before l (below l c2) in
-          let front_below = more_below l (l +ℤ pos 1) front (omega (arith, ints)) (starts_before l (below l c2) put_canonical) in
-          amid_same (l +ℤ pos 1) (z +ℤ pos 1) c3 c2 (ap (from (l +ℤ pos 1)) q ∙ filter-append (λ x. int_le (l +ℤ pos 1) x.lo) front (from l c2)
-          ∙ ap (λ x. x ++ from (l +ℤ pos 1) (from l c2)) (from_none (l +ℤ pos 1) front front_below) ∙ from_from l (l +ℤ pos 1) c2 (omega (arith, ints))) ∙ r.amid
-
-      pub put_outer : (c3 : List (Entry V)) → c3 ≡ before l (below l c2) ++ from l c2 → (o : Option (ℤ × ℤ)) → o ≡ outer_starts (ends_in l z es) → AreOuterStarts l z c3 o
-      put_outer c3 q o i = record { order = w; are = i ∙ sym (ap outer_starts (put_amid c3 q)) }
-
       pub put_at : StartsAscend low high c2 → (c3 c4 : List (Entry V)) → c3 ≡ before l (below l c2) ++ from l c2 → c4 ≡ below (l +ℤ pos 1) c3 ++ from (z +ℤ pos 1) c3 → IsPutAt eq p es c4
       put_at s2 c3 c4 q t =
           let front = before l (below l es) in
@@ -82,7 +70,8 @@ module _ {V : Type 0} (eq : V → V → Bool) where
                 ∙ ap (λ x. x ++ p ∷ above) (before_below l low high es s c);
           }
 
-    -- an entry made longer
+  -- an entry made longer
+  module _ (low high : ℤ) (es : List (Entry V)) (s : StartsAscend low high es) where
     pub extended : (f z : ℤ) (e : Entry V) → f ≤ℤ z → start_at f es ≡ Some e → (c1 c2 c3 : List (Entry V)) → IsRestKept eq f z es c1 → c2 ≡ below (f +ℤ pos 1) c1 ++ from (z +ℤ pos 1) c1 → c3 ≡ with_end f z c2 → IsExtended eq f z es c3
     extended f z e w h c1 c2 c3 r q t =
         let i = from_at f low high e es s h in

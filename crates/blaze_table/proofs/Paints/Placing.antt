@@ -10,14 +10,13 @@ use Rattle.blaze_entries.proofs.Ascending.{by_order}
 use Rattle.blaze_entries.proofs.Alike.{one_value}
 use Rattle.blaze_table.specs.Entries.{Entry, entry, SameEntries}
 use Rattle.blaze_table.specs.Canonical.{IsCanonical}
-use Rattle.blaze_table.specs.Planned.{starts_in, ends_in, IsRestOf, IsRestKept, IsStartPut}
+use Rattle.blaze_table.specs.Planned.{IsRestOf, IsRestKept, IsStartPut}
 use Rattle.blaze_table.specs.Splice.{after, IsSameAbove}
 use Rattle.blaze_table.proofs.Paints.Clearing.{below_below}
 use Rattle.blaze_table.proofs.Paints.EditLists.{below_with, from_with_under, from_with, start_with, start_beside, without_with, start_beside_without, below_without, from_without, below_replaced, from_replaced, start_replaced, start_beside_replaced, start_below}
-use Rattle.blaze_table.proofs.Canonical.Lookup.{IsAbove-from_apart}
+use Rattle.blaze_table.proofs.Canonical.Lookup.{IsAbove, IsAbove-from_apart}
 use Rattle.blaze_table.proofs.Paints.Kept.{in_from, later_in}
 use Rattle.blaze_table.proofs.Paints.Painted.{entries_themselves}
-use Rattle.blaze_table.proofs.Paints.StartsIn.{amid_same, from_out, all_end, others_end, over_later}
 
 module _ {V : Type 0} where
   is_there : {a : Entry V} (o : Option (Entry V)) → o ≡ Some a → IsSome o
@@ -45,6 +44,20 @@ module _ {V : Type 0} where
   put_back p old c new n q r = r ∙ ap (without p.lo) q ∙ without_with p old n
 
 module _ {V : Type 0} (eq : V → V → Bool) where
+  -- what starts above an entry's end is above the start of each that stands behind it
+  over_later : (b l : ℤ) (g : Entry V) (es : List (Entry V)) → IsAbove b es → IsCanonical eq es → start_at l es ≡ Some g → b <ℤ l
+  over_later b l g [] a c p = absurd (none_some p)
+    where
+      none_some : None ≡ Some g → ⊥
+      none_some p = cc
+  over_later b l g (f ∷ fs) a c p = by_order l f.lo
+      (λ o q r. let u = over_later f.hi l g fs (IsAbove-from_apart eq f fs c.1) c.2 (later r) in absurd (omega (arith, ints, c.0)))
+      (λ o q r. omega (arith, ints, a))
+      (λ o q r. let u = over_later f.hi l g fs (IsAbove-from_apart eq f fs c.1) c.2 (later r) in omega (arith, ints, a, c.0))
+    where
+      later : int_eq l f.lo ≡ false → start_at l fs ≡ Some g
+      later r = sym (ap (λ t. cond t (Some f) (start_at l fs)) r) ∙ p
+
   -- an entry ends below the start of another that starts above its own
   pub ends_before : (s l : ℤ) (e g : Entry V) (es : List (Entry V)) → IsCanonical eq es → start_at s es ≡ Some e → start_at l es ≡ Some g → s <ℤ l → e.hi <ℤ l
   ends_before s l e g [] c p q u = absurd (none_some p)
@@ -52,10 +65,10 @@ module _ {V : Type 0} (eq : V → V → Bool) where
       none_some : None ≡ Some e → ⊥
       none_some p = cc
   ends_before s l e g (f ∷ fs) c p q u = by_order s f.lo
-      (λ o a r. let w = over_later eq f.hi s e fs (IsAbove-from_apart eq f fs c.1) c.2 (later s e r p) in absurd (omega (arith, ints, c.0)))
+      (λ o a r. let w = over_later f.hi s e fs (IsAbove-from_apart eq f fs c.1) c.2 (later s e r p) in absurd (omega (arith, ints, c.0)))
       (λ o a r.
       let same : f ≡ e = first r in
-      let w = over_later eq f.hi l g fs (IsAbove-from_apart eq f fs c.1) c.2 (later l g (other (omega (arith, ints))) q) in
+      let w = over_later f.hi l g fs (IsAbove-from_apart eq f fs c.1) c.2 (later l g (other (omega (arith, ints))) q) in
       subst (λ (x : Entry V). x.hi <ℤ l) same w)
       (λ o a r. ends_before s l e g fs c.2 (later s e r p) (later l g (other (omega (arith, ints))) q) u)
     where
@@ -69,12 +82,10 @@ module _ {V : Type 0} (eq : V → V → Bool) where
       first r = one_value (start_at s (f ∷ fs)) (ap (λ t. cond t (Some f) (start_at s fs)) r) p
 
 module _ {V : Type 0} (eq : V → V → Bool) (laws : IsEquivalence eq) where
-  -- what an entry has from n on starts there; what starts up to k is as before, and so is what starts from n on, and between
-  -- them what did not start at s
+  -- what an entry has from n on starts there; what starts up to k is as before, and so is what starts from n on
   record IsRestPut (k s n : ℤ) (old new : List (Entry V)) : Type 0 where
     of : Entry V
     found : start_at s old ≡ Some of
-    amid : from (k +ℤ pos 1) (below n new) ≡ from (k +ℤ pos 1) (below n (without s old))
     same : below (k +ℤ pos 1) new ≡ below (k +ℤ pos 1) old
     over : from n new ≡ entry n of.hi of.value ∷ from n old
 
@@ -84,7 +95,6 @@ module _ {V : Type 0} (eq : V → V → Bool) (laws : IsEquivalence eq) where
       record {
         of = w.of;
         found = w.found;
-        amid = ap (λ x. from (k +ℤ pos 1) (below n x)) w.moved ∙ ap (from (k +ℤ pos 1)) (below_with n p (without s old) (omega (arith, ints)));
         same = ap (below (k +ℤ pos 1)) w.moved ∙ below_with (k +ℤ pos 1) p (without s old) (omega (arith, ints)) ∙ below_without (k +ℤ pos 1) s old (omega (arith, ints));
         over = ap (from n) w.moved ∙ from_with p (without s old) (start_beside_without n s old (λ t. absurd (omega (arith, ints))) ∙ none) ∙ ap (λ t. p ∷ t) (from_without n s old u);
       }
@@ -111,22 +121,21 @@ module _ {V : Type 0} (eq : V → V → Bool) (laws : IsEquivalence eq) where
   none_like z old new q r =
       same_above z old (from (z +ℤ pos 1) new) (sym (q ∙ sym r)) (λ e i. subst (λ es. Contains es e) (sym r) i)
 
-  pub kept_none : (k z : ℤ) (es : List (Entry V)) → IsCanonical eq es → after z es ≡ from (z +ℤ pos 1) es → IsRestKept eq k z es es
-  kept_none k z es c q = record { below = refl; amid = all_end eq k z es c q; like = none_like z es es q refl }
+  pub kept_none : (k z : ℤ) (es : List (Entry V)) → after z es ≡ from (z +ℤ pos 1) es → IsRestKept eq k z es es
+  kept_none k z es q = record { below = refl; like = none_like z es es q refl }
 
-  pub kept_moved : (k z s t n : ℤ) (old new : List (Entry V)) → IsCanonical eq old → n ≡ z +ℤ pos 1 → k <ℤ s → IsRestOf z old s t → IsStartMoved s n old new → IsRestKept eq k z old new
-  kept_moved k z s t n old new c q l r w =
+  pub kept_moved : (k z s t n : ℤ) (old new : List (Entry V)) → n ≡ z +ℤ pos 1 → k <ℤ s → IsRestOf z old s t → IsStartMoved s n old new → IsRestKept eq k z old new
+  kept_moved k z s t n old new q l r w =
       let up = r.starts in
       let over = r.over in
       let m = rest_moved k s n old new l (omega (arith, ints)) (ap (λ x. start_at x old) q ∙ r.none) w in
       record {
         below = m.same;
-        amid = ap (λ x. from (k +ℤ pos 1) (below x new)) (sym q) ∙ m.amid ∙ ap (λ x. from (k +ℤ pos 1) (below x (without s old))) q ∙ others_end eq k z s r.of old c r.found up (omega (arith, ints, r.ends));
         like = rest_like z s t n q old old new r refl refl m.of m.found m.over;
       }
 
   -- the painted entry put in where none starts
-  module _ (p : Entry V) (order : p.lo ≤ℤ p.hi) (old c : List (Entry V)) (canonical : IsCanonical eq old) (none : start_at p.lo old ≡ None) (put : c ≡ with_entry p old) where
+  module _ (p : Entry V) (order : p.lo ≤ℤ p.hi) (old c : List (Entry V)) (none : start_at p.lo old ≡ None) (put : c ≡ with_entry p old) where
     over_put : from (p.hi +ℤ pos 1) c ≡ from (p.hi +ℤ pos 1) old
     over_put = ap (from (p.hi +ℤ pos 1)) put ∙ from_with_under (p.hi +ℤ pos 1) p old (omega (arith, ints))
 
@@ -136,14 +145,10 @@ module _ {V : Type 0} (eq : V → V → Bool) (laws : IsEquivalence eq) where
     here_put : start_at p.lo c ≡ Some p
     here_put = ap (start_at p.lo) put ∙ start_with p old
 
-    amid_put : from (p.lo +ℤ pos 1) c ≡ from (p.lo +ℤ pos 1) old
-    amid_put = ap (from (p.lo +ℤ pos 1)) put ∙ from_with_under (p.lo +ℤ pos 1) p old (omega (arith, ints))
-
     pub new_alone : after p.hi old ≡ from (p.hi +ℤ pos 1) old → IsStartPut eq p old c
     new_alone q = record {
       below = below_put;
       here = here_put;
-      amid = amid_same (p.lo +ℤ pos 1) (p.hi +ℤ pos 1) c old amid_put ∙ all_end eq p.lo p.hi old canonical q;
       like = none_like p.hi old c q over_put;
     }
 
@@ -160,16 +165,6 @@ module _ {V : Type 0} (eq : V → V → Bool) (laws : IsEquivalence eq) where
       pub new_absent : start_at n c ≡ None
       new_absent = ap (start_at n) put ∙ start_beside n p old (λ t. omega (arith, ints)) ∙ ap (λ x. start_at x old) up ∙ r.none
 
-      less_put : from (p.lo +ℤ pos 1) (without s c) ≡ from (p.lo +ℤ pos 1) (without s old)
-      less_put = by_lt_z s (p.lo +ℤ pos 1)
-          (λ u. from_without (p.lo +ℤ pos 1) s c u ∙ amid_put ∙ sym (from_without (p.lo +ℤ pos 1) s old u))
-          (λ u. from_out (p.lo +ℤ pos 1) s c u ∙ ap (without s) amid_put ∙ sym (from_out (p.lo +ℤ pos 1) s old u))
-
-      amid_rest : starts_in p.lo p.hi (without s c) ≡ ends_in p.lo p.hi old
-      amid_rest =
-          let over = r.over in
-          amid_same (p.lo +ℤ pos 1) (p.hi +ℤ pos 1) (without s c) (without s old) less_put ∙ others_end eq p.lo p.hi s r.of old canonical r.found r.starts (omega (arith, ints, r.ends))
-
       pub new_with_rest : (new : List (Entry V)) → p.lo ≤ℤ s → IsStartMoved s n c new → IsStartPut eq p old new
       new_with_rest new u m =
           let starts = r.starts in
@@ -178,7 +173,6 @@ module _ {V : Type 0} (eq : V → V → Bool) (laws : IsEquivalence eq) where
           record {
             below = same_below p.lo c new w.same ∙ below_put;
             here = same_start p.lo c new w.same ∙ here_put;
-            amid = ap (λ x. from (p.lo +ℤ pos 1) (below x new)) (sym up) ∙ w.amid ∙ ap (λ x. from (p.lo +ℤ pos 1) (below x (without s c))) up ∙ amid_rest;
             like = rest_like p.hi s t n up old c new r same_put over_put w.of w.found w.over;
           }
 
@@ -188,7 +182,6 @@ module _ {V : Type 0} (eq : V → V → Bool) (laws : IsEquivalence eq) where
     over_kept c new w q = record {
       below = ap (below l) q ∙ below_replaced l l z v c (omega (arith, ints)) ∙ same_below l old c w.below;
       here = ap (start_at l) q ∙ start_replaced l z v c (subst (λ x. IsSome x) (sym (same_start l old c w.below)) present);
-      amid = amid_same (l +ℤ pos 1) (z +ℤ pos 1) new c (ap (from (l +ℤ pos 1)) q ∙ from_replaced (l +ℤ pos 1) l z v c (omega (arith, ints))) ∙ w.amid;
       like = subst (λ (x : List (Entry V)). IsSameAbove eq z old x) (sym (ap (from (z +ℤ pos 1)) q ∙ from_replaced (z +ℤ pos 1) l z v c (omega (arith, ints)))) w.like;
     }
 
@@ -204,9 +197,6 @@ module _ {V : Type 0} (eq : V → V → Bool) (laws : IsEquivalence eq) where
         (λ h. omega (arith, ints)) in
         record {
           below = ap (below l) w.replaced ∙ below_with l p c1 (omega (arith, ints)) ∙ below_replaced l l z v old (omega (arith, ints));
-          amid = ap (λ x. from (l +ℤ pos 1) (below (z +ℤ pos 1) x)) w.replaced ∙ ap (from (l +ℤ pos 1)) (below_with (z +ℤ pos 1) p c1 (omega (arith, ints)))
-              ∙ amid_same (l +ℤ pos 1) (z +ℤ pos 1) c1 (without s old) (from_replaced (l +ℤ pos 1) l z v old (omega (arith, ints)) ∙ sym (from_without (l +ℤ pos 1) s old (omega (arith, ints))))
-              ∙ others_end eq l z s r.of old c r.found r.starts (omega (arith, ints, r.ends));
           here = ap (start_at l) w.replaced ∙ start_beside l p c1 (λ t. omega (arith, ints)) ∙ start_replaced l z v old present;
           like = rest_like z s t n up old old new r refl refl w.of (ap (λ x. start_at x old) at_it ∙ w.found)
               (ap (from n) w.replaced ∙ from_with p c1 none ∙ ap (λ x. p ∷ x) over);

@@ -75,7 +75,7 @@ module _ {V : Type 0} (eq : V → V → Bool) where
   -- the looks of a walk, one look more and the work behind them are those of a paint
   pub counted : (l h low high : ℤ) (old mid new : CountedEntries V) → l ≤ℤ h → StartsAscend low high old.entries → IsCanonical eq old.entries
       → mid ≡ record old { looks = mid.looks } → old.looks ≤ mid.looks → mid.looks ≤ old.looks + answers l (reverse (below (h +ℤ pos 2) old.entries)) + 1
-      → IsWorked 2 0 mid new → length new.entries ≤ length (before l mid.entries) + length (after h mid.entries) + 1 → IsCountedPaint old new
+      → IsWorked 2 1 mid new → length new.entries ≤ length (before l mid.entries) + length (after h mid.entries) + 1 → IsCountedPaint old new
   counted l h low high old mid new w s c seen risen looks work short =
       let es = old.entries in
       let same : mid.entries ≡ es = ap (λ (x : CountedEntries V). x.entries) seen in
@@ -94,7 +94,7 @@ module _ {V : Type 0} (eq : V → V → Bool) where
 
   pub counted_paint : {A E : Type 0} (l h low high : ℤ) (old mid new : CountedEntries V) → l ≤ℤ h → StartsAscend low high old.entries → IsCanonical eq old.entries
       → mid ≡ record old { looks = mid.looks } → old.looks ≤ mid.looks → mid.looks ≤ old.looks + answers l (reverse (below (h +ℤ pos 2) old.entries)) + 1
-      → (r : Result A E) → OnOk r (IsWorked 2 0 mid new) → OnOk r (length new.entries ≤ length (before l mid.entries) + length (after h mid.entries) + 1) → OnOk r (IsCountedPaint old new)
+      → (r : Result A E) → OnOk r (IsWorked 2 1 mid new) → OnOk r (length new.entries ≤ length (before l mid.entries) + length (after h mid.entries) + 1) → OnOk r (IsCountedPaint old new)
   counted_paint l h low high old mid new w s c seen risen looks (Ok a) work short = counted l h low high old mid new w s c seen risen looks work short
   counted_paint l h low high old mid new w s c seen risen looks (Err e) work short = tt
 

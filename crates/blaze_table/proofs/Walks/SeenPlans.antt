@@ -3,17 +3,15 @@ use Rattle.std.proofs.Common.{◌≡◌, ℕ, ℤ, pos, ◌+ℤ◌, ◌≤ℤ◌
 use Rattle.std.specs.Cmp.{IsEquivalence}
 use Rattle.std.specs.Prelude.{reverse}
 use Rattle.blaze_entries.specs.Counted.{CountedEntries}
-use Rattle.blaze_entries.specs.Scanned.{Seen, unseen, walked, walked_covered, walked_keys, walked_value, IsAboveCloned, GoesOnUnlike}
+use Rattle.blaze_entries.specs.Scanned.{Seen, unseen, walked, walked_keys, walked_value, IsAboveCloned, GoesOnUnlike}
 use Rattle.blaze_entries.specs.Starts.{StartsAscend, below}
 use Rattle.blaze_table.specs.Count.{keys_in}
 use Rattle.blaze_table.specs.Entries.{Entry}
-use Rattle.blaze_table.specs.Planned.{ends_in, outer_starts, IsPlanOf, IsUnlikeAbove}
+use Rattle.blaze_table.specs.Planned.{IsPlanOf, IsUnlikeAbove}
 use Rattle.blaze_table.specs.Painted.{ClonesAreAlike, IsInside}
 use Rattle.blaze_table.specs.Splice.{before, after}
 use Rattle.blaze_table.specs.Table.{IsTable}
-use Rattle.blaze_table.proofs.Paints.Widened.{end_up}
 use Rattle.blaze_table.proofs.Walks.AboveValues.{not_inside, walked_above}
-use Rattle.blaze_table.proofs.Walks.Covering.{covered_seen}
 use Rattle.blaze_table.proofs.Walks.Outside.{walked_outside}
 use Rattle.blaze_table.proofs.Walks.WalkedPlans.{planned}
 
@@ -32,11 +30,6 @@ module _ {V : Type 0} (eq : V → V → Bool) (laws : IsEquivalence eq) (v : V) 
 
     pub seen_plan : IsPlanOf eq l h v new.entries p
     seen_plan = subst (λ (es : List (Entry V)). IsPlanOf eq l h v es p) same plan_of
-
-    pub seen_covered : (c : Option (ℤ × ℤ)) → c ≡ walked_covered eq v l h None (down_from h old) → c ≡ outer_starts (ends_in l p.end new.entries)
-    seen_covered c q =
-        let up = end_up eq laws l h v w low high old.entries s t.canonical p.end plan_of.end in
-        q ∙ covered_seen eq v l h p.end low high old.entries up s t.canonical plan_of.end ∙ ap (λ (es : List (Entry V)). outer_starts (ends_in l p.end es)) same
 
     pub seen_unlike : GoesOnUnlike h p.left → IsInside eq l h v old.entries → ⊥
     seen_unlike n = not_inside eq v l h low high w old.entries s t.canonical (subst (GoesOnUnlike h) plan_of.left n)

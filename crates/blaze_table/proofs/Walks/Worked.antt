@@ -1,6 +1,5 @@
 -- What steps count, one after another.
-use Rattle.std.proofs.Common.{◌≡◌, ℕ, ◌+◌, ◌≤◌, List, length, ap, arith}
-use Rattle.std.specs.Prelude.{Result, Ok, Err, OnErr}
+use Rattle.std.proofs.Common.{◌≡◌, ℕ, ◌+◌, ◌≤◌, List, length, ◌∙◌, ap, arith}
 use Rattle.blaze_entries.specs.Counted.{CountedEntries}
 use Rattle.blaze_table.specs.Entries.{Entry}
 use Rattle.blaze_table.specs.Planned.{IsWorked}
@@ -17,11 +16,6 @@ module _ {V : Type 0} where
     taken = omega (arith, a.taken, b.taken);
     balance = omega (arith, a.balance, b.balance);
   }
-
-  -- of a refused call, after what came before it
-  pub counted_err : {A E : Type 0} (old mid new : CountedEntries V) (r : Result A E) → IsCounted old mid → OnErr r (IsCounted mid new) → OnErr r (IsCounted old new)
-  counted_err old mid new (Ok x) a b = tt
-  counted_err old mid new (Err x) a b = counted_then old mid new a b
 
   -- looks alone
   pub counted_looked : (old new : CountedEntries V) → new ≡ record old { looks = new.looks } → old.looks ≤ new.looks → IsCounted old new
@@ -50,6 +44,25 @@ module _ {V : Type 0} where
       let looks = ap (λ (s : CountedEntries V). s.looks) e in
       record {
         counted = counted_then old mid new w.counted (counted_edited mid new es e same);
+        puts = omega (arith, puts, w.puts);
+        looks = omega (arith, taken, looks, w.looks);
+      }
+
+  -- a look, and an entry taken out by it
+  pub worked_out : (p q : ℕ) (old mid seen new : CountedEntries V) (es : List (Entry V)) → IsWorked p q old mid → seen ≡ record mid { looks = mid.looks + 1 } → new ≡ record seen { entries = es; taken_out = seen.taken_out + 1 }
+      → length new.entries + 1 ≡ length seen.entries → IsWorked p q old new
+  worked_out p q old mid seen new es w l e shorter =
+      let long = ap (λ (s : CountedEntries V). length s.entries) l in
+      let puts = ap (λ (s : CountedEntries V). s.put_in) e ∙ ap (λ (s : CountedEntries V). s.put_in) l in
+      let taken = ap (λ (s : CountedEntries V). s.taken_out) e ∙ ap (λ (s : CountedEntries V). s.taken_out + 1) l in
+      let looks = ap (λ (s : CountedEntries V). s.looks) e ∙ ap (λ (s : CountedEntries V). s.looks) l in
+      record {
+        counted = record {
+          looks = omega (arith, looks, w.counted.looks);
+          puts = omega (arith, puts, w.counted.puts);
+          taken = omega (arith, taken, w.counted.taken);
+          balance = omega (arith, shorter, long, puts, taken, w.counted.balance);
+        };
         puts = omega (arith, puts, w.puts);
         looks = omega (arith, taken, looks, w.looks);
       }

@@ -6,7 +6,7 @@ ghost use Rattle.blaze_entries.specs.Scanned.{seen_of};
 ghost use Rattle.blaze_entries.specs.Starts.{last_below, start_at};
 ghost use Rattle.blaze_table.specs.Canonical.{IsCanonical};
 ghost use Rattle.blaze_table.specs.Entries.{entry};
-ghost use Rattle.blaze_table.specs.Planned.{ends_of, joined_start, ends_in, outer_starts, outer_with};
+ghost use Rattle.blaze_table.specs.Planned.{ends_of, joined_start};
 ghost use Rattle.blaze_table.specs.Planned.{IsRest, IsPutAt, IsExtended, IsPlanOf, IsWorked};
 ghost use Rattle.blaze_table.specs.Planned.{IsLikeAbove, IsUnlikeAbove};
 ghost use Rattle.blaze_table.specs.Splice.{IsPaintOf};
@@ -15,7 +15,7 @@ ghost use Rattle.blaze_table.specs.Work.{IsCounted};
 use super::edits::{clear, trim};
 use super::inside::put_inside;
 use super::place::{move_rest, put};
-use blaze_entries::{Counted, Found, Plan, with_least};
+use blaze_entries::{Counted, Found, Plan};
 use blaze_int::Integer;
 use blaze_int::compare::{is_at_most, is_below, is_next};
 use std::alloc::AllocError;
@@ -37,12 +37,10 @@ fn paint_beside<T: Integer, V: Eq + Drop>(
     requires left { option_map (ends_of T.rank) plan.left
         ≡ option_map range_in (last_below (T.rank lo) entries.old.entries) }
     requires short { IfSome plan.left (λ f. T.rank f.end ≤ℤ T.rank plan.end) }
-    requires covered { option_map (ranks_of T.rank) plan.covered
-        ≡ outer_starts (ends_in (T.rank lo) (T.rank plan.end) entries.old.entries) }
     ensures put { OnOk result
         (IsPutAt V.eq
         (entry (T.rank lo) (T.rank plan.end) value) entries.old.entries entries.new.entries) }
-    ensures worked { OnOk result (IsWorked 2 0 entries.old entries.new) }
+    ensures worked { OnOk result (IsWorked 2 1 entries.old entries.new) }
     ensures err { OnErr result (entries.new.entries ≡ entries.old.entries) }
     ensures err_counted { OnErr result (IsCounted entries.old entries.new) }
 {
@@ -50,7 +48,7 @@ fn paint_beside<T: Integer, V: Eq + Drop>(
     put(entries, lo, plan.end, value, plan.first, plan.rest)?;
     entries.in_hand();
     trim(entries, lo, plan.left);
-    clear(entries, lo, plan.covered);
+    clear(entries, lo, plan.end);
     Ok(())
 }
 
@@ -71,13 +69,11 @@ fn paint_from<T: Integer, V: Eq + Drop>(
         (T.rank plan.end) entries.old.entries (option_map (ranks_of T.rank) plan.rest) }
     requires left { option_map (ends_of T.rank) plan.left
         ≡ option_map range_in (last_below (T.rank lo) entries.old.entries) }
-    requires covered { option_map (ranks_of T.rank) plan.covered
-        ≡ outer_starts (ends_in (T.rank lo) (T.rank plan.end) entries.old.entries) }
     requires above { IsLikeAbove V.eq (T.rank lo) (T.rank plan.end) entries.old.entries above }
     ensures put { OnOk result
         (IsPutAt V.eq
         (entry (T.rank lo) (T.rank plan.end) value) entries.old.entries entries.new.entries) }
-    ensures worked { OnOk result (IsWorked 2 0 entries.old entries.new) }
+    ensures worked { OnOk result (IsWorked 2 1 entries.old entries.new) }
     ensures err { OnErr result (entries.new.entries ≡ entries.old.entries) }
     ensures err_counted { OnErr result (IsCounted entries.old entries.new) }
 {
@@ -98,24 +94,20 @@ fn paint_on<T: Integer, V: Eq + Drop>(
     first: T,
     end: T,
     rest: Option<(T, T)>,
-    covered: Option<(T, T)>,
 ) -> Result<(), AllocError>
     requires order { T.rank first ≤ℤ T.rank end }
-    requires canonical { IsCanonical V.eq entries.old.entries }
     requires there { IsSome (start_at (T.rank first) entries.old.entries) }
     requires rest { IsRest (T.rank end) entries.old.entries (option_map (ranks_of T.rank) rest) }
     requires above { IfSome rest (λ r. T.rank first <ℤ T.rank r.0) }
-    requires covered { option_map (ranks_of T.rank) covered
-        ≡ outer_starts (ends_in (T.rank first) (T.rank end) entries.old.entries) }
     ensures extended { OnOk result
         (IsExtended V.eq (T.rank first) (T.rank end) entries.old.entries entries.new.entries) }
-    ensures worked { OnOk result (IsWorked 1 0 entries.old entries.new) }
+    ensures worked { OnOk result (IsWorked 1 1 entries.old entries.new) }
     ensures err { OnErr result (entries.new.entries ≡ entries.old.entries) }
     ensures err_counted { OnErr result (IsCounted entries.old entries.new) }
 {
     entries.in_hand();
     move_rest(entries, first, end, rest)?;
-    clear(entries, first, covered);
+    clear(entries, first, end);
     entries.set_end(first, end);
     Ok(())
 }
@@ -133,22 +125,6 @@ fn joined_below<T: Integer>(left: Option<Found<T>>, lo: T) -> Option<T>
     }
 }
 
-// The least and the greatest start of the entries that a range covers up to `end`, with the one that starts where the range
-// does.
-fn with_first<T: Integer>(
-    first: Option<Found<T>>,
-    end: T,
-    covered: Option<(T, T)>,
-) -> Option<(T, T)>
-    ensures { option_map (ranks_of T.rank) result
-        ≡ outer_with (T.rank end) (option_map (found_of T.rank) first) (option_map (ranks_of T.rank) covered) }
-{
-    match first {
-        Some(found) if is_at_most(found.end, end) => Some(with_least(found.start, covered)),
-        _ => covered,
-    }
-}
-
 /// Puts a value on the keys from lo up to hi, as planned, where `above` is equal to the value of the entry that goes on both
 /// below and above them with another value, if there is one. Refused memory leaves the entries as they are.
 pub fn apply<T: Integer, V: Eq + Drop>(
@@ -163,14 +139,12 @@ pub fn apply<T: Integer, V: Eq + Drop>(
     requires canonical { IsCanonical V.eq entries.old.entries }
     requires plan { IsPlanOf V.eq
         (T.rank lo) (T.rank hi) value entries.old.entries (seen_of T.rank plan) }
-    requires covered { option_map (ranks_of T.rank) plan.covered
-        ≡ outer_starts (ends_in (T.rank lo) (T.rank plan.end) entries.old.entries) }
     requires above { IsUnlikeAbove V.eq
         (T.rank lo) (T.rank hi) value entries.old.entries above }
     ensures painted { OnOk result
         (IsPaintOf V.eq
         (entry (T.rank lo) (T.rank hi) value) entries.old.entries entries.new.entries) }
-    ensures worked { OnOk result (IsWorked 2 0 entries.old entries.new) }
+    ensures worked { OnOk result (IsWorked 2 1 entries.old entries.new) }
     ensures err { OnErr result (entries.new.entries ≡ entries.old.entries) }
     ensures err_counted { OnErr result (IsCounted entries.old entries.new) }
 {
@@ -178,8 +152,7 @@ pub fn apply<T: Integer, V: Eq + Drop>(
     let _ = hi;
     match joined_below(plan.left, lo) {
         Some(first) => {
-            let covered = with_first(plan.first, plan.end, plan.covered);
-            paint_on(entries, first, plan.end, plan.rest, covered)?;
+            paint_on(entries, first, plan.end, plan.rest)?;
             Ok(())
         }
         None => {

@@ -1,14 +1,12 @@
 //! A value put on the keys of a range, in place: the entries beside the range are found, then edited.
-ghost use Rattle.std.specs.Option.{option_map, option_or};
+ghost use Rattle.std.specs.Option.{option_or};
 ghost use Rattle.std.specs.Prelude.{◌≡◌, ◌+◌, ◌≤◌, length, pos, ◌+ℤ◌, ◌≤ℤ◌, Ok, IfOk, OnOk, OnErr};
-ghost use Rattle.blaze_entries.specs.Found.{ranks_of};
 ghost use Rattle.blaze_entries.specs.Scanned.{seen_of};
 ghost use Rattle.blaze_table.specs.Count.{keys_in};
 ghost use Rattle.blaze_table.specs.Work.{IsCountedPaint, IsCounted};
 ghost use Rattle.blaze_table.specs.Entries.{entry, at, SameOption};
 ghost use Rattle.blaze_table.specs.Painted.{IsInside, ClonesAreAlike};
-ghost use Rattle.blaze_table.specs.Planned.{ends_in, outer_starts, IsPlanOf, IsWorked, reaches};
-ghost use Rattle.blaze_table.specs.Planned.{IsUnlikeAbove};
+ghost use Rattle.blaze_table.specs.Planned.{reaches, IsPlanOf, IsUnlikeAbove, IsWorked};
 ghost use Rattle.blaze_table.specs.Splice.{IsListPainted, before, after};
 ghost use Rattle.blaze_table.specs.Table.{IsTable};
 
@@ -54,8 +52,6 @@ fn paint_planned<T: Integer, V: Eq + Drop>(
     requires table { IsTable V.eq T.low T.high (T.SafeLen.number len) entries.old.entries }
     requires plan { IsPlanOf V.eq
         (T.rank lo) (T.rank hi) value entries.old.entries (seen_of T.rank plan) }
-    requires covered { option_map (ranks_of T.rank) plan.covered
-        ≡ outer_starts (ends_in (T.rank lo) (T.rank plan.end) entries.old.entries) }
     requires outside { pos (T.SafeLen.number outside)
         ≡ keys_in (before (T.rank lo) entries.old.entries)
         +ℤ keys_in (after (T.rank hi) entries.old.entries) }
@@ -68,7 +64,7 @@ fn paint_planned<T: Integer, V: Eq + Drop>(
         (entry (T.rank lo) (T.rank hi) value) entries.old.entries entries.new.entries) }
     ensures inside { IsInside V.eq (T.rank lo) (T.rank hi) value entries.old.entries
         → (result ≡ Ok len) × (entries.new.entries ≡ entries.old.entries) }
-    ensures worked { OnOk result (IsWorked 2 0 entries.old entries.new) }
+    ensures worked { OnOk result (IsWorked 2 1 entries.old entries.new) }
     ensures short { OnOk result (length entries.new.entries
         ≤ length (before (T.rank lo) entries.old.entries)
         + length (after (T.rank hi) entries.old.entries)

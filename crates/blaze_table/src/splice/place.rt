@@ -22,7 +22,6 @@ pub fn move_rest<T: Integer, V: Eq + Drop>(
     rest: Option<(T, T)>,
 ) -> Result<(), AllocError>
     requires order { T.rank first ≤ℤ T.rank end }
-    requires canonical { IsCanonical V.eq entries.old.entries }
     requires rest { IsRest (T.rank end) entries.old.entries (option_map (ranks_of T.rank) rest) }
     requires above { IfSome rest (λ r. T.rank first <ℤ T.rank r.0) }
     ensures kept { OnOk result
@@ -49,7 +48,6 @@ fn put_new<T: Integer, V: Eq + Drop>(
     rest: Option<(T, T)>,
 ) -> Result<(), AllocError>
     requires order { T.rank lo ≤ℤ T.rank end }
-    requires canonical { IsCanonical V.eq entries.old.entries }
     requires absent { start_at (T.rank lo) entries.old.entries ≡ None }
     requires rest { IsRest (T.rank end) entries.old.entries (option_map (ranks_of T.rank) rest) }
     requires above { IfSome rest (λ r. T.rank lo ≤ℤ T.rank r.0) }

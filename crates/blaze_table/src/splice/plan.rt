@@ -2,9 +2,9 @@
 ghost use Rattle.std.specs.Prelude.{◌≡◌, ◌+◌, ◌≤◌, pos, ◌+ℤ◌, ◌≤ℤ◌, reverse, Some, None};
 ghost use Rattle.std.specs.Prelude.{IsSome, IfSome, IfOk, OnErr};
 ghost use Rattle.std.specs.Option.{option_map};
-ghost use Rattle.blaze_entries.specs.Found.{found_of, ranks_of};
-ghost use Rattle.blaze_entries.specs.Scanned.{seen_of, unseen, walked, walked_covered};
-ghost use Rattle.blaze_entries.specs.Scanned.{answers, walked_keys, IsAboveCloned, GoesOnUnlike};
+ghost use Rattle.blaze_entries.specs.Found.{found_of};
+ghost use Rattle.blaze_entries.specs.Scanned.{seen_of, unseen, walked, answers};
+ghost use Rattle.blaze_entries.specs.Scanned.{walked_keys, IsAboveCloned, GoesOnUnlike};
 ghost use Rattle.blaze_entries.specs.Starts.{below, start_at};
 
 use blaze_entries::{Counted, Found, Plan, less, next_or_last};
@@ -25,9 +25,6 @@ pub fn plan<T: Integer, V: Eq>(
         (reverse (below (T.rank hi +ℤ pos 2) entries.old.entries)) ≤ℤ pos (T.SafeLen.number len) }
     ensures plan { seen_of T.rank result.0
         ≡ walked V.eq value.now (T.rank lo) (T.rank hi) (unseen (T.rank hi))
-        (reverse (below (T.rank hi +ℤ pos 2) entries.old.entries)) }
-    ensures covered { option_map (ranks_of T.rank) result.0.covered
-        ≡ walked_covered V.eq value.now (T.rank lo) (T.rank hi) None
         (reverse (below (T.rank hi +ℤ pos 2) entries.old.entries)) }
     ensures len { pos (T.SafeLen.number result.1)
         +ℤ walked_keys (T.rank lo) (T.rank hi)

@@ -1,14 +1,13 @@
 use Rattle.std.proofs.Common.{◌≡◌, ◌+◌, pos, ◌+ℤ◌, ◌≤ℤ◌, None, arith, ap, sym, subst, ◌∙◌}
 use Rattle.std.proofs.lemmas.Int.{ints}
 use Rattle.std.specs.Prelude.{reverse, map}
-use Rattle.std.specs.Option.{option_map, option_copied}
+use Rattle.std.specs.Option.{option_copied}
 use Rattle.blaze_entries.specs.Places.{places, full, held}
-use Rattle.blaze_entries.specs.Found.{ranks_of}
-use Rattle.blaze_entries.specs.Scanned.{seen_of, unseen, walked, walked_covered, answers, walked_keys, walked_value, seen_value}
+use Rattle.blaze_entries.specs.Scanned.{seen_of, unseen, walked, answers, walked_keys, walked_value, seen_value}
 use Rattle.blaze_entries.specs.Starts.{below}
 use Rattle.blaze_entries.proofs.Halves.{below_next}
 use Rattle.blaze_entries.proofs.Held.{places_ascend, full_of, full_held, below-held}
-use Rattle.blaze_entries.proofs.Scans.{found_entry, down_from, step_fits, last_covered, last_keys, next_walked, next_covered, last_value, next_value, next_answers, next_keys}
+use Rattle.blaze_entries.proofs.Scans.{found_entry, down_from, step_fits, last_keys, next_walked, last_value, next_value, next_answers, next_keys}
 use Rattle.blaze_entries.proofs.scan.walk.Goals as goal
 
 pub loop-next-init : goal.loop-next-init
@@ -25,10 +24,8 @@ loop-next-init g c =
     ∙ below_next low high (rank c.args.hi) (rank c.next_or_last-top.result) (full ps) c.requires.held.ascend c.next_or_last-top.ensures in
     record {
       full = full_held (places rank c.nodes_up_to-nodes.result) (below k (full ps)) q;
-      plan = ap (λ s. walked g.V.PartialEq.eq c.args.value.now (rank c.args.lo) (rank c.args.hi) s (reverse (full (places rank c.nodes_up_to-nodes.result)))) c.new-plan.ensures.seen
+      plan = ap (λ s. walked g.V.PartialEq.eq c.args.value.now (rank c.args.lo) (rank c.args.hi) s (reverse (full (places rank c.nodes_up_to-nodes.result)))) c.new-plan.ensures
           ∙ ap (λ es. walked g.V.PartialEq.eq c.args.value.now (rank c.args.lo) (rank c.args.hi) (unseen (rank c.args.hi)) (reverse es)) e;
-      covered = ap (λ s. walked_covered g.V.PartialEq.eq c.args.value.now (rank c.args.lo) (rank c.args.hi) s (reverse (full (places rank c.nodes_up_to-nodes.result)))) c.new-plan.ensures.covered
-          ∙ ap (λ es. walked_covered g.V.PartialEq.eq c.args.value.now (rank c.args.lo) (rank c.args.hi) None (reverse es)) e;
       room = subst (λ es. walked_keys (rank c.args.lo) (rank c.args.hi) (reverse es) ≤ℤ pos (g.T.SafeLen.SafeLength.number c.args.len)) (sym e) c.requires.len;
       left = ap (λ es. pos (g.T.SafeLen.SafeLength.number c.args.len) +ℤ walked_keys (rank c.args.lo) (rank c.args.hi) (reverse es)) (sym e);
       value = ap (λ es. walked_value (rank c.args.lo) None (reverse es)) e;
@@ -43,14 +40,6 @@ less-left-requires g c =
     let rank = g.T.Integer.rank in
     let seen = c.in-Some.ensures.found in
     step_fits (rank c.args.lo) (rank c.args.hi) g.V.PartialEq.eq c.args.value.now _ seen.0 seen.1.found _ _ (down_from seen.0 _ _ seen.2) (pos (g.T.SafeLen.SafeLength.number c.loop-next.left)) c.loop-next.invariant.room
-
-pub returns-then-is_below-clause-covered : goal.returns-then-is_below-clause-covered
-returns-then-is_below-clause-covered g c =
-    let rank = g.T.Integer.rank in
-    let seen = c.in-Some.ensures.found in
-    c.see.ensures.covered
-    ∙ sym (last_covered (rank c.args.lo) (rank c.args.hi) g.V.PartialEq.eq c.args.value.now _ seen.0 seen.1.found _ _ (down_from seen.0 _ _ seen.2) (sym c.is_below.ensures ∙ c.if-is_below.true) (option_map (ranks_of rank) c.loop-next.plan.covered))
-    ∙ c.loop-next.invariant.covered
 
 pub returns-then-is_below-clause-value : goal.returns-then-is_below-clause-value
 returns-then-is_below-clause-value g c =
@@ -82,10 +71,8 @@ loop-next-preserved g c =
     let looks = next_answers l h eq v _ seen.0 seen.1.found _ _ down over in
     record {
       full = c.in-Some.ensures.full;
-      plan = ap (λ s. walked eq v l h s (reverse (full (places rank c.next_found.new.nodes)))) c.see.ensures.seen
+      plan = ap (λ s. walked eq v l h s (reverse (full (places rank c.next_found.new.nodes)))) c.see.ensures
           ∙ sym (next_walked l h eq v _ seen.0 seen.1.found _ _ down over (seen_of rank c.loop-next.plan)) ∙ c.loop-next.invariant.plan;
-      covered = ap (λ s. walked_covered eq v l h s (reverse (full (places rank c.next_found.new.nodes)))) c.see.ensures.covered
-          ∙ sym (next_covered l h eq v _ seen.0 seen.1.found _ _ down over (option_map (ranks_of rank) c.loop-next.plan.covered)) ∙ c.loop-next.invariant.covered;
       value = ap (λ o. walked_value l o (reverse (full (places rank c.next_found.new.nodes)))) (c.seen_value-held.ensures ∙ ap (seen_value l (option_copied c.loop-next.held)) (found_entry seen.1))
           ∙ sym (next_value l h eq v _ seen.0 seen.1.found _ _ down over (option_copied c.loop-next.held)) ∙ c.loop-next.invariant.value;
       looks = omega (arith, looks, c.in-Some.ensures.looked, c.loop-next.invariant.looks);

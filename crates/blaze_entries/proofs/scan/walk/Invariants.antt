@@ -1,9 +1,8 @@
 use Rattle.std.proofs.Common.{◌≡◌, ◌+◌, pos, ◌+ℤ◌, ◌≤ℤ◌, length, None}
 use Rattle.std.specs.Prelude.{reverse}
-use Rattle.std.specs.Option.{option_map, option_copied}
+use Rattle.std.specs.Option.{option_copied}
 use Rattle.blaze_entries.specs.Places.{places, entries_of, AreFull}
-use Rattle.blaze_entries.specs.Found.{ranks_of}
-use Rattle.blaze_entries.specs.Scanned.{seen_of, unseen, walked, walked_covered, answers, walked_keys, walked_value}
+use Rattle.blaze_entries.specs.Scanned.{seen_of, unseen, walked, answers, walked_keys, walked_value}
 use Rattle.blaze_entries.specs.Starts.{below}
 use Rattle.blaze_entries.proofs.scan.walk.Given as goal
 
@@ -13,8 +12,6 @@ invariant-loop-next g l = record {
   full : AreFull (places g.T.Integer.rank l.nodes);
   plan : walked g.V.PartialEq.eq l.value (g.T.Integer.rank l.lo) (g.T.Integer.rank l.hi) (seen_of g.T.Integer.rank l.plan) (reverse (entries_of g.T.Integer.rank l.nodes))
       ≡ walked g.V.PartialEq.eq l.value (g.T.Integer.rank l.lo) (g.T.Integer.rank l.hi) (unseen (g.T.Integer.rank l.hi)) (reverse (below (g.T.Integer.rank l.hi +ℤ pos 2) (entries_of g.T.Integer.rank l.fn.tree.entries)));
-  covered : walked_covered g.V.PartialEq.eq l.value (g.T.Integer.rank l.lo) (g.T.Integer.rank l.hi) (option_map (ranks_of g.T.Integer.rank) l.plan.covered) (reverse (entries_of g.T.Integer.rank l.nodes))
-      ≡ walked_covered g.V.PartialEq.eq l.value (g.T.Integer.rank l.lo) (g.T.Integer.rank l.hi) None (reverse (below (g.T.Integer.rank l.hi +ℤ pos 2) (entries_of g.T.Integer.rank l.fn.tree.entries)));
   value : walked_value (g.T.Integer.rank l.lo) (option_copied l.held) (reverse (entries_of g.T.Integer.rank l.nodes))
       ≡ walked_value (g.T.Integer.rank l.lo) None (reverse (below (g.T.Integer.rank l.hi +ℤ pos 2) (entries_of g.T.Integer.rank l.fn.tree.entries)));
   looks : l.looks.number + answers (g.T.Integer.rank l.lo) (reverse (entries_of g.T.Integer.rank l.nodes))

@@ -1,4 +1,4 @@
-use Rattle.std.proofs.Common.{◌≤ℤ◌, ◌∙◌, pos, ◌+ℤ◌, length, refl, sym, subst, ap, arith, None}
+use Rattle.std.proofs.Common.{◌≤ℤ◌, ◌∙◌, pos, ◌+ℤ◌, refl, sym, subst, ap, None}
 use Rattle.blaze_int.proofs.Comparisons.{lt_fails}
 use Rattle.blaze_entries.specs.Counted.{CountedEntries}
 use Rattle.blaze_entries.specs.Starts.{StartsAscend}
@@ -7,6 +7,7 @@ use Rattle.blaze_table.specs.Planned.{IsRest}
 use Rattle.blaze_table.specs.Splice.{IsKeptAround, IsRangeCutOf}
 use Rattle.blaze_table.specs.Table.{IsTable}
 use Rattle.blaze_table.proofs.Cuts.RangeCuts.{kept_then, cut_kept, none_apart}
+use Rattle.blaze_table.proofs.Walks.Worked.{worked_none, worked_out}
 use Rattle.blaze_table.proofs.cut_range.cut_down.Goals as goal
 
 pub loop-ends-init : goal.loop-ends-init
@@ -14,10 +15,7 @@ loop-ends-init g c = record {
   table = c.requires.table;
   ended = c.requires.ended;
   kept = record { below = refl; above = refl };
-  looks = omega arith;
-  taken = omega arith;
-  puts = refl;
-  balance = refl;
+  worked = worked_none 0 0 c.args.entries.now;
 }
 
 pub end_last-requires-clause-table : goal.end_last-requires-clause-table
@@ -39,26 +37,6 @@ returns-then-is_below-clause-cut g c =
     cut_kept (rank c.args.lo) (rank c.args.hi) c.args.entries.now.entries c.loop-ends.entries.entries c.end_last.new.entries.entries c.loop-ends.invariant.kept g.V.PartialEq.eq
     (subst (λ es. IsRangeCutOf g.V.PartialEq.eq (rank c.args.lo) (rank c.args.hi) es c.end_last.new.entries.entries) (ap (λ (s : CountedEntries g.row.V.Denot). s.entries) c.in-Some.ensures.looked) c.end_last.ensures.cut)
 
-pub returns-then-is_below-clause-worked : goal.returns-then-is_below-clause-worked
-returns-then-is_below-clause-worked g c =
-    let seen = c.in-Some.ensures.looked in
-    let puts = ap (λ (s : CountedEntries g.row.V.Denot). s.put_in) seen in
-    let taken = ap (λ (s : CountedEntries g.row.V.Denot). s.taken_out) seen in
-    let looks = ap (λ (s : CountedEntries g.row.V.Denot). s.looks) seen in
-    let long = ap (λ (s : CountedEntries g.row.V.Denot). length s.entries) seen in
-    let i = c.loop-ends.invariant in
-    let w = c.end_last.ensures.worked in
-    record {
-      counted = record {
-        looks = omega (arith, looks, taken, i.looks, i.taken, w.counted.looks);
-        puts = omega (arith, puts, i.puts, w.counted.puts);
-        taken = omega (arith, taken, i.taken, w.counted.taken);
-        balance = omega (arith, long, puts, taken, i.puts, i.balance, w.counted.balance);
-      };
-      puts = omega (arith, puts, i.puts, w.puts);
-      looks = omega (arith, looks, taken, i.looks, w.looks);
-    }
-
 pub take_last-rest-requires-clause-table : goal.take_last-rest-requires-clause-table
 take_last-rest-requires-clause-table g c =
     subst (IsTable g.V.PartialEq.eq g.T.Integer.low g.T.Integer.high (g.T.SafeLen.SafeLength.number c.loop-ends.rest)) (sym (ap (λ (s : CountedEntries g.row.V.Denot). s.entries) c.in-Some.ensures.looked)) c.loop-ends.invariant.table
@@ -76,7 +54,6 @@ pub loop-ends-preserved : goal.loop-ends-preserved
 loop-ends-preserved g c =
     let rank = g.T.Integer.rank in
     let seen = c.in-Some.ensures.looked in
-    let out = c.take_last-rest.ensures.counted in
     let i = c.loop-ends.invariant in
     let reaches : rank c.args.lo ≤ℤ rank c.in-Some.ends.0 = lt_fails (rank c.in-Some.ends.0) (rank c.args.lo) (sym c.is_below.ensures ∙ c.if-is_below.false) in
     record {
@@ -84,10 +61,7 @@ loop-ends-preserved g c =
       ended = c.take_last-rest.ensures.ended;
       kept = kept_then (rank c.args.lo) (rank c.args.hi) c.args.entries.now.entries c.loop-ends.entries.entries c.take_last-rest.new.entries.entries i.kept
           (subst (λ es. IsKeptAround (rank c.args.lo) (rank c.args.hi) es c.take_last-rest.new.entries.entries) (ap (λ (s : CountedEntries g.row.V.Denot). s.entries) seen) (c.take_last-rest.ensures.kept (rank c.args.lo) reaches));
-      looks = omega (arith, ap (λ (s : CountedEntries g.row.V.Denot). s.looks) seen, ap (λ (s : CountedEntries g.row.V.Denot). s.taken_out) seen, ap (λ (s : CountedEntries g.row.V.Denot). s.looks) out, ap (λ (s : CountedEntries g.row.V.Denot). s.taken_out) out, i.looks);
-      taken = omega (arith, ap (λ (s : CountedEntries g.row.V.Denot). s.taken_out) seen, ap (λ (s : CountedEntries g.row.V.Denot). s.taken_out) out, i.taken);
-      puts = ap (λ (s : CountedEntries g.row.V.Denot). s.put_in) out ∙ ap (λ (s : CountedEntries g.row.V.Denot). s.put_in) seen ∙ i.puts;
-      balance = omega (arith, c.take_last-rest.ensures.shorter, ap (λ (s : CountedEntries g.row.V.Denot). length s.entries) seen, ap (λ (s : CountedEntries g.row.V.Denot). s.taken_out) seen, ap (λ (s : CountedEntries g.row.V.Denot). s.taken_out) out, i.balance);
+      worked = worked_out 0 0 c.args.entries.now c.loop-ends.entries c.range_at_or_below.new.self c.take_last-rest.new.entries _ i.worked seen c.take_last-rest.ensures.counted c.take_last-rest.ensures.shorter;
     }
 
 pub returns-clause-table : goal.returns-clause-table
@@ -104,22 +78,3 @@ returns-clause-cut g c =
     cut_kept (rank c.args.lo) hi c.args.entries.now.entries cur c.range_at_or_below.new.self.entries c.loop-ends.invariant.kept eq
     (subst (λ es. IsRangeCutOf eq (rank c.args.lo) hi cur es) (sym same)
     (none_apart eq hi g.T.Integer.low g.T.Integer.high cur (subst (StartsAscend g.T.Integer.low g.T.Integer.high) same c.in_hand.ensures) c.loop-ends.invariant.table.canonical c.in_default.ensures.found (rank c.args.lo) g.met.V.Eq.laws c.requires.order))
-
-pub returns-clause-worked : goal.returns-clause-worked
-returns-clause-worked g c =
-    let seen = c.in_default.ensures.looked in
-    let puts = ap (λ (s : CountedEntries g.row.V.Denot). s.put_in) seen in
-    let taken = ap (λ (s : CountedEntries g.row.V.Denot). s.taken_out) seen in
-    let looks = ap (λ (s : CountedEntries g.row.V.Denot). s.looks) seen in
-    let long = ap (λ (s : CountedEntries g.row.V.Denot). length s.entries) seen in
-    let i = c.loop-ends.invariant in
-    record {
-      counted = record {
-        looks = omega (arith, looks, taken, i.looks, i.taken);
-        puts = omega (arith, puts, i.puts);
-        taken = omega (arith, taken, i.taken);
-        balance = omega (arith, long, puts, taken, i.puts, i.balance);
-      };
-      puts = omega (arith, puts, i.puts);
-      looks = omega (arith, looks, taken, i.looks);
-    }

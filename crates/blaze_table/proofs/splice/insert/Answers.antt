@@ -1,11 +1,9 @@
 use Rattle.std.proofs.Common.{arith}
 use Rattle.std.proofs.lemmas.Int.{ints}
-use Rattle.std.specs.Option.{option_map}
-use Rattle.blaze_entries.specs.Found.{ranks_of}
 use Rattle.blaze_entries.specs.Scanned.{seen_of}
 use Rattle.blaze_table.proofs.Walks.FewLooks.{counted, looked_alone, looked_few, looked_risen}
 use Rattle.blaze_table.proofs.Walks.Outside.{walked_fits}
-use Rattle.blaze_table.proofs.Walks.SeenPlans.{seen_plan, seen_covered, seen_above, seen_outside}
+use Rattle.blaze_table.proofs.Walks.SeenPlans.{seen_plan, seen_above, seen_outside}
 use Rattle.blaze_table.proofs.Walks.WalkedValues.{walked_clone}
 use Rattle.blaze_table.proofs.splice.insert.Goals as goal
 
@@ -19,12 +17,6 @@ paint_planned-requires-clause-plan g c =
     let rank = g.T.Integer.rank in
     seen_plan g.V.PartialEq.eq g.met.V.Eq.laws c.args.value (rank c.args.key) (rank c.args.key) g.T.Integer.low g.T.Integer.high (omega (arith, ints)) _ c.args.entries.now c.scan_with_value.new.self c.in_hand.ensures c.requires.table (looked_alone c.args.entries.now c.scan_with_value.new.self _ c.scan_with_value.ensures.looked)
     (seen_of rank c.in_ok-plan.plan) c.in_ok-plan.ensures.plan
-
-pub paint_planned-requires-clause-covered : goal.paint_planned-requires-clause-covered
-paint_planned-requires-clause-covered g c =
-    let rank = g.T.Integer.rank in
-    seen_covered g.V.PartialEq.eq g.met.V.Eq.laws c.args.value (rank c.args.key) (rank c.args.key) g.T.Integer.low g.T.Integer.high (omega (arith, ints)) _ c.args.entries.now c.scan_with_value.new.self c.in_hand.ensures c.requires.table (looked_alone c.args.entries.now c.scan_with_value.new.self _ c.scan_with_value.ensures.looked)
-    (seen_of rank c.in_ok-plan.plan) c.in_ok-plan.ensures.plan (option_map (ranks_of rank) c.in_ok-plan.plan.covered) c.in_ok-plan.ensures.covered
 
 pub paint_planned-requires-clause-outside : goal.paint_planned-requires-clause-outside
 paint_planned-requires-clause-outside g c =

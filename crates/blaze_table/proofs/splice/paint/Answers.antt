@@ -1,10 +1,8 @@
 use Rattle.std.proofs.Common.{refl}
-use Rattle.std.specs.Option.{option_map}
-use Rattle.blaze_entries.specs.Found.{ranks_of}
 use Rattle.blaze_entries.specs.Scanned.{seen_of}
 use Rattle.blaze_table.proofs.Walks.FewLooks.{counted_paint, looked_alone, looked_few, looked_risen}
 use Rattle.blaze_table.proofs.Walks.Outside.{walked_fits}
-use Rattle.blaze_table.proofs.Walks.SeenPlans.{seen_plan, seen_covered, seen_above, seen_unlike, seen_outside}
+use Rattle.blaze_table.proofs.Walks.SeenPlans.{seen_plan, seen_above, seen_unlike, seen_outside}
 use Rattle.blaze_table.proofs.splice.paint.Goals as goal
 
 pub scan-requires : goal.scan-requires
@@ -17,12 +15,6 @@ paint_planned-requires-clause-plan g c =
     let rank = g.T.Integer.rank in
     seen_plan g.V.PartialEq.eq g.met.V.Eq.laws c.args.value (rank c.args.lo) (rank c.args.hi) g.T.Integer.low g.T.Integer.high c.requires.order _ c.args.entries.now c.scan.new.self c.in_hand.ensures c.requires.table (looked_alone c.args.entries.now c.scan.new.self _ c.scan.ensures.looked)
     (seen_of rank c.in_ok-plan.plan) c.in_ok-plan.ensures.plan
-
-pub paint_planned-requires-clause-covered : goal.paint_planned-requires-clause-covered
-paint_planned-requires-clause-covered g c =
-    let rank = g.T.Integer.rank in
-    seen_covered g.V.PartialEq.eq g.met.V.Eq.laws c.args.value (rank c.args.lo) (rank c.args.hi) g.T.Integer.low g.T.Integer.high c.requires.order _ c.args.entries.now c.scan.new.self c.in_hand.ensures c.requires.table (looked_alone c.args.entries.now c.scan.new.self _ c.scan.ensures.looked)
-    (seen_of rank c.in_ok-plan.plan) c.in_ok-plan.ensures.plan (option_map (ranks_of rank) c.in_ok-plan.plan.covered) c.in_ok-plan.ensures.covered
 
 pub paint_planned-requires-clause-outside : goal.paint_planned-requires-clause-outside
 paint_planned-requires-clause-outside g c =

@@ -2,7 +2,7 @@ use Rattle.std.proofs.Common.{List, Some, refl, sym, subst, ap}
 use Rattle.std.specs.Option.{option_map}
 use Rattle.std.specs.Prelude.{IfSome, IsSome}
 use Rattle.blaze_entries.specs.Counted.{CountedEntries}
-use Rattle.blaze_entries.specs.Found.{found_of, ranks_of}
+use Rattle.blaze_entries.specs.Found.{found_of}
 use Rattle.blaze_entries.specs.Scanned.{seen_of, IsAboveCloned}
 use Rattle.blaze_entries.specs.Starts.{start_at}
 use Rattle.blaze_table.specs.Entries.{Entry}
@@ -10,7 +10,7 @@ use Rattle.blaze_table.specs.Planned.{IsUnlikeAbove}
 use Rattle.blaze_table.proofs.Walks.AboveValues.{left_there, looked_above}
 use Rattle.blaze_table.proofs.Walks.FewLooks.{counted_paint, looked_again, looked_once_more, looked_still_risen}
 use Rattle.blaze_table.proofs.Walks.Outside.{walked_fits}
-use Rattle.blaze_table.proofs.Walks.SeenPlans.{seen_plan, seen_covered, seen_unlike, seen_outside}
+use Rattle.blaze_table.proofs.Walks.SeenPlans.{seen_plan, seen_unlike, seen_outside}
 use Rattle.blaze_table.proofs.splice.paint_by_splice.Goals as goal
 
 pub plan-requires : goal.plan-requires
@@ -35,12 +35,6 @@ paint_planned-requires-clause-plan g c =
     let rank = g.T.Integer.rank in
     seen_plan g.V.PartialEq.eq g.met.V.Eq.laws c.args.value (rank c.args.lo) (rank c.args.hi) g.T.Integer.low g.T.Integer.high c.requires.order _ c.args.entries.now c.value_above.new.entries c.in_hand.ensures c.requires.table (looked_again c.args.entries.now c.plan.new.entries _ c.plan.ensures.looked c.value_above.new.entries c.value_above.ensures.looked)
     (seen_of rank c.plan.result.0) c.plan.ensures.plan
-
-pub paint_planned-requires-clause-covered : goal.paint_planned-requires-clause-covered
-paint_planned-requires-clause-covered g c =
-    let rank = g.T.Integer.rank in
-    seen_covered g.V.PartialEq.eq g.met.V.Eq.laws c.args.value (rank c.args.lo) (rank c.args.hi) g.T.Integer.low g.T.Integer.high c.requires.order _ c.args.entries.now c.value_above.new.entries c.in_hand.ensures c.requires.table (looked_again c.args.entries.now c.plan.new.entries _ c.plan.ensures.looked c.value_above.new.entries c.value_above.ensures.looked)
-    (seen_of rank c.plan.result.0) c.plan.ensures.plan (option_map (ranks_of rank) c.plan.result.0.covered) c.plan.ensures.covered
 
 pub paint_planned-requires-clause-outside : goal.paint_planned-requires-clause-outside
 paint_planned-requires-clause-outside g c =

@@ -1,5 +1,4 @@
 use Rattle.std.proofs.Common.{◌≡◌, ℤ, List, map, ◌∙◌, ap}
-use Rattle.std.specs.Prelude.{Option}
 use Rattle.blaze_entries.specs.Counted.{CountedEntries}
 use Rattle.blaze_entries.specs.Entries.{Entry}
 use Rattle.blaze_entries.specs.Places.{places, full, held}

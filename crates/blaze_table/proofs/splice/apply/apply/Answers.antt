@@ -1,16 +1,11 @@
-use Rattle.std.proofs.Common.{ℤ, Bool, Option, arith, ◌∙◌, ap, sym}
+use Rattle.std.proofs.Common.{arith, ◌∙◌, ap}
 use Rattle.std.specs.Prelude.{◌≤ℤ◌, ◌<ℤ◌}
 use Rattle.std.proofs.lemmas.Int.{ints}
-use Rattle.std.specs.Option.{option_map}
-use Rattle.blaze_entries.specs.Found.{found_in, ranks_of}
 use Rattle.blaze_entries.specs.Scanned.{seen_of}
-use Rattle.blaze_entries.specs.Starts.{start_at}
-use Rattle.blaze_table.specs.Planned.{joined_start, ends_in, outer_starts, outer_with}
-use Rattle.blaze_table.proofs.Cuts.Splits.{last_at}
-use Rattle.blaze_table.proofs.Paints.StartsIn.{outer_on}
+use Rattle.blaze_table.specs.Planned.{joined_start}
 use Rattle.blaze_table.proofs.Walks.AboveValues.{like_above}
 use Rattle.blaze_table.proofs.Walks.Plans.{rest_is, rest_above, above_of}
-use Rattle.blaze_table.proofs.Paints.Widened.{paint_extends, paint_puts, started_at, started_below, started_there, end_up}
+use Rattle.blaze_table.proofs.Paints.Widened.{paint_extends, paint_puts, started_below, started_there, end_up}
 use Rattle.blaze_table.proofs.splice.apply.apply.Goals as goal
 
 pub paint_on-requires-clause-order : goal.paint_on-requires-clause-order
@@ -40,18 +35,6 @@ paint_on-requires-clause-above g c =
     let rank = g.T.Integer.rank in
     above_of rank (rank c.in-Some.first) c.args.plan.rest (λ x q.
     rest_above g.V.PartialEq.eq g.met.V.Eq.laws (rank c.args.lo) (rank c.args.hi) c.args.value c.requires.order g.T.Integer.low g.T.Integer.high c.args.entries.now.entries c.in_hand.ensures c.requires.canonical (rank c.in-Some.first) x (seen_of rank c.args.plan) c.in-Some.ensures c.requires.plan q)
-
-pub paint_on-requires-clause-covered : goal.paint_on-requires-clause-covered
-paint_on-requires-clause-covered g c =
-    let rank = g.T.Integer.rank in
-    let eq = g.V.PartialEq.eq in
-    let start = c.in-Some.ensures ∙ ap (joined_start (rank c.args.lo)) c.requires.plan.left in
-    let t = started_at eq g.met.V.Eq.laws (rank c.args.lo) (rank c.args.hi) c.args.value c.requires.order g.T.Integer.low g.T.Integer.high c.args.entries.now.entries c.in_hand.ensures c.requires.canonical (rank c.in-Some.first) start in
-    let i = last_at (rank c.args.lo) g.T.Integer.low g.T.Integer.high t.of c.args.entries.now.entries c.in_hand.ensures t.is in
-    c.with_first-covered.ensures ∙ ap (λ (o : Option (ℤ × ℤ × Bool)). outer_with (rank c.args.plan.end) o (option_map (ranks_of rank) c.args.plan.covered)) c.requires.plan.first
-    ∙ ap (outer_with (rank c.args.plan.end) (option_map (found_in eq c.args.value) (start_at (rank c.args.lo) c.args.entries.now.entries))) c.requires.covered
-    ∙ sym (outer_on eq c.args.value (rank c.args.lo) g.T.Integer.low g.T.Integer.high t.of c.args.entries.now.entries c.in_hand.ensures i (rank c.args.plan.end))
-    ∙ ap (λ (x : ℤ). outer_starts (ends_in x (rank c.args.plan.end) c.args.entries.now.entries)) t.lo
 
 pub paint_from-requires-clause-order : goal.paint_from-requires-clause-order
 paint_from-requires-clause-order g c =

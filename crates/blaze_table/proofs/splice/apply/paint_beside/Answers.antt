@@ -1,4 +1,4 @@
-use Rattle.blaze_table.proofs.Paints.Composed.{put_canonical, put_outer, put_at}
+use Rattle.blaze_table.proofs.Paints.Composed.{put_canonical, put_at}
 use Rattle.blaze_table.proofs.Walks.Plans.{above_rest}
 use Rattle.blaze_table.proofs.splice.apply.paint_beside.Goals as goal
 
@@ -13,18 +13,8 @@ trim-requires-clause-canonical g c =
     let rank = g.T.Integer.rank in
     put_canonical g.V.PartialEq.eq g.T.Integer.low g.T.Integer.high c.args.entries.now.entries c.in_hand.ensures c.requires.canonical (rank c.args.lo) (rank c.args.plan.end) c.args.value c.requires.order c.put.new.entries.entries c.in_ok-put.ensures.ok
 
-pub clear-requires : goal.clear-requires
-clear-requires g c =
-    let rank = g.T.Integer.rank in (
-      rank c.args.plan.end,
-      put_outer g.V.PartialEq.eq g.T.Integer.low g.T.Integer.high c.args.entries.now.entries c.in_hand.ensures c.requires.canonical (rank c.args.lo) (rank c.args.plan.end) c.args.value c.requires.order c.put.new.entries.entries c.in_ok-put.ensures.ok
-          c.trim.new.entries.entries c.trim.ensures.entries _ c.requires.covered,
-    )
-
 pub returns-clause-put : goal.returns-clause-put
 returns-clause-put g c =
     let rank = g.T.Integer.rank in
-    let outer = put_outer g.V.PartialEq.eq g.T.Integer.low g.T.Integer.high c.args.entries.now.entries c.in_hand.ensures c.requires.canonical (rank c.args.lo) (rank c.args.plan.end) c.args.value c.requires.order c.put.new.entries.entries c.in_ok-put.ensures.ok
-    c.trim.new.entries.entries c.trim.ensures.entries _ c.requires.covered in
     put_at g.V.PartialEq.eq g.T.Integer.low g.T.Integer.high c.args.entries.now.entries c.in_hand.ensures c.requires.canonical (rank c.args.lo) (rank c.args.plan.end) c.args.value c.requires.order c.put.new.entries.entries c.in_ok-put.ensures.ok
-    c.in_hand-2.ensures c.trim.new.entries.entries c.clear.new.entries.entries c.trim.ensures.entries (c.clear.ensures.entries (rank c.args.plan.end) outer)
+    c.in_hand-2.ensures c.trim.new.entries.entries c.clear.new.entries.entries c.trim.ensures.entries c.clear.ensures.entries

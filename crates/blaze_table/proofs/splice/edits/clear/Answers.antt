@@ -1,53 +1,54 @@
-use Rattle.std.proofs.Common.{ap, sym, ◌∙◌, arith}
-use Rattle.std.specs.Option.{option_map}
+use Rattle.std.proofs.Common.{◌≡◌, ◌++◌, ℤ, pos, ◌+ℤ◌, ap, sym, ◌∙◌, arith}
 use Rattle.std.proofs.lemmas.Int.{ints}
-use Rattle.blaze_int.proofs.Comparisons.{lt_holds, lt_fails}
+use Rattle.blaze_int.proofs.Comparisons.{le_holds, lt_holds, lt_fails}
 use Rattle.blaze_entries.specs.Counted.{CountedEntries}
-use Rattle.blaze_entries.specs.Found.{ranks_of}
-use Rattle.blaze_table.proofs.Paints.CoveredOut.{none_out, outer_of, last_left, others_out}
+use Rattle.blaze_entries.specs.Starts.{below, from}
+use Rattle.blaze_table.proofs.Cuts.Splits.{halves}
+use Rattle.blaze_table.proofs.Paints.Clearing.{there, all_out, kept_below, kept_above}
+use Rattle.blaze_table.proofs.Walks.Worked.{worked_out}
 use Rattle.blaze_table.proofs.splice.edits.clear.Goals as goal
+
+pub returns-then-is_at_most-clause-entries : goal.returns-then-is_at_most-clause-entries
+returns-then-is_at_most-clause-entries g c =
+    let first = g.T.Integer.rank c.args.first in
+    let end = g.T.Integer.rank c.args.end in
+    let es = c.args.entries.now.entries in
+    let most = le_holds end first (sym c.is_at_most.ensures ∙ c.if-is_at_most.true) in
+    let same : first ≡ end = omega (arith, ints, most, c.requires) in
+    halves (first +ℤ pos 1) g.T.Integer.low g.T.Integer.high es c.in_hand.ensures ∙ ap (λ (x : ℤ). below (first +ℤ pos 1) es ++ from (x +ℤ pos 1) es) same
+
+pub returns-then-is_below-clause-entries : goal.returns-then-is_below-clause-entries
+returns-then-is_below-clause-entries g c =
+    let rank = g.T.Integer.rank in
+    let same = ap (λ (s : CountedEntries g.row.V.Denot). s.entries) c.in-Some.ensures.looked in
+    let over = lt_holds (rank c.args.end) (rank c.in-Some.ends.0) (sym c.is_below.ensures ∙ c.if-is_below.true) in
+    all_out (rank c.args.first) (rank c.after-next.result) g.T.Integer.low g.T.Integer.high c.after-next.ensures c.range_at_or_above.new.self.entries c.loop-ends.entries.entries same c.in_hand-in-Some.ensures
+    (rank c.args.end) c.args.entries.now.entries c.requires c.loop-ends.invariant.kept_below c.loop-ends.invariant.kept_above _ c.in-Some.ensures.found over
 
 pub remove-requires : goal.remove-requires
 remove-requires g c =
     let rank = g.T.Integer.rank in
-    (outer_of (rank c.args.first) c.requires.0 g.T.Integer.low g.T.Integer.high c.args.entries.now.entries c.in_hand.ensures c.requires.1.order (rank c.in-Some.starts.0) (rank c.in-Some.starts.1)
-    (sym (ap (option_map (ranks_of rank)) c.in-Some.is) ∙ c.requires.1.are)).there
+    let same = ap (λ (s : CountedEntries g.row.V.Denot). s.entries) c.in-Some.ensures.looked in
+    (there (rank c.args.first) (rank c.after-next.result) g.T.Integer.low g.T.Integer.high c.after-next.ensures c.range_at_or_above.new.self.entries c.loop-ends.entries.entries same c.in_hand-in-Some.ensures _ _ c.in-Some.ensures.found).1
 
-pub clear_by_looks-requires-clause-order : goal.clear_by_looks-requires-clause-order
-clear_by_looks-requires-clause-order g c =
+pub loop-ends-preserved : goal.loop-ends-preserved
+loop-ends-preserved g c =
     let rank = g.T.Integer.rank in
-    let i = outer_of (rank c.args.first) c.requires.0 g.T.Integer.low g.T.Integer.high c.args.entries.now.entries c.in_hand.ensures c.requires.1.order (rank c.in-Some.starts.0) (rank c.in-Some.starts.1)
-    (sym (ap (option_map (ranks_of rank)) c.in-Some.is) ∙ c.requires.1.are) in
-    let over = i.over in
-    let more = lt_holds (rank c.in-Some.starts.0) (rank c.in-Some.starts.1) (sym c.is_below.ensures ∙ c.if-is_below.true) in
-    omega (arith, ints)
+    let start = rank c.in-Some.ends.0 in
+    let same = ap (λ (s : CountedEntries g.row.V.Denot). s.entries) c.in-Some.ensures.looked in
+    let out = ap (λ (s : CountedEntries g.row.V.Denot). s.entries) c.remove.ensures.entries in
+    let i = c.loop-ends.invariant in
+    let over = (there (rank c.args.first) (rank c.after-next.result) g.T.Integer.low g.T.Integer.high c.after-next.ensures c.range_at_or_above.new.self.entries c.loop-ends.entries.entries same c.in_hand-in-Some.ensures _ _ c.in-Some.ensures.found).0 in
+    let under = lt_fails (rank c.args.end) start (sym c.is_below.ensures ∙ c.if-is_below.false) in
+    record {
+      kept_below = kept_below (rank c.args.first +ℤ pos 1) start _ _ _ _ (omega (arith, ints, over)) out same i.kept_below;
+      kept_above = kept_above (rank c.args.end +ℤ pos 1) start _ _ _ _ (omega (arith, ints, under)) out same i.kept_above;
+      worked = worked_out 0 0 c.args.entries.now c.loop-ends.entries c.range_at_or_above.new.self c.remove.new.self _ i.worked c.in-Some.ensures.looked c.remove.ensures.entries c.remove.ensures.shorter;
+    }
 
-pub clear_by_looks-requires-clause-there : goal.clear_by_looks-requires-clause-there
-clear_by_looks-requires-clause-there g c =
+pub returns-clause-entries : goal.returns-clause-entries
+returns-clause-entries g c =
     let rank = g.T.Integer.rank in
-    let i = outer_of (rank c.args.first) c.requires.0 g.T.Integer.low g.T.Integer.high c.args.entries.now.entries c.in_hand.ensures c.requires.1.order (rank c.in-Some.starts.0) (rank c.in-Some.starts.1)
-    (sym (ap (option_map (ranks_of rank)) c.in-Some.is) ∙ c.requires.1.are) in
-    last_left (rank c.args.first) c.requires.0 g.T.Integer.low g.T.Integer.high c.args.entries.now.entries c.in_hand.ensures (rank c.in-Some.starts.0) (rank c.in-Some.starts.1) i
-    (lt_holds (rank c.in-Some.starts.0) (rank c.in-Some.starts.1) (sym c.is_below.ensures ∙ c.if-is_below.true)) c.remove.new.self.entries (ap (λ (s : CountedEntries g.row.V.Denot). s.entries) c.remove.ensures.entries)
-
-pub returns-then-is_below-clause-entries : goal.returns-then-is_below-clause-entries
-returns-then-is_below-clause-entries g c = λ z a.
-    let rank = g.T.Integer.rank in
-    let i = outer_of (rank c.args.first) z g.T.Integer.low g.T.Integer.high c.args.entries.now.entries c.in_hand.ensures a.order (rank c.in-Some.starts.0) (rank c.in-Some.starts.1)
-    (sym (ap (option_map (ranks_of rank)) c.in-Some.is) ∙ a.are) in
-    others_out (rank c.args.first) z g.T.Integer.low g.T.Integer.high c.args.entries.now.entries c.in_hand.ensures (rank c.in-Some.starts.0) (rank c.in-Some.starts.1) i
-    (lt_holds (rank c.in-Some.starts.0) (rank c.in-Some.starts.1) (sym c.is_below.ensures ∙ c.if-is_below.true)) c.remove.new.self.entries (ap (λ (s : CountedEntries g.row.V.Denot). s.entries) c.remove.ensures.entries)
-    c.clear_by_looks.new.entries.entries c.clear_by_looks.ensures.entries
-
-pub returns-else-is_below-clause-entries : goal.returns-else-is_below-clause-entries
-returns-else-is_below-clause-entries g c = λ z a.
-    let rank = g.T.Integer.rank in
-    let i = outer_of (rank c.args.first) z g.T.Integer.low g.T.Integer.high c.args.entries.now.entries c.in_hand.ensures a.order (rank c.in-Some.starts.0) (rank c.in-Some.starts.1)
-    (sym (ap (option_map (ranks_of rank)) c.in-Some.is) ∙ a.are) in
-    ap (λ (s : CountedEntries g.row.V.Denot). s.entries) c.remove.ensures.entries ∙ i.alone (lt_fails (rank c.in-Some.starts.0) (rank c.in-Some.starts.1) (sym c.is_below.ensures ∙ c.if-is_below.false))
-
-pub returns-in_default-clause-entries : goal.returns-in_default-clause-entries
-returns-in_default-clause-entries g c = λ z a.
-    let rank = g.T.Integer.rank in
-    none_out (rank c.args.first) z g.T.Integer.low g.T.Integer.high c.args.entries.now.entries c.in_hand.ensures a.order
-    (sym (ap (option_map (ranks_of rank)) c.in_default.is) ∙ a.are)
+    let same = ap (λ (s : CountedEntries g.row.V.Denot). s.entries) c.in_default.ensures.looked in
+    all_out (rank c.args.first) (rank c.after-next.result) g.T.Integer.low g.T.Integer.high c.after-next.ensures c.range_at_or_above.new.self.entries c.loop-ends.entries.entries same c.in_hand-2.ensures
+    (rank c.args.end) c.args.entries.now.entries c.requires c.loop-ends.invariant.kept_below c.loop-ends.invariant.kept_above _ c.in_default.ensures.found tt

@@ -12,14 +12,14 @@ pub move_start-requires-clause-present : goal.move_start-requires-clause-present
 move_start-requires-clause-present g c =
     let rank = g.T.Integer.rank in
     let r = subst (λ o. IsRest (rank c.args.end) c.args.entries.now.entries (option_map (ranks_of rank) o)) c.in-Some.is c.requires.rest in
-    new_present g.V.PartialEq.eq g.met.V.Eq.laws (entry (rank c.args.lo) (rank c.args.end) c.args.value) c.requires.order c.args.entries.now.entries c.insert.new.self.entries c.requires.canonical c.requires.absent
+    new_present g.V.PartialEq.eq g.met.V.Eq.laws (entry (rank c.args.lo) (rank c.args.end) c.args.value) c.requires.order c.args.entries.now.entries c.insert.new.self.entries c.requires.absent
     (ap (λ (s : CountedEntries g.row.V.Denot). s.entries) c.in_ok-insert.ensures.ok) (rank c.in-Some.ends.0) (rank c.in-Some.ends.1) (rank c.after-next.result) c.after-next.ensures r
 
 pub move_start-requires-clause-absent : goal.move_start-requires-clause-absent
 move_start-requires-clause-absent g c =
     let rank = g.T.Integer.rank in
     let r = subst (λ o. IsRest (rank c.args.end) c.args.entries.now.entries (option_map (ranks_of rank) o)) c.in-Some.is c.requires.rest in
-    new_absent g.V.PartialEq.eq g.met.V.Eq.laws (entry (rank c.args.lo) (rank c.args.end) c.args.value) c.requires.order c.args.entries.now.entries c.insert.new.self.entries c.requires.canonical c.requires.absent
+    new_absent g.V.PartialEq.eq g.met.V.Eq.laws (entry (rank c.args.lo) (rank c.args.end) c.args.value) c.requires.order c.args.entries.now.entries c.insert.new.self.entries c.requires.absent
     (ap (λ (s : CountedEntries g.row.V.Denot). s.entries) c.in_ok-insert.ensures.ok) (rank c.in-Some.ends.0) (rank c.in-Some.ends.1) (rank c.after-next.result) c.after-next.ensures r
 
 pub remove-requires : goal.remove-requires
@@ -38,7 +38,7 @@ returns-in-Err-clause-err g c =
 pub returns-in-None-clause-ok : goal.returns-in-None-clause-ok
 returns-in-None-clause-ok g c =
     let rank = g.T.Integer.rank in
-    new_alone g.V.PartialEq.eq g.met.V.Eq.laws (entry (rank c.args.lo) (rank c.args.end) c.args.value) c.requires.order c.args.entries.now.entries c.insert.new.self.entries c.requires.canonical c.requires.absent
+    new_alone g.V.PartialEq.eq g.met.V.Eq.laws (entry (rank c.args.lo) (rank c.args.end) c.args.value) c.requires.order c.args.entries.now.entries c.insert.new.self.entries c.requires.absent
     (ap (λ (s : CountedEntries g.row.V.Denot). s.entries) c.in_ok-insert.ensures.ok)
     (subst (λ o. IsRest (rank c.args.end) c.args.entries.now.entries (option_map (ranks_of rank) o)) c.in-None.is c.requires.rest)
 
@@ -46,5 +46,5 @@ pub returns-in_default-clause-ok : goal.returns-in_default-clause-ok
 returns-in_default-clause-ok g c =
     let rank = g.T.Integer.rank in
     let r = subst (λ o. IsRest (rank c.args.end) c.args.entries.now.entries (option_map (ranks_of rank) o)) c.in-Some.is c.requires.rest in
-    new_with_rest g.V.PartialEq.eq g.met.V.Eq.laws (entry (rank c.args.lo) (rank c.args.end) c.args.value) c.requires.order c.args.entries.now.entries c.insert.new.self.entries c.requires.canonical c.requires.absent
+    new_with_rest g.V.PartialEq.eq g.met.V.Eq.laws (entry (rank c.args.lo) (rank c.args.end) c.args.value) c.requires.order c.args.entries.now.entries c.insert.new.self.entries c.requires.absent
     (ap (λ (s : CountedEntries g.row.V.Denot). s.entries) c.in_ok-insert.ensures.ok) (rank c.in-Some.ends.0) (rank c.in-Some.ends.1) (rank c.after-next.result) c.after-next.ensures r c.move_start.new.self.entries (subst (λ o. IfSome o (λ x. rank c.args.lo ≤ℤ rank x.0)) c.in-Some.is c.requires.above) c.in_default.ensures.ok

@@ -15,7 +15,7 @@ returns-in-None-clause-ok g c =
     let eq = g.V.PartialEq.eq in
     let laws = g.met.V.Eq.laws in
     over_kept eq laws (rank c.args.lo) (rank c.args.end) c.args.value c.requires.order c.args.entries.now.entries c.requires.present c.args.entries.now.entries c.replace.new.self.entries
-    (kept_none eq laws (rank c.args.lo) (rank c.args.end) c.args.entries.now.entries c.requires.canonical
+    (kept_none eq laws (rank c.args.lo) (rank c.args.end) c.args.entries.now.entries
     (subst (λ o. IsRest (rank c.args.end) c.args.entries.now.entries (option_map (ranks_of rank) o)) c.in-None.is c.requires.rest))
     (ap (λ (s : CountedEntries g.row.V.Denot). s.entries) c.replace.ensures)
 
@@ -31,7 +31,7 @@ returns-in_ok-move_start-in-Some-clause-ok g c =
     let laws = g.met.V.Eq.laws in
     let r = subst (λ o. IsRest (rank c.args.end) c.args.entries.now.entries (option_map (ranks_of rank) o)) c.in-Some.is c.requires.rest in
     over_kept eq laws (rank c.args.lo) (rank c.args.end) c.args.value c.requires.order c.args.entries.now.entries c.requires.present c.move_start.new.self.entries c.replace-then-is_below.new.self.entries
-    (kept_moved eq laws (rank c.args.lo) (rank c.args.end) (rank c.in-Some.ends.0) (rank c.in-Some.ends.1) (rank c.after-next.result) c.args.entries.now.entries c.move_start.new.self.entries c.requires.canonical c.after-next.ensures
+    (kept_moved eq laws (rank c.args.lo) (rank c.args.end) (rank c.in-Some.ends.0) (rank c.in-Some.ends.1) (rank c.after-next.result) c.args.entries.now.entries c.move_start.new.self.entries c.after-next.ensures
     (lt_holds (rank c.args.lo) (rank c.in-Some.ends.0) (sym c.is_below.ensures ∙ c.if-is_below.true)) r c.in_ok-move_start-in-Some.ensures.ok)
     (ap (λ (s : CountedEntries g.row.V.Denot). s.entries) c.replace-then-is_below.ensures)
 

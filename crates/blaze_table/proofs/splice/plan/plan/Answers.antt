@@ -1,13 +1,13 @@
-use Rattle.std.proofs.Common.{ℕ, ◌+◌, pos, ◌+ℤ◌, List, None, sym, ap, ◌∙◌, arith}
+use Rattle.std.proofs.Common.{ℕ, ◌+◌, pos, ◌+ℤ◌, List, sym, ap, ◌∙◌, arith}
 use Rattle.std.specs.Prelude.{reverse}
 use Rattle.std.specs.Option.{option_map}
 use Rattle.std.proofs.lemmas.Int.{ints}
 use Rattle.blaze_entries.specs.Counted.{CountedEntries}
-use Rattle.blaze_entries.specs.Found.{found_in, found_of, ranks_of}
-use Rattle.blaze_entries.specs.Scanned.{seen_of, unseen, walked, walked_covered, answers, walked_keys}
+use Rattle.blaze_entries.specs.Found.{found_in, found_of}
+use Rattle.blaze_entries.specs.Scanned.{seen_of, unseen, walked, answers, walked_keys}
 use Rattle.blaze_entries.specs.Starts.{below, last_below}
 use Rattle.blaze_entries.proofs.Halves.{below_next}
-use Rattle.blaze_entries.proofs.Scans.{step_fits, last_walked, last_covered, last_answers, last_keys, next_walked, next_covered, next_answers, next_keys}
+use Rattle.blaze_entries.proofs.Scans.{step_fits, last_walked, last_answers, last_keys, next_walked, next_answers, next_keys}
 use Rattle.blaze_table.specs.Entries.{Entry}
 use Rattle.blaze_table.proofs.Walks.Descents.{down_to, at_bottom, rounds_fall}
 use Rattle.blaze_table.proofs.splice.plan.plan.Goals as goal
@@ -28,10 +28,8 @@ loop-last-init g c =
       key = rank c.next_or_last.result +ℤ pos 1;
       same = c.at_or_below-last.ensures.looked ∙ ap (λ (n : ℕ). record c.args.entries.now { looks = n }) (sym looks);
       found = c.at_or_below-last.ensures.found;
-      plan = ap (λ s. walked eq v l h s (reverse (below (rank c.next_or_last.result +ℤ pos 1) es))) c.new-plan.ensures.seen
+      plan = ap (λ s. walked eq v l h s (reverse (below (rank c.next_or_last.result +ℤ pos 1) es))) c.new-plan.ensures
           ∙ ap (λ (xs : List (Entry g.row.V.Denot)). walked eq v l h (unseen h) (reverse xs)) up;
-      covered = ap (λ s. walked_covered eq v l h s (reverse (below (rank c.next_or_last.result +ℤ pos 1) es))) c.new-plan.ensures.covered
-          ∙ ap (λ (xs : List (Entry g.row.V.Denot)). walked_covered eq v l h None (reverse xs)) up;
       looks = omega (arith, looks, more);
       room = omega (arith, ints, keys, c.requires);
       left = omega (arith, ints, keys);
@@ -51,15 +49,7 @@ returns-then-is_below-clause-plan g c =
     let eq = g.V.PartialEq.eq in
     let i = c.loop-last.invariant in
     let d = down_to eq c.args.value.now g.T.Integer.low g.T.Integer.high c.args.entries.now.entries c.in_hand.ensures i.key (found_of rank c.in-Some.found) (sym (ap (option_map (found_of rank)) c.in-Some.is) ∙ i.found) in
-    c.see.ensures.seen ∙ sym (last_walked (rank c.args.lo) (rank c.args.hi) eq c.args.value.now _ d.found d.is _ _ d.down (sym c.is_below.ensures ∙ c.if-is_below.true) (seen_of rank c.loop-last.plan)) ∙ i.plan
-
-pub returns-then-is_below-clause-covered : goal.returns-then-is_below-clause-covered
-returns-then-is_below-clause-covered g c =
-    let rank = g.T.Integer.rank in
-    let eq = g.V.PartialEq.eq in
-    let i = c.loop-last.invariant in
-    let d = down_to eq c.args.value.now g.T.Integer.low g.T.Integer.high c.args.entries.now.entries c.in_hand.ensures i.key (found_of rank c.in-Some.found) (sym (ap (option_map (found_of rank)) c.in-Some.is) ∙ i.found) in
-    c.see.ensures.covered ∙ sym (last_covered (rank c.args.lo) (rank c.args.hi) eq c.args.value.now _ d.found d.is _ _ d.down (sym c.is_below.ensures ∙ c.if-is_below.true) (option_map (ranks_of rank) c.loop-last.plan.covered)) ∙ i.covered
+    c.see.ensures ∙ sym (last_walked (rank c.args.lo) (rank c.args.hi) eq c.args.value.now _ d.found d.is _ _ d.down (sym c.is_below.ensures ∙ c.if-is_below.true) (seen_of rank c.loop-last.plan)) ∙ i.plan
 
 pub returns-then-is_below-clause-len : goal.returns-then-is_below-clause-len
 returns-then-is_below-clause-len g c =
@@ -106,10 +96,8 @@ loop-last-preserved g c =
       key = rank c.in-Some.found.start;
       same = c.below-last.ensures.looked ∙ ap (λ (s : CountedEntries g.row.V.Denot). record s { looks = c.loop-last.entries.looks + 1 }) i.same ∙ ap (λ (n : ℕ). record c.args.entries.now { looks = n }) (sym looks);
       found = c.below-last.ensures.found ∙ ap (λ (xs : List (Entry g.row.V.Denot)). option_map (found_in eq v) (last_below (rank c.in-Some.found.start) xs)) same;
-      plan = ap (λ s. walked eq v l h s (reverse (below (rank c.in-Some.found.start) es))) c.see.ensures.seen
+      plan = ap (λ s. walked eq v l h s (reverse (below (rank c.in-Some.found.start) es))) c.see.ensures
           ∙ sym (next_walked l h eq v _ d.found d.is _ _ d.down over (seen_of rank c.loop-last.plan)) ∙ i.plan;
-      covered = ap (λ s. walked_covered eq v l h s (reverse (below (rank c.in-Some.found.start) es))) c.see.ensures.covered
-          ∙ sym (next_covered l h eq v _ d.found d.is _ _ d.down over (option_map (ranks_of rank) c.loop-last.plan.covered)) ∙ i.covered;
       looks = omega (arith, looks, more, i.looks);
       room = omega (arith, ints, keys, c.less-left.ensures, i.room);
       left = omega (arith, ints, keys, c.less-left.ensures, i.left);
@@ -122,14 +110,6 @@ returns-clause-plan g c =
     let i = c.loop-last.invariant in
     let none = at_bottom eq c.args.value.now g.T.Integer.low g.T.Integer.high c.args.entries.now.entries c.in_hand.ensures i.key (sym (ap (option_map (found_of rank)) c.in_default.is) ∙ i.found) in
     sym (ap (λ (xs : List (Entry g.row.V.Denot)). walked eq c.args.value.now (rank c.args.lo) (rank c.args.hi) (seen_of rank c.loop-last.plan) xs) none) ∙ i.plan
-
-pub returns-clause-covered : goal.returns-clause-covered
-returns-clause-covered g c =
-    let rank = g.T.Integer.rank in
-    let eq = g.V.PartialEq.eq in
-    let i = c.loop-last.invariant in
-    let none = at_bottom eq c.args.value.now g.T.Integer.low g.T.Integer.high c.args.entries.now.entries c.in_hand.ensures i.key (sym (ap (option_map (found_of rank)) c.in_default.is) ∙ i.found) in
-    sym (ap (λ (xs : List (Entry g.row.V.Denot)). walked_covered eq c.args.value.now (rank c.args.lo) (rank c.args.hi) (option_map (ranks_of rank) c.loop-last.plan.covered) xs) none) ∙ i.covered
 
 pub returns-clause-len : goal.returns-clause-len
 returns-clause-len g c =

@@ -1,8 +1,8 @@
-use Rattle.std.proofs.Common.{◌≡◌, ◌+◌, ℤ, pos, ◌+ℤ◌, ◌≤ℤ◌, None}
+use Rattle.std.proofs.Common.{◌≡◌, ◌+◌, ℤ, pos, ◌+ℤ◌, ◌≤ℤ◌}
 use Rattle.std.specs.Prelude.{reverse}
 use Rattle.std.specs.Option.{option_map}
-use Rattle.blaze_entries.specs.Found.{found_in, found_of, ranks_of}
-use Rattle.blaze_entries.specs.Scanned.{seen_of, unseen, walked, walked_covered, answers, walked_keys}
+use Rattle.blaze_entries.specs.Found.{found_in, found_of}
+use Rattle.blaze_entries.specs.Scanned.{seen_of, unseen, walked, answers, walked_keys}
 use Rattle.blaze_entries.specs.Starts.{below, last_below}
 use Rattle.blaze_table.proofs.Walks.Descents.{rounds}
 use Rattle.blaze_table.proofs.splice.plan.plan.Given as goal
@@ -15,8 +15,6 @@ invariant-loop-last g l = record {
   found : option_map (found_of g.T.Integer.rank) l.last ≡ option_map (found_in g.V.PartialEq.eq l.value) (last_below key l.fn.entries.entries);
   plan : walked g.V.PartialEq.eq l.value (g.T.Integer.rank l.lo) (g.T.Integer.rank l.hi) (seen_of g.T.Integer.rank l.plan) (reverse (below key l.fn.entries.entries))
       ≡ walked g.V.PartialEq.eq l.value (g.T.Integer.rank l.lo) (g.T.Integer.rank l.hi) (unseen (g.T.Integer.rank l.hi)) (reverse (below (g.T.Integer.rank l.hi +ℤ pos 2) l.fn.entries.entries));
-  covered : walked_covered g.V.PartialEq.eq l.value (g.T.Integer.rank l.lo) (g.T.Integer.rank l.hi) (option_map (ranks_of g.T.Integer.rank) l.plan.covered) (reverse (below key l.fn.entries.entries))
-      ≡ walked_covered g.V.PartialEq.eq l.value (g.T.Integer.rank l.lo) (g.T.Integer.rank l.hi) None (reverse (below (g.T.Integer.rank l.hi +ℤ pos 2) l.fn.entries.entries));
   looks : l.entries.looks + answers (g.T.Integer.rank l.lo) (reverse (below key l.fn.entries.entries))
       ≡ l.fn.entries.looks + answers (g.T.Integer.rank l.lo) (reverse (below (g.T.Integer.rank l.hi +ℤ pos 2) l.fn.entries.entries)) + 1;
   room : walked_keys (g.T.Integer.rank l.lo) (g.T.Integer.rank l.hi) (reverse (below key l.fn.entries.entries)) ≤ℤ pos (g.T.SafeLen.SafeLength.number l.left);
