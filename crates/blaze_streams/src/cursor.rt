@@ -54,11 +54,12 @@ fn take_first<T: Integer, VC: ValueCarrier, I: SortedDisjointMap<T, VC>>(
     Some((start, end, carrier))
 }
 
-/// How many ranges are passed one by one before a stream seeks.
-const STEPS: usize = 4;
+/// How many ranges are passed one by one, behind the first, before a stream seeks.
+const STEPS: usize = 3;
 
 /// Takes the ranges up to `end` out of a stream, and the first of what lies above: its first key, its last key and its
-/// carrier. After a few ranges the stream seeks.
+/// carrier. After a few ranges the stream seeks. It stays a call, since `advance` looks at the first range itself.
+#[inline(never)]
 fn take_above<T: Integer, VC: ValueCarrier, I: SortedDisjointMap<T, VC>>(
     stream: &mut I,
     end: T,
@@ -139,11 +140,21 @@ impl<T: Integer, VC: ValueCarrier, I: SortedDisjointMap<T, VC>> Cursor<T, VC, I>
         let Some((lo, hi, _)) = &mut self.head else {
             return;
         };
-        if is_at_most(*hi, end) {
-            self.head = take_above(&mut self.rest, end);
-        } else if is_at_most(*lo, end) {
-            *lo = after(end, *hi);
+        if is_below(end, *hi) {
+            if is_at_most(*lo, end) {
+                *lo = after(end, *hi);
+            }
+            return;
         }
+        let Some((lo, hi, carrier)) = take_first(&mut self.rest) else {
+            self.head = None;
+            return;
+        };
+        if is_below(end, hi) {
+            self.head = Some((greater(lo, after(end, hi)), hi, carrier));
+            return;
+        }
+        self.head = take_above(&mut self.rest, end);
     }
 
     /// The same, where `end` is not above the end of the first range.

@@ -1,13 +1,15 @@
-use Rattle.std.proofs.Common.{sym, ap, subst}
+use Rattle.std.proofs.Common.{◌∙◌, sym, ap, subst}
 use Rattle.blaze_table.specs.Canonical.{IsCanonical}
 use Rattle.blaze_table.proofs.Paints.Splices.{canonical_after}
 use Rattle.blaze_streams.specs.Choosing.{ahead_of}
 use Rattle.blaze_streams.proofs.cursor.Cursor.advance.Goals as goal
 
-pub invariant_of-self-then-is_at_most : goal.invariant_of-self-then-is_at_most
-invariant_of-self-then-is_at_most g c =
+pub invariant_of-self-2 : goal.invariant_of-self-2
+invariant_of-self-2 g c =
     let rank = g.T.Integer.rank in
     let eq = g.VC.Value.PartialEq.eq in
     let is = ap (λ h. ahead_of rank g.VC.ValueCarrier.shown h (g.I.SortedDisjointMap.left c.self.inside.rest)) c.in-Some.is in
     let canonical = subst (IsCanonical eq) is c.self.invariant.1 in
-    (c.take_above.ensures.none, subst (IsCanonical eq) (sym c.take_above.ensures.left) (canonical_after eq (rank c.args.end) _ canonical.2))
+    let next = ap (λ h. ahead_of rank g.VC.ValueCarrier.shown h (g.I.SortedDisjointMap.left c.take_first.new.stream)) c.in-Some-take_first.is in
+    let rest = subst (IsCanonical eq) (sym c.take_first.ensures.left ∙ next) canonical.2 in
+    (c.take_above.ensures.none, subst (IsCanonical eq) (sym c.take_above.ensures.left) (canonical_after eq (rank c.args.end) _ rest.2))
