@@ -130,10 +130,9 @@ module _ {V : Type 0} (eq : V → V → Bool) where
 
     -- one more item
     pub underway_item : {A : Type 0} (shown : A → Entry V) (items : List A) (x : A) (q : Entry V) (old new : List (Entry V)) (pending : Option (Entry V))
-        → IsUnderway eq low high (map shown items ++ q ∷ []) old new pending → q.lo ≡ (shown x).lo → q.hi ≡ (shown x).hi → q.value ≡ (shown x).value
+        → IsUnderway eq low high (map shown items ++ q ∷ []) old new pending → q ≡ shown x
         → IsUnderway eq low high (map shown (items ++ x ∷ [])) old new pending
-    underway_item shown items x q old new pending u lo hi v =
-        let same : q ≡ shown x = λ i. record { lo = lo i; hi = hi i; value = v i } in
+    underway_item shown items x q old new pending u same =
         subst (λ ps. IsUnderway eq low high ps old new pending) (ap (λ e. map shown items ++ e ∷ []) same ∙ sym (map-append shown items (x ∷ []))) u
 
 -- a front of what the items show is what a front of the items shows

@@ -9,11 +9,28 @@ ghost use Rattle.range_map_blaze.specs.Extended.{shown_point};
 ghost use Rattle.range_map_blaze.specs.Made.{IsMade};
 
 use crate::make::lent_pairs::{LentPair, lent_pairs_of};
-use crate::make::pair_maps::{map_of_lent_pairs, map_of_pairs, pairs_of_points};
+use crate::make::pair_maps::{map_of_lent_pairs, map_of_pairs};
+use crate::make::pairs::{Pair, pairs_of};
 use crate::map::RangeMapBlaze;
 use blaze_int::Integer;
 use std::alloc::{AllocError, Global};
 use std::ops::RangeInclusive;
+
+/// The map of the pairs of an iterable, painted in order.
+fn map_of<T: Integer, V: Eq + Clone, P: Pair<T, V>, I: IntoIterator<Item = P>>(
+    alloc: Global,
+    iter: I,
+) -> Result<RangeMapBlaze<T, V>, AllocError>
+    requires ends { IsFiniteIterable I.into_iter_gives I.IntoIter.can_next
+        I.IntoIter.remaining iter }
+    requires clones { ClonesAreAlike V.is_clone V.eq }
+    ensures { IfOk result (IsMade (CollectsItems I.into_iter_gives I.IntoIter.next_gives
+        (λ items. IsCanonicalOf V.eq T.low T.high (map P.pair items)) iter)) }
+{
+    let pairs = pairs_of(alloc, iter)?;
+    let new = map_of_pairs(alloc, pairs)?;
+    Ok(new)
+}
 
 /// The map of the lent pairs of an iterable, painted in order.
 fn map_of_lent<
@@ -47,12 +64,7 @@ impl<T: Integer, V: Eq + Clone> RangeMapBlaze<T, V> {
         ensures { IfOk result (IsMade (CollectsItems I.into_iter_gives I.IntoIter.next_gives
             (λ items. IsCanonicalOf V.eq T.low T.high (map (shown_point T.rank (λ v. v)) items)) iter)) }
     {
-        let mut pairs = Vec::new(alloc);
-        for (key, value) in iter {
-            pairs.push((key, key, value))?;
-        }
-        let new = map_of_pairs(alloc, pairs)?;
-        Ok(new)
+        map_of(alloc, iter)
     }
 
     /// The map of ranges with values, in order: the later pair wins, and a pair whose range is reversed paints nothing. It
@@ -69,13 +81,7 @@ impl<T: Integer, V: Eq + Clone> RangeMapBlaze<T, V> {
         ensures { IfOk result (IsMade (CollectsItems I.into_iter_gives I.IntoIter.next_gives
             (λ items. IsCanonicalOf V.eq T.low T.high (map (shown_range T.rank (λ v. v)) items)) iter)) }
     {
-        let mut pairs = Vec::new(alloc);
-        for (range, value) in iter {
-            let (start, end) = range.into_inner();
-            pairs.push((start, end, value))?;
-        }
-        let new = map_of_pairs(alloc, pairs)?;
-        Ok(new)
+        map_of(alloc, iter)
     }
 
     /// The same of keys with lent values: each entry has a clone of its value, and no other value is cloned. Refused memory
@@ -194,8 +200,7 @@ impl<T: Integer, V: Eq + Clone> RangeMapBlaze<T, V> {
             (map (shown_point T.rank (λ v. v)) items))) }
     {
         let points = Vec::from_array(alloc, items)?;
-        let pairs = pairs_of_points(alloc, points)?;
-        let new = map_of_pairs(alloc, pairs)?;
+        let new = Self::from_points(alloc, points)?;
         Ok(new)
     }
 }

@@ -2,4 +2,5 @@
 pub mod constructors;
 pub mod lent_pairs;
 pub mod pair_maps;
+pub mod pairs;
 pub mod stream;

@@ -1,10 +1,9 @@
 //! Maps of lists of pairs, painted in order.
-ghost use Rattle.std.specs.Prelude.{◌≡◌, map, IfOk};
+ghost use Rattle.std.specs.Prelude.{map, IfOk};
 ghost use Rattle.blaze_table.specs.Entries.{SameEntries, shown_entry};
 ghost use Rattle.blaze_table.specs.Listed.{listed};
 ghost use Rattle.blaze_table.specs.Painted.{ClonesAreAlike};
 ghost use Rattle.blaze_table.specs.CanonicalOf.{IsCanonicalOf};
-ghost use Rattle.range_map_blaze.specs.Extended.{shown_point};
 ghost use Rattle.range_map_blaze.specs.Made.{IsMade};
 
 use crate::map::RangeMapBlaze;
@@ -12,21 +11,6 @@ use blaze_int::Integer;
 use blaze_streams::canonical_of;
 use blaze_table::RangeTable;
 use std::alloc::{AllocError, Global};
-
-/// Keys with values, as pairs of one key each.
-pub(crate) fn pairs_of_points<T: Integer, V: Drop>(
-    alloc: Global,
-    points: Vec<(T, V)>,
-) -> Result<Vec<(T, T, V)>, AllocError>
-    ensures { IfOk result (λ pairs. listed T.rank pairs.items
-        ≡ map (shown_point T.rank (λ v. v)) points.items) }
-{
-    let mut pairs = Vec::new(alloc);
-    for (key, value) in points {
-        pairs.push((key, key, value))?;
-    }
-    Ok(pairs)
-}
 
 /// The map of pairs painted in order. A value is cloned only where its pair is cut into several pieces.
 pub(crate) fn map_of_pairs<T: Integer, V: Eq + Clone>(

@@ -44,8 +44,8 @@ pub fn within_keys_by_value<T: Integer, V: Eq + Clone, W: Eq + Clone>(
     owned_chosen(map, SeekingRangeValuesIter::new(keys), &LeftWithRight, room)
 }
 
-/// The values off the table's keys, in one pass over the map, in which the table passes over what ends below the map's next
-/// key by a few steps and a search.
+/// The values off the table's keys. Where the table has few entries, a clone of the map is cut; else it is one pass over the
+/// map, in which the table passes over what ends below the map's next key by a few steps and a search.
 pub fn outside_keys<T: Integer, V: Eq + Clone, W: Eq + Clone>(
     map: &RangeMapBlaze<T, V>,
     keys: &RangeTable<T, W>,
@@ -55,6 +55,10 @@ pub fn outside_keys<T: Integer, V: Eq + Clone, W: Eq + Clone>(
         keys.now.entries new.entries) }
 {
     let room = map.ranges_len();
+    if are_few(keys.entries(), room) {
+        let most = outside_keys_by_value(map.clone()?, keys)?;
+        return Ok(most);
+    }
     let (left, right) = (
         map.seeking_range_values(),
         SeekingRangeValuesIter::new(keys),

@@ -5,6 +5,7 @@ ghost use Rattle.blaze_streams.specs.Ranges.{shown_range};
 ghost use Rattle.blaze_table.specs.Painted.{ClonesAreAlike};
 ghost use Rattle.range_map_blaze.specs.Extended.{shown_point, IsExtended};
 
+use crate::make::pairs::Pair;
 use crate::map::RangeMapBlaze;
 use blaze_int::Integer;
 use std::alloc::AllocError;
@@ -25,13 +26,7 @@ impl<T: Integer, V: Eq + Clone> RangeMapBlaze<T, V> {
             (λ old items new. IsExtended V.eq T.low T.high (map (shown_point T.rank (λ v. v)) items)
             old new) iter self.old.entries self.new.entries result }
     {
-        self.in_hand();
-        let mut pending = None;
-        for (key, value) in iter {
-            pending = self.take_pair(pending, (key, key, value))?;
-        }
-        self.paint_pending(pending)?;
-        Ok(())
+        self.extend_pairs(iter)
     }
 
     /// Puts values on ranges, in order: the later pair wins, and a pair whose range is reversed paints nothing. Successive
@@ -48,11 +43,25 @@ impl<T: Integer, V: Eq + Clone> RangeMapBlaze<T, V> {
             (λ old items new. IsExtended V.eq T.low T.high (map (shown_range T.rank (λ v. v)) items)
             old new) iter self.old.entries self.new.entries result }
     {
+        self.extend_pairs(iter)
+    }
+
+    // The same of pairs of either kind.
+    fn extend_pairs<P: Pair<T, V>, I: IntoIterator<Item = P>>(
+        &mut self,
+        iter: I,
+    ) -> Result<(), AllocError>
+        requires ends { (it : I.IntoIter) → I.into_iter_gives iter it → I.IntoIter.can_next it
+            × IsFinite (I.IntoIter.remaining it) }
+        requires clones { ClonesAreAlike V.is_clone V.eq }
+        ensures { ExtendsWithItems I.into_iter_gives I.IntoIter.next_gives
+            (λ old items new. IsExtended V.eq T.low T.high (map P.pair items) old new) iter
+            self.old.entries self.new.entries result }
+    {
         self.in_hand();
         let mut pending = None;
-        for (range, value) in iter {
-            let (start, end) = range.into_inner();
-            pending = self.take_pair(pending, (start, end, value))?;
+        for item in iter {
+            pending = self.take_pair(pending, item.parts())?;
         }
         self.paint_pending(pending)?;
         Ok(())

@@ -18,8 +18,8 @@ impl<T: Integer, V: Eq + Clone> RangeMapBlaze<T, V> {
     /// value keeps it. The last gap takes the value, and each gap before it a clone.
     ///
     /// The bounds are those that the range tells, as of `ranges_insert`. Bounds that name no key, and a range without a gap,
-    /// answer false, change nothing and take no memory. Refused memory leaves the map unchanged. It costs a search for each gap
-    /// and each entry within the range.
+    /// answer false, change nothing and take no memory. Refused memory leaves the map unchanged. It takes a step for each entry
+    /// within the range; two searches to find each gap and one to fill it; and four for each two entries that are joined.
     pub fn ranges_insert_absent<R: RangeBounds<T> + Drop>(
         &mut self,
         range: R,

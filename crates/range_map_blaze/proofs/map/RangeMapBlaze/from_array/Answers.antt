@@ -1,4 +1,7 @@
-use Rattle.std.proofs.Common.{◌∙◌, ap, map, subst}
+use Rattle.std.proofs.Common.{◌∙◌, map, subst, sym}
+use Rattle.std.proofs.lemmas.Iterator.{items_from_drains}
+use Rattle.std.proofs.lemmas.Iterator.Adapters.{YieldsList-from_vec}
+use Rattle.std.proofs.lemmas.List.{map-id}
 use Rattle.blaze_table.specs.CanonicalOf.{IsCanonicalOf}
 use Rattle.range_map_blaze.specs.Extended.{shown_point}
 use Rattle.range_map_blaze.specs.Made.{IsMade}
@@ -6,5 +9,8 @@ use Rattle.range_map_blaze.proofs.map.RangeMapBlaze.from_array.Goals as goal
 
 pub returns : goal.returns
 returns g c =
-    subst (λ pairs. IsMade (IsCanonicalOf g.V.PartialEq.eq g.T.Integer.low g.T.Integer.high pairs) c.in_ok-new.new)
-    (c.in_ok-pairs.ensures ∙ ap (map (shown_point g.T.Integer.rank (λ v. v))) c.in_ok-points.ensures.items) c.in_ok-new.ensures
+    let made = c.in_ok-new.ensures in
+    let given = made.0 in
+    let road = YieldsList-from_vec {s = given.0} c.in_ok-points.points.items given.2.0 (given.2.1 ∙ c.in_ok-points.points.ok.0) in
+    let all = sym (map-id given.1) ∙ items_from_drains given.1 (given.3.1.0, given.3.1.1, λ _. (given.3.0, given.3.1.2)) road in
+    (subst (λ items. IsCanonicalOf g.V.PartialEq.eq g.T.Integer.low g.T.Integer.high (map (shown_point g.T.Integer.rank (λ v. v)) items) c.in_ok-new.new.entries) (all ∙ c.in_ok-points.ensures.items) given.4, made.1)
