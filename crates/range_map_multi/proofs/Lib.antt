@@ -1,5 +1,4 @@
 pub mod AnsweredRows
-pub mod InTurn
 pub mod JoinsOfTwo
 pub mod Many
 pub mod OfTwo

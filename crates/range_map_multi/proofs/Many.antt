@@ -1,19 +1,19 @@
--- What is chosen from many lists, by halves.
+-- What is chosen from many lists, by two parts of them.
 use Rattle.std.specs.Option.{option_xor}
-use Rattle.std.proofs.Common.{◌≡◌, ◌<◌, ℕ, ℤ, Bool, true, false, not, cond, ◌&&◌, suc, List, [], ◌∷◌, ◌++◌, length, map, take, drop, append_assoc, Option, Some, None, is_some, refl, arith, ◌∙◌, sym, ap, subst}
+use Rattle.std.proofs.Common.{◌≡◌, ◌<◌, ℕ, ℤ, Bool, true, false, not, cond, ◌&&◌, suc, List, [], ◌∷◌, ◌++◌, length, map, take, drop, append_assoc, append-nil, Option, Some, None, is_some, refl, arith, ◌∙◌, sym, ap, subst}
 use Rattle.std.specs.List.{list_all}
 use Rattle.std.specs.Cmp.{IsEquivalence}
 use Rattle.std.proofs.lemmas.List.{map-append, take-append-drop}
 use Rattle.std.proofs.lemmas.List.Folds.{list_all-append}
-use Rattle.blaze_entries.proofs.Alike.{same_itself, same_trans, or_none, is_some_alike}
+use Rattle.blaze_entries.proofs.Alike.{same_trans, same_or, or_none, or_assoc, is_some_alike}
 use Rattle.blaze_table.specs.Entries.{Entry, at, SameOption, SameEntries}
-use Rattle.blaze_table.specs.Canonical.{IsRangeMap}
 use Rattle.blaze_table.specs.Chosen.{right_first, left_with_right, IsChosen}
 use Rattle.blaze_table.proofs.Paints.Painted.{content_as}
 use Rattle.blaze_table.proofs.Canonical.Unique.{back}
 use Rattle.blaze_streams.specs.Segments.{row}
 use Rattle.range_map_blaze.proofs.Streams.{range_map_as}
-use Rattle.range_map_multi.specs.Many.{last_value, last_of_all, has_odd, last_of_odd, IsChosenOfMany, IsOnly, HasOddKeys}
+use Rattle.range_map_multi.specs.Many.{last_value, last_of_all, has_odd, last_of_odd, IsChosenOfMany}
+use Rattle.range_map_multi.specs.Merges.{GivesEach, GivesBoth}
 
 -- ---- lists
 
@@ -22,6 +22,15 @@ pub taken_more : {A B : Type 0} (f : A → B) (out new : List A) (item : A) (lef
 taken_more f out new item left next all n l i =
     ap (λ xs. map f xs ++ next) n ∙ ap (λ es. es ++ next) (map-append f out (item ∷ [])) ∙ append_assoc (map f out) (f item ∷ []) next
     ∙ ap (λ es. map f out ++ es) (sym l) ∙ i
+
+-- one item more put behind what was made of those before
+pub made_more : {A B : Type 0} (f : A → B) (out new : List B) (item : A) (made : B) (left next : List A) (all : List B) → new ≡ out ++ made ∷ [] → made ≡ f item → left ≡ item ∷ next → out ++ map f left ≡ all → new ++ map f next ≡ all
+made_more f out new item made left next all n m l i =
+    ap (λ xs. xs ++ map f next) n ∙ append_assoc out (made ∷ []) (map f next) ∙ ap (λ x. out ++ x ∷ map f next) m ∙ ap (λ xs. out ++ map f xs) (sym l) ∙ i
+
+-- where nothing is left, what was taken is all
+pub taken_all : {A : Type 0} (out left all : List A) → out ++ left ≡ all → left ≡ [] → out ≡ all
+taken_all out left all i n = sym (append-nil out) ∙ ap (λ xs. out ++ xs) (sym n) ∙ i
 
 -- the two halves are all
 pub halves : {A B : Type 0} (f : A → B) (xs first second : List A) (n : ℕ) → first ≡ take n xs → second ≡ drop n xs → map f first ++ map f second ≡ map f xs
@@ -47,14 +56,17 @@ pub row_length : {A : Type 0} (Ls : List (List (Entry A))) (k : ℤ) → length 
 row_length [] k = refl
 row_length (L ∷ Ls) k = ap suc (row_length Ls k)
 
-module _ {V : Type 0} where
-  first_assoc : (x y z : Option V) → right_first x (right_first y z) ≡ right_first (right_first x y) z
-  first_assoc x y None = refl
-  first_assoc x y (Some z) = refl
+-- of two parts, all
+pub both_given : {V : Type 0} (gives : List (Option V) → Option V → Type 0) (Ls Ms all : List (List (Entry V))) (left right new : List (Entry V)) → Ls ++ Ms ≡ all → 0 < length Ls → 0 < length Ms
+    → GivesEach gives Ls left → GivesEach gives Ms right → GivesBoth gives left right new → GivesEach gives all new
+both_given gives Ls Ms all left right new is a b l r c k =
+    subst (λ xs. gives xs (at new k)) (sym (row_append Ls Ms k) ∙ ap (λ Ns. row Ns k) is)
+    (c k (row Ls k) (row Ms k) (subst (λ n. 0 < n) (sym (row_length Ls k)) a) (subst (λ n. 0 < n) (sym (row_length Ms k)) b) (l k) (r k))
 
+module _ {V : Type 0} where
   pub last_append : (xs ys : List (Option V)) → last_value (xs ++ ys) ≡ right_first (last_value xs) (last_value ys)
   last_append [] ys = sym (or_none (last_value ys))
-  last_append (x ∷ xs) ys = ap (right_first x) (last_append xs ys) ∙ first_assoc x (last_value xs) (last_value ys)
+  last_append (x ∷ xs) ys = ap (right_first x) (last_append xs ys) ∙ or_assoc (last_value ys) (last_value xs) x
 
   -- where all of a row that is not empty have a value, there is a last
   first_some : (x y : Option V) → is_some x ≡ true → is_some (right_first x y) ≡ true
@@ -92,64 +104,29 @@ module _ {V : Type 0} where
   one_there (Some x) None = refl
   one_there (Some x) (Some y) = refl
 
-  pub odd_only : (lists : List (List (Entry V))) (list : List (Entry V)) → IsOnly lists list → HasOddKeys lists list
-  odd_only [] list o k = ap (λ l. is_some (at l k)) o
-  odd_only (L ∷ []) list o k = ap (λ l. is_some (at l k)) o ∙ odd_one (at L k)
-    where
-      odd_one : (x : Option V) → is_some x ≡ has_odd (x ∷ [])
-      odd_one None = refl
-      odd_one (Some x) = refl
-  odd_only (L ∷ M ∷ Ls) list o k = absurd o
-
-  pub odd_both : (eq : V → V → Bool) (low high : ℤ) (Ls Ms : List (List (Entry V))) (left right new : List (Entry V)) → HasOddKeys Ls left → HasOddKeys Ms right → IsChosen eq low high option_xor left right new → HasOddKeys (Ls ++ Ms) new
-  odd_both eq low high Ls Ms left right new l r c k =
-      is_some_alike eq (at new k) (option_xor (at left k) (at right k)) (c.content k) ∙ one_there (at left k) (at right k)
-      ∙ ap (λ b. one_of b (is_some (at right k))) (l k) ∙ ap (one_of (has_odd (row Ls k))) (r k)
-      ∙ sym (odd_append (row Ls k) (row Ms k)) ∙ ap has_odd (sym (row_append Ls Ms k))
+  pub odd_given : (eq : V → V → Bool) (left right new : List (Entry V)) → ((k : ℤ) → SameOption eq (at new k) (option_xor (at left k) (at right k))) → GivesBoth (λ xs x. is_some x ≡ has_odd xs) left right new
+  odd_given eq left right new c k xs ys a b l r =
+      is_some_alike eq (at new k) (option_xor (at left k) (at right k)) (c k) ∙ one_there (at left k) (at right k)
+      ∙ ap (λ b. one_of b (is_some (at right k))) l ∙ ap (one_of (has_odd xs)) r ∙ sym (odd_append xs ys)
 
 -- ---- what is chosen from two parts
 
-module _ {V : Type 0} (eq : V → V → Bool) (laws : IsEquivalence eq) (low high : ℤ) where
-  pub of_only : (choose : List (Option V) → Option V) → choose [] ≡ None → ((x : Option V) → choose (x ∷ []) ≡ x)
-      → (lists : List (List (Entry V))) (list : List (Entry V)) → IsOnly lists list → IsRangeMap eq low high list → IsChosenOfMany eq low high choose lists list
-  of_only choose none one [] list o m = record {
-    range_map = m;
-    content = λ k. subst (SameOption eq (at list k)) (ap (λ l. at l k) o ∙ sym none) (same_itself eq laws (at list k));
-  }
-  of_only choose none one (L ∷ []) list o m = record {
-    range_map = m;
-    content = λ k. subst (SameOption eq (at list k)) (ap (λ l. at l k) o ∙ sym (one (at L k))) (same_itself eq laws (at list k));
-  }
-  of_only choose none one (L ∷ M ∷ Ls) list o m = absurd o
-
-  right_alike : (x x' y y' : Option V) → SameOption eq x x' → SameOption eq y y' → SameOption eq (right_first x y) (right_first x' y')
-  right_alike x x' None None s t = s
-  right_alike x x' None (Some y') s t = absurd t
-  right_alike x x' (Some y) None s t = absurd t
-  right_alike x x' (Some y) (Some y') s t = t
-
+module _ {V : Type 0} (eq : V → V → Bool) (laws : IsEquivalence eq) where
   with_alike : (x x' y y' : Option V) → SameOption eq x x' → SameOption eq y y' → SameOption eq (left_with_right x y) (left_with_right x' y')
   with_alike x x' None None s t = tt
   with_alike x x' None (Some y') s t = absurd t
   with_alike x x' (Some y) None s t = absurd t
   with_alike x x' (Some y) (Some y') s t = s
 
-  pub union_both : (Ls Ms : List (List (Entry V))) (left right new : List (Entry V)) → IsChosenOfMany eq low high last_value Ls left → IsChosenOfMany eq low high last_value Ms right
-      → IsChosen eq low high right_first left right new → IsChosenOfMany eq low high last_value (Ls ++ Ms) new
-  union_both Ls Ms left right new l r c = record {
-    range_map = c.range_map;
-    content = λ k. subst (SameOption eq (at new k)) (sym (ap last_value (row_append Ls Ms k) ∙ last_append (row Ls k) (row Ms k)))
-        (same_trans eq laws (at new k) (right_first (at left k) (at right k)) _ (c.content k) (right_alike (at left k) (last_value (row Ls k)) (at right k) (last_value (row Ms k)) (l.content k) (r.content k)));
-  }
+  pub union_given : (left right new : List (Entry V)) → ((k : ℤ) → SameOption eq (at new k) (right_first (at left k) (at right k))) → GivesBoth (λ xs x. SameOption eq x (last_value xs)) left right new
+  union_given left right new c k xs ys a b l r =
+      subst (SameOption eq (at new k)) (sym (last_append xs ys))
+      (same_trans eq laws (at new k) (right_first (at left k) (at right k)) _ (c k) (same_or eq (at right k) (last_value ys) (at left k) (last_value xs) r l))
 
-  pub intersection_both : (Ls Ms : List (List (Entry V))) (left right new : List (Entry V)) → 0 < length Ls → 0 < length Ms → IsChosenOfMany eq low high last_of_all Ls left → IsChosenOfMany eq low high last_of_all Ms right
-      → IsChosen eq low high left_with_right right left new → IsChosenOfMany eq low high last_of_all (Ls ++ Ms) new
-  intersection_both Ls Ms left right new a b l r c = record {
-    range_map = c.range_map;
-    content = λ k. subst (SameOption eq (at new k)) (sym (ap last_of_all (row_append Ls Ms k)
-        ∙ all_append (row Ls k) (row Ms k) (subst (λ n. 0 < n) (sym (row_length Ls k)) a) (subst (λ n. 0 < n) (sym (row_length Ms k)) b)))
-        (same_trans eq laws (at new k) (left_with_right (at right k) (at left k)) _ (c.content k) (with_alike (at right k) (last_of_all (row Ms k)) (at left k) (last_of_all (row Ls k)) (r.content k) (l.content k)));
-  }
+  pub intersection_given : (left right new : List (Entry V)) → ((k : ℤ) → SameOption eq (at new k) (left_with_right (at right k) (at left k))) → GivesBoth (λ xs x. SameOption eq x (last_of_all xs)) left right new
+  intersection_given left right new c k xs ys a b l r =
+      subst (SameOption eq (at new k)) (sym (all_append xs ys a b))
+      (same_trans eq laws (at new k) (left_with_right (at right k) (at left k)) _ (c k) (with_alike (at right k) (last_of_all ys) (at left k) (last_of_all xs) r l))
 
   -- the union on the keys that an odd number have
   on_odd : {B : Type 0} (x u : Option V) (y : Option B) (b : Bool) → SameOption eq x u → is_some y ≡ b → SameOption eq (left_with_right x y) (cond b u None)
@@ -158,11 +135,12 @@ module _ {V : Type 0} (eq : V → V → Bool) (laws : IsEquivalence eq) (low hig
   on_odd x u (Some y) true s h = s
   on_odd x u (Some y) false s h = let no : ⊥ = cc h in absurd no
 
-  pub difference_of : {B : Type 0} (lists : List (List (Entry V))) (union : List (Entry V)) (odd : List (Entry B)) (new : List (Entry V)) → IsChosenOfMany eq low high last_value lists union → HasOddKeys lists odd
+module _ {V : Type 0} (eq : V → V → Bool) (laws : IsEquivalence eq) (low high : ℤ) where
+  pub difference_of : {B : Type 0} (lists : List (List (Entry V))) (union : List (Entry V)) (odd : List (Entry B)) (new : List (Entry V)) → GivesEach (λ xs x. SameOption eq x (last_value xs)) lists union → ((k : ℤ) → is_some (at odd k) ≡ has_odd (row lists k))
       → IsChosen eq low high left_with_right union odd new → IsChosenOfMany eq low high last_of_odd lists new
   difference_of lists union odd new u o c = record {
     range_map = c.range_map;
-    content = λ k. same_trans eq laws (at new k) (left_with_right (at union k) (at odd k)) _ (c.content k) (on_odd (at union k) (last_value (row lists k)) (at odd k) (has_odd (row lists k)) (u.content k) (o k));
+    content = λ k. same_trans eq laws (at new k) (left_with_right (at union k) (at odd k)) _ (c.content k) (on_odd eq laws (at union k) (last_value (row lists k)) (at odd k) (has_odd (row lists k)) (u k) (o k));
   }
 
   -- a list that is like a chosen one
@@ -171,7 +149,3 @@ module _ {V : Type 0} (eq : V → V → Bool) (laws : IsEquivalence eq) (low hig
     range_map = range_map_as eq laws low high es fs s c.range_map;
     content = λ k. same_trans eq laws (at fs k) (at es k) (choose (row lists k)) (back eq laws es fs (content_as eq laws es fs s) k) (c.content k);
   }
-
-  pub all_one : (x : Option V) → last_of_all (x ∷ []) ≡ x
-  all_one None = refl
-  all_one (Some x) = refl

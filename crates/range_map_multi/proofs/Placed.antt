@@ -1,19 +1,22 @@
 -- Lists that are gone through by the places of their ranges.
 use Rattle.blaze_int.specs.Unsigned.{nat_of}
-use Rattle.std.proofs.Common.{◌≡◌, ℕ, ◌+◌, ℤ, pos, ◌+ℤ◌, ◌-ℤ◌, Bool, true, false, cond, nat_eq, suc, List, [], ◌∷◌, ◌++◌, length, map, Option, Some, None, refl, ◌∙◌, sym, ap, option_map, append_assoc, append-nil, subst, arith}
+use Rattle.std.proofs.Common.{◌≡◌, ℕ, ◌+◌, ℤ, pos, ◌+ℤ◌, ◌-ℤ◌, Bool, true, false, not, cond, nat_eq, suc, List, [], ◌∷◌, ◌++◌, length, map, Option, Some, None, is_some, refl, ◌∙◌, sym, ap, option_map, append_assoc, append-nil, subst, arith}
 use Rattle.std.specs.Prelude.{int_le}
 use Rattle.std.specs.List.{slice_get}
 use Rattle.std.specs.Option.{option_and_then}
+use Rattle.std.specs.Cmp.{IsEquivalence, nat_eq_equiv}
 use Rattle.std.proofs.lemmas.List.{length_push}
 use Rattle.std.proofs.lemmas.Simd.{map-map}
 use Rattle.blaze_int.proofs.Naturals.{next_differs}
 use Rattle.blaze_table.specs.Entries.{Entry, entry, at, holds}
 use Rattle.blaze_table.specs.Canonical.{AreKeys, IsCanonical, IsRangeMap}
 use Rattle.blaze_table.specs.Splice.{after}
+use Rattle.blaze_table.proofs.Canonical.Runs.{canonical, one_per_run}
 use Rattle.blaze_streams.specs.Answers.{values}
 use Rattle.blaze_streams.specs.Cursors.{first_key, steady_to, lesser, first_keys, all_steady_to, all_after, IsNextSegment}
 use Rattle.blaze_streams.specs.Segments.{row}
 use Rattle.blaze_streams.proofs.LengthsLeft.{lengths_left, all_lengths_left}
+use Rattle.range_map_multi.specs.Many.{has_odd}
 use Rattle.range_map_multi.specs.Parts.{with_values, in_places, IsPlaced, AllPlaced, with_value, valued, all_valued, picked, AllRangeMaps}
 
 -- ---- other values on the same ranges
@@ -100,14 +103,28 @@ module _ {V : Type 0} where
       ∙ ap (λ x. entry x e.hi n ∷ in_places (n + 1) next) (sym lo) ∙ ap (λ x. entry r.lo x n ∷ in_places (n + 1) next) (sym hi)
       ∙ ap (λ x. entry r.lo r.hi x ∷ in_places (n + 1) next) (sym v) ∙ ap (λ x. r ∷ in_places x next) (sym m)
 
-  pub canonical_places : (eq : V → V → Bool) (i : ℕ) (es : List (Entry V)) → IsCanonical eq es → IsCanonical nat_eq (in_places i es)
+  canonical_places : (eq : V → V → Bool) (i : ℕ) (es : List (Entry V)) → IsCanonical eq es → IsCanonical nat_eq (in_places i es)
   canonical_places eq i [] c = tt
   canonical_places eq i (e ∷ []) c = (c.0, tt, tt)
   canonical_places eq i (e ∷ f ∷ fs) c = (c.0, (c.1.0, λ q. next_differs i), canonical_places eq (i + 1) (f ∷ fs) c.2)
 
-  pub keys_places : (low high : ℤ) (i : ℕ) (es : List (Entry V)) → AreKeys low high es → AreKeys low high (in_places i es)
+  keys_places : (low high : ℤ) (i : ℕ) (es : List (Entry V)) → AreKeys low high es → AreKeys low high (in_places i es)
   keys_places low high i [] k = tt
   keys_places low high i (e ∷ es) k = (k.0, k.1, keys_places low high (i + 1) es k.2)
+
+  pub range_map_places : (eq : V → V → Bool) → IsEquivalence eq → (low high : ℤ) (es : List (Entry V)) → IsRangeMap eq low high es → IsRangeMap nat_eq low high (in_places 0 es)
+  range_map_places eq laws low high es m = record {
+    runs = one_per_run nat_eq nat_eq_equiv (in_places 0 es) (canonical_places eq 0 es (canonical eq laws es m.runs));
+    keys = keys_places low high 0 es m.keys;
+  }
+
+  there_in_places : (k : ℤ) (i : ℕ) (es : List (Entry V)) → is_some (at (in_places i es) k) ≡ is_some (at es k)
+  there_in_places k i [] = refl
+  there_in_places k i (e ∷ es) = first (holds e k) (there_in_places k (i + 1) es)
+    where
+      first : (h : Bool) → is_some (at (in_places (i + 1) es) k) ≡ is_some (at es k) → is_some (cond h (Some i) (at (in_places (i + 1) es) k)) ≡ is_some (cond h (Some e.value) (at es k))
+      first true p = refl
+      first false p = p
 
   -- ---- many lists
 
@@ -189,6 +206,20 @@ module _ {V : Type 0} where
   -- the first segment by places is the first by values
   pub next_alike : (vss : List (List V)) (Ns Ns' : List (List (Entry ℕ))) (Ls : List (List (Entry V))) (p : Entry (List (Option ℕ))) → AllPlaced vss Ns Ls → IsNextSegment Ns p Ns' → IsNextSegment Ls (with_row vss p) (all_after p.hi Ls)
   next_alike vss Ns Ns' Ls p a n = let r = alike vss Ns Ls a in record { starts = r.firsts ∙ n.starts; ends = r.ends p.lo ∙ n.ends; has = ap (picked vss) n.has ∙ sym (r.rows p.lo); left = refl }
+
+-- ---- the keys that an odd number of lists have
+
+odd_first : {V : Type 0} (x : Option V) (xs : List (Option V)) → has_odd (x ∷ xs) ≡ cond (is_some x) (not (has_odd xs)) (has_odd xs)
+odd_first None xs = refl
+odd_first (Some x) xs = refl
+
+pub odd_in_places : {A V : Type 0} (left : A → List (Entry V)) (xs : List A) (k : ℤ) → has_odd (row (map (λ s. in_places 0 (left s)) xs) k) ≡ has_odd (row (map left xs) k)
+odd_in_places left [] k = refl
+odd_in_places left (x ∷ xs) k =
+    let there = has_odd (row (map (λ s. in_places 0 (left s)) xs) k) in
+    odd_first (at (in_places 0 (left x)) k) (row (map (λ s. in_places 0 (left s)) xs) k)
+    ∙ ap (λ a. cond a (not there) there) (there_in_places k 0 (left x)) ∙ ap (λ o. cond (is_some (at (left x) k)) (not o) o) (odd_in_places left xs k)
+    ∙ sym (odd_first (at (left x) k) (row (map left xs) k))
 
 -- ---- lists by another name
 

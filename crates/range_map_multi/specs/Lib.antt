@@ -1,5 +1,5 @@
 pub mod Many
 pub mod ManyJoins
 pub mod ManyLaws
+pub mod Merges
 pub mod Parts
-pub mod Sources

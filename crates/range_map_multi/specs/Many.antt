@@ -1,9 +1,9 @@
 -- What operations between any number of maps give: at each key a choice from the row of what the maps have there, first to
 -- last.
-use Rattle.std.specs.Prelude.{◌≡◌, ℤ, Bool, false, not, if◌then◌else◌, List, [], ◌∷◌, Option, Some, None}
+use Rattle.std.specs.Prelude.{ℤ, Bool, false, not, if◌then◌else◌, List, [], ◌∷◌, Option, Some, None}
 use Rattle.std.specs.Option.{is_some}
 use Rattle.std.specs.List.{list_all}
-use Rattle.blaze_table.specs.Entries.{Entry, entry, at, SameOption}
+use Rattle.blaze_table.specs.Entries.{Entry, at, SameOption}
 use Rattle.blaze_table.specs.Canonical.{IsRangeMap}
 use Rattle.blaze_table.specs.Chosen.{right_first}
 use Rattle.blaze_streams.specs.Segments.{row}
@@ -31,20 +31,3 @@ last_of_odd xs = if has_odd xs then last_value xs else None
 pub record IsChosenOfMany {V : Type 0} (eq : V → V → Bool) (low high : ℤ) (choose : List (Option V) → Option V) (lists : List (List (Entry V))) (new : List (Entry V)) : Type 0 where
   pub range_map : IsRangeMap eq low high new
   pub content : (k : ℤ) → SameOption eq (at new k) (choose (row lists k))
-
--- ---- of the code
-
--- the one list that there is, or nothing where there is none
-abbrev pub IsOnly : {V : Type 0} → List (List (Entry V)) → List (Entry V) → Type 0
-IsOnly [] list = list ≡ []
-IsOnly (L ∷ []) list = list ≡ L
-IsOnly (L ∷ M ∷ Ls) list = ⊥
-
--- the ranges of entries, with a value and its opposite in turn
-abbrev pub in_turn : {V : Type 0} → Bool → List (Entry V) → List (Entry Bool)
-in_turn b [] = []
-in_turn b (e ∷ es) = entry e.lo e.hi b ∷ in_turn (not b) es
-
--- a list with a value at the keys that an odd number of lists have
-abbrev pub HasOddKeys : {A B : Type 0} → List (List (Entry A)) → List (Entry B) → Type 0
-HasOddKeys lists list = (k : ℤ) → is_some (at list k) ≡ has_odd (row lists k)

@@ -1,14 +1,15 @@
 //! Operations between many maps that are lent, as they are or by references. The maps show that the keys outlive the loan,
 //! which code that is generic over keys has to know where it calls a function of streams.
-ghost use Rattle.std.specs.Prelude.{◌≡◌, ◌<◌, List, length, map, refl, IfOk};
+ghost use Rattle.std.specs.Prelude.{◌≡◌, List, map, refl, IfOk};
 ghost use Rattle.blaze_table.specs.Entries.{Entry};
 ghost use Rattle.blaze_table.specs.Painted.{ClonesAreAlike};
 ghost use Rattle.range_map_multi.specs.Many.{last_value, last_of_all, last_of_odd, IsChosenOfMany};
 ghost use Rattle.range_map_blaze.specs.Made.{IsMade};
 
-use crate::merges::{merged_intersection, merged_odd_keys, merged_union};
+use crate::merges::merged;
+use crate::operations::{Intersection, OddKeys, Union};
 use blaze_int::Integer;
-use blaze_streams::{SeekingRangeValuesIter, intersection_of};
+use blaze_streams::{SeekingRangeValuesIter, SortedDisjointMap, intersection_of};
 use range_map_blaze::RangeMapBlaze;
 use std::alloc::{AllocError, Global};
 
@@ -90,25 +91,22 @@ pub fn lent_union<'a, T: Integer, V: Eq + Clone, M: AsMap<T, V>>(
     requires { ClonesAreAlike V.is_clone V.eq }
     ensures { IfOk result (IsMade (IsChosenOfMany V.eq T.low T.high last_value (map M.shown maps.now))) }
 {
-    let streams = streams_of(alloc, maps)?;
-    let stream = merged_union(alloc, streams)?;
-    let new = RangeMapBlaze::from_sorted_disjoint_map(alloc, stream)?;
-    Ok(new)
+    let list = merged::<_, _, _, Union>(alloc, streams_of(alloc, maps)?)?;
+    list.in_hand();
+    RangeMapBlaze::from_sorted_disjoint_map(alloc, list)
 }
 
-/// The value of the last map, where all have one.
+/// The value of the last map, where all have one; of no maps nothing.
 pub fn lent_intersection<'a, T: Integer, V: Eq + Clone, M: AsMap<T, V>>(
     alloc: Global,
     maps: &'a [M],
 ) -> Result<RangeMapBlaze<T, V>, AllocError>
-    requires clones { ClonesAreAlike V.is_clone V.eq }
-    requires some { 0 < length maps.now }
+    requires { ClonesAreAlike V.is_clone V.eq }
     ensures { IfOk result (IsMade (IsChosenOfMany V.eq T.low T.high last_of_all (map M.shown maps.now))) }
 {
-    let streams = streams_of(alloc, maps)?;
-    let stream = merged_intersection(alloc, streams)?;
-    let new = RangeMapBlaze::from_sorted_disjoint_map(alloc, stream)?;
-    Ok(new)
+    let list = merged::<_, _, _, Intersection>(alloc, streams_of(alloc, maps)?)?;
+    list.in_hand();
+    RangeMapBlaze::from_sorted_disjoint_map(alloc, list)
 }
 
 /// The value of the last map that has one, where an odd number have one.
@@ -119,9 +117,8 @@ pub fn lent_symmetric_difference<'a, T: Integer, V: Eq + Clone, M: AsMap<T, V>>(
     requires { ClonesAreAlike V.is_clone V.eq }
     ensures { IfOk result (IsMade (IsChosenOfMany V.eq T.low T.high last_of_odd (map M.shown maps.now))) }
 {
-    let union = merged_union(alloc, streams_of(alloc, maps)?)?;
-    let odd = merged_odd_keys(alloc, streams_of(alloc, maps)?)?;
-    let stream = intersection_of(alloc, union, odd)?;
-    let new = RangeMapBlaze::from_sorted_disjoint_map(alloc, stream)?;
-    Ok(new)
+    let union = merged::<_, _, _, Union>(alloc, streams_of(alloc, maps)?)?;
+    let odd = merged::<_, _, _, OddKeys>(alloc, streams_of(alloc, maps)?)?;
+    let list = intersection_of(alloc, union, odd)?;
+    RangeMapBlaze::from_sorted_disjoint_map(alloc, list)
 }

@@ -38,8 +38,7 @@ pub fn lent_inner_join<
     let streams = streams_of(alloc, maps)?;
     let (mut cursors, values) = all_parts_of(alloc, streams)?;
     let answers = inner_answers::<_, _, ByReference, _, _>(alloc, &mut cursors, &values, f)?;
-    let new = map_of(alloc, answers)?;
-    Ok(new)
+    map_of(alloc, answers)
 }
 
 /// What a closure answers where at least one map has a value.
@@ -58,6 +57,5 @@ pub fn lent_full_join<
     let streams = streams_of(alloc, maps)?;
     let (mut cursors, values) = all_parts_of(alloc, streams)?;
     let answers = full_answers::<_, _, ByReference, _, _>(alloc, &mut cursors, &values, f)?;
-    let new = map_of(alloc, answers)?;
-    Ok(new)
+    map_of(alloc, answers)
 }

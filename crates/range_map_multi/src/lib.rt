@@ -7,12 +7,11 @@ mod lent_joins;
 mod lists;
 mod maps;
 mod merges;
+mod operations;
 mod parity;
 mod parts;
 mod row_answers;
 mod rows;
-mod sources;
-mod stream_joins;
 mod streams;
 
 pub use maps::{MultiwayRangeMapBlaze, MultiwayRangeMapBlazeRef};

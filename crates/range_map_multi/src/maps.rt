@@ -67,18 +67,15 @@ impl<'a, T: Integer, V: Eq + Clone> MultiwayRangeMapBlazeRef<T, V>
     ghost lists = { λ s. map (λ m. m.now.entries) s.items };
 
     fn union(self, alloc: Global) -> Result<RangeMapBlaze<T, V>, AllocError> {
-        let new = lent_union(alloc, &self)?;
-        Ok(new)
+        lent_union(alloc, &self)
     }
 
     fn intersection(self, alloc: Global) -> Result<RangeMapBlaze<T, V>, AllocError> {
-        let new = lent_intersection(alloc, &self)?;
-        Ok(new)
+        lent_intersection(alloc, &self)
     }
 
     fn symmetric_difference(self, alloc: Global) -> Result<RangeMapBlaze<T, V>, AllocError> {
-        let new = lent_symmetric_difference(alloc, &self)?;
-        Ok(new)
+        lent_symmetric_difference(alloc, &self)
     }
 
     fn inner_join<W: Eq + Clone, F: FnMut(&[&V]) -> W>(
@@ -86,8 +83,7 @@ impl<'a, T: Integer, V: Eq + Clone> MultiwayRangeMapBlazeRef<T, V>
         alloc: Global,
         f: F,
     ) -> Result<RangeMapBlaze<T, W>, AllocError> {
-        let new = lent_inner_join(alloc, &self, f)?;
-        Ok(new)
+        lent_inner_join(alloc, &self, f)
     }
 
     fn full_join<W: Eq + Clone, F: FnMut(&[Option<&V>]) -> W>(
@@ -95,8 +91,7 @@ impl<'a, T: Integer, V: Eq + Clone> MultiwayRangeMapBlazeRef<T, V>
         alloc: Global,
         f: F,
     ) -> Result<RangeMapBlaze<T, W>, AllocError> {
-        let new = lent_full_join(alloc, &self, f)?;
-        Ok(new)
+        lent_full_join(alloc, &self, f)
     }
 }
 
@@ -106,20 +101,17 @@ impl<T: Integer, V: Eq + Clone, M: AsMap<T, V>, const N: usize> MultiwayRangeMap
 
     fn union(self, alloc: Global) -> Result<RangeMapBlaze<T, V>, AllocError> {
         let maps = Vec::from_array(alloc, self)?;
-        let new = lent_union(alloc, &maps)?;
-        Ok(new)
+        lent_union(alloc, &maps)
     }
 
     fn intersection(self, alloc: Global) -> Result<RangeMapBlaze<T, V>, AllocError> {
         let maps = Vec::from_array(alloc, self)?;
-        let new = lent_intersection(alloc, &maps)?;
-        Ok(new)
+        lent_intersection(alloc, &maps)
     }
 
     fn symmetric_difference(self, alloc: Global) -> Result<RangeMapBlaze<T, V>, AllocError> {
         let maps = Vec::from_array(alloc, self)?;
-        let new = lent_symmetric_difference(alloc, &maps)?;
-        Ok(new)
+        lent_symmetric_difference(alloc, &maps)
     }
 
     fn inner_join<W: Eq + Clone, F: FnMut(&[&V]) -> W>(
@@ -128,8 +120,7 @@ impl<T: Integer, V: Eq + Clone, M: AsMap<T, V>, const N: usize> MultiwayRangeMap
         f: F,
     ) -> Result<RangeMapBlaze<T, W>, AllocError> {
         let maps = Vec::from_array(alloc, self)?;
-        let new = lent_inner_join(alloc, &maps, f)?;
-        Ok(new)
+        lent_inner_join(alloc, &maps, f)
     }
 
     fn full_join<W: Eq + Clone, F: FnMut(&[Option<&V>]) -> W>(
@@ -138,8 +129,7 @@ impl<T: Integer, V: Eq + Clone, M: AsMap<T, V>, const N: usize> MultiwayRangeMap
         f: F,
     ) -> Result<RangeMapBlaze<T, W>, AllocError> {
         let maps = Vec::from_array(alloc, self)?;
-        let new = lent_full_join(alloc, &maps, f)?;
-        Ok(new)
+        lent_full_join(alloc, &maps, f)
     }
 }
 
@@ -172,17 +162,14 @@ impl<T: Integer, V: Eq + Clone> MultiwayRangeMapBlaze<T, V> for Vec<RangeMapBlaz
     ghost lists = { λ s. map (λ m. m.entries) s.items };
 
     fn union(self, alloc: Global) -> Result<RangeMapBlaze<T, V>, AllocError> {
-        let new = lent_union(alloc, &self)?;
-        Ok(new)
+        lent_union(alloc, &self)
     }
 
     fn intersection(self, alloc: Global) -> Result<RangeMapBlaze<T, V>, AllocError> {
-        let new = lent_intersection(alloc, &self)?;
-        Ok(new)
+        lent_intersection(alloc, &self)
     }
 
     fn symmetric_difference(self, alloc: Global) -> Result<RangeMapBlaze<T, V>, AllocError> {
-        let new = lent_symmetric_difference(alloc, &self)?;
-        Ok(new)
+        lent_symmetric_difference(alloc, &self)
     }
 }

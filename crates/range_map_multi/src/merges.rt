@@ -2,82 +2,49 @@
 //! steps. A stream goes into its first merge as it was given.
 ghost use Rattle.std.specs.Prelude.{◌<◌, map, IfOk};
 ghost use Rattle.std.specs.Vec.{vec_len};
-ghost use Rattle.range_map_multi.specs.Many.{last_value, last_of_all, IsChosenOfMany, HasOddKeys};
-ghost use Rattle.range_map_multi.specs.Sources.{source_left};
+ghost use Rattle.range_map_multi.specs.Merges.{GivesEach};
 
-use crate::sources::Source;
+use crate::lists::list_of;
+use crate::operations::Operation;
 use blaze_int::Integer;
-use blaze_streams::{
-    SortedDisjointMap, ValueCarrier, intersection_of, symmetric_difference_of, union_of,
-};
+use blaze_streams::{CanonMapIter, SortedDisjointMap, ValueCarrier};
 use std::alloc::{AllocError, Global};
 
-/// The value of the last stream that has one. Refused memory drops the streams.
-pub fn merged_union<T: Integer, VC: ValueCarrier, I: SortedDisjointMap<T, VC>>(
+/// What an operation between at most three streams gives. Refused memory drops the streams.
+fn merged_few<T: Integer, VC: ValueCarrier, I: SortedDisjointMap<T, VC>, O: Operation<T, VC>>(
     alloc: Global,
-    streams: Vec<I>,
-) -> Result<Source<T, VC, I>, AllocError>
-    requires { VC.can_carry }
-    ensures { IfOk result (λ new. IsChosenOfMany VC.Value.eq T.low T.high last_value
-        (map I.left streams.items) (source_left I.left new.given new.made)) }
-{
-    if streams.len() < 2 {
-        return Ok(Source::only(alloc, streams));
-    }
-    let mut first = streams;
-    let second = first.split_off(first.len() / 2)?;
-    let left = merged_union(alloc, first)?;
-    let right = merged_union(alloc, second)?;
-    let both = union_of(alloc, left, right)?;
-    Ok(Source {
-        given: None,
-        made: both,
-    })
-}
-
-/// The value of the last stream, where all have one. Refused memory drops the streams.
-pub fn merged_intersection<T: Integer, VC: ValueCarrier, I: SortedDisjointMap<T, VC>>(
-    alloc: Global,
-    streams: Vec<I>,
-) -> Result<Source<T, VC, I>, AllocError>
+    mut streams: Vec<I>,
+) -> Result<CanonMapIter<T, VC>, AllocError>
     requires can { VC.can_carry }
-    requires some { 0 < vec_len streams }
-    ensures { IfOk result (λ new. IsChosenOfMany VC.Value.eq T.low T.high last_of_all
-        (map I.left streams.items) (source_left I.left new.given new.made)) }
+    requires few { vec_len streams < 4 }
+    ensures { IfOk result (GivesEach O.gives (map I.left streams.items)) }
 {
-    if streams.len() < 2 {
-        return Ok(Source::only(alloc, streams));
+    let Some(last) = streams.pop() else {
+        return Ok(CanonMapIter::new(Vec::new(alloc)));
+    };
+    let Some(middle) = streams.pop() else {
+        return list_of(alloc, last);
+    };
+    let both = O::merge(alloc, middle, last)?;
+    match streams.pop() {
+        Some(first) => O::merge(alloc, first, both),
+        None => Ok(both),
     }
-    let mut first = streams;
-    let second = first.split_off(first.len() / 2)?;
-    let left = merged_intersection(alloc, first)?;
-    let right = merged_intersection(alloc, second)?;
-    let both = intersection_of(alloc, right, left)?;
-    Ok(Source {
-        given: None,
-        made: both,
-    })
 }
 
-/// The keys that an odd number of streams have, each with one of their values. Refused memory drops the streams.
-pub fn merged_odd_keys<T: Integer, VC: ValueCarrier, I: SortedDisjointMap<T, VC>>(
+/// What an operation between many streams gives. Refused memory drops the streams.
+pub fn merged<T: Integer, VC: ValueCarrier, I: SortedDisjointMap<T, VC>, O: Operation<T, VC>>(
     alloc: Global,
-    streams: Vec<I>,
-) -> Result<Source<T, VC, I>, AllocError>
+    mut streams: Vec<I>,
+) -> Result<CanonMapIter<T, VC>, AllocError>
     requires { VC.can_carry }
-    ensures { IfOk result (λ new. HasOddKeys (map I.left streams.items)
-        (source_left I.left new.given new.made)) }
+    ensures { IfOk result (GivesEach O.gives (map I.left streams.items)) }
 {
-    if streams.len() < 2 {
-        return Ok(Source::only(alloc, streams));
+    if streams.len() < 4 {
+        return merged_few::<T, VC, I, O>(alloc, streams);
     }
-    let mut first = streams;
-    let second = first.split_off(first.len() / 2)?;
-    let left = merged_odd_keys(alloc, first)?;
-    let right = merged_odd_keys(alloc, second)?;
-    let both = symmetric_difference_of(alloc, left, right)?;
-    Ok(Source {
-        given: None,
-        made: both,
-    })
+    let second = streams.split_off(streams.len() / 2)?;
+    let left = merged::<T, VC, I, O>(alloc, streams)?;
+    let right = merged::<T, VC, I, O>(alloc, second)?;
+    O::merge(alloc, left, right)
 }

@@ -114,9 +114,7 @@ pub fn inner_answers<T: Integer, A: Copy, S: Shows<A>, W: Eq + Clone, F: FnMut(&
         (all_valued (map (λ v. map S.shown v.items) lists.now) cursors.old) new) }
 {
     if cursors.is_empty() {
-        let new = inner_answers_of_none::<T, A, S, W, F>(alloc, f)?;
-        return Ok(new);
+        return inner_answers_of_none::<T, A, S, W, F>(alloc, f);
     }
-    let new = inner_answers_of_some::<T, A, S, W, F>(alloc, cursors, lists, f)?;
-    Ok(new)
+    inner_answers_of_some::<T, A, S, W, F>(alloc, cursors, lists, f)
 }

@@ -7,13 +7,17 @@ ghost use Rattle.range_map_multi.specs.Many.{last_value, last_of_all, last_of_od
 ghost use Rattle.range_map_multi.specs.ManyJoins.{shown_row, shown_full_row, IsCallableAtRows};
 ghost use Rattle.range_map_multi.specs.ManyJoins.{IsManyJoined};
 
-use crate::merges::{merged_intersection, merged_union};
-use crate::parity::merged_symmetric_difference;
-use crate::stream_joins::{stream_full_join, stream_inner_join};
+use crate::merges::merged;
+use crate::operations::{Intersection, OddKeys, Union};
+use crate::parity::all_with_keys;
+use crate::parts::{all_parts_of, lent_lists};
+use crate::row_answers::{full_answers, inner_answers};
+use crate::rows::Shows;
 use blaze_int::Integer;
 use blaze_streams::{
     MultiwayFullJoinMap, MultiwayInnerJoinMap, MultiwayIntersectionMap, MultiwaySweep,
-    MultiwaySymmetricDifferenceMap, MultiwayUnionMap, SortedDisjointMap, ValueCarrier, sweep_of,
+    MultiwaySymmetricDifferenceMap, MultiwayUnionMap, SortedDisjointMap, ValueCarrier,
+    intersection_of, sweep_of,
 };
 use std::alloc::{AllocError, Global};
 
@@ -82,19 +86,28 @@ pub trait MultiwaySortedDisjointMap<T: Integer, VC: ValueCarrier>: Sized {
         ensures { IfOk result (λ events. IsSweep (lists self) events) };
 }
 
+/// An item of a row is a reference to a carrier of its value.
+struct ByCarrier;
+
+impl<'a, VC: ValueCarrier> Shows<&'a VC> for ByCarrier {
+    type Value = VC::Value;
+
+    ghost shown = { λ c. VC.shown c.now };
+}
+
 impl<T: Integer, VC: ValueCarrier, I: SortedDisjointMap<T, VC>> MultiwaySortedDisjointMap<T, VC>
     for Vec<I> {
     ghost lists = { λ s. map I.left s.items };
 
     fn union(self, alloc: Global) -> Result<MultiwayUnionMap<T, VC>, AllocError> {
-        let new = merged_union(alloc, self)?;
-        let list = new.into_list(alloc)?;
+        let list = merged::<T, VC, I, Union>(alloc, self)?;
+        list.in_hand();
         Ok(list)
     }
 
     fn intersection(self, alloc: Global) -> Result<MultiwayIntersectionMap<T, VC>, AllocError> {
-        let new = merged_intersection(alloc, self)?;
-        let list = new.into_list(alloc)?;
+        let list = merged::<T, VC, I, Intersection>(alloc, self)?;
+        list.in_hand();
         Ok(list)
     }
 
@@ -102,7 +115,10 @@ impl<T: Integer, VC: ValueCarrier, I: SortedDisjointMap<T, VC>> MultiwaySortedDi
         self,
         alloc: Global,
     ) -> Result<MultiwaySymmetricDifferenceMap<T, VC>, AllocError> {
-        let new = merged_symmetric_difference(alloc, self)?;
+        let (lists, keys) = all_with_keys(alloc, self)?;
+        let union = merged::<_, _, _, Union>(alloc, lists)?;
+        let odd = merged::<_, _, _, OddKeys>(alloc, keys)?;
+        let new = intersection_of(alloc, union, odd)?;
         Ok(new)
     }
 
@@ -111,8 +127,9 @@ impl<T: Integer, VC: ValueCarrier, I: SortedDisjointMap<T, VC>> MultiwaySortedDi
         alloc: Global,
         f: F,
     ) -> Result<MultiwayInnerJoinMap<T, W>, AllocError> {
-        let new = stream_inner_join(alloc, self, f)?;
-        Ok(new)
+        let (mut cursors, carriers) = all_parts_of(alloc, self)?;
+        let lent = lent_lists(alloc, &carriers)?;
+        inner_answers::<_, _, ByCarrier, _, _>(alloc, &mut cursors, &lent, f)
     }
 
     fn full_join<W: Eq + Clone, F: FnMut(&[Option<&VC>]) -> W>(
@@ -120,12 +137,12 @@ impl<T: Integer, VC: ValueCarrier, I: SortedDisjointMap<T, VC>> MultiwaySortedDi
         alloc: Global,
         f: F,
     ) -> Result<MultiwayFullJoinMap<T, W>, AllocError> {
-        let new = stream_full_join(alloc, self, f)?;
-        Ok(new)
+        let (mut cursors, carriers) = all_parts_of(alloc, self)?;
+        let lent = lent_lists(alloc, &carriers)?;
+        full_answers::<_, _, ByCarrier, _, _>(alloc, &mut cursors, &lent, f)
     }
 
     fn sweep(self, alloc: Global) -> Result<MultiwaySweep<T, VC>, AllocError> {
-        let events = sweep_of(alloc, self)?;
-        Ok(events)
+        sweep_of(alloc, self)
     }
 }

@@ -1,17 +1,15 @@
-use Rattle.std.proofs.Common.{◌∙◌, subst, List}
-use Rattle.blaze_table.specs.Entries.{Entry}
+use Rattle.std.proofs.Common.{◌∙◌, subst}
 use Rattle.std.proofs.lemmas.List.{map-id}
-use Rattle.range_map_multi.specs.Many.{last_of_all, IsChosenOfMany}
-use Rattle.range_map_multi.specs.Sources.{source_left}
+use Rattle.std.proofs.lemmas.Result.{IfOk-weaker}
+use Rattle.blaze_table.specs.Entries.{SameOption}
+use Rattle.range_map_multi.specs.Many.{last_of_all}
+use Rattle.range_map_multi.specs.Merges.{GivesEach}
 use Rattle.range_map_multi.proofs.Many.{many_as}
 use Rattle.range_map_multi.proofs.lent.lent_intersection.Goals as goal
 
 pub returns : goal.returns
 returns g c =
     let eq = g.V.PartialEq.eq in
-    let low = g.T.Integer.low in
-    let high = g.T.Integer.high in (
-      many_as eq g.met.V.Eq.laws low high last_of_all _ _ _
-          (subst (λ Ls. IsChosenOfMany eq low high last_of_all Ls (source_left (λ (s : List (Entry g.row.V.Denot)). s) c.in_ok-stream.stream.given c.in_ok-stream.stream.made)) (map-id c.in_ok-streams.streams.items ∙ c.in_ok-streams.ensures) c.in_ok-stream.ensures) c.in_ok-new.ensures.0,
-      c.in_ok-new.ensures.1,
-    )
+    let given = subst (λ Ls. GivesEach (λ xs x. SameOption eq x (last_of_all xs)) Ls c.in_ok-list.list) (map-id _ ∙ c.in_ok-streams_of.ensures) c.in_ok-list.ensures in
+    IfOk-weaker c.from_sorted_disjoint_map.result _ _
+    (λ new made. (many_as eq g.met.V.Eq.laws g.T.Integer.low g.T.Integer.high last_of_all _ _ _ (record { range_map = c.in_hand.ensures; content = given }) made.0, made.1)) c.from_sorted_disjoint_map.ensures

@@ -3,7 +3,8 @@ use Rattle.std.specs.Global.{Vec}
 use Rattle.std.specs.Option.{is_some}
 use Rattle.std.specs.List.{list_all}
 use Rattle.std.proofs.lemmas.List.{map-id}
-use Rattle.blaze_table.specs.Counted.{CountedEntries, uncounted}
+use Rattle.std.proofs.lemmas.Result.{IfOk-weaker}
+use Rattle.range_map_blaze.proofs.Made.{made_of}
 use Rattle.range_map_multi.specs.ManyJoins.{shown_full_row, IsCallableAtRows, IsManyJoined}
 use Rattle.range_map_multi.specs.Parts.{AllRangeMaps}
 use Rattle.range_map_multi.proofs.Placed.{given_lists, given_placed}
@@ -25,10 +26,6 @@ inner_answers-requires-clause-callable g c =
 
 pub returns : goal.returns
 returns g c =
-    let same = ap (λ (s : CountedEntries g.row.W.Denot). s.entries) c.in_ok-new.ensures in (
-      subst (IsManyJoined (λ a. shown_full_row (λ v. v.now) a.0.now) g.F.FnMut g.V.PartialEq.eq g.T.Integer.low g.T.Integer.high (list_all is_some) g.W.PartialEq.eq c.args.f _) (sym same)
-          (subst (λ Ls. IsManyJoined (λ a. shown_full_row (λ v. v.now) a.0.now) g.F.FnMut g.V.PartialEq.eq g.T.Integer.low g.T.Integer.high (list_all is_some) g.W.PartialEq.eq c.args.f Ls c.in_ok-answers.answers)
-          (given_lists _ _ c.in_ok-cursors.cursors.items c.deref_mut.result.now _ (ap (λ (vs : List (Vec (Bor g.row.V.Denot))). map (λ v. map (λ r. r.now) v.items) vs) c.deref.ensures.value) c.deref_mut.ensures.value c.in_ok-cursors.ensures.placed ∙ map-id c.in_ok-streams.streams.items ∙ c.in_ok-streams.ensures)
-          c.in_ok-answers.ensures),
-      c.in_ok-new.ensures ∙ ap uncounted (sym same),
-    )
+    let joined = IsManyJoined (λ a. shown_full_row (λ v. v.now) a.0.now) g.F.FnMut g.V.PartialEq.eq g.T.Integer.low g.T.Integer.high (list_all is_some) g.W.PartialEq.eq c.args.f in
+    let is = given_lists _ _ c.in_ok-cursors.cursors.items c.deref_mut.result.now _ (ap (λ (vs : List (Vec (Bor g.row.V.Denot))). map (λ v. map (λ r. r.now) v.items) vs) c.deref.ensures.value) c.deref_mut.ensures.value c.in_ok-cursors.ensures.placed ∙ map-id c.in_ok-streams.streams.items ∙ c.in_ok-streams.ensures in
+    IfOk-weaker c.map_of.result _ _ (λ new made. made_of (joined (map g.M.AsMap.shown c.args.maps.now)) new _ made (subst (λ Ls. joined Ls c.in_ok-answers.answers) is c.in_ok-answers.ensures)) c.map_of.ensures

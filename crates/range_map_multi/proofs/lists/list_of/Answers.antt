@@ -1,9 +1,12 @@
-use Rattle.std.proofs.Common.{◌++◌, ◌∙◌, sym, ap, subst, append-nil}
+use Rattle.std.proofs.Common.{◌∙◌, sym, subst}
+use Rattle.std.specs.Iterator.{IsFinite}
 use Rattle.blaze_table.specs.Canonical.{IsRangeMap}
 use Rattle.blaze_streams.specs.Ranges.{shown_range}
-use Rattle.blaze_streams.specs.RangeLists.{shown_ranges}
-use Rattle.range_map_multi.proofs.Many.{taken_more}
+use Rattle.range_map_multi.proofs.Many.{taken_more, taken_all}
 use Rattle.range_map_multi.proofs.lists.list_of.Goals as goal
+
+pub loop-item-init-derived : goal.loop-item-init-derived
+loop-item-init-derived g c = (g.met.I.SortedDisjointMap.ready _, subst IsFinite (sym (g.met.I.SortedDisjointMap.counted _)) tt)
 
 pub loop-item-preserved : goal.loop-item-preserved
 loop-item-preserved g c =
@@ -12,12 +15,8 @@ loop-item-preserved g c =
 
 pub new-requires : goal.new-requires
 new-requires g c =
-    let none = (g.met.I.SortedDisjointMap.gives _ _ _ c.in-None.ensures.steps).0 in
-    let made = shown_ranges g.T.Integer.rank g.VC.ValueCarrier.shown c.loop-item.items.items in
-    subst (IsRangeMap g.VC.Value.PartialEq.eq g.T.Integer.low g.T.Integer.high) (sym c.loop-item.invariant ∙ ap (λ es. made ++ es) none ∙ append-nil made) c.in_hand.ensures
+    subst (IsRangeMap g.VC.Value.PartialEq.eq g.T.Integer.low g.T.Integer.high)
+    (sym (taken_all _ _ _ c.loop-item.invariant (g.met.I.SortedDisjointMap.gives _ _ _ c.in-None.ensures.steps).0)) c.in_hand.ensures
 
 pub returns : goal.returns
-returns g c =
-    let none = (g.met.I.SortedDisjointMap.gives _ _ _ c.in-None.ensures.steps).0 in
-    let made = shown_ranges g.T.Integer.rank g.VC.ValueCarrier.shown c.loop-item.items.items in
-    c.new.ensures ∙ sym (append-nil made) ∙ ap (λ es. made ++ es) (sym none) ∙ c.loop-item.invariant
+returns g c = c.new.ensures ∙ taken_all _ _ _ c.loop-item.invariant (g.met.I.SortedDisjointMap.gives _ _ _ c.in-None.ensures.steps).0

@@ -1,13 +1,15 @@
-use Rattle.std.proofs.Common.{◌∙◌, refl, ◌++◌, true, sym, ap, subst, append-nil}
-use mathlib.Core.Bool.{beq}
+use Rattle.std.proofs.Common.{◌≡◌, ◌∙◌, ◌+◌, length, nat_eq, sym, ap, subst, arith}
+use Rattle.std.specs.Iterator.{IsFinite}
+use Rattle.std.proofs.lemmas.List.{length_push}
 use Rattle.blaze_table.specs.Canonical.{IsRangeMap}
-use Rattle.blaze_table.specs.Entries.{entry}
 use Rattle.blaze_streams.specs.Ranges.{shown_range}
-use Rattle.blaze_streams.specs.RangeLists.{shown_ranges}
-use Rattle.range_map_multi.specs.Many.{in_turn}
-use Rattle.range_map_multi.proofs.InTurn.{range_map_in_turn, turn_more}
-use Rattle.range_map_multi.proofs.Many.{taken_more}
+use Rattle.range_map_multi.specs.Parts.{in_places}
+use Rattle.range_map_multi.proofs.Many.{taken_more, taken_all}
+use Rattle.range_map_multi.proofs.Placed.{place_more, range_map_places}
 use Rattle.range_map_multi.proofs.parity.with_keys.Goals as goal
+
+pub loop-item-init-derived : goal.loop-item-init-derived
+loop-item-init-derived g c = (g.met.I.SortedDisjointMap.ready _, subst IsFinite (sym (g.met.I.SortedDisjointMap.counted _)) tt)
 
 pub loop-item-preserved : goal.loop-item-preserved
 loop-item-preserved g c =
@@ -15,36 +17,29 @@ loop-item-preserved g c =
     let shown = g.VC.ValueCarrier.shown in
     let i = c.loop-item.invariant in
     let item = c.in-Some.item in
-    let turn = c.loop-item.turn in
+    let old = c.loop-item.items in
     let step = g.met.I.SortedDisjointMap.gives _ _ _ c.in-Some.ensures.steps in
-    let from = c.new.ensures.start ∙ c.start-first.ensures in
-    let to = c.new.ensures.end ∙ c.end-last.ensures in (
+    let grown : length c.push-in-loop-item.new.self.items ≡ length old.items + 1 = ap length c.in_ok-push-2.ensures.items ∙ length_push old.items item in (
       taken_more (shown_range rank shown) _ _ item _ _ _ c.in_ok-push-2.ensures.items step i.0,
-      taken_more (shown_range rank (λ b. b)) _ _ (c.new.result, turn) _ _ _ c.in_ok-push.ensures.items
-          (turn_more turn _ (shown_range rank shown item) _ _ _ step (λ j. entry (rank (sym from j)) (rank (sym to j)) turn) refl) i.1,
+      taken_more (shown_range rank (λ p. p)) _ _ (c.new.result, c.len.result) _ _ _ c.in_ok-push.ensures.items
+          (place_more (length old.items) _ (shown_range rank shown item) (shown_range rank (λ p. p) (c.new.result, c.len.result)) _ _ step
+          (ap rank (c.new.ensures.start ∙ c.start-first.ensures)) (ap rank (c.new.ensures.end ∙ c.end-last.ensures)) (omega (arith, c.len.ensures, old.ok.0)) grown) i.1,
     )
 
 pub new-requires-2 : goal.new-requires-2
 new-requires-2 g c =
-    let none = (g.met.I.SortedDisjointMap.gives _ _ _ c.in-None.ensures.steps).0 in
-    let made = shown_ranges g.T.Integer.rank g.VC.ValueCarrier.shown c.loop-item.items.items in
-    subst (IsRangeMap g.VC.Value.PartialEq.eq g.T.Integer.low g.T.Integer.high) (sym c.loop-item.invariant.0 ∙ ap (λ es. made ++ es) none ∙ append-nil made) c.in_hand.ensures
+    subst (IsRangeMap g.VC.Value.PartialEq.eq g.T.Integer.low g.T.Integer.high)
+    (sym (taken_all _ _ _ c.loop-item.invariant.0 (g.met.I.SortedDisjointMap.gives _ _ _ c.in-None.ensures.steps).0)) c.in_hand.ensures
 
 pub new-requires-3 : goal.new-requires-3
 new-requires-3 g c =
-    let none = ap (in_turn c.loop-item.turn) (g.met.I.SortedDisjointMap.gives _ _ _ c.in-None.ensures.steps).0 in
-    let made = shown_ranges g.T.Integer.rank (λ b. b) c.loop-item.keys.items in
-    subst (IsRangeMap beq g.T.Integer.low g.T.Integer.high) (sym c.loop-item.invariant.1 ∙ ap (λ es. made ++ es) none ∙ append-nil made)
-    (range_map_in_turn g.VC.Value.PartialEq.eq g.met.VC.Value.Eq.laws g.T.Integer.low g.T.Integer.high true _ c.in_hand.ensures)
+    subst (IsRangeMap nat_eq g.T.Integer.low g.T.Integer.high)
+    (sym (taken_all _ _ _ c.loop-item.invariant.1 (ap (in_places (length c.loop-item.items.items)) (g.met.I.SortedDisjointMap.gives _ _ _ c.in-None.ensures.steps).0)))
+    (range_map_places g.VC.Value.PartialEq.eq g.met.VC.Value.Eq.laws g.T.Integer.low g.T.Integer.high _ c.in_hand.ensures)
 
 pub returns-clause-list : goal.returns-clause-list
-returns-clause-list g c =
-    let none = (g.met.I.SortedDisjointMap.gives _ _ _ c.in-None.ensures.steps).0 in
-    let made = shown_ranges g.T.Integer.rank g.VC.ValueCarrier.shown c.loop-item.items.items in
-    c.new-2.ensures ∙ sym (append-nil made) ∙ ap (λ es. made ++ es) (sym none) ∙ c.loop-item.invariant.0
+returns-clause-list g c = c.new-2.ensures ∙ taken_all _ _ _ c.loop-item.invariant.0 (g.met.I.SortedDisjointMap.gives _ _ _ c.in-None.ensures.steps).0
 
 pub returns-clause-keys : goal.returns-clause-keys
 returns-clause-keys g c =
-    let none = ap (in_turn c.loop-item.turn) (g.met.I.SortedDisjointMap.gives _ _ _ c.in-None.ensures.steps).0 in
-    let made = shown_ranges g.T.Integer.rank (λ b. b) c.loop-item.keys.items in
-    c.new-3.ensures ∙ sym (append-nil made) ∙ ap (λ es. made ++ es) (sym none) ∙ c.loop-item.invariant.1
+    c.new-3.ensures ∙ taken_all _ _ _ c.loop-item.invariant.1 (ap (in_places (length c.loop-item.items.items)) (g.met.I.SortedDisjointMap.gives _ _ _ c.in-None.ensures.steps).0)

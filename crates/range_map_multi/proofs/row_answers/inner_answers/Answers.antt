@@ -1,4 +1,4 @@
-use Rattle.std.proofs.Common.{◌∙◌, map, sym, ap, subst}
+use Rattle.std.proofs.Common.{◌∙◌, map, sym, ap, subst, IfOk}
 use Rattle.std.specs.Option.{is_some}
 use Rattle.std.specs.List.{list_all}
 use Rattle.range_map_multi.specs.ManyJoins.{shown_full_row, IsCallableAtRows, IsManyJoined}
@@ -15,5 +15,5 @@ inner_answers_of_none-requires g c =
 pub returns-then-is_empty : goal.returns-then-is_empty
 returns-then-is_empty g c =
     let values = map (λ v. map g.S.Shows.shown v.items) c.args.lists.now in
-    subst (λ Ls. IsManyJoined (λ a. shown_full_row g.S.Shows.shown a.0.now) g.F.FnMut g.S.Value.PartialEq.eq g.T.Integer.low g.T.Integer.high (list_all is_some) g.W.PartialEq.eq c.args.f Ls c.in_ok-new.new)
-    (sym (ap (all_valued values) (none_from_empty c.args.cursors.now c.is_empty.result c.is_empty.ensures c.if-is_empty.true) ∙ valued_none values)) c.in_ok-new.ensures
+    subst (λ Ls. IfOk c.inner_answers_of_none.result (IsManyJoined (λ a. shown_full_row g.S.Shows.shown a.0.now) g.F.FnMut g.S.Value.PartialEq.eq g.T.Integer.low g.T.Integer.high (list_all is_some) g.W.PartialEq.eq c.args.f Ls))
+    (sym (ap (all_valued values) (none_from_empty c.args.cursors.now c.is_empty.result c.is_empty.ensures c.if-is_empty.true) ∙ valued_none values)) c.inner_answers_of_none.ensures

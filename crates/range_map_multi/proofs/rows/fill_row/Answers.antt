@@ -1,11 +1,11 @@
-use Rattle.std.proofs.Common.{◌∙◌, ◌++◌, drop, map, sym, ap, append-nil, arith}
+use Rattle.std.proofs.Common.{◌∙◌, drop, map, ap, arith}
 use Rattle.std.proofs.lemmas.List.{drop_all}
 use Rattle.range_map_multi.specs.Parts.{picked}
+use Rattle.range_map_multi.proofs.Many.{taken_all}
 use Rattle.range_map_multi.proofs.Pickings.{picked_none}
 use Rattle.range_map_multi.proofs.rows.fill_row.Goals as goal
 
 pub returns : goal.returns
 returns g c =
-    let row = c.loop-i.row.items in
     let lists = map (λ v. v.items) (drop c.loop-i.i c.args.lists.now) in
-    sym (append-nil row) ∙ ap (λ l. row ++ l) (sym (ap (picked lists) (drop_all c.loop-i.i c.args.places.now (omega arith)) ∙ picked_none lists)) ∙ c.loop-i.invariant
+    taken_all _ _ _ c.loop-i.invariant (ap (picked lists) (drop_all c.loop-i.i c.args.places.now (omega arith)) ∙ picked_none lists)

@@ -1,11 +1,11 @@
-use Rattle.std.proofs.Common.{◌∙◌, List, map, Bor, sym, ap, subst}
+use Rattle.std.proofs.Common.{◌∙◌, List, map, Bor, IfOk, sym, ap, subst}
 use Rattle.std.specs.Global.{Vec}
 use Rattle.std.specs.Option.{is_some}
 use Rattle.std.specs.List.{list_all}
 use Rattle.range_map_multi.specs.ManyJoins.{shown_full_row, IsCallableAtRows, IsManyJoined}
 use Rattle.range_map_multi.specs.Parts.{AllRangeMaps}
 use Rattle.range_map_multi.proofs.Placed.{given_lists, given_placed, lent_shown}
-use Rattle.range_map_multi.proofs.stream_joins.stream_inner_join.Goals as goal
+use Rattle.range_map_multi.proofs.streams.VecMultiwaySortedDisjointMap.inner_join.Goals as goal
 
 pub inner_answers-requires-clause-placed : goal.inner_answers-requires-clause-placed
 inner_answers-requires-clause-placed g c = given_placed _ _ c.in_ok-cursors.cursors.items c.deref_mut.result.now _ (ap (λ (vs : List (Vec (Bor g.row.VC.Denot))). map (λ v. map (λ r. g.VC.ValueCarrier.shown r.now) v.items) vs) c.deref-2.ensures.value ∙ lent_shown g.VC.ValueCarrier.shown (λ r. r.now) (λ v. v.items) (λ v. v.items) c.in_ok-lent.lent.items c.in_ok-cursors.carriers.items (c.in_ok-lent.ensures ∙ ap (λ (vs : List (Vec g.row.VC.Denot)). map (λ v. v.items) vs) c.deref.ensures.value)) c.deref_mut.ensures.value c.in_ok-cursors.ensures.placed
@@ -23,5 +23,5 @@ inner_answers-requires-clause-callable g c =
 
 pub returns : goal.returns
 returns g c =
-    subst (λ Ls. IsManyJoined (λ a. shown_full_row (λ v. g.VC.ValueCarrier.shown v.now) a.0.now) g.F.FnMut g.VC.Value.PartialEq.eq g.T.Integer.low g.T.Integer.high (list_all is_some) g.W.PartialEq.eq c.args.f Ls c.in_ok-new.new)
-    (given_lists _ _ c.in_ok-cursors.cursors.items c.deref_mut.result.now _ (ap (λ (vs : List (Vec (Bor g.row.VC.Denot))). map (λ v. map (λ r. g.VC.ValueCarrier.shown r.now) v.items) vs) c.deref-2.ensures.value ∙ lent_shown g.VC.ValueCarrier.shown (λ r. r.now) (λ v. v.items) (λ v. v.items) c.in_ok-lent.lent.items c.in_ok-cursors.carriers.items (c.in_ok-lent.ensures ∙ ap (λ (vs : List (Vec g.row.VC.Denot)). map (λ v. v.items) vs) c.deref.ensures.value)) c.deref_mut.ensures.value c.in_ok-cursors.ensures.placed) c.in_ok-new.ensures
+    subst (λ Ls. IfOk c.inner_answers.result (IsManyJoined (λ a. shown_full_row (λ v. g.VC.ValueCarrier.shown v.now) a.0.now) g.F.FnMut g.VC.Value.PartialEq.eq g.T.Integer.low g.T.Integer.high (list_all is_some) g.W.PartialEq.eq c.args.f Ls))
+    (given_lists _ _ c.in_ok-cursors.cursors.items c.deref_mut.result.now _ (ap (λ (vs : List (Vec (Bor g.row.VC.Denot))). map (λ v. map (λ r. g.VC.ValueCarrier.shown r.now) v.items) vs) c.deref-2.ensures.value ∙ lent_shown g.VC.ValueCarrier.shown (λ r. r.now) (λ v. v.items) (λ v. v.items) c.in_ok-lent.lent.items c.in_ok-cursors.carriers.items (c.in_ok-lent.ensures ∙ ap (λ (vs : List (Vec g.row.VC.Denot)). map (λ v. v.items) vs) c.deref.ensures.value)) c.deref_mut.ensures.value c.in_ok-cursors.ensures.placed) c.inner_answers.ensures

@@ -1,0 +1,7 @@
+use Rattle.std.proofs.lemmas.Result.{IfOk-weaker}
+use Rattle.range_map_multi.proofs.Many.{odd_given}
+use Rattle.range_map_multi.proofs.operations.OddKeysOperation.merge.Goals as goal
+
+pub returns : goal.returns
+returns g c =
+    IfOk-weaker c.symmetric_difference_of.result _ _ (λ new chosen. odd_given g.VC.Value.PartialEq.eq _ _ new chosen.content) c.symmetric_difference_of.ensures
