@@ -1,9 +1,10 @@
 #!/usr/bin/env bash
 # The programs over tables that people know. What `rt ci` compares with their excerpts is compared with what tests/tables/NAME.py
-# prints of these: it goes key by key, without ranges. So are the programs with whole tables, where these are there: Scripts.txt of
-# Debian's package unicode-data, /etc/services, the memory of a process, and lists that are made here. Then faulty lines, a
-# folder as input, an output that is full, and each request for memory refused in turn. Last, each line of code of docs/TASKS.md
-# stands in the crate `tasks`. Programs that are not built are left out, and named. The last line is 'N passed, M failed'.
+# prints of these: it goes key by key, without ranges. So is what `tasks` is to print, in which each line of code of docs/TASKS.md
+# stands. So are the programs with whole tables, where these are there: Scripts.txt of Debian's package unicode-data,
+# /etc/services, the memory of a process, and lists that are made here. Then faulty lines, a folder as input, an output that is
+# full, and each request for memory refused in turn. Programs that are not built are left out, and named. The last line is
+# 'N passed, M failed'.
 set -euo pipefail
 cd "$(dirname "${BASH_SOURCE[0]}")/.."
 names=(scripts regions ports calendar routes picture)
@@ -19,7 +20,7 @@ expected() { python3 "tests/tables/$1.py"; } # of the table on standard input
 program_of() { echo "crates/$1/out/$1"; }
 
 # ---- Excerpts
-for name in "${names[@]}"; do judge "$(cat "crates/$name/stdout")" "$(expected "$name" <"crates/$name/stdin")" "the excerpt of $name"; done
+for name in "${names[@]}" tasks; do judge "$(cat "crates/$name/stdout")" "$(expected "$name" <"crates/$name/stdin")" "the excerpt of $name"; done
 
 # ---- Lines of docs/TASKS.md
 while IFS= read -r line; do

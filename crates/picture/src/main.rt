@@ -2,25 +2,25 @@
 //! Where the first line is `svg`, it is a picture of that form, with a legend.
 #![tactic(auto)]
 
-mod scale;
 mod svg;
-mod text;
 
 use range_map_blaze::RangeMapBlaze;
+use std::ops::RangeInclusive;
 use std::process::ExitCode;
-use table_lines::{Fault, Table, content, run};
+use table_lines::{Fault, Table, content, length, run};
 
-/// A map of words.
-pub type Words = RangeMapBlaze<i64, String>;
+/// How many characters a picture of text is wide.
+const WIDTH: usize = 50;
+
+/// What is shown: the words of a map, and none in the gaps between two entries.
+pub type Shown = RangeMapBlaze<i64, Option<String>>;
 
 /// What a picture is made of.
 #[derive(Drop)]
 struct Picture {
-    map: Words,
-    /// Whether the picture is an SVG.
-    is_svg: bool,
-    /// Whether a line was read.
-    is_begun: bool,
+    map: RangeMapBlaze<i64, String>,
+    /// Whether the picture is an SVG, which the first line tells.
+    is_svg: Option<bool>,
 }
 
 /// The first and the last key, and the word, of a line `LO HI WORD`.
@@ -33,16 +33,41 @@ fn read(text: &str) -> Option<(i64, i64, &str)> {
     Some((first.parse::<i64>().ok()?, last.parse::<i64>().ok()?, word))
 }
 
+/// Where the bar of a range begins and how wide it is, at least 1, in a picture that is so wide.
+pub fn place(shown: &Shown, keys: &RangeInclusive<i64>, width: usize) -> (usize, usize) {
+    let first = shown.first_key_value().map_or(0, |(first, _)| first);
+    let until = |keys: u128| {
+        let place = keys.saturating_mul(width as u128).checked_div(shown.len());
+        place.unwrap_or(0).min(width as u128) as usize
+    };
+    let left = until(length(&(first..=*keys.start())).saturating_sub(1));
+    let right = until(length(&(first..=*keys.end())));
+    (left, right.saturating_sub(left).max(1))
+}
+
+/// Prints a line for each entry and each gap: the bar in its place, its range and its word.
+fn print_text(rt: &HostRuntime, shown: &Shown) -> Result<(), Fault> {
+    for (keys, word) in shown.range_values() {
+        let (left, width) = place(shown, &keys, WIDTH);
+        let right = WIDTH.saturating_sub(left.saturating_add(width));
+        match word {
+            Some(word) => println!(rt; "{:left$}{:#<width$}{:right$} {keys:?} {word}", "", "", "")?,
+            None => println!(rt; "{:left$}{:.<width$}{:right$} {keys:?} -", "", "", "")?,
+        }
+    }
+    Ok(())
+}
+
 impl Table for Picture {
     fn add(&mut self, rt: &HostRuntime, line: &str) -> Result<(), Fault> {
         let Some(text) = content(line) else {
             return Ok(());
         };
-        let is_first = !self.is_begun;
-        self.is_begun = true;
-        if is_first && text == "svg" {
-            self.is_svg = true;
-            return Ok(());
+        if self.is_svg.is_none() {
+            self.is_svg = Some(text == "svg");
+            if text == "svg" {
+                return Ok(());
+            }
         }
         let (first, last, word) = read(text).ok_or(Fault::Line)?;
         let word = String::from_str(rt.alloc(), word)?;
@@ -51,19 +76,18 @@ impl Table for Picture {
     }
 
     fn print(&mut self, rt: &HostRuntime) -> Result<(), Fault> {
-        if self.is_svg {
-            svg::print(rt, &self.map)
-        } else {
-            text::print(rt, &self.map)
+        let mut shown = self.map.fill_gaps()?;
+        shown.ranges_retain(|keys, word| {
+            word.is_some() || (*keys.start() != i64::MIN && *keys.end() != i64::MAX)
+        });
+        match self.is_svg {
+            Some(true) => svg::print(rt, &shown),
+            _ => print_text(rt, &shown),
         }
     }
 }
 
 fn main(rt: HostRuntime) -> ExitCode {
-    let mut picture = Picture {
-        map: RangeMapBlaze::new(rt.alloc()),
-        is_svg: false,
-        is_begun: false,
-    };
-    run(&rt, &mut picture)
+    let map = RangeMapBlaze::new(rt.alloc());
+    run(&rt, Picture { map, is_svg: None })
 }

@@ -1,102 +1,74 @@
 //! A picture in the form SVG.
-use crate::Words;
-use crate::scale::Scale;
+use crate::{Shown, place};
 use std::alloc::{AllocError, Global};
 use table_lines::Fault;
 
 /// How many pixels the bars take side by side.
-const WIDTH: u32 = 600;
+const WIDTH: usize = 600;
 
-/// How many pixels a range takes that is written into its bar.
-const ROOM: u32 = 80;
+/// How many pixels a bar takes that its range is written into.
+const ROOM: usize = 80;
 
 /// The colours of words, in the order in which these first come; then from the first again.
 const COLOURS: [&str; 6] = [
     "#4e79a7", "#f28e2b", "#59a14f", "#e15759", "#b07aa1", "#9c755f",
 ];
 
-/// Words in the order in which they first come.
-type Legend<'a> = Vec<&'a String>;
-
-/// The words of a map.
-fn legend_of(alloc: Global, map: &Words) -> Result<Legend<'_>, AllocError> {
+/// The words, in the order in which they first come.
+fn legend_of(alloc: Global, shown: &Shown) -> Result<Vec<&String>, AllocError> {
     let mut legend = Vec::new(alloc);
-    for (_, word) in map.range_values() {
-        if !legend.iter().any(|other| *other == word) {
+    for (_, word) in shown.range_values() {
+        if let Some(word) = word
+            && !legend.contains(&word)
+        {
             legend.push(word)?;
         }
     }
     Ok(legend)
 }
 
-/// The colour of a word.
-fn colour(legend: &Legend<'_>, word: &String) -> &'static str {
-    let place = legend.iter().position(|other| *other == word).unwrap_or(0);
-    COLOURS[place % COLOURS.len()]
-}
-
-/// Prints a bar, and the range of an entry where there is room.
-fn print_bar(
-    rt: &HostRuntime,
-    (left, right): (u32, u32),
-    fill: &str,
-    text: &str,
-) -> Result<(), Fault> {
-    let (x, width) = (left.saturating_add(20), right.saturating_sub(left));
-    println!(rt;
-        "<rect x=\"{x}\" y=\"20\" width=\"{width}\" height=\"40\" fill=\"{fill}\" stroke=\"#888\"/>"
-    )?;
-    if ROOM <= width {
-        let middle = x.saturating_add(width / 2);
-        println!(rt;
-            "<text x=\"{middle}\" y=\"45\" text-anchor=\"middle\" fill=\"#fff\">{text}</text>"
-        )?;
+/// The colour of a word; a gap has none.
+fn fill_of(legend: &[&String], word: Option<&String>) -> &'static str {
+    match word.and_then(|word| legend.iter().position(|other| *other == word)) {
+        Some(place) => COLOURS[place % COLOURS.len()],
+        None => "none",
     }
-    Ok(())
 }
 
-/// Prints a bar for each entry and each gap between two.
-fn print_bars(rt: &HostRuntime, map: &Words, legend: &Legend<'_>) -> Result<(), Fault> {
-    let Some(scale) = Scale::of(map, WIDTH) else {
-        return Ok(());
-    };
-    let filled = map.fill_gaps()?;
-    for (range, word) in filled.range_values() {
-        let (start, end) = range.into_inner();
-        let places = scale.places(start, end);
-        match word {
-            Some(word) => {
-                let text = format!(in rt.alloc(); "{start}..={end}")?;
-                print_bar(rt, places, colour(legend, word), text.as_str())?
+/// Prints the bars, and the ranges of entries in those that have room.
+fn print_bars(rt: &HostRuntime, shown: &Shown, legend: &[&String]) -> Result<(), Fault> {
+    for (keys, word) in shown.range_values() {
+        let (left, width) = place(shown, &keys, WIDTH);
+        let (x, fill) = (left.saturating_add(20), fill_of(legend, word.as_ref()));
+        println!(rt;
+            "<rect x=\"{x}\" y=\"20\" width=\"{width}\" height=\"40\" fill=\"{fill}\" stroke=\"#888\"/>"
+        )?;
+        if ROOM <= width {
+            let middle = x.saturating_add(width / 2);
+            print!(rt; "<text x=\"{middle}\" y=\"45\" text-anchor=\"middle\" fill=\"#fff\">")?;
+            if word.is_some() {
+                print!(rt; "{keys:?}")?;
             }
-            None if scale.holds(start, end) => print_bar(rt, places, "none", "")?,
-            None => {}
+            println!(rt; "</text>")?;
         }
     }
     Ok(())
 }
 
-/// Prints the words with their colours, one below the other.
-fn print_legend(rt: &HostRuntime, legend: &Legend<'_>) -> Result<(), Fault> {
-    let mut y = 80u32;
-    for (place, word) in legend.iter().enumerate() {
-        let (fill, base) = (COLOURS[place % COLOURS.len()], y.saturating_add(12));
-        println!(rt; "<rect x=\"20\" y=\"{y}\" width=\"14\" height=\"14\" fill=\"{fill}\"/>")?;
-        println!(rt; "<text x=\"42\" y=\"{base}\" fill=\"#888\">{word}</text>")?;
-        y = y.saturating_add(22);
-    }
-    Ok(())
-}
-
-/// Prints the picture: a bar for each entry and each gap between two, and a legend of the words.
-pub fn print(rt: &HostRuntime, map: &Words) -> Result<(), Fault> {
-    let legend = legend_of(rt.alloc(), map)?;
+/// Prints the picture: a bar for each entry and each gap, and below them the words with their colours.
+pub fn print(rt: &HostRuntime, shown: &Shown) -> Result<(), Fault> {
+    let legend = legend_of(rt.alloc(), shown)?;
     let height = legend.len().saturating_mul(22).saturating_add(90);
     println!(rt;
         "<svg xmlns=\"http://www.w3.org/2000/svg\" width=\"640\" height=\"{height}\" font-family=\"sans-serif\" font-size=\"14\">"
     )?;
-    print_bars(rt, map, &legend)?;
-    print_legend(rt, &legend)?;
+    print_bars(rt, shown, legend.as_slice())?;
+    for (place, word) in legend.iter().enumerate() {
+        let y = place.saturating_mul(22).saturating_add(80);
+        let (base, fill) = (y.saturating_add(12), COLOURS[place % COLOURS.len()]);
+        println!(rt; "<rect x=\"20\" y=\"{y}\" width=\"14\" height=\"14\" fill=\"{fill}\"/>")?;
+        println!(rt; "<text x=\"42\" y=\"{base}\" fill=\"#888\">{word}</text>")?;
+    }
     println!(rt; "</svg>")?;
     Ok(())
 }

@@ -2,10 +2,9 @@
 //! `? COUNT` the first free range of so many ports from 1024 on.
 #![tactic(auto)]
 
-use range_map_blaze::{Integer, RangeMapBlaze};
-use std::ops::RangeInclusive;
+use range_map_blaze::RangeMapBlaze;
 use std::process::ExitCode;
-use table_lines::{Fault, Table, content, decimal, run};
+use table_lines::{Fault, Table, content, decimal, length, run};
 
 type Names = RangeMapBlaze<u16, String>;
 
@@ -23,15 +22,10 @@ struct Ports {
 /// What the names of a port have in common.
 fn use_of(tcp: Option<&String>, udp: Option<&String>) -> &'static str {
     match (tcp, udp) {
-        (Some(tcp), Some(udp)) => {
-            if tcp == udp {
-                "same name"
-            } else {
-                "other name"
-            }
-        }
         (Some(_), None) => "TCP alone",
         (None, _) => "UDP alone",
+        _ if tcp == udp => "same name",
+        _ => "other name",
     }
 }
 
@@ -43,26 +37,13 @@ fn read(text: &str) -> Option<(&str, u16, &str)> {
     Some((name, u16::try_from(decimal(port)?).ok()?, protocol))
 }
 
-/// How many ports a range has.
-fn length(range: &RangeInclusive<u16>) -> u32 {
-    if range.is_empty() {
-        0
-    } else {
-        u16::safe_len(range)
-    }
-}
-
 /// Prints how many ports have each use, and the ports at which the names of the two protocols differ.
 fn print_uses(rt: &HostRuntime, tcp: &Names, udp: &Names) -> Result<(), Fault> {
     let uses = tcp.full_join(udp, use_of)?;
     for wanted in ["TCP alone", "UDP alone", "same name", "other name"] {
-        let mut count = 0u32;
-        for (range, found) in uses.range_values() {
-            if *found == wanted {
-                count = count.saturating_add(length(&range));
-            }
-        }
-        println!(rt; "{wanted}: {count} ports")?;
+        let mut chosen = uses.clone()?;
+        chosen.ranges_retain(|_, found| *found == wanted);
+        println!(rt; "{wanted}: {} ports", chosen.len())?;
     }
     for (port, name) in tcp {
         if let Some(other) = udp.get(port)
@@ -77,19 +58,15 @@ fn print_uses(rt: &HostRuntime, tcp: &Names, udp: &Names) -> Result<(), Fault> {
 impl Table for Ports {
     fn add(&mut self, rt: &HostRuntime, line: &str) -> Result<(), Fault> {
         if let Some(count) = line.strip_prefix("? ") {
-            let count = decimal(count).ok_or(Fault::Line)?;
-            self.counts.push(count)?;
-            return Ok(());
-        }
-        let Some(text) = content(line) else {
-            return Ok(());
-        };
-        let (name, port, protocol) = read(text).ok_or(Fault::Line)?;
-        let name = String::from_str(rt.alloc(), name)?;
-        match protocol {
-            "tcp" => drop(self.tcp.insert(port, name)?),
-            "udp" => drop(self.udp.insert(port, name)?),
-            _ => drop(name),
+            self.counts.push(decimal(count).ok_or(Fault::Line)?)?;
+        } else if let Some(text) = content(line) {
+            let (name, port, protocol) = read(text).ok_or(Fault::Line)?;
+            let name = String::from_str(rt.alloc(), name)?;
+            match protocol {
+                "tcp" => drop(self.tcp.insert(port, name)?),
+                "udp" => drop(self.udp.insert(port, name)?),
+                _ => drop(name),
+            }
         }
         Ok(())
     }
@@ -101,10 +78,8 @@ impl Table for Ports {
         let (ports, ranges) = (free.len(), free.ranges_len());
         println!(rt; "{ports} ports are free, in {ranges} ranges")?;
         for count in self.counts.iter() {
-            match used
-                .gaps(FIRST..)
-                .find(|gap| *count <= u64::from(length(gap)))
-            {
+            let mut gaps = used.gaps(FIRST..);
+            match gaps.find(|gap| *count <= u64::from(length(gap))) {
                 Some(gap) => println!(rt; "{count} free ports: {gap:?}")?,
                 None => println!(rt; "{count} free ports: none")?,
             }
@@ -114,10 +89,10 @@ impl Table for Ports {
 }
 
 fn main(rt: HostRuntime) -> ExitCode {
-    let mut ports = Ports {
-        tcp: RangeMapBlaze::new(rt.alloc()),
-        udp: RangeMapBlaze::new(rt.alloc()),
-        counts: Vec::new(rt.alloc()),
-    };
-    run(&rt, &mut ports)
+    let (tcp, udp) = (
+        RangeMapBlaze::new(rt.alloc()),
+        RangeMapBlaze::new(rt.alloc()),
+    );
+    let counts = Vec::new(rt.alloc());
+    run(&rt, Ports { tcp, udp, counts })
 }

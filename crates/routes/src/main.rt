@@ -3,7 +3,7 @@
 #![tactic(auto)]
 
 use range_map_blaze::RangeMapBlaze;
-use std::fmt;
+use std::net::Ipv4Addr;
 use std::ops::RangeInclusive;
 use std::process::ExitCode;
 use table_lines::{Fault, Table, content, decimal, run};
@@ -23,24 +23,13 @@ struct Routes {
     asked: Vec<u32>,
 }
 
-/// An address, which prints as four numbers.
-#[derive(Clone, Copy)]
-struct Address(u32);
-
-impl fmt::Display for Address {
-    fn fmt<W: fmt::Write>(&self, f: &mut fmt::Formatter<W>) -> fmt::Result {
-        let [a, b, c, d] = self.0.to_be_bytes();
-        write!(f, "{a}.{b}.{c}.{d}")
-    }
-}
-
 /// A number that is 255 at most.
 fn byte(digits: &str) -> Option<u8> {
     u8::try_from(decimal(digits)?).ok()
 }
 
 /// The address that four numbers write.
-fn parse_address(text: &str) -> Option<u32> {
+fn address(text: &str) -> Option<u32> {
     let (a, rest) = text.split_once('.')?;
     let (b, rest) = rest.split_once('.')?;
     let (c, d) = rest.split_once('.')?;
@@ -51,22 +40,12 @@ fn parse_address(text: &str) -> Option<u32> {
 fn read(text: &str) -> Option<(u32, RangeInclusive<u32>, &str)> {
     let (block, owner) = text.split_once(' ')?;
     let (start, bits) = block.split_once('/')?;
-    let (start, bits) = (parse_address(start)?, u32::from(byte(bits)?));
+    let (start, bits) = (address(start)?, u32::from(byte(bits)?));
     let free = u32::MAX.checked_shr(bits).unwrap_or(0);
     if 32 < bits || start & free != 0 {
         return None;
     }
     Some((bits, start..=start | free, owner))
-}
-
-/// The map of blocks: the later of them wins.
-fn paint(rt: &HostRuntime, blocks: &[Block]) -> Result<RangeMapBlaze<u32, String>, Fault> {
-    let mut map = RangeMapBlaze::new(rt.alloc());
-    for block in blocks.iter() {
-        let range = *block.range.start()..=*block.range.end();
-        let _ = map.ranges_insert(range, block.owner.clone()?)?;
-    }
-    Ok(map)
 }
 
 impl Table for Routes {
@@ -75,40 +54,36 @@ impl Table for Routes {
             return Ok(());
         };
         if let Some(asked) = text.strip_prefix("? ") {
-            let address = parse_address(asked).ok_or(Fault::Line)?;
-            self.asked.push(address)?;
-            return Ok(());
+            self.asked.push(address(asked).ok_or(Fault::Line)?)?;
+        } else {
+            let (bits, range, owner) = read(text).ok_or(Fault::Line)?;
+            let owner = String::from_str(rt.alloc(), owner)?;
+            self.blocks.push(Block { bits, range, owner })?;
         }
-        let Some((bits, range, owner)) = read(text) else {
-            return Err(Fault::Line);
-        };
-        let owner = String::from_str(rt.alloc(), owner)?;
-        self.blocks.push(Block { bits, range, owner })?;
         Ok(())
     }
 
     fn print(&mut self, rt: &HostRuntime) -> Result<(), Fault> {
         self.blocks.sort_by_key(|block| block.bits)?;
-        let map = paint(rt, self.blocks.as_slice())?;
+        let painted = self
+            .blocks
+            .drain(..)
+            .map(|block| (block.range, block.owner));
+        let map = RangeMapBlaze::from_ranges(rt.alloc(), painted)?;
         for (range, owner) in map.range_values() {
-            let (start, end) = (Address(*range.start()), Address(*range.end()));
+            let (start, end) = range.into_inner();
+            let (start, end) = (Ipv4Addr::from(start), Ipv4Addr::from(end));
             println!(rt; "{start} {end} {owner}")?;
         }
         for asked in self.asked.iter() {
-            let (address, owner) = (
-                Address(*asked),
-                map.get(*asked).map_or("-", |owner| owner.as_str()),
-            );
-            println!(rt; "{address} {owner}")?;
+            let owner = map.get(*asked).map_or("-", |owner| owner.as_str());
+            println!(rt; "{} {owner}", Ipv4Addr::from(*asked))?;
         }
         Ok(())
     }
 }
 
 fn main(rt: HostRuntime) -> ExitCode {
-    let mut routes = Routes {
-        blocks: Vec::new(rt.alloc()),
-        asked: Vec::new(rt.alloc()),
-    };
-    run(&rt, &mut routes)
+    let (blocks, asked) = (Vec::new(rt.alloc()), Vec::new(rt.alloc()));
+    run(&rt, Routes { blocks, asked })
 }

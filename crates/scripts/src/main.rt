@@ -2,12 +2,10 @@
 //! entries and gaps the map has, and for each line `? WORD` the script of each character of the word.
 #![tactic(auto)]
 
-use range_map_blaze::{Integer, RangeMapBlaze};
-use std::alloc::{AllocError, Global};
+use range_map_blaze::RangeMapBlaze;
 use std::collections::BTreeMap;
-use std::ops::RangeInclusive;
 use std::process::ExitCode;
-use table_lines::{Fault, Table, content, hexadecimal, run};
+use table_lines::{Fault, Table, content, hexadecimal, length, run};
 
 /// The scripts of characters, and the words that were asked.
 #[derive(Drop)]
@@ -16,68 +14,50 @@ struct Scripts {
     words: Vec<String>,
 }
 
-/// The first and the last character, and the script, of a line `START..END ; SCRIPT` or `POINT ; SCRIPT`. Surrogates are no
-/// characters: a range that begins or ends among them is that of the characters next to them.
+/// The character at a code point. At surrogates, which are no characters, it is the one next to them that is given.
+fn character(point: u64, next: char) -> Option<char> {
+    match u32::try_from(point).ok()? {
+        0xD800..=0xDFFF => Some(next),
+        point => char::from_u32(point),
+    }
+}
+
+/// The first and the last character, and the script, of a line `START..END ; SCRIPT` or `POINT ; SCRIPT`. A range that begins or
+/// ends among surrogates is that of the characters next to them.
 fn read(text: &str) -> Option<(char, char, &str)> {
     let (points, script) = text.split_once(';')?;
-    let (start, end) = points
-        .trim()
-        .split_once("..")
-        .unwrap_or((points.trim(), points.trim()));
+    let (points, script) = (points.trim(), script.trim());
+    let (start, end) = points.split_once("..").unwrap_or((points, points));
     let (start, end) = (hexadecimal(start)?, hexadecimal(end)?);
-    let first = if (0xD800..=0xDFFF).contains(&start) {
-        0xE000
-    } else {
-        u32::try_from(start).ok()?
-    };
-    let last = if (0xD800..=0xDFFF).contains(&end) {
-        0xD7FF
-    } else {
-        u32::try_from(end).ok()?
-    };
-    let script = script.trim();
     if end < start || script.is_empty() {
         return None;
     }
-    Some((char::from_u32(first)?, char::from_u32(last)?, script))
+    let (first, last) = (character(start, '\u{E000}')?, character(end, '\u{D7FF}')?);
+    Some((first, last, script))
 }
 
-/// How many characters a range has.
-fn length(range: &RangeInclusive<char>) -> u32 {
-    range.start().in_hand();
-    range.end().in_hand();
-    if range.is_empty() {
-        0
-    } else {
-        char::safe_len(range)
-    }
-}
-
-/// How many characters each script has, by the names of the scripts.
-fn sizes(
-    alloc: Global,
-    map: &RangeMapBlaze<char, String>,
-) -> Result<BTreeMap<String, u32>, AllocError> {
-    let mut sizes = BTreeMap::new(alloc);
+/// Prints how many characters each script has, by the names of the scripts.
+fn print_sizes(rt: &HostRuntime, map: &RangeMapBlaze<char, String>) -> Result<(), Fault> {
+    let mut sizes = BTreeMap::new(rt.alloc());
     for (range, script) in map.range_values() {
         let size = sizes.entry(script.clone()?)?.or_insert(0u32);
         *size = size.saturating_add(length(&range));
     }
-    Ok(sizes)
+    for (script, size) in sizes.iter() {
+        println!(rt; "{script} {size}")?;
+    }
+    Ok(())
 }
 
 impl Table for Scripts {
     fn add(&mut self, rt: &HostRuntime, line: &str) -> Result<(), Fault> {
         if let Some(word) = line.strip_prefix("? ") {
             self.words.push(String::from_str(rt.alloc(), word)?)?;
-            return Ok(());
+        } else if let Some(text) = content(line) {
+            let (first, last, script) = read(text).ok_or(Fault::Line)?;
+            let script = String::from_str(rt.alloc(), script)?;
+            let _ = self.map.ranges_insert(first..=last, script)?;
         }
-        let Some(text) = content(line) else {
-            return Ok(());
-        };
-        let (first, last, script) = read(text).ok_or(Fault::Line)?;
-        let script = String::from_str(rt.alloc(), script)?;
-        let _ = self.map.ranges_insert(first..=last, script)?;
         Ok(())
     }
 
@@ -85,16 +65,11 @@ impl Table for Scripts {
         let (entries, characters) = (self.map.ranges_len(), self.map.len());
         let gaps = (!&self.map)?.ranges_len();
         println!(rt; "{characters} characters, {entries} entries, {gaps} gaps")?;
-        let sizes = sizes(rt.alloc(), &self.map)?;
-        for (script, size) in sizes.iter() {
-            println!(rt; "{script} {size}")?;
-        }
+        print_sizes(rt, &self.map)?;
         for word in self.words.iter() {
             for character in word.chars() {
-                let script = self
-                    .map
-                    .get(character)
-                    .map_or("Unknown", |script| script.as_str());
+                let script = self.map.get(character);
+                let script = script.map_or("Unknown", |script| script.as_str());
                 println!(rt; "{character} {script}")?;
             }
         }
@@ -103,9 +78,6 @@ impl Table for Scripts {
 }
 
 fn main(rt: HostRuntime) -> ExitCode {
-    let mut scripts = Scripts {
-        map: RangeMapBlaze::new(rt.alloc()),
-        words: Vec::new(rt.alloc()),
-    };
-    run(&rt, &mut scripts)
+    let (map, words) = (RangeMapBlaze::new(rt.alloc()), Vec::new(rt.alloc()));
+    run(&rt, Scripts { map, words })
 }

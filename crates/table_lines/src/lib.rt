@@ -3,6 +3,8 @@
 
 mod fault;
 mod lines;
+mod numbers;
 
 pub use fault::Fault;
-pub use lines::{Table, content, decimal, hexadecimal, run};
+pub use lines::{Table, content, run};
+pub use numbers::{decimal, hexadecimal, length};

@@ -1,6 +1,5 @@
 //! The lines of a table.
-ghost use Rattle.std.specs.Prelude.{◌≡◌, ◌<◌, IfSome, length};
-ghost use Rattle.std.specs.Str.Parse.{IsNumeral, digits_value, without_leading_plus};
+ghost use Rattle.std.specs.Prelude.{◌<◌, IfSome, length};
 
 use crate::fault::Fault;
 use std::io::{BufRead, BufReader};
@@ -17,13 +16,10 @@ pub trait Table {
 
 /// Reads standard input into a table, line by line, and prints what the table answers. A faulty line ends it: `line N: TEXT` is
 /// told on standard error, N from 1, and nothing more is read. The exit status is 0, or that of the fault.
-pub fn run<T: Table>(rt: &HostRuntime, table: &mut T) -> ExitCode {
-    match read(rt, table) {
-        Ok(()) => match table.print(rt) {
-            Ok(()) => ExitCode::SUCCESS,
-            Err(fault) => ExitCode::from(fault.status()),
-        },
-        Err(fault) => ExitCode::from(fault.status()),
+pub fn run<T: Table + Drop>(rt: &HostRuntime, mut table: T) -> ExitCode {
+    match answer(rt, &mut table) {
+        Ok(()) => ExitCode::SUCCESS,
+        Err(fault) => ExitCode::from(fault as u8),
     }
 }
 
@@ -38,30 +34,8 @@ pub fn content(line: &str) -> Option<&str>
     if text.is_empty() { None } else { Some(text) }
 }
 
-/// The number that decimal digits write, without a sign.
-pub fn decimal(digits: &str) -> Option<u64>
-    ensures { IfSome result (λ number. digits_value 10 (without_leading_plus digits.now) ≡ number) }
-{
-    if digits.starts_with('+') {
-        None
-    } else {
-        digits.parse::<u64>().ok()
-    }
-}
-
-/// The number that hexadecimal digits write, without a sign.
-pub fn hexadecimal(digits: &str) -> Option<u64>
-    ensures { IfSome result (λ number. digits_value 16 (without_leading_plus digits.now) ≡ number) }
-{
-    if digits.starts_with('+') {
-        None
-    } else {
-        u64::from_str_radix(digits, 16).ok()
-    }
-}
-
-// Reads standard input into a table.
-fn read<T: Table>(rt: &HostRuntime, table: &mut T) -> Result<(), Fault> {
+// Reads standard input into a table, and prints what the table answers.
+fn answer<T: Table>(rt: &HostRuntime, table: &mut T) -> Result<(), Fault> {
     let mut reader = BufReader::new(rt.alloc(), rt.stdin())?;
     let mut bytes = Vec::new(rt.alloc());
     for number in 1..u64::MAX {
@@ -72,7 +46,7 @@ fn read<T: Table>(rt: &HostRuntime, table: &mut T) -> Result<(), Fault> {
         let line = bytes.as_slice();
         add(rt, table, number, line.strip_suffix(b"\n").unwrap_or(line))?;
     }
-    Ok(())
+    table.print(rt)
 }
 
 // Takes in the bytes of a line, and tells a faulty one.
