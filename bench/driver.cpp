@@ -53,56 +53,55 @@ struct Work {
     std::uint64_t most;   // operations
     double parts;         // of an operation, for the time of one
     const char* part;
-    double limit;         // of plain Rust; 0: none
 };
 
 constexpr double thousand = 1e3;
 
 const Work works[] = {
-    {"paint", 0, 1'000, 100'000, 1, "paint", 1.1},
-    {"paint", 0, 10'000, 100'000, 1, "paint", 1.1},
-    {"paint", 0, 100'000, 100'000, 1, "paint", 1.1},
-    {"paint", 0, 1'000'000, 1'000'000, 1, "paint", 1.1},
-    {"insert", 1, 1'000, 100'000, 1, "key", 1.1},
-    {"insert", 1, 10'000, 100'000, 1, "key", 1.1},
-    {"insert", 1, 100'000, 100'000, 1, "key", 1.1},
-    {"insert", 1, 1'000'000, 1'000'000, 1, "key", 1.1},
-    {"remove", 2, 1'000, 100'000, 1, "key", 1.1},
-    {"remove", 2, 10'000, 100'000, 1, "key", 1.1},
-    {"remove", 2, 100'000, 100'000, 1, "key", 1.1},
-    {"remove", 2, 1'000'000, 1'000'000, 1, "key", 1.1},
-    {"clumpy ascending paints", 3, 0, 1'000'000, 1, "paint", 0.8},
-    {"get", 4, 100'000, 10'000'000, 1, "key", 1.0},
-    {"split_off in the middle", 5, 100'000, 16, 1, "call", 1.5},
-    {"append", 6, 100'000, 4, 1, "call", 1.5},
-    {"pop_first", 7, 100'000, 400'000, 1, "key", 1.5},
-    {"`a \\| b`, equal sizes", 8, 1'000, 100'000, 2 * thousand, "entry", 0.8},
-    {"`a \\| b`, equal sizes", 8, 100'000, 1'000, 200 * thousand, "entry", 0.8},
-    {"`a \\| b`, b of a tenth", 9, 100'000, 1'000, 110 * thousand, "entry", 1.2},
-    {"`a \\| b`, b of 100, lent", 10, 100'000, 1'000, 1, "call", 1.2},
-    {"`a \\| b`, b of 100, by value", 11, 100'000, 1'000, 1, "call", 0},
-    {"`a \\| b`, b of 100, by value", 11, 1'000'000, 1'000, 1, "call", 0},
-    {"`a & b`, equal sizes", 12, 100'000, 1'000, 200 * thousand, "entry", 1.2},
-    {"`a & b`, a of 100, lent", 21, 100'000, 1'000, 1, "call", 0},
-    {"`a & b`, a of 100, lent", 21, 1'000'000, 1'000, 1, "call", 0},
-    {"`a - b`, equal sizes", 13, 100'000, 1'000, 200 * thousand, "entry", 1.2},
-    {"`a - b`, b of 100, lent", 22, 100'000, 1'000, 1, "call", 0},
-    {"`a - b`, b of 100, by value", 23, 100'000, 1'000, 1, "call", 0},
-    {"`a - b`, b of 100, by value", 23, 1'000'000, 1'000, 1, "call", 0},
-    {"`a ^ b`, equal sizes", 14, 100'000, 1'000, 200 * thousand, "entry", 1.2},
-    {"a range of the lower half of the keys", 24, 100'000, 1'000, 5e4, "entry", 0},
-    {"all keys, 100 an entry", 15, 100'000, 100, 1e7, "key", 2.0},
-    {"all keys, 1 an entry", 16, 1'000'000, 1'000, 1e6, "key", 1.0},
-    {"a map of unsorted ranges; plain paints them", 17, 1'000'000, 10, 1e6, "range", 0.25},
-    {"the same, painted one by one", 19, 1'000'000, 10, 1e6, "range", 0},
-    {"a map of sorted ranges; plain copies them", 18, 1'000'000, 100, 1e6, "range", 2.0},
-    {"filled ranges of so many gaps, 10^5 entries; plain paints them", 25, 1, 100'000, 1, "gap", 0},
-    {"filled ranges of so many gaps, 10^5 entries; plain paints them", 25, 10, 10'000, 10, "gap", 0},
-    {"filled ranges of so many gaps, 10^5 entries; plain paints them", 25, 1'000, 100, thousand, "gap", 0},
-    {"the union of so many maps of 10^5 entries in all", 20, 2, 1'000, 1e5, "entry", 0},
-    {"the union of so many maps of 10^5 entries in all", 20, 16, 1'000, 1e5, "entry", 0},
-    {"the union of so many maps of 10^5 entries in all", 20, 256, 1'000, 1e5, "entry", 0},
-    {"the union of so many maps of 10^5 entries in all", 20, 4'096, 1'000, 1e5, "entry", 0},
+    {"paint", 0, 1'000, 100'000, 1, "paint"},
+    {"paint", 0, 10'000, 100'000, 1, "paint"},
+    {"paint", 0, 100'000, 100'000, 1, "paint"},
+    {"paint", 0, 1'000'000, 1'000'000, 1, "paint"},
+    {"insert", 1, 1'000, 100'000, 1, "key"},
+    {"insert", 1, 10'000, 100'000, 1, "key"},
+    {"insert", 1, 100'000, 100'000, 1, "key"},
+    {"insert", 1, 1'000'000, 1'000'000, 1, "key"},
+    {"remove", 2, 1'000, 100'000, 1, "key"},
+    {"remove", 2, 10'000, 100'000, 1, "key"},
+    {"remove", 2, 100'000, 100'000, 1, "key"},
+    {"remove", 2, 1'000'000, 1'000'000, 1, "key"},
+    {"clumpy ascending paints", 3, 0, 1'000'000, 1, "paint"},
+    {"get", 4, 100'000, 10'000'000, 1, "key"},
+    {"split_off in the middle", 5, 100'000, 16, 1, "call"},
+    {"append", 6, 100'000, 4, 1, "call"},
+    {"pop_first", 7, 100'000, 400'000, 1, "key"},
+    {"`a \\| b`, equal sizes", 8, 1'000, 100'000, 2 * thousand, "entry"},
+    {"`a \\| b`, equal sizes", 8, 100'000, 1'000, 200 * thousand, "entry"},
+    {"`a \\| b`, b of a tenth", 9, 100'000, 1'000, 110 * thousand, "entry"},
+    {"`a \\| b`, b of 100, lent", 10, 100'000, 1'000, 1, "call"},
+    {"`a \\| b`, b of 100, by value", 11, 100'000, 1'000, 1, "call"},
+    {"`a \\| b`, b of 100, by value", 11, 1'000'000, 1'000, 1, "call"},
+    {"`a & b`, equal sizes", 12, 100'000, 1'000, 200 * thousand, "entry"},
+    {"`a & b`, a of 100, lent", 21, 100'000, 1'000, 1, "call"},
+    {"`a & b`, a of 100, lent", 21, 1'000'000, 1'000, 1, "call"},
+    {"`a - b`, equal sizes", 13, 100'000, 1'000, 200 * thousand, "entry"},
+    {"`a - b`, b of 100, lent", 22, 100'000, 1'000, 1, "call"},
+    {"`a - b`, b of 100, by value", 23, 100'000, 1'000, 1, "call"},
+    {"`a - b`, b of 100, by value", 23, 1'000'000, 1'000, 1, "call"},
+    {"`a ^ b`, equal sizes", 14, 100'000, 1'000, 200 * thousand, "entry"},
+    {"a range of the lower half of the keys", 24, 100'000, 1'000, 5e4, "entry"},
+    {"all keys, 100 an entry", 15, 100'000, 100, 1e7, "key"},
+    {"all keys, 1 an entry", 16, 1'000'000, 1'000, 1e6, "key"},
+    {"a map of unsorted ranges; plain paints them", 17, 1'000'000, 10, 1e6, "range"},
+    {"the same, painted one by one", 19, 1'000'000, 10, 1e6, "range"},
+    {"a map of sorted ranges; plain copies them", 18, 1'000'000, 100, 1e6, "range"},
+    {"filled ranges of so many gaps, 10^5 entries; plain paints them", 25, 1, 100'000, 1, "gap"},
+    {"filled ranges of so many gaps, 10^5 entries; plain paints them", 25, 10, 10'000, 10, "gap"},
+    {"filled ranges of so many gaps, 10^5 entries; plain paints them", 25, 1'000, 100, thousand, "gap"},
+    {"the union of so many maps of 10^5 entries in all", 20, 2, 1'000, 1e5, "entry"},
+    {"the union of so many maps of 10^5 entries in all", 20, 16, 1'000, 1e5, "entry"},
+    {"the union of so many maps of 10^5 entries in all", 20, 256, 1'000, 1e5, "entry"},
+    {"the union of so many maps of 10^5 entries in all", 20, 4'096, 1'000, 1e5, "entry"},
 };
 
 // A text for the program on lines.
@@ -111,13 +110,12 @@ struct Text {
     std::uint64_t lines;
     std::uint64_t keys;   // 0: empty lines
     bool looks_up;        // every other line
-    double limit;
 };
 
 const Text texts[] = {
-    {"program, random paints", 100'000, 1'700'000, false, 1.1},
-    {"program, paints and look-ups among 100 keys", 1'000'000, 100, true, 1.1},
-    {"program, empty lines", 10'000'000, 0, false, 1.2},
+    {"program, random paints", 100'000, 1'700'000, false},
+    {"program, paints and look-ups among 100 keys", 1'000'000, 100, true},
+    {"program, empty lines", 10'000'000, 0, false},
 };
 
 struct Settings {
@@ -225,17 +223,15 @@ string size_text(std::uint64_t size) {
     return "10^" + std::to_string(power);
 }
 
-string ratio_text(double ratio, double limit) {
-    return number(ratio, "%.2f") + (limit != 0 && ratio > limit ? " over" : "");
-}
+string ratio_text(double ratio) { return number(ratio, "%.2f"); }
 
 void print_head() {
-    std::printf("| work | entries | time of one | plain Rust, ns | library, ns | library / plain | limit ");
+    std::printf("| work | entries | time of one | plain Rust, ns | library, ns | library / plain ");
     std::printf("| the crate's way, ns | library / the crate's way | planned, ns | planned / plain | Boost, ns | Boost / plain |\n");
-    std::printf("|---|---|---|---|---|---|---|---|---|---|---|---|---|\n");
+    std::printf("|---|---|---|---|---|---|---|---|---|---|---|---|\n");
 }
 
-void print_row(const string& name, const string& size, const string& part, double parts, double limit,
+void print_row(const string& name, const string& size, const string& part, double parts,
                const Measured (&measured)[sides]) {
     double times[sides] = {};
     for (std::size_t side = 0; side < sides; ++side) {
@@ -251,13 +247,10 @@ void print_row(const string& name, const string& size, const string& part, doubl
             const char* fewer = measured[side].count < measured[plain].count / 4 ? " (fewer)" : "";
             std::printf(" | %s%s", number(times[side]).c_str(), fewer);
             if (side == as_crate) {
-                std::printf(" | %s", ratio_text(times[library] / times[side], 0).c_str());
+                std::printf(" | %s", ratio_text(times[library] / times[side]).c_str());
             } else if (side != plain) {
-                std::printf(" | %s", ratio_text(times[side] / times[plain], side == library ? limit : 0).c_str());
+                std::printf(" | %s", ratio_text(times[side] / times[plain]).c_str());
             }
-        }
-        if (side == library) {
-            std::printf(" | %s", limit == 0 ? "-" : number(limit, "%.1f").c_str());
         }
     }
     std::printf(" |\n");
@@ -291,17 +284,16 @@ void measure_works(const Settings& settings, Times& times) {
         if (measured[library].count != 0) {
             times[{work.number, work.size}] = measured[library].time() / static_cast<double>(measured[library].count);
         }
-        print_row(work.name, size_text(work.size), work.part, work.parts, work.limit, measured);
+        print_row(work.name, size_text(work.size), work.part, work.parts, measured);
     }
 }
 
 void print_growth(const Times& times, const char* name, std::uint32_t number_of, std::uint64_t size, double factor,
-                  std::uint32_t base, std::uint64_t base_size, double limit) {
+                  std::uint32_t base, std::uint64_t base_size) {
     auto one = times.find({number_of, size});
     auto other = times.find({base, base_size});
     if (one != times.end() && other != times.end()) {
-        std::printf("| %s | %s | %s |\n", name, ratio_text(one->second / (factor * other->second), limit).c_str(),
-                    number(limit, "%.1f").c_str());
+        std::printf("| %s | %s |\n", name, ratio_text(one->second / (factor * other->second)).c_str());
     }
 }
 
@@ -309,15 +301,15 @@ void print_growths(const Times& times) {
     if (times.empty()) {
         return;
     }
-    std::printf("\n| of the library | ratio | limit |\n|---|---|---|\n");
-    print_growth(times, "paint at 10^6 entries, of that at 10^4", 0, 1'000'000, 1, 0, 10'000, 4);
-    print_growth(times, "insert at 10^6 entries, of that at 10^4", 1, 1'000'000, 1, 1, 10'000, 4);
-    print_growth(times, "remove at 10^6 entries, of that at 10^4", 2, 1'000'000, 1, 2, 10'000, 4);
-    print_growth(times, "`a \\| b`, b of 100, by value at 10^5, of 100 paints", 11, 100'000, 100, 0, 100'000, 1);
-    print_growth(times, "a map of 10^6 unsorted ranges, of painting them", 17, 1'000'000, 1, 19, 1'000'000, 0.25);
-    print_growth(times, "`a \\| b`, b of 100, by value at 10^6, of that at 10^5", 11, 1'000'000, 1, 11, 100'000, 4);
-    print_growth(times, "`a - b`, b of 100, by value at 10^6, of that at 10^5", 23, 1'000'000, 1, 23, 100'000, 4);
-    print_growth(times, "the union of 4,096 maps, of that of 16", 20, 4'096, 1, 20, 16, 3);
+    std::printf("\n| of the library | ratio |\n|---|---|\n");
+    print_growth(times, "paint at 10^6 entries, of that at 10^4", 0, 1'000'000, 1, 0, 10'000);
+    print_growth(times, "insert at 10^6 entries, of that at 10^4", 1, 1'000'000, 1, 1, 10'000);
+    print_growth(times, "remove at 10^6 entries, of that at 10^4", 2, 1'000'000, 1, 2, 10'000);
+    print_growth(times, "`a \\| b`, b of 100, by value at 10^5, of 100 paints", 11, 100'000, 100, 0, 100'000);
+    print_growth(times, "a map of 10^6 unsorted ranges, of painting them", 17, 1'000'000, 1, 19, 1'000'000);
+    print_growth(times, "`a \\| b`, b of 100, by value at 10^6, of that at 10^5", 11, 1'000'000, 1, 11, 100'000);
+    print_growth(times, "`a - b`, b of 100, by value at 10^6, of that at 10^5", 23, 1'000'000, 1, 23, 100'000);
+    print_growth(times, "the union of 4,096 maps, of that of 16", 20, 4'096, 1, 20, 16);
 }
 
 void write_text(const Settings& settings, const Text& text, const string& path) {
@@ -392,7 +384,7 @@ void measure_programs(const Settings& settings) {
                 one.least_all = std::min(one.least_all, program_time(programs[side], input, "/dev/null"));
             }
         }
-        print_row(text.name, "-", "line", 1, text.limit, measured);
+        print_row(text.name, "-", "line", 1, measured);
     }
 }
 

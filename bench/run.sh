@@ -8,9 +8,9 @@
 #     bench/run.sh [--quick] WORD..   the works whose names have one of the words, as paint, append or program
 #
 # Times are of the processor: the least of nine rounds in which the sides take turns, less the same for no operation. All sides
-# have the same pseudo-random input, and must leave the same entries. 'over' marks a ratio above its limit, '(fewer)' a side
-# that was slow and did less than a quarter of the operations; one that takes over 3 s for a work has one round. The program on
-# lines is timed as a process, user and system.
+# have the same pseudo-random input, and must leave the same entries. '(fewer)' marks a side that was slow and did less than a
+# quarter of the operations; one that takes over 3 s for a work has one round. The program on lines is timed as a process, user
+# and system.
 #
 # It needs `rt`, rustc and g++, and first proves and builds what it measures where that is not built yet. Without Boost's headers
 # (Debian: libboost-dev) it leaves Boost out. It is no part of the merge gate, and no test rests on a time.
