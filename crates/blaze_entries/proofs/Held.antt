@@ -1,4 +1,4 @@
--- Entries as full places: the searches and edits of the places are those of the entries.
+-- Entries as full nodes: the searches and edits of the nodes are those of the entries.
 use Rattle.std.proofs.Common.{◌≡◌, ℤ, pos, ◌+ℤ◌, Bool, true, false, cond, List, [], ◌∷◌, Option, Some, None, refl, ◌∙◌, sym, subst, ap}
 use Rattle.std.specs.Prelude.{map, int_lt, int_le, IsSome}
 use Rattle.std.specs.Ordering.{int_cmp, int_eq, match_ordering}
@@ -7,7 +7,7 @@ use Rattle.std.specs.List.{filter, last_or}
 use Rattle.std.specs.Option.{option_map}
 use Rattle.blaze_entries.specs.Entries.{Entry, entry}
 use Rattle.blaze_entries.specs.Starts.{StartsAscend, below, from, up_to, first_entry, last_below, first_from, start_at, with_entry, without, with_end, with_end_value, IsStartMoved, IsFrontReplaced}
-use Rattle.blaze_entries.specs.Places.{held, full, AreFull, AreHeld}
+use Rattle.blaze_entries.specs.Nodes.{held, full, AreFull, AreHeld}
 
 module _ {V : Type 0} where
   pub full-held : (es : List (Entry V)) → full (map held es) ≡ es
@@ -18,7 +18,7 @@ module _ {V : Type 0} where
   starts_of_held b high [] h = tt
   starts_of_held b high (e ∷ es) h = (h.0, h.1, starts_of_held (e.lo +ℤ pos 1) high es h.2)
 
-  -- places that are those of entries in order
+  -- nodes that are those of entries in order
   pub are_held : (low high : ℤ) (ps : List (Entry (Option V))) (es : List (Entry V)) → ps ≡ map held es → StartsAscend low high es → AreHeld low high ps
   are_held low high ps es q s =
       subst (AreHeld low high) (sym q)
@@ -27,9 +27,9 @@ module _ {V : Type 0} where
         full = record { held = ap (map held) (sym (full-held es)) };
       })
 
-  -- the starts of the places ascend too
-  pub places_ascend : (low high : ℤ) (ps : List (Entry (Option V))) → AreHeld low high ps → StartsAscend low high ps
-  places_ascend low high ps h = subst (StartsAscend low high) (sym h.full.held) (starts_of_held low high (full ps) h.ascend)
+  -- the starts of the nodes ascend too
+  pub nodes_ascend : (low high : ℤ) (ps : List (Entry (Option V))) → AreHeld low high ps → StartsAscend low high ps
+  nodes_ascend low high ps h = subst (StartsAscend low high) (sym h.full.held) (starts_of_held low high (full ps) h.ascend)
 
   filter-held : (test : ℤ → Bool) (es : List (Entry V)) → filter (λ p. test p.lo) (map held es) ≡ map held (filter (λ e. test e.lo) es)
   filter-held test [] = refl
@@ -105,7 +105,7 @@ module _ {V : Type 0} where
         | false ↦ ap (λ l. held e ∷ l) (with_end_value-held k h v es)
       ]
 
-  -- a place that is found is that of an entry
+  -- a node that is found is that of an entry
   pub record IsHeld (p : Entry (Option V)) (o : Option (Entry V)) : Type 0 where
     pub of : Entry V
     pub found : o ≡ Some of
@@ -146,15 +146,15 @@ module _ {V : Type 0} where
         record { of = h.of; found = h.found; replaced = refl },
       )
 
-  -- places after an edit
-  pub edited_places : (low high : ℤ) (f : List (Entry (Option V)) → List (Entry (Option V))) (ps ns : List (Entry (Option V))) (es : List (Entry V))
+  -- nodes after an edit
+  pub edited_nodes : (low high : ℤ) (f : List (Entry (Option V)) → List (Entry (Option V))) (ps ns : List (Entry (Option V))) (es : List (Entry V))
       → AreHeld low high ps → ns ≡ f ps → f (map held (full ps)) ≡ map held es → ns ≡ map held es
-  edited_places low high f ps ns es h q c = q ∙ ap f h.full.held ∙ c
+  edited_nodes low high f ps ns es h q c = q ∙ ap f h.full.held ∙ c
 
   pub full_of : (ns : List (Entry (Option V))) (es : List (Entry V)) → ns ≡ map held es → full ns ≡ es
   full_of ns es q = ap full q ∙ full-held es
 
-  -- the moves among places, as moves among their entries
+  -- the moves among nodes, as moves among their entries
   pub start_moved_full : (low high k s : ℤ) (ps ns : List (Entry (Option V))) → AreHeld low high ps → IsStartMoved k s ps ns → IsStartMoved k s (full ps) (full ns) × (ns ≡ map held (full ns))
   start_moved_full low high k s ps ns h m =
       let r = start_moved-held k s (full ps) ns (subst (λ (x : List (Entry (Option V))). IsStartMoved k s x ns) h.full.held m) in
@@ -167,6 +167,6 @@ module _ {V : Type 0} where
       let q : full ns ≡ r.0 = full_of ns r.0 r.1 in
       (subst (IsFrontReplaced k z v s (full ps)) (sym q) r.2, r.1 ∙ ap (map held) (sym q))
 
-  -- places that are those of entries are full
+  -- nodes that are those of entries are full
   pub full_held : (ps : List (Entry (Option V))) (es : List (Entry V)) → ps ≡ map held es → AreFull ps
   full_held ps es q = record { held = q ∙ ap (map held) (sym (full_of ps es q)) }

@@ -1,4 +1,4 @@
--- A place that is put in, and filled behind an edit of another.
+-- An empty node that is put in, and filled behind an edit of another.
 use Rattle.std.proofs.Common.{◌≡◌, ◌+◌, length, ℤ, pos, ◌+ℤ◌, ◌≤ℤ◌, ◌<ℤ◌, true, false, cond, List, [], ◌∷◌, Option, Some, None, refl, ◌∙◌, sym, subst, ap, arith}
 use Rattle.std.specs.Prelude.{IsSome}
 use Rattle.std.specs.Ordering.{int_eq}
@@ -75,7 +75,7 @@ module _ {V : Type 0} where
         (λ o2 p2 q2. rw (q2, q, p) (ap (λ l. entry f.lo y v ∷ l) (set_put s h z u w fs)))
         (λ o2 p2 q2. rw (q2, q, p) (ap (λ l. f ∷ l) (set_behind_change y v (f.lo +ℤ pos 1) high fs a.2 (absent_next s f fs q m))))))
 
-  -- the steps of a move: a place put in, the node taken out, and put into the place
+  -- the steps of a move: an empty node put in, the node taken out, and put into the empty one
   pub is_start_moved : (k s h : ℤ) (u : V) (b high : ℤ) (old one two new : List (Entry V)) (node : Entry V)
       → StartsAscend b high old → IsSome (start_at k old) → start_at s old ≡ None
       → one ≡ with_entry (entry s h u) old → Some node ≡ start_at k one → two ≡ without k one → new ≡ with_end_value s node.hi node.value two → IsStartMoved k s old new
@@ -87,7 +87,7 @@ module _ {V : Type 0} where
         moved = r ∙ ap (with_end_value s node.hi node.value) (q ∙ ap (without k) p) ∙ set_behind_without k s h node.hi u node.value n b high old a m;
       }
 
-  -- the steps of a front replaced: a place put in, the node replaced, and put into the place
+  -- the steps of a front replaced: an empty node put in, the node replaced, and put into the empty one
   pub is_front_replaced : (k y s h : ℤ) (v u : V) (b high : ℤ) (old one two new : List (Entry V)) (node : Entry V)
       → StartsAscend b high old → IsSome (start_at k old) → start_at s old ≡ None
       → one ≡ with_entry (entry s h u) old → Some node ≡ start_at k one → two ≡ with_end_value k y v one → new ≡ with_end_value s node.hi node.value two → IsFrontReplaced k y v s old new

@@ -15,11 +15,11 @@ use Rattle.std.proofs.lemmas.Int.{ints}
 use Rattle.blaze_entries.specs.Entries.{entry}
 use Rattle.blaze_entries.specs.Changed.{changed}
 use Rattle.blaze_entries.specs.declared.nodes.EndValue.{EndValue}
-use Rattle.blaze_entries.specs.Places.{places, place_of, place_at}
+use Rattle.blaze_entries.specs.Nodes.{nodes_as_entries, node_as_entry, node_as_entry_at}
 use Rattle.blaze_entries.specs.Starts.{StartsAscend, below, from, up_to, first_entry, last_below, start_at, with_entry, without, with_end, with_end_value}
 use Rattle.blaze_entries.proofs.Ascending.{by_order}
 
-last_of_append : {X : Type 0} (o : Option X) (t : List X) (e : X) → last_or o (t ++ e ∷ []) ≡ Some e
+pub last_of_append : {X : Type 0} (o : Option X) (t : List X) (e : X) → last_or o (t ++ e ∷ []) ≡ Some e
 last_of_append o [] e = refl
 last_of_append o (x ∷ t) e = last_of_append (Some x) t e
 
@@ -77,92 +77,92 @@ filter_both p q (x ∷ xs) =
 
 module _ {T V : Type 0} (rank : T → ℤ) where
   module _ (k : T) where
-    pub places_insert : (m : List (T × EndValue T V)) (s : EndValue T V) → places rank (insert_entry (on rank int_cmp) m k s) ≡ with_entry (entry (rank k) (rank s.end) s.value) (places rank m)
-    places_insert [] s = refl
-    places_insert (e ∷ m) s = both (int_cmp (rank k) (rank e.0)) (places_insert m s)
+    pub as_entries_insert : (m : List (T × EndValue T V)) (s : EndValue T V) → nodes_as_entries rank (insert_entry (on rank int_cmp) m k s) ≡ with_entry (entry (rank k) (rank s.end) s.value) (nodes_as_entries rank m)
+    as_entries_insert [] s = refl
+    as_entries_insert (e ∷ m) s = both (int_cmp (rank k) (rank e.0)) (as_entries_insert m s)
       where
-        both : (o : Ordering) → places rank (insert_entry (on rank int_cmp) m k s) ≡ with_entry (entry (rank k) (rank s.end) s.value) (places rank m)
-            → places rank (match_ordering o ((k, s) ∷ e ∷ m) ((e.0, s) ∷ m) (e ∷ insert_entry (on rank int_cmp) m k s))
-            ≡ match_ordering o (entry (rank k) (rank s.end) s.value ∷ places rank (e ∷ m)) (entry (rank e.0) (rank s.end) s.value ∷ places rank m) (place_of rank e ∷ with_entry (entry (rank k) (rank s.end) s.value) (places rank m))
+        both : (o : Ordering) → nodes_as_entries rank (insert_entry (on rank int_cmp) m k s) ≡ with_entry (entry (rank k) (rank s.end) s.value) (nodes_as_entries rank m)
+            → nodes_as_entries rank (match_ordering o ((k, s) ∷ e ∷ m) ((e.0, s) ∷ m) (e ∷ insert_entry (on rank int_cmp) m k s))
+            ≡ match_ordering o (entry (rank k) (rank s.end) s.value ∷ nodes_as_entries rank (e ∷ m)) (entry (rank e.0) (rank s.end) s.value ∷ nodes_as_entries rank m) (node_as_entry rank e ∷ with_entry (entry (rank k) (rank s.end) s.value) (nodes_as_entries rank m))
         both Less p = refl
         both Equal p = refl
-        both Greater p = ap (λ t. place_of rank e ∷ t) p
+        both Greater p = ap (λ t. node_as_entry rank e ∷ t) p
 
-    pub places_remove : (m : List (T × EndValue T V)) → places rank (remove_entry (is_at (on rank int_cmp k)) m) ≡ without (rank k) (places rank m)
-    places_remove [] = refl
-    places_remove (e ∷ m) = both (int_eq (rank k) (rank e.0)) (places_remove m)
+    pub as_entries_remove : (m : List (T × EndValue T V)) → nodes_as_entries rank (remove_entry (is_at (on rank int_cmp k)) m) ≡ without (rank k) (nodes_as_entries rank m)
+    as_entries_remove [] = refl
+    as_entries_remove (e ∷ m) = both (int_eq (rank k) (rank e.0)) (as_entries_remove m)
       where
-        both : (t : Bool) → places rank (remove_entry (is_at (on rank int_cmp k)) m) ≡ without (rank k) (places rank m)
-            → places rank (cond t m (e ∷ remove_entry (is_at (on rank int_cmp k)) m)) ≡ cond t (places rank m) (place_of rank e ∷ without (rank k) (places rank m))
+        both : (t : Bool) → nodes_as_entries rank (remove_entry (is_at (on rank int_cmp k)) m) ≡ without (rank k) (nodes_as_entries rank m)
+            → nodes_as_entries rank (cond t m (e ∷ remove_entry (is_at (on rank int_cmp k)) m)) ≡ cond t (nodes_as_entries rank m) (node_as_entry rank e ∷ without (rank k) (nodes_as_entries rank m))
         both true p = refl
-        both false p = ap (λ t. place_of rank e ∷ t) p
+        both false p = ap (λ t. node_as_entry rank e ∷ t) p
 
-    pub places_end : (z : T) (m : List (T × EndValue T V)) → places rank (changed (is_at (on rank int_cmp k)) (λ s. record s { end = z }) m) ≡ with_end (rank k) (rank z) (places rank m)
-    places_end z [] = refl
-    places_end z (e ∷ m) = both (int_eq (rank k) (rank e.0)) (places_end z m)
+    pub as_entries_end : (z : T) (m : List (T × EndValue T V)) → nodes_as_entries rank (changed (is_at (on rank int_cmp k)) (λ s. record s { end = z }) m) ≡ with_end (rank k) (rank z) (nodes_as_entries rank m)
+    as_entries_end z [] = refl
+    as_entries_end z (e ∷ m) = both (int_eq (rank k) (rank e.0)) (as_entries_end z m)
       where
-        both : (t : Bool) → places rank (changed (is_at (on rank int_cmp k)) (λ s. record s { end = z }) m) ≡ with_end (rank k) (rank z) (places rank m)
-            → places rank (cond t ((e.0, record e.1 { end = z }) ∷ m) (e ∷ changed (is_at (on rank int_cmp k)) (λ s. record s { end = z }) m)) ≡ cond t (entry (rank e.0) (rank z) e.1.value ∷ places rank m) (place_of rank e ∷ with_end (rank k) (rank z) (places rank m))
+        both : (t : Bool) → nodes_as_entries rank (changed (is_at (on rank int_cmp k)) (λ s. record s { end = z }) m) ≡ with_end (rank k) (rank z) (nodes_as_entries rank m)
+            → nodes_as_entries rank (cond t ((e.0, record e.1 { end = z }) ∷ m) (e ∷ changed (is_at (on rank int_cmp k)) (λ s. record s { end = z }) m)) ≡ cond t (entry (rank e.0) (rank z) e.1.value ∷ nodes_as_entries rank m) (node_as_entry rank e ∷ with_end (rank k) (rank z) (nodes_as_entries rank m))
         both true p = refl
-        both false p = ap (λ t. place_of rank e ∷ t) p
+        both false p = ap (λ t. node_as_entry rank e ∷ t) p
 
-    pub places_set : (z : T) (v : V) (m : List (T × EndValue T V)) → places rank (changed (is_at (on rank int_cmp k)) (λ _. record { end = z; value = v }) m) ≡ with_end_value (rank k) (rank z) v (places rank m)
-    places_set z v [] = refl
-    places_set z v (e ∷ m) = both (int_eq (rank k) (rank e.0)) (places_set z v m)
+    pub as_entries_set : (z : T) (v : V) (m : List (T × EndValue T V)) → nodes_as_entries rank (changed (is_at (on rank int_cmp k)) (λ _. record { end = z; value = v }) m) ≡ with_end_value (rank k) (rank z) v (nodes_as_entries rank m)
+    as_entries_set z v [] = refl
+    as_entries_set z v (e ∷ m) = both (int_eq (rank k) (rank e.0)) (as_entries_set z v m)
       where
-        both : (t : Bool) → places rank (changed (is_at (on rank int_cmp k)) (λ _. record { end = z; value = v }) m) ≡ with_end_value (rank k) (rank z) v (places rank m)
-            → places rank (cond t ((e.0, record { end = z; value = v }) ∷ m) (e ∷ changed (is_at (on rank int_cmp k)) (λ _. record { end = z; value = v }) m)) ≡ cond t (entry (rank e.0) (rank z) v ∷ places rank m) (place_of rank e ∷ with_end_value (rank k) (rank z) v (places rank m))
+        both : (t : Bool) → nodes_as_entries rank (changed (is_at (on rank int_cmp k)) (λ _. record { end = z; value = v }) m) ≡ with_end_value (rank k) (rank z) v (nodes_as_entries rank m)
+            → nodes_as_entries rank (cond t ((e.0, record { end = z; value = v }) ∷ m) (e ∷ changed (is_at (on rank int_cmp k)) (λ _. record { end = z; value = v }) m)) ≡ cond t (entry (rank e.0) (rank z) v ∷ nodes_as_entries rank m) (node_as_entry rank e ∷ with_end_value (rank k) (rank z) v (nodes_as_entries rank m))
         both true p = refl
-        both false p = ap (λ t. place_of rank e ∷ t) p
+        both false p = ap (λ t. node_as_entry rank e ∷ t) p
 
-    pub places_lookup : (m : List (T × EndValue T V)) → option_map (place_at rank k) (lookup (is_at (on rank int_cmp k)) m) ≡ start_at (rank k) (places rank m)
-    places_lookup [] = refl
-    places_lookup (e ∷ m) =
-        let later = places_lookup m in
+    pub as_entries_lookup : (m : List (T × EndValue T V)) → option_map (node_as_entry_at rank k) (lookup (is_at (on rank int_cmp k)) m) ≡ start_at (rank k) (nodes_as_entries rank m)
+    as_entries_lookup [] = refl
+    as_entries_lookup (e ∷ m) =
+        let later = as_entries_lookup m in
         by_order (rank k) (rank e.0)
         (λ o p q. rw q later)
         (λ o p q. rw q (ap (λ z. Some (entry z (rank e.1.end) e.1.value)) o))
         (λ o p q. rw q later)
 
-  places_filter : (test : T → Bool) (keep : ℤ → Bool) → ((q : T) → test q ≡ keep (rank q)) → (m : List (T × EndValue T V)) → places rank (filter (λ p. test p.0) m) ≡ filter (λ e. keep e.lo) (places rank m)
-  places_filter test keep same [] = refl
-  places_filter test keep same (e ∷ m) = rw (same e.0) (both (keep (rank e.0)) (places_filter test keep same m))
+  as_entries_filter : (test : T → Bool) (keep : ℤ → Bool) → ((q : T) → test q ≡ keep (rank q)) → (m : List (T × EndValue T V)) → nodes_as_entries rank (filter (λ p. test p.0) m) ≡ filter (λ e. keep e.lo) (nodes_as_entries rank m)
+  as_entries_filter test keep same [] = refl
+  as_entries_filter test keep same (e ∷ m) = rw (same e.0) (both (keep (rank e.0)) (as_entries_filter test keep same m))
     where
-      both : (t : Bool) → places rank (filter (λ p. test p.0) m) ≡ filter (λ e. keep e.lo) (places rank m)
-          → places rank (cond t (e ∷ filter (λ p. test p.0) m) (filter (λ p. test p.0) m)) ≡ cond t (place_of rank e ∷ filter (λ e. keep e.lo) (places rank m)) (filter (λ e. keep e.lo) (places rank m))
-      both true p = ap (λ t. place_of rank e ∷ t) p
+      both : (t : Bool) → nodes_as_entries rank (filter (λ p. test p.0) m) ≡ filter (λ e. keep e.lo) (nodes_as_entries rank m)
+          → nodes_as_entries rank (cond t (e ∷ filter (λ p. test p.0) m) (filter (λ p. test p.0) m)) ≡ cond t (node_as_entry rank e ∷ filter (λ e. keep e.lo) (nodes_as_entries rank m)) (filter (λ e. keep e.lo) (nodes_as_entries rank m))
+      both true p = ap (λ t. node_as_entry rank e ∷ t) p
       both false p = p
 
   -- all nodes start up to the greatest key
-  pub places_all : (b high : ℤ) (m : List (T × EndValue T V)) → StartsAscend b high (places rank m) → places rank (entries_between (on rank int_cmp) Unbounded Unbounded m) ≡ below (high +ℤ pos 1) (places rank m)
-  places_all b high [] h = refl
-  places_all b high (e ∷ m) h =
-      let later = places_all (rank e.0 +ℤ pos 1) high m h.2 in
+  pub as_entries_all : (b high : ℤ) (m : List (T × EndValue T V)) → StartsAscend b high (nodes_as_entries rank m) → nodes_as_entries rank (entries_between (on rank int_cmp) Unbounded Unbounded m) ≡ below (high +ℤ pos 1) (nodes_as_entries rank m)
+  as_entries_all b high [] h = refl
+  as_entries_all b high (e ∷ m) h =
+      let later = as_entries_all (rank e.0 +ℤ pos 1) high m h.2 in
       let is_below : int_lt (rank e.0) (high +ℤ pos 1) ≡ true = grind (arith, ints, h.1) in
-      rw is_below (ap (λ t. place_of rank e ∷ t) later)
+      rw is_below (ap (λ t. node_as_entry rank e ∷ t) later)
 
   module _ (k : T) (m : List (T × EndValue T V)) where
     -- the nodes that start below a key
-    pub places_between : places rank (entries_between (on rank int_cmp) Unbounded (Excluded k) m) ≡ below (rank k) (places rank m)
-    places_between = places_filter (λ q. not (is_le (int_cmp (rank k) (rank q)))) (λ z. int_lt z (rank k)) (λ q. not_above_is (rank k) (rank q)) m
+    pub as_entries_between : nodes_as_entries rank (entries_between (on rank int_cmp) Unbounded (Excluded k) m) ≡ below (rank k) (nodes_as_entries rank m)
+    as_entries_between = as_entries_filter (λ q. not (is_le (int_cmp (rank k) (rank q)))) (λ z. int_lt z (rank k)) (λ q. not_above_is (rank k) (rank q)) m
 
-    pub places_before : option_map (place_of rank) (last_or None (entries_between (on rank int_cmp) Unbounded (Excluded k) m)) ≡ last_below (rank k) (places rank m)
-    places_before = last_shown (place_of rank) None (entries_between (on rank int_cmp) Unbounded (Excluded k) m) ∙ ap (last_or None) places_between
+    pub as_entries_before : option_map (node_as_entry rank) (last_or None (entries_between (on rank int_cmp) Unbounded (Excluded k) m)) ≡ last_below (rank k) (nodes_as_entries rank m)
+    as_entries_before = last_shown (node_as_entry rank) None (entries_between (on rank int_cmp) Unbounded (Excluded k) m) ∙ ap (last_or None) as_entries_between
 
     -- the nodes that start from a key on
-    pub places_at_or_above : places rank (entries_between (on rank int_cmp) (Included k) Unbounded m) ≡ from (rank k) (places rank m)
-    places_at_or_above = places_filter (λ q. is_le (int_cmp (rank k) (rank q)) && true) (λ z. int_le (rank k) z) (λ q. up_to_and_is (rank k) (rank q)) m
+    pub as_entries_at_or_above : nodes_as_entries rank (entries_between (on rank int_cmp) (Included k) Unbounded m) ≡ from (rank k) (nodes_as_entries rank m)
+    as_entries_at_or_above = as_entries_filter (λ q. is_le (int_cmp (rank k) (rank q)) && true) (λ z. int_le (rank k) z) (λ q. up_to_and_is (rank k) (rank q)) m
 
     -- the nodes that start from a key on, up to another
-    pub places_from_up_to : (last : T) → places rank (entries_between (on rank int_cmp) (Included k) (Included last) m) ≡ up_to (rank last) (from (rank k) (places rank m))
-    places_from_up_to last =
-        places_filter (λ q. is_le (int_cmp (rank k) (rank q)) && not (is_lt (int_cmp (rank last) (rank q)))) (λ z. int_le (rank k) z && int_le z (rank last))
+    pub as_entries_from_up_to : (last : T) → nodes_as_entries rank (entries_between (on rank int_cmp) (Included k) (Included last) m) ≡ up_to (rank last) (from (rank k) (nodes_as_entries rank m))
+    as_entries_from_up_to last =
+        as_entries_filter (λ q. is_le (int_cmp (rank k) (rank q)) && not (is_lt (int_cmp (rank last) (rank q)))) (λ z. int_le (rank k) z && int_le z (rank last))
         (λ q. rw (up_to_is (rank k) (rank q)) (rw (not_past_is (rank last) (rank q)) refl)) m
-        ∙ filter_both (λ e. int_le (rank k) e.lo) (λ e. int_le e.lo (rank last)) (places rank m)
+        ∙ filter_both (λ e. int_le (rank k) e.lo) (λ e. int_le e.lo (rank last)) (nodes_as_entries rank m)
 
     -- the parts below a key and from it on
-    pub places_below : places rank (entries_below (on rank int_cmp k) m) ≡ below (rank k) (places rank m)
-    places_below = places_filter (λ q. is_gt (int_cmp (rank k) (rank q))) (λ z. int_lt z (rank k)) (λ q. above_is (rank k) (rank q)) m
+    pub as_entries_below : nodes_as_entries rank (entries_below (on rank int_cmp k) m) ≡ below (rank k) (nodes_as_entries rank m)
+    as_entries_below = as_entries_filter (λ q. is_gt (int_cmp (rank k) (rank q))) (λ z. int_lt z (rank k)) (λ q. above_is (rank k) (rank q)) m
 
-    pub places_from : places rank (entries_from (on rank int_cmp k) m) ≡ from (rank k) (places rank m)
-    places_from = places_filter (λ q. is_le (int_cmp (rank k) (rank q))) (λ z. int_le (rank k) z) (λ q. up_to_is (rank k) (rank q)) m
+    pub as_entries_from : nodes_as_entries rank (entries_from (on rank int_cmp k) m) ≡ from (rank k) (nodes_as_entries rank m)
+    as_entries_from = as_entries_filter (λ q. is_le (int_cmp (rank k) (rank q))) (λ z. int_le (rank k) z) (λ q. up_to_is (rank k) (rank q)) m

@@ -5,7 +5,7 @@ use Rattle.std.proofs.lemmas.Int.{ints}
 use Rattle.std.proofs.lemmas.List.{length-map, reverse-append}
 use Rattle.blaze_entries.specs.Entries.{Entry, entry}
 use Rattle.blaze_entries.specs.Found.{found_in, IsFoundAt}
-use Rattle.blaze_entries.specs.Places.{held, full, places, place_of, AreFull}
+use Rattle.blaze_entries.specs.Nodes.{held, full, nodes_as_entries, node_as_entry, AreFull}
 use Rattle.std.specs.Int.{int_max, int_min}
 use Rattle.blaze_entries.specs.Overlap.{shared, overlap}
 use Rattle.blaze_entries.specs.Scanned.{Seen, seen, walked, seen_value, walked_value, answers, walked_keys}
@@ -23,12 +23,12 @@ shown_none None es fs q h = h.0
 shown_none (Some f) es fs q h = cc
 
 -- what was looked at with its value is the entry
-pub found_entry : {T V : Type 0} {rank : T → ℤ} {eq : V → V → Bool} {v : V} {f : Found T} {w : V} {e : Entry V} → IsFoundAt rank eq v f w e → entry (rank f.start) (rank f.end) w ≡ e
+pub found_entry : {T V : Type 0} {rank : T → ℤ} {test : V → Bool} {f : Found T} {w : V} {e : Entry V} → IsFoundAt rank test f w e → entry (rank f.start) (rank f.end) w ≡ e
 found_entry {w = w} {e = e} i = ap (λ (t : ℤ × ℤ × Bool). entry t.0 t.1 w) i.found ∙ ap (entry e.lo e.hi) i.value
 
 -- as many nodes as entries
-pub length-nodes : {T V : Type 0} (rank : T → ℤ) (m : List (T × EndValue T (Option V))) → AreFull (places rank m) → length m ≡ length (full (places rank m))
-length-nodes rank m h = sym (length-map m (place_of rank)) ∙ ap length h.held ∙ length-map (full (places rank m)) held
+pub length-nodes : {T V : Type 0} (rank : T → ℤ) (m : List (T × EndValue T (Option V))) → AreFull (nodes_as_entries rank m) → length m ≡ length (full (nodes_as_entries rank m))
+length-nodes rank m h = sym (length-map m (node_as_entry rank)) ∙ ap length h.held ∙ length-map (full (nodes_as_entries rank m)) held
 
 pub shorter_last : {V : Type 0} (e : Entry V) (es fs : List (Entry V)) (m n : ℕ) → es ≡ fs ++ e ∷ [] → m ≡ length fs → n ≡ length es → m < n
 shorter_last e es fs m n h p q =
@@ -55,7 +55,7 @@ module _ {V : Type 0} (l h : ℤ) where
       ]
 
   -- a walk over es, of which f is seen first, and then the entries fs
-  module _ (eq : V → V → Bool) (v : V) (f : ℤ × ℤ × Bool) (e : Entry V) (is : f ≡ found_in eq v e) (es fs : List (Entry V)) (parts : es ≡ e ∷ fs) where
+  module _ (test : V → Bool) (f : ℤ × ℤ × Bool) (e : Entry V) (is : f ≡ found_in test e) (es fs : List (Entry V)) (parts : es ≡ e ∷ fs) where
     start : f.0 ≡ e.lo
     start = ap (λ (t : ℤ × ℤ × Bool). t.0) is
 
@@ -75,8 +75,8 @@ module _ {V : Type 0} (l h : ℤ) where
       here : int_lt e.lo l ≡ true
       here = ap (λ x. int_lt x l) (sym start) ∙ under
 
-      pub last_walked : (s : Seen) → walked eq v l h s es ≡ seen l h s f
-      last_walked s = ap (walked eq v l h s) parts ∙ ap (λ b. cond b (seen l h s (found_in eq v e)) (walked eq v l h (seen l h s (found_in eq v e)) fs)) here ∙ ap (seen l h s) (sym is)
+      pub last_walked : (s : Seen) → walked test l h s es ≡ seen l h s f
+      last_walked s = ap (walked test l h s) parts ∙ ap (λ b. cond b (seen l h s (found_in test e)) (walked test l h (seen l h s (found_in test e)) fs)) here ∙ ap (seen l h s) (sym is)
 
       pub last_value : (o : Option V) → walked_value l o es ≡ seen_value l o e
       last_value o = ap (walked_value l o) parts ∙ ap (λ b. cond b (seen_value l o e) (walked_value l (seen_value l o e) fs)) here
@@ -94,9 +94,9 @@ module _ {V : Type 0} (l h : ℤ) where
       here_not : int_lt e.lo l ≡ false
       here_not = ap (λ x. int_lt x l) (sym start) ∙ over
 
-      pub next_walked : (s : Seen) → walked eq v l h s es ≡ walked eq v l h (seen l h s f) fs
-      next_walked s = ap (walked eq v l h s) parts ∙ ap (λ b. cond b (seen l h s (found_in eq v e)) (walked eq v l h (seen l h s (found_in eq v e)) fs)) here_not
-          ∙ ap (λ t. walked eq v l h (seen l h s t) fs) (sym is)
+      pub next_walked : (s : Seen) → walked test l h s es ≡ walked test l h (seen l h s f) fs
+      next_walked s = ap (walked test l h s) parts ∙ ap (λ b. cond b (seen l h s (found_in test e)) (walked test l h (seen l h s (found_in test e)) fs)) here_not
+          ∙ ap (λ t. walked test l h (seen l h s t) fs) (sym is)
 
       pub next_value : (o : Option V) → walked_value l o es ≡ walked_value l (seen_value l o e) fs
       next_value o = ap (walked_value l o) parts ∙ ap (λ b. cond b (seen_value l o e) (walked_value l (seen_value l o e) fs)) here_not

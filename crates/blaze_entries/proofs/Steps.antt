@@ -1,4 +1,4 @@
--- One step of an iterator over full places.
+-- One step of an iterator over full nodes.
 use Rattle.std.proofs.Common.{◌≡◌, ◌+◌, ◌<◌, length, ℤ, pos, ◌+ℤ◌, List, [], ◌∷◌, ◌++◌, Option, Some, None, refl, ◌∙◌, sym, subst, ap, arith, length-append}
 use Rattle.std.specs.Prelude.{map, IsSome, IfSome, IfNone, MatchOption, ◌↔◌}
 use Rattle.std.specs.Iterator.{MakesProgress, item_count}
@@ -6,7 +6,7 @@ use Rattle.std.specs.Map.Iter.{TakesFirst, TakesLast}
 use Rattle.std.specs.Option.{option_map}
 use Rattle.std.proofs.lemmas.Int.{ints}
 use Rattle.blaze_entries.specs.Entries.{Entry}
-use Rattle.blaze_entries.specs.Places.{held, full, place_of, places, entries_of, AreFull, AreHeld}
+use Rattle.blaze_entries.specs.Nodes.{held, full, node_as_entry, nodes_as_entries, entries_of, AreFull, AreHeld}
 use Rattle.blaze_entries.specs.Starts.{StartsAscend}
 use Rattle.blaze_entries.specs.declared.nodes.EndValue.{EndValue}
 use Rattle.blaze_entries.proofs.Ascending.{start_lower}
@@ -27,7 +27,7 @@ takes_last_shown f shows s None t h = (ap (map f) h.0, ap (map f) h.1)
 takes_last_shown f shows s (Some x) t h = ap (map f) h ∙ map-append f t (shows x ∷ [])
 
 module _ {A V : Type 0} (shows : A → Entry (Option V)) where
-  -- a place was taken off an end of places that are full: join puts its entry back among the others
+  -- a node was taken off an end of nodes that are full: join puts its entry back among the others
   pub record Taken (join : List (Entry V) → Entry V → List (Entry V)) (es : List (Entry V)) (r : Option A) (qs : List (Entry (Option V))) : Type 0 where
     pub entry : Option (Entry V)
     pub is : option_map shows r ≡ option_map held entry
@@ -82,15 +82,15 @@ module _ {A V : Type 0} (shows : A → Entry (Option V)) where
         yields = s.whole ∙ ap (λ l. l ++ s.last ∷ []) (sym entries);
       }
 
--- a node was taken off an end of nodes whose places are full
-module _ {T V A : Type 0} (rank : T → ℤ) (shows : A → T × EndValue T (Option V)) (nodes : List (T × EndValue T (Option V))) (r : Option A) (rest : List (T × EndValue T (Option V))) (h : AreFull (places rank nodes)) where
+-- a node was taken off an end of nodes that are full
+module _ {T V A : Type 0} (rank : T → ℤ) (shows : A → T × EndValue T (Option V)) (nodes : List (T × EndValue T (Option V))) (r : Option A) (rest : List (T × EndValue T (Option V))) (h : AreFull (nodes_as_entries rank nodes)) where
   -- what the step off the front took
-  pub first_node_taken : TakesFirst shows nodes r rest → Taken (λ a. place_of rank (shows a)) (λ fs e. e ∷ fs) (entries_of rank nodes) r (places rank rest)
-  first_node_taken t = first_taken (λ a. place_of rank (shows a)) (places rank nodes) r (places rank rest) h (takes_first_shown (place_of rank) shows nodes r rest t)
+  pub first_node_taken : TakesFirst shows nodes r rest → Taken (λ a. node_as_entry rank (shows a)) (λ fs e. e ∷ fs) (entries_of rank nodes) r (nodes_as_entries rank rest)
+  first_node_taken t = first_taken (λ a. node_as_entry rank (shows a)) (nodes_as_entries rank nodes) r (nodes_as_entries rank rest) h (takes_first_shown (node_as_entry rank) shows nodes r rest t)
 
   -- what the step off the back took
-  pub last_node_taken : TakesLast shows nodes r rest → Taken (λ a. place_of rank (shows a)) (λ fs e. fs ++ e ∷ []) (entries_of rank nodes) r (places rank rest)
-  last_node_taken t = last_taken (λ a. place_of rank (shows a)) (places rank nodes) r (places rank rest) h (takes_last_shown (place_of rank) shows nodes r rest t)
+  pub last_node_taken : TakesLast shows nodes r rest → Taken (λ a. node_as_entry rank (shows a)) (λ fs e. fs ++ e ∷ []) (entries_of rank nodes) r (nodes_as_entries rank rest)
+  last_node_taken t = last_taken (λ a. node_as_entry rank (shows a)) (nodes_as_entries rank nodes) r (nodes_as_entries rank rest) h (takes_last_shown (node_as_entry rank) shows nodes r rest t)
 
 -- what holds of an option holds of the one that it is the view of
 by_view : {B X : Type 0} (view : B → X) (r : Option B) (o : Option X) (P : Type 0) (Q : X → Type 0) → option_map view r ≡ o → MatchOption o P Q → MatchOption r P (λ x. Q (view x))
@@ -98,7 +98,7 @@ by_view view None o P Q q h = subst (λ (o : Option _). MatchOption o P Q) (sym 
 by_view view (Some x) o P Q q h = subst (λ (o : Option _). MatchOption o P Q) (sym q) h
 
 module _ {A V : Type 0} {shows : A → Entry (Option V)} {join : List (Entry V) → Entry V → List (Entry V)} {es : List (Entry V)} {r : Option A} {qs : List (Entry (Option V))} (t : Taken shows join es r qs) where
-  -- the place that was taken is full
+  -- the node that was taken is full
   pub taken_is_full : IfSome r (λ a. IsSome (shows a).value)
   taken_is_full = by_cases r t.entry t.is
     where

@@ -10,11 +10,6 @@ module _ {V : Type 0} (f : List (Entry V) → List (Entry V)) (s : CountedEntrie
   pub edited : counted new a b c ≡ record s { entries = f s.entries }
   edited = subst (λ (t : CountedEntries V). counted new a b c ≡ record t { entries = f t.entries }) was (ap (λ es. counted es a b c) e)
 
-  pub looked_and_edited : (n : ℕ) → n ≡ a + 1 → counted new n b c ≡ record s { entries = f s.entries; looks = s.looks + 1 }
-  looked_and_edited n q =
-      subst (λ (t : CountedEntries V). counted new n b c ≡ record t { entries = f t.entries; looks = t.looks + 1 }) was
-      (ap (λ es. counted es n b c) e ∙ ap (λ k. counted (f old) k b c) q)
-
   pub put_in : (p : ℕ) → p ≡ b + 1 → counted new a p c ≡ record s { entries = f s.entries; put_in = s.put_in + 1 }
   put_in p q =
       subst (λ (t : CountedEntries V). counted new a p c ≡ record t { entries = f t.entries; put_in = t.put_in + 1 }) was

@@ -1,17 +1,19 @@
 -- Entries cloned.
-use Rattle.std.specs.Prelude.{◌≡◌, ℤ, pos, ◌+ℤ◌, ◌≤ℤ◌, ◌<ℤ◌, List, Option, Some, None}
+use Rattle.std.specs.Prelude.{◌≡◌, ℤ, ◌≤ℤ◌, ◌<ℤ◌, List, Option, Some, None, IsSomeAnd}
 use Rattle.std.specs.List.{AllZip}
 use Rattle.blaze_entries.specs.Entries.{Entry}
+use Rattle.blaze_entries.specs.Found.{range_in}
 
 -- position by position the same range, and a clone of the value
 abbrev pub AreCloned : {V : Type 0} → (V → V → Type 0) → List (Entry V) → List (Entry V) → Type 0
 AreCloned is_clone es copies = AllZip (λ e c. (c.lo ≡ e.lo) × (c.hi ≡ e.hi) × is_clone e.value c.value) es copies
 
--- what an entry has behind its first key, with a clone of its value: nothing where it has one key
-abbrev pub IsRestCloned : {V : Type 0} → (V → V → Type 0) → Entry V → Option (Entry V) → Type 0
-IsRestCloned is_clone e None = e.hi ≤ℤ e.lo
-IsRestCloned is_clone e (Some r) = (e.lo <ℤ e.hi) × (r.lo ≡ e.lo +ℤ pos 1) × (r.hi ≡ e.hi) × is_clone e.value r.value
+-- a clone of the entry's value where it has more than one key
+abbrev pub IsManyCloned : {V : Type 0} → (V → V → Type 0) → Entry V → Option V → Type 0
+IsManyCloned is_clone e None = e.hi ≤ℤ e.lo
+IsManyCloned is_clone e (Some v) = (e.lo <ℤ e.hi) × is_clone e.value v
 
--- the entry has keys both below l and above h
-abbrev pub IsAround : {V : Type 0} → ℤ → ℤ → Entry V → Type 0
-IsAround l h e = (e.lo <ℤ l) × (h <ℤ e.hi)
+-- what a look at an entry answers: its first and last key, and a clone of its value where it has more than one
+abbrev pub IsRangeCloned : {T V : Type 0} → (T → ℤ) → (V → V → Type 0) → Option (Entry V) → Option (T × T × Option V) → Type 0
+IsRangeCloned rank is_clone o None = o ≡ None
+IsRangeCloned rank is_clone o (Some r) = IsSomeAnd o (λ e. ((rank r.0, rank r.1) ≡ range_in e) × IsManyCloned is_clone e r.2)

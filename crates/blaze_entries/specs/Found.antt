@@ -1,19 +1,24 @@
 -- An entry that was looked at: its ends, and whether its value is equal to the one asked for.
-use Rattle.std.specs.Prelude.{◌≡◌, ℤ, Bool}
+use Rattle.std.specs.Prelude.{◌≡◌, ℤ, Bool, false, Option, Some, None}
 use Rattle.blaze_entries.specs.Entries.{Entry}
 use Rattle.blaze_entries.specs.declared.found.Found.{Found}
 
--- what a look at the entry answers, where v is asked for
-abbrev pub found_in : {V : Type 0} → (V → V → Bool) → V → Entry V → ℤ × ℤ × Bool
-found_in eq v e = (e.lo, e.hi, eq e.value v)
+-- whether a value is equal to the one asked for: none is where there is none
+abbrev pub is_sought : {V : Type 0} → (V → V → Bool) → Option V → V → Bool
+is_sought eq None = λ w. false
+is_sought eq (Some v) = λ w. eq w v
+
+-- what a look at the entry answers, by a test of its value
+abbrev pub found_in : {V : Type 0} → (V → Bool) → Entry V → ℤ × ℤ × Bool
+found_in test e = (e.lo, e.hi, test e.value)
 
 -- an answer, by the ranks
 abbrev pub found_of : {T : Type 0} → (T → ℤ) → Found T → ℤ × ℤ × Bool
 found_of rank f = (rank f.start, rank f.end, f.is_equal)
 
--- what a look at an entry answers where v is asked for, with the entry's value
-pub record IsFoundAt {T V : Type 0} (rank : T → ℤ) (eq : V → V → Bool) (v : V) (f : Found T) (w : V) (e : Entry V) : Type 0 where
-  pub found : found_of rank f ≡ found_in eq v e
+-- what a look at an entry answers, with the entry's value
+pub record IsFoundAt {T V : Type 0} (rank : T → ℤ) (test : V → Bool) (f : Found T) (w : V) (e : Entry V) : Type 0 where
+  pub found : found_of rank f ≡ found_in test e
   pub value : w ≡ e.value
 
 -- an entry's ends

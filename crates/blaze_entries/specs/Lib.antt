@@ -1,6 +1,6 @@
 pub mod Entries
 pub mod Starts
-pub mod Places
+pub mod Nodes
 pub mod Counted
 pub mod Found
 pub mod Changed

@@ -21,7 +21,7 @@ unseen h = record { end = h; rest = None; first = None; left = None }
 abbrev pub seen_of : {T : Type 0} → (T → ℤ) → Plan T → Seen
 seen_of rank p = record { end = rank p.end; rest = option_map (λ r. (rank r.0, rank r.1)) p.rest; first = option_map (found_of rank) p.first; left = option_map (found_of rank) p.left }
 
--- after an entry that goes on above h: its end where the values are equal, else its rest
+-- after an entry that goes on above h: its end where its value was asked for, else its rest
 abbrev pub seen_end : ℤ → Seen → ℤ × ℤ × Bool → Seen
 seen_end h s t = if int_lt h t.1 then (if t.2 then record s { end = t.1 } else (if int_le t.0 h then record s { rest = Some (t.0, t.1) } else s)) else s
 
@@ -32,11 +32,11 @@ seen_start l s t = if int_lt t.0 l then record s { left = Some t } else (if int_
 abbrev pub seen : ℤ → ℤ → Seen → ℤ × ℤ × Bool → Seen
 seen l h s t = seen_start l (seen_end h s t) t
 
-module _ {V : Type 0} (eq : V → V → Bool) (v : V) (l h : ℤ) where
+module _ {V : Type 0} (test : V → Bool) (l h : ℤ) where
   -- the entries in the order of the walk: it ends behind the first that starts below l
   abbrev pub walked : Seen → List (Entry V) → Seen
   walked s [] = s
-  walked s (e ∷ es) = if int_lt e.lo l then seen l h s (found_in eq v e) else walked (seen l h s (found_in eq v e)) es
+  walked s (e ∷ es) = if int_lt e.lo l then seen l h s (found_in test e) else walked (seen l h s (found_in test e)) es
 
 -- the value of the key l, after an entry
 abbrev pub seen_value : {V : Type 0} → ℤ → Option V → Entry V → Option V

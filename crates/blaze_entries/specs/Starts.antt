@@ -28,6 +28,15 @@ first_entry (e ∷ es) = Some e
 abbrev pub last_below : {V : Type 0} → ℤ → List (Entry V) → Option (Entry V)
 last_below k es = last_or None (below k es)
 
+-- an entry, if it ends at k or above
+abbrev pub reaching : {V : Type 0} → ℤ → Option (Entry V) → Option (Entry V)
+reaching k None = None
+reaching k (Some e) = cond (int_lt e.hi k) None (Some e)
+
+-- the entry that has the key k, where each ends below the start of the next
+abbrev pub holder_of : {V : Type 0} → ℤ → List (Entry V) → Option (Entry V)
+holder_of k es = reaching k (last_below (k +ℤ pos 1) es)
+
 -- the first entry that starts at k or above
 abbrev pub first_from : {V : Type 0} → ℤ → List (Entry V) → Option (Entry V)
 first_from k es = first_entry (from k es)

@@ -3,7 +3,7 @@ ghost use Rattle.std.specs.BTreeMap.{IsFromIterResult};
 ghost use Rattle.std.specs.Ordering.{int_cmp, on};
 ghost use Rattle.std.specs.Prelude.{◌≡◌, map, IfOk};
 ghost use Rattle.blaze_entries.specs.Entries.{shown_entry};
-ghost use Rattle.blaze_entries.specs.Places.{places, held, node_of};
+ghost use Rattle.blaze_entries.specs.Nodes.{nodes_as_entries, held, node_of};
 ghost use Rattle.blaze_entries.specs.Starts.{StartsAscend};
 
 use crate::nodes::{EndValue, Tree};
@@ -31,7 +31,7 @@ pub fn tree_of<T: Integer, V: Drop>(
     entries: Vec<(T, T, V)>,
 ) -> Result<Tree<T, Option<V>>, AllocError>
     requires { StartsAscend T.low T.high (map (shown_entry T.rank (λ v. v)) entries.items) }
-    ensures { IfOk result (λ tree. places T.rank tree.entries
+    ensures { IfOk result (λ tree. nodes_as_entries T.rank tree.entries
         ≡ map held (map (shown_entry T.rank (λ v. v)) entries.items)) }
 {
     let tree = collect(alloc, entries)?;

@@ -3,25 +3,23 @@
 
 mod build;
 mod count;
-mod counted;
 mod entries;
 mod found;
+mod full_nodes;
 mod into_iter;
 mod iter;
 mod nodes;
 mod overlap;
-mod places;
 mod range;
 mod retain;
 mod scan;
 mod start;
 
 pub use count::Count;
-pub use counted::Counted;
 pub use entries::Entries;
 pub use found::Found;
 pub use into_iter::IntoIter;
 pub use iter::Iter;
-pub use overlap::less;
+pub use overlap::length_outside;
 pub use range::Range;
 pub use scan::{Plan, next_or_last};

@@ -4,13 +4,12 @@ ghost use Rattle.std.specs.Prelude.{◌≡◌, ℤ, pos, ◌+ℤ◌, ◌≤ℤ�
 ghost use Rattle.std.specs.Option.{option_map, option_copied};
 ghost use Rattle.std.specs.Ordering.{int_cmp, on};
 ghost use Rattle.blaze_entries.specs.Changed.{changed};
-ghost use Rattle.blaze_entries.specs.Places.{places, place_lent, place_at};
+ghost use Rattle.blaze_entries.specs.Nodes.{nodes_as_entries, lent_node_as_entry, node_as_entry_at};
 ghost use Rattle.blaze_entries.specs.Starts.{StartsAscend, below, from, up_to, last_below};
 ghost use Rattle.blaze_entries.specs.Starts.{first_from};
 ghost use Rattle.blaze_entries.specs.Starts.{start_at, with_entry, without, with_end};
 ghost use Rattle.blaze_entries.specs.Starts.{with_end_value, IsStartMoved, IsFrontReplaced};
 
-use crate::places::end_cloned;
 use crate::start::Start;
 use blaze_int::Integer;
 use std::alloc::AllocError;
@@ -48,26 +47,6 @@ fn change_end<T: Integer, V>(tree: &mut Tree<T, V>, start: T, end: T)
     }
 }
 
-// Moves the end of the node at a start, and answers a clone of its value. A refused clone leaves the node.
-fn change_end_cloned<T: Integer, V: Clone>(
-    tree: &mut Tree<T, Option<V>>,
-    start: T,
-    end: T,
-) -> Result<V, AllocError>
-    requires present { IsSome (get (on T.rank int_cmp) tree.old start) }
-    requires full { IfSome (get (on T.rank int_cmp) tree.old start) (λ n. IsSome n.value) }
-    ensures value { IfOk result (λ value. IfSome (get (on T.rank int_cmp) tree.old start)
-        (λ n. IfSome n.value (λ v. V.is_clone v value))) }
-    ensures moved { OnOk result (tree.new.entries
-        ≡ changed (is_at (on T.rank int_cmp start)) (λ node. record node { end = end }) tree.old.entries) }
-    ensures err { OnErr result (tree.new.entries ≡ tree.old.entries) }
-{
-    match tree.get_mut(&Start(start)) {
-        Some(node) => end_cloned(node, end),
-        None => unreachable!(),
-    }
-}
-
 // Puts a node in place of that at a start, and answers the old one.
 fn exchange<T: Integer, V: Drop>(
     tree: &mut Tree<T, V>,
@@ -75,8 +54,8 @@ fn exchange<T: Integer, V: Drop>(
     node: EndValue<T, V>,
 ) -> Option<EndValue<T, V>>
     ensures nodes { tree.new.entries ≡ changed (is_at (on T.rank int_cmp start)) (λ _. node) tree.old.entries }
-    ensures old { option_map (place_at T.rank start) result
-        ≡ option_map (place_at T.rank start) (get (on T.rank int_cmp) tree.old start) }
+    ensures old { option_map (node_as_entry_at T.rank start) result
+        ≡ option_map (node_as_entry_at T.rank start) (get (on T.rank int_cmp) tree.old start) }
 {
     match tree.get_mut(&Start(start)) {
         Some(old) => Some(mem::replace(old, node)),
@@ -86,8 +65,8 @@ fn exchange<T: Integer, V: Drop>(
 
 /// The node with the greatest start below a key.
 pub fn node_below<T: Integer, V>(tree: &Tree<T, V>, key: T) -> Option<(&Start<T>, &EndValue<T, V>)>
-    ensures { option_map (place_lent T.rank) result
-        ≡ last_below (T.rank key) (places T.rank tree.now.entries) }
+    ensures { option_map (lent_node_as_entry T.rank) result
+        ≡ last_below (T.rank key) (nodes_as_entries T.rank tree.now.entries) }
 {
     tree.range(..Start(key)).next_back()
 }
@@ -97,8 +76,8 @@ pub fn nodes_up_to<'a, T: Integer, V>(
     tree: &'a Tree<T, V>,
     key: T,
 ) -> btree_map::Range<'a, Start<T>, EndValue<T, V>>
-    requires { StartsAscend T.low T.high (places T.rank tree.now.entries) }
-    ensures { places T.rank result ≡ below (T.rank key +ℤ pos 1) (places T.rank tree.now.entries) }
+    requires { StartsAscend T.low T.high (nodes_as_entries T.rank tree.now.entries) }
+    ensures { nodes_as_entries T.rank result ≡ below (T.rank key +ℤ pos 1) (nodes_as_entries T.rank tree.now.entries) }
 {
     match key.checked_add_one() {
         Some(next) => tree.range(..Start(next)),
@@ -111,9 +90,9 @@ pub fn node_at_or_below<T: Integer, V>(
     tree: &Tree<T, V>,
     key: T,
 ) -> Option<(&Start<T>, &EndValue<T, V>)>
-    requires { StartsAscend T.low T.high (places T.rank tree.now.entries) }
-    ensures { option_map (place_lent T.rank) result
-        ≡ last_below (T.rank key +ℤ pos 1) (places T.rank tree.now.entries) }
+    requires { StartsAscend T.low T.high (nodes_as_entries T.rank tree.now.entries) }
+    ensures { option_map (lent_node_as_entry T.rank) result
+        ≡ last_below (T.rank key +ℤ pos 1) (nodes_as_entries T.rank tree.now.entries) }
 {
     nodes_up_to(tree, key).next_back()
 }
@@ -123,7 +102,7 @@ pub fn nodes_from<'a, T: Integer, V>(
     tree: &'a Tree<T, V>,
     key: T,
 ) -> btree_map::Range<'a, Start<T>, EndValue<T, V>>
-    ensures { places T.rank result ≡ from (T.rank key) (places T.rank tree.now.entries) }
+    ensures { nodes_as_entries T.rank result ≡ from (T.rank key) (nodes_as_entries T.rank tree.now.entries) }
 {
     tree.range(Start(key)..)
 }
@@ -135,8 +114,8 @@ pub fn nodes_between<'a, T: Integer, V>(
     last: T,
 ) -> btree_map::Range<'a, Start<T>, EndValue<T, V>>
     requires { T.rank first ≤ℤ T.rank last }
-    ensures { places T.rank result
-        ≡ up_to (T.rank last) (from (T.rank first) (places T.rank tree.now.entries)) }
+    ensures { nodes_as_entries T.rank result
+        ≡ up_to (T.rank last) (from (T.rank first) (nodes_as_entries T.rank tree.now.entries)) }
 {
     tree.range(Start(first)..=Start(last))
 }
@@ -146,16 +125,16 @@ pub fn node_at_or_above<T: Integer, V>(
     tree: &Tree<T, V>,
     key: T,
 ) -> Option<(&Start<T>, &EndValue<T, V>)>
-    ensures { option_map (place_lent T.rank) result
-        ≡ first_from (T.rank key) (places T.rank tree.now.entries) }
+    ensures { option_map (lent_node_as_entry T.rank) result
+        ≡ first_from (T.rank key) (nodes_as_entries T.rank tree.now.entries) }
 {
     nodes_from(tree, key).next()
 }
 
 /// The node at a start.
 pub fn node_at<T: Integer, V>(tree: &Tree<T, V>, start: T) -> Option<&EndValue<T, V>>
-    ensures { option_map (place_at T.rank start) (option_copied result)
-        ≡ start_at (T.rank start) (places T.rank tree.now.entries) }
+    ensures { option_map (node_as_entry_at T.rank start) (option_copied result)
+        ≡ start_at (T.rank start) (nodes_as_entries T.rank tree.now.entries) }
 {
     tree.get(&Start(start))
 }
@@ -166,8 +145,8 @@ pub fn insert<T: Integer, V: Drop>(
     start: T,
     node: EndValue<T, V>,
 ) -> Result<(), AllocError>
-    ensures ok { OnOk result (places T.rank tree.new.entries
-        ≡ with_entry (place_at T.rank start node) (places T.rank tree.old.entries)) }
+    ensures ok { OnOk result (nodes_as_entries T.rank tree.new.entries
+        ≡ with_entry (node_as_entry_at T.rank start node) (nodes_as_entries T.rank tree.old.entries)) }
     ensures err { OnErr result (tree.new.entries ≡ tree.old.entries) }
 {
     tree.insert(Start(start), node)?;
@@ -176,39 +155,20 @@ pub fn insert<T: Integer, V: Drop>(
 
 /// Takes the node at a start out.
 pub fn remove<T: Integer, V>(tree: &mut Tree<T, V>, start: T) -> Option<EndValue<T, V>>
-    ensures nodes { places T.rank tree.new.entries
-        ≡ without (T.rank start) (places T.rank tree.old.entries) }
-    ensures old { option_map (place_at T.rank start) result
-        ≡ start_at (T.rank start) (places T.rank tree.old.entries) }
+    ensures nodes { nodes_as_entries T.rank tree.new.entries
+        ≡ without (T.rank start) (nodes_as_entries T.rank tree.old.entries) }
+    ensures old { option_map (node_as_entry_at T.rank start) result
+        ≡ start_at (T.rank start) (nodes_as_entries T.rank tree.old.entries) }
 {
     tree.remove(&Start(start))
 }
 
 /// Moves the end of the node at a start.
 pub fn set_end<T: Integer, V>(tree: &mut Tree<T, V>, start: T, end: T)
-    ensures { places T.rank tree.new.entries
-        ≡ with_end (T.rank start) (T.rank end) (places T.rank tree.old.entries) }
+    ensures { nodes_as_entries T.rank tree.new.entries
+        ≡ with_end (T.rank start) (T.rank end) (nodes_as_entries T.rank tree.old.entries) }
 {
     change_end(tree, start, end);
-}
-
-/// Moves the end of the node at a start, and answers a clone of its value. A refused clone leaves the node.
-pub fn set_end_cloned<T: Integer, V: Clone>(
-    tree: &mut Tree<T, Option<V>>,
-    start: T,
-    end: T,
-) -> Result<V, AllocError>
-    requires present { IsSome (start_at (T.rank start) (places T.rank tree.old.entries)) }
-    requires full { IfSome (start_at (T.rank start) (places T.rank tree.old.entries))
-        (λ e. IsSome e.value) }
-    ensures value { IfOk result
-        (λ value. IfSome (start_at (T.rank start) (places T.rank tree.old.entries))
-        (λ e. IfSome e.value (λ v. V.is_clone v value))) }
-    ensures moved { OnOk result (places T.rank tree.new.entries
-        ≡ with_end (T.rank start) (T.rank end) (places T.rank tree.old.entries)) }
-    ensures err { OnErr result (tree.new.entries ≡ tree.old.entries) }
-{
-    change_end_cloned(tree, start, end)
 }
 
 /// Puts a node in place of that at a start, and answers the old one.
@@ -217,21 +177,21 @@ pub fn replace<T: Integer, V: Drop>(
     start: T,
     node: EndValue<T, V>,
 ) -> Option<EndValue<T, V>>
-    ensures nodes { places T.rank tree.new.entries
+    ensures nodes { nodes_as_entries T.rank tree.new.entries
         ≡ with_end_value (T.rank start) (T.rank node.end) node.value
-        (places T.rank tree.old.entries) }
-    ensures old { option_map (place_at T.rank start) result
-        ≡ start_at (T.rank start) (places T.rank tree.old.entries) }
+        (nodes_as_entries T.rank tree.old.entries) }
+    ensures old { option_map (node_as_entry_at T.rank start) result
+        ≡ start_at (T.rank start) (nodes_as_entries T.rank tree.old.entries) }
 {
     exchange(tree, start, node)
 }
 
 /// Keeps the nodes that start below a key, and answers the others.
 pub fn split_off<T: Integer, V>(tree: &mut Tree<T, V>, key: T) -> Result<Tree<T, V>, AllocError>
-    ensures below { OnOk result (places T.rank tree.new.entries
-        ≡ below (T.rank key) (places T.rank tree.old.entries)) }
-    ensures from { IfOk result (λ others. places T.rank others.entries
-        ≡ from (T.rank key) (places T.rank tree.old.entries)) }
+    ensures below { OnOk result (nodes_as_entries T.rank tree.new.entries
+        ≡ below (T.rank key) (nodes_as_entries T.rank tree.old.entries)) }
+    ensures from { IfOk result (λ others. nodes_as_entries T.rank others.entries
+        ≡ from (T.rank key) (nodes_as_entries T.rank tree.old.entries)) }
     ensures err { OnErr result (tree.new.entries ≡ tree.old.entries) }
 {
     let others = tree.split_off(&Start(key))?;
@@ -245,12 +205,12 @@ pub fn move_node<T: Integer, V: Drop>(
     to: T,
     place: EndValue<T, V>,
 ) -> Result<(), AllocError>
-    requires starts { StartsAscend T.low T.high (places T.rank tree.old.entries) }
-    requires present { IsSome (start_at (T.rank from) (places T.rank tree.old.entries)) }
-    requires absent { start_at (T.rank to) (places T.rank tree.old.entries) ≡ None }
+    requires starts { StartsAscend T.low T.high (nodes_as_entries T.rank tree.old.entries) }
+    requires present { IsSome (start_at (T.rank from) (nodes_as_entries T.rank tree.old.entries)) }
+    requires absent { start_at (T.rank to) (nodes_as_entries T.rank tree.old.entries) ≡ None }
     ensures ok { OnOk result
-        (IsStartMoved (T.rank from) (T.rank to) (places T.rank tree.old.entries)
-        (places T.rank tree.new.entries)) }
+        (IsStartMoved (T.rank from) (T.rank to) (nodes_as_entries T.rank tree.old.entries)
+        (nodes_as_entries T.rank tree.new.entries)) }
     ensures err { OnErr result (tree.new.entries ≡ tree.old.entries) }
 {
     insert(tree, to, place)?;
@@ -269,12 +229,12 @@ pub fn replace_front<T: Integer, V: Drop>(
     to: T,
     place: EndValue<T, V>,
 ) -> Result<(), AllocError>
-    requires starts { StartsAscend T.low T.high (places T.rank tree.old.entries) }
-    requires present { IsSome (start_at (T.rank start) (places T.rank tree.old.entries)) }
-    requires absent { start_at (T.rank to) (places T.rank tree.old.entries) ≡ None }
+    requires starts { StartsAscend T.low T.high (nodes_as_entries T.rank tree.old.entries) }
+    requires present { IsSome (start_at (T.rank start) (nodes_as_entries T.rank tree.old.entries)) }
+    requires absent { start_at (T.rank to) (nodes_as_entries T.rank tree.old.entries) ≡ None }
     ensures ok { OnOk result
         (IsFrontReplaced (T.rank start) (T.rank front.end) front.value (T.rank to)
-        (places T.rank tree.old.entries) (places T.rank tree.new.entries)) }
+        (nodes_as_entries T.rank tree.old.entries) (nodes_as_entries T.rank tree.new.entries)) }
     ensures err { OnErr result (tree.new.entries ≡ tree.old.entries) }
 {
     insert(tree, to, place)?;

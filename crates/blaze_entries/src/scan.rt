@@ -3,8 +3,8 @@ ghost use Rattle.std.specs.Prelude.{◌≡◌, ◌⊎◌, ◌+◌, ◌++◌, ◌
 ghost use Rattle.std.specs.Prelude.{reverse, None, MatchOption, OnSome, IfOk, OnErr};
 ghost use Rattle.std.specs.Option.{option_map, option_copied};
 ghost use Rattle.blaze_entries.specs.Entries.{Entry, entry};
-ghost use Rattle.blaze_entries.specs.Found.{found_of, IsFoundAt};
-ghost use Rattle.blaze_entries.specs.Places.{places, entries_of, AreFull, AreHeld};
+ghost use Rattle.blaze_entries.specs.Found.{found_of, is_sought, IsFoundAt};
+ghost use Rattle.blaze_entries.specs.Nodes.{nodes_as_entries, entries_of, AreFull, AreHeld};
 ghost use Rattle.blaze_entries.specs.Scanned.{seen_of, unseen, seen_end, seen_start, seen, walked};
 ghost use Rattle.blaze_entries.specs.Scanned.{answers, walked_keys, seen_value, walked_value};
 ghost use Rattle.blaze_entries.specs.Scanned.{IsAboveCloned, GoesOnUnlike};
@@ -12,9 +12,9 @@ ghost use Rattle.blaze_entries.specs.Starts.{below};
 
 use crate::count::Count;
 use crate::found::Found;
+use crate::full_nodes::shown;
 use crate::nodes::{EndValue, Tree, nodes_up_to};
-use crate::overlap::less;
-use crate::places::shown;
+use crate::overlap::length_outside;
 use crate::start::Start;
 use blaze_int::Integer;
 use blaze_int::compare::{is_at_most, is_below};
@@ -83,29 +83,34 @@ impl<T: Integer> Plan<T> {
     }
 }
 
-// What an entry from `start` up to `end` shows beside a value.
+// What an entry from `start` up to `end` shows beside a value, if one is asked for.
 #[inline(always)]
-fn beside<T: Integer, V: Eq>(start: T, end: T, other: &V, value: &V) -> Found<T>
-    ensures { found_of T.rank result ≡ (T.rank start, T.rank end, V.eq other.now value.now) }
+fn beside<T: Integer, V: Eq>(start: T, end: T, other: &V, value: Option<&V>) -> Found<T>
+    ensures { found_of T.rank result
+        ≡ (T.rank start, T.rank end, is_sought V.eq (option_copied value.entry) other.now) }
 {
+    let is_equal = match value {
+        Some(value) => *other == *value,
+        None => false,
+    };
     Found {
         start,
         end,
-        is_equal: *other == *value,
+        is_equal,
     }
 }
 
-// The last of the nodes that are left, counted: what it shows beside a value, and its own value.
+// The last of the nodes that are left, counted: what it shows beside a value, if one is asked for, and its own value.
 #[inline(always)]
 fn next_found<'a, T: Integer, V: Eq>(
     nodes: &mut btree_map::Range<'a, Start<T>, EndValue<T, Option<V>>>,
-    value: &V,
+    value: Option<&V>,
     looks: &mut Count,
 ) -> Option<(Found<T>, &'a V)>
-    requires { AreFull (places T.rank nodes.old) }
-    ensures full { AreFull (places T.rank nodes.new) }
+    requires { AreFull (nodes_as_entries T.rank nodes.old) }
+    ensures full { AreFull (nodes_as_entries T.rank nodes.new) }
     ensures found { MatchOption result (entries_of T.rank nodes.old ≡ []) (λ f. (e : Entry V)
-        × IsFoundAt T.rank V.eq value.now f.0 f.1.now e
+        × IsFoundAt T.rank (is_sought V.eq (option_copied value.entry)) f.0 f.1.now e
         × (entries_of T.rank nodes.old ≡ entries_of T.rank nodes.new ++ e ∷ [])) }
     ensures looked { looks.new.number ≡ looks.old.number + 1 }
     ensures shorter { OnSome result (length nodes.new < length nodes.old) }
@@ -147,23 +152,24 @@ pub fn next_or_last<T: Integer>(key: T) -> T
 }
 
 /// Walks down the entries, from the one that may start right above a range to the first that starts below it, and answers what
-/// it has seen and the value that the range's first key has. A length loses how many of their keys lie in the range. It is
-/// inlined, so that where that value isn't asked for the compiler leaves it out.
+/// it has seen, beside a value if one is asked for, and the value that the range's first key has. A length loses how many of their
+/// keys lie in the range. It is inlined, so that where that value isn't asked for the compiler leaves it out.
 #[inline(always)]
 pub fn walk<'a, T: Integer, V: Eq>(
     tree: &'a Tree<T, Option<V>>,
     len: T::SafeLen,
     lo: T,
     hi: T,
-    value: &V,
+    value: Option<&V>,
     looks: &mut Count,
 ) -> (Plan<T>, T::SafeLen, Option<&'a V>)
-    requires held { AreHeld T.low T.high (places T.rank tree.now.entries) }
+    requires held { AreHeld T.low T.high (nodes_as_entries T.rank tree.now.entries) }
     requires len { walked_keys (T.rank lo) (T.rank hi)
         (reverse (below (T.rank hi +ℤ pos 2) (entries_of T.rank tree.now.entries)))
         ≤ℤ pos (T.SafeLen.number len) }
     ensures plan { seen_of T.rank result.0
-        ≡ walked V.eq value.now (T.rank lo) (T.rank hi) (unseen (T.rank hi))
+        ≡ walked (is_sought V.eq (option_copied value.entry))
+        (T.rank lo) (T.rank hi) (unseen (T.rank hi))
         (reverse (below (T.rank hi +ℤ pos 2) (entries_of T.rank tree.now.entries))) }
     ensures len { pos (T.SafeLen.number result.1)
         +ℤ walked_keys (T.rank lo) (T.rank hi)
@@ -182,7 +188,7 @@ pub fn walk<'a, T: Integer, V: Eq>(
     let mut nodes = nodes_up_to(tree, top);
     while let Some(next) = next_found(&mut nodes, value, looks) {
         let found = next.0;
-        left = less(left, found, lo, hi);
+        left = length_outside(left, found, lo, hi);
         plan.see(lo, hi, found);
         held = seen_value(lo, held, found, next.1);
         if is_below(found.start, lo) {

@@ -1,8 +1,7 @@
 pub mod Cutting
 pub mod CutEdits
-pub mod FirstCuts
+pub mod Ends
 pub mod RangeCuts
 pub mod Splitting
 pub mod SplitEdits
 pub mod Splits
-pub mod LastCuts

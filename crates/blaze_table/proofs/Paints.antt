@@ -2,9 +2,9 @@ pub mod Splices
 pub mod Kept
 pub mod Painted
 pub mod Inside
-pub mod PutInside
 pub mod EditLists
 pub mod Clearing
 pub mod Placing
 pub mod Widened
 pub mod Composed
+pub mod Spanned

@@ -1,6 +1,4 @@
-pub mod LooksSay
 pub mod Plans
-pub mod Walked
 pub mod Worked
 pub mod WalkedPlans
 pub mod Outside
@@ -9,3 +7,4 @@ pub mod Descents
 pub mod SeenPlans
 pub mod WalkedValues
 pub mod AboveValues
+pub mod Cuts

@@ -1,11 +1,11 @@
 -- A fill under way: the words of this crate's own functions. No public clause names them.
-use Rattle.std.specs.Prelude.{◌≡◌, ◌⊎◌, ◌↔◌, ℕ, ℤ, pos, ◌+ℤ◌, ◌-ℤ◌, ◌≤ℤ◌, Bool, false, List, [], ◌∷◌, ◌++◌, Option, Some, IsSome, IsTrue}
+use Rattle.std.specs.Prelude.{◌≡◌, ◌⊎◌, ◌↔◌, ℕ, ℤ, pos, ◌+ℤ◌, ◌-ℤ◌, ◌≤ℤ◌, ◌<ℤ◌, Bool, false, List, [], ◌∷◌, ◌++◌, Option, Some, IsSome, IsTrue}
 use Rattle.std.specs.List.{Contains}
 use Rattle.blaze_entries.specs.Starts.{start_at, with_entry, without}
 use Rattle.blaze_table.specs.Canonical.{AreKeys, IsCanonical, IsRunStart, HasStart}
 use Rattle.blaze_table.specs.Count.{keys_in}
 use Rattle.blaze_table.specs.Entries.{Entry, entry, at, SameOption, SameContent}
-use Rattle.blaze_table.specs.Filled.{filled}
+use Rattle.blaze_table.specs.Filled.{filled, IsFirstGap}
 use Rattle.blaze_table.specs.Gap.{IsClearFrom}
 use Rattle.blaze_table.specs.Table.{IsTable}
 
@@ -34,6 +34,24 @@ pub record IsJoinedBut {V : Type 0} (eq : V → V → Bool) (joints : List ℤ) 
 pub record IsBeside {V : Type 0} (eq : V → V → Bool) (content : ℤ → Option V) (v : V) (a b : ℤ) (t u : Bool) : Type 0 where
   pub below : IsTrue t ↔ SameOption eq (content (a -ℤ pos 1)) (Some v)
   pub above : IsTrue u ↔ SameOption eq (content (b +ℤ pos 1)) (Some v)
+
+-- of the keys from l up to h those from a up to b are the first gap; t and u say whether the values right below and right above it
+-- are equal to v
+pub record IsNextGap {V : Type 0} (eq : V → V → Bool) (content : ℤ → Option V) (v : V) (l h a b : ℤ) (t u : Bool) : Type 0 where
+  pub gap : IsFirstGap content l h a b
+  pub beside : IsBeside eq content v a b t u
+
+-- a gap that starts at a, below an entry that starts at `next`, ends at b: as far up as it can, but not beyond h
+pub record IsGapEnd (a h next b : ℤ) : Type 0 where
+  pub order : a ≤ℤ b
+  pub to : b ≤ℤ h
+  pub under : b <ℤ next
+  pub greatest : (b ≡ h) ⊎ (next ≡ b +ℤ pos 1)
+
+-- no entry is put in yet, and no joint is noted
+pub record IsNothingMade {T : Type 0} (starts joints : List T) : Type 0 where
+  pub no_start : starts ≡ []
+  pub no_joint : joints ≡ []
 
 -- the key k is added to the joints where it is one
 pub record IsNoted (is_joint : Bool) (k : ℤ) (old new : List ℤ) : Type 0 where

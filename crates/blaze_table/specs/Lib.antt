@@ -19,6 +19,7 @@ pub mod Splice
 pub mod Keeping
 pub mod Whole
 pub mod Planned
+pub mod Edited
 pub mod Work
 pub mod LastBelow
 pub mod Ending

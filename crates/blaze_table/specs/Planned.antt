@@ -2,39 +2,41 @@
 use Rattle.std.specs.Prelude.{◌≡◌, ℕ, ◌+◌, ◌≤◌, ◌⊎◌, ◌++◌, ◌&&◌, ◌||◌, ℤ, pos, ◌+ℤ◌, ◌≤ℤ◌, ◌<ℤ◌, int_lt, int_le, if◌then◌else◌, Bool, true, false, List, [], ◌∷◌, Option, Some, None, IfSome, IsSomeAnd}
 use Rattle.std.specs.Option.{option_map}
 use Rattle.std.specs.Ordering.{int_eq}
-use Rattle.blaze_entries.specs.Cloned.{IsRestCloned}
 use Rattle.blaze_entries.specs.Counted.{CountedEntries}
 use Rattle.blaze_entries.specs.Found.{found_in}
 use Rattle.blaze_entries.specs.Scanned.{Seen}
 use Rattle.blaze_entries.specs.Starts.{below, from, last_below, start_at}
 use Rattle.blaze_entries.specs.declared.found.Found.{Found}
+use Rattle.blaze_table.specs.Count.{keys_in}
 use Rattle.blaze_table.specs.Entries.{Entry, entry}
 use Rattle.blaze_table.specs.Splice.{before, after, IsSameAbove}
 use Rattle.blaze_table.specs.Work.{IsCounted}
 
 -- ---- the plan
 
--- the first of the entries does not start right above h with a value equal to v
-abbrev pub IsUnjoined : {V : Type 0} → (V → V → Bool) → ℤ → V → List (Entry V) → Type 0
-IsUnjoined eq h v [] = Unit {0}
-IsUnjoined eq h v (f ∷ fs) = f.lo ≡ h +ℤ pos 1 → eq f.value v ≡ false
+-- the test is one of a value, which tells those that are equal to the one of the range; a cut's tells none
 
--- a range that ends at h with the value v is joined with the first of the entries, which ends at z
-pub record IsJoinedTo {V : Type 0} (eq : V → V → Bool) (h : ℤ) (v : V) (es : List (Entry V)) (z : ℤ) : Type 0 where
+-- the first of the entries does not start right above h with an equal value
+abbrev pub IsUnjoined : {V : Type 0} → (V → Bool) → ℤ → List (Entry V) → Type 0
+IsUnjoined test h [] = Unit {0}
+IsUnjoined test h (f ∷ fs) = f.lo ≡ h +ℤ pos 1 → test f.value ≡ false
+
+-- a range that ends at h is joined with the first of the entries, which ends at z
+pub record IsJoinedTo {V : Type 0} (test : V → Bool) (h : ℤ) (es : List (Entry V)) (z : ℤ) : Type 0 where
   pub next : Entry V
   pub others : List (Entry V)
   pub first : es ≡ next ∷ others
   pub touches : next.lo ≡ h +ℤ pos 1
   pub ends : next.hi ≡ z
-  pub like : eq next.value v ≡ true
+  pub like : test next.value ≡ true
 
--- where a range that ends at h with the value v ends, beside entries that start above it
-abbrev pub IsEndAfter : {V : Type 0} → (V → V → Bool) → ℤ → V → List (Entry V) → ℤ → Type 0
-IsEndAfter eq h v es z = ((z ≡ h) × IsUnjoined eq h v es) ⊎ IsJoinedTo eq h v es z
+-- where a range that ends at h ends, once it is joined, beside entries that start above it
+abbrev pub IsEndAfter : {V : Type 0} → (V → Bool) → ℤ → List (Entry V) → ℤ → Type 0
+IsEndAfter test h es z = ((z ≡ h) × IsUnjoined test h es) ⊎ IsJoinedTo test h es z
 
 -- where it ends in a list
-abbrev pub IsEnd : {V : Type 0} → (V → V → Bool) → ℤ → V → List (Entry V) → ℤ → Type 0
-IsEnd eq h v es z = IsEndAfter eq h v (after h es) z
+abbrev pub IsEnd : {V : Type 0} → (V → Bool) → ℤ → List (Entry V) → ℤ → Type 0
+IsEnd test h es z = IsEndAfter test h (after h es) z
 
 -- the ends of an entry that was looked at, if it goes on above h with an unequal value
 abbrev pub rest_of : ℤ → Option (ℤ × ℤ × Bool) → Option (ℤ × ℤ)
@@ -51,20 +53,27 @@ abbrev pub joined_start : ℤ → Option (ℤ × ℤ × Bool) → Option ℤ
 joined_start l None = None
 joined_start l (Some n) = if n.2 && (int_le l n.1 || int_eq l (n.1 +ℤ pos 1)) then Some n.0 else None
 
--- what was seen of the entries is what a paint of the keys from l up to h with v has to know
-pub record IsPlanOf {V : Type 0} (eq : V → V → Bool) (l h : ℤ) (v : V) (es : List (Entry V)) (s : Seen) : Type 0 where
-  pub end : IsEnd eq h v es s.end
-  pub rest : s.rest ≡ rest_of h (option_map (found_in eq v) (last_below (h +ℤ pos 1) es))
-  pub first : s.first ≡ option_map (found_in eq v) (start_at l es)
-  pub left : s.left ≡ option_map (found_in eq v) (last_below l es)
+-- what was seen of the entries is what an edit of the keys from l up to h has to know
+pub record IsPlanOf {V : Type 0} (test : V → Bool) (l h : ℤ) (es : List (Entry V)) (s : Seen) : Type 0 where
+  pub end : IsEnd test h es s.end
+  pub rest : s.rest ≡ rest_of h (option_map (found_in test) (last_below (h +ℤ pos 1) es))
+  pub first : s.first ≡ option_map (found_in test) (start_at l es)
+  pub left : s.left ≡ option_map (found_in test) (last_below l es)
 
 -- a value equal to that of the last entry that starts below l, where that one goes on above z
 abbrev pub IsLikeAbove : {V : Type 0} → (V → V → Bool) → ℤ → ℤ → List (Entry V) → Option V → Type 0
 IsLikeAbove eq l z es o = IfSome (last_below l es) (λ e. z <ℤ e.hi → IsSomeAnd o (λ u. eq e.value u ≡ true))
 
--- the same, where that entry's value is not equal to v
-abbrev pub IsUnlikeAbove : {V : Type 0} → (V → V → Bool) → ℤ → ℤ → V → List (Entry V) → Option V → Type 0
-IsUnlikeAbove eq l h v es o = IfSome (last_below l es) (λ e. h <ℤ e.hi → eq e.value v ≡ false → IsSomeAnd o (λ u. eq e.value u ≡ true))
+-- the same, where that entry's value is not equal to the range's
+abbrev pub IsUnlikeAbove : {V : Type 0} → (V → V → Bool) → (V → Bool) → ℤ → ℤ → List (Entry V) → Option V → Type 0
+IsUnlikeAbove eq test l h es o = IfSome (last_below l es) (λ e. h <ℤ e.hi → test e.value ≡ false → IsSomeAnd o (λ u. eq e.value u ≡ true))
+
+-- What a walk has found for a paint of the entry p: the plan, how many keys lie outside of p, and a value equal to that of the
+-- entry that goes on both below and above p with another value, if there is one.
+pub record IsWalkOf {V : Type 0} (eq : V → V → Bool) (p : Entry V) (es : List (Entry V)) (s : Seen) (n : ℕ) (o : Option V) : Type 0 where
+  pub plan : IsPlanOf (λ w. eq w p.value) p.lo p.hi es s
+  pub outside : pos n ≡ keys_in (before p.lo es) +ℤ keys_in (after p.hi es)
+  pub above : IsUnlikeAbove eq (λ w. eq w p.value) p.lo p.hi es o
 
 -- ---- the steps
 
@@ -111,20 +120,6 @@ pub record IsExtended {V : Type 0} (eq : V → V → Bool) (f z : ℤ) (old new 
   pub above : List (Entry V)
   pub like : IsSameAbove eq z old above
   pub put : new ≡ below f old ++ entry f z of.value ∷ above
-
--- a list, with an entry before it if there is one
-abbrev pub with_first : {V : Type 0} → Option (Entry V) → List (Entry V) → List (Entry V)
-with_first None es = es
-with_first (Some e) es = e ∷ es
-
--- what the first entry has behind its first key was put in behind it, with a clone of its value, if it has more keys
-pub record IsRestPut {V : Type 0} (is_clone : V → V → Type 0) (old new : List (Entry V)) : Type 0 where
-  pub first : Entry V
-  pub others : List (Entry V)
-  pub was : old ≡ first ∷ others
-  pub rest : Option (Entry V)
-  pub clone : IsRestCloned is_clone first rest
-  pub put : new ≡ first ∷ with_first rest others
 
 -- ---- the work
 

@@ -1,13 +1,15 @@
 -- Lists taken apart at a key and put together again: the words of this crate's own functions. Of public clauses only those of
 -- `push_entry` name them.
-use Rattle.std.specs.Prelude.{◌≡◌, ℤ, pos, ◌+◌, ◌≤◌, length, ◌+ℤ◌, ◌-ℤ◌, ◌<ℤ◌, ◌++◌, int_lt, int_le, Bool, ◌&&◌, if◌then◌else◌, List, [], ◌∷◌}
-use Rattle.std.specs.List.{Contains}
+use Rattle.std.specs.Prelude.{◌≡◌, ℕ, ℤ, pos, ◌+◌, ◌-◌, ◌≤◌, length, ◌+ℤ◌, ◌-ℤ◌, ◌<ℤ◌, ◌++◌, int_lt, int_le, Bool, ◌&&◌, if◌then◌else◌, List, [], ◌∷◌, Option, Some}
+use Rattle.std.specs.List.{Contains, slice_get}
+use Rattle.std.specs.Option.{option_map}
 use Rattle.std.specs.Ordering.{int_eq}
 pub use Rattle.blaze_entries.specs.Overlap.{overlap, covered}
 use Rattle.blaze_table.specs.Entries.{Entry, entry, at, SameEntries, SameOption}
 use Rattle.blaze_table.specs.Canonical.{IsCanonical}
 use Rattle.blaze_table.specs.Painted.{painted, IsApartFrom}
 use Rattle.blaze_table.specs.Cut.{cut_at, below_at, from_at}
+use Rattle.blaze_table.specs.Table.{IsTable}
 
 -- what lies below the key
 abbrev pub before : {V : Type 0} → ℤ → List (Entry V) → List (Entry V)
@@ -63,6 +65,13 @@ pub record IsListPainted {V : Type 0} (eq : V → V → Bool) (p : Entry V) (old
   pub alone : old ≡ [] → length new ≤ 1
   pub kept : (e : Entry V) → Contains old e → IsApartFrom p e → Contains new e
 
+-- A list painted, which a table holds with its count of keys. It has at most one entry more than what lies below and above the
+-- painted keys.
+pub record IsTablePainted {V : Type 0} (eq : V → V → Bool) (low high : ℤ) (len : ℕ) (p : Entry V) (old new : List (Entry V)) : Type 0 where
+  pub table : IsTable eq low high len new
+  pub painted : IsListPainted eq p old new
+  pub short : length new ≤ length (before p.lo old) + length (after p.hi old) + 1
+
 -- the list without the keys from l up to h, where the part above may have values that are only equal to the old
 pub record IsRangeCutOf {V : Type 0} (eq : V → V → Bool) (l h : ℤ) (es new : List (Entry V)) : Type 0 where
   pub above : List (Entry V)
@@ -73,15 +82,31 @@ pub record IsRangeCutOf {V : Type 0} (eq : V → V → Bool) (l h : ℤ) (es new
 abbrev pub IsCutOf : {V : Type 0} → (V → V → Bool) → ℤ → List (Entry V) → List (Entry V) → Type 0
 IsCutOf eq k es new = IsRangeCutOf eq k k es new
 
--- what lies below l and what lies above h is as before
-pub record IsKeptAround {V : Type 0} (l h : ℤ) (es new : List (Entry V)) : Type 0 where
-  pub below : before l new ≡ before l es
-  pub above : after h new ≡ after h es
+-- the key k taken out of the list, and the value that was there
+pub record IsKeyTaken {V : Type 0} (eq : V → V → Bool) (k : ℤ) (v : Option V) (old new : List (Entry V)) : Type 0 where
+  pub cut : IsCutOf eq k old new
+  pub value : SameOption eq (at old k) v
 
--- a list cut at a key, by structure
-pub record IsListCut {V : Type 0} (eq : V → V → Bool) (k : ℤ) (old new : List (Entry V)) : Type 0 where
-  pub canonical : IsCanonical eq new
+-- the key k taken out of a table: what is left with its count of keys, and the value that was there
+pub record IsKeyCut {V : Type 0} (eq : V → V → Bool) (low high : ℤ) (len : ℕ) (k : ℤ) (v : Option V) (old new : List (Entry V)) : Type 0 where
+  pub table : IsTable eq low high len new
   pub content : (j : ℤ) → SameOption eq (at new j) (cut_at k (at old) j)
+  pub value : SameOption eq (at old k) v
+
+-- the same, where k is the first key
+pub record IsFirstKeyCut {V : Type 0} (eq : V → V → Bool) (low high : ℤ) (len : ℕ) (k : ℤ) (v : V) (old new : List (Entry V)) : Type 0 where
+  pub first : option_map (λ e. e.lo) (slice_get old 0) ≡ Some k
+  pub cut : IsKeyCut eq low high len k (Some v) old new
+
+-- the same, where k is the last key
+pub record IsLastKeyCut {V : Type 0} (eq : V → V → Bool) (low high : ℤ) (len : ℕ) (k : ℤ) (v : V) (old new : List (Entry V)) : Type 0 where
+  pub last : option_map (λ e. e.hi) (slice_get old (length old - 1)) ≡ Some k
+  pub cut : IsKeyCut eq low high len k (Some v) old new
+
+-- a table without the keys from l up to h, with its count of keys
+pub record IsTableCut {V : Type 0} (eq : V → V → Bool) (low high : ℤ) (len : ℕ) (l h : ℤ) (old new : List (Entry V)) : Type 0 where
+  pub table : IsTable eq low high len new
+  pub cut : IsRangeCutOf eq l h old new
 
 -- the parts of a list, where the part from k on may have values that are only equal to the old
 pub record IsSplitOf {V : Type 0} (eq : V → V → Bool) (k : ℤ) (es below from : List (Entry V)) : Type 0 where

@@ -1,26 +1,75 @@
-//! A key taken out of entries, in place. Each clone and each growth comes before the first edit.
-ghost use Rattle.std.specs.Prelude.{◌≡◌, true, Some, None, pos, ◌+ℤ◌, ◌≤ℤ◌, ◌<ℤ◌, Ok, OnOk, OnErr, IfOk};
-ghost use Rattle.std.specs.Prelude.{IfSome};
-ghost use Rattle.blaze_entries.specs.Starts.{last_below};
+//! Keys taken out of entries, in place. Each clone and each growth comes before the first edit that can't be taken back.
+ghost use Rattle.std.specs.Prelude.{◌≡◌, ◌-◌, length, true, Some, None, ◌≤ℤ◌, ◌<ℤ◌, int_lt, if◌then◌else◌};
+ghost use Rattle.std.specs.Prelude.{Ok, OnOk, OnErr, IfOk, IsSome, IfSome, IsSomeAnd, slice_get};
+ghost use Rattle.std.specs.Option.{option_map};
+ghost use Rattle.blaze_entries.specs.Cloned.{IsRangeCloned};
+ghost use Rattle.blaze_entries.specs.Found.{range_in, ranks_of};
+ghost use Rattle.blaze_entries.specs.Starts.{holder_of};
 ghost use Rattle.blaze_table.specs.Canonical.{IsCanonical};
-ghost use Rattle.blaze_table.specs.Work.{IsCountedCut, IsCounted};
-ghost use Rattle.blaze_table.specs.Cut.{IsAmongOthers};
-ghost use Rattle.blaze_table.specs.Entries.{at, SameOption};
-ghost use Rattle.blaze_table.specs.LastBelow.{IsLastBelow, IsAroundLike};
+ghost use Rattle.blaze_table.specs.Cut.{IsAmongOthers, GoesOnAbove};
+ghost use Rattle.blaze_table.specs.Entries.{at};
 ghost use Rattle.blaze_table.specs.Painted.{ClonesAreAlike};
-ghost use Rattle.blaze_table.specs.Planned.{IsWorked};
-ghost use Rattle.blaze_table.specs.Splice.{IsCutOf, IsListCut};
+ghost use Rattle.blaze_table.specs.Planned.{ends_of, IsWorked};
+ghost use Rattle.blaze_table.specs.Splice.{IsKeyTaken, IsKeyCut, IsFirstKeyCut, IsLastKeyCut, IsTableCut};
 ghost use Rattle.blaze_table.specs.Table.{IsTable};
+ghost use Rattle.blaze_table.specs.Work.{IsCountedCut, IsCounted};
 
-use crate::cut_hole::cut_hole;
-use blaze_entries::Counted;
-use blaze_int::compare::{after, before, is_below};
+use crate::edit::take_out;
+use blaze_entries::{Entries, Found, Plan};
+use blaze_int::compare::is_below;
 use blaze_int::{Integer, SafeLength};
 use std::alloc::AllocError;
 
-// Takes a key out of the entry that has keys below and above it, with a clone of its value, which is answered.
-fn cut_inside<T: Integer, V: Eq + Clone>(
-    entries: &mut Counted<T, V>,
+// What a cut of a key knows of the entry that has it, from its first and last key.
+fn plan_of<T: Integer>(key: T, start: T, end: T) -> Plan<T>
+    ensures end { result.end ≡ key }
+    ensures rest { option_map (ranks_of T.rank) result.rest
+        ≡ (if int_lt (T.rank key) (T.rank end) then Some (T.rank start, T.rank end) else None) }
+    ensures left { option_map (ends_of T.rank) result.left
+        ≡ (if int_lt (T.rank start) (T.rank key) then Some (T.rank start, T.rank end) else None) }
+{
+    let rest = if is_below(key, end) {
+        Some((start, end))
+    } else {
+        None
+    };
+    let left = if is_below(start, key) {
+        Some(Found {
+            start,
+            end,
+            is_equal: false,
+        })
+    } else {
+        None
+    };
+    Plan {
+        end: key,
+        rest,
+        first: None,
+        left,
+    }
+}
+
+// A clone of a value, where its entry has keys both below and above a key.
+fn clone_around<T: Integer, V: Clone>(
+    key: T,
+    start: T,
+    end: T,
+    value: &V,
+) -> Result<Option<V>, AllocError>
+    ensures clone { IfOk result (λ r. T.rank start <ℤ T.rank key → T.rank key <ℤ T.rank end
+        → IsSomeAnd r (V.is_clone value.now)) }
+    ensures refused { OnErr result (T.rank key <ℤ T.rank end) }
+{
+    if !is_below(start, key) || !is_below(key, end) {
+        return Ok(None);
+    }
+    Ok(Some(value.clone()?))
+}
+
+// Takes a key out of the entry that has it, from `start` up to `end`, where `value` is equal to that entry's, and answers it.
+fn cut_shared<T: Integer, V: Eq + Clone>(
+    entries: &mut Entries<T, V>,
     key: T,
     start: T,
     end: T,
@@ -28,157 +77,66 @@ fn cut_inside<T: Integer, V: Eq + Clone>(
 ) -> Result<V, AllocError>
     requires clones { ClonesAreAlike V.is_clone V.eq }
     requires canonical { IsCanonical V.eq entries.old.entries }
-    requires found { IsLastBelow
-        (T.rank key +ℤ pos 1) (T.rank start) (T.rank end) entries.old.entries }
-    requires starts_below { T.rank start <ℤ T.rank key }
-    requires ends_above { T.rank key <ℤ T.rank end }
-    requires like { IfSome (last_below (T.rank key +ℤ pos 1) entries.old.entries)
-        (λ e. V.eq e.value value ≡ true) }
-    ensures cut { OnOk result (IsCutOf V.eq (T.rank key) entries.old.entries entries.new.entries) }
-    ensures value { IfOk result
-        (λ value. SameOption V.eq (at entries.old.entries (T.rank key)) (Some value)) }
-    ensures worked { OnOk result (IsWorked 1 0 entries.old entries.new) }
-    ensures err { OnErr result (entries.new.entries ≡ entries.old.entries) }
-    ensures err_counted { OnErr result (IsCounted entries.old entries.new) }
-{
-    entries.in_hand();
-    let above = value.clone()?;
-    cut_hole(entries, key, key, start, end, above)?;
-    Ok(value)
-}
-
-// Takes a key out of the entry that ends there and starts below it.
-fn cut_end<T: Integer, V: Eq + Clone>(
-    entries: &mut Counted<T, V>,
-    key: T,
-    start: T,
-) -> Result<V, AllocError>
-    requires clones { ClonesAreAlike V.is_clone V.eq }
-    requires canonical { IsCanonical V.eq entries.old.entries }
-    requires found { IsLastBelow
-        (T.rank key +ℤ pos 1) (T.rank start) (T.rank key) entries.old.entries }
-    requires starts_below { T.rank start <ℤ T.rank key }
-    ensures cut { OnOk result (IsCutOf V.eq (T.rank key) entries.old.entries entries.new.entries) }
-    ensures value { IfOk result
-        (λ value. SameOption V.eq (at entries.old.entries (T.rank key)) (Some value)) }
-    ensures worked { OnOk result (IsWorked 1 1 entries.old entries.new) }
-    ensures err { OnErr result (entries.new.entries ≡ entries.old.entries) }
-    ensures err_counted { OnErr result (IsCounted entries.old entries.new) }
-{
-    entries.in_hand();
-    let value = entries.set_end_cloned(start, before(key, start))?;
-    Ok(value)
-}
-
-// Takes a key out of the entry that starts there and ends above it.
-fn cut_start<T: Integer, V: Eq + Clone>(
-    entries: &mut Counted<T, V>,
-    key: T,
-    end: T,
-) -> Result<V, AllocError>
-    requires clones { ClonesAreAlike V.is_clone V.eq }
-    requires canonical { IsCanonical V.eq entries.old.entries }
-    requires found { IsLastBelow
-        (T.rank key +ℤ pos 1) (T.rank key) (T.rank end) entries.old.entries }
-    requires ends_above { T.rank key <ℤ T.rank end }
-    ensures cut { OnOk result (IsCutOf V.eq (T.rank key) entries.old.entries entries.new.entries) }
-    ensures value { IfOk result
-        (λ value. SameOption V.eq (at entries.old.entries (T.rank key)) (Some value)) }
-    ensures worked { OnOk result (IsWorked 1 1 entries.old entries.new) }
-    ensures err { OnErr result (entries.new.entries ≡ entries.old.entries) }
-    ensures err_counted { OnErr result (IsCounted entries.old entries.new) }
-{
-    entries.in_hand();
-    let value = entries.clone_value(key)?;
-    entries.insert(after(key, end), end, value)?;
-    Ok(entries.remove(key))
-}
-
-// Takes the entry out that has the key alone.
-fn cut_whole<T: Integer, V: Eq + Drop>(entries: &mut Counted<T, V>, key: T) -> V
-    requires canonical { IsCanonical V.eq entries.old.entries }
-    requires found { IsLastBelow
-        (T.rank key +ℤ pos 1) (T.rank key) (T.rank key) entries.old.entries }
-    ensures cut { IsCutOf V.eq (T.rank key) entries.old.entries entries.new.entries }
-    ensures value { SameOption V.eq (at entries.old.entries (T.rank key)) (Some result) }
-    ensures worked { IsWorked 1 1 entries.old entries.new }
-{
-    entries.in_hand();
-    entries.remove(key)
-}
-
-// Takes a key out of the entry that has it, where `around` is a clone of its value if it has keys below and above the key.
-fn cut_holder<T: Integer, V: Eq + Clone>(
-    entries: &mut Counted<T, V>,
-    key: T,
-    start: T,
-    end: T,
-    around: Option<V>,
-) -> Result<V, AllocError>
-    requires clones { ClonesAreAlike V.is_clone V.eq }
-    requires canonical { IsCanonical V.eq entries.old.entries }
-    requires found { IsLastBelow
-        (T.rank key +ℤ pos 1) (T.rank start) (T.rank end) entries.old.entries }
-    requires starts { T.rank start ≤ℤ T.rank key }
-    requires ends { T.rank key ≤ℤ T.rank end }
-    requires around { IsAroundLike V.eq
-        (T.rank key) (T.rank key) entries.old.entries around }
-    ensures cut { OnOk result (IsCutOf V.eq (T.rank key) entries.old.entries entries.new.entries) }
-    ensures value { IfOk result
-        (λ value. SameOption V.eq (at entries.old.entries (T.rank key)) (Some value)) }
-    ensures worked { OnOk result (IsWorked 1 1 entries.old entries.new) }
-    ensures refused { OnErr result (T.rank start <ℤ T.rank end) }
-    ensures err { OnErr result (entries.new.entries ≡ entries.old.entries) }
-    ensures err_counted { OnErr result (IsCounted entries.old entries.new) }
-{
-    entries.in_hand();
-    if is_below(start, key) {
-        if is_below(key, end) {
-            match around {
-                Some(value) => cut_inside(entries, key, start, end, value),
-                None => unreachable!(),
-            }
-        } else {
-            cut_end(entries, key, start)
-        }
-    } else if is_below(key, end) {
-        cut_start(entries, key, end)
-    } else {
-        Ok(cut_whole(entries, key))
-    }
-}
-
-/// Takes a key out of the entry that has it, and answers the value that was there and the new count of keys, where `len` is
-/// the old, and `around` a clone of its value if it has keys below and above the key. Refused memory leaves the entries as they
-/// are.
-pub fn cut_counted<T: Integer, V: Eq + Clone>(
-    entries: &mut Counted<T, V>,
-    len: T::SafeLen,
-    key: T,
-    start: T,
-    end: T,
-    around: Option<V>,
-) -> Result<(V, T::SafeLen), AllocError>
-    requires clones { ClonesAreAlike V.is_clone V.eq }
-    requires table { IsTable V.eq T.low T.high (T.SafeLen.number len) entries.old.entries }
-    requires found { IsLastBelow
-        (T.rank key +ℤ pos 1) (T.rank start) (T.rank end) entries.old.entries }
-    requires ends { T.rank key ≤ℤ T.rank end }
-    requires around { IsAroundLike V.eq
-        (T.rank key) (T.rank key) entries.old.entries around }
-    ensures table { IfOk result
-        (λ r. IsTable V.eq T.low T.high (T.SafeLen.number r.1) entries.new.entries) }
-    ensures cut { OnOk result
-        (IsListCut V.eq (T.rank key) entries.old.entries entries.new.entries) }
-    ensures value { IfOk result
-        (λ r. SameOption V.eq (at entries.old.entries (T.rank key)) (Some r.0)) }
+    requires held { IsSomeAnd (holder_of (T.rank key) entries.old.entries)
+        (λ e. ((T.rank start, T.rank end) ≡ range_in e) × (V.eq e.value value ≡ true)) }
+    ensures cut { IfOk result (λ value. IsKeyTaken V.eq (T.rank key) (Some value)
+        entries.old.entries entries.new.entries) }
     ensures worked { OnOk result (IsWorked 1 1 entries.old entries.new) }
     ensures refused { OnErr result (IsAmongOthers (T.rank key) entries.old.entries) }
     ensures err { OnErr result (entries.new.entries ≡ entries.old.entries) }
     ensures err_counted { OnErr result (IsCounted entries.old entries.new) }
 {
     entries.in_hand();
-    let value = cut_holder(entries, key, start, end, around)?;
+    let above = clone_around(key, start, end, &value)?;
+    take_out(entries, key, plan_of(key, start, end), above)?;
+    Ok(value)
+}
+
+// Takes a key out of the entry that has it, as a look at that entry has answered it, and answers the value that was there.
+fn cut_key<T: Integer, V: Eq + Clone>(
+    entries: &mut Entries<T, V>,
+    key: T,
+    held: (T, T, Option<V>),
+) -> Result<V, AllocError>
+    requires clones { ClonesAreAlike V.is_clone V.eq }
+    requires canonical { IsCanonical V.eq entries.old.entries }
+    requires held { IsRangeCloned T.rank V.is_clone
+        (holder_of (T.rank key) entries.old.entries) (Some held) }
+    ensures cut { IfOk result (λ value. IsKeyTaken V.eq (T.rank key) (Some value)
+        entries.old.entries entries.new.entries) }
+    ensures worked { OnOk result (IsWorked 1 1 entries.old entries.new) }
+    ensures refused { OnErr result (IsAmongOthers (T.rank key) entries.old.entries) }
+    ensures err { OnErr result (entries.new.entries ≡ entries.old.entries) }
+    ensures err_counted { OnErr result (IsCounted entries.old entries.new) }
+{
+    entries.in_hand();
+    let (start, end, cloned) = held;
+    match cloned {
+        Some(value) => cut_shared(entries, key, start, end, value),
+        None => Ok(entries.remove(key)),
+    }
+}
+
+// The same, with the new count of keys, where `len` is the old.
+fn cut_held<T: Integer, V: Eq + Clone>(
+    entries: &mut Entries<T, V>,
+    len: T::SafeLen,
+    key: T,
+    held: (T, T, Option<V>),
+) -> Result<(V, T::SafeLen), AllocError>
+    requires clones { ClonesAreAlike V.is_clone V.eq }
+    requires table { IsTable V.eq T.low T.high (T.SafeLen.number len) entries.old.entries }
+    requires held { IsRangeCloned T.rank V.is_clone
+        (holder_of (T.rank key) entries.old.entries) (Some held) }
+    ensures cut { IfOk result (λ r. IsKeyCut V.eq T.low T.high (T.SafeLen.number r.1)
+        (T.rank key) (Some r.0) entries.old.entries entries.new.entries) }
+    ensures worked { OnOk result (IsWorked 1 1 entries.old entries.new) }
+    ensures refused { OnErr result (IsAmongOthers (T.rank key) entries.old.entries) }
+    ensures err { OnErr result (entries.new.entries ≡ entries.old.entries) }
+    ensures err_counted { OnErr result (IsCounted entries.old entries.new) }
+{
+    entries.in_hand();
+    let value = cut_key(entries, key, held)?;
     let rest = len.minus(T::SafeLen::one());
     Ok((value, rest))
 }
@@ -186,17 +144,14 @@ pub fn cut_counted<T: Integer, V: Eq + Clone>(
 /// Takes a key out, and answers the value that was there and the new count of keys, where `len` is the old. Refused memory
 /// leaves the entries as they are.
 pub fn cut<T: Integer, V: Eq + Clone>(
-    entries: &mut Counted<T, V>,
+    entries: &mut Entries<T, V>,
     len: T::SafeLen,
     key: T,
 ) -> Result<(Option<V>, T::SafeLen), AllocError>
     requires clones { ClonesAreAlike V.is_clone V.eq }
     requires table { IsTable V.eq T.low T.high (T.SafeLen.number len) entries.old.entries }
-    ensures table { IfOk result
-        (λ r. IsTable V.eq T.low T.high (T.SafeLen.number r.1) entries.new.entries) }
-    ensures cut { OnOk result
-        (IsListCut V.eq (T.rank key) entries.old.entries entries.new.entries) }
-    ensures value { IfOk result (λ r. SameOption V.eq (at entries.old.entries (T.rank key)) r.0) }
+    ensures cut { IfOk result (λ r. IsKeyCut V.eq T.low T.high (T.SafeLen.number r.1)
+        (T.rank key) r.0 entries.old.entries entries.new.entries) }
     ensures none { at entries.old.entries (T.rank key) ≡ None
         → (result ≡ Ok (None, len)) × (entries.new.entries ≡ entries.old.entries) }
     ensures counted { OnOk result (IsCountedCut entries.old entries.new) }
@@ -205,15 +160,96 @@ pub fn cut<T: Integer, V: Eq + Clone>(
     ensures err_counted { OnErr result (IsCounted entries.old entries.new) }
 {
     entries.in_hand();
-    let found = entries.range_around(key, key)?;
+    let found = entries.holder(key)?;
     match found {
-        None => Ok((None, len)),
-        Some(ends) => {
-            if is_below(ends.1, key) {
-                return Ok((None, len));
-            }
-            let (value, rest) = cut_counted(entries, len, key, ends.0, ends.1, ends.2)?;
+        Some(held) => {
+            let (value, rest) = cut_held(entries, len, key, held)?;
             Ok((Some(value), rest))
         }
+        None => Ok((None, len)),
     }
+}
+
+/// Takes the first key out, and answers it with the value that was there and the new count of keys, where `len` is the old.
+/// Refused memory leaves the entries as they are.
+pub fn cut_first<T: Integer, V: Eq + Clone>(
+    entries: &mut Entries<T, V>,
+    len: T::SafeLen,
+) -> Result<(T, V, T::SafeLen), AllocError>
+    requires clones { ClonesAreAlike V.is_clone V.eq }
+    requires table { IsTable V.eq T.low T.high (T.SafeLen.number len) entries.old.entries }
+    requires first { IsSome (slice_get entries.old.entries 0) }
+    ensures cut { IfOk result (λ r. IsFirstKeyCut V.eq T.low T.high (T.SafeLen.number r.2)
+        (T.rank r.0) r.1 entries.old.entries entries.new.entries) }
+    ensures counted { OnOk result (IsCountedCut entries.old entries.new) }
+    ensures refused { OnErr result (IfSome (slice_get entries.old.entries 0)
+        (λ e. IsAmongOthers e.lo entries.old.entries)) }
+    ensures err { OnErr result (entries.new.entries ≡ entries.old.entries) }
+    ensures err_counted { OnErr result (IsCounted entries.old entries.new) }
+{
+    entries.in_hand();
+    let first = entries.first_held()?;
+    match first {
+        Some(held) => {
+            let key = held.0;
+            let (value, rest) = cut_held(entries, len, key, held)?;
+            Ok((key, value, rest))
+        }
+        None => unreachable!(),
+    }
+}
+
+/// Takes the last key out, and answers it with the value that was there and the new count of keys, where `len` is the old.
+/// Refused memory leaves the entries as they are.
+pub fn cut_last<T: Integer, V: Eq + Clone>(
+    entries: &mut Entries<T, V>,
+    len: T::SafeLen,
+) -> Result<(T, V, T::SafeLen), AllocError>
+    requires clones { ClonesAreAlike V.is_clone V.eq }
+    requires table { IsTable V.eq T.low T.high (T.SafeLen.number len) entries.old.entries }
+    requires last { IsSome (slice_get entries.old.entries (length entries.old.entries - 1)) }
+    ensures cut { IfOk result (λ r. IsLastKeyCut V.eq T.low T.high (T.SafeLen.number r.2)
+        (T.rank r.0) r.1 entries.old.entries entries.new.entries) }
+    ensures counted { OnOk result (IsCountedCut entries.old entries.new) }
+    ensures refused { OnErr result
+        (IfSome (slice_get entries.old.entries (length entries.old.entries - 1))
+        (λ e. IsAmongOthers e.hi entries.old.entries)) }
+    ensures err { OnErr result (entries.new.entries ≡ entries.old.entries) }
+    ensures err_counted { OnErr result (IsCounted entries.old entries.new) }
+{
+    entries.in_hand();
+    let last = entries.last_held()?;
+    match last {
+        Some(held) => {
+            let key = held.1;
+            let (value, rest) = cut_held(entries, len, key, held)?;
+            Ok((key, value, rest))
+        }
+        None => unreachable!(),
+    }
+}
+
+/// Takes the keys from lo up to hi out, and answers the new count of keys, where `len` is the old. Refused memory leaves the
+/// entries as they are.
+pub fn cut_range<T: Integer, V: Eq + Clone>(
+    entries: &mut Entries<T, V>,
+    len: T::SafeLen,
+    lo: T,
+    hi: T,
+) -> Result<T::SafeLen, AllocError>
+    requires order { T.rank lo ≤ℤ T.rank hi }
+    requires clones { ClonesAreAlike V.is_clone V.eq }
+    requires table { IsTable V.eq T.low T.high (T.SafeLen.number len) entries.old.entries }
+    ensures cut { IfOk result (λ rest. IsTableCut V.eq T.low T.high (T.SafeLen.number rest)
+        (T.rank lo) (T.rank hi) entries.old.entries entries.new.entries) }
+    ensures counted { OnOk result (IsCountedCut entries.old entries.new) }
+    ensures refused { OnErr result (GoesOnAbove (T.rank hi) entries.old.entries) }
+    ensures err { OnErr result (entries.new.entries ≡ entries.old.entries) }
+    ensures err_counted { OnErr result (IsCounted entries.old entries.new) }
+{
+    entries.in_hand();
+    let sought: Option<V> = None;
+    let (plan, outside, above) = entries.scan(len, lo, hi, sought.as_ref())?;
+    take_out(entries, lo, plan, above)?;
+    Ok(outside)
 }

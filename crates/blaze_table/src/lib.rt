@@ -3,10 +3,7 @@
 
 mod count;
 mod cut;
-mod cut_first;
-mod cut_hole;
-mod cut_last;
-mod cut_range;
+mod edit;
 mod entry_keys;
 mod equality;
 mod fill;

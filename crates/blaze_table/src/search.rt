@@ -55,8 +55,8 @@ pub fn entries_ending_from<T: Integer, V>(entries: &Entries<T, V>, key: T) -> Ra
     ensures { result ≡ ending_from (T.rank key) entries.now.entries }
 {
     match entry_holding(entries, key) {
-        Some(found) => entries.iter_from(found.0),
-        None => entries.iter_from(key),
+        Some(found) => entries.iter_starting_from(found.0),
+        None => entries.iter_starting_from(key),
     }
 }
 

@@ -52,7 +52,7 @@ fn split_across<T: Integer, V: Eq + Clone>(
             Ok(from)
         }
         Err(refused) => {
-            entries.remove(key);
+            entries.remove_uncounted(key);
             Err(refused)
         }
     }

@@ -22,10 +22,7 @@ ghost use Rattle.blaze_table.specs.Retain.{IsKeyRetained};
 mod fill;
 
 use crate::count::{count, count_list};
-use crate::cut::cut;
-use crate::cut_first::cut_first;
-use crate::cut_last::cut_last;
-use crate::cut_range::cut_range;
+use crate::cut::{cut, cut_first, cut_last, cut_range};
 use crate::gaps::gap_round;
 use crate::retain_keys::retain_keys;
 use crate::search::{
@@ -158,7 +155,7 @@ impl<T: Integer, V: Eq> RangeTable<T, V> {
     }
 
     /// The entries that end at a key or above it, ascending: first key, last key and value. It takes two searches.
-    pub fn iter_from(&self, key: T) -> Range<'_, T, V>
+    pub fn iter_ending_from(&self, key: T) -> Range<'_, T, V>
         ensures { result ≡ ending_from (T.rank key) self.now.entries }
     {
         entries_ending_from(&self.entries, key)
@@ -248,7 +245,7 @@ impl<T: Integer, V: Eq + Clone> RangeTable<T, V> {
         ensures err_counted { OnErr result (IsCounted self.old self.new) }
     {
         let old_len = self.len;
-        let new_len = paint(&mut self.entries.counted, old_len, lo, hi, value)?;
+        let new_len = paint(&mut self.entries, old_len, lo, hi, value)?;
         self.len = new_len;
         Ok(differ(new_len, old_len))
     }
@@ -269,7 +266,7 @@ impl<T: Integer, V: Eq + Clone> RangeTable<T, V> {
         ensures err_counted { OnErr result (IsCounted self.old self.new) }
     {
         let old_len = self.len;
-        let new_len = paint_by_splice(&mut self.entries.counted, old_len, lo, hi, value)?;
+        let new_len = paint_by_splice(&mut self.entries, old_len, lo, hi, value)?;
         self.len = new_len;
         Ok(differ(new_len, old_len))
     }
@@ -289,7 +286,7 @@ impl<T: Integer, V: Eq + Clone> RangeTable<T, V> {
         ensures err_counted { OnErr result (IsCounted self.old self.new) }
     {
         let old_len = self.len;
-        let (old, new_len) = insert(&mut self.entries.counted, old_len, key, value)?;
+        let (old, new_len) = insert(&mut self.entries, old_len, key, value)?;
         self.len = new_len;
         Ok(old)
     }
@@ -310,7 +307,7 @@ impl<T: Integer, V: Eq + Clone> RangeTable<T, V> {
         ensures err_counted { OnErr result (IsCounted self.old self.new) }
     {
         let old_len = self.len;
-        let (value, len) = cut(&mut self.entries.counted, old_len, key)?;
+        let (value, len) = cut(&mut self.entries, old_len, key)?;
         self.len = len;
         Ok(value)
     }
@@ -334,7 +331,7 @@ impl<T: Integer, V: Eq + Clone> RangeTable<T, V> {
             return Ok(None);
         }
         let old_len = self.len;
-        let (key, value, len) = cut_first(&mut self.entries.counted, old_len)?;
+        let (key, value, len) = cut_first(&mut self.entries, old_len)?;
         self.len = len;
         Ok(Some((key, value)))
     }
@@ -358,7 +355,7 @@ impl<T: Integer, V: Eq + Clone> RangeTable<T, V> {
             return Ok(None);
         }
         let old_len = self.len;
-        let (key, value, len) = cut_last(&mut self.entries.counted, old_len)?;
+        let (key, value, len) = cut_last(&mut self.entries, old_len)?;
         self.len = len;
         Ok(Some((key, value)))
     }
@@ -376,7 +373,7 @@ impl<T: Integer, V: Eq + Clone> RangeTable<T, V> {
         ensures err_counted { OnErr result (IsCounted self.old self.new) }
     {
         let old_len = self.len;
-        let len = cut_range(&mut self.entries.counted, old_len, lo, hi)?;
+        let len = cut_range(&mut self.entries, old_len, lo, hi)?;
         self.len = len;
         Ok(())
     }

@@ -22,7 +22,7 @@ impl<T: Integer, V: Eq + Clone> RangeMapBlaze<T, V> {
     {
         self.in_hand();
         let mut list = Vec::new(self.allocator());
-        for (first, last, value) in self.table.iter_from(start) {
+        for (first, last, value) in self.table.iter_ending_from(start) {
             if is_below(end, first) {
                 return Ok(list);
             }

@@ -20,7 +20,7 @@ use Rattle.range_map_multi.specs.ManyJoins.{IsJoinOfMany, IsCallableAtRows, IsMa
 use Rattle.range_map_multi.specs.Parts.{AllPlaced, AllRangeMaps, picked}
 use Rattle.range_map_multi.proofs.Many.{row_length}
 use Rattle.range_map_multi.proofs.Placed.{alike, with_row, next_alike}
-use Rattle.range_map_multi.proofs.RowSegments.{kept, AreSegments, AllKeys, next_is, none_is, segments_exist, rows_equiv, asked_segments}
+use Rattle.range_map_multi.proofs.RowSegments.{entries_where, AreSegments, AllKeys, next_is, none_is, segments_exist, rows_equiv, asked_segments}
 
 module _ {V : Type 0} (eq : V → V → Bool) (laws : IsEquivalence eq) (low high : ℤ) where
   all_canonical : (Ls : List (List (Entry V))) → AllRangeMaps eq low high Ls → AllCanonical eq Ls
@@ -42,7 +42,7 @@ module _ {F X W V : Type 0} (shows : X → List (Option V)) (g : Mut F X W) (eqv
       pub canonical : AllCanonical eqv left
       pub next : List (Entry (List (Option V)))
       pub nexts : AreSegments left next
-      pub so_far : IsAnsweredSoFar shows g (row_eq eqv) eq low high f all (kept asks next) f' out
+      pub so_far : IsAnsweredSoFar shows g (row_eq eqv) eq low high f all (entries_where asks next) f' out
 
     pub asked_none : (laws : IsEquivalence eqv) (Ns : List (List (Entry ℕ))) → AllPlaced vss Ns lists → AllRangeMaps eqv low high lists
         → ((k : ℤ) → asks (row lists k) ≡ true → list_any is_some (row lists k) ≡ true) → IsAskedSoFar Ns f []
@@ -51,14 +51,14 @@ module _ {F X W V : Type 0} (shows : X → List (Option V)) (g : Mut F X W) (eqv
         let s = segments_exist eqv (suc (all_lengths_left lists)) lists c (omega arith) in
         let are = asked_segments eqv laws low high asks lists s.0 c (all_keys eqv laws low high lists m) s.1 h in
         record {
-          all = kept asks s.0;
+          all = entries_where asks s.0;
           are = are;
           left = lists;
           placed = p;
           canonical = c;
           next = s.0;
           nexts = s.1;
-          so_far = answered_none shows g (row_eq eqv) eq low high f (kept asks s.0) (rows_equiv eqv laws) are.range_map;
+          so_far = answered_none shows g (row_eq eqv) eq low high f (entries_where asks s.0) (rows_equiv eqv laws) are.range_map;
         }
 
     -- with no segment left, all are answered
@@ -68,7 +68,7 @@ module _ {F X W V : Type 0} (shows : X → List (Option V)) (g : Mut F X W) (eqv
         record {
           segments = h.all;
           are_segments = h.are;
-          answered = answered_all shows g (row_eq eqv) eq low high f h.all laws (kept asks h.next) f' out h.so_far (ap (kept asks) none);
+          answered = answered_all shows g (row_eq eqv) eq low high f h.all laws (entries_where asks h.next) f' out h.so_far (ap (entries_where asks) none);
         }
 
     module _ (Ns Ns' : List (List (Entry ℕ))) (f' : F) (out : List (Entry W)) (p : Entry (List (Option ℕ))) (h : IsAskedSoFar Ns f' out) (n : IsNextSegment Ns p Ns') where
@@ -81,11 +81,11 @@ module _ {F X W V : Type 0} (shows : X → List (Option V)) (g : Mut F X W) (eqv
       others : (rest : List (Entry (List (Option V)))) × ((h.next ≡ with_row vss p ∷ rest) × AreSegments (all_after p.hi h.left) rest)
       others = next_is h.left (with_row vss p) h.next h.nexts next_left
 
-      here : asks (picked vss p.value) ≡ true → kept asks h.next ≡ with_row vss p ∷ kept asks others.0
-      here t = ap (kept asks) others.1.0 ∙ ap (λ b. cond b (with_row vss p ∷ kept asks others.0) (kept asks others.0)) t
+      here : asks (picked vss p.value) ≡ true → entries_where asks h.next ≡ with_row vss p ∷ entries_where asks others.0
+      here t = ap (entries_where asks) others.1.0 ∙ ap (λ b. cond b (with_row vss p ∷ entries_where asks others.0) (entries_where asks others.0)) t
 
-      not_here : asks (picked vss p.value) ≡ false → kept asks h.next ≡ kept asks others.0
-      not_here t = ap (kept asks) others.1.0 ∙ ap (λ b. cond b (with_row vss p ∷ kept asks others.0) (kept asks others.0)) t
+      not_here : asks (picked vss p.value) ≡ false → entries_where asks h.next ≡ entries_where asks others.0
+      not_here t = ap (entries_where asks) others.1.0 ∙ ap (λ b. cond b (with_row vss p ∷ entries_where asks others.0) (entries_where asks others.0)) t
 
       -- as many places as lists of values
       pub asked_count : length p.value ≡ length vss
@@ -104,7 +104,7 @@ module _ {F X W V : Type 0} (shows : X → List (Option V)) (g : Mut F X W) (eqv
 
       -- the closure may be called at the row of the segment
       pub asked_takes : IsCallableAtRows shows g eqv low high asks f lists → asks (picked vss p.value) ≡ true → TakesValue shows g f' (picked vss p.value)
-      asked_takes may t = takes_next shows g (row_eq eqv) eq low high f h.all (may.at h.all h.are) (kept asks h.next) (kept asks others.0) (with_row vss p) f' out h.so_far (here t)
+      asked_takes may t = takes_next shows g (row_eq eqv) eq low high f h.all (may.at h.all h.are) (entries_where asks h.next) (entries_where asks others.0) (with_row vss p) f' out h.so_far (here t)
 
       -- one answer more
       pub asked_more : (laws : IsEquivalence eq) (f'' : F) (new : List (Entry W)) (w : W) → asks (picked vss p.value) ≡ true → AnswersAt shows g f' (picked vss p.value) w f'' → new ≡ glue eq out (entry p.lo p.hi w ∷ []) → IsAskedSoFar Ns' f'' new
@@ -116,7 +116,7 @@ module _ {F X W V : Type 0} (shows : X → List (Option V)) (g : Mut F X W) (eqv
         canonical = all_canonical_after eqv p.hi h.left h.canonical;
         next = others.0;
         nexts = others.1.1;
-        so_far = answered_more shows g (row_eq eqv) eq low high f h.all laws (kept asks h.next) (kept asks others.0) (with_row vss p) f' f'' out new w p.lo p.hi h.so_far (here t) answer refl refl put;
+        so_far = answered_more shows g (row_eq eqv) eq low high f h.all laws (entries_where asks h.next) (entries_where asks others.0) (with_row vss p) f' f'' out new w p.lo p.hi h.so_far (here t) answer refl refl put;
       }
 
       -- a segment that the closure is not asked for

@@ -32,51 +32,51 @@ none_some (Some y) x p q = cc
 -- ---- entries whose values a test keeps
 
 module _ {V : Type 0} (q : V → Bool) where
-  abbrev pub kept : List (Entry V) → List (Entry V)
-  kept [] = []
-  kept (e ∷ es) = cond (q e.value) (e ∷ kept es) (kept es)
+  abbrev pub entries_where : List (Entry V) → List (Entry V)
+  entries_where [] = []
+  entries_where (e ∷ es) = cond (q e.value) (e ∷ entries_where es) (entries_where es)
 
   -- a value that the test keeps
   abbrev pub keeps : Option V → Option V
   keeps None = None
   keeps (Some v) = cond (q v) (Some v) None
 
-  by_kept : (P : List (Entry V) → Type 0) (e : Entry V) (es : List (Entry V)) → P (e ∷ kept es) → P (kept es) → P (kept (e ∷ es))
+  by_kept : (P : List (Entry V) → Type 0) (e : Entry V) (es : List (Entry V)) → P (e ∷ entries_where es) → P (entries_where es) → P (entries_where (e ∷ es))
   by_kept P e es x y = either (q e.value)
     where
-      either : (b : Bool) → P (cond b (e ∷ kept es) (kept es))
+      either : (b : Bool) → P (cond b (e ∷ entries_where es) (entries_where es))
       either true = x
       either false = y
 
-  keys_kept : (low high : ℤ) (es : List (Entry V)) → AreKeys low high es → AreKeys low high (kept es)
+  keys_kept : (low high : ℤ) (es : List (Entry V)) → AreKeys low high es → AreKeys low high (entries_where es)
   keys_kept low high [] k = tt
   keys_kept low high (e ∷ es) k = by_kept (AreKeys low high) e es (k.0, k.1, keys_kept low high es k.2) (keys_kept low high es k.2)
 
   module _ (eq : V → V → Bool) where
-    far_kept : (e : Entry V) (b : ℤ) (es : List (Entry V)) → e.hi <ℤ b → IsAbove b es → IsCanonical eq es → IsApart eq e (kept es)
+    far_kept : (e : Entry V) (b : ℤ) (es : List (Entry V)) → e.hi <ℤ b → IsAbove b es → IsCanonical eq es → IsApart eq e (entries_where es)
     far_kept e b [] l a c = tt
     far_kept e b (f ∷ fs) l a c = by_kept (IsApart eq e) f fs
         (omega (arith, ints, l, a), λ p. absurd (omega (arith, ints, l, a, p)))
         (far_kept e f.hi fs (omega (arith, ints, l, a, c.0)) (IsAbove-from_apart eq f fs c.1) c.2)
 
-    apart_kept : (e : Entry V) (es : List (Entry V)) → IsCanonical eq (e ∷ es) → IsApart eq e (kept es)
+    apart_kept : (e : Entry V) (es : List (Entry V)) → IsCanonical eq (e ∷ es) → IsApart eq e (entries_where es)
     apart_kept e [] c = tt
     apart_kept e (f ∷ fs) c = by_kept (IsApart eq e) f fs c.1 (far_kept e f.hi fs (omega (arith, ints, c.1.0, c.2.0)) (IsAbove-from_apart eq f fs c.2.1) c.2.2)
 
-    canonical_kept : (es : List (Entry V)) → IsCanonical eq es → IsCanonical eq (kept es)
+    canonical_kept : (es : List (Entry V)) → IsCanonical eq es → IsCanonical eq (entries_where es)
     canonical_kept [] c = tt
     canonical_kept (e ∷ es) c = by_kept (IsCanonical eq) e es (c.0, apart_kept e es c, canonical_kept es c.2) (canonical_kept es c.2)
 
-    at_kept : (es : List (Entry V)) (k : ℤ) → IsCanonical eq es → at (kept es) k ≡ keeps (at es k)
+    at_kept : (es : List (Entry V)) (k : ℤ) → IsCanonical eq es → at (entries_where es) k ≡ keeps (at es k)
     at_kept [] k c = refl
     at_kept (e ∷ es) k c = by_bool (q e.value)
-        (λ t. ap (λ b. at (cond b (e ∷ kept es) (kept es)) k) t ∙ either (holds e k) t (at_kept es k c.2))
-        (λ f. ap (λ b. at (cond b (e ∷ kept es) (kept es)) k) f ∙ by_place e k
+        (λ t. ap (λ b. at (cond b (e ∷ entries_where es) (entries_where es)) k) t ∙ either (holds e k) t (at_kept es k c.2))
+        (λ f. ap (λ b. at (cond b (e ∷ entries_where es) (entries_where es)) k) f ∙ by_place e k
         (λ l h. at_kept es k c.2 ∙ ap keeps (at_before eq es e.hi k c.2 (IsAbove-from_apart eq e es c.1) h) ∙ sym (ap (λ b. cond b (Some e.value) None) f) ∙ ap keeps (sym (at_in e es k l h)))
         (λ l. at_kept es k c.2 ∙ ap keeps (sym (at_under e es k l)))
         (λ h. at_kept es k c.2 ∙ ap keeps (sym (at_over e es k h))))
       where
-        either : (b : Bool) → q e.value ≡ true → at (kept es) k ≡ keeps (at es k) → cond b (Some e.value) (at (kept es) k) ≡ keeps (cond b (Some e.value) (at es k))
+        either : (b : Bool) → q e.value ≡ true → at (entries_where es) k ≡ keeps (at es k) → cond b (Some e.value) (at (entries_where es) k) ≡ keeps (cond b (Some e.value) (at es k))
         either true t p = sym (ap (λ b. cond b (Some e.value) None) t)
         either false t p = p
 
@@ -181,13 +181,13 @@ module _ {A : Type 0} where
 
       -- a join that is asked for no row in which nothing is there is asked for those of the segments that it keeps
       pub asked_segments : (low high : ℤ) (asks : List (Option A) → Bool) (lists : List (List (Entry A))) (ps : List (Entry (List (Option A)))) → AllCanonical eq lists → AllKeys low high lists → AreSegments lists ps
-          → ((k : ℤ) → asks (row lists k) ≡ true → list_any is_some (row lists k) ≡ true) → IsJoinOfMany eq low high asks lists (kept asks ps)
+          → ((k : ℤ) → asks (row lists k) ≡ true → list_any is_some (row lists k) ≡ true) → IsJoinOfMany eq low high asks lists (entries_where asks ps)
       asked_segments low high asks lists ps c k a h =
           let r = found_through lists lists [] ps (found_none eq lists c) a in
           let f : IsFound eq lists ps r.0 = r.1.0 in
           record {
             range_map = record {
-              runs = one_per_run (row_eq eq) rows_equiv (kept asks ps) (canonical_kept asks (row_eq eq) ps f.canonical);
+              runs = one_per_run (row_eq eq) rows_equiv (entries_where asks ps) (canonical_kept asks (row_eq eq) ps f.canonical);
               keys = keys_kept asks low high ps (keys_segments low high lists ps c k a);
             };
             content = λ j l m. at_kept asks (row_eq eq) ps j f.canonical

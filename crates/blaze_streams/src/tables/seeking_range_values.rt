@@ -41,7 +41,7 @@ impl<'a, T: Integer, V: Eq> SeekingRangeValuesIter<'a, T, V> {
     {
         table.in_hand();
         SeekingRangeValuesIter {
-            entries: table.iter_from(T::min_value()),
+            entries: table.iter_ending_from(T::min_value()),
             table,
         }
     }
@@ -82,7 +82,7 @@ impl<'a, T: Integer, V: Eq + Clone> SortedDisjointMap<T, &'a V>
         let table = self.table;
         table.in_hand();
         if let Some(found) = self.entries.next() {
-            self.entries = table.iter_from(greater(found.0, key));
+            self.entries = table.iter_ending_from(greater(found.0, key));
         }
     }
 

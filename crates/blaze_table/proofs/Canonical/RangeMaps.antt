@@ -1,5 +1,5 @@
 -- From what a table keeps to what its public clauses say.
-use Rattle.std.proofs.Common.{◌≡◌, ℕ, ℤ, pos, ◌+ℤ◌, ◌-ℤ◌, ◌≤ℤ◌, Bool, List, [], ◌∷◌, arith}
+use Rattle.std.proofs.Common.{◌≡◌, ℕ, ℤ, pos, ◌+ℤ◌, ◌-ℤ◌, ◌≤ℤ◌, Bool, List, [], ◌∷◌, Option, arith}
 use Rattle.std.proofs.lemmas.Int.{ints}
 use Rattle.std.specs.Cmp.{IsEquivalence}
 use Rattle.blaze_entries.specs.Starts.{StartsAscend}
@@ -7,7 +7,7 @@ use Rattle.blaze_table.specs.Entries.{Entry}
 use Rattle.blaze_table.specs.Canonical.{IsCanonical, AreKeys, IsRangeMap}
 use Rattle.blaze_table.specs.Painted.{IsInside, IsPainted}
 use Rattle.blaze_table.specs.Cut.{IsCut, IsSplit}
-use Rattle.blaze_table.specs.Splice.{IsListPainted, IsListCut, IsListSplit}
+use Rattle.blaze_table.specs.Splice.{IsTablePainted, IsKeyCut, IsListSplit}
 use Rattle.blaze_table.specs.Table.{IsTable}
 use Rattle.blaze_table.proofs.Canonical.Lookup.{IsAbove, IsAbove-from_apart, above_by}
 use Rattle.blaze_table.proofs.Canonical.Runs.{one_per_run}
@@ -17,11 +17,11 @@ module _ {V : Type 0} (eq : V → V → Bool) (laws : IsEquivalence eq) (low hig
   pub range_map : (es : List (Entry V)) → IsTable eq low high n es → IsRangeMap eq low high es
   range_map es t = record { runs = one_per_run eq laws es t.canonical; keys = t.are_keys }
 
-  pub painted_map : (p : Entry V) (old new : List (Entry V)) → p.lo ≤ℤ p.hi → IsTable eq low high n new → IsListPainted eq p old new → (IsInside eq p.lo p.hi p.value old → new ≡ old) → IsPainted eq low high p old new
-  painted_map p old new w t d inside = record { range_map = range_map new t; content = d.content; few = d.few; alone = d.alone; kept = kept_alone eq p old new w d.kept inside }
+  pub painted_map : (p : Entry V) (old new : List (Entry V)) → p.lo ≤ℤ p.hi → IsTablePainted eq low high n p old new → (IsInside eq p.lo p.hi p.value old → new ≡ old) → IsPainted eq low high p old new
+  painted_map p old new w t inside = let d = t.painted in record { range_map = range_map new t.table; content = d.content; few = d.few; alone = d.alone; kept = kept_alone eq p old new w d.kept inside }
 
-  pub cut_map : (k : ℤ) (old new : List (Entry V)) → IsTable eq low high n new → IsListCut eq k old new → IsCut eq low high k old new
-  cut_map k old new t d = record { range_map = range_map new t; content = d.content }
+  pub cut_map : (k : ℤ) (value : Option V) (old new : List (Entry V)) → IsKeyCut eq low high n k value old new → IsCut eq low high k old new
+  cut_map k value old new c = record { range_map = range_map new c.table; content = c.content }
 
 module _ {V : Type 0} (eq : V → V → Bool) (laws : IsEquivalence eq) (low high : ℤ) where
   pub split_maps : (m n : ℕ) (k : ℤ) (old below from : List (Entry V)) → IsTable eq low high m below → IsTable eq low high n from → IsListSplit eq k old below from → IsSplit eq low high k old below from

@@ -1,219 +1,217 @@
--- Edits at the last entry that starts up to a key, as the list without a range of keys that ends there.
-use Rattle.std.proofs.Common.{◌≡◌, Bool, ℤ, pos, ◌+ℤ◌, ◌-ℤ◌, ◌≤ℤ◌, ◌<ℤ◌, true, List, [], ◌∷◌, ◌++◌, Option, Some, None, Result, Ok, Err, OnErr, refl, ◌∙◌, sym, subst, ap, arith}
+-- A key taken out of the entry that has it: what the edit has to know of that entry, and what it answers.
+use Rattle.std.proofs.Common.{◌≡◌, Bool, ℤ, pos, ◌+ℤ◌, ◌≤ℤ◌, ◌<ℤ◌, true, false, cond, List, [], ◌∷◌, ◌++◌, Option, Some, None, Result, Ok, Err, OnErr, refl, ◌∙◌, sym, subst, ap, arith}
 use Rattle.std.specs.Cmp.{IsEquivalence}
-use Rattle.std.specs.Prelude.{IfSome, IsSomeAnd}
+use Rattle.std.specs.List.{last_or}
 use Rattle.std.specs.Option.{option_map}
-use Rattle.std.proofs.lemmas.Int.{ints}
-use Rattle.blaze_entries.specs.Cloned.{IsAround}
-use Rattle.blaze_entries.specs.Found.{range_in}
-use Rattle.blaze_entries.specs.Starts.{StartsAscend, last_below, start_at, with_entry, without, with_end, IsStartMoved}
-use Rattle.blaze_entries.proofs.Halves.{more_below}
-use Rattle.blaze_entries.proofs.Alike.{same_along, none_from_map}
-use Rattle.blaze_table.specs.Entries.{Entry, entry, at, entry_at, SameOption}
+use Rattle.std.specs.Prelude.{IfSome, IsSome, IsSomeAnd, int_lt}
+use Rattle.std.proofs.lemmas.Int.{ints, by_lt_z}
+use Rattle.std.proofs.lemmas.List.{append-nil}
+use Rattle.std.proofs.lemmas.List.Elements.{filter-append}
+use Rattle.blaze_int.proofs.Comparisons.{lt_true, lt_false, lt_holds}
+use Rattle.blaze_entries.specs.Found.{range_in, ranks_of}
+use Rattle.blaze_entries.specs.Starts.{StartsAscend, below, last_below, reaching, holder_of, start_at, without}
+use Rattle.blaze_entries.specs.declared.scan.Plan.{Plan}
+use Rattle.blaze_entries.proofs.Alike.{same_along}
+use Rattle.blaze_entries.proofs.Halves.{below_takes, below_skips, below_all, below_none, more_below}
 use Rattle.blaze_table.specs.Canonical.{IsCanonical}
-use Rattle.blaze_table.specs.Cut.{IsAmongOthers, GoesOnAbove}
-use Rattle.blaze_table.specs.LastBelow.{IsAroundLike}
+use Rattle.blaze_table.specs.Cut.{IsAmongOthers}
+use Rattle.blaze_table.specs.Edited.{IsLeft, IsPlace}
+use Rattle.blaze_table.specs.Entries.{Entry, at, entry_at, SameOption}
 use Rattle.blaze_table.specs.Painted.{ClonesAreAlike}
-use Rattle.blaze_table.specs.Splice.{IsBelow, IsCutOf, IsRangeCutOf, overlap, covered}
-use Rattle.blaze_table.proofs.Cuts.Cutting.{cut_whole, cut_end, cut_start, cut_inside, at_cut, covered_past}
-use Rattle.blaze_table.proofs.Neighbours.Holders.{Holder, there, is_holder, taken_out, taken_from, put_inside, end_moved, for_last, holder, with_entry-between}
-use Rattle.blaze_table.proofs.Canonical.Lookup.{IsAbove, at_over, at_before, entry_in, entry_over}
-use Rattle.blaze_table.proofs.Paints.Splices.{below_more}
+use Rattle.blaze_table.specs.Planned.{ends_of, IsLikeAbove, IsRest}
+use Rattle.blaze_table.specs.Splice.{before, IsBelow, IsCutOf, covered}
 use Rattle.blaze_table.proofs.Canonical.Counted.{overlap_whole}
-use Rattle.blaze_table.proofs.Cuts.Splits.{no_last_from}
+use Rattle.blaze_table.proofs.Canonical.Lookup.{IsAbove, at_over, at_before, entry_in, entry_over}
+use Rattle.blaze_table.proofs.Cuts.Cutting.{cut_whole, at_cut, covered_past}
+use Rattle.blaze_table.proofs.Cuts.Splits.{LastAt, last_at, no_last_from, parted, rest_canonical, ends_below, after_short, after_long, none_next}
+use Rattle.blaze_table.proofs.Neighbours.Growing.{last_there}
+use Rattle.blaze_table.proofs.Neighbours.Holders.{without-between}
+use Rattle.blaze_table.proofs.Paints.Painted.{before_past}
+use Rattle.blaze_table.proofs.Paints.Splices.{below_more}
 
 pub on_err : {A E P : Type 0} (r : Result A E) → P → OnErr r P
 on_err (Ok x) p = tt
 on_err (Err e) p = p
 
-module _ {V : Type 0} where
-  -- the entry at a key behind others
-  entry_past : (k : ℤ) (xs : List (Entry V)) → IsBelow k xs → (e : Entry V) (ys : List (Entry V)) → e.lo ≤ℤ k → k ≤ℤ e.hi → entry_at (xs ++ e ∷ ys) k ≡ Some e
-  entry_past k [] b e ys l h = entry_in e ys k l h
-  entry_past k (x ∷ xs) b e ys l h = entry_over x (xs ++ e ∷ ys) k b.0 ∙ entry_past k xs b.1 e ys l h
+pub some_and : {A : Type 0} {P Q : A → Type 0} (o : Option A) → ((x : A) → P x → Q x) → IsSomeAnd o P → IsSomeAnd o Q
+some_and None f i = i
+some_and (Some x) f i = f x i
 
+-- a plan that has a rest is of an entry that goes on above the key
+pub rest_over : {A : Type 0} (f : A → ℤ × ℤ) (r : Option A) (k : ℤ) (x : ℤ × ℤ) → option_map f r ≡ cond (int_lt k x.1) (Some x) None → IsSome r → k <ℤ x.1
+rest_over {A} f r k x p i = lt_holds k x.1 (by_test (int_lt k x.1) r p i)
+  where
+    by_test : (b : Bool) (r : Option A) → option_map f r ≡ cond b (Some x) None → IsSome r → b ≡ true
+    by_test true r p i = refl
+    by_test false (Some a) p i = cc
+    by_test false None p i = cc
+
+module _ {V : Type 0} where
+  -- what a key has behind entries that end below it
   at_past : (k : ℤ) (xs ys : List (Entry V)) → IsBelow k xs → at (xs ++ ys) k ≡ at ys k
   at_past k [] ys b = refl
   at_past k (x ∷ xs) ys b = at_over x (xs ++ ys) k b.0 ∙ at_past k xs ys b.1
+
+  entry_past : (k : ℤ) (xs ys : List (Entry V)) → IsBelow k xs → entry_at (xs ++ ys) k ≡ entry_at ys k
+  entry_past k [] ys b = refl
+  entry_past k (x ∷ xs) ys b = entry_over x (xs ++ ys) k b.0 ∙ entry_past k xs ys b.1
 
   pub above_from : (k j high : ℤ) (es : List (Entry V)) → j <ℤ k → StartsAscend k high es → IsAbove j es
   above_from k j high [] l a = tt
   above_from k j high (e ∷ es) l a = omega (arith, ints, a.0)
 
-module _ {V : Type 0} (eq : V → V → Bool) (laws : IsEquivalence eq) (k high : ℤ) (es : List (Entry V)) (s z : ℤ) (h : Holder eq (k +ℤ pos 1) high es s z) where
-  abbrev b : ℤ
-  b = k +ℤ pos 1
+  last_of : (o : Option (Entry V)) (xs : List (Entry V)) (e : Entry V) → last_or o (xs ++ e ∷ []) ≡ Some e
+  last_of o [] e = refl
+  last_of o (x ∷ xs) e = last_of (Some x) xs e
 
-  abbrev e : Entry V
-  e = h.of
+  last_ended : (P : Entry V → Type 0) (k : ℤ) → ((e : Entry V) → e.hi <ℤ k → P e) → (o : Option (Entry V)) (xs : List (Entry V)) → IfSome o P → IsBelow k xs → IfSome (last_or o xs) P
+  last_ended P k f o [] i b = i
+  last_ended P k f o (x ∷ xs) i b = last_ended P k f (Some x) xs (f x b.0) b.1
 
-  pub up_to : e.lo ≤ℤ k
-  up_to = let u = h.starts in omega (arith, ints)
+-- the last entry that starts below b has the keys up to its end
+pub entry_held : {V : Type 0} (eq : V → V → Bool) (b high : ℤ) (e : Entry V) (es : List (Entry V)) → LastAt b high e es → IsCanonical eq es → (j : ℤ) → e.lo ≤ℤ j → j ≤ℤ e.hi → entry_at es j ≡ Some e
+entry_held eq b high e es i c j l u =
+    ap (λ xs. entry_at xs j) i.parts
+    ∙ entry_past j i.front (e ∷ i.back) (below_more e.lo j i.front l (ends_below eq i.front e i.back (subst (IsCanonical eq) i.parts c))) ∙ entry_in e i.back j l u
 
-  pub under : (l : ℤ) → s ≤ℤ l → IsBelow l h.front
-  under l u = let q = h.lo in below_more e.lo l h.front (omega (arith, ints)) h.front_ends
+module _ {V : Type 0} (eq : V → V → Bool) (laws : IsEquivalence eq) (k low high : ℤ) (es : List (Entry V)) (s : StartsAscend low high es) (c : IsCanonical eq es) where
+  -- the entry that has the key, and what is said of it
+  pub record HasKey (P : Entry V → Type 0) : Type 0 where
+    pub of : Entry V
+    pub last : LastAt (k +ℤ pos 1) high of es
+    pub up : k ≤ℤ of.hi
+    pub holds : P of
 
-  pub over : IsAbove k h.back
-  over = above_from b k high h.back (omega (arith, ints)) h.back_starts
-
-  parted : (l : ℤ) (new made : List (Entry V)) → new ≡ made → IsRangeCutOf eq l k (h.front ++ e ∷ h.back) made → IsRangeCutOf eq l k es new
-  parted l new made q r = subst (λ x. IsRangeCutOf eq l k es x) (sym q) (subst (λ x. IsRangeCutOf eq l k x made) (sym h.parts) r)
-
-  -- what is at the key
-  pub at_held : k ≤ℤ z → at es k ≡ Some e.value
-  at_held u = let l = h.lo in let r = h.hi in ap (λ l. at l k) h.parts ∙ at_cut eq k h.front (under k (omega (arith, ints))) e h.back up_to (omega (arith, ints))
-
-  pub value_held : (v : V) → k ≤ℤ z → eq e.value v ≡ true → SameOption eq (at es k) (Some v)
-  value_held v u q = same_along eq (sym (at_held u)) refl q
-
-  -- a clone of the entry's value is equal to it
-  pub like_holder : (is_clone : V → V → Type 0) → ClonesAreAlike is_clone eq → (v : V) → IfSome (start_at s es) (λ f. is_clone f.value v) → eq e.value v ≡ true
-  like_holder is_clone alike v i = alike e.value v (subst (λ o. IfSome o (λ f. is_clone f.value v)) (there eq b high es s z h) i)
-
-  pub value_cloned : (is_clone : V → V → Type 0) → ClonesAreAlike is_clone eq → (v : V) → k ≤ℤ z → IfSome (start_at s es) (λ f. is_clone f.value v) → SameOption eq (at es k) (Some v)
-  value_cloned is_clone alike v u q = value_held v u (like_holder is_clone alike v q)
-
-  pub value_removed : (v : V) → k ≤ℤ z → option_map (λ f. f.value) (start_at s es) ≡ Some v → SameOption eq (at es k) (Some v)
-  value_removed v u q = same_along eq (sym (at_held u ∙ sym (ap (option_map (λ f. f.value)) (there eq b high es s z h)) ∙ q)) refl (laws.refl v)
-
-  pub nothing_held : (j : ℤ) → z <ℤ j → j ≤ℤ k → at es j ≡ None
-  nothing_held j u w =
-      let l = h.lo in
-      let r = h.hi in
-      let c = h.here.0 in
-      ap (λ l. at l j) h.parts ∙ at_past j h.front (e ∷ h.back) (under j (omega (arith, ints))) ∙ at_over e h.back j (omega (arith, ints))
-      ∙ at_before eq h.back k j h.here.2 over w
-
-  -- no value is asked to be equal to that of an entry that ends at the key
-  pub around_none : (l : ℤ) (o : Option V) → z ≤ℤ k → IsAroundLike eq l k es o
-  around_none l o u =
-      let t = h.hi in
-      for_last eq b high es s z h (λ x. IsAround l k x → IsSomeAnd o (λ v. eq x.value v ≡ true)) (λ a. let over = a.1 in absurd (omega (arith, ints)))
-
-  pub something_held : k ≤ℤ z → at es k ≡ None → ⊥
-  something_held u n = some_none e.value (at es k) (at_held u) n
+  pub has_key : (P : Entry V → Type 0) → IsSomeAnd (holder_of k es) P → HasKey P
+  has_key P i = by_last (last_below (k +ℤ pos 1) es) refl i
     where
-      some_none : (v : V) (o : Option V) → o ≡ Some v → o ≡ None → ⊥
-      some_none v o p q = cc
+      by_last : (o : Option (Entry V)) → last_below (k +ℤ pos 1) es ≡ o → IsSomeAnd (reaching k o) P → HasKey P
+      by_last None q i = absurd i
+      by_last (Some e) q i = by_lt_z e.hi k
+          (λ u. absurd (subst (λ b. IsSomeAnd (cond b None (Some e)) P) (lt_true e.hi k u) i))
+          (λ u. record { of = e; last = last_at (k +ℤ pos 1) low high e es s q; up = u; holds = subst (λ b. IsSomeAnd (cond b None (Some e)) P) (lt_false e.hi k u) i })
 
-  held : k ≤ℤ z → entry_at es k ≡ Some e
-  held w = let l = h.lo in let r = h.hi in ap (λ l. entry_at l k) h.parts ∙ entry_past k h.front (under k (omega (arith, ints))) e h.back up_to (omega (arith, ints))
+  module _ (e : Entry V) (i : LastAt (k +ℤ pos 1) high e es) where
+    starts : e.lo ≤ℤ k
+    starts = omega (arith, ints, i.starts)
 
-  pub among_others : s <ℤ z → k ≤ℤ z → IsAmongOthers k es
-  among_others u w = let l = h.lo in let r = h.hi in record { entry = e; here = held w; long = omega (arith, ints) }
+    under : IsBelow k i.front
+    under = below_more e.lo k i.front starts (ends_below eq i.front e i.back (parted eq k high e es i c))
 
-  pub goes_on_above : k <ℤ z → GoesOnAbove k es
-  goes_on_above u = let r = h.hi in record { entry = e; here = held (omega (arith, ints)); above = omega (arith, ints) }
+    over : IsAbove k i.back
+    over = above_from (k +ℤ pos 1) k high i.back (omega (arith, ints)) i.back_from
 
-  -- of the keys from l up to k only those of the entry are covered
-  pub covered_held : IsCanonical eq es → (l : ℤ) → s ≤ℤ l → l ≤ℤ k → covered l k es ≡ overlap l k e
-  covered_held c l u w = ap (covered l k) h.parts ∙ covered_past eq l k w h.front (under l u) e h.back (subst (IsCanonical eq) h.parts c) over
+    ended : e.hi <ℤ k → at es k ≡ None
+    ended u = ap (λ l. at l k) i.parts ∙ at_past k i.front (e ∷ i.back) under ∙ at_over e i.back k u ∙ at_before eq i.back k k (rest_canonical eq k high e es i c).2 over (omega (arith, ints))
 
-  pub one_covered : IsCanonical eq es → k ≤ℤ z → covered k k es ≡ pos 1
-  one_covered c w = let l = h.lo in let r = h.hi in let u = up_to in omega (arith, ints, covered_held c k (omega (arith, ints)) (omega (arith, ints)), overlap_whole k k e u (omega (arith, ints)) (omega (arith, ints)))
+    below_parts : below k es ≡ i.front ++ below k (e ∷ i.back)
+    below_parts = ap (below k) i.parts ∙ filter-append (λ x. int_lt x.lo k) i.front (e ∷ i.back)
+        ∙ ap (λ l. l ++ below k (e ∷ i.back)) (below_all k i.front (more_below e.lo k i.front starts i.front_below))
 
-  -- the edits, of the keys from l up to k
-  pub end_cut : (l : ℤ) → l ≤ℤ k → l ≤ℤ z → z ≤ℤ k → (y : ℤ) (new : List (Entry V)) → s <ℤ l → y ≡ l -ℤ pos 1 → new ≡ with_end s y es → IsRangeCutOf eq l k es new
-  end_cut l m v w y new u q n =
-      let f = h.lo in
-      let r = h.hi in
-      let new_is : new ≡ h.front ++ entry e.lo (l -ℤ pos 1) e.value ∷ h.back = n ∙ ap (with_end s y) h.parts ∙ end_moved eq b high es s z h y h.back ∙ ap (λ x. h.front ++ entry e.lo x e.value ∷ h.back) q in
-      parted l new (h.front ++ entry e.lo (l -ℤ pos 1) e.value ∷ h.back) new_is (cut_end eq laws l k m h.front (under l (omega (arith, ints))) e h.back h.here.2 over (omega (arith, ints)) (omega (arith, ints)) (omega (arith, ints)))
+    none_behind : below k i.back ≡ []
+    none_behind = below_none k (k +ℤ pos 1) high i.back (omega (arith, ints)) i.back_from
 
-  pub start_cut : (is_clone : V → V → Type 0) → ClonesAreAlike is_clone eq → (n : ℤ) (v : V) (new : List (Entry V)) → s ≡ k → k <ℤ z → n ≡ k +ℤ pos 1
-      → IfSome (start_at s es) (λ f. is_clone f.value v) → new ≡ without s (with_entry (entry n z v) es) → IsCutOf eq k es new
-  start_cut is_clone alike n v new u w q i m =
-      let l = h.lo in
-      let r = h.hi in
-      let p = entry n z v in
-      let new_is : new ≡ h.front ++ entry (k +ℤ pos 1) e.hi v ∷ h.back =
-      m ∙ ap (without s) (put_inside eq b high es s z h n (omega (arith, ints)) (omega (arith, ints)) p refl)
-      ∙ taken_from eq b high es s z h (p ∷ h.back)
-      ∙ ap (λ x. h.front ++ entry n x v ∷ h.back) (sym h.hi)
-      ∙ ap (λ x. h.front ++ entry x e.hi v ∷ h.back) q in
-      parted k new (h.front ++ entry (k +ℤ pos 1) e.hi v ∷ h.back) new_is (cut_start eq laws k k (omega (arith, ints)) h.front (under k (omega (arith, ints))) e h.back v (omega (arith, ints)) (omega (arith, ints)) (omega (arith, ints)) (like_holder is_clone alike v i))
+    last_under : e.lo <ℤ k → last_below k es ≡ Some e
+    last_under u = ap (last_or None) (below_parts ∙ ap (λ l. i.front ++ l) (below_takes k e i.back u ∙ ap (λ l. e ∷ l) none_behind)) ∙ last_of None i.front e
 
-  pub hole_cut : (l : ℤ) → l ≤ℤ k → (n y : ℤ) (w : V) (mid new : List (Entry V)) → s <ℤ l → k <ℤ z → n ≡ k +ℤ pos 1 → y ≡ l -ℤ pos 1 → eq e.value w ≡ true
-      → mid ≡ with_entry (entry n z w) es → new ≡ with_end s y mid → IsRangeCutOf eq l k es new
-  hole_cut l f n y w mid new u t q r like a m =
-      let low = h.lo in
-      let up = h.hi in
-      let p = entry n z w in
-      let new_is : new ≡ h.front ++ entry e.lo (l -ℤ pos 1) e.value ∷ entry (k +ℤ pos 1) e.hi w ∷ h.back =
-      m ∙ ap (with_end s y) (a ∙ put_inside eq b high es s z h n (omega (arith, ints)) (omega (arith, ints)) p refl) ∙ end_moved eq b high es s z h y (p ∷ h.back)
-      ∙ ap (λ x. h.front ++ entry e.lo x e.value ∷ p ∷ h.back) r
-      ∙ ap (λ x. h.front ++ entry e.lo (l -ℤ pos 1) e.value ∷ entry n x w ∷ h.back) (sym h.hi)
-      ∙ ap (λ x. h.front ++ entry e.lo (l -ℤ pos 1) e.value ∷ entry x e.hi w ∷ h.back) q in
-      parted l new (h.front ++ entry e.lo (l -ℤ pos 1) e.value ∷ entry (k +ℤ pos 1) e.hi w ∷ h.back) new_is (cut_inside eq laws l k f h.front (under l (omega (arith, ints))) e h.back w (omega (arith, ints)) (omega (arith, ints)) like)
+    front_under : k ≤ℤ e.lo → below k es ≡ i.front
+    front_under u = below_parts ∙ ap (λ l. i.front ++ l) (below_skips k e i.back u ∙ none_behind) ∙ append-nil i.front
 
-  pub whole_cut : (l : ℤ) → l ≤ℤ k → l ≤ℤ s → z ≤ℤ k → s ≤ℤ l → (new : List (Entry V)) → new ≡ without s es → IsRangeCutOf eq l k es new
-  whole_cut l f u w v new n =
-      let q = h.lo in
-      let r = h.hi in
-      let c = h.here.0 in
-      parted l new (h.front ++ h.back) (n ∙ taken_out eq b high es s z h) (cut_whole eq laws l k f h.front (under l v) e h.back h.here.2 over (omega (arith, ints)) (omega (arith, ints)) (omega (arith, ints)))
+    -- the plan of the cut, by the entry's ends
+    module _ (x : ℤ × ℤ) (q : x ≡ range_in e) where
+      rest_is : (r : Option (ℤ × ℤ)) → r ≡ cond (int_lt k x.1) (Some x) None → IsRest k es r
+      rest_is r p =
+          let ends = subst (λ x. r ≡ cond (int_lt k x.1) (Some x) None) q p in
+          by_lt_z k e.hi
+          (λ u. subst (IsRest k es) (sym (ends ∙ ap (λ b. cond b (Some (range_in e)) None) (lt_true k e.hi u))) (record {
+            of = e;
+            found = last_there (k +ℤ pos 1) high e es i;
+            ends = refl;
+            starts = starts;
+            over = u;
+            none = none_next eq k high e es i c low s u;
+            rest = after_long eq k high e es i c u;
+          }))
+          (λ u. subst (IsRest k es) (sym (ends ∙ ap (λ b. cond b (Some (range_in e)) None) (lt_false k e.hi u))) (after_short eq k high e es i c u))
 
-  -- the entry starts at k + 1 instead
-  module _ (n : ℤ) (l : s ≤ℤ k) (u : k <ℤ z) (at : n ≡ k +ℤ pos 1) (new : List (Entry V)) (m : IsStartMoved s n es new) where
-    abbrev pub moved : Entry V
-    moved = entry (k +ℤ pos 1) e.hi e.value
+      left_is : (r : Option (ℤ × ℤ)) → r ≡ cond (int_lt x.0 k) (Some x) None → IsLeft k (below k es) r
+      left_is r p =
+          let ends = subst (λ x. r ≡ cond (int_lt x.0 k) (Some x) None) q p in
+          by_lt_z e.lo k
+          (λ u. subst (IsLeft k (below k es)) (sym (ends ∙ ap (λ b. cond b (Some (range_in e)) None) (lt_true e.lo k u))) (sym (ap (option_map range_in) (last_under u))))
+          (λ u. subst (IsLeft k (below k es)) (sym (ends ∙ ap (λ b. cond b (Some (range_in e)) None) (lt_false e.lo k u)))
+          (subst (λ l. before k l ≡ l) (sym (front_under u)) (ap (before k) (sym (append-nil i.front)) ∙ before_past k i.front [] under ∙ append-nil i.front)))
 
-    pub moved_is : new ≡ h.front ++ moved ∷ h.back
-    moved_is =
-        let q = h.lo in
-        let r = h.hi in
-        m.moved ∙ ap (λ (x : Entry V). with_entry (entry n x.hi x.value) (without s es)) (sym (is_holder eq b high es s z h m.found))
-        ∙ ap (λ x. with_entry (entry x e.hi e.value) (without s es)) at
-        ∙ ap (with_entry moved) (taken_out eq b high es s z h)
-        ∙ with_entry-between moved (e.hi +ℤ pos 1) high h.front h.back (more_below e.lo (k +ℤ pos 1) h.front (omega (arith, ints)) h.front_starts) (omega (arith, ints)) h.back_over
+      -- a clone of the entry's value, for what it has above the key
+      above_is : (is_clone : V → V → Type 0) → ClonesAreAlike is_clone eq → (v : V) → eq e.value v ≡ true → (o : Option V) → (x.0 <ℤ k → k <ℤ x.1 → IsSomeAnd o (is_clone v)) → IsLikeAbove eq k k es o
+      above_is is_clone alike v like o f =
+          let lo = ap (λ (t : ℤ × ℤ). t.0) q in
+          let hi = ap (λ (t : ℤ × ℤ). t.1) q in
+          by_lt_z e.lo k
+          (λ u. subst (λ y. IfSome y Q) (sym (last_under u)) (λ m. some_and o (λ w j. sym (laws.congr v e.value w (laws.symm v e.value ∙ like)) ∙ alike v w j) (f (omega (arith, ints)) (omega (arith, ints)))))
+          (λ u. subst (λ l. IfSome (last_or None l) Q) (sym (front_under u)) (last_ended Q k (λ y w m. absurd (omega (arith, ints))) None i.front tt under))
+        where
+          Q : Entry V → Type 0
+          Q y = k <ℤ y.hi → IsSomeAnd o (λ w. eq y.value w ≡ true)
 
-    pub moved_cut : IsRangeCutOf eq s k es new
-    moved_cut =
-        let q = h.lo in
-        let r = h.hi in
-        parted s new (h.front ++ moved ∷ h.back) moved_is
-        (cut_start eq laws s k l h.front (under s (omega (arith, ints))) e h.back e.value (omega (arith, ints)) (omega (arith, ints)) (omega (arith, ints)) (laws.refl e.value))
+      -- what the edit has to know
+      pub key_place : {T : Type 0} (rank : T → ℤ) (p : Plan T) → rank p.end ≡ k → option_map (ranks_of rank) p.rest ≡ cond (int_lt k x.1) (Some x) None → option_map (ends_of rank) p.left ≡ cond (int_lt x.0 k) (Some x) None
+          → (is_clone : V → V → Type 0) → ClonesAreAlike is_clone eq → (v : V) → eq e.value v ≡ true → (o : Option V) → (x.0 <ℤ k → k <ℤ x.1 → IsSomeAnd o (is_clone v)) → IsPlace rank eq k es p o
+      key_place rank p end rest left is_clone alike v like o f = record {
+        order = omega (arith, ints, end);
+        rest = subst (λ z. IsRest z es (option_map (ranks_of rank) p.rest)) (sym end) (rest_is _ rest);
+        left = left_is _ left;
+        above = subst (λ z. IsLikeAbove eq k z es o) (sym end) (above_is is_clone alike v like o f);
+      }
 
--- no entry starts up to the key
-pub nothing_below : {V : Type 0} (eq : V → V → Bool) (k low high : ℤ) (es : List (Entry V)) → StartsAscend low high es → IsCanonical eq es → None ≡ option_map range_in (last_below (k +ℤ pos 1) es) → (j : ℤ) → j ≤ℤ k → at es j ≡ None
-nothing_below eq k low high es a c p j u = at_before eq es k j c (above_from (k +ℤ pos 1) k high es (omega (arith, ints)) (no_last_from (k +ℤ pos 1) low high es a (none_from_map range_in (last_below (k +ℤ pos 1) es) p))) u
+      -- it goes on above the key
+      pub over_among : k <ℤ x.1 → IsAmongOthers k es
+      over_among u = let hi = ap (λ (t : ℤ × ℤ). t.1) q in let lo = starts in record { entry = e; here = entry_held eq (k +ℤ pos 1) high e es i c k lo (omega (arith, ints)); long = omega (arith, ints) }
 
--- clones of what a look found around a range are equal to it
-pub around_like : {V : Type 0} (eq : V → V → Bool) (is_clone : V → V → Type 0) → ClonesAreAlike is_clone eq → (l h : ℤ) (es : List (Entry V)) (o : Option V)
-    → IfSome (last_below (h +ℤ pos 1) es) (λ e. IsAround l h e → IsSomeAnd o (is_clone e.value)) → IsAroundLike eq l h es o
-around_like {V} eq is_clone alike l h es o i = by_last (last_below (h +ℤ pos 1) es) i
-  where
-    like : (x : V) (o : Option V) → IsSomeAnd o (is_clone x) → IsSomeAnd o (λ v. eq x v ≡ true)
-    like x None j = j
-    like x (Some v) j = alike x v j
+    module _ (up : k ≤ℤ e.hi) where
+      -- what is at the key
+      at_held : at es k ≡ Some e.value
+      at_held = ap (λ l. at l k) i.parts ∙ at_cut eq k i.front under e i.back starts up
 
-    by_last : (x : Option (Entry V)) → IfSome x (λ e. IsAround l h e → IsSomeAnd o (is_clone e.value)) → IfSome x (λ e. IsAround l h e → IsSomeAnd o (λ v. eq e.value v ≡ true))
-    by_last None j = tt
-    by_last (Some e) j = λ a. like e.value o (j a)
+      pub value_held : (v : V) → eq e.value v ≡ true → SameOption eq (at es k) (Some v)
+      value_held v q = same_along eq (sym at_held) refl q
 
--- the last entry that starts up to k, where it goes on above it too
-module _ {V : Type 0} (eq : V → V → Bool) (laws : IsEquivalence eq) (l k low high : ℤ) (w : l ≤ℤ k) (es : List (Entry V)) (s : StartsAscend low high es) (c : IsCanonical eq es)
-    (i : IsSomeAnd (last_below (k +ℤ pos 1) es) (IsAround l k)) where
-  -- its ends
-  record Around : Type 0 where
-    pub start : ℤ
-    pub end : ℤ
-    pub holder : Holder eq (k +ℤ pos 1) high es start end
-    pub below : start <ℤ l
-    pub above : k <ℤ end
+      pub among_others : e.lo <ℤ e.hi → IsAmongOthers k es
+      among_others u = record { entry = e; here = entry_held eq (k +ℤ pos 1) high e es i c k starts up; long = u }
 
-  around : Around
-  around = by_last (last_below (k +ℤ pos 1) es) refl i
+      pub one_covered : covered k k es ≡ pos 1
+      one_covered =
+          ap (covered k k) i.parts ∙ covered_past eq k k (omega (arith, ints)) i.front under e i.back (parted eq k high e es i c) over
+          ∙ omega (arith, ints, overlap_whole k k e starts (omega (arith, ints)) up)
+
+      -- the entry has one key
+      module _ (one : e.hi ≤ℤ e.lo) where
+        lo : e.lo ≡ k
+        lo = let l = starts in omega (arith, ints)
+
+        pub found : start_at k es ≡ Some e
+        found = ap (λ x. start_at x es) (sym lo) ∙ last_there (k +ℤ pos 1) high e es i
+
+        pub value_removed : (v : V) → option_map (λ f. f.value) (start_at k es) ≡ Some v → SameOption eq (at es k) (Some v)
+        value_removed v q = same_along eq (sym (at_held ∙ ap (option_map (λ f. f.value)) (sym found) ∙ q)) refl (laws.refl v)
+
+        pub whole_cut : IsCutOf eq k es (without k es)
+        whole_cut =
+            let l = lo in
+            subst (λ x. IsCutOf eq k es x) (sym (ap (without k) i.parts ∙ without-between k e i.front i.back lo (more_below e.lo k i.front starts i.front_below)))
+            (subst (λ x. IsCutOf eq k x (i.front ++ i.back)) (sym i.parts)
+            (cut_whole eq laws k k (omega (arith, ints)) i.front under e i.back (rest_canonical eq k high e es i c).2 over (omega (arith, ints)) up (omega (arith, ints))))
+
+  -- no entry has the key
+  pub no_key : holder_of k es ≡ None → at es k ≡ None
+  no_key n = by_last (last_below (k +ℤ pos 1) es) refl n
     where
-      by_last : (x : Option (Entry V)) → last_below (k +ℤ pos 1) es ≡ x → IsSomeAnd x (IsAround l k) → Around
-      by_last None q j = absurd j
-      by_last (Some e) q j = record { start = e.lo; end = e.hi; holder = holder eq (k +ℤ pos 1) high es low e.lo e.hi s c (ap (option_map range_in) (sym q)); below = j.0; above = j.1 }
+      by_last : (o : Option (Entry V)) → last_below (k +ℤ pos 1) es ≡ o → reaching k o ≡ None → at es k ≡ None
+      by_last None q n = at_before eq es k k c (above_from (k +ℤ pos 1) k high es (omega (arith, ints)) (no_last_from (k +ℤ pos 1) low high es s q)) (omega (arith, ints))
+      by_last (Some e) q n = by_lt_z e.hi k
+          (λ u. ended e (last_at (k +ℤ pos 1) low high e es s q) u)
+          (λ u. let some : Some e ≡ None = ap (λ b. cond b None (Some e)) (sym (lt_false e.hi k u)) ∙ n in cc)
 
-  pub around_others : IsAmongOthers k es
-  around_others = let u = around.below in let o = around.above in among_others eq laws k high es around.start around.end around.holder (omega (arith, ints)) (omega (arith, ints))
-
-  pub around_above : GoesOnAbove k es
-  around_above = goes_on_above eq laws k high es around.start around.end around.holder around.above
-
-  pub around_something : at es k ≡ None → ⊥
-  around_something = let o = around.above in something_held eq laws k high es around.start around.end around.holder (omega (arith, ints))
+  -- a key that an entry has is mapped
+  pub some_key : {P : Entry V → Type 0} → HasKey P → at es k ≡ None → ⊥
+  some_key h n = let some : Some h.of.value ≡ None = sym (at_held h.of h.last h.up) ∙ n in cc

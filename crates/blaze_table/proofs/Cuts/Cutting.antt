@@ -1,6 +1,6 @@
 -- A list without a range of keys, from its pieces.
 use Rattle.std.specs.Option.{option_or}
-use Rattle.std.proofs.Common.{◌≡◌, ℕ, ℤ, pos, ◌+ℤ◌, ◌-ℤ◌, ◌≤ℤ◌, ◌<ℤ◌, Bool, true, false, cond, List, [], ◌∷◌, ◌++◌, Option, Some, None, refl, ◌∙◌, sym, ap, subst, arith}
+use Rattle.std.proofs.Common.{◌≡◌, ℕ, ℤ, pos, ◌+ℤ◌, ◌≤ℤ◌, ◌<ℤ◌, Bool, false, cond, List, [], ◌∷◌, ◌++◌, Option, Some, None, refl, ◌∙◌, sym, ap, subst, arith}
 use Rattle.std.specs.Cmp.{IsEquivalence}
 use Rattle.std.specs.Ordering.{int_eq}
 use Rattle.std.proofs.lemmas.Int.{ints, by_lt_z}
@@ -11,12 +11,13 @@ use Rattle.blaze_entries.proofs.Alike.{same_along, same_trans, same_or_right}
 use Rattle.blaze_table.specs.Entries.{Entry, at, SameEntries, SameOption, entry}
 use Rattle.blaze_table.specs.Canonical.{IsCanonical, AreKeys}
 use Rattle.blaze_table.specs.Count.{keys_in}
-use Rattle.blaze_table.specs.Splice.{before, after, glue, IsBelow, IsRangeCutOf, IsCutOf, overlap, covered, IsListCut}
-use Rattle.blaze_table.specs.Cut.{cut_at, cut_range_at}
+use Rattle.blaze_table.specs.Splice.{before, after, glue, IsBelow, IsRangeCutOf, IsCutOf, IsTableCut, overlap, covered}
+use Rattle.blaze_table.specs.Cut.{cut_at, cut_range_at, IsRangeCut}
 use Rattle.blaze_table.specs.Table.{IsTable}
-use Rattle.blaze_table.proofs.Canonical.Lookup.{IsAbove, at_in, at_over, at_before, above_by, above_rest}
+use Rattle.blaze_table.proofs.Canonical.Lookup.{IsAbove, above_rest, at_in, at_over, at_before, above_by}
+use Rattle.blaze_table.proofs.Canonical.RangeMaps.{range_map}
 use Rattle.blaze_table.proofs.Canonical.Unique.{back}
-use Rattle.blaze_table.proofs.Paints.Splices.{before_cuts, before_ends, by_before, after_skips, after_cuts, by_after, canonical_glue, canonical_before, canonical_after, at_glue, above_after, below_before, at-before_under, at-before_over, at-after_over, below_more}
+use Rattle.blaze_table.proofs.Paints.Splices.{before_ends, by_before, after_skips, by_after, canonical_glue, canonical_before, canonical_after, at_glue, above_after, below_before, at-before_under, at-before_over, at-after_over, below_more}
 use Rattle.blaze_table.proofs.Paints.Painted.{before_past, after_past, entries_themselves, canonical_as, above_as, content_as}
 use Rattle.blaze_table.proofs.Canonical.Counted.{keys_apart, covered_none, overlap_none, overlap_most, keys_glue, are_keys_glue, are_keys_before, are_keys_after, are_keys_as, same_keys_in}
 
@@ -72,46 +73,6 @@ module _ {V : Type 0} (eq : V → V → Bool) where
             like = subst (λ l. SameEntries eq l C) (sym above_is) (entries_themselves eq laws C);
             joined = ap (λ l. l ++ C) (sym below_is);
           }
-
-      pub cut_end : IsCanonical eq C → IsAbove h C → e.lo <ℤ l → l ≤ℤ e.hi → e.hi ≤ℤ h → IsRangeCutOf eq l h (A ++ e ∷ C) (A ++ entry e.lo (l -ℤ pos 1) e.value ∷ C)
-      cut_end c a u v q =
-          let above_is : after h (A ++ e ∷ C) ≡ C = after_past l h A (e ∷ C) w b ∙ after_skips h e C q ∙ after_all h C c a in
-          let below_is : before l (A ++ e ∷ C) ≡ A ++ entry e.lo (l -ℤ pos 1) e.value ∷ [] = before_past l A (e ∷ C) b ∙ ap (λ l. A ++ l) (before_cuts l e C v u) in
-          record {
-            above = C;
-            like = subst (λ l. SameEntries eq l C) (sym above_is) (entries_themselves eq laws C);
-            joined = sym (ap (λ l. l ++ C) below_is ∙ one (entry e.lo (l -ℤ pos 1) e.value) A C);
-          }
-        where
-          one : (x : Entry V) (xs ys : List (Entry V)) → (xs ++ x ∷ []) ++ ys ≡ xs ++ x ∷ ys
-          one x [] ys = refl
-          one x (y ∷ xs) ys = ap (λ l. y ∷ l) (one x xs ys)
-
-      pub cut_start : (v : V) → l ≤ℤ e.lo → e.lo ≤ℤ h → h <ℤ e.hi → eq e.value v ≡ true → IsRangeCutOf eq l h (A ++ e ∷ C) (A ++ entry (h +ℤ pos 1) e.hi v ∷ C)
-      cut_start v u m n q =
-          let M = entry (h +ℤ pos 1) e.hi v ∷ C in
-          let above_is : after h (A ++ e ∷ C) ≡ entry (h +ℤ pos 1) e.hi e.value ∷ C = after_past l h A (e ∷ C) w b ∙ after_cuts h e C n m in
-          let below_is : before l (A ++ e ∷ C) ≡ A = before_past l A (e ∷ C) b ∙ ap (λ l. A ++ l) (before_ends l e C (omega (arith, ints)) u) ∙ append-nil A in
-          record {
-            above = M;
-            like = subst (λ l. SameEntries eq l M) (sym above_is) (refl, refl, q, entries_themselves eq laws C);
-            joined = ap (λ l. l ++ M) (sym below_is);
-          }
-
-      pub cut_inside : (v : V) → e.lo <ℤ l → h <ℤ e.hi → eq e.value v ≡ true → IsRangeCutOf eq l h (A ++ e ∷ C) (A ++ entry e.lo (l -ℤ pos 1) e.value ∷ entry (h +ℤ pos 1) e.hi v ∷ C)
-      cut_inside v u n q =
-          let M = entry (h +ℤ pos 1) e.hi v ∷ C in
-          let above_is : after h (A ++ e ∷ C) ≡ entry (h +ℤ pos 1) e.hi e.value ∷ C = after_past l h A (e ∷ C) w b ∙ after_cuts h e C n (omega (arith, ints)) in
-          let below_is : before l (A ++ e ∷ C) ≡ A ++ entry e.lo (l -ℤ pos 1) e.value ∷ [] = before_past l A (e ∷ C) b ∙ ap (λ l. A ++ l) (before_cuts l e C (omega (arith, ints)) u) in
-          record {
-            above = M;
-            like = subst (λ l. SameEntries eq l M) (sym above_is) (refl, refl, q, entries_themselves eq laws C);
-            joined = sym (ap (λ l. l ++ M) below_is ∙ one (entry e.lo (l -ℤ pos 1) e.value) A M);
-          }
-        where
-          one : (x : Entry V) (xs ys : List (Entry V)) → (xs ++ x ∷ []) ++ ys ≡ xs ++ x ∷ ys
-          one x [] ys = refl
-          one x (y ∷ xs) ys = ap (λ l. y ∷ l) (one x xs ys)
 
   -- the value at a key of the range e
   pub at_cut : (k : ℤ) (A : List (Entry V)) → IsBelow k A → (e : Entry V) (C : List (Entry V)) → e.lo ≤ℤ k → k ≤ℤ e.hi → at (A ++ e ∷ C) k ≡ Some e.value
@@ -171,11 +132,15 @@ module _ {V : Type 0} (k : ℤ) (content : ℤ → Option V) where
       int_eq_no : (a b : ℤ) → (a ≡ b → ⊥) → int_eq a b ≡ false
       int_eq_no a b h = grind (arith, ints)
 
-pub cut_is : {V : Type 0} (eq : V → V → Bool) (laws : IsEquivalence eq) (k : ℤ) (es new : List (Entry V)) → IsCanonical eq es → IsCutOf eq k es new → IsListCut eq k es new
-cut_is eq laws k es new c r = record {
-  canonical = cut_canonical eq laws k k (omega (arith, ints)) es new c r;
-  content = λ j. same_along eq refl (cut_one k (at es) j) (range_cut_content eq laws k k (omega (arith, ints)) es new c r j);
-}
+pub cut_content : {V : Type 0} (eq : V → V → Bool) (laws : IsEquivalence eq) (k : ℤ) (es new : List (Entry V)) → IsCanonical eq es → IsCutOf eq k es new → (j : ℤ) → SameOption eq (at new j) (cut_at k (at es) j)
+cut_content eq laws k es new c r j = same_along eq refl (cut_one k (at es) j) (range_cut_content eq laws k k (omega (arith, ints)) es new c r j)
+
+-- no entry has the key
+pub key_absent : {V : Type 0} (eq : V → V → Bool) (laws : IsEquivalence eq) (k : ℤ) (es : List (Entry V)) → IsCanonical eq es → at es k ≡ None → (j : ℤ) → SameOption eq (at es j) (cut_at k (at es) j)
+key_absent eq laws k es c n = cut_content eq laws k es es c (cut_nothing eq laws k k (omega (arith, ints)) es c (λ j a b. ap (at es) (same j a b) ∙ n))
+  where
+    same : (j : ℤ) → k ≤ℤ j → j ≤ℤ k → j ≡ k
+    same j a b = omega (arith, ints)
 
 module _ {V : Type 0} (eq : V → V → Bool) (l h : ℤ) where
   -- only the entry e has keys from l up to h
@@ -186,3 +151,7 @@ module _ {V : Type 0} (eq : V → V → Bool) (l h : ℤ) where
   pub covered_fits : (es : List (Entry V)) → IsCanonical eq es → covered l h es ≤ℤ keys_in es
   covered_fits [] c = omega (arith, ints)
   covered_fits (e ∷ es) c = omega (arith, ints, overlap_most l h e c.0, covered_fits es c.2)
+
+-- what the cut makes of a range map
+pub range_cut_map : {V : Type 0} (eq : V → V → Bool) (laws : IsEquivalence eq) (low high : ℤ) (n : ℕ) (l h : ℤ) → l ≤ℤ h → (old new : List (Entry V)) → IsCanonical eq old → IsTableCut eq low high n l h old new → IsRangeCut eq low high l h old new
+range_cut_map eq laws low high n l h w old new c r = record { range_map = range_map eq laws low high n new r.table; content = range_cut_content eq laws l h w old new c r.cut }

@@ -1,154 +1,105 @@
--- A range of keys cut from the top down: what an edit keeps around it, and how many keys it takes.
-use Rattle.std.proofs.Common.{◌≡◌, ℕ, ℤ, pos, ◌+ℤ◌, ◌-ℤ◌, ◌≤ℤ◌, ◌<ℤ◌, Bool, List, [], ◌∷◌, ◌++◌, None, length, ◌∙◌, sym, ap, subst, arith}
+-- A range of keys cut by what a walk that looks for no value has seen: what the edit has to know of the list, and what it counts.
+use Rattle.std.proofs.Common.{◌≡◌, ℕ, ◌+◌, ◌≤◌, ℤ, pos, ◌+ℤ◌, ◌≤ℤ◌, ◌<ℤ◌, Bool, true, false, cond, List, Option, Some, None, length, length-append, refl, ◌∙◌, sym, subst, ap, arith}
 use Rattle.std.specs.Cmp.{IsEquivalence}
-use Rattle.std.specs.Prelude.{int_le}
 use Rattle.std.specs.Option.{option_map}
-use Rattle.std.proofs.lemmas.Int.{ints, by_lt_z}
-use Rattle.std.proofs.lemmas.List.Elements.{filter-append}
-use Rattle.blaze_entries.specs.Found.{range_in}
-use Rattle.blaze_entries.specs.Starts.{StartsAscend, from, last_below, without, IsStartMoved}
-use Rattle.blaze_entries.proofs.Alike.{none_from_map}
-use Rattle.blaze_entries.proofs.Halves.{from_none, from_all, from_takes, more_below}
-use Rattle.blaze_table.specs.Entries.{Entry, SameEntries}
+use Rattle.std.specs.Prelude.{IsSome, int_lt, reverse}
+use Rattle.std.proofs.lemmas.Int.{ints}
+use Rattle.blaze_int.proofs.Comparisons.{lt_holds}
+use Rattle.blaze_entries.specs.Counted.{CountedEntries}
+use Rattle.blaze_entries.specs.Found.{found_in, found_of, is_sought, range_in, ranks_of}
+use Rattle.blaze_entries.specs.Scanned.{Seen, seen_of, unseen, answers, walked, walked_keys, walked_value, GoesOnUnlike, IsAboveCloned}
+use Rattle.blaze_entries.specs.Starts.{StartsAscend, below, last_below}
+use Rattle.blaze_entries.specs.declared.scan.Plan.{Plan}
 use Rattle.blaze_table.specs.Canonical.{IsCanonical}
-use Rattle.blaze_table.specs.Cut.{IsRangeCut}
+use Rattle.blaze_table.specs.Cut.{GoesOnAbove}
+use Rattle.blaze_table.specs.Edited.{IsPlace}
+use Rattle.blaze_table.specs.Entries.{Entry}
+use Rattle.blaze_table.specs.Painted.{ClonesAreAlike}
+use Rattle.blaze_table.specs.Planned.{rest_of, IsLikeAbove, IsPlanOf, IsRest, IsWorked}
+use Rattle.blaze_table.specs.Splice.{before, after, IsRangeCutOf}
 use Rattle.blaze_table.specs.Table.{IsTable}
-use Rattle.blaze_table.specs.Planned.{IsRest}
-use Rattle.blaze_table.specs.Splice.{before, after, covered, IsKeptAround, IsRangeCutOf}
-use Rattle.blaze_table.proofs.Canonical.Counted.{before_none, overlap_left, overlap_whole}
-use Rattle.blaze_table.proofs.Canonical.Lookup.{IsAbove, above_by}
-use Rattle.blaze_table.proofs.Canonical.RangeMaps.{range_map}
-use Rattle.blaze_table.proofs.Cuts.CutEdits.{under, over, covered_held, moved, moved_is, moved_cut, nothing_held, nothing_below}
-use Rattle.blaze_table.proofs.Cuts.Cutting.{cut_canonical, cut_nothing, range_cut_content}
-use Rattle.blaze_table.proofs.Cuts.Splits.{LastAt, canonical_part, after_short, after_long, after_none}
-use Rattle.blaze_table.proofs.Neighbours.Holders.{Holder, taken_out}
-use Rattle.blaze_table.proofs.Paints.EditLists.{from_without}
-use Rattle.blaze_table.proofs.Paints.Painted.{after_past}
-use Rattle.blaze_table.proofs.Paints.Splices.{by_before, before_keeps, before_cuts, before_ends, after_skips, after_cuts, after_keeps}
+use Rattle.blaze_table.specs.Work.{IsCountedCut}
+use Rattle.blaze_table.proofs.Canonical.Counted.{keys_apart}
+use Rattle.blaze_table.proofs.Cuts.CutEdits.{entry_held}
+use Rattle.blaze_table.proofs.Cuts.Cutting.{cut_table}
+use Rattle.blaze_table.proofs.Cuts.Splits.{last_at}
+use Rattle.blaze_table.proofs.Neighbours.Growing.{left_is}
+use Rattle.blaze_table.proofs.Paints.Painted.{length_as}
+use Rattle.blaze_table.proofs.Walks.AboveValues.{walked_above}
+use Rattle.blaze_table.proofs.Walks.Cuts.{cut_end, cut_rest, cut_above}
+use Rattle.blaze_table.proofs.Walks.FewLooks.{counted}
+use Rattle.blaze_table.proofs.Walks.Outside.{walked_outside}
+use Rattle.blaze_table.proofs.Walks.WalkedPlans.{planned}
 
-module _ {V : Type 0} (l h : ℤ) (es mid new : List (Entry V)) (r : IsKeptAround l h es mid) where
-  pub kept_then : IsKeptAround l h mid new → IsKeptAround l h es new
-  kept_then t = record { below = t.below ∙ r.below; above = t.above ∙ r.above }
+module _ {V : Type 0} (eq : V → V → Bool) (laws : IsEquivalence eq) (l h low high : ℤ) (w : l ≤ℤ h) (es : List (Entry V)) (s : StartsAscend low high es) (c : IsCanonical eq es) where
+  abbrev none : V → Bool
+  none = is_sought eq None
 
-  pub cut_kept : (eq : V → V → Bool) → IsRangeCutOf eq l h mid new → IsRangeCutOf eq l h es new
-  cut_kept eq t = record {
-    above = t.above;
-    like = subst (λ x. SameEntries eq x t.above) r.above t.like;
-    joined = t.joined ∙ ap (λ x. x ++ t.above) r.below;
-  }
+  -- the last entry that starts up to the range goes on above it
+  module _ (b : ℤ) (under : b ≤ℤ (h +ℤ pos 1)) where
+    goes_on : (e : Entry V) → last_below b es ≡ Some e → h <ℤ e.hi → GoesOnAbove h es
+    goes_on e q u =
+        let i = last_at b low high e es s q in
+        let up = i.starts in
+        record { entry = e; here = entry_held eq b high e es i c h (omega (arith, ints)) (omega (arith, ints)); above = u }
 
-module _ {V : Type 0} (eq : V → V → Bool) where
-  -- what starts at l or above does not matter below it
-  before_instead : (l : ℤ) (A : List (Entry V)) (e : Entry V) (C M : List (Entry V)) → l ≤ℤ e.lo → e.lo ≤ℤ e.hi → IsCanonical eq M → IsAbove (l -ℤ pos 1) M → before l (A ++ M) ≡ before l (A ++ e ∷ C)
-  before_instead l [] e C M u w c a = before_none eq l M c a ∙ sym (before_ends l e C (omega (arith, ints)) u)
-  before_instead l (x ∷ A) e C M u w c a = by_before l x (A ++ M)
-      (λ p q. q ∙ ap (λ xs. x ∷ xs) (before_instead l A e C M u w c a) ∙ sym (before_keeps l x (A ++ e ∷ C) p))
-      (λ p m q. q ∙ sym (before_cuts l x (A ++ e ∷ C) p m))
-      (λ p m q. q ∙ sym (before_ends l x (A ++ e ∷ C) p m))
+  abbrev walk : Option V → Seen
+  walk sought = walked (is_sought eq sought) l h (unseen h) (reverse (below (h +ℤ pos 2) es))
 
-module _ {V : Type 0} (eq : V → V → Bool) (laws : IsEquivalence eq) (k high : ℤ) (es : List (Entry V)) (s z : ℤ) (h : Holder eq (k +ℤ pos 1) high es s z) (c : IsCanonical eq es) where
-  last : LastAt (k +ℤ pos 1) high h.of es
-  last = record { front = h.front; back = h.back; parts = h.parts; starts = h.starts; front_below = h.front_starts; back_from = h.back_starts }
-
-  pub starts_up_to : s ≤ℤ k
-  starts_up_to = let l = h.lo in let u = h.starts in omega (arith, ints)
-
-  pub starts_to_end : s ≤ℤ z
-  starts_to_end = let l = h.lo in let r = h.hi in let q = h.here.0 in omega (arith, ints)
-
-  -- how far the entry reaches
-  pub ended_short : z ≤ℤ k → IsRest k es None
-  ended_short u = let r = h.hi in after_short eq k high h.of es last c (omega (arith, ints))
-
-  pub ends_up_to : IsRest k es None → z ≤ℤ k
-  ends_up_to p = by_lt_z k z
-      (λ u. let r = h.hi in absurd (longer (from (k +ℤ pos 1) es) (sym (after_long eq k high h.of es last c (omega (arith, ints))) ∙ p)))
-      (λ u. u)
+  pub clone_above : (sought : Option V) → sought ≡ None → GoesOnUnlike h (walk sought).left → GoesOnAbove h es
+  clone_above sought n g = by_last (last_below l es) refl (subst (GoesOnUnlike h) (ap (λ o. (walk o).left) n ∙ (planned eq none l h high w low es s c).left) g)
     where
-      longer : {e : Entry V} (ys : List (Entry V)) → e ∷ ys ≡ ys → ⊥
-      longer ys q = let long = ap length q in omega (arith, long)
+      by_last : (o : Option (Entry V)) → last_below l es ≡ o → GoesOnUnlike h (option_map (found_in none) o) → GoesOnAbove h es
+      by_last None q g = absurd g
+      by_last (Some e) q g = goes_on l (omega (arith, ints)) e q g.0
 
-  -- how many keys are taken
-  pub end_covered : (l : ℤ) → s ≤ℤ l → l ≤ℤ z → z ≤ℤ k → covered l k es ≡ (z -ℤ l) +ℤ pos 1
-  end_covered l u m w =
-      let f = h.lo in
-      let r = h.hi in
-      omega (arith, ints, covered_held eq laws k high es s z h c l u (omega (arith, ints)), overlap_left l k h.of (omega (arith, ints)) (omega (arith, ints)) (omega (arith, ints)))
+  module _ {T : Type 0} (rank : T → ℤ) (p : Plan T) (sought : Option V) (n : sought ≡ None) (saw : seen_of rank p ≡ walk sought) where
+    r : IsPlanOf none l h es (seen_of rank p)
+    r = subst (IsPlanOf none l h es) (sym (saw ∙ ap walk n)) (planned eq none l h high w low es s c)
 
-  pub front_covered : (l : ℤ) → s ≤ℤ l → l ≤ℤ k → k <ℤ z → covered l k es ≡ (k -ℤ l) +ℤ pos 1
-  front_covered l u m w =
-      let f = h.lo in
-      let r = h.hi in
-      omega (arith, ints, covered_held eq laws k high es s z h c l u m, overlap_whole l k h.of (omega (arith, ints)) m (omega (arith, ints)))
+    end_is : rank p.end ≡ h
+    end_is = cut_end eq l h es (seen_of rank p) r
 
-  -- the entry ends below the range
-  pub end_apart : (l : ℤ) → l ≤ℤ k → z <ℤ l → IsRangeCutOf eq l k es es
-  end_apart l w u = cut_nothing eq laws l k w es c (λ j a b. nothing_held eq laws k high es s z h j (omega (arith, ints)) b)
+    -- what the edit has to know
+    pub range_place : (is_clone : V → V → Type 0) → ClonesAreAlike is_clone eq → (o : Option V) → IsAboveCloned is_clone h (option_map (found_of rank) p.left) (walked_value l None (reverse (below (h +ℤ pos 2) es))) o → IsPlace rank eq l es p o
+    range_place is_clone alike o i = record {
+      order = subst (λ z. l ≤ℤ z) (sym end_is) w;
+      rest = subst (λ z. IsRest z es (option_map (ranks_of rank) p.rest)) (sym end_is) (cut_rest eq l h es (seen_of rank p) r low high w s c);
+      left = left_is rank none l low high es s p.left r.left;
+      above = subst (λ z. IsLikeAbove eq l z es o) (sym end_is)
+          (cut_above eq l h es o (walked_above eq l h low high w es s c none is_clone alike o (subst (λ x. IsAboveCloned is_clone h x (walked_value l None (reverse (below (h +ℤ pos 2) es))) o) r.left i)));
+    }
 
-  -- the entry, or what is put at its place
-  above_front : (M : List (Entry V)) → after k (h.front ++ M) ≡ after k M
-  above_front M = after_past s k h.front M starts_up_to (under eq laws k high es s z h s (omega (arith, ints)))
+    pub range_cut : (new : List (Entry V)) → IsRangeCutOf eq l (rank p.end) es new → IsRangeCutOf eq l h es new
+    range_cut new k = subst (λ z. IsRangeCutOf eq l z es new) end_is k
 
-  -- the entry taken out
-  module _ (u : z ≤ℤ k) (new : List (Entry V)) (n : new ≡ without s es) where
-    pub out_kept : (l : ℤ) → l ≤ℤ s → IsKeptAround l k es new
-    out_kept l w =
-        let f = h.lo in
-        let r = h.hi in
-        let q = h.here.0 in
-        let m = starts_up_to in
-        record {
-          below = ap (before l) (n ∙ taken_out eq _ high es s z h) ∙ before_instead eq l h.front h.of h.back h.back (omega (arith, ints)) q h.here.2 (above_by k (l -ℤ pos 1) h.back (omega (arith, ints)) (over eq laws k high es s z h)) ∙ sym (ap (before l) h.parts);
-          above = ap (after k) (n ∙ taken_out eq _ high es s z h) ∙ above_front h.back ∙ sym (ap (after k) h.parts ∙ above_front (h.of ∷ h.back) ∙ after_skips k h.of h.back (omega (arith, ints)));
-        }
+    -- it has a rest where an entry goes on above the range
+    pub rest_above : IsSome p.rest → GoesOnAbove h es
+    rest_above i = by_last (last_below (h +ℤ pos 1) es) refl p.rest r.rest i
+      where
+        over : (e : Entry V) (b : Bool) (x : Option (T × T)) → option_map (ranks_of rank) x ≡ cond b (Some (range_in e)) None → IsSome x → b ≡ true
+        over e true x m i = refl
+        over e false (Some x) m i = cc
+        over e false None m i = cc
 
-    pub out_ended : IsRest k es None → IsRest k new None
-    out_ended p =
-        let m = starts_up_to in
-        let kept = out_kept s (omega (arith, ints)) in
-        kept.above ∙ p ∙ sym (ap (from (k +ℤ pos 1)) n ∙ from_without (k +ℤ pos 1) s es (omega (arith, ints)))
+        by_last : (o : Option (Entry V)) → last_below (h +ℤ pos 1) es ≡ o → (x : Option (T × T)) → option_map (ranks_of rank) x ≡ rest_of h (option_map (found_in none) o) → IsSome x → GoesOnAbove h es
+        by_last None q (Some x) m i = cc
+        by_last None q None m i = cc
+        by_last (Some e) q x m i = goes_on (h +ℤ pos 1) (omega (arith, ints)) e q (lt_holds h e.hi (over e (int_lt h e.hi) x m i))
 
-  -- the entry started above the range
-  module _ (n : ℤ) (u : k <ℤ z) (at : n ≡ k +ℤ pos 1) (new : List (Entry V)) (m : IsStartMoved s n es new) where
-    abbrev p : Entry V
-    p = moved eq laws k high es s z h n starts_up_to u at new m
+  -- what lies outside is counted
+  pub range_table : (len n : ℕ) (new : List (Entry V)) → IsTable eq low high len es → pos n +ℤ walked_keys l h (reverse (below (h +ℤ pos 2) es)) ≡ pos len → IsRangeCutOf eq l h es new → IsTable eq low high n new
+  range_table len n new t q r =
+      cut_table eq laws l h w es new c r low high len n t
+      (omega (arith, ints, t.counted, walked_outside eq l h low high len es w s t n q, keys_apart eq l h es w c))
 
-    new_is : new ≡ h.front ++ p ∷ h.back
-    new_is = moved_is eq laws k high es s z h n starts_up_to u at new m
-
-    above_new : after k new ≡ p ∷ h.back
-    above_new = let r = h.hi in ap (after k) new_is ∙ above_front (p ∷ h.back) ∙ after_keeps k p h.back (omega (arith, ints)) (omega (arith, ints))
-
-    pub moved_kept : (l : ℤ) → l ≤ℤ s → IsKeptAround l k es new
-    moved_kept l w =
-        let f = h.lo in
-        let r = h.hi in
-        let q = h.here.0 in
-        let b = starts_up_to in
-        record {
-          below = ap (before l) new_is ∙ before_instead eq l h.front h.of h.back (p ∷ h.back) (omega (arith, ints)) q
-              (canonical_part eq h.front (p ∷ h.back) (subst (IsCanonical eq) new_is (cut_canonical eq laws s k b es new c (moved_cut eq laws k high es s z h n b u at new m)))) (omega (arith, ints))
-              ∙ sym (ap (before l) h.parts);
-          above = above_new ∙ sym (ap (after k) h.parts ∙ above_front (h.of ∷ h.back) ∙ after_cuts k h.of h.back (omega (arith, ints)) (omega (arith, ints)));
-        }
-
-    pub moved_ended : IsRest k new None
-    moved_ended =
-        let f = h.lo in
-        let b = starts_up_to in
-        above_new
-        ∙ sym (ap (from (k +ℤ pos 1)) new_is ∙ filter-append (λ x. int_le (k +ℤ pos 1) x.lo) h.front (p ∷ h.back)
-        ∙ ap (λ xs. xs ++ from (k +ℤ pos 1) (p ∷ h.back)) (from_none (k +ℤ pos 1) h.front (more_below h.of.lo (k +ℤ pos 1) h.front (omega (arith, ints)) h.front_starts))
-        ∙ from_takes (k +ℤ pos 1) p h.back (omega (arith, ints)) ∙ ap (λ xs. p ∷ xs) (from_all (k +ℤ pos 1) (k +ℤ pos 1) high h.back (omega (arith, ints)) h.back_starts))
-
--- no entry starts up to the end of the range
-module _ {V : Type 0} (eq : V → V → Bool) (k low high : ℤ) (es : List (Entry V)) (a : StartsAscend low high es) (c : IsCanonical eq es) (p : None ≡ option_map range_in (last_below (k +ℤ pos 1) es)) where
-  pub ended_none : IsRest k es None
-  ended_none = after_none eq k low high es a c (none_from_map range_in (last_below (k +ℤ pos 1) es) p)
-
-  pub none_apart : (l : ℤ) → IsEquivalence eq → l ≤ℤ k → IsRangeCutOf eq l k es es
-  none_apart l laws w = cut_nothing eq laws l k w es c (λ j u. nothing_below eq k low high es a c p j)
-
--- what the cut makes of a range map
-pub range_cut_map : {V : Type 0} (eq : V → V → Bool) (laws : IsEquivalence eq) (low high : ℤ) (n : ℕ) (l h : ℤ) → l ≤ℤ h → (old new : List (Entry V)) → IsCanonical eq old → IsTable eq low high n new → IsRangeCutOf eq l h old new → IsRangeCut eq low high l h old new
-range_cut_map eq laws low high n l h w old new c t r = record { range_map = range_map eq laws low high n new t; content = range_cut_content eq laws l h w old new c r }
+-- the looks of a walk, and the edit behind it
+module _ {V : Type 0} (eq : V → V → Bool) (laws : IsEquivalence eq) (l h low high : ℤ) (old mid new : CountedEntries V) (w : l ≤ℤ h) (s : StartsAscend low high old.entries) (c : IsCanonical eq old.entries)
+    (seen : mid ≡ record old { looks = mid.looks }) (risen : old.looks ≤ mid.looks) (looks : mid.looks ≤ old.looks + answers l (reverse (below (h +ℤ pos 2) old.entries)) + 1) where
+  pub counted_cut : IsRangeCutOf eq l h mid.entries new.entries → IsWorked 1 1 mid new → IsCountedCut old new
+  counted_cut r work =
+      let puts = ap (λ (x : CountedEntries V). x.put_in) seen in
+      let long = ap length r.joined ∙ length-append (before l mid.entries) r.above in
+      let paint = counted eq l h low high old mid new w s c seen risen looks (record { counted = work.counted; puts = omega (arith, work.puts); looks = work.looks })
+      (omega (arith, long, length_as eq laws (after h mid.entries) r.above r.like)) in
+      record { counted = paint.counted; puts = omega (arith, puts, work.puts); looks = paint.looks }

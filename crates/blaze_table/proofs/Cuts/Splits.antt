@@ -149,16 +149,6 @@ module _ {V : Type 0} where
       some_same : Some f ≡ Some e → f ≡ e
       some_same p = cc
 
-  pub from_not_at : (k : ℤ) (es : List (Entry V)) → start_at k es ≡ None → from k es ≡ from (k +ℤ pos 1) es
-  from_not_at k [] n = refl
-  from_not_at k (f ∷ fs) n = by_order k f.lo
-      (λ o q r. rw (from_takes k f fs (omega (arith, ints)), from_takes (k +ℤ pos 1) f fs (omega (arith, ints))) (ap (λ t. f ∷ t) (from_not_at k fs (sym (ap (λ t. cond t (Some f) (start_at k fs)) r) ∙ n))))
-      (λ o q r. absurd (no_none (sym (ap (λ t. cond t (Some f) (start_at k fs)) r) ∙ n)))
-      (λ o q r. rw (from_skips k f fs o, from_skips (k +ℤ pos 1) f fs (omega (arith, ints))) (from_not_at k fs (sym (ap (λ t. cond t (Some f) (start_at k fs)) r) ∙ n)))
-    where
-      no_none : Some f ≡ None → ⊥
-      no_none p = cc
-
 module _ {V : Type 0} (eq : V → V → Bool) where
   -- in a canonical list what stands before an entry ends below it
   pub ends_below : (xs : List (Entry V)) (e : Entry V) (ys : List (Entry V)) → IsCanonical eq (xs ++ e ∷ ys) → IsBelow e.lo xs

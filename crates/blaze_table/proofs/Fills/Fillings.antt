@@ -28,11 +28,6 @@ module _ {V : Type 0} where
       (λ a. filled_in content v l m k a u ∙ sym (filled_in content v l h k a (omega (arith, ints))))
 
 module _ {V : Type 0} (eq : V → V → Bool) (laws : IsEquivalence eq) where
-  none_back : (a b : Option V) → SameOption eq a b → b ≡ None → a ≡ None
-  none_back None b s p = refl
-  none_back (Some x) None s p = absurd s
-  none_back (Some x) (Some y) s p = cc
-
   -- equal to a value, equal to its clone
   like_clone : (v w : V) → eq v w ≡ true → (o : Option V) → SameOption eq o (Some v) ↔ SameOption eq o (Some w)
   like_clone v w like None = (λ s. s, λ s. s)

@@ -5,9 +5,6 @@ use Rattle.std.proofs.lemmas.List.Elements.{Contains-append_left, Contains-push,
 use Rattle.blaze_table.specs.Filling.{IsNoted}
 use Rattle.blaze_table.proofs.Fills.TakenBack.{map_last}
 
-pub noted_not : (t : Bool) (k : ℤ) (old : List ℤ) → (t ≡ true → ⊥) → IsNoted t k old old
-noted_not t k old n = record { kept = λ i h. h; noted = λ s. absurd (n s); only = λ i h. inl h }
-
 pub noted_too : {T : Type 0} (rank : T → ℤ) (old new : List T) (x : T) (k : ℤ) (t : Bool) → rank x ≡ k → new ≡ old ++ x ∷ [] → t ≡ true → IsNoted t k (map rank old) (map rank new)
 noted_too rank old new x k t q p s =
     subst (IsNoted t k (map rank old)) (sym (ap (map rank) p ∙ map_last rank old x)) (record {

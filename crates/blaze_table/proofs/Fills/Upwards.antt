@@ -6,8 +6,8 @@ use Rattle.blaze_entries.proofs.Alike.{same_along}
 use Rattle.blaze_table.specs.Canonical.{AreKeys}
 use Rattle.blaze_table.specs.Ending.{ending_from}
 use Rattle.blaze_table.specs.Entries.{Entry, at, SameOption}
-use Rattle.blaze_table.specs.Filled.{IsHeldFrom, IsFirstGap}
-use Rattle.blaze_table.specs.Filling.{never, IsBeside, IsOrdered}
+use Rattle.blaze_table.specs.Filled.{IsHeldFrom}
+use Rattle.blaze_table.specs.Filling.{never, IsGapEnd, IsNextGap, IsOrdered}
 use Rattle.blaze_table.proofs.Canonical.Lookup.{IsAbove, IsAbove-from_apart, at_in, at_under, at_over, at_before, by_place}
 use Rattle.blaze_table.proofs.Neighbours.Ending.{ending_all, ending_skips, ending_takes}
 
@@ -150,45 +150,48 @@ module _ {V : Type 0} (eq : V → V → Bool) (v : V) where
             }
 
       -- the next entry starts above it: the gap ends at b
-      module _ (b h : ℤ) (far : key <ℤ e.lo) (order : key ≤ℤ b) (to : b ≤ℤ h) (next : b <ℤ e.lo) (greatest : (b ≡ h) ⊎ (e.lo ≡ b +ℤ pos 1)) where
+      module _ (b h : ℤ) (g : IsGapEnd key h e.lo b) where
         none_before : (k : ℤ) → k <ℤ e.lo → at (e ∷ es) k ≡ None
         none_before k x = at_before never (e ∷ es) (e.lo -ℤ pos 1) k w.ordered (omega (arith, ints)) (omega (arith, ints))
 
         value_next : e.lo ≡ b +ℤ pos 1 → content (b +ℤ pos 1) ≡ Some e.value
-        value_next q = w.same (b +ℤ pos 1) (omega (arith, ints)) ∙ at_in e es (b +ℤ pos 1) (omega (arith, ints)) (omega (arith, ints, w.ordered.0))
+        value_next q = w.same (b +ℤ pos 1) (omega (arith, ints, g.order)) ∙ at_in e es (b +ℤ pos 1) (omega (arith, ints)) (omega (arith, ints, w.ordered.0))
 
-        pub walked_gap : IsFirstGap content l h key b
-        walked_gap = record {
-          from = w.from;
-          order = order;
-          to = to;
-          held = λ k x y. w.held k x (omega (arith, ints));
-          clear = λ k x y. w.same k x ∙ none_before k (omega (arith, ints));
-          greatest = elim greatest [ inl q ↦ inl q | inr q ↦ inr (subst IsSome (sym (value_next q)) refl) ];
-        }
-
-        pub walked_beside : (s u : Bool) → s ≡ eq e.value v → IsTrue u ↔ ((e.lo ≡ b +ℤ pos 1) × IsTrue s) → IsBeside eq content v key b t u
-        walked_beside s u r f = record {
-          below = w.below (none_before (key -ℤ pos 1) (omega (arith, ints)));
-          above = (
-            λ x. let p = f.0 x in (equal_is (content (b +ℤ pos 1)) e.value s (value_next p.0) r).0 p.1,
-            λ x. by_lt_z (b +ℤ pos 1) e.lo
-                (λ y. absurd (not_equal (content (b +ℤ pos 1)) (w.same (b +ℤ pos 1) (omega (arith, ints)) ∙ none_before (b +ℤ pos 1) y) x))
-                (λ y. let q : e.lo ≡ b +ℤ pos 1 = omega (arith, ints) in f.1 (q, (equal_is (content (b +ℤ pos 1)) e.value s (value_next q) r).1 x)),
-          );
-        }
+        pub walked_gap : (s u : Bool) → s ≡ eq e.value v → IsTrue u ↔ ((e.lo ≡ b +ℤ pos 1) × IsTrue s) → IsNextGap eq content v l h key b t u
+        walked_gap s u r f =
+            let order = g.order in
+            let under = g.under in
+            record {
+              gap = record {
+                from = w.from;
+                order = order;
+                to = g.to;
+                held = λ k x y. w.held k x (omega (arith, ints));
+                clear = λ k x y. w.same k x ∙ none_before k (omega (arith, ints));
+                greatest = elim g.greatest [ inl q ↦ inl q | inr q ↦ inr (subst IsSome (sym (value_next q)) refl) ];
+              };
+              beside = record {
+                below = w.below (none_before (key -ℤ pos 1) (omega (arith, ints)));
+                above = (
+                  λ x. let p = f.0 x in (equal_is (content (b +ℤ pos 1)) e.value s (value_next p.0) r).0 p.1,
+                  λ x. by_lt_z (b +ℤ pos 1) e.lo
+                      (λ y. absurd (not_equal (content (b +ℤ pos 1)) (w.same (b +ℤ pos 1) (omega (arith, ints)) ∙ none_before (b +ℤ pos 1) y) x))
+                      (λ y. let q : e.lo ≡ b +ℤ pos 1 = omega (arith, ints) in f.1 (q, (equal_is (content (b +ℤ pos 1)) e.value s (value_next q) r).1 x)),
+                );
+              };
+            }
 
     -- no entry is left
     module _ (h : ℤ) (order : key ≤ℤ h) (w : IsWalked content l key t []) where
-      pub end_gap : IsFirstGap content l h key h
+      pub end_gap : IsNextGap eq content v l h key h t false
       end_gap = record {
-        from = w.from;
-        order = order;
-        to = omega (arith, ints);
-        held = λ k x y. w.held k x (omega (arith, ints));
-        clear = λ k x y. w.same k x;
-        greatest = inl refl;
+        gap = record {
+          from = w.from;
+          order = order;
+          to = omega (arith, ints);
+          held = λ k x y. w.held k x (omega (arith, ints));
+          clear = λ k x y. w.same k x;
+          greatest = inl refl;
+        };
+        beside = record { below = w.below refl; above = neither (content (h +ℤ pos 1)) (w.same (h +ℤ pos 1) (omega (arith, ints))) };
       }
-
-      pub end_beside : IsBeside eq content v key h t false
-      end_beside = record { below = w.below refl; above = neither (content (h +ℤ pos 1)) (w.same (h +ℤ pos 1) (omega (arith, ints))) }

@@ -4,15 +4,17 @@ use Rattle.std.specs.Prelude.{int_lt, int_le}
 use Rattle.std.specs.Option.{option_map}
 use Rattle.std.proofs.lemmas.Int.{ints}
 use Rattle.std.proofs.Common.{subst}
-use Rattle.std.proofs.lemmas.List.{append_assoc}
+use Rattle.std.proofs.lemmas.List.{append-nil, append_assoc}
 use Rattle.std.proofs.lemmas.List.Elements.{filter-append}
-use Rattle.blaze_entries.specs.Found.{range_in}
+use Rattle.blaze_entries.specs.Found.{found_of, range_in}
+use Rattle.blaze_entries.specs.declared.found.Found.{Found}
 use Rattle.blaze_entries.specs.Starts.{StartsAscend, below, from, last_below, start_at, with_end}
 use Rattle.blaze_entries.proofs.Ascending.{by_order}
-use Rattle.blaze_entries.proofs.Halves.{StartsBelow, below_takes, below_all, below_none, from_skips, from_none, from_all, more_below}
-use Rattle.blaze_entries.proofs.Alike.{none_from_map}
+use Rattle.blaze_entries.proofs.Halves.{StartsBelow, below_takes, below_skips, below_all, below_none, from_skips, from_none, from_all, more_below}
 use Rattle.blaze_table.specs.Entries.{Entry, entry}
 use Rattle.blaze_table.specs.Canonical.{IsCanonical}
+use Rattle.blaze_table.specs.Edited.{IsLeft}
+use Rattle.blaze_table.specs.Planned.{ends_of}
 use Rattle.blaze_table.specs.Splice.{before, IsBelow}
 use Rattle.blaze_table.proofs.Paints.Splices.{before_cuts, before_keeps, below_more}
 use Rattle.blaze_table.proofs.Paints.Painted.{before_past}
@@ -33,6 +35,11 @@ module _ {V : Type 0} where
         ∙ ap (λ l. l ++ below k (e ∷ r.back)) (below_all k r.front (more_below e.lo k r.front (omega (arith, ints, r.starts)) r.front_below))
         ∙ ap (λ l. r.front ++ l) (below_takes k e r.back r.starts)
         ∙ ap (λ l. r.front ++ e ∷ l) (below_none k k high r.back (omega (arith, ints)) r.back_from)
+
+    pub front_last : below e.lo es ≡ r.front
+    front_last = ap (below e.lo) r.parts ∙ filter-append (λ x. int_lt x.lo e.lo) r.front (e ∷ r.back)
+        ∙ ap (λ l. l ++ below e.lo (e ∷ r.back)) (below_all e.lo r.front r.front_below)
+        ∙ ap (λ l. r.front ++ l) (below_skips e.lo e r.back (omega (arith, ints)) ∙ below_none e.lo k high r.back (omega (arith, ints, r.starts)) r.back_from) ∙ append-nil r.front
 
     pub from_last : from k es ≡ r.back
     from_last = ap (from k) r.parts ∙ filter-append (λ x. int_le k x.lo) r.front (e ∷ r.back)
@@ -56,11 +63,6 @@ module _ {V : Type 0} (eq : V → V → Bool) (k low high : ℤ) (es : List (Ent
   ends_seen l z (Some e) p =
       let q : range_in e ≡ (l, z) = cc in
       record { found = e; is = refl; lo = ap (λ (t : ℤ × ℤ). t.0) q; hi = ap (λ (t : ℤ × ℤ). t.1) q }
-
-  pub trim_none : None ≡ option_map range_in (last_below k es) → es ≡ before k (below k es) ++ from k es
-  trim_none p =
-      let none = no_last k low high es s (none_from_map range_in (last_below k es) p) in
-      halves k low high es s ∙ ap (λ t. t ++ from k es) (none ∙ sym (ap (before k) none))
 
   module _ (l z : ℤ) (p : Some (l, z) ≡ option_map range_in (last_below k es)) where
     pub trim_starts : l <ℤ k
@@ -94,3 +96,16 @@ module _ {V : Type 0} (eq : V → V → Bool) (k low high : ℤ) (es : List (Ent
         ap (λ x. with_end x y es) (sym r.lo) ∙ ap (with_end r.found.lo y) i.parts ∙ end_put r.found.lo y r.found i.front i.back refl i.front_below
         ∙ ap (λ x. i.front ++ entry r.found.lo x r.found.value ∷ i.back) q ∙ sym (append_assoc i.front (cut ∷ []) i.back)
         ∙ sym (ap (λ t. t ++ from k es) (ap (before k) b ∙ before_past k i.front (r.found ∷ []) (front_ends r i) ∙ ap (λ t. i.front ++ t) (before_cuts k r.found [] (omega (arith, ints)) (omega (arith, ints)))) ∙ ap (λ t. (i.front ++ cut ∷ []) ++ t) (from_last k high r.found es i))
+
+-- an entry that was looked at as the last below a key
+pub left_is : {T V : Type 0} (rank : T → ℤ) (test : V → Bool) (l low high : ℤ) (es : List (Entry V)) → StartsAscend low high es → (left : Option (Found T))
+    → option_map (found_of rank) left ≡ option_map (λ e. (e.lo, e.hi, test e.value)) (last_below l es) → IsLeft l (below l es) (option_map (ends_of rank) left)
+left_is {T} {V} rank test l low high es s left q = by_both left (last_below l es) refl q
+  where
+    by_both : (left : Option (Found T)) (o : Option (Entry V)) → last_below l es ≡ o → option_map (found_of rank) left ≡ option_map (λ e. (e.lo, e.hi, test e.value)) o → IsLeft l (below l es) (option_map (ends_of rank) left)
+    by_both None None p q = subst (λ xs. before l xs ≡ xs) (sym (no_last l low high es s p)) refl
+    by_both None (Some e) p q = cc
+    by_both (Some f) None p q = cc
+    by_both (Some f) (Some e) p q =
+        let found : found_of rank f ≡ (e.lo, e.hi, test e.value) = cc in
+        ap (λ (t : ℤ × ℤ × Bool). Some (t.0, t.1)) found ∙ sym (ap (option_map range_in) p)

@@ -1,6 +1,6 @@
 -- The last entry that starts below a key, with what stands before and behind it: searches and edits at its start.
 use Rattle.std.proofs.Common.{◌≡◌, Bool, ℤ, pos, ◌+ℤ◌, ◌≤ℤ◌, ◌<ℤ◌, List, [], ◌∷◌, ◌++◌, Option, Some, None, refl, ◌∙◌, sym, subst, ap, arith}
-use Rattle.std.specs.Prelude.{IsSome, IfSome}
+use Rattle.std.specs.Prelude.{IsSome}
 use Rattle.std.specs.Option.{option_map}
 use Rattle.std.proofs.lemmas.Int.{ints}
 use Rattle.std.proofs.lemmas.List.{append_assoc}
@@ -100,13 +100,6 @@ module _ {V : Type 0} (eq : V → V → Bool) (b high : ℤ) (es : List (Entry V
     pub present : IsSome (start_at s es)
     present = subst (λ o. IsSome o) (sym there) refl
 
-    -- what is said of the last entry that starts below b is said of it
-    pub of_last : (P : Entry V → Type 0) → IfSome (last_below b es) P → P h.of
-    of_last P i = subst (λ o. IfSome o P) h.last i
-
-    pub for_last : (P : Entry V → Type 0) → P h.of → IfSome (last_below b es) P
-    for_last P p = subst (λ o. IfSome o P) (sym h.last) p
-
     pub is_holder : {e : Entry V} → start_at s es ≡ Some e → h.of ≡ e
     is_holder q = one (start_at s es) there q
       where
@@ -134,22 +127,6 @@ module _ {V : Type 0} (eq : V → V → Bool) (b high : ℤ) (es : List (Entry V
           ap (with_entry p) parts_before
           ∙ with_entry-between p (h.of.hi +ℤ pos 1) high (h.front ++ h.of ∷ []) h.back (subst (λ x. StartsBelow x (h.front ++ h.of ∷ [])) (sym q) starts_before) (omega (arith, ints)) h.back_over
           ∙ append_assoc h.front (h.of ∷ []) (p ∷ h.back)
-
-      -- and another behind that
-      pub put_both : (p r : Entry V) → p.lo ≡ k → p.lo <ℤ r.lo → r.lo ≤ℤ z → with_entry r (with_entry p es) ≡ h.front ++ h.of ∷ p ∷ r ∷ h.back
-      put_both p r q a b =
-          let at_hi = h.hi in
-          let at_lo = h.lo in
-          let first : StartsBelow r.lo (h.front ++ h.of ∷ []) = starts_behind r.lo h.front h.of (more_below h.of.lo r.lo h.front (omega (arith, ints)) h.front_starts) (omega (arith, ints)) in
-          ap (with_entry r) (put_inside p q ∙ sym (append_assoc h.front (h.of ∷ []) (p ∷ h.back)) ∙ sym (append_assoc (h.front ++ h.of ∷ []) (p ∷ []) h.back))
-          ∙ with_entry-between r (h.of.hi +ℤ pos 1) high ((h.front ++ h.of ∷ []) ++ p ∷ []) h.back (starts_behind r.lo (h.front ++ h.of ∷ []) p first a) (omega (arith, ints)) h.back_over
-          ∙ append_assoc (h.front ++ h.of ∷ []) (p ∷ []) (r ∷ h.back) ∙ append_assoc h.front (h.of ∷ []) (p ∷ r ∷ h.back)
-
-    pub taken_from : (ys : List (Entry V)) → without s (h.front ++ h.of ∷ ys) ≡ h.front ++ ys
-    taken_from ys = ap (λ k. without k (h.front ++ h.of ∷ ys)) (sym h.lo) ∙ without-between h.of.lo h.of h.front ys refl h.front_starts
-
-    pub taken_out : without s es ≡ h.front ++ h.back
-    taken_out = ap (without s) h.parts ∙ taken_from h.back
 
     pub end_moved : (y : ℤ) (ys : List (Entry V)) → with_end s y (h.front ++ h.of ∷ ys) ≡ h.front ++ entry h.of.lo y h.of.value ∷ ys
     end_moved y ys = ap (λ k. with_end k y (h.front ++ h.of ∷ ys)) (sym h.lo) ∙ end_put h.of.lo y h.of h.front ys refl h.front_starts

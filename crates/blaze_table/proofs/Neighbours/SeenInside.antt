@@ -1,31 +1,43 @@
 -- Whether a range lies inside an entry with an equal value, by the entry that starts there or below it.
-use Rattle.std.proofs.Common.{◌≡◌, ◌+◌, ◌≤◌, ℤ, pos, ◌+ℤ◌, ◌≤ℤ◌, ◌<ℤ◌, Bool, true, false, cond, List, [], ◌∷◌, ◌++◌, length, Option, Some, None, refl, ◌∙◌, sym, subst, ap, arith, inl, inr}
+use Rattle.std.proofs.Common.{◌≡◌, ◌+◌, ◌≤◌, ℤ, pos, ◌+ℤ◌, ◌≤ℤ◌, ◌<ℤ◌, Bool, true, false, List, [], ◌∷◌, ◌++◌, length, Option, Some, None, refl, ◌∙◌, sym, subst, ap, arith, inl, inr}
 use Rattle.std.specs.Prelude.{◌↔◌, int_le}
 use Rattle.std.specs.List.{last_or}
 use Rattle.std.specs.Option.{option_map, option_or}
-use Rattle.std.proofs.lemmas.Int.{ints, by_lt_z}
+use Rattle.std.proofs.lemmas.Int.{ints}
 use Rattle.std.proofs.lemmas.Bool.{and_parts, and_from}
-use Rattle.blaze_int.proofs.Comparisons.{le_true, le_false, le_holds, not_both}
+use Rattle.blaze_int.proofs.Comparisons.{le_true, le_holds, not_both}
 use Rattle.blaze_entries.specs.Found.{found_in}
 use Rattle.blaze_entries.specs.Scanned.{Seen}
 use Rattle.blaze_entries.specs.Starts.{StartsAscend, below, last_below, start_at}
-use Rattle.blaze_entries.proofs.Ascending.{start_none}
+use Rattle.blaze_entries.proofs.Ascending.{by_order, start_none}
+use Rattle.blaze_entries.proofs.Halves.{below_none, below_takes}
 use Rattle.blaze_table.specs.Entries.{Entry}
 use Rattle.blaze_table.specs.Canonical.{IsCanonical}
 use Rattle.blaze_table.specs.Painted.{IsInside}
 use Rattle.blaze_table.specs.Planned.{IsPlanOf, reaches}
 use Rattle.blaze_table.specs.Splice.{before, after, IsBelow}
-use Rattle.blaze_table.proofs.Paints.Clearing.{below_below}
-use Rattle.blaze_table.proofs.Neighbours.Growing.{last_there}
 use Rattle.blaze_table.proofs.Paints.Inside.{inside_above}
 use Rattle.blaze_table.proofs.Canonical.Lookup.{IsAbove-from_apart, above_by}
-use Rattle.blaze_table.proofs.Walks.Plans.{first_is, not_below}
 use Rattle.blaze_table.proofs.Paints.Splices.{by_after, before_keeps, after_skips}
-use Rattle.blaze_table.proofs.Cuts.Splits.{last_at, no_last, no_last_from, ends_below}
-use Rattle.blaze_table.proofs.Walks.Walked.{same_below}
+use Rattle.blaze_table.proofs.Cuts.Splits.{last_at, no_last_from, ends_below}
 use Rattle.blaze_table.proofs.Paints.Widened.{after_over}
 
+-- the last entry that starts up to a key starts there, or is the last that starts below it
+last_up : {V : Type 0} (l high : ℤ) (o : Option (Entry V)) (b : ℤ) (es : List (Entry V)) → StartsAscend b high es → last_or o (below (l +ℤ pos 1) es) ≡ option_or (start_at l es) (last_or o (below l es))
+last_up l high o b [] s = refl
+last_up l high o b (e ∷ es) s = by_order l e.lo
+    (λ u p t. rw (below_none (l +ℤ pos 1) e.lo high (e ∷ es) (omega (arith, ints)) (omega (arith, ints), s.1, s.2), below_none l e.lo high (e ∷ es) (omega (arith, ints)) (omega (arith, ints), s.1, s.2), start_none l e.lo high (e ∷ es) u (omega (arith, ints), s.1, s.2)) refl)
+    (λ u p t. rw (below_takes (l +ℤ pos 1) e es (omega (arith, ints)), below_none (l +ℤ pos 1) (e.lo +ℤ pos 1) high es (omega (arith, ints)) s.2, t) refl)
+    (λ u p t. rw (below_takes (l +ℤ pos 1) e es (omega (arith, ints)), below_takes l e es u, t) (last_up l high (Some e) (e.lo +ℤ pos 1) es s.2))
+
 module _ {V : Type 0} (eq : V → V → Bool) (v : V) (l h : ℤ) (w : l ≤ℤ h) where
+  abbrev test : V → Bool
+  test x = eq x v
+
+  map_or : (a b : Option (Entry V)) → option_map (found_in test) (option_or a b) ≡ option_or (option_map (found_in test) a) (option_map (found_in test) b)
+  map_or None b = refl
+  map_or (Some e) b = refl
+
   -- a list in which a range lies inside an entry is no longer than what lies below and above, and one entry
   pub inside_short : (es : List (Entry V)) → IsCanonical eq es → IsInside eq l h v es → length es ≤ length (before l es) + length (after h es) + 1
   inside_short [] c i = absurd i
@@ -54,7 +66,7 @@ module _ {V : Type 0} (eq : V → V → Bool) (v : V) (l h : ℤ) (w : l ≤ℤ 
 
   module _ (low high : ℤ) (es : List (Entry V)) (s : StartsAscend low high es) (c : IsCanonical eq es) where
     -- by the last entry that starts up to the range's first key
-    inside_last : (o : Option (Entry V)) → last_below (l +ℤ pos 1) es ≡ o → (reaches h (option_map (found_in eq v) o) ≡ true) ↔ IsInside eq l h v es
+    inside_last : (o : Option (Entry V)) → last_below (l +ℤ pos 1) es ≡ o → (reaches h (option_map (found_in test) o) ≡ true) ↔ IsInside eq l h v es
     inside_last None q = ((λ r. cc), (λ i. absurd (not_inside (l +ℤ pos 1) high es (omega (arith, ints)) (no_last_from (l +ℤ pos 1) low high es s q) i)))
     inside_last (Some e) q =
         let i = last_at (l +ℤ pos 1) low high e es s q in
@@ -67,33 +79,12 @@ module _ {V : Type 0} (eq : V → V → Bool) (v : V) (l h : ℤ) (w : l ≤ℤ 
               and_from (eq e.value v) (int_le h e.hi) t.1 (le_true h e.hi t.0)),
         )
 
-    -- it starts there, or is the last below
-    holder_is : option_map (found_in eq v) (last_below (l +ℤ pos 1) es) ≡ option_or (option_map (found_in eq v) (start_at l es)) (option_map (found_in eq v) (last_below l es))
-    holder_is = by_last (last_below (l +ℤ pos 1) es) refl
-      where
-        by_last : (o : Option (Entry V)) → last_below (l +ℤ pos 1) es ≡ o → option_map (found_in eq v) o ≡ option_or (option_map (found_in eq v) (start_at l es)) (option_map (found_in eq v) (last_below l es))
-        by_last None q =
-            let no_start = start_none l (l +ℤ pos 1) high es (omega (arith, ints)) (no_last_from (l +ℤ pos 1) low high es s q) in
-            let no_left : last_below l es ≡ None = ap (last_or None) (sym (below_below l (l +ℤ pos 1) es (omega (arith, ints))) ∙ ap (below l) (no_last (l +ℤ pos 1) low high es s q)) in
-            sym (ap (λ x. option_or (option_map (found_in eq v) x) (option_map (found_in eq v) (last_below l es))) no_start ∙ ap (option_map (found_in eq v)) no_left)
-        by_last (Some e) q =
-            let i = last_at (l +ℤ pos 1) low high e es s q in
-            let up = i.starts in
-            by_lt_z e.lo l
-            (λ u.
-            let left : last_below l es ≡ Some e = ap (last_or None) (same_below eq v l h low high es s c (l +ℤ pos 1) e i l u (omega (arith, ints))) ∙ q in
-            let no_start : option_map (found_in eq v) (start_at l es) ≡ None = sym (first_is eq v l low high es s) ∙ ap (λ x. not_below l (option_map (found_in eq v) x)) q ∙ ap (λ b. cond b (Some (found_in eq v e)) None) (le_false l e.lo u) in
-            sym (ap (λ x. option_or x (option_map (found_in eq v) (last_below l es))) no_start ∙ ap (option_map (found_in eq v)) left))
-            (λ u.
-            let same : e.lo ≡ l = omega (arith, ints) in
-            let here : start_at l es ≡ Some e = ap (λ x. start_at x es) (sym same) ∙ last_there (l +ℤ pos 1) high e es i in
-            sym (ap (λ x. option_or (option_map (found_in eq v) x) (option_map (found_in eq v) (last_below l es))) here))
-
-    pub inside_seen : (p : Seen) → IsPlanOf eq l h v es p → (reaches h (option_or p.first p.left) ≡ true) ↔ IsInside eq l h v es
+    pub inside_seen : (p : Seen) → IsPlanOf test l h es p → (reaches h (option_or p.first p.left) ≡ true) ↔ IsInside eq l h v es
     inside_seen p r =
-        let holder : option_map (found_in eq v) (last_below (l +ℤ pos 1) es) ≡ option_or p.first p.left = holder_is ∙ sym (ap (λ x. option_or x p.left) r.first ∙ ap (option_or (option_map (found_in eq v) (start_at l es))) r.left) in
+        let holder : option_map (found_in test) (last_below (l +ℤ pos 1) es) ≡ option_or p.first p.left = ap (option_map (found_in test)) (last_up l high None low es s) ∙ map_or (start_at l es) (last_below l es)
+        ∙ sym (ap (λ x. option_or x p.left) r.first ∙ ap (option_or (option_map (found_in test) (start_at l es))) r.left) in
         let last = inside_last (last_below (l +ℤ pos 1) es) refl in
         ((λ t. last.0 (ap (reaches h) holder ∙ t)), (λ i. sym (ap (reaches h) holder) ∙ last.1 i))
 
-    pub not_reached : (p : Seen) → IsPlanOf eq l h v es p → reaches h (option_or p.first p.left) ≡ false → IsInside eq l h v es → ⊥
+    pub not_reached : (p : Seen) → IsPlanOf test l h es p → reaches h (option_or p.first p.left) ≡ false → IsInside eq l h v es → ⊥
     not_reached p r n i = not_both (reaches h (option_or p.first p.left)) ((inside_seen p r).1 i) n

@@ -35,28 +35,28 @@ module _ {V : Type 0} where
   started s t None p = cc
   started s t (Some e) p = let q : (s, t) ≡ range_in e = cc in (e, (refl, sym (ap (λ (x : ℤ × ℤ). x.0) q)))
 
-  -- the entries after a look for the next that starts above f
-  module _ (f n low high : ℤ) (at : n ≡ f +ℤ pos 1) (cur was : List (Entry V)) (same : cur ≡ was) (h : StartsAscend low high cur) where
-    found : first_from n was ≡ first_from (f +ℤ pos 1) cur
-    found = ap (λ (x : ℤ). first_from x was) at ∙ ap (first_from (f +ℤ pos 1)) (sym same)
+  -- the entries after a look for the next that starts from n on
+  module _ (n low high : ℤ) (cur was : List (Entry V)) (same : cur ≡ was) (h : StartsAscend low high cur) where
+    found : first_from n was ≡ first_from n cur
+    found = ap (first_from n) (sym same)
 
     -- it is there
-    pub there : (s t : ℤ) → Some (s, t) ≡ option_map range_in (first_from n was) → (f <ℤ s) × IsSome (start_at s cur)
+    pub there : (s t : ℤ) → Some (s, t) ≡ option_map range_in (first_from n was) → (n ≤ℤ s) × IsSome (start_at s cur)
     there s t p =
         let d = started s t (first_from n was) p in
-        let e = first_there (f +ℤ pos 1) low high d.0 cur h (sym found ∙ d.1.0) in
+        let e = first_there n low high d.0 cur h (sym found ∙ d.1.0) in
         let over = e.0 in
         let is = d.1.1 in
         (omega (arith, ints), subst (λ o. IsSome o) (sym (subst (λ (x : ℤ). start_at x cur ≡ Some d.0) is e.1)) refl)
 
     -- or it starts above z, or there is none: then all that started up to z is taken out
-    pub all_out : (z : ℤ) (old : List (Entry V)) → f ≤ℤ z → below (f +ℤ pos 1) was ≡ below (f +ℤ pos 1) old → from (z +ℤ pos 1) was ≡ from (z +ℤ pos 1) old
-        → (r : Option (ℤ × ℤ)) → r ≡ option_map range_in (first_from n was) → IfSome r (λ x. z <ℤ x.0) → cur ≡ below (f +ℤ pos 1) old ++ from (z +ℤ pos 1) old
+    pub all_out : (z : ℤ) (old : List (Entry V)) → n ≤ℤ z → below n was ≡ below n old → from (z +ℤ pos 1) was ≡ from (z +ℤ pos 1) old
+        → (r : Option (ℤ × ℤ)) → r ≡ option_map range_in (first_from n was) → IfSome r (λ x. z <ℤ x.0) → cur ≡ below n old ++ from (z +ℤ pos 1) old
     all_out z old w b a r p u =
-        halves (f +ℤ pos 1) low high cur h ∙ ap (λ x. x ++ from (f +ℤ pos 1) cur) (ap (below (f +ℤ pos 1)) same ∙ b)
-        ∙ ap (λ x. below (f +ℤ pos 1) old ++ x) (all_above (from (f +ℤ pos 1) cur) (starts_from (f +ℤ pos 1) low high cur h) r (p ∙ ap (option_map range_in) found) u ∙ from_from (f +ℤ pos 1) (z +ℤ pos 1) cur (omega (arith, ints)) ∙ ap (from (z +ℤ pos 1)) same ∙ a)
+        halves n low high cur h ∙ ap (λ x. x ++ from n cur) (ap (below n) same ∙ b)
+        ∙ ap (λ x. below n old ++ x) (all_above (from n cur) (starts_from n low high cur h) r (p ∙ ap (option_map range_in) found) u ∙ from_from n (z +ℤ pos 1) cur (omega (arith, ints)) ∙ ap (from (z +ℤ pos 1)) same ∙ a)
       where
-        all_above : (xs : List (Entry V)) → StartsAscend (f +ℤ pos 1) high xs → (r : Option (ℤ × ℤ)) → r ≡ option_map range_in (first_entry xs) → IfSome r (λ x. z <ℤ x.0) → xs ≡ from (z +ℤ pos 1) xs
+        all_above : (xs : List (Entry V)) → StartsAscend n high xs → (r : Option (ℤ × ℤ)) → r ≡ option_map range_in (first_entry xs) → IfSome r (λ x. z <ℤ x.0) → xs ≡ from (z +ℤ pos 1) xs
         all_above [] h r p u = refl
         all_above (e ∷ xs) h None p u = cc
         all_above (e ∷ xs) h (Some x) p u =

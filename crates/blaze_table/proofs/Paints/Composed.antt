@@ -1,15 +1,15 @@
 -- The steps of a paint in place one after another.
-use Rattle.std.proofs.Common.{◌≡◌, ℤ, pos, ◌+ℤ◌, ◌≤ℤ◌, Bool, List, [], ◌∷◌, ◌++◌, Some, refl, ◌∙◌, sym, subst, ap, arith}
+use Rattle.std.proofs.Common.{◌≡◌, ℤ, pos, ◌+ℤ◌, ◌-ℤ◌, ◌≤ℤ◌, Bool, List, [], ◌∷◌, ◌++◌, Some, refl, ◌∙◌, sym, subst, ap, arith}
 use Rattle.std.specs.Prelude.{int_lt, int_le}
 use Rattle.std.proofs.lemmas.Int.{ints, by_lt_z}
-use Rattle.std.proofs.lemmas.List.{append_assoc}
+use Rattle.std.proofs.lemmas.List.{append_assoc, append-nil}
 use Rattle.std.proofs.lemmas.List.Elements.{filter-append}
 use Rattle.blaze_entries.specs.Starts.{StartsAscend, below, from, start_at, with_end}
 use Rattle.blaze_entries.proofs.Halves.{StartsBelow, below_takes, from_skips, below_all, below_none, from_none, more_below}
 use Rattle.blaze_table.specs.Entries.{Entry, entry}
 use Rattle.blaze_table.specs.Canonical.{IsCanonical}
 use Rattle.blaze_table.specs.Planned.{IsRestKept, IsStartPut, IsPutAt, IsExtended}
-use Rattle.blaze_table.specs.Splice.{before}
+use Rattle.blaze_table.specs.Splice.{before, IsRangeCutOf}
 use Rattle.blaze_table.proofs.Paints.Splices.{by_before, before_ends, before_keeps, before_cuts}
 use Rattle.blaze_table.proofs.Cuts.Splits.{starts_below, halves, from_at}
 use Rattle.blaze_table.proofs.Paints.EditLists.{end_put}
@@ -40,14 +40,44 @@ module _ {V : Type 0} (eq : V → V → Bool) where
       (λ u m p. rw p (m, tt))
       (λ u m p. rw p tt)
 
+  pub rest_below : (l z : ℤ) (old new : List (Entry V)) → IsRestKept eq (l -ℤ pos 1) z old new → below l new ≡ below l old
+  rest_below l z old new r = let q : (l -ℤ pos 1) +ℤ pos 1 ≡ l = omega (arith, ints) in subst (λ x. below x new ≡ below x old) q r.below
+
   module _ (low high : ℤ) (es : List (Entry V)) (s : StartsAscend low high es) (c : IsCanonical eq es) where
-    -- the painted entry put in at l
+    -- what starts below l is as it was
+    pub under_canonical : (l : ℤ) (c2 : List (Entry V)) → below l c2 ≡ below l es → IsCanonical eq (below l c2)
+    under_canonical l c2 q = subst (IsCanonical eq) (sym q) (canonical_below l low high es s c)
+
+    -- a range taken out
+    pub taken_out : (l z : ℤ) → l ≤ℤ z → (c2 c3 c4 : List (Entry V)) → IsRestKept eq (l -ℤ pos 1) z es c2 → c3 ≡ before l (below l c2) ++ from l c2 → c4 ≡ below l c3 ++ from (z +ℤ pos 1) c3 → IsRangeCutOf eq l z es c4
+    taken_out l z w c2 c3 c4 r q t =
+        let front = before l (below l es) in
+        let front_below = starts_before l (below l es) (canonical_below l low high es s c) in
+        let third : c3 ≡ front ++ from l c2 = q ∙ ap (λ x. before l x ++ from l c2) (rest_below l z es c2 r) in
+        let low_part : below l c3 ≡ front =
+        ap (below l) third ∙ filter-append (λ x. int_lt x.lo l) front (from l c2)
+        ∙ ap (λ x. x ++ below l (from l c2)) (below_all l front front_below) ∙ ap (λ x. front ++ x) (below_from l l c2 (omega (arith, ints))) ∙ append-nil front in
+        let high_part : from (z +ℤ pos 1) c3 ≡ from (z +ℤ pos 1) c2 =
+        ap (from (z +ℤ pos 1)) third ∙ filter-append (λ x. int_le (z +ℤ pos 1) x.lo) front (from l c2)
+        ∙ ap (λ x. x ++ from (z +ℤ pos 1) (from l c2)) (from_none (z +ℤ pos 1) front (more_below l (z +ℤ pos 1) front (omega (arith, ints)) front_below)) ∙ from_from l (z +ℤ pos 1) c2 (omega (arith, ints)) in
+        record {
+          above = from (z +ℤ pos 1) c2;
+          like = r.like.alike;
+          joined = t ∙ ap (λ x. x ++ from (z +ℤ pos 1) c3) (low_part ∙ before_below l low high es s c) ∙ ap (λ x. before l es ++ x) high_part;
+        }
+
+    -- a range of one entry taken out
+    pub taken_within : (l z : ℤ) (c2 c3 : List (Entry V)) → IsRestKept eq (l -ℤ pos 1) z es c2 → c3 ≡ before l (below l c2) ++ from l c2 → from l c2 ≡ from (z +ℤ pos 1) c2 → IsRangeCutOf eq l z es c3
+    taken_within l z c2 c3 r q n = record {
+      above = from (z +ℤ pos 1) c2;
+      like = r.like.alike;
+      joined = q ∙ ap (λ x. before l x ++ from l c2) (rest_below l z es c2 r) ∙ ap (λ x. x ++ from l c2) (before_below l low high es s c) ∙ ap (λ x. before l es ++ x) n;
+    }
+
+    -- an entry put in at l
     module _ (l z : ℤ) (v : V) (w : l ≤ℤ z) (c2 : List (Entry V)) (r : IsStartPut eq (entry l z v) es c2) where
       abbrev p : Entry V
       p = entry l z v
-
-      pub put_canonical : IsCanonical eq (below l c2)
-      put_canonical = subst (IsCanonical eq) (sym r.below) (canonical_below l low high es s c)
 
       pub put_at : StartsAscend low high c2 → (c3 c4 : List (Entry V)) → c3 ≡ before l (below l c2) ++ from l c2 → c4 ≡ below (l +ℤ pos 1) c3 ++ from (z +ℤ pos 1) c3 → IsPutAt eq p es c4
       put_at s2 c3 c4 q t =

@@ -1,16 +1,21 @@
--- The starts of a paint put in, over plain lists.
-use Rattle.std.proofs.Common.{◌≡◌, ℤ, pos, ◌+ℤ◌, ◌≤ℤ◌, ◌<ℤ◌, Bool, true, false, cond, List, [], ◌∷◌, Option, Some, None, refl, ◌∙◌, sym, subst, ap, arith}
-use Rattle.std.specs.Prelude.{IsSome}
-use Rattle.std.specs.List.{Contains}
+-- The starts of an edit put in, over plain lists.
+use Rattle.std.proofs.Common.{◌≡◌, ℤ, pos, ◌+ℤ◌, ◌-ℤ◌, ◌≤ℤ◌, ◌<ℤ◌, Bool, true, false, cond, List, [], ◌∷◌, Option, Some, None, refl, ◌∙◌, sym, subst, ap, arith, ⊎_elim}
+use Rattle.std.specs.Prelude.{IsSome, IfSome, IsSomeAnd}
+use Rattle.std.specs.List.{Contains, last_or}
+use Rattle.std.specs.Option.{option_map}
 use Rattle.std.specs.Ordering.{int_eq}
 use Rattle.std.specs.Cmp.{IsEquivalence}
 use Rattle.std.proofs.lemmas.Int.{ints, by_lt_z}
-use Rattle.blaze_entries.specs.Starts.{below, from, start_at, with_entry, without, with_end_value, IsStartMoved, IsFrontReplaced}
+use Rattle.blaze_entries.specs.Found.{ranks_of}
+use Rattle.blaze_entries.specs.Starts.{below, from, last_below, start_at, with_entry, without, with_end_value, IsStartMoved, IsFrontReplaced}
+use Rattle.blaze_entries.specs.declared.scan.Plan.{Plan}
 use Rattle.blaze_entries.proofs.Ascending.{by_order}
 use Rattle.blaze_entries.proofs.Alike.{one_value}
+use Rattle.blaze_entries.proofs.Halves.{below_takes, below_skips}
 use Rattle.blaze_table.specs.Entries.{Entry, entry, SameEntries}
 use Rattle.blaze_table.specs.Canonical.{IsCanonical}
-use Rattle.blaze_table.specs.Planned.{IsRestOf, IsRestKept, IsStartPut}
+use Rattle.blaze_table.specs.Edited.{HasRoom, IsLikeRest, IsPlace, IsRestPut}
+use Rattle.blaze_table.specs.Planned.{IsRest, IsRestOf, IsRestKept, IsStartPut}
 use Rattle.blaze_table.specs.Splice.{after, IsSameAbove}
 use Rattle.blaze_table.proofs.Paints.Clearing.{below_below}
 use Rattle.blaze_table.proofs.Paints.EditLists.{below_with, from_with_under, from_with, start_with, start_beside, without_with, start_beside_without, below_without, from_without, below_replaced, from_replaced, start_replaced, start_beside_replaced, start_below}
@@ -81,16 +86,38 @@ module _ {V : Type 0} (eq : V → V → Bool) where
       first : int_eq s f.lo ≡ true → f ≡ e
       first r = one_value (start_at s (f ∷ fs)) (ap (λ t. cond t (Some f) (start_at s fs)) r) p
 
+  none_under : (b l : ℤ) (es : List (Entry V)) → l ≤ℤ (b +ℤ pos 1) → IsAbove b es → IsCanonical eq es → below l es ≡ []
+  none_under b l [] w a c = refl
+  none_under b l (g ∷ gs) w a c = below_skips l g gs (omega (arith, ints, a)) ∙ none_under g.hi l gs (omega (arith, ints, a, c.0)) (IsAbove-from_apart eq g gs c.1) c.2
+
+  -- an entry that starts below a key and reaches it is the last that starts below it
+  around_last : (s l : ℤ) (e : Entry V) (es : List (Entry V)) → IsCanonical eq es → start_at s es ≡ Some e → s <ℤ l → l ≤ℤ e.hi → last_below l es ≡ Some e
+  around_last s l e [] c p u w = cc
+  around_last s l e (f ∷ fs) c p u w = by_order s f.lo
+      (λ o q r. let over = over_later f.hi s e fs (IsAbove-from_apart eq f fs c.1) c.2 (later r) in absurd (omega (arith, ints, c.0)))
+      (λ o q r.
+      let same : f ≡ e = one_value (start_at s (f ∷ fs)) (ap (λ t. cond t (Some f) (start_at s fs)) r) p in
+      let reach : l ≤ℤ f.hi = subst (λ (x : Entry V). l ≤ℤ x.hi) (sym same) w in
+      ap (last_or None) (below_takes l f fs (omega (arith, ints, c.0)) ∙ ap (λ xs. f ∷ xs) (none_under f.hi l fs (omega (arith, ints)) (IsAbove-from_apart eq f fs c.1) c.2)) ∙ ap (λ x. Some x) same)
+      (λ o q r. ap (last_or None) (below_takes l f fs (omega (arith, ints))) ∙ last_behind (below l fs) (around_last s l e fs c.2 (later r) u w))
+    where
+      later : int_eq s f.lo ≡ false → start_at s fs ≡ Some e
+      later r = sym (ap (λ t. cond t (Some f) (start_at s fs)) r) ∙ p
+
+      last_behind : (xs : List (Entry V)) → last_or None xs ≡ Some e → last_or None (f ∷ xs) ≡ Some e
+      last_behind [] q = cc
+      last_behind (x ∷ xs) q = q
+
 module _ {V : Type 0} (eq : V → V → Bool) (laws : IsEquivalence eq) where
   -- what an entry has from n on starts there; what starts up to k is as before, and so is what starts from n on
-  record IsRestPut (k s n : ℤ) (old new : List (Entry V)) : Type 0 where
+  record IsMovedOver (k s n : ℤ) (old new : List (Entry V)) : Type 0 where
     of : Entry V
     found : start_at s old ≡ Some of
     same : below (k +ℤ pos 1) new ≡ below (k +ℤ pos 1) old
     over : from n new ≡ entry n of.hi of.value ∷ from n old
 
-  rest_moved : (k s n : ℤ) (old new : List (Entry V)) → k <ℤ s → s <ℤ n → start_at n old ≡ None → IsStartMoved s n old new → IsRestPut k s n old new
-  rest_moved k s n old new above u none w =
+  moved_over : (k s n : ℤ) (old new : List (Entry V)) → k <ℤ s → s <ℤ n → start_at n old ≡ None → IsStartMoved s n old new → IsMovedOver k s n old new
+  moved_over k s n old new above u none w =
       let p = entry n w.of.hi w.of.value in
       record {
         of = w.of;
@@ -99,84 +126,135 @@ module _ {V : Type 0} (eq : V → V → Bool) (laws : IsEquivalence eq) where
         over = ap (from n) w.moved ∙ from_with p (without s old) (start_beside_without n s old (λ t. absurd (omega (arith, ints))) ∙ none) ∙ ap (λ t. p ∷ t) (from_without n s old u);
       }
 
-  -- what lies above z is a list that has all that starts there
-  same_above : (z : ℤ) (old above : List (Entry V)) → above ≡ after z old → ((e : Entry V) → Contains (from (z +ℤ pos 1) old) e → Contains above e) → IsSameAbove eq z old above
-  same_above z old above q i = record {
-    alike = subst (λ (x : List (Entry V)). SameEntries eq x above) q (entries_themselves eq laws above);
-    kept = λ e c u. i e (in_from (z +ℤ pos 1) old e c (omega (arith, ints)));
+  -- what lies above z, once what goes on there starts right above it
+  rest_like : (z s t : ℤ) (old above : List (Entry V)) (r : IsRestOf z old s t) (v : V) → eq r.of.value v ≡ true → above ≡ entry (z +ℤ pos 1) t v ∷ from (z +ℤ pos 1) old → IsSameAbove eq z old above
+  rest_like z s t old above r v i made = record {
+    alike = subst (λ x. SameEntries eq (after z old) x) (sym made) (subst (λ x. SameEntries eq x (entry (z +ℤ pos 1) t v ∷ from (z +ℤ pos 1) old)) (sym r.rest) (refl, r.ends, i, entries_themselves eq laws (from (z +ℤ pos 1) old)));
+    kept = λ e c u. subst (λ es. Contains es e) (sym made) (later_in (entry (z +ℤ pos 1) t v) (from (z +ℤ pos 1) old) e (in_from (z +ℤ pos 1) old e c (omega (arith, ints))));
   }
 
-  -- what lies above z, once its entry starts at n above it
-  module _ (z s t n : ℤ) (up : n ≡ z +ℤ pos 1) (old c new : List (Entry V)) (r : IsRestOf z old s t) (same : start_at s c ≡ start_at s old) (over : from (z +ℤ pos 1) c ≡ from (z +ℤ pos 1) old)
-      (of : Entry V) (found : start_at s c ≡ Some of) (starts : from n new ≡ entry n of.hi of.value ∷ from n c) where
-    rest_like : IsSameAbove eq z old (from (z +ℤ pos 1) new)
-    rest_like =
-        let one : r.of ≡ of = one_value (start_at s old) r.found (sym same ∙ found) in
-        let made : from (z +ℤ pos 1) new ≡ entry (z +ℤ pos 1) of.hi of.value ∷ from (z +ℤ pos 1) old =
-        ap (λ x. from x new) (sym up) ∙ starts ∙ ap (λ x. entry x of.hi of.value ∷ from x c) up ∙ ap (λ x. entry (z +ℤ pos 1) of.hi of.value ∷ x) over in
-        same_above z old (from (z +ℤ pos 1) new) (sym (r.rest ∙ ap (λ (x : Entry V). entry (z +ℤ pos 1) x.hi x.value ∷ from (z +ℤ pos 1) old) one ∙ sym made))
-        (λ e i. subst (λ es. Contains es e) (sym made) (later_in _ (from (z +ℤ pos 1) old) e i))
+  none_like : (z : ℤ) (old above : List (Entry V)) → after z old ≡ from (z +ℤ pos 1) old → above ≡ from (z +ℤ pos 1) old → IsSameAbove eq z old above
+  none_like z old above q r = record {
+    alike = subst (λ x. SameEntries eq x above) (r ∙ sym q) (entries_themselves eq laws above);
+    kept = λ e c u. subst (λ es. Contains es e) (sym r) (in_from (z +ℤ pos 1) old e c (omega (arith, ints)));
+  }
 
-  none_like : (z : ℤ) (old new : List (Entry V)) → after z old ≡ from (z +ℤ pos 1) old → from (z +ℤ pos 1) new ≡ from (z +ℤ pos 1) old → IsSameAbove eq z old (from (z +ℤ pos 1) new)
-  none_like z old new q r =
-      same_above z old (from (z +ℤ pos 1) new) (sym (q ∙ sym r)) (λ e i. subst (λ es. Contains es e) (sym r) i)
+  -- what starts up to k is as it was, and what lies above z starts above it
+  module _ (l k z : ℤ) (w : k ≤ℤ z) (old c : List (Entry V)) (over : from (z +ℤ pos 1) c ≡ from (z +ℤ pos 1) old) where
+    pub rest_put : (rest : Option (ℤ × ℤ)) (above : Option V) (new : List (Entry V)) → IsRest z old rest → HasRoom z c rest → IfSome rest (λ r. (start_at r.0 c ≡ start_at r.0 old) × (l ≤ℤ r.0 → k <ℤ r.0))
+        → IsLikeRest eq l old rest above → IsRestPut l z rest above c new → (below (k +ℤ pos 1) new ≡ below (k +ℤ pos 1) c) × IsSameAbove eq z old (from (z +ℤ pos 1) new)
+    rest_put None above new r room u like q = (ap (below (k +ℤ pos 1)) q, none_like z old (from (z +ℤ pos 1) new) r (ap (from (z +ℤ pos 1)) q ∙ over))
+    rest_put (Some ends) above new r room u like q = ⊎_elim (λ p. put_in above (like p.0 r.of r.found) p.1) (λ p. moved p.0 p.1) q
+      where
+        put_in : (o : Option V) → IsSomeAnd o (λ v. eq r.of.value v ≡ true) → IsSomeAnd o (λ v. new ≡ with_entry (entry (z +ℤ pos 1) ends.1 v) c)
+            → (below (k +ℤ pos 1) new ≡ below (k +ℤ pos 1) c) × IsSameAbove eq z old (from (z +ℤ pos 1) new)
+        put_in None i n = absurd n
+        put_in (Some v) i n =
+            let p = entry (z +ℤ pos 1) ends.1 v in (
+              ap (below (k +ℤ pos 1)) n ∙ below_with (k +ℤ pos 1) p c (omega (arith, ints)),
+              rest_like z ends.0 ends.1 old (from (z +ℤ pos 1) new) r v i (ap (from (z +ℤ pos 1)) n ∙ from_with p c room.2 ∙ ap (λ x. p ∷ x) over),
+            )
 
-  pub kept_none : (k z : ℤ) (es : List (Entry V)) → after z es ≡ from (z +ℤ pos 1) es → IsRestKept eq k z es es
-  kept_none k z es q = record { below = refl; like = none_like z es es q refl }
+        moved : l ≤ℤ ends.0 → IsStartMoved ends.0 (z +ℤ pos 1) c new → (below (k +ℤ pos 1) new ≡ below (k +ℤ pos 1) c) × IsSameAbove eq z old (from (z +ℤ pos 1) new)
+        moved a m =
+            let up = r.starts in
+            let t = moved_over k ends.0 (z +ℤ pos 1) c new (u.1 a) (omega (arith, ints)) room.2 m in
+            let one : t.of ≡ r.of = one_value (start_at ends.0 old) (sym u.0 ∙ t.found) r.found in (
+              t.same,
+              rest_like z ends.0 ends.1 old (from (z +ℤ pos 1) new) r r.of.value (laws.refl r.of.value)
+                  (t.over ∙ ap (λ (x : Entry V). entry (z +ℤ pos 1) x.hi x.value ∷ from (z +ℤ pos 1) c) one ∙ ap (λ x. entry (z +ℤ pos 1) x r.of.value ∷ from (z +ℤ pos 1) c) r.ends ∙ ap (λ x. entry (z +ℤ pos 1) ends.1 r.of.value ∷ x) over),
+            )
 
-  pub kept_moved : (k z s t n : ℤ) (old new : List (Entry V)) → n ≡ z +ℤ pos 1 → k <ℤ s → IsRestOf z old s t → IsStartMoved s n old new → IsRestKept eq k z old new
-  kept_moved k z s t n old new q l r w =
-      let up = r.starts in
-      let over = r.over in
-      let m = rest_moved k s n old new l (omega (arith, ints)) (ap (λ x. start_at x old) q ∙ r.none) w in
-      record {
-        below = m.same;
-        like = rest_like z s t n q old old new r refl refl m.of m.found m.over;
-      }
+  pub has_room : (z : ℤ) (es : List (Entry V)) (rest : Option (ℤ × ℤ)) → IsRest z es rest → HasRoom z es rest
+  has_room z es None r = tt
+  has_room z es (Some e) r = (r.over, is_there (start_at e.0 es) r.found, r.none)
 
-  -- the painted entry put in where none starts
+  -- the entry at k, and what starts below it, stay where an entry that starts above k is moved
+  pub rest_kept : (l k z : ℤ) → k ≤ℤ z → (old new : List (Entry V)) (rest : Option (ℤ × ℤ)) (above : Option V) → IsRest z old rest → IfSome rest (λ r. l ≤ℤ r.0 → k <ℤ r.0) → IsLikeRest eq l old rest above → IsRestPut l z rest above old new → IsRestKept eq k z old new
+  rest_kept l k z w old new rest above r u like q =
+      let t = rest_put l k z w old old refl rest above new r (has_room z old rest r) (beside rest u) like q in
+      record { below = t.0; like = t.1 }
+    where
+      beside : (rest : Option (ℤ × ℤ)) → IfSome rest (λ r. l ≤ℤ r.0 → k <ℤ r.0) → IfSome rest (λ r. (start_at r.0 old ≡ start_at r.0 old) × (l ≤ℤ r.0 → k <ℤ r.0))
+      beside None u = tt
+      beside (Some r) u = (refl, u)
+
+  pub rest_over : (f z : ℤ) → f ≤ℤ z → (old new : List (Entry V)) (rest : Option (ℤ × ℤ)) → IsRest z old rest → IfSome rest (λ r. f <ℤ r.0) → IsRestPut f z rest None old new → IsRestKept eq f z old new
+  rest_over f z w old new None r u q = rest_kept f f z w old new None None r tt tt q
+  rest_over f z w old new (Some e) r u q = rest_kept f f z w old new (Some e) None r (λ v. u) (λ v x p. absurd (omega (arith, ints, u, v))) q
+
+  pub none_above : {T : Type 0} (rank : T → ℤ) (l : ℤ) (rest : Option (T × T)) (above : Option V) → IfSome (option_map (ranks_of rank) rest) (λ r. l <ℤ r.0) → IfSome rest (λ r. rank r.0 <ℤ l → IsSome above)
+  none_above rank l None above u = tt
+  none_above rank l (Some e) above u = λ v. absurd (omega (arith, ints, u, v))
+
+  -- what is known of the place of an edit
+  module _ {T : Type 0} (rank : T → ℤ) (l : ℤ) (es : List (Entry V)) (plan : Plan T) (above : Option V) (c : IsCanonical eq es) (p : IsPlace rank eq l es plan above) where
+    abbrev z : ℤ
+    z = rank plan.end
+
+    abbrev rest : Option (ℤ × ℤ)
+    rest = option_map (ranks_of rank) plan.rest
+
+    -- the entry whose rest it is, where it starts below l, is the last that starts below it
+    pub like_rest : IsLikeRest eq l es rest above
+    like_rest = by_rest rest p.rest
+      where
+        by_rest : (rest : Option (ℤ × ℤ)) → IsRest z es rest → IsLikeRest eq l es rest above
+        by_rest None r = tt
+        by_rest (Some t) r = λ u e q.
+            let same : r.of ≡ e = one_value (start_at t.0 es) r.found q in
+            let end = r.ends in
+            let over = r.over in
+            let order = p.order in
+            let reach : z <ℤ e.hi = subst (λ (x : Entry V). z <ℤ x.hi) same (omega (arith, ints)) in
+            subst (λ o. IfSome o (λ x. z <ℤ x.hi → IsSomeAnd above (λ v. eq x.value v ≡ true))) (around_last eq t.0 l e es c q u (omega (arith, ints))) p.above reach
+
+    -- so that `above` is there
+    pub above_there : IfSome plan.rest (λ r. rank r.0 <ℤ l → IsSome above)
+    above_there = by_rest plan.rest p.rest like_rest
+      where
+        some_and : (P : V → Type 0) (o : Option V) → IsSomeAnd o P → IsSome o
+        some_and P None i = absurd i
+        some_and P (Some v) i = refl
+
+        by_rest : (o : Option (T × T)) → IsRest z es (option_map (ranks_of rank) o) → IsLikeRest eq l es (option_map (ranks_of rank) o) above → IfSome o (λ r. rank r.0 <ℤ l → IsSome above)
+        by_rest None r i = tt
+        by_rest (Some t) r i = λ u. some_and _ above (i u r.of r.found)
+
+    -- what starts below l stays in any case
+    pub rest_started : (new : List (Entry V)) → IsRestPut l z rest above es new → IsRestKept eq (l -ℤ pos 1) z es new
+    rest_started new q = let order = p.order in rest_kept l (l -ℤ pos 1) z (omega (arith, ints)) es new rest above p.rest (under rest) like_rest q
+      where
+        under : (rest : Option (ℤ × ℤ)) → IfSome rest (λ r. l ≤ℤ r.0 → (l -ℤ pos 1) <ℤ r.0)
+        under None = tt
+        under (Some r) = λ u. omega (arith, ints, u)
+
+  -- an entry put in where none starts
   module _ (p : Entry V) (order : p.lo ≤ℤ p.hi) (old c : List (Entry V)) (none : start_at p.lo old ≡ None) (put : c ≡ with_entry p old) where
-    over_put : from (p.hi +ℤ pos 1) c ≡ from (p.hi +ℤ pos 1) old
-    over_put = ap (from (p.hi +ℤ pos 1)) put ∙ from_with_under (p.hi +ℤ pos 1) p old (omega (arith, ints))
+    other : (rest : ℤ × ℤ) → IsRestOf p.hi old rest.0 rest.1 → rest.0 ≡ p.lo → ⊥
+    other rest r = starts_differ p.lo rest.0 r.of old r.found none
 
-    below_put : below p.lo c ≡ below p.lo old
-    below_put = ap (below p.lo) put ∙ below_with p.lo p old (omega (arith, ints))
+    same_put : (rest : ℤ × ℤ) → IsRestOf p.hi old rest.0 rest.1 → start_at rest.0 c ≡ start_at rest.0 old
+    same_put rest r = ap (start_at rest.0) put ∙ start_beside rest.0 p old (other rest r)
 
-    here_put : start_at p.lo c ≡ Some p
-    here_put = ap (start_at p.lo) put ∙ start_with p old
+    pub new_room : (rest : Option (ℤ × ℤ)) → IsRest p.hi old rest → HasRoom p.hi c rest
+    new_room None r = tt
+    new_room (Some e) r = (r.over, is_there (start_at e.0 c) (same_put e r ∙ r.found), ap (start_at (p.hi +ℤ pos 1)) put ∙ start_beside (p.hi +ℤ pos 1) p old (λ t. omega (arith, ints)) ∙ r.none)
 
-    pub new_alone : after p.hi old ≡ from (p.hi +ℤ pos 1) old → IsStartPut eq p old c
-    new_alone q = record {
-      below = below_put;
-      here = here_put;
-      like = none_like p.hi old c q over_put;
-    }
+    pub new_started : (rest : Option (ℤ × ℤ)) (above : Option V) (new : List (Entry V)) → IsRest p.hi old rest → IsLikeRest eq p.lo old rest above → IsRestPut p.lo p.hi rest above c new → IsStartPut eq p old new
+    new_started rest above new r like q =
+        let t = rest_put p.lo p.lo p.hi order old c (ap (from (p.hi +ℤ pos 1)) put ∙ from_with_under (p.hi +ℤ pos 1) p old (omega (arith, ints))) rest above new r (new_room rest r) (beside rest r) like q in
+        record {
+          below = same_below p.lo c new t.0 ∙ ap (below p.lo) put ∙ below_with p.lo p old (omega (arith, ints));
+          here = same_start p.lo c new t.0 ∙ ap (start_at p.lo) put ∙ start_with p old;
+          like = t.1;
+        }
+      where
+        beside : (rest : Option (ℤ × ℤ)) → IsRest p.hi old rest → IfSome rest (λ r. (start_at r.0 c ≡ start_at r.0 old) × (p.lo ≤ℤ r.0 → p.lo <ℤ r.0))
+        beside None r = tt
+        beside (Some e) r = (same_put e r, λ u. by_lt_z p.lo e.0 (λ h. h) (λ h. absurd (other e r (omega (arith, ints)))))
 
-    module _ (s t n : ℤ) (up : n ≡ p.hi +ℤ pos 1) (r : IsRestOf p.hi old s t) where
-      pub new_other : s ≡ p.lo → ⊥
-      new_other = starts_differ p.lo s r.of old r.found none
-
-      same_put : start_at s c ≡ start_at s old
-      same_put = ap (start_at s) put ∙ start_beside s p old new_other
-
-      pub new_present : IsSome (start_at s c)
-      new_present = is_there (start_at s c) (same_put ∙ r.found)
-
-      pub new_absent : start_at n c ≡ None
-      new_absent = ap (start_at n) put ∙ start_beside n p old (λ t. omega (arith, ints)) ∙ ap (λ x. start_at x old) up ∙ r.none
-
-      pub new_with_rest : (new : List (Entry V)) → p.lo ≤ℤ s → IsStartMoved s n c new → IsStartPut eq p old new
-      new_with_rest new u m =
-          let starts = r.starts in
-          let above : p.lo <ℤ s = by_lt_z p.lo s (λ h. h) (λ h. absurd (new_other (omega (arith, ints)))) in
-          let w = rest_moved p.lo s n c new above (omega (arith, ints)) new_absent m in
-          record {
-            below = same_below p.lo c new w.same ∙ below_put;
-            here = same_start p.lo c new w.same ∙ here_put;
-            like = rest_like p.hi s t n up old c new r same_put over_put w.of w.found w.over;
-          }
-
-  -- the painted entry in place of one that starts there
+  -- an entry in place of one that starts there
   module _ (l z : ℤ) (v : V) (order : l ≤ℤ z) (old : List (Entry V)) (present : IsSome (start_at l old)) where
     pub over_kept : (c new : List (Entry V)) → IsRestKept eq l z old c → new ≡ with_end_value l z v c → IsStartPut eq (entry l z v) old new
     over_kept c new w q = record {
@@ -185,19 +263,21 @@ module _ {V : Type 0} (eq : V → V → Bool) (laws : IsEquivalence eq) where
       like = subst (λ (x : List (Entry V)). IsSameAbove eq z old x) (sym (ap (from (z +ℤ pos 1)) q ∙ from_replaced (z +ℤ pos 1) l z v c (omega (arith, ints)))) w.like;
     }
 
-    pub over_front : (s t n : ℤ) (new : List (Entry V)) → IsCanonical eq old → n ≡ z +ℤ pos 1 → s ≤ℤ l → IsRestOf z old s t → IsFrontReplaced l z v n old new → IsStartPut eq (entry l z v) old new
-    over_front s t n new c up under r w =
+    pub over_front : (s t : ℤ) (new : List (Entry V)) → IsCanonical eq old → s ≤ℤ l → IsRestOf z old s t → IsFrontReplaced l z v (z +ℤ pos 1) old new → IsStartPut eq (entry l z v) old new
+    over_front s t new c under r w =
+        let n = z +ℤ pos 1 in
         let c1 = with_end_value l z v old in
         let p = entry n w.of.hi w.of.value in
-        let none : start_at n c1 ≡ None = start_beside_replaced n l z v old (λ t. omega (arith, ints)) ∙ ap (λ x. start_at x old) up ∙ r.none in
+        let ends = r.ends in
         let past = r.over in
-        let over : from n c1 ≡ from n old = from_replaced n l z v old (omega (arith, ints)) in
         let at_it : s ≡ l = by_lt_z s l
-        (λ h. let u = ends_before eq s l r.of w.of old c r.found w.found h in absurd (omega (arith, ints, r.ends, r.over)))
+        (λ h. let u = ends_before eq s l r.of w.of old c r.found w.found h in absurd (omega (arith, ints)))
         (λ h. omega (arith, ints)) in
+        let one : w.of ≡ r.of = one_value (start_at s old) (ap (λ x. start_at x old) at_it ∙ w.found) r.found in
         record {
           below = ap (below l) w.replaced ∙ below_with l p c1 (omega (arith, ints)) ∙ below_replaced l l z v old (omega (arith, ints));
           here = ap (start_at l) w.replaced ∙ start_beside l p c1 (λ t. omega (arith, ints)) ∙ start_replaced l z v old present;
-          like = rest_like z s t n up old old new r refl refl w.of (ap (λ x. start_at x old) at_it ∙ w.found)
-              (ap (from n) w.replaced ∙ from_with p c1 none ∙ ap (λ x. p ∷ x) over);
+          like = rest_like z s t old (from n new) r w.of.value (subst (λ (x : Entry V). eq r.of.value x.value ≡ true) (sym one) (laws.refl r.of.value))
+              (ap (from n) w.replaced ∙ from_with p c1 (start_beside_replaced n l z v old (λ t. omega (arith, ints)) ∙ r.none) ∙ ap (λ x. entry n x w.of.value ∷ from n c1) (ap (λ (x : Entry V). x.hi) one ∙ r.ends)
+              ∙ ap (λ x. entry n t w.of.value ∷ x) (from_replaced n l z v old (omega (arith, ints))));
         }

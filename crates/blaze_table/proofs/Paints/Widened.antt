@@ -1,14 +1,13 @@
 -- A painted range, joined with what lies beside it, is what the paint makes of the list.
 use Rattle.std.proofs.Common.{◌≡◌, ℤ, pos, ◌+ℤ◌, ◌-ℤ◌, ◌≤ℤ◌, ◌<ℤ◌, Bool, true, false, cond, ◌&&◌, ◌||◌, List, [], ◌∷◌, ◌++◌, Option, Some, None, refl, ◌∙◌, sym, subst, ap, arith, inl, inr}
-use Rattle.std.specs.Prelude.{IsSome, int_lt, int_le, ◌⊎◌}
+use Rattle.std.specs.Prelude.{IsSome, int_le, ◌⊎◌}
 use Rattle.std.specs.List.{Contains}
 use Rattle.std.specs.Ordering.{int_eq}
 use Rattle.std.specs.Option.{option_map}
 use Rattle.std.specs.Cmp.{IsEquivalence}
 use Rattle.std.proofs.lemmas.Int.{ints, by_lt_z}
 use Rattle.std.proofs.lemmas.Bool.{and_parts}
-use Rattle.std.proofs.lemmas.List.{append-nil, append_assoc}
-use Rattle.std.proofs.lemmas.List.Elements.{filter-append}
+use Rattle.std.proofs.lemmas.List.{append_assoc}
 use Rattle.blaze_int.proofs.Comparisons.{le_holds, eq_holds, le_true, eq_true}
 use Rattle.blaze_entries.proofs.Alike.{one_value}
 use Rattle.blaze_table.specs.Entries.{Entry, entry, SameEntries}
@@ -20,10 +19,9 @@ use Rattle.blaze_table.proofs.Paints.Kept.{first_in, later_in, by_first, over_in
 use Rattle.blaze_table.proofs.Paints.Painted.{before_past}
 use Rattle.blaze_entries.specs.Found.{found_in}
 use Rattle.blaze_entries.specs.Starts.{StartsAscend, below, last_below, start_at}
-use Rattle.blaze_entries.proofs.Halves.{below_all, below_none, below_skips}
 use Rattle.blaze_table.specs.Planned.{IsEnd, IsUnjoined, joined_start}
 use Rattle.blaze_table.proofs.Cuts.Splits.{LastAt, last_at, no_last_from, ends_below, canonical_part}
-use Rattle.blaze_table.proofs.Neighbours.Growing.{last_there}
+use Rattle.blaze_table.proofs.Neighbours.Growing.{last_there, front_last}
 use Rattle.blaze_table.proofs.Neighbours.Glued.{glue-last}
 
 module _ {V : Type 0} (eq : V → V → Bool) where
@@ -50,38 +48,35 @@ module _ {V : Type 0} (eq : V → V → Bool) where
           same : h ≡ z → entry (h +ℤ pos 1) e.hi e.value ∷ es ≡ entry (z +ℤ pos 1) e.hi e.value ∷ es
           same p = ap (λ x. entry (x +ℤ pos 1) e.hi e.value ∷ es) p
 
-module _ {V : Type 0} (eq : V → V → Bool) (laws : IsEquivalence eq) (l h : ℤ) (v : V) (w : l ≤ℤ h) (low high : ℤ) (es : List (Entry V)) (s : StartsAscend low high es) (c : IsCanonical eq es) where
-  abbrev p : Entry V
-  p = entry l h v
+reaches : (a b : Bool) → (a || b) ≡ true → (a ≡ true) ⊎ (b ≡ true)
+reaches true b q = inl refl
+reaches false b q = inr q
 
-  -- what is beside the painted range on the left
+passed : (b : Bool) (x y : ℤ) → Some x ≡ cond b (Some y) None → (b ≡ true) × (y ≡ x)
+passed true x y q = (refl, cc)
+passed false x y q = cc
+
+failed : (b : Bool) (y : ℤ) → None ≡ cond b (Some y) None → b ≡ false
+failed true y q = cc
+failed false y q = refl
+
+module _ {V : Type 0} (test : V → Bool) (l low high : ℤ) (es : List (Entry V)) (s : StartsAscend low high es) where
+  -- what the range is joined with on the left
   pub record StartedAt (l1 : ℤ) : Type 0 where
     pub of : Entry V
     pub is : last_below l es ≡ Some of
     pub lo : of.lo ≡ l1
     pub near : l ≤ℤ (of.hi +ℤ pos 1)
-    pub like : eq of.value v ≡ true
+    pub like : test of.value ≡ true
 
-  reaches : (a b : Bool) → (a || b) ≡ true → (a ≡ true) ⊎ (b ≡ true)
-  reaches true b q = inl refl
-  reaches false b q = inr q
-
-  passed : (b : Bool) (x y : ℤ) → Some x ≡ cond b (Some y) None → (b ≡ true) × (y ≡ x)
-  passed true x y q = (refl, cc)
-  passed false x y q = cc
-
-  failed : (b : Bool) (y : ℤ) → None ≡ cond b (Some y) None → b ≡ false
-  failed true y q = cc
-  failed false y q = refl
-
-  pub started_at : (l1 : ℤ) → Some l1 ≡ joined_start l (option_map (found_in eq v) (last_below l es)) → StartedAt l1
+  pub started_at : (l1 : ℤ) → Some l1 ≡ joined_start l (option_map (found_in test) (last_below l es)) → StartedAt l1
   started_at l1 q = by_last (last_below l es) refl q
     where
-      by_last : (o : Option (Entry V)) → last_below l es ≡ o → Some l1 ≡ joined_start l (option_map (found_in eq v) o) → StartedAt l1
+      by_last : (o : Option (Entry V)) → last_below l es ≡ o → Some l1 ≡ joined_start l (option_map (found_in test) o) → StartedAt l1
       by_last None i q = cc
       by_last (Some e) i q =
-          let t = passed (eq e.value v && (int_le l e.hi || int_eq l (e.hi +ℤ pos 1))) l1 e.lo q in
-          let u = and_parts (eq e.value v) (int_le l e.hi || int_eq l (e.hi +ℤ pos 1)) t.0 in
+          let t = passed (test e.value && (int_le l e.hi || int_eq l (e.hi +ℤ pos 1))) l1 e.lo q in
+          let u = and_parts (test e.value) (int_le l e.hi || int_eq l (e.hi +ℤ pos 1)) t.0 in
           record {
             of = e;
             is = i;
@@ -93,7 +88,7 @@ module _ {V : Type 0} (eq : V → V → Bool) (laws : IsEquivalence eq) (l h : �
             ];
           }
 
-  pub started_below : (l1 : ℤ) → Some l1 ≡ joined_start l (option_map (found_in eq v) (last_below l es)) → l1 <ℤ l
+  pub started_below : (l1 : ℤ) → Some l1 ≡ joined_start l (option_map (found_in test) (last_below l es)) → l1 <ℤ l
   started_below l1 q =
       let t = started_at l1 q in
       let i = last_at l low high t.of es s t.is in
@@ -101,16 +96,27 @@ module _ {V : Type 0} (eq : V → V → Bool) (laws : IsEquivalence eq) (l h : �
       let here = t.lo in
       omega (arith, ints)
 
-  pub started_there : (l1 : ℤ) → Some l1 ≡ joined_start l (option_map (found_in eq v) (last_below l es)) → IsSome (start_at l1 es)
+  pub started_there : (l1 : ℤ) → Some l1 ≡ joined_start l (option_map (found_in test) (last_below l es)) → IsSome (start_at l1 es)
   started_there l1 q =
       let t = started_at l1 q in
       let i = last_at l low high t.of es s t.is in
       subst (λ o. IsSome o) (sym (ap (λ x. start_at x es) (sym t.lo) ∙ last_there l high t.of es i)) refl
 
-  below_front : (e : Entry V) (i : LastAt l high e es) → below e.lo es ≡ i.front
-  below_front e i = ap (below e.lo) i.parts ∙ filter-append (λ x. int_lt x.lo e.lo) i.front (e ∷ i.back)
-      ∙ ap (λ t. t ++ below e.lo (e ∷ i.back)) (below_all e.lo i.front i.front_below)
-      ∙ ap (λ t. i.front ++ t) (below_skips e.lo e i.back (omega (arith, ints)) ∙ below_none e.lo l high i.back (omega (arith, ints, i.starts)) i.back_from) ∙ append-nil i.front
+-- the range ends at its own end, or above it
+pub end_up : {V : Type 0} (eq : V → V → Bool) (test : V → Bool) (h : ℤ) (es : List (Entry V)) → IsCanonical eq es → (z : ℤ) → IsEnd test h es z → h ≤ℤ z
+end_up eq test h es c z (inl e) = let q = e.0 in omega (arith, ints)
+end_up eq test h es c z (inr e) =
+    let whole : IsCanonical eq (e.next ∷ e.others) = subst (IsCanonical eq) e.first (canonical_after eq h es c) in
+    let start = e.touches in
+    let finish = e.ends in
+    omega (arith, ints, whole.0)
+
+module _ {V : Type 0} (eq : V → V → Bool) (laws : IsEquivalence eq) (l h : ℤ) (v : V) (w : l ≤ℤ h) (low high : ℤ) (es : List (Entry V)) (s : StartsAscend low high es) (c : IsCanonical eq es) where
+  abbrev p : Entry V
+  p = entry l h v
+
+  abbrev test : V → Bool
+  test x = eq x v
 
   nothing_before : (ys : List (Entry V)) → StartsAscend l high ys → IsCanonical eq ys → before l ys ≡ []
   nothing_before [] b k = refl
@@ -149,7 +155,7 @@ module _ {V : Type 0} (eq : V → V → Bool) (laws : IsEquivalence eq) (l h : �
         (λ u. ap (λ x. glue eq x (p ∷ [])) (left_long u) ∙ glue-last eq i.front (entry e.lo (l -ℤ pos 1) e.value) (p ∷ []) ∙ ap (λ x. i.front ++ x) (by_join eq (entry e.lo (l -ℤ pos 1) e.value) p []
         (λ t k r. absurd (n k (omega (arith, ints)))) (λ k r. r)) ∙ sym (append_assoc i.front (entry e.lo (l -ℤ pos 1) e.value ∷ []) (p ∷ [])) ∙ ap (λ x. x ++ p ∷ []) (sym (left_long u)))
 
-  left_apart : None ≡ joined_start l (option_map (found_in eq v) (last_below l es)) → glue eq (before l es) (p ∷ []) ≡ before l es ++ p ∷ []
+  left_apart : None ≡ joined_start l (option_map (found_in test) (last_below l es)) → glue eq (before l es) (p ∷ []) ≡ before l es ++ p ∷ []
   left_apart q = by_last (last_below l es) refl q
     where
       against : (a x y : Bool) → (a && (x || y)) ≡ false → a ≡ true → (x ≡ true) ⊎ (y ≡ true) → ⊥
@@ -162,24 +168,15 @@ module _ {V : Type 0} (eq : V → V → Bool) (laws : IsEquivalence eq) (l h : �
       near : (e : Entry V) → l ≤ℤ (e.hi +ℤ pos 1) → (int_le l e.hi ≡ true) ⊎ (int_eq l (e.hi +ℤ pos 1) ≡ true)
       near e u = by_lt_z e.hi l (λ k. inr (eq_true l (e.hi +ℤ pos 1) (omega (arith, ints)))) (λ k. inl (le_true l e.hi k))
 
-      by_last : (o : Option (Entry V)) → last_below l es ≡ o → None ≡ joined_start l (option_map (found_in eq v) o) → glue eq (before l es) (p ∷ []) ≡ before l es ++ p ∷ []
+      by_last : (o : Option (Entry V)) → last_below l es ≡ o → None ≡ joined_start l (option_map (found_in test) o) → glue eq (before l es) (p ∷ []) ≡ before l es ++ p ∷ []
       by_last None i q =
           let none = nothing_before es (no_last_from l low high es s i) c in
           ap (λ x. glue eq x (p ∷ [])) none ∙ ap (λ x. x ++ p ∷ []) (sym none)
       by_last (Some e) i q =
           left_alone e (last_at l low high e es s i) (λ k u. against (eq e.value v) (int_le l e.hi) (int_eq l (e.hi +ℤ pos 1)) (failed (eq e.value v && (int_le l e.hi || int_eq l (e.hi +ℤ pos 1))) e.lo q) k (near e u))
 
-  -- the range ends at its own end, or above it
-  pub end_up : (z : ℤ) → IsEnd eq h v es z → h ≤ℤ z
-  end_up z (inl e) = let q = e.0 in omega (arith, ints)
-  end_up z (inr e) =
-      let whole : IsCanonical eq (e.next ∷ e.others) = subst (IsCanonical eq) e.first (canonical_after eq h es c) in
-      let start = e.touches in
-      let finish = e.ends in
-      omega (arith, ints, whole.0)
-
   -- what lies behind the painted range, by where the range ends
-  module _ (z : ℤ) (end : IsEnd eq h v es z) (above : List (Entry V)) (like : IsSameAbove eq z es above) where
+  module _ (z : ℤ) (end : IsEnd test h es z) (above : List (Entry V)) (like : IsSameAbove eq z es above) where
     -- the parts of what is joined on the right: behind an entry m that ends at h with a value equal to v
     pub record Right (xs : List (Entry V)) (f : ℤ) (u : V) : Type 0 where
       pub rest : List (Entry V)
@@ -195,7 +192,7 @@ module _ {V : Type 0} (eq : V → V → Bool) (laws : IsEquivalence eq) (l h : �
         false_true : false ≡ true → ⊥
         false_true q = cc
 
-    unjoined : (xs : List (Entry V)) (f : ℤ) (u : V) (xa bs : List (Entry V)) → eq u v ≡ true → SameEntries eq xa bs → IsUnjoined eq h v xa → glue eq (xs ++ entry f h u ∷ []) bs ≡ xs ++ entry f h u ∷ bs
+    unjoined : (xs : List (Entry V)) (f : ℤ) (u : V) (xa bs : List (Entry V)) → eq u v ≡ true → SameEntries eq xa bs → IsUnjoined test h xa → glue eq (xs ++ entry f h u ∷ []) bs ≡ xs ++ entry f h u ∷ bs
     unjoined xs f u [] [] q t n = glue-last eq xs (entry f h u) []
     unjoined xs f u [] (b ∷ bs) q t n = absurd t
     unjoined xs f u (a ∷ xa) [] q t n = absurd t
@@ -237,10 +234,10 @@ module _ {V : Type 0} (eq : V → V → Bool) (laws : IsEquivalence eq) (l h : �
         behind n (y ∷ ys) q a = omega (arith, ints, a.0)
 
     -- the range is joined with the last entry that starts below it
-    pub paint_extends : (l1 : ℤ) (new : List (Entry V)) → Some l1 ≡ joined_start l (option_map (found_in eq v) (last_below l es))
+    pub paint_extends : (l1 : ℤ) (new : List (Entry V)) → Some l1 ≡ joined_start l (option_map (found_in test) (last_below l es))
         → (of : Entry V) → start_at l1 es ≡ Some of → new ≡ below l1 es ++ entry l1 z of.value ∷ above → IsPaintOf eq p es new
     paint_extends l1 new q of found put =
-        let t = started_at l1 q in
+        let t = started_at test l low high es s l1 q in
         let e = t.of in
         let i = last_at l low high e es s t.is in
         let same : e ≡ of = one_value (start_at l1 es) (ap (λ x. start_at x es) (sym t.lo) ∙ last_there l high e es i) found in
@@ -250,13 +247,13 @@ module _ {V : Type 0} (eq : V → V → Bool) (laws : IsEquivalence eq) (l h : �
         record {
           above = g.rest;
           like = g.same;
-          glued = put ∙ ap (λ x. x ++ entry l1 z of.value ∷ above) (ap (λ x. below x es) (sym t.lo) ∙ below_front e i) ∙ ap (λ x. i.front ++ entry x z of.value ∷ above) (sym t.lo)
+          glued = put ∙ ap (λ x. x ++ entry l1 z of.value ∷ above) (ap (λ x. below x es) (sym t.lo) ∙ front_last l high e es i) ∙ ap (λ x. i.front ++ entry x z of.value ∷ above) (sym t.lo)
               ∙ ap (λ (x : Entry V). i.front ++ entry e.lo z x.value ∷ above) (sym same)
               ∙ sym g.glued ∙ sym (ap (λ x. glue eq x g.rest) (left_joined e i t.near t.like));
         }
 
     -- the range stands by itself on the left
-    pub paint_puts : (new : List (Entry V)) → None ≡ joined_start l (option_map (found_in eq v) (last_below l es)) → new ≡ before l es ++ entry l z v ∷ above → IsPaintOf eq p es new
+    pub paint_puts : (new : List (Entry V)) → None ≡ joined_start l (option_map (found_in test) (last_below l es)) → new ≡ before l es ++ entry l z v ∷ above → IsPaintOf eq p es new
     paint_puts new q put =
         let g = right (before l es) l v (laws.refl v) in
         record { above = g.rest; like = g.same; glued = put ∙ sym g.glued ∙ sym (ap (λ x. glue eq x g.rest) (left_apart q)) }

@@ -2,53 +2,55 @@
 use Rattle.std.proofs.Common.{◌≡◌, ℕ, ◌+◌, ◌<◌, ℤ, Bool, List, [], ◌∷◌, ◌++◌, length, Option, Some, None, refl, ◌∙◌, sym, ap, arith, length-append}
 use Rattle.std.specs.Prelude.{reverse}
 use Rattle.std.specs.Option.{option_map}
+use Rattle.std.proofs.lemmas.List.{reverse-append}
 use Rattle.blaze_entries.specs.Found.{found_in}
 use Rattle.blaze_entries.specs.Starts.{StartsAscend, below, last_below}
 use Rattle.blaze_table.specs.Entries.{Entry}
 use Rattle.blaze_table.proofs.Cuts.Splits.{last_at, no_last}
-use Rattle.blaze_table.proofs.Walks.Walked.{below_step, down_step}
+use Rattle.blaze_table.proofs.Neighbours.Growing.{below_last, front_last}
 
 -- how many rounds are left, by the entry that was looked at
 abbrev pub rounds : {V : Type 0} → List (Entry V) → Option (ℤ × ℤ × Bool) → ℕ
 rounds es None = 0
 rounds es (Some t) = length (below t.0 es) + 1
 
-module _ {V : Type 0} (eq : V → V → Bool) (v : V) (low high : ℤ) (es : List (Entry V)) (s : StartsAscend low high es) where
+module _ {V : Type 0} (test : V → Bool) (low high : ℤ) (es : List (Entry V)) (s : StartsAscend low high es) where
   -- the last entry that starts below k was looked at
   pub record Down (k : ℤ) (t : ℤ × ℤ × Bool) : Type 0 where
     pub found : Entry V
-    pub is : t ≡ found_in eq v found
+    pub is : t ≡ found_in test found
     pub down : reverse (below k es) ≡ found ∷ reverse (below t.0 es)
     pub fewer : length (below t.0 es) + 1 ≡ length (below k es)
 
-  pub down_to : (k : ℤ) (t : ℤ × ℤ × Bool) → Some t ≡ option_map (found_in eq v) (last_below k es) → Down k t
+  pub down_to : (k : ℤ) (t : ℤ × ℤ × Bool) → Some t ≡ option_map (found_in test) (last_below k es) → Down k t
   down_to k t q = by_last (last_below k es) refl q
     where
-      by_last : (o : Option (Entry V)) → last_below k es ≡ o → Some t ≡ option_map (found_in eq v) o → Down k t
+      by_last : (o : Option (Entry V)) → last_below k es ≡ o → Some t ≡ option_map (found_in test) o → Down k t
       by_last None p q = cc
       by_last (Some e) p q =
-          let is : t ≡ found_in eq v e = cc in
+          let is : t ≡ found_in test e = cc in
           let start : e.lo ≡ t.0 = sym (ap (λ (x : ℤ × ℤ × Bool). x.0) is) in
           let i = last_at k low high e es s p in
+          let step : below k es ≡ below t.0 es ++ e ∷ [] = below_last k high e es i ∙ ap (λ x. x ++ e ∷ []) (sym (front_last k high e es i) ∙ ap (λ x. below x es) start) in
           record {
             found = e;
             is = is;
-            down = down_step k high e es i ∙ ap (λ x. e ∷ reverse (below x es)) start;
-            fewer = sym (ap length (below_step k high e es i ∙ ap (λ x. below x es ++ e ∷ []) start) ∙ length-append (below t.0 es) (e ∷ []));
+            down = ap reverse step ∙ reverse-append (below t.0 es) (e ∷ []);
+            fewer = sym (ap length step ∙ length-append (below t.0 es) (e ∷ []));
           }
 
   -- no entry is left
-  pub at_bottom : (k : ℤ) → None ≡ option_map (found_in eq v) (last_below k es) → reverse (below k es) ≡ []
+  pub at_bottom : (k : ℤ) → None ≡ option_map (found_in test) (last_below k es) → reverse (below k es) ≡ []
   at_bottom k q = by_last (last_below k es) refl q
     where
-      by_last : (o : Option (Entry V)) → last_below k es ≡ o → None ≡ option_map (found_in eq v) o → reverse (below k es) ≡ []
+      by_last : (o : Option (Entry V)) → last_below k es ≡ o → None ≡ option_map (found_in test) o → reverse (below k es) ≡ []
       by_last None p q = ap reverse (no_last k low high es s p)
       by_last (Some e) p q = cc
 
   -- the next look is below the entry
-  pub rounds_fall : (k : ℤ) (t : ℤ × ℤ × Bool) (r o : Option (ℤ × ℤ × Bool)) → o ≡ Some t → r ≡ option_map (found_in eq v) (last_below t.0 es) → rounds es r < rounds es o
+  pub rounds_fall : (k : ℤ) (t : ℤ × ℤ × Bool) (r o : Option (ℤ × ℤ × Bool)) → o ≡ Some t → r ≡ option_map (found_in test) (last_below t.0 es) → rounds es r < rounds es o
   rounds_fall k t r o p q = rw p (below_it r q)
     where
-      below_it : (r : Option (ℤ × ℤ × Bool)) → r ≡ option_map (found_in eq v) (last_below t.0 es) → rounds es r < length (below t.0 es) + 1
+      below_it : (r : Option (ℤ × ℤ × Bool)) → r ≡ option_map (found_in test) (last_below t.0 es) → rounds es r < length (below t.0 es) + 1
       below_it None q = omega arith
       below_it (Some u) q = let d = down_to t.0 u q in omega (arith, d.fewer)

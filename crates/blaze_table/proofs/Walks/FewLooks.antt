@@ -1,6 +1,6 @@
 -- A walk down to a range looks at no more entries than a paint of the range takes out, but for a few.
 use Rattle.std.proofs.Common.{◌≡◌, ℕ, ◌+◌, ◌≤◌, ℤ, pos, ◌+ℤ◌, ◌≤ℤ◌, Bool, List, [], ◌∷◌, length, refl, ◌∙◌, sym, ap, arith, length-append}
-use Rattle.std.specs.Prelude.{reverse, Result, Ok, Err, OnOk}
+use Rattle.std.specs.Prelude.{reverse, Result, Ok, Err, OnOk, IfOk}
 use Rattle.std.proofs.lemmas.Int.{ints, by_lt_z}
 use Rattle.std.proofs.lemmas.List.{reverse-append}
 use Rattle.std.proofs.lemmas.List.Elements.{filter-append}
@@ -13,7 +13,7 @@ use Rattle.blaze_table.specs.Entries.{Entry}
 use Rattle.blaze_table.specs.Canonical.{IsCanonical}
 use Rattle.blaze_table.specs.Work.{IsCountedPaint}
 use Rattle.blaze_table.specs.Planned.{IsWorked}
-use Rattle.blaze_table.specs.Splice.{before, after}
+use Rattle.blaze_table.specs.Splice.{before, after, IsTablePainted}
 use Rattle.blaze_table.proofs.Canonical.Lookup.{IsAbove-from_apart, above_by}
 use Rattle.blaze_table.proofs.Walks.Plans.{from_above}
 use Rattle.blaze_table.proofs.Walks.Worked.{counted_then, counted_looked}
@@ -92,11 +92,11 @@ module _ {V : Type 0} (eq : V → V → Bool) where
         looks = omega (arith, few, turned, looks, puts, taken, long, low_part, high_part, short, work.counted.puts, work.counted.taken, work.counted.balance, work.looks, few_starts l h low high es w s, before_starts l es c, after_starts h es c);
       }
 
-  pub counted_paint : {A E : Type 0} (l h low high : ℤ) (old mid new : CountedEntries V) → l ≤ℤ h → StartsAscend low high old.entries → IsCanonical eq old.entries
-      → mid ≡ record old { looks = mid.looks } → old.looks ≤ mid.looks → mid.looks ≤ old.looks + answers l (reverse (below (h +ℤ pos 2) old.entries)) + 1
-      → (r : Result A E) → OnOk r (IsWorked 2 1 mid new) → OnOk r (length new.entries ≤ length (before l mid.entries) + length (after h mid.entries) + 1) → OnOk r (IsCountedPaint old new)
-  counted_paint l h low high old mid new w s c seen risen looks (Ok a) work short = counted l h low high old mid new w s c seen risen looks work short
-  counted_paint l h low high old mid new w s c seen risen looks (Err e) work short = tt
+  pub counted_paint : {A E : Type 0} (p : Entry V) (low high : ℤ) (old mid new : CountedEntries V) → p.lo ≤ℤ p.hi → StartsAscend low high old.entries → IsCanonical eq old.entries
+      → mid ≡ record old { looks = mid.looks } → old.looks ≤ mid.looks → mid.looks ≤ old.looks + answers p.lo (reverse (below (p.hi +ℤ pos 2) old.entries)) + 1
+      → (len : A → ℕ) (r : Result A E) → OnOk r (IsWorked 2 1 mid new) → IfOk r (λ a. IsTablePainted eq low high (len a) p mid.entries new.entries) → OnOk r (IsCountedPaint old new)
+  counted_paint p low high old mid new w s c seen risen looks len (Ok a) work painted = counted p.lo p.hi low high old mid new w s c seen risen looks work painted.short
+  counted_paint p low high old mid new w s c seen risen looks len (Err e) work painted = tt
 
 -- what a walk leaves: the looks alone have risen
 module _ {V : Type 0} (old mid : CountedEntries V) (n : ℕ) (walked : mid ≡ record old { looks = old.looks + n }) where

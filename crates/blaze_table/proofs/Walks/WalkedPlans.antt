@@ -1,164 +1,148 @@
--- A walk down the entries from right above a range has seen the plan of its paint.
-use Rattle.std.proofs.Common.{◌≡◌, ℤ, pos, ◌+ℤ◌, ◌≤ℤ◌, ◌<ℤ◌, Bool, false, cond, List, [], ◌∷◌, ◌++◌, Option, Some, None, refl, ◌∙◌, sym, subst, ap, arith, inl, inr}
-use Rattle.std.specs.Prelude.{int_lt, int_le, reverse}
-use Rattle.std.specs.Ordering.{int_eq}
+-- A walk down the entries from right above a range has seen the plan of its edit.
+use Rattle.std.proofs.Common.{◌≡◌, ℤ, pos, ◌+ℤ◌, ◌≤ℤ◌, ◌<ℤ◌, Bool, true, false, cond, List, [], ◌∷◌, ◌++◌, Option, Some, None, refl, ◌∙◌, sym, subst, ap, arith, inl, inr}
+use Rattle.std.specs.Prelude.{int_lt, reverse}
+use Rattle.std.specs.List.{last_or}
 use Rattle.std.specs.Option.{option_map}
 use Rattle.std.proofs.lemmas.Int.{ints, by_lt_z}
 use Rattle.std.proofs.lemmas.List.{reverse-append}
-use Rattle.std.proofs.lemmas.List.Elements.{filter-append}
 use Rattle.blaze_int.proofs.Comparisons.{by_bool, lt_true, lt_false, le_true, le_false}
 use Rattle.blaze_entries.specs.Found.{found_in}
-use Rattle.blaze_entries.specs.Scanned.{Seen, unseen, seen, seen_start, walked}
-use Rattle.blaze_entries.specs.Starts.{StartsAscend, below, from, last_below, start_at}
-use Rattle.blaze_entries.proofs.Ascending.{by_order}
-use Rattle.blaze_entries.proofs.Halves.{below_all, below_takes, below_skips, starts_from, more_below}
-use Rattle.blaze_table.specs.Entries.{Entry}
+use Rattle.blaze_entries.specs.Scanned.{Seen, unseen, seen, seen_end, seen_start, walked}
+use Rattle.blaze_entries.specs.Starts.{StartsAscend, below, last_below, start_at}
+use Rattle.blaze_entries.proofs.Ascending.{by_order, start_lower, start_none}
+use Rattle.blaze_entries.proofs.Halves.{below_none, below_skips, below_takes, starts_of_below}
 use Rattle.blaze_table.specs.Canonical.{IsCanonical}
+use Rattle.blaze_table.specs.Entries.{Entry, entry}
 use Rattle.blaze_table.specs.Planned.{IsUnjoined, IsEndAfter, IsEnd, rest_of, IsPlanOf}
-use Rattle.blaze_table.proofs.Cuts.Splits.{last_at, halves, canonical_part, from_at, from_not_at, starts_below}
-use Rattle.blaze_table.proofs.Paints.Clearing.{below_from}
-use Rattle.blaze_table.proofs.Neighbours.Growing.{last_there}
-use Rattle.blaze_table.proofs.Walks.LooksSay.{long_end, long_unequal, short_end, no_end}
-use Rattle.blaze_table.proofs.Paints.Placing.{ends_before}
-use Rattle.blaze_table.proofs.Walks.Walked.{passed, to_last}
+use Rattle.blaze_table.specs.Splice.{after}
+use Rattle.blaze_table.proofs.Cuts.Splits.{after_from}
+use Rattle.blaze_table.proofs.Neighbours.Holders.{starts_over}
+use Rattle.blaze_table.proofs.Paints.Splices.{by_after, after_skips}
+use Rattle.blaze_table.proofs.Walks.Outside.{StartsFrom, ascend_from, reverse_from}
 
-module _ {V : Type 0} where
-  below_not_at : (k : ℤ) (es : List (Entry V)) → start_at k es ≡ None → below (k +ℤ pos 1) es ≡ below k es
-  below_not_at k [] n = refl
-  below_not_at k (f ∷ fs) n = by_order k f.lo
-      (λ o q r. below_skips (k +ℤ pos 1) f fs (omega (arith, ints)) ∙ below_not_at k fs (later r) ∙ sym (below_skips k f fs (omega (arith, ints))))
-      (λ o q r. absurd (none_some (sym (ap (λ t. cond t (Some f) (start_at k fs)) r) ∙ n)))
-      (λ o q r. below_takes (k +ℤ pos 1) f fs (omega (arith, ints)) ∙ ap (λ t. f ∷ t) (below_not_at k fs (later r)) ∙ sym (below_takes k f fs o))
+module _ {V : Type 0} (eq : V → V → Bool) (test : V → Bool) (l h high : ℤ) (w : l ≤ℤ h) where
+  abbrev shown : Option (Entry V) → Option (ℤ × ℤ × Bool)
+  shown o = option_map (found_in test) o
+
+  -- what a walk has seen before the first entry, where none starts up to the key above the range
+  none_seen : (b : ℤ) (es : List (Entry V)) → (h +ℤ pos 2) ≤ℤ b → StartsAscend b high es → IsCanonical eq es → IsPlanOf test l h es (unseen h)
+  none_seen b es u s c = record {
+    end = inl (refl, subst (IsUnjoined test h) (sym (after_from eq h b high es (omega (arith, ints)) s c)) (far es s));
+    rest = sym (ap (λ x. rest_of h (shown (last_or None x))) (below_none (h +ℤ pos 1) b high es (omega (arith, ints)) s));
+    first = sym (ap shown (start_none l b high es (omega (arith, ints)) s));
+    left = sym (ap (λ x. shown (last_or None x)) (below_none l b high es (omega (arith, ints)) s));
+  }
     where
-      none_some : Some f ≡ None → ⊥
-      none_some p = cc
+      far : (es : List (Entry V)) → StartsAscend b high es → IsUnjoined test h es
+      far [] s = tt
+      far (e ∷ es) s = λ t. absurd (omega (arith, ints, s.0))
 
-      later : int_eq k f.lo ≡ false → start_at k fs ≡ None
-      later r = sym (ap (λ t. cond t (Some f) (start_at k fs)) r) ∙ n
+  -- an entry below the others, which all start at l or above, by what its end makes of what was seen
+  start_seen : (e : Entry V) (es : List (Entry V)) → below l es ≡ [] → (p q : Seen) → seen_end h p (found_in test e) ≡ q → IsEnd test h (e ∷ es) q.end → q.rest ≡ rest_of h (shown (last_below (h +ℤ pos 1) (e ∷ es)))
+      → q.first ≡ shown (start_at l es) → q.left ≡ None → IsPlanOf test l h (e ∷ es) (seen l h p (found_in test e))
+  start_seen e es under p q is end rest first left = subst (λ x. IsPlanOf test l h (e ∷ es) (seen_start l x (found_in test e))) (sym is) (by_order l e.lo
+      (λ o c t. rw (lt_false e.lo l (omega (arith, ints)), le_false e.lo l o) (record { end = end; rest = rest; first = rw t first; left = left ∙ sym (over (omega (arith, ints))) }))
+      (λ o c t. rw (lt_false e.lo l (omega (arith, ints)), le_true e.lo l (omega (arith, ints))) (record { end = end; rest = rest; first = rw t refl; left = left ∙ sym (over (omega (arith, ints))) }))
+      (λ o c t. rw (lt_true e.lo l o) (record { end = end; rest = rest; first = rw t first; left = sym (ap (λ x. shown (last_or None x)) (below_takes l e es o ∙ ap (λ x. e ∷ x) under)) })))
+    where
+      over : l ≤ℤ e.lo → shown (last_below l (e ∷ es)) ≡ None
+      over u = ap (λ x. shown (last_or None x)) (below_skips l e es u ∙ under)
 
-module _ {V : Type 0} (eq : V → V → Bool) (v : V) (l h low high : ℤ) (w : l ≤ℤ h) (es : List (Entry V)) (s : StartsAscend low high es) (c : IsCanonical eq es) where
-  next : h +ℤ pos 2 ≡ h +ℤ pos 1 +ℤ pos 1
-  next = omega (arith, ints)
+  -- it goes on above the range
+  module _ (e : Entry V) (es : List (Entry V)) (near : e.lo ≤ℤ (h +ℤ pos 1)) (long : h <ℤ e.hi) (far : StartsAscend (h +ℤ pos 2) high es) where
+    end_seen : (x : Entry V) → after h (e ∷ es) ≡ x ∷ es → x.lo ≡ h +ℤ pos 1 → x.hi ≡ e.hi → x.value ≡ e.value → (b : Bool) → test e.value ≡ b → IsEnd test h (e ∷ es) (cond b e.hi h)
+    end_seen x p start finish same true t = inr (record { next = x; others = es; first = p; touches = start; ends = finish; like = ap test same ∙ t })
+    end_seen x p start finish same false t = inl (refl, subst (IsUnjoined test h) (sym p) (λ _. ap test same ∙ t))
 
-  below_at : (k : ℤ) (e : Entry V) → start_at k es ≡ Some e → below (k +ℤ pos 1) es ≡ below k es ++ e ∷ []
-  below_at k e q =
-      let i = from_at k low high e es s q in
-      let here = i.0 in
-      ap (below (k +ℤ pos 1)) (halves k low high es s) ∙ filter-append (λ x. int_lt x.lo (k +ℤ pos 1)) (below k es) (from k es)
-      ∙ ap (λ x. x ++ below (k +ℤ pos 1) (from k es)) (below_all (k +ℤ pos 1) (below k es) (more_below k (k +ℤ pos 1) (below k es) (omega (arith, ints)) (starts_below k es)))
-      ∙ ap (λ x. below k es ++ below (k +ℤ pos 1) x) i.1
-      ∙ ap (λ x. below k es ++ x) (below_takes (k +ℤ pos 1) e (from (k +ℤ pos 1) es) (omega (arith, ints)) ∙ ap (λ x. e ∷ x) (below_from (k +ℤ pos 1) (k +ℤ pos 1) es (omega (arith, ints))))
+    long_seen : below l es ≡ [] → None ≡ shown (start_at l es) → IsPlanOf test l h (e ∷ es) (seen l h (unseen h) (found_in test e))
+    long_seen under none =
+        let far_below : below (h +ℤ pos 1) es ≡ [] = below_none (h +ℤ pos 1) (h +ℤ pos 2) high es (omega (arith, ints)) far in
+        let start = start_seen e es under (unseen h) in
+        by_after h e es
+        (λ a p. absurd (omega (arith, ints)))
+        (λ a b p.
+        let last : last_below (h +ℤ pos 1) (e ∷ es) ≡ Some e = ap (last_or None) (below_takes (h +ℤ pos 1) e es (omega (arith, ints)) ∙ ap (λ x. e ∷ x) far_below) in
+        let cut = end_seen (entry (h +ℤ pos 1) e.hi e.value) p refl refl refl in
+        by_bool (test e.value)
+        (λ t. start (record (unseen h) { end = e.hi }) (rw (lt_true h e.hi long, t) refl) (cut true t) (rw (last, lt_true h e.hi long, t) refl) none refl)
+        (λ t. start (record (unseen h) { rest = Some (e.lo, e.hi) }) (rw (lt_true h e.hi long, t, le_true e.lo h b) refl) (cut false t) (rw (last, lt_true h e.hi long, t) refl) none refl))
+        (λ a b p.
+        let last : last_below (h +ℤ pos 1) (e ∷ es) ≡ None = ap (last_or None) (below_skips (h +ℤ pos 1) e es (omega (arith, ints)) ∙ far_below) in
+        let whole = end_seen e p (omega (arith, ints)) refl refl in
+        by_bool (test e.value)
+        (λ t. start (record (unseen h) { end = e.hi }) (rw (lt_true h e.hi long, t) refl) (whole true t) (rw last refl) none refl)
+        (λ t. start (unseen h) (rw (lt_true h e.hi long, t, le_false e.lo h b) refl) (whole false t) (rw last refl) none refl))
 
-  shown : {o : Option (Entry V)} → last_below (h +ℤ pos 1) es ≡ o → option_map (found_in eq v) o ≡ option_map (found_in eq v) (last_below (h +ℤ pos 1) es)
-  shown q = ap (option_map (found_in eq v)) (sym q)
+  -- it does not
+  short_seen : (e : Entry V) (es : List (Entry V)) → e.lo ≤ℤ e.hi → e.hi ≤ℤ h → below l es ≡ [] → (q : Seen) → IsPlanOf test l h es q → IsPlanOf test l h (e ∷ es) (seen l h q (found_in test e))
+  short_seen e es c u under q i =
+      start_seen e es under q q (rw (lt_false h e.hi u) refl) (subst (λ x. IsEndAfter test h x q.end) (sym (after_skips h e es u)) i.end)
+      (i.rest ∙ last (below (h +ℤ pos 1) es) ∙ sym (ap (λ x. rest_of h (shown (last_or None x))) (below_takes (h +ℤ pos 1) e es (omega (arith, ints))))) i.first
+      (i.left ∙ ap (λ x. shown (last_or None x)) under)
+    where
+      last : (xs : List (Entry V)) → rest_of h (shown (last_or None xs)) ≡ rest_of h (shown (last_or (Some e) xs))
+      last [] = rw (lt_false h e.hi u) refl
+      last (x ∷ xs) = refl
 
-  -- nothing starts right above the range
-  module _ (none : start_at (h +ℤ pos 1) es ≡ None) where
-    alone : IsEndAfter eq h v (from (h +ℤ pos 1) es) h
-    alone = inl (refl, subst (IsUnjoined eq h v) (sym (from_not_at (h +ℤ pos 1) es none)) (over (from (h +ℤ pos 1 +ℤ pos 1) es) (starts_from (h +ℤ pos 1 +ℤ pos 1) low high es s)))
-      where
-        over : (ys : List (Entry V)) → StartsAscend (h +ℤ pos 1 +ℤ pos 1) high ys → IsUnjoined eq h v ys
-        over [] u = tt
-        over (y ∷ ys) u = λ t. absurd (omega (arith, ints, u.0))
+  -- and one that is not seen, since the walk ended above it
+  past_seen : (e f : Entry V) (es : List (Entry V)) → e.lo ≤ℤ e.hi → e.hi <ℤ f.lo → f.lo <ℤ l → (q : Seen) → IsPlanOf test l h (f ∷ es) q → IsPlanOf test l h (e ∷ f ∷ es) q
+  past_seen e f es c u v q i = record {
+    end = subst (λ x. IsEndAfter test h x q.end) (sym (after_skips h e (f ∷ es) (omega (arith, ints)))) i.end;
+    rest = i.rest ∙ ap (λ o. rest_of h (shown o)) (last (h +ℤ pos 1) (omega (arith, ints)));
+    first = i.first ∙ ap shown (by_order l e.lo (λ o p t. absurd (omega (arith, ints))) (λ o p t. absurd (omega (arith, ints))) (λ o p t. rw t refl));
+    left = i.left ∙ ap shown (last l v);
+  }
+    where
+      last : (k : ℤ) → f.lo <ℤ k → last_below k (f ∷ es) ≡ last_below k (e ∷ f ∷ es)
+      last k x = ap (last_or None) (below_takes k f es x) ∙ sym (ap (last_or None) (below_takes k e (f ∷ es) (omega (arith, ints)) ∙ ap (λ y. e ∷ y) (below_takes k f es x)))
 
-    end_passed : (o : Option (Entry V)) → last_below (h +ℤ pos 1) es ≡ o → IsEnd eq h v es (passed eq v l h low high es s c (unseen h) o).end
-    end_passed None q = no_end eq v h low high es s c h (shown q) alone
-    end_passed (Some e) q = by_lt_z h e.hi
-        (λ a. rw (lt_true h e.hi a) (by_bool (eq e.value v)
-        (λ b. rw b (long_end eq v h low high es s c e.lo e.hi (eq e.value v) a b (shown q)))
-        (λ b. rw b (by_bool (int_le e.lo h)
-        (λ d. rw d (long_unequal eq v h low high es s c e.lo e.hi (eq e.value v) a b (shown q)))
-        (λ d. rw d (long_unequal eq v h low high es s c e.lo e.hi (eq e.value v) a b (shown q)))))))
-        (λ a. rw (lt_false h e.hi a) (short_end eq v h low high es s c e.lo e.hi (eq e.value v) h a (shown q) alone))
+  -- a walk with one more entry at its end, behind entries that all start at l or above, or behind one that starts below it
+  walked_next : (s : Seen) (ys : List (Entry V)) (e : Entry V) → StartsFrom l h ys → walked test l h s (ys ++ e ∷ []) ≡ seen l h (walked test l h s ys) (found_in test e)
+  walked_next s [] e t = elim (int_lt e.lo l) as (λ b. cond b (seen l h s (found_in test e)) (seen l h s (found_in test e)) ≡ seen l h s (found_in test e)) [ true ↦ refl | false ↦ refl ]
+  walked_next s (y ∷ ys) e t =
+      let p = seen l h s (found_in test y) in
+      ap (λ b. cond b p (walked test l h p (ys ++ e ∷ []))) (lt_false y.lo l t.0) ∙ walked_next p ys e t.1
+      ∙ sym (ap (λ b. seen l h (cond b p (walked test l h p ys)) (found_in test e)) (lt_false y.lo l t.0))
 
-    rest_passed : (o : Option (Entry V)) → last_below (h +ℤ pos 1) es ≡ o → (passed eq v l h low high es s c (unseen h) o).rest ≡ rest_of h (option_map (found_in eq v) o)
-    rest_passed None q = refl
-    rest_passed (Some e) q =
-        let i = last_at (h +ℤ pos 1) low high e es s q in
-        let up = i.starts in
-        by_bool (int_lt h e.hi)
-        (λ a. rw a (by_bool (eq e.value v) (λ b. rw b refl) (λ b. rw b (rw (le_true e.lo h (omega (arith, ints))) refl))))
-        (λ a. rw a refl)
+  walked_past : (s : Seen) (ys : List (Entry V)) (f e : Entry V) → f.lo <ℤ l → walked test l h s ((ys ++ f ∷ []) ++ e ∷ []) ≡ walked test l h s (ys ++ f ∷ [])
+  walked_past s [] f e u =
+      let p = seen l h s (found_in test f) in
+      ap (λ b. cond b p (walked test l h p (e ∷ []))) (lt_true f.lo l u) ∙ sym (ap (λ b. cond b p p) (lt_true f.lo l u))
+  walked_past s (y ∷ ys) f e u =
+      let p = seen l h s (found_in test y) in
+      ap (λ x. cond (int_lt y.lo l) p x) (walked_past p ys f e u)
 
-    plan_alone : IsPlanOf eq l h v es (walked eq v l h (unseen h) (reverse (below (h +ℤ pos 2) es)))
-    plan_alone =
-        let same : below (h +ℤ pos 2) es ≡ below (h +ℤ pos 1) es = ap (λ x. below x es) next ∙ below_not_at (h +ℤ pos 1) es none in
-        let all = ap (λ x. walked eq v l h (unseen h) (reverse x)) same ∙ to_last eq v l h low high es s c (unseen h) w refl refl in
-        subst (IsPlanOf eq l h v es) (sym all) (record {
-          end = end_passed (last_below (h +ℤ pos 1) es) refl;
-          rest = rest_passed (last_below (h +ℤ pos 1) es) refl;
-          first = refl;
-          left = refl;
-        })
+  abbrev down : List (Entry V) → List (Entry V)
+  down es = reverse (below (h +ℤ pos 2) es)
 
-  -- an entry starts right above the range
-  module _ (e : Entry V) (there : start_at (h +ℤ pos 1) es ≡ Some e) where
-    here : (e.lo ≡ h +ℤ pos 1) × (from (h +ℤ pos 1) es ≡ e ∷ from (h +ℤ pos 1 +ℤ pos 1) es)
-    here = from_at (h +ℤ pos 1) low high e es s there
-
-    abbrev above : Seen
-    above = cond (eq e.value v) (record (unseen h) { end = e.hi }) (unseen h)
-
-    over : h <ℤ e.hi → seen l h (unseen h) (found_in eq v e) ≡ above
-    over a =
-        let at_it = here.0 in
-        ap (λ b. seen_start l (cond b (cond (eq e.value v) (record (unseen h) { end = e.hi }) (cond (int_le e.lo h) (record (unseen h) { rest = Some (e.lo, e.hi) }) (unseen h))) (unseen h)) (found_in eq v e)) (lt_true h e.hi a)
-        ∙ ap (λ b. seen_start l (cond (eq e.value v) (record (unseen h) { end = e.hi }) (cond b (record (unseen h) { rest = Some (e.lo, e.hi) }) (unseen h))) (found_in eq v e)) (le_false e.lo h (omega (arith, ints)))
-        ∙ ap (λ b. cond b (record above { left = Some (found_in eq v e) }) (cond (int_le e.lo l) (record above { first = Some (found_in eq v e) }) above)) (lt_false e.lo l (omega (arith, ints)))
-        ∙ ap (λ b. cond b (record above { first = Some (found_in eq v e) }) above) (le_false e.lo l (omega (arith, ints)))
-
-    above_blank : (above.first ≡ None) × (above.left ≡ None) × (above.rest ≡ None)
-    above_blank = by_bool (eq e.value v) (λ b. rw b (refl, refl, refl)) (λ b. rw b (refl, refl, refl))
-
-    after_next : IsEndAfter eq h v (from (h +ℤ pos 1) es) above.end
-    after_next = by_bool (eq e.value v)
-        (λ b. rw b (inr (record { next = e; others = from (h +ℤ pos 1 +ℤ pos 1) es; first = here.1; touches = here.0; ends = refl; like = b })))
-        (λ b. rw b (inl (refl, subst (IsUnjoined eq h v) (sym here.1) (λ t. b))))
-
-    short : (f : Entry V) → last_below (h +ℤ pos 1) es ≡ Some f → f.hi ≤ℤ h
-    short f q =
-        let i = last_at (h +ℤ pos 1) low high f es s q in
-        let u = ends_before eq f.lo (h +ℤ pos 1) f e es c (last_there (h +ℤ pos 1) high f es i) there i.starts in
-        omega (arith, ints)
-
-    passed_is : (o : Option (Entry V)) → last_below (h +ℤ pos 1) es ≡ o → passed eq v l h low high es s c above o ≡ above
-    passed_is None q = refl
-    passed_is (Some f) q = ap (λ b. cond b (cond (eq f.value v) (record above { end = f.hi }) (cond (int_le f.lo h) (record above { rest = Some (f.lo, f.hi) }) above)) above) (lt_false h f.hi (short f q))
-
-    end_above : (o : Option (Entry V)) → last_below (h +ℤ pos 1) es ≡ o → IsEnd eq h v es above.end
-    end_above None q = no_end eq v h low high es s c above.end (shown q) after_next
-    end_above (Some f) q = short_end eq v h low high es s c f.lo f.hi (eq f.value v) above.end (short f q) (shown q) after_next
-
-    rest_above : (o : Option (Entry V)) → last_below (h +ℤ pos 1) es ≡ o → None ≡ rest_of h (option_map (found_in eq v) o)
-    rest_above None q = refl
-    rest_above (Some f) q = sym (ap (λ b. cond b (cond (eq f.value v) None (Some (f.lo, f.hi))) None) (lt_false h f.hi (short f q)))
-
-    plan_above : h <ℤ e.hi → IsPlanOf eq l h v es (walked eq v l h (unseen h) (reverse (below (h +ℤ pos 2) es)))
-    plan_above a =
-        let at_it = here.0 in
-        let list : reverse (below (h +ℤ pos 2) es) ≡ e ∷ reverse (below (h +ℤ pos 1) es) = ap (λ x. reverse (below x es)) next ∙ ap reverse (below_at (h +ℤ pos 1) e there) ∙ reverse-append (below (h +ℤ pos 1) es) (e ∷ []) in
-        let all = ap (walked eq v l h (unseen h)) list
-        ∙ ap (λ b. cond b (seen l h (unseen h) (found_in eq v e)) (walked eq v l h (seen l h (unseen h) (found_in eq v e)) (reverse (below (h +ℤ pos 1) es)))) (lt_false e.lo l (omega (arith, ints)))
-        ∙ ap (λ x. walked eq v l h x (reverse (below (h +ℤ pos 1) es))) (over a)
-        ∙ to_last eq v l h low high es s c above w above_blank.0 above_blank.1
-        ∙ ap (λ (x : Seen). record x { first = option_map (found_in eq v) (start_at l es); left = option_map (found_in eq v) (last_below l es) }) (passed_is (last_below (h +ℤ pos 1) es) refl) in
-        subst (IsPlanOf eq l h v es) (sym all) (record {
-          end = end_above (last_below (h +ℤ pos 1) es) refl;
-          rest = above_blank.2 ∙ rest_above (last_below (h +ℤ pos 1) es) refl;
-          first = refl;
-          left = refl;
-        })
-
-    long : h <ℤ e.hi
-    long =
-        let at_it = here.0 in
-        let whole : IsCanonical eq (e ∷ from (h +ℤ pos 1 +ℤ pos 1) es) = canonical_part eq (below (h +ℤ pos 1) es) (e ∷ from (h +ℤ pos 1 +ℤ pos 1) es) (subst (IsCanonical eq) (halves (h +ℤ pos 1) low high es s ∙ ap (λ x. below (h +ℤ pos 1) es ++ x) here.1) c) in
-        omega (arith, ints, whole.0)
+  down_takes : (e : Entry V) (es : List (Entry V)) → e.lo <ℤ (h +ℤ pos 2) → down (e ∷ es) ≡ down es ++ e ∷ []
+  down_takes e es u = ap reverse (below_takes (h +ℤ pos 2) e es u) ∙ reverse-append (e ∷ []) (below (h +ℤ pos 2) es)
 
   -- the walk has seen the plan
-  pub planned : IsPlanOf eq l h v es (walked eq v l h (unseen h) (reverse (below (h +ℤ pos 2) es)))
-  planned = by_next (start_at (h +ℤ pos 1) es) refl
+  pub planned : (b : ℤ) (es : List (Entry V)) → StartsAscend b high es → IsCanonical eq es → IsPlanOf test l h es (walked test l h (unseen h) (down es))
+  planned b [] s c = none_seen (h +ℤ pos 2) [] (omega (arith, ints)) tt tt
+  planned b (e ∷ es) s c = by_lt_z e.lo (h +ℤ pos 2)
+      (λ u. subst (λ x. IsPlanOf test l h (e ∷ es) (walked test l h (unseen h) x)) (sym (down_takes e es u)) (by_next es s.2 c u (planned (e.lo +ℤ pos 1) es s.2 c.2)))
+      (λ u. rw (below_none (h +ℤ pos 2) e.lo high (e ∷ es) u (omega (arith, ints), s.1, s.2)) (none_seen e.lo (e ∷ es) u (omega (arith, ints), s.1, s.2) c))
     where
-      by_next : (o : Option (Entry V)) → start_at (h +ℤ pos 1) es ≡ o → IsPlanOf eq l h v es (walked eq v l h (unseen h) (reverse (below (h +ℤ pos 2) es)))
-      by_next None q = plan_alone q
-      by_next (Some e) q = plan_above e q (long e q)
+      -- all others start at l or above
+      next : (es : List (Entry V)) → StartsAscend (e.lo +ℤ pos 1) high es → IsCanonical eq (e ∷ es) → e.lo <ℤ (h +ℤ pos 2) → IsPlanOf test l h es (walked test l h (unseen h) (down es)) → StartsAscend l high es → IsPlanOf test l h (e ∷ es) (walked test l h (unseen h) (down es ++ e ∷ []))
+      next es s c u i up =
+          let under = below_none l l high es (omega (arith, ints)) up in
+          let all = reverse_from l h (below (h +ℤ pos 2) es) (ascend_from l h l high (below (h +ℤ pos 2) es) (omega (arith, ints)) (starts_of_below (h +ℤ pos 2) l high es up)) in
+          subst (IsPlanOf test l h (e ∷ es)) (sym (walked_next (unseen h) (down es) e all)) (by_lt_z h e.hi
+          (λ v.
+          let far = start_lower (e.hi +ℤ pos 1) (h +ℤ pos 2) high es (omega (arith, ints)) (starts_over eq (e.lo +ℤ pos 1) high e es c.1 s) in
+          subst (λ x. IsPlanOf test l h (e ∷ es) (seen l h (walked test l h (unseen h) (reverse x)) (found_in test e))) (sym (below_none (h +ℤ pos 2) (h +ℤ pos 2) high es (omega (arith, ints)) far))
+          (long_seen e es (omega (arith, ints)) v far under (sym (ap shown (start_none l (h +ℤ pos 2) high es (omega (arith, ints)) far)))))
+          (λ v. short_seen e es c.0 v under (walked test l h (unseen h) (down es)) i))
+
+      by_next : (es : List (Entry V)) → StartsAscend (e.lo +ℤ pos 1) high es → IsCanonical eq (e ∷ es) → e.lo <ℤ (h +ℤ pos 2) → IsPlanOf test l h es (walked test l h (unseen h) (down es)) → IsPlanOf test l h (e ∷ es) (walked test l h (unseen h) (down es ++ e ∷ []))
+      by_next [] s c u i = next [] s c u i tt
+      by_next (f ∷ fs) s c u i = by_lt_z f.lo l
+          (λ v.
+          let list = down_takes f fs (omega (arith, ints)) in
+          subst (λ x. IsPlanOf test l h (e ∷ f ∷ fs) (walked test l h (unseen h) (x ++ e ∷ []))) (sym list)
+          (subst (IsPlanOf test l h (e ∷ f ∷ fs)) (sym (walked_past (unseen h) (down fs) f e v ∙ ap (walked test l h (unseen h)) (sym list)))
+          (past_seen e f fs c.0 c.1.0 v (walked test l h (unseen h) (down (f ∷ fs))) i)))
+          (λ v. next (f ∷ fs) s c u i (v, s.1, s.2))

@@ -1,10 +1,10 @@
 //! The gaps of a range, found by walks upwards.
 ghost use Rattle.std.specs.Prelude.{◌≡◌, ◌⊎◌, ◌↔◌, pos, ◌+ℤ◌, ◌-ℤ◌, ◌≤ℤ◌, ◌<ℤ◌};
-ghost use Rattle.std.specs.Prelude.{IfSome, IsTrue, MatchOption};
+ghost use Rattle.std.specs.Prelude.{IsTrue, MatchOption};
 ghost use Rattle.blaze_table.specs.Canonical.{AreKeys};
 ghost use Rattle.blaze_table.specs.Entries.{at};
-ghost use Rattle.blaze_table.specs.Filled.{IsFirstGap, IsHeldFrom};
-ghost use Rattle.blaze_table.specs.Filling.{IsBeside, IsOrdered};
+ghost use Rattle.blaze_table.specs.Filled.{IsHeldFrom};
+ghost use Rattle.blaze_table.specs.Filling.{IsGapEnd, IsNextGap, IsOrdered};
 
 use crate::search::entries_ending_from;
 use blaze_entries::Entries;
@@ -39,10 +39,7 @@ fn gap_below<T: Integer>(key: T, equal_below: bool, end: T, next: T, is_equal: b
     requires order { T.rank key ≤ℤ T.rank end }
     requires next { T.rank key <ℤ T.rank next }
     ensures start { T.rank result.start ≡ T.rank key }
-    ensures order { T.rank key ≤ℤ T.rank result.end }
-    ensures to { T.rank result.end ≤ℤ T.rank end }
-    ensures next { T.rank result.end <ℤ T.rank next }
-    ensures greatest { (T.rank result.end ≡ T.rank end) ⊎ (T.rank next ≡ T.rank result.end +ℤ pos 1) }
+    ensures end { IsGapEnd (T.rank key) (T.rank end) (T.rank next) (T.rank result.end) }
     ensures below { result.equal_below ≡ equal_below }
     ensures above { IsTrue result.equal_above
         ↔ ((T.rank next ≡ T.rank result.end +ℤ pos 1) × IsTrue is_equal) }
@@ -71,11 +68,9 @@ pub fn first_gap<T: Integer, V: Eq>(
     requires order { T.rank start ≤ℤ T.rank end }
     requires ordered { IsOrdered entries.now.entries }
     requires keys { AreKeys T.low T.high entries.now.entries }
-    ensures gap { MatchOption result
+    ensures { MatchOption result
         (IsHeldFrom (at entries.now.entries) (T.rank start) (T.rank end))
-        (λ gap. IsFirstGap (at entries.now.entries) (T.rank start) (T.rank end)
-        (T.rank gap.start) (T.rank gap.end)) }
-    ensures beside { IfSome result (λ gap. IsBeside V.eq (at entries.now.entries) value.now
+        (λ gap. IsNextGap V.eq (at entries.now.entries) value.now (T.rank start) (T.rank end)
         (T.rank gap.start) (T.rank gap.end) gap.equal_below gap.equal_above) }
 {
     let mut key = start;
@@ -107,11 +102,9 @@ pub fn gap_above<T: Integer, V: Eq>(
 ) -> Option<Gap<T>>
     requires ordered { IsOrdered entries.now.entries }
     requires keys { AreKeys T.low T.high entries.now.entries }
-    ensures gap { MatchOption result
+    ensures { MatchOption result
         (IsHeldFrom (at entries.now.entries) (T.rank key +ℤ pos 1) (T.rank end))
-        (λ gap. IsFirstGap (at entries.now.entries) (T.rank key +ℤ pos 1) (T.rank end)
-        (T.rank gap.start) (T.rank gap.end)) }
-    ensures beside { IfSome result (λ gap. IsBeside V.eq (at entries.now.entries) value.now
+        (λ gap. IsNextGap V.eq (at entries.now.entries) value.now (T.rank key +ℤ pos 1) (T.rank end)
         (T.rank gap.start) (T.rank gap.end) gap.equal_below gap.equal_above) }
 {
     if is_below(key, end) {

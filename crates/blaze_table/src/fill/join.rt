@@ -6,12 +6,12 @@ ghost use Rattle.blaze_table.specs.Entries.{at, SameContent};
 ghost use Rattle.blaze_table.specs.Filling.{IsJoinedAt, IsJoinedBut, IsJoint, IsOrdered};
 ghost use Rattle.blaze_table.specs.Work.{IsCounted};
 
-use blaze_entries::Counted;
+use blaze_entries::Entries;
 use blaze_int::Integer;
 use blaze_int::compare::is_at_most;
 
 // Makes the entry that starts at a joint, if one does, one with that before it.
-fn join<T: Integer, V: Eq + Drop>(entries: &mut Counted<T, V>, key: T)
+fn join<T: Integer, V: Eq + Drop>(entries: &mut Entries<T, V>, key: T)
     requires ordered { IsOrdered entries.old.entries }
     requires keys { AreKeys T.low T.high entries.old.entries }
     requires joint { IsJoint V.eq (at entries.old.entries) (T.rank key) }
@@ -30,7 +30,7 @@ fn join<T: Integer, V: Eq + Drop>(entries: &mut Counted<T, V>, key: T)
 }
 
 /// Makes the entries at all joints one each with that before it: then the entries are canonical. No memory is taken.
-pub fn join_all<T: Integer, V: Eq + Drop>(entries: &mut Counted<T, V>, joints: Vec<T>)
+pub fn join_all<T: Integer, V: Eq + Drop>(entries: &mut Entries<T, V>, joints: Vec<T>)
     requires ordered { IsOrdered entries.old.entries }
     requires keys { AreKeys T.low T.high entries.old.entries }
     requires joined { IsJoinedBut V.eq (map T.rank joints.items) entries.old.entries }

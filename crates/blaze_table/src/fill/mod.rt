@@ -45,11 +45,11 @@ pub fn fill<T: Integer, V: Eq + Clone>(
     let mut made = Made::new(entries.allocator());
     match put_all(entries, &mut made, len, hi, first, value) {
         Ok(new_len) => {
-            join_all(&mut entries.counted, made.joints);
+            join_all(entries, made.joints);
             Ok(new_len)
         }
         Err(refused) => {
-            take_back(&mut entries.counted, made.starts);
+            take_back(entries, made.starts);
             Err(refused)
         }
     }

@@ -2,15 +2,14 @@
 ghost use Rattle.std.specs.Prelude.{◌≡◌, [], ◌∷◌, ◌++◌, map, pos, ◌+ℤ◌, ◌<ℤ◌, None, IsTrue, OnOk, OnErr, IfOk};
 ghost use Rattle.blaze_entries.specs.Starts.{start_at, with_entry};
 ghost use Rattle.blaze_table.specs.Entries.{entry, at};
-ghost use Rattle.blaze_table.specs.Filled.{IsFirstGap};
-ghost use Rattle.blaze_table.specs.Filling.{AreThere, GoesBack, IsBeside, IsFilledBut, IsGapFilled};
-ghost use Rattle.blaze_table.specs.Filling.{IsNoted, IsOrderedTable, taken};
+ghost use Rattle.blaze_table.specs.Filling.{AreThere, GoesBack, IsFilledBut, IsGapFilled};
+ghost use Rattle.blaze_table.specs.Filling.{IsNextGap, IsNoted, IsNothingMade, IsOrderedTable, taken};
 ghost use Rattle.blaze_table.specs.Painted.{ClonesAreAlike};
 ghost use Rattle.blaze_table.specs.Table.{IsTable};
 ghost use Rattle.blaze_table.specs.Work.{IsCounted};
 
 use super::gap::{Gap, gap_above};
-use blaze_entries::{Counted, Entries};
+use blaze_entries::Entries;
 use blaze_int::compare::{after, length};
 use blaze_int::{Integer, SafeLength};
 use std::alloc::{AllocError, Global};
@@ -25,8 +24,7 @@ pub struct Made<T> {
 impl<T> Made<T> {
     /// Nothing. No memory is taken.
     pub fn new(alloc: Global) -> Self
-        ensures starts { result.starts.items ≡ [] }
-        ensures joints { result.joints.items ≡ [] }
+        ensures { IsNothingMade result.starts.items result.joints.items }
     {
         Made {
             starts: Vec::new(alloc),
@@ -61,7 +59,7 @@ fn note_after<T: Integer>(joints: &mut Vec<T>, key: T, is_joint: bool) -> Result
 
 // Puts an entry in, at a start where none is, and remembers the start. Refused memory leaves both.
 fn put<T: Integer, V: Drop>(
-    entries: &mut Counted<T, V>,
+    entries: &mut Entries<T, V>,
     starts: &mut Vec<T>,
     gap: Gap<T>,
     value: V,
@@ -102,7 +100,7 @@ fn fill_gap<T: Integer, V: Drop>(
 {
     note(&mut made.joints, gap.start, gap.equal_below)?;
     note_after(&mut made.joints, gap.end, gap.equal_above)?;
-    put(&mut entries.counted, &mut made.starts, gap, value)?;
+    put(entries, &mut made.starts, gap, value)?;
     Ok(())
 }
 
@@ -118,12 +116,9 @@ pub fn put_all<T: Integer, V: Eq + Clone>(
 ) -> Result<T::SafeLen, AllocError>
     requires clones { ClonesAreAlike V.is_clone V.eq }
     requires table { IsTable V.eq T.low T.high (T.SafeLen.number len) entries.old.entries }
-    requires first { IsFirstGap (at entries.old.entries) (T.rank first.start) (T.rank hi)
-        (T.rank first.start) (T.rank first.end) }
-    requires beside { IsBeside V.eq (at entries.old.entries) value (T.rank first.start)
-        (T.rank first.end) first.equal_below first.equal_above }
-    requires starts { made.old.starts.items ≡ [] }
-    requires joints { made.old.joints.items ≡ [] }
+    requires first { IsNextGap V.eq (at entries.old.entries) value (T.rank first.start) (T.rank hi)
+        (T.rank first.start) (T.rank first.end) first.equal_below first.equal_above }
+    requires made { IsNothingMade made.old.starts.items made.old.joints.items }
     ensures table { IfOk result (λ new. IsOrderedTable T.low T.high (T.SafeLen.number new) entries.new.entries) }
     ensures filled { OnOk result (IsFilledBut V.eq (T.rank first.start) (T.rank hi) value
         (map T.rank made.new.starts.items) (map T.rank made.new.joints.items)
@@ -147,7 +142,7 @@ pub fn put_all<T: Integer, V: Eq + Clone>(
 }
 
 /// Takes the entries that start at some keys out, the last first.
-pub fn take_back<T: Integer, V: Drop>(entries: &mut Counted<T, V>, starts: Vec<T>)
+pub fn take_back<T: Integer, V: Drop>(entries: &mut Entries<T, V>, starts: Vec<T>)
     requires { AreThere (map T.rank starts.items) entries.old.entries }
     ensures entries { entries.new.entries ≡ taken (map T.rank starts.items) entries.old.entries }
     ensures counted { IsCounted entries.old entries.new }

@@ -1,23 +1,19 @@
 //! A value put on the keys of a range, in place: the entries beside the range are found, then edited.
 ghost use Rattle.std.specs.Option.{option_or};
-ghost use Rattle.std.specs.Prelude.{◌≡◌, ◌+◌, ◌≤◌, length, pos, ◌+ℤ◌, ◌≤ℤ◌, Ok, IfOk, OnOk, OnErr};
+ghost use Rattle.std.specs.Prelude.{◌≡◌, ◌≤ℤ◌, Ok, IfOk, OnOk, OnErr};
 ghost use Rattle.blaze_entries.specs.Scanned.{seen_of};
-ghost use Rattle.blaze_table.specs.Count.{keys_in};
 ghost use Rattle.blaze_table.specs.Work.{IsCountedPaint, IsCounted};
 ghost use Rattle.blaze_table.specs.Entries.{entry, at, SameOption};
 ghost use Rattle.blaze_table.specs.Painted.{IsInside, ClonesAreAlike};
-ghost use Rattle.blaze_table.specs.Planned.{reaches, IsPlanOf, IsUnlikeAbove, IsWorked};
-ghost use Rattle.blaze_table.specs.Splice.{IsListPainted, before, after};
+ghost use Rattle.blaze_table.specs.Planned.{reaches, IsWalkOf, IsWorked};
+ghost use Rattle.blaze_table.specs.Splice.{IsTablePainted};
 ghost use Rattle.blaze_table.specs.Table.{IsTable};
 
 mod apply;
-mod edits;
-mod inside;
-mod place;
 mod plan;
 
 use apply::apply;
-use blaze_entries::{Counted, Plan};
+use blaze_entries::{Entries, Plan};
 use blaze_int::compare::{is_at_most, length};
 use blaze_int::{Integer, SafeLength};
 use plan::{plan, value_above};
@@ -34,47 +30,47 @@ fn is_inside<T: Integer>(plan: Plan<T>, hi: T) -> bool
     }
 }
 
-// Puts a value on the keys from lo up to hi, as planned, where `outside` is how many keys lie outside of the range, and `above`
-// is equal to the value of the entry that goes on both below and above it with another value, if there is one. Inside an entry
-// with an equal value nothing changes. It is inlined, so that a plan is not copied on its way here.
+// What a walk has found for a paint: a plan, how many keys lie outside of the range, and a value equal to that of the entry that
+// goes on both below and above the range with another value, if there is one.
+#[derive(Drop)]
+struct Walk<T: Integer, V> {
+    plan: Plan<T>,
+    outside: T::SafeLen,
+    above: Option<V>,
+}
+
+// Puts a value on the keys from lo up to hi, by what a walk has found. Inside an entry with an equal value nothing changes.
+// Refused memory leaves the entries as they are. It is inlined, so that a plan is not copied on its way here.
 #[inline(always)]
 fn paint_planned<T: Integer, V: Eq + Drop>(
-    entries: &mut Counted<T, V>,
+    entries: &mut Entries<T, V>,
     len: T::SafeLen,
     lo: T,
     hi: T,
     value: V,
-    plan: Plan<T>,
-    outside: T::SafeLen,
-    above: Option<V>,
+    walk: Walk<T, V>,
 ) -> Result<T::SafeLen, AllocError>
     requires order { T.rank lo ≤ℤ T.rank hi }
     requires table { IsTable V.eq T.low T.high (T.SafeLen.number len) entries.old.entries }
-    requires plan { IsPlanOf V.eq
-        (T.rank lo) (T.rank hi) value entries.old.entries (seen_of T.rank plan) }
-    requires outside { pos (T.SafeLen.number outside)
-        ≡ keys_in (before (T.rank lo) entries.old.entries)
-        +ℤ keys_in (after (T.rank hi) entries.old.entries) }
-    requires above { IsUnlikeAbove V.eq
-        (T.rank lo) (T.rank hi) value entries.old.entries above }
-    ensures table { IfOk result
-        (λ len. IsTable V.eq T.low T.high (T.SafeLen.number len) entries.new.entries) }
-    ensures painted { OnOk result
-        (IsListPainted V.eq
+    requires walk { IsWalkOf V.eq
+        (entry (T.rank lo) (T.rank hi) value) entries.old.entries
+        (seen_of T.rank walk.plan) (T.SafeLen.number walk.outside) walk.above }
+    ensures painted { IfOk result (λ len. IsTablePainted V.eq T.low T.high (T.SafeLen.number len)
         (entry (T.rank lo) (T.rank hi) value) entries.old.entries entries.new.entries) }
     ensures inside { IsInside V.eq (T.rank lo) (T.rank hi) value entries.old.entries
         → (result ≡ Ok len) × (entries.new.entries ≡ entries.old.entries) }
     ensures worked { OnOk result (IsWorked 2 1 entries.old entries.new) }
-    ensures short { OnOk result (length entries.new.entries
-        ≤ length (before (T.rank lo) entries.old.entries)
-        + length (after (T.rank hi) entries.old.entries)
-        + 1) }
     ensures err { OnErr result (entries.new.entries ≡ entries.old.entries) }
     ensures err_counted { OnErr result (IsCounted entries.old entries.new) }
 {
     entries.in_hand();
     lo.in_hand();
     hi.in_hand();
+    let Walk {
+        plan,
+        outside,
+        above,
+    } = walk;
     if is_inside(plan, hi) {
         return Ok(len);
     }
@@ -86,7 +82,7 @@ fn paint_planned<T: Integer, V: Eq + Drop>(
 /// are found by single looks, what is to be put in is put in, and only then is anything edited that can't be taken back.
 /// Inside an entry with an equal value nothing changes. Refused memory leaves the entries as they are.
 pub fn paint_by_splice<T: Integer, V: Eq + Clone>(
-    entries: &mut Counted<T, V>,
+    entries: &mut Entries<T, V>,
     len: T::SafeLen,
     lo: T,
     hi: T,
@@ -95,10 +91,7 @@ pub fn paint_by_splice<T: Integer, V: Eq + Clone>(
     requires order { T.rank lo ≤ℤ T.rank hi }
     requires clones { ClonesAreAlike V.is_clone V.eq }
     requires table { IsTable V.eq T.low T.high (T.SafeLen.number len) entries.old.entries }
-    ensures table { IfOk result
-        (λ len. IsTable V.eq T.low T.high (T.SafeLen.number len) entries.new.entries) }
-    ensures painted { OnOk result
-        (IsListPainted V.eq
+    ensures painted { IfOk result (λ len. IsTablePainted V.eq T.low T.high (T.SafeLen.number len)
         (entry (T.rank lo) (T.rank hi) value) entries.old.entries entries.new.entries) }
     ensures inside { IsInside V.eq (T.rank lo) (T.rank hi) value entries.old.entries
         → (result ≡ Ok len) × (entries.new.entries ≡ entries.old.entries) }
@@ -109,14 +102,19 @@ pub fn paint_by_splice<T: Integer, V: Eq + Clone>(
     entries.in_hand();
     let (plan, outside) = plan(entries, len, lo, hi, &value);
     let above = value_above(entries, hi, plan.left)?;
-    paint_planned(entries, len, lo, hi, value, plan, outside, above)
+    let walk = Walk {
+        plan,
+        outside,
+        above,
+    };
+    paint_planned(entries, len, lo, hi, value, walk)
 }
 
 /// Puts a value on the keys from lo up to hi, and answers how many keys there are then: the entries that the range touches
 /// are seen in one walk, what is to be put in is put in, and only then is anything edited that can't be taken back. Inside an
 /// entry with an equal value nothing changes. Refused memory leaves the entries as they are.
 pub fn paint<T: Integer, V: Eq + Clone>(
-    entries: &mut Counted<T, V>,
+    entries: &mut Entries<T, V>,
     len: T::SafeLen,
     lo: T,
     hi: T,
@@ -125,10 +123,7 @@ pub fn paint<T: Integer, V: Eq + Clone>(
     requires order { T.rank lo ≤ℤ T.rank hi }
     requires clones { ClonesAreAlike V.is_clone V.eq }
     requires table { IsTable V.eq T.low T.high (T.SafeLen.number len) entries.old.entries }
-    ensures table { IfOk result
-        (λ len. IsTable V.eq T.low T.high (T.SafeLen.number len) entries.new.entries) }
-    ensures painted { OnOk result
-        (IsListPainted V.eq
+    ensures painted { IfOk result (λ len. IsTablePainted V.eq T.low T.high (T.SafeLen.number len)
         (entry (T.rank lo) (T.rank hi) value) entries.old.entries entries.new.entries) }
     ensures inside { IsInside V.eq (T.rank lo) (T.rank hi) value entries.old.entries
         → (result ≡ Ok len) × (entries.new.entries ≡ entries.old.entries) }
@@ -137,24 +132,26 @@ pub fn paint<T: Integer, V: Eq + Clone>(
     ensures err_counted { OnErr result (IsCounted entries.old entries.new) }
 {
     entries.in_hand();
-    let (plan, outside, above) = entries.scan(len, lo, hi, &value)?;
-    paint_planned(entries, len, lo, hi, value, plan, outside, above)
+    let (plan, outside, above) = entries.scan(len, lo, hi, Some(&value))?;
+    let walk = Walk {
+        plan,
+        outside,
+        above,
+    };
+    paint_planned(entries, len, lo, hi, value, walk)
 }
 
 /// Puts a value on a key, as `paint` does on a range, and answers the value that was there, which the walk finds, and how many
 /// keys there are then. Refused memory leaves the entries as they are.
 pub fn insert<T: Integer, V: Eq + Clone>(
-    entries: &mut Counted<T, V>,
+    entries: &mut Entries<T, V>,
     len: T::SafeLen,
     key: T,
     value: V,
 ) -> Result<(Option<V>, T::SafeLen), AllocError>
     requires clones { ClonesAreAlike V.is_clone V.eq }
     requires table { IsTable V.eq T.low T.high (T.SafeLen.number len) entries.old.entries }
-    ensures table { IfOk result
-        (λ r. IsTable V.eq T.low T.high (T.SafeLen.number r.1) entries.new.entries) }
-    ensures painted { OnOk result
-        (IsListPainted V.eq
+    ensures painted { IfOk result (λ r. IsTablePainted V.eq T.low T.high (T.SafeLen.number r.1)
         (entry (T.rank key) (T.rank key) value) entries.old.entries entries.new.entries) }
     ensures value { IfOk result (λ r. SameOption V.eq (at entries.old.entries (T.rank key)) r.0) }
     ensures inside { IsInside V.eq (T.rank key) (T.rank key) value entries.old.entries
@@ -165,6 +162,11 @@ pub fn insert<T: Integer, V: Eq + Clone>(
 {
     entries.in_hand();
     let (plan, outside, above, old) = entries.scan_with_value(len, key, key, &value)?;
-    let rest = paint_planned(entries, len, key, key, value, plan, outside, above)?;
+    let walk = Walk {
+        plan,
+        outside,
+        above,
+    };
+    let rest = paint_planned(entries, len, key, key, value, walk)?;
     Ok((old, rest))
 }

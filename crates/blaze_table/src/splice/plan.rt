@@ -7,7 +7,7 @@ ghost use Rattle.blaze_entries.specs.Scanned.{seen_of, unseen, walked, answers};
 ghost use Rattle.blaze_entries.specs.Scanned.{walked_keys, IsAboveCloned, GoesOnUnlike};
 ghost use Rattle.blaze_entries.specs.Starts.{below, start_at};
 
-use blaze_entries::{Counted, Found, Plan, less, next_or_last};
+use blaze_entries::{Entries, Found, Plan, length_outside, next_or_last};
 use blaze_int::Integer;
 use blaze_int::compare::is_below;
 use std::alloc::AllocError;
@@ -15,7 +15,7 @@ use std::alloc::AllocError;
 /// Walks down the entries by single looks, from the one that may start right above a range to the first that starts below
 /// it. A length loses how many of their keys lie in the range.
 pub fn plan<T: Integer, V: Eq>(
-    entries: &mut Counted<T, V>,
+    entries: &mut Entries<T, V>,
     len: T::SafeLen,
     lo: T,
     hi: T,
@@ -24,7 +24,7 @@ pub fn plan<T: Integer, V: Eq>(
     requires { walked_keys (T.rank lo) (T.rank hi)
         (reverse (below (T.rank hi +ℤ pos 2) entries.old.entries)) ≤ℤ pos (T.SafeLen.number len) }
     ensures plan { seen_of T.rank result.0
-        ≡ walked V.eq value.now (T.rank lo) (T.rank hi) (unseen (T.rank hi))
+        ≡ walked (λ w. V.eq w value.now) (T.rank lo) (T.rank hi) (unseen (T.rank hi))
         (reverse (below (T.rank hi +ℤ pos 2) entries.old.entries)) }
     ensures len { pos (T.SafeLen.number result.1)
         +ℤ walked_keys (T.rank lo) (T.rank hi)
@@ -38,14 +38,14 @@ pub fn plan<T: Integer, V: Eq>(
     entries.in_hand();
     let mut plan = Plan::new(hi);
     let mut left = len;
-    let mut last = entries.at_or_below(next_or_last(hi), value);
+    let mut last = entries.found_at_or_below(next_or_last(hi), value);
     while let Some(found) = last {
-        left = less(left, found, lo, hi);
+        left = length_outside(left, found, lo, hi);
         plan.see(lo, hi, found);
         if is_below(found.start, lo) {
             return (plan, left);
         }
-        last = entries.below(found.start, value);
+        last = entries.found_below(found.start, value);
     }
     (plan, left)
 }
@@ -53,7 +53,7 @@ pub fn plan<T: Integer, V: Eq>(
 /// A clone of the value of the entry `left`, which starts below a range, where it goes on above the range with another value,
 /// by one look. A refused clone leaves the entries.
 pub fn value_above<T: Integer, V: Eq + Clone>(
-    entries: &mut Counted<T, V>,
+    entries: &mut Entries<T, V>,
     hi: T,
     left: Option<Found<T>>,
 ) -> Result<Option<V>, AllocError>

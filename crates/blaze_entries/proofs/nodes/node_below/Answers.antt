@@ -1,15 +1,15 @@
 use Rattle.std.proofs.Common.{ap, ◌∙◌}
 use Rattle.std.specs.Map.Iter.{deref_pair}
 use Rattle.std.specs.Option.{option_map}
-use Rattle.blaze_entries.specs.Places.{place_of}
+use Rattle.blaze_entries.specs.Nodes.{node_as_entry}
 use Rattle.std.specs.Prelude.{None}
 use Rattle.std.specs.List.{last_or}
-use Rattle.blaze_entries.proofs.NodeLists.{last_taken, map_twice, places_before}
+use Rattle.blaze_entries.proofs.NodeLists.{last_taken, map_twice, as_entries_before}
 use Rattle.blaze_entries.proofs.nodes.node_below.Goals as goal
 
 pub returns : goal.returns
 returns g c =
     let rank = g.T.Integer.rank in
-    map_twice deref_pair (place_of rank) c.next_back.result
-    ∙ ap (option_map (place_of rank)) (last_taken deref_pair c.range.result c.next_back.new.self c.next_back.result c.next_back.ensures.steps ∙ ap (last_or None) (c.range.ensures.between tt))
-    ∙ places_before rank c.args.key c.args.tree.now.entries
+    map_twice deref_pair (node_as_entry rank) c.next_back.result
+    ∙ ap (option_map (node_as_entry rank)) (last_taken deref_pair c.range.result c.next_back.new.self c.next_back.result c.next_back.ensures.steps ∙ ap (last_or None) (c.range.ensures.between tt))
+    ∙ as_entries_before rank c.args.key c.args.tree.now.entries

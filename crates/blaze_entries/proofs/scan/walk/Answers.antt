@@ -2,11 +2,12 @@ use Rattle.std.proofs.Common.{◌≡◌, ◌+◌, pos, ◌+ℤ◌, ◌≤ℤ◌,
 use Rattle.std.proofs.lemmas.Int.{ints}
 use Rattle.std.specs.Prelude.{reverse, map}
 use Rattle.std.specs.Option.{option_copied}
-use Rattle.blaze_entries.specs.Places.{places, full, held}
+use Rattle.blaze_entries.specs.Found.{is_sought}
+use Rattle.blaze_entries.specs.Nodes.{nodes_as_entries, full, held}
 use Rattle.blaze_entries.specs.Scanned.{seen_of, unseen, walked, answers, walked_keys, walked_value, seen_value}
 use Rattle.blaze_entries.specs.Starts.{below}
 use Rattle.blaze_entries.proofs.Halves.{below_next}
-use Rattle.blaze_entries.proofs.Held.{places_ascend, full_of, full_held, below-held}
+use Rattle.blaze_entries.proofs.Held.{nodes_ascend, full_of, full_held, below-held}
 use Rattle.blaze_entries.proofs.Scans.{found_entry, down_from, step_fits, last_keys, next_walked, last_value, next_value, next_answers, next_keys}
 use Rattle.blaze_entries.proofs.scan.walk.Goals as goal
 
@@ -16,16 +17,16 @@ loop-next-init g c =
     let low = g.T.Integer.low in
     let high = g.T.Integer.high in
     let k = rank c.next_or_last-top.result +ℤ pos 1 in
-    let ps = places rank c.args.tree.now.entries in
-    let q : places rank c.nodes_up_to-nodes.result ≡ map held (below k (full ps)) =
+    let ps = nodes_as_entries rank c.args.tree.now.entries in
+    let q : nodes_as_entries rank c.nodes_up_to-nodes.result ≡ map held (below k (full ps)) =
     c.nodes_up_to-nodes.ensures
     ∙ ap (below k) c.requires.held.full.held ∙ below-held k (full ps) in
-    let e = full_of (places rank c.nodes_up_to-nodes.result) (below k (full ps)) q
+    let e = full_of (nodes_as_entries rank c.nodes_up_to-nodes.result) (below k (full ps)) q
     ∙ below_next low high (rank c.args.hi) (rank c.next_or_last-top.result) (full ps) c.requires.held.ascend c.next_or_last-top.ensures in
     record {
-      full = full_held (places rank c.nodes_up_to-nodes.result) (below k (full ps)) q;
-      plan = ap (λ s. walked g.V.PartialEq.eq c.args.value.now (rank c.args.lo) (rank c.args.hi) s (reverse (full (places rank c.nodes_up_to-nodes.result)))) c.new-plan.ensures
-          ∙ ap (λ es. walked g.V.PartialEq.eq c.args.value.now (rank c.args.lo) (rank c.args.hi) (unseen (rank c.args.hi)) (reverse es)) e;
+      full = full_held (nodes_as_entries rank c.nodes_up_to-nodes.result) (below k (full ps)) q;
+      plan = ap (λ s. walked (is_sought g.V.PartialEq.eq (option_copied c.args.value)) (rank c.args.lo) (rank c.args.hi) s (reverse (full (nodes_as_entries rank c.nodes_up_to-nodes.result)))) c.new-plan.ensures
+          ∙ ap (λ es. walked (is_sought g.V.PartialEq.eq (option_copied c.args.value)) (rank c.args.lo) (rank c.args.hi) (unseen (rank c.args.hi)) (reverse es)) e;
       room = subst (λ es. walked_keys (rank c.args.lo) (rank c.args.hi) (reverse es) ≤ℤ pos (g.T.SafeLen.SafeLength.number c.args.len)) (sym e) c.requires.len;
       left = ap (λ es. pos (g.T.SafeLen.SafeLength.number c.args.len) +ℤ walked_keys (rank c.args.lo) (rank c.args.hi) (reverse es)) (sym e);
       value = ap (λ es. walked_value (rank c.args.lo) None (reverse es)) e;
@@ -33,13 +34,13 @@ loop-next-init g c =
     }
 
 pub nodes_up_to-nodes-requires : goal.nodes_up_to-nodes-requires
-nodes_up_to-nodes-requires g c = places_ascend g.T.Integer.low g.T.Integer.high _ c.requires.held
+nodes_up_to-nodes-requires g c = nodes_ascend g.T.Integer.low g.T.Integer.high _ c.requires.held
 
-pub less-left-requires : goal.less-left-requires
-less-left-requires g c =
+pub length_outside-left-requires : goal.length_outside-left-requires
+length_outside-left-requires g c =
     let rank = g.T.Integer.rank in
     let seen = c.in-Some.ensures.found in
-    step_fits (rank c.args.lo) (rank c.args.hi) g.V.PartialEq.eq c.args.value.now _ seen.0 seen.1.found _ _ (down_from seen.0 _ _ seen.2) (pos (g.T.SafeLen.SafeLength.number c.loop-next.left)) c.loop-next.invariant.room
+    step_fits (rank c.args.lo) (rank c.args.hi) (is_sought g.V.PartialEq.eq (option_copied c.args.value)) _ seen.0 seen.1.found _ _ (down_from seen.0 _ _ seen.2) (pos (g.T.SafeLen.SafeLength.number c.loop-next.left)) c.loop-next.invariant.room
 
 pub returns-then-is_below-clause-value : goal.returns-then-is_below-clause-value
 returns-then-is_below-clause-value g c =
@@ -47,35 +48,34 @@ returns-then-is_below-clause-value g c =
     let seen = c.in-Some.ensures.found in
     c.seen_value-held.ensures
     ∙ ap (seen_value (rank c.args.lo) (option_copied c.loop-next.held)) (found_entry seen.1)
-    ∙ sym (last_value (rank c.args.lo) (rank c.args.hi) g.V.PartialEq.eq c.args.value.now _ seen.0 seen.1.found _ _ (down_from seen.0 _ _ seen.2) (sym c.is_below.ensures ∙ c.if-is_below.true) (option_copied c.loop-next.held))
+    ∙ sym (last_value (rank c.args.lo) (rank c.args.hi) (is_sought g.V.PartialEq.eq (option_copied c.args.value)) _ seen.0 seen.1.found _ _ (down_from seen.0 _ _ seen.2) (sym c.is_below.ensures ∙ c.if-is_below.true) (option_copied c.loop-next.held))
     ∙ c.loop-next.invariant.value
 
 pub returns-then-is_below-clause-len : goal.returns-then-is_below-clause-len
 returns-then-is_below-clause-len g c =
     let rank = g.T.Integer.rank in
     let seen = c.in-Some.ensures.found in
-    let keys = last_keys (rank c.args.lo) (rank c.args.hi) g.V.PartialEq.eq c.args.value.now _ seen.0 seen.1.found _ _ (down_from seen.0 _ _ seen.2) (sym c.is_below.ensures ∙ c.if-is_below.true) in
-    omega (arith, ints, keys, c.less-left.ensures, c.loop-next.invariant.left)
+    let keys = last_keys (rank c.args.lo) (rank c.args.hi) (is_sought g.V.PartialEq.eq (option_copied c.args.value)) _ seen.0 seen.1.found _ _ (down_from seen.0 _ _ seen.2) (sym c.is_below.ensures ∙ c.if-is_below.true) in
+    omega (arith, ints, keys, c.length_outside-left.ensures, c.loop-next.invariant.left)
 
 pub loop-next-preserved : goal.loop-next-preserved
 loop-next-preserved g c =
     let rank = g.T.Integer.rank in
-    let eq = g.V.PartialEq.eq in
+    let test = is_sought g.V.PartialEq.eq (option_copied c.args.value) in
     let l = rank c.args.lo in
     let h = rank c.args.hi in
-    let v = c.args.value.now in
     let seen = c.in-Some.ensures.found in
     let down = down_from seen.0 _ _ seen.2 in
     let over = sym c.is_below.ensures ∙ c.if-is_below.false in
-    let keys = next_keys l h eq v _ seen.0 seen.1.found _ _ down over in
-    let looks = next_answers l h eq v _ seen.0 seen.1.found _ _ down over in
+    let keys = next_keys l h test _ seen.0 seen.1.found _ _ down over in
+    let looks = next_answers l h test _ seen.0 seen.1.found _ _ down over in
     record {
       full = c.in-Some.ensures.full;
-      plan = ap (λ s. walked eq v l h s (reverse (full (places rank c.next_found.new.nodes)))) c.see.ensures
-          ∙ sym (next_walked l h eq v _ seen.0 seen.1.found _ _ down over (seen_of rank c.loop-next.plan)) ∙ c.loop-next.invariant.plan;
-      value = ap (λ o. walked_value l o (reverse (full (places rank c.next_found.new.nodes)))) (c.seen_value-held.ensures ∙ ap (seen_value l (option_copied c.loop-next.held)) (found_entry seen.1))
-          ∙ sym (next_value l h eq v _ seen.0 seen.1.found _ _ down over (option_copied c.loop-next.held)) ∙ c.loop-next.invariant.value;
+      plan = ap (λ s. walked test l h s (reverse (full (nodes_as_entries rank c.next_found.new.nodes)))) c.see.ensures
+          ∙ sym (next_walked l h test _ seen.0 seen.1.found _ _ down over (seen_of rank c.loop-next.plan)) ∙ c.loop-next.invariant.plan;
+      value = ap (λ o. walked_value l o (reverse (full (nodes_as_entries rank c.next_found.new.nodes)))) (c.seen_value-held.ensures ∙ ap (seen_value l (option_copied c.loop-next.held)) (found_entry seen.1))
+          ∙ sym (next_value l h test _ seen.0 seen.1.found _ _ down over (option_copied c.loop-next.held)) ∙ c.loop-next.invariant.value;
       looks = omega (arith, looks, c.in-Some.ensures.looked, c.loop-next.invariant.looks);
-      room = omega (arith, ints, keys, c.less-left.ensures, c.loop-next.invariant.room);
-      left = omega (arith, ints, keys, c.less-left.ensures, c.loop-next.invariant.left);
+      room = omega (arith, ints, keys, c.length_outside-left.ensures, c.loop-next.invariant.room);
+      left = omega (arith, ints, keys, c.length_outside-left.ensures, c.loop-next.invariant.left);
     }

@@ -1,6 +1,4 @@
-use Rattle.std.proofs.Common.{map, subst}
-use Rattle.blaze_entries.specs.Counted.{CountedEntries}
-use Rattle.blaze_table.specs.Entries.{SameContent}
+use Rattle.std.proofs.Common.{map}
 use Rattle.blaze_table.proofs.Canonical.RangeMaps.{range_map}
 use Rattle.blaze_table.proofs.Fills.Filled.{filled_none}
 use Rattle.blaze_table.proofs.Fills.Fillings.{filled_whole, gap_is_not_held}
@@ -16,7 +14,7 @@ returns-in_default-clause-filled g c =
     let eq = g.V.PartialEq.eq in
     let old = c.args.entries.now.entries in
     filled_none eq g.met.V.Eq.laws g.T.Integer.low g.T.Integer.high (rank c.args.lo) (rank c.args.hi) c.args.value old
-    (range_map eq g.met.V.Eq.laws g.T.Integer.low g.T.Integer.high _ old c.requires.table) c.in_default.ensures.gap
+    (range_map eq g.met.V.Eq.laws g.T.Integer.low g.T.Integer.high _ old c.requires.table) c.in_default.ensures
 
 pub returns-in-Ok-clause-filled : goal.returns-in-Ok-clause-filled
 returns-in-Ok-clause-filled g c =
@@ -24,7 +22,7 @@ returns-in-Ok-clause-filled g c =
     filled_whole g.V.PartialEq.eq g.met.V.Eq.laws g.T.Integer.low g.T.Integer.high (rank c.args.lo) (rank c.args.hi) (rank c.in-Some.first.start) (rank c.in-Some.first.end) c.args.value
     (map rank c.put_all.new.made.starts.items) (map rank c.put_all.new.made.joints.items)
     c.args.entries.now.entries c.put_all.new.entries.entries c.join_all.new.entries.entries c.in-Some.ensures.gap c.in-Ok.ensures.filled
-    (subst (λ (s : CountedEntries g.row.V.Denot). SameContent g.V.PartialEq.eq c.join_all.new.entries.entries s.entries) c.entries.view_is c.join_all.ensures.same) c.join_all.ensures.canonical c.join_all.ensures.keys
+    c.join_all.ensures.same c.join_all.ensures.canonical c.join_all.ensures.keys
 
 pub returns-in-Ok-clause-held : goal.returns-in-Ok-clause-held
 returns-in-Ok-clause-held g c s =

@@ -12,46 +12,45 @@ pub returns-then-is_inside-clause-painted : goal.returns-then-is_inside-clause-p
 returns-then-is_inside-clause-painted g c =
     let rank = g.T.Integer.rank in
     let eq = g.V.PartialEq.eq in
-    let seen = inside_seen eq c.args.value (rank c.args.lo) (rank c.args.hi) c.requires.order g.T.Integer.low g.T.Integer.high c.args.entries.now.entries c.in_hand.ensures c.requires.table.canonical (seen_of rank c.args.plan) c.requires.plan in
-    inside_painted eq (rank c.args.lo) (rank c.args.hi) c.args.value g.met.V.Eq.laws c.args.entries.now.entries c.requires.table.canonical (seen.0 (sym c.is_inside.ensures ∙ c.if-is_inside.true))
-
-pub returns-then-is_inside-clause-short : goal.returns-then-is_inside-clause-short
-returns-then-is_inside-clause-short g c =
-    let rank = g.T.Integer.rank in
-    let eq = g.V.PartialEq.eq in
-    let seen = inside_seen eq c.args.value (rank c.args.lo) (rank c.args.hi) c.requires.order g.T.Integer.low g.T.Integer.high c.args.entries.now.entries c.in_hand.ensures c.requires.table.canonical (seen_of rank c.args.plan) c.requires.plan in
-    inside_short eq c.args.value (rank c.args.lo) (rank c.args.hi) c.requires.order c.args.entries.now.entries c.requires.table.canonical (seen.0 (sym c.is_inside.ensures ∙ c.if-is_inside.true))
+    let seen = inside_seen eq c.args.value (rank c.args.lo) (rank c.args.hi) c.requires.order g.T.Integer.low g.T.Integer.high c.args.entries.now.entries c.in_hand.ensures c.requires.table.canonical (seen_of rank c.args.walk.plan) c.requires.walk.plan in
+    let inside = seen.0 (sym c.is_inside.ensures ∙ c.if-is_inside.true) in
+    record {
+      table = c.requires.table;
+      painted = inside_painted eq (rank c.args.lo) (rank c.args.hi) c.args.value g.met.V.Eq.laws c.args.entries.now.entries c.requires.table.canonical inside;
+      short = inside_short eq c.args.value (rank c.args.lo) (rank c.args.hi) c.requires.order c.args.entries.now.entries c.requires.table.canonical inside;
+    }
 
 pub returns-in_err-apply-clause-inside : goal.returns-in_err-apply-clause-inside
 returns-in_err-apply-clause-inside g c = λ i.
     let rank = g.T.Integer.rank in
-    absurd (not_reached g.V.PartialEq.eq c.args.value (rank c.args.lo) (rank c.args.hi) c.requires.order g.T.Integer.low g.T.Integer.high c.args.entries.now.entries c.in_hand.ensures c.requires.table.canonical (seen_of rank c.args.plan) c.requires.plan
+    absurd (not_reached g.V.PartialEq.eq c.args.value (rank c.args.lo) (rank c.args.hi) c.requires.order g.T.Integer.low g.T.Integer.high c.args.entries.now.entries c.in_hand.ensures c.requires.table.canonical (seen_of rank c.args.walk.plan) c.requires.walk.plan
     (sym c.is_inside.ensures ∙ c.if-is_inside.false) i)
 
 pub returns-clause-inside : goal.returns-clause-inside
 returns-clause-inside g c = λ i.
     let rank = g.T.Integer.rank in
-    absurd (not_reached g.V.PartialEq.eq c.args.value (rank c.args.lo) (rank c.args.hi) c.requires.order g.T.Integer.low g.T.Integer.high c.args.entries.now.entries c.in_hand.ensures c.requires.table.canonical (seen_of rank c.args.plan) c.requires.plan
+    absurd (not_reached g.V.PartialEq.eq c.args.value (rank c.args.lo) (rank c.args.hi) c.requires.order g.T.Integer.low g.T.Integer.high c.args.entries.now.entries c.in_hand.ensures c.requires.table.canonical (seen_of rank c.args.walk.plan) c.requires.walk.plan
     (sym c.is_inside.ensures ∙ c.if-is_inside.false) i)
 
 pub plus-requires : goal.plus-requires
 plus-requires g c =
     let rank = g.T.Integer.rank in
     let bound = keys_painted g.V.PartialEq.eq g.met.V.Eq.laws g.T.Integer.low g.T.Integer.high (rank c.args.lo) (rank c.args.hi) c.args.entries.now.entries c.requires.order c.in_hand-2.ensures.from c.in_hand-3.ensures.to c.requires.table.canonical c.requires.table.are_keys in
-    omega (arith, ints, bound, g.met.T.Integer.has_room, c.requires.outside, c.length.ensures)
+    let outside = c.requires.walk.outside in
+    omega (arith, ints, bound, g.met.T.Integer.has_room, outside, c.length.ensures)
 
 pub returns-clause-painted : goal.returns-clause-painted
 returns-clause-painted g c =
     let rank = g.T.Integer.rank in
-    is_painted g.V.PartialEq.eq g.met.V.Eq.laws (entry (rank c.args.lo) (rank c.args.hi) c.args.value) c.args.entries.now.entries c.apply.new.entries.entries c.requires.order c.requires.table.canonical c.in_ok-apply.ensures.painted
-
-pub returns-clause-table : goal.returns-clause-table
-returns-clause-table g c =
-    let rank = g.T.Integer.rank in
-    painted_table g.V.PartialEq.eq g.met.V.Eq.laws g.T.Integer.low g.T.Integer.high _ (entry (rank c.args.lo) (rank c.args.hi) c.args.value) c.args.entries.now.entries c.apply.new.entries.entries c.in_hand-2.ensures.from c.in_hand-3.ensures.to c.requires.table.are_keys
-    (omega (arith, ints, c.requires.outside, c.length.ensures, c.plus.ensures)) c.in_ok-apply.ensures.painted (returns-clause-painted g c).canonical
-
-pub returns-clause-short : goal.returns-clause-short
-returns-clause-short g c =
-    let rank = g.T.Integer.rank in
-    painted_short g.V.PartialEq.eq g.met.V.Eq.laws (entry (rank c.args.lo) (rank c.args.hi) c.args.value) c.args.entries.now.entries c.apply.new.entries.entries c.in_ok-apply.ensures.painted
+    let eq = g.V.PartialEq.eq in
+    let p = entry (rank c.args.lo) (rank c.args.hi) c.args.value in
+    let old = c.args.entries.now.entries in
+    let new = c.apply.new.entries.entries in
+    let made = c.in_ok-apply.ensures.painted in
+    let outside = c.requires.walk.outside in
+    let painted = is_painted eq g.met.V.Eq.laws p old new c.requires.order c.requires.table.canonical made in
+    record {
+      table = painted_table eq g.met.V.Eq.laws g.T.Integer.low g.T.Integer.high _ p old new c.in_hand-2.ensures.from c.in_hand-3.ensures.to c.requires.table.are_keys (omega (arith, ints, outside, c.length.ensures, c.plus.ensures)) made painted.canonical;
+      painted = painted;
+      short = painted_short eq g.met.V.Eq.laws p old new made;
+    }

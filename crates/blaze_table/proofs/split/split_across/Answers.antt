@@ -20,8 +20,8 @@ pub before-requires : goal.before-requires
 before-requires g c =
     starts_under g.V.PartialEq.eq g.met.V.Eq.laws _ g.T.Integer.high _ _ _ (holder g.V.PartialEq.eq _ g.T.Integer.high _ g.T.Integer.low _ _ c.in_hand.ensures c.requires.canonical c.requires.found)
 
-pub remove-requires : goal.remove-requires
-remove-requires g c =
+pub remove_uncounted-requires : goal.remove_uncounted-requires
+remove_uncounted-requires g c =
     clone_there g.V.PartialEq.eq g.met.V.Eq.laws (g.T.Integer.rank c.args.key) g.T.Integer.high c.args.entries.now.entries _ _
     (holder g.V.PartialEq.eq (g.T.Integer.rank c.args.key) g.T.Integer.high c.args.entries.now.entries g.T.Integer.low _ _ c.in_hand.ensures c.requires.canonical c.requires.found)
     g.V.Clone.is_clone c.insert_clone.new.self c.split_off.new.self c.in_ok-insert_clone.ensures.ok c.in-Err.ensures.err
@@ -43,6 +43,6 @@ returns-in-Err-clause-err g c =
     let eq = g.V.PartialEq.eq in
     let k = g.T.Integer.rank c.args.key in
     let h = holder eq k g.T.Integer.high c.args.entries.now.entries g.T.Integer.low _ _ c.in_hand.ensures c.requires.canonical c.requires.found in
-    clone_removed g.V.Clone.is_clone _ k c.args.entries.now c.insert_clone.new.self c.split_off.new.self c.remove.new.self
+    clone_removed g.V.Clone.is_clone _ k c.args.entries.now c.insert_clone.new.self c.split_off.new.self c.remove_uncounted.new.self
     (absent_inside eq k g.T.Integer.high c.args.entries.now.entries _ _ h k (starts_under eq g.met.V.Eq.laws k g.T.Integer.high c.args.entries.now.entries _ _ h) c.requires.reaches)
-    c.in_ok-insert_clone.ensures.ok c.in_ok-insert_clone.ensures.same c.in-Err.ensures.err c.remove.ensures.entries
+    c.in_ok-insert_clone.ensures.ok c.in_ok-insert_clone.ensures.same c.in-Err.ensures.err c.remove_uncounted.ensures.entries

@@ -16,9 +16,9 @@ loop-next-init g c =
     let old = c.args.entries.now.entries in
     record {
       table = ordered_table eq g.T.Integer.low g.T.Integer.high (g.T.SafeLen.SafeLength.number c.args.len) old c.requires.table;
-      filling = filling_first eq g.met.V.Eq.laws old (rank c.args.first.start) (rank c.args.first.end) (rank c.args.hi) c.args.value _ _ c.requires.table.canonical c.requires.first
-          (map_none rank c.args.made.now.starts.items c.requires.starts) (map_none rank c.args.made.now.joints.items c.requires.joints);
-      beside = c.requires.beside;
+      filling = filling_first eq g.met.V.Eq.laws old (rank c.args.first.start) (rank c.args.first.end) (rank c.args.hi) c.args.value _ _ c.requires.table.canonical c.requires.first.gap
+          (map_none rank c.args.made.now.starts.items c.requires.made.no_start) (map_none rank c.args.made.now.joints.items c.requires.made.no_joint);
+      beside = c.requires.first.beside;
       counted = counted_none c.args.entries.now;
     }
 
@@ -133,7 +133,7 @@ returns-clause-filled g c =
     let all = map rank c.fill_gap-2.new.made.joints.items in
     let d = c.in_ok-fill_gap-2.ensures.ok in
     let like = laws.refl c.args.value in
-    filling_last eq laws low high (rank c.args.first.start) (rank c.args.hi) (rank c.loop-next.gap.start) (rank c.loop-next.gap.end) c.args.value w starts more joints all old cur new c.in_hand.ensures.from c.in_hand-2.ensures.to i.table.canonical i.filling c.loop-next.gap.equal_below c.loop-next.gap.equal_above i.beside d like c.in_default.ensures.gap
+    filling_last eq laws low high (rank c.args.first.start) (rank c.args.hi) (rank c.loop-next.gap.start) (rank c.loop-next.gap.end) c.args.value w starts more joints all old cur new c.in_hand.ensures.from c.in_hand-2.ensures.to i.table.canonical i.filling c.loop-next.gap.equal_below c.loop-next.gap.equal_above i.beside d like c.in_default.ensures
 
 pub fill_gap-requires : goal.fill_gap-requires
 fill_gap-requires g c =

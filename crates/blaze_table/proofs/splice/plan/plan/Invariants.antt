@@ -12,9 +12,9 @@ abbrev pub invariant-loop-last : goal.invariant-loop-last
 invariant-loop-last g l = record {
   key : ℤ;
   same : l.entries ≡ record l.fn.entries { looks = l.entries.looks };
-  found : option_map (found_of g.T.Integer.rank) l.last ≡ option_map (found_in g.V.PartialEq.eq l.value) (last_below key l.fn.entries.entries);
-  plan : walked g.V.PartialEq.eq l.value (g.T.Integer.rank l.lo) (g.T.Integer.rank l.hi) (seen_of g.T.Integer.rank l.plan) (reverse (below key l.fn.entries.entries))
-      ≡ walked g.V.PartialEq.eq l.value (g.T.Integer.rank l.lo) (g.T.Integer.rank l.hi) (unseen (g.T.Integer.rank l.hi)) (reverse (below (g.T.Integer.rank l.hi +ℤ pos 2) l.fn.entries.entries));
+  found : option_map (found_of g.T.Integer.rank) l.last ≡ option_map (found_in (λ w. g.V.PartialEq.eq w l.value)) (last_below key l.fn.entries.entries);
+  plan : walked (λ w. g.V.PartialEq.eq w l.value) (g.T.Integer.rank l.lo) (g.T.Integer.rank l.hi) (seen_of g.T.Integer.rank l.plan) (reverse (below key l.fn.entries.entries))
+      ≡ walked (λ w. g.V.PartialEq.eq w l.value) (g.T.Integer.rank l.lo) (g.T.Integer.rank l.hi) (unseen (g.T.Integer.rank l.hi)) (reverse (below (g.T.Integer.rank l.hi +ℤ pos 2) l.fn.entries.entries));
   looks : l.entries.looks + answers (g.T.Integer.rank l.lo) (reverse (below key l.fn.entries.entries))
       ≡ l.fn.entries.looks + answers (g.T.Integer.rank l.lo) (reverse (below (g.T.Integer.rank l.hi +ℤ pos 2) l.fn.entries.entries)) + 1;
   room : walked_keys (g.T.Integer.rank l.lo) (g.T.Integer.rank l.hi) (reverse (below key l.fn.entries.entries)) ≤ℤ pos (g.T.SafeLen.SafeLength.number l.left);

@@ -1,4 +1,4 @@
-use Rattle.std.proofs.Common.{subst, ap, ◌∙◌}
+use Rattle.std.proofs.Common.{subst}
 use Rattle.blaze_table.specs.Counted.{CountedEntries}
 use Rattle.blaze_table.specs.Cut.{IsCut}
 use Rattle.blaze_table.proofs.Canonical.RangeMaps.{cut_map}
@@ -9,5 +9,5 @@ returns-clause-ok g c =
     let rank = g.T.Integer.rank in
     let eq = g.V.PartialEq.eq in
     let new = c.cut.new.entries.entries in
-    subst (λ (s : CountedEntries g.row.V.Denot). IsCut eq g.T.Integer.low g.T.Integer.high (rank c.args.key) s.entries new) (ap (λ s. s.entries) c.self-inside.view_is ∙ c.self.view_is)
-    (cut_map eq g.met.V.Eq.laws g.T.Integer.low g.T.Integer.high _ (rank c.args.key) _ new c.in_ok-value.ensures.table c.in_ok-value.ensures.cut)
+    subst (λ (s : CountedEntries g.row.V.Denot). IsCut eq g.T.Integer.low g.T.Integer.high (rank c.args.key) s.entries new) c.self.view_is
+    (cut_map eq g.met.V.Eq.laws g.T.Integer.low g.T.Integer.high _ (rank c.args.key) _ _ new c.in_ok-value.ensures.cut)

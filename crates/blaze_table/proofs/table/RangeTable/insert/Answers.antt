@@ -1,4 +1,4 @@
-use Rattle.std.proofs.Common.{subst, ap, ◌∙◌, arith}
+use Rattle.std.proofs.Common.{subst, arith}
 use Rattle.std.proofs.lemmas.Int.{ints}
 use Rattle.blaze_table.specs.Counted.{CountedEntries}
 use Rattle.blaze_table.specs.Entries.{entry}
@@ -12,5 +12,5 @@ returns-clause-ok g c =
     let eq = g.V.PartialEq.eq in
     let p = entry (rank c.args.key) (rank c.args.key) c.args.value in
     let new = c.insert.new.entries.entries in
-    subst (λ (s : CountedEntries g.row.V.Denot). IsPainted eq g.T.Integer.low g.T.Integer.high p s.entries new) (ap (λ s. s.entries) c.self-inside.view_is ∙ c.self.view_is)
-    (painted_map eq g.met.V.Eq.laws g.T.Integer.low g.T.Integer.high _ p _ new (omega (arith, ints)) c.in_ok-old.ensures.table c.in_ok-old.ensures.painted c.insert.ensures.inside)
+    subst (λ (s : CountedEntries g.row.V.Denot). IsPainted eq g.T.Integer.low g.T.Integer.high p s.entries new) c.self.view_is
+    (painted_map eq g.met.V.Eq.laws g.T.Integer.low g.T.Integer.high _ p _ new (omega (arith, ints)) c.in_ok-old.ensures.painted c.insert.ensures.inside)

@@ -1,4 +1,4 @@
-use Rattle.std.proofs.Common.{subst, ap, ◌∙◌}
+use Rattle.std.proofs.Common.{subst}
 use Rattle.blaze_table.specs.Counted.{CountedEntries}
 use Rattle.blaze_table.specs.Entries.{entry}
 use Rattle.blaze_table.specs.Painted.{IsPainted}
@@ -11,5 +11,5 @@ returns-clause-ok g c =
     let eq = g.V.PartialEq.eq in
     let p = entry (rank c.args.lo) (rank c.args.hi) c.args.value in
     let new = c.paint_by_splice.new.entries.entries in
-    subst (λ (s : CountedEntries g.row.V.Denot). IsPainted eq g.T.Integer.low g.T.Integer.high p s.entries new) (ap (λ s. s.entries) c.self-inside.view_is ∙ c.self.view_is)
-    (painted_map eq g.met.V.Eq.laws g.T.Integer.low g.T.Integer.high _ p _ new c.requires.order c.in_ok-new_len.ensures.table c.in_ok-new_len.ensures.painted (λ i. (c.paint_by_splice.ensures.inside i).1))
+    subst (λ (s : CountedEntries g.row.V.Denot). IsPainted eq g.T.Integer.low g.T.Integer.high p s.entries new) c.self.view_is
+    (painted_map eq g.met.V.Eq.laws g.T.Integer.low g.T.Integer.high _ p _ new c.requires.order c.in_ok-new_len.ensures.painted (λ i. (c.paint_by_splice.ensures.inside i).1))

@@ -1,11 +1,11 @@
-use Rattle.std.proofs.Common.{◌-◌, length, subst, ap, ◌∙◌, arith}
+use Rattle.std.proofs.Common.{◌-◌, length, subst, ap, arith}
 use Rattle.std.specs.List.{slice_get}
 use Rattle.blaze_table.specs.Counted.{CountedEntries}
 use Rattle.blaze_table.specs.Cut.{IsLastCut, IsAmongOthers}
 use Rattle.std.specs.Prelude.{IfSome}
 use Rattle.blaze_table.proofs.Canonical.RangeMaps.{cut_map}
 use Rattle.blaze_table.proofs.Cuts.CutEdits.{on_err}
-use Rattle.blaze_table.proofs.Cuts.LastCuts.{last_refused}
+use Rattle.blaze_table.proofs.Cuts.Ends.{last_refused}
 use Rattle.blaze_table.proofs.table.RangeTable.pop_last.Goals as goal
 
 pub returns-in_err-key-clause-refused : goal.returns-in_err-key-clause-refused
@@ -13,14 +13,13 @@ returns-in_err-key-clause-refused g c =
     let long = ap (λ (s : CountedEntries g.row.V.Denot). length s.entries) c.self.view_is in
     on_err c.from_residual.result
     (last_refused g.V.PartialEq.eq c.args.self.now.entries (λ z. omega (arith, c.len.ensures, c.if-len-eq0.false, long, z))
-    (subst (λ (s : CountedEntries g.row.V.Denot). IfSome (slice_get s.entries (length s.entries - 1)) (λ e. IsAmongOthers e.hi s.entries)) (ap (λ s. s.entries) c.self-inside.view_is ∙ c.self.view_is) c.in_err-key.ensures.refused))
+    (subst (λ (s : CountedEntries g.row.V.Denot). IfSome (slice_get s.entries (length s.entries - 1)) (λ e. IsAmongOthers e.hi s.entries)) c.self.view_is c.in_err-key.ensures.refused))
 
 pub returns-clause-ok : goal.returns-clause-ok
 returns-clause-ok g c =
     let rank = g.T.Integer.rank in
     let eq = g.V.PartialEq.eq in
     let new = c.cut_last.new.entries.entries in
-    let whole = ap (λ s. s.entries) c.self-inside.view_is ∙ c.self.view_is in
-    let e = c.in_ok-key.ensures in
-    subst (λ (s : CountedEntries g.row.V.Denot). IsLastCut eq g.T.Integer.low g.T.Integer.high (rank c.in_ok-key.key) c.in_ok-key.value s.entries new) whole
-    (record { last = e.last; equal = e.value; cut = cut_map eq g.met.V.Eq.laws g.T.Integer.low g.T.Integer.high _ (rank c.in_ok-key.key) _ new e.table e.cut })
+    let e = c.in_ok-key.ensures.cut in
+    subst (λ (s : CountedEntries g.row.V.Denot). IsLastCut eq g.T.Integer.low g.T.Integer.high (rank c.in_ok-key.key) c.in_ok-key.value s.entries new) c.self.view_is
+    (record { last = e.last; equal = e.cut.value; cut = cut_map eq g.met.V.Eq.laws g.T.Integer.low g.T.Integer.high _ (rank c.in_ok-key.key) _ _ new e.cut })

@@ -18,7 +18,7 @@ loop-first-init g c =
     let l = rank c.args.start in
     let h = rank c.args.end in
     let whole = whole_first eq l h es (canonical eq g.met.V.Eq.laws es c.in_hand.ensures.runs) in
-    let is = c.into_iter-first-iterator.ensures.into_iter_gives ∙ c.iter_from-first-items.ensures ∙ ap (λ (s : CountedEntries g.row.V.Denot). ending_from l s.entries) c.self.view_is in (
+    let is = c.into_iter-first-iterator.ensures.into_iter_gives ∙ c.iter_ending_from-first-items.ensures ∙ ap (λ (s : CountedEntries g.row.V.Denot). ending_from l s.entries) c.self.view_is in (
       tt,
       tt,
       subst (IsOnward eq l) (sym is) whole.onward,

@@ -1,0 +1,54 @@
+-- A tree's nodes, seen as entries: the keys by their ranks. A node may be empty for a while: its value is an
+-- `Option`, and the entries that a list of nodes has are those of the full ones.
+use Rattle.std.specs.Prelude.{◌≡◌, ℤ, List, [], ◌∷◌, map, Option, Some, None}
+use Rattle.std.specs.Map.Iter.{deref_pair}
+use denote.Ref.{Bor}
+use Rattle.blaze_entries.specs.Entries.{Entry, entry}
+use Rattle.blaze_entries.specs.Starts.{StartsAscend}
+use Rattle.blaze_entries.specs.declared.nodes.EndValue.{EndValue}
+
+-- a start with its node
+abbrev pub node_as_entry : {T V : Type 0} → (T → ℤ) → T × EndValue T V → Entry V
+node_as_entry rank p = entry (rank p.0) (rank p.1.end) p.1.value
+
+-- the start and node of an entry: first key, last key and value
+abbrev pub node_of : {T V : Type 0} → T × T × V → T × EndValue T (Option V)
+node_of e = (e.0, record { end = e.1; value = Some e.2 })
+
+abbrev pub nodes_as_entries : {T V : Type 0} → (T → ℤ) → List (T × EndValue T V) → List (Entry V)
+nodes_as_entries rank nodes = map (node_as_entry rank) nodes
+
+-- a start and a node that are lent
+abbrev pub lent_node_as_entry : {T V : Type 0} → (T → ℤ) → Bor T × Bor (EndValue T V) → Entry V
+lent_node_as_entry rank p = node_as_entry rank (deref_pair p)
+
+-- the node at a start
+abbrev pub node_as_entry_at : {T V : Type 0} → (T → ℤ) → T → EndValue T V → Entry V
+node_as_entry_at rank k node = node_as_entry rank (k, node)
+
+-- an entry, as a node that is full
+abbrev pub held : {V : Type 0} → Entry V → Entry (Option V)
+held e = entry e.lo e.hi (Some e.value)
+
+-- a node before entries: it counts where it is full
+abbrev pub node_before : {V : Type 0} → ℤ → ℤ → Option V → List (Entry V) → List (Entry V)
+node_before l h None es = es
+node_before l h (Some v) es = entry l h v ∷ es
+
+-- the entries of the nodes that are full
+abbrev pub full : {V : Type 0} → List (Entry (Option V)) → List (Entry V)
+full [] = []
+full (p ∷ ps) = node_before p.lo p.hi p.value (full ps)
+
+-- the entries of a tree's nodes
+abbrev pub entries_of : {T V : Type 0} → (T → ℤ) → List (T × EndValue T (Option V)) → List (Entry V)
+entries_of rank nodes = full (nodes_as_entries rank nodes)
+
+-- each node is full
+pub record AreFull {V : Type 0} (ps : List (Entry (Option V))) : Type 0 where
+  pub held : ps ≡ map held (full ps)
+
+-- each node is full, and the starts ascend, from low up to high
+pub record AreHeld {V : Type 0} (low high : ℤ) (ps : List (Entry (Option V))) : Type 0 where
+  pub ascend : StartsAscend low high (full ps)
+  pub full : AreFull ps

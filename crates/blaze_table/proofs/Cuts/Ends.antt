@@ -1,0 +1,92 @@
+-- The first and the last key taken out: the entry that has it is the first, or the last.
+use Rattle.std.proofs.Common.{◌≡◌, ◌-◌, ℤ, pos, ◌+ℤ◌, ◌≤ℤ◌, ◌<ℤ◌, Bool, cond, List, [], ◌∷◌, length, Option, Some, None, refl, ◌∙◌, sym, subst, ap, arith}
+use Rattle.std.specs.Cmp.{IsEquivalence}
+use Rattle.std.specs.List.{slice_get, last_or}
+use Rattle.std.specs.Prelude.{IsSome, IfSome, IsSomeAnd}
+use Rattle.std.proofs.lemmas.Int.{ints}
+use Rattle.blaze_int.proofs.Comparisons.{lt_false}
+use Rattle.blaze_entries.specs.Cloned.{IsRangeCloned, IsManyCloned}
+use Rattle.blaze_entries.specs.Found.{range_in}
+use Rattle.blaze_entries.specs.Starts.{StartsAscend, below, last_below, reaching, holder_of}
+use Rattle.blaze_entries.proofs.Halves.{below_takes, below_none}
+use Rattle.blaze_table.specs.Canonical.{IsCanonical}
+use Rattle.blaze_table.specs.Cut.{IsAmongOthers}
+use Rattle.blaze_table.specs.Entries.{Entry}
+use Rattle.blaze_table.proofs.Cuts.CutEdits.{has_key, among_others}
+
+module _ {V : Type 0} (eq : V → V → Bool) where
+  -- all entries start up to the end of the last
+  last_from : (o : Option (Entry V)) (e : Entry V) (es : List (Entry V)) (l : Entry V) → IsCanonical eq (e ∷ es) → slice_get (e ∷ es) (length es) ≡ Some l
+      → (e.lo ≤ℤ l.hi) × (last_or o (below (l.hi +ℤ pos 1) (e ∷ es)) ≡ Some l)
+  last_from o e [] l c p =
+      let same : e ≡ l = cc in
+      subst (λ (f : Entry V). (e.lo ≤ℤ f.hi) × (last_or o (below (f.hi +ℤ pos 1) (e ∷ [])) ≡ Some f)) same
+      (c.0, ap (last_or o) (below_takes (e.hi +ℤ pos 1) e [] (omega (arith, ints, c.0))))
+  last_from o e (f ∷ fs) l c p =
+      let rest = last_from (Some e) f fs l c.2 p in
+      let up : e.lo ≤ℤ l.hi = omega (arith, ints, c.0, c.1.0, rest.0) in
+      (up, ap (last_or o) (below_takes (l.hi +ℤ pos 1) e (f ∷ fs) (omega (arith, ints, up))) ∙ rest.1)
+
+  last_entry : (es : List (Entry V)) (l : Entry V) → IsCanonical eq es → slice_get es (length es - 1) ≡ Some l → last_below (l.hi +ℤ pos 1) es ≡ Some l
+  last_entry [] l c p = absurd (cc)
+  last_entry (e ∷ es) l c p =
+      let place : length (e ∷ es) - 1 ≡ length es = omega arith in
+      (last_from None e es l c (subst (λ n. slice_get (e ∷ es) n ≡ Some l) place p)).1
+
+  -- the entry has the key
+  holds : (k : ℤ) (es : List (Entry V)) (e : Entry V) → k ≤ℤ e.hi → last_below (k +ℤ pos 1) es ≡ Some e → holder_of k es ≡ Some e
+  holds k es e u q = ap (reaching k) q ∙ ap (λ b. cond b None (Some e)) (lt_false e.hi k u)
+
+  pub first_holder : (low high : ℤ) (es : List (Entry V)) → StartsAscend low high es → IsCanonical eq es → (e : Entry V) → slice_get es 0 ≡ Some e → holder_of e.lo es ≡ Some e
+  first_holder low high [] s c e p = cc
+  first_holder low high (x ∷ es) s c e p =
+      let same : x ≡ e = cc in
+      subst (λ (f : Entry V). holder_of f.lo (x ∷ es) ≡ Some f) same
+      (holds x.lo (x ∷ es) x c.0
+      (ap (last_or None) (below_takes (x.lo +ℤ pos 1) x es (omega (arith, ints)) ∙ ap (λ l. x ∷ l) (below_none (x.lo +ℤ pos 1) (x.lo +ℤ pos 1) high es (omega (arith, ints)) s.2))))
+
+  pub last_holder : (es : List (Entry V)) → IsCanonical eq es → (e : Entry V) → slice_get es (length es - 1) ≡ Some e → holder_of e.hi es ≡ Some e
+  last_holder es c e p = holds e.hi es e (omega (arith, ints)) (last_entry es e c p)
+
+  pub first_refused : (es : List (Entry V)) → (length es ≡ 0 → ⊥) → IfSome (slice_get es 0) (λ e. IsAmongOthers e.lo es) → (first : Entry V) × (slice_get es 0 ≡ Some first) × IsAmongOthers first.lo es
+  first_refused [] n h = absurd (n refl)
+  first_refused (e ∷ es) n h = (e, refl, h)
+
+  last_there : (es : List (Entry V)) → (length es ≡ 0 → ⊥) → IsSome (slice_get es (length es - 1))
+  last_there [] n = absurd (n refl)
+  last_there (e ∷ es) n =
+      let place : length (e ∷ es) - 1 ≡ length es = omega arith in
+      subst (λ k. IsSome (slice_get (e ∷ es) k)) (sym place) (inside e es)
+    where
+      inside : (e : Entry V) (es : List (Entry V)) → IsSome (slice_get (e ∷ es) (length es))
+      inside e [] = refl
+      inside e (f ∷ fs) = inside f fs
+
+  pub last_refused : (es : List (Entry V)) → (length es ≡ 0 → ⊥) → IfSome (slice_get es (length es - 1)) (λ e. IsAmongOthers e.hi es) → (last : Entry V) × (slice_get es (length es - 1) ≡ Some last) × IsAmongOthers last.hi es
+  last_refused es n h = by_there (slice_get es (length es - 1)) refl (last_there es n) h
+    where
+      by_there : (o : Option (Entry V)) → slice_get es (length es - 1) ≡ o → IsSome o → IfSome o (λ e. IsAmongOthers e.hi es) → (last : Entry V) × (slice_get es (length es - 1) ≡ Some last) × IsAmongOthers last.hi es
+      by_there None q i h = cc
+      by_there (Some l) q i h = (l, q, h)
+
+-- one of the ends of the entry o, which a look has answered, is a key that it has
+module _ {V : Type 0} (eq : V → V → Bool) (laws : IsEquivalence eq) (low high : ℤ) (es : List (Entry V)) (s : StartsAscend low high es) (c : IsCanonical eq es)
+    (end : ℤ × ℤ → ℤ) (o : Option (Entry V)) (f : (e : Entry V) → o ≡ Some e → holder_of (end (range_in e)) es ≡ Some e) where
+  -- it has other keys too
+  pub end_among : IsSomeAnd o (λ e. e.lo <ℤ e.hi) → IfSome o (λ e. IsAmongOthers (end (range_in e)) es)
+  end_among i = by_end o f i
+    where
+      by_end : (o : Option (Entry V)) → ((e : Entry V) → o ≡ Some e → holder_of (end (range_in e)) es ≡ Some e) → IsSomeAnd o (λ e. e.lo <ℤ e.hi) → IfSome o (λ e. IsAmongOthers (end (range_in e)) es)
+      by_end None f i = tt
+      by_end (Some e) f i =
+          let h = has_key eq laws (end (range_in e)) low high es s c (λ x. x.lo <ℤ x.hi) (subst (λ x. IsSomeAnd x (λ y. y.lo <ℤ y.hi)) (sym (f e refl)) i) in
+          among_others eq laws (end (range_in e)) low high es s c h.of h.last h.up h.holds
+
+  module _ {T : Type 0} (rank : T → ℤ) (is_clone : V → V → Type 0) (r : T × T × Option V) where
+    pub end_held : IsRangeCloned rank is_clone o (Some r) → IsRangeCloned rank is_clone (holder_of (end (rank r.0, rank r.1)) es) (Some r)
+    end_held i = by_end o f i
+      where
+        by_end : (o : Option (Entry V)) → ((e : Entry V) → o ≡ Some e → holder_of (end (range_in e)) es ≡ Some e) → IsRangeCloned rank is_clone o (Some r) → IsRangeCloned rank is_clone (holder_of (end (rank r.0, rank r.1)) es) (Some r)
+        by_end None f i = absurd i
+        by_end (Some e) f i =
+            subst (λ o. IsSomeAnd o (λ x. ((rank r.0, rank r.1) ≡ range_in x) × IsManyCloned is_clone x r.2)) (sym (ap (λ t. holder_of (end t) es) i.0 ∙ f e refl)) i

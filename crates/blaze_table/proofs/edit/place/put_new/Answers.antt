@@ -1,0 +1,40 @@
+use Rattle.std.proofs.Common.{ap, ◌∙◌}
+use Rattle.std.specs.Option.{option_map}
+use Rattle.blaze_entries.specs.Counted.{CountedEntries}
+use Rattle.blaze_entries.specs.Found.{ranks_of}
+use Rattle.blaze_table.specs.Entries.{entry}
+use Rattle.blaze_table.proofs.Paints.Placing.{put_there, put_back, like_rest, above_there, new_room, new_started}
+use Rattle.blaze_table.proofs.edit.place.put_new.Goals as goal
+
+pub put_rest-requires-clause-room : goal.put_rest-requires-clause-room
+put_rest-requires-clause-room g c =
+    let rank = g.T.Integer.rank in
+    new_room g.V.PartialEq.eq g.met.V.Eq.laws (entry (rank c.args.lo) (rank c.args.plan.end) c.args.value) c.requires.place.order c.args.entries.now.entries c.insert.new.self.entries c.requires.absent
+    (ap (λ (s : CountedEntries g.row.V.Denot). s.entries) c.in_ok-insert.ensures.ok) (option_map (ranks_of rank) c.args.plan.rest) c.requires.place.rest
+
+pub put_rest-requires-clause-above : goal.put_rest-requires-clause-above
+put_rest-requires-clause-above g c =
+    let rank = g.T.Integer.rank in
+    above_there g.V.PartialEq.eq g.met.V.Eq.laws rank (rank c.args.lo) c.args.entries.now.entries c.args.plan c.args.above c.requires.canonical c.requires.place
+
+pub remove-requires : goal.remove-requires
+remove-requires g c =
+    let rank = g.T.Integer.rank in
+    put_there (entry (rank c.args.lo) (rank c.args.plan.end) c.args.value) c.args.entries.now.entries _
+    (ap (λ (s : CountedEntries g.row.V.Denot). s.entries) (c.in-Err.ensures.err ∙ c.in_ok-insert.ensures.ok))
+
+pub returns-in-Err-clause-err : goal.returns-in-Err-clause-err
+returns-in-Err-clause-err g c =
+    let rank = g.T.Integer.rank in
+    put_back (entry (rank c.args.lo) (rank c.args.plan.end) c.args.value) c.args.entries.now.entries _ _ c.requires.absent
+    (ap (λ (s : CountedEntries g.row.V.Denot). s.entries) (c.in-Err.ensures.err ∙ c.in_ok-insert.ensures.ok))
+    (ap (λ (s : CountedEntries g.row.V.Denot). s.entries) c.remove.ensures.entries)
+
+pub returns-clause-ok : goal.returns-clause-ok
+returns-clause-ok g c =
+    let rank = g.T.Integer.rank in
+    let eq = g.V.PartialEq.eq in
+    let es = c.args.entries.now.entries in
+    let like = like_rest eq g.met.V.Eq.laws rank (rank c.args.lo) es c.args.plan c.args.above c.requires.canonical c.requires.place in
+    new_started eq g.met.V.Eq.laws (entry (rank c.args.lo) (rank c.args.plan.end) c.args.value) c.requires.place.order es c.insert.new.self.entries c.requires.absent
+    (ap (λ (s : CountedEntries g.row.V.Denot). s.entries) c.in_ok-insert.ensures.ok) (option_map (ranks_of rank) c.args.plan.rest) c.args.above c.put_rest.new.entries.entries c.requires.place.rest like c.in_default.ensures.put

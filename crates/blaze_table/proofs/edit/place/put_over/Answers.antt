@@ -1,0 +1,61 @@
+use Rattle.std.proofs.Common.{None, Some, sym, subst, ap, ◌∙◌, refl, arith}
+use Rattle.std.proofs.lemmas.Result.{on_ok_weaker}
+use Rattle.std.specs.Option.{option_map}
+use Rattle.blaze_int.proofs.Comparisons.{lt_holds, lt_fails}
+use Rattle.blaze_entries.specs.Counted.{CountedEntries}
+use Rattle.blaze_entries.specs.Found.{ranks_of}
+use Rattle.blaze_entries.specs.Starts.{IsFrontReplaced}
+use Rattle.blaze_entries.proofs.Moves.{length-with_end_value}
+use Rattle.blaze_table.specs.Planned.{IsRest}
+use Rattle.blaze_table.proofs.Paints.Placing.{rest_over, over_kept, over_front}
+use Rattle.blaze_table.proofs.Walks.Worked.{worked_none, worked_edited}
+use Rattle.blaze_table.proofs.edit.place.put_over.Goals as goal
+
+pub returns-in-None-clause-ok : goal.returns-in-None-clause-ok
+returns-in-None-clause-ok g c =
+    let rank = g.T.Integer.rank in
+    let eq = g.V.PartialEq.eq in
+    let lo = rank c.args.lo in
+    let end = rank c.args.plan.end in
+    let es = c.args.entries.now.entries in
+    let rest = subst (λ o. IsRest end es (option_map (ranks_of rank) o)) c.in-None.is c.requires.rest in
+    over_kept eq g.met.V.Eq.laws lo end c.args.value c.requires.order es c.requires.present es c.replace.new.self.entries
+    (rest_over eq g.met.V.Eq.laws lo end c.requires.order es es None rest tt refl) (ap (λ (s : CountedEntries g.row.V.Denot). s.entries) c.replace.ensures)
+
+pub returns-in-None-clause-worked : goal.returns-in-None-clause-worked
+returns-in-None-clause-worked g c =
+    worked_edited 2 0 c.args.entries.now c.args.entries.now c.replace.new.self _ (worked_none 2 0 c.args.entries.now) c.replace.ensures
+    (length-with_end_value (g.T.Integer.rank c.args.lo) (g.T.Integer.rank c.args.plan.end) c.args.value c.args.entries.now.entries)
+
+pub returns-in_ok-put_rest-in-Some-clause-ok : goal.returns-in_ok-put_rest-in-Some-clause-ok
+returns-in_ok-put_rest-in-Some-clause-ok g c =
+    let rank = g.T.Integer.rank in
+    let eq = g.V.PartialEq.eq in
+    let lo = rank c.args.lo in
+    let end = rank c.args.plan.end in
+    let es = c.args.entries.now.entries in
+    let over = lt_holds lo (rank c.in-Some.ends.0) (sym c.is_below.ensures ∙ c.if-is_below.true) in
+    let rest = subst (λ o. IsRest end es (option_map (ranks_of rank) o)) c.in-Some.is c.requires.rest in
+    over_kept eq g.met.V.Eq.laws lo end c.args.value c.requires.order es c.requires.present c.put_rest.new.entries.entries c.replace-then-is_below.new.self.entries
+    (rest_over eq g.met.V.Eq.laws lo end c.requires.order es c.put_rest.new.entries.entries (Some (ranks_of rank c.in-Some.ends)) rest over c.in_ok-put_rest-in-Some.ensures.put)
+    (ap (λ (s : CountedEntries g.row.V.Denot). s.entries) c.replace-then-is_below.ensures)
+
+pub returns-in_ok-put_rest-in-Some-clause-worked : goal.returns-in_ok-put_rest-in-Some-clause-worked
+returns-in_ok-put_rest-in-Some-clause-worked g c =
+    let w = c.in_ok-put_rest-in-Some.ensures.worked in
+    worked_edited 2 0 c.args.entries.now c.put_rest.new.entries c.replace-then-is_below.new.self _
+    (record { counted = w.counted; puts = omega (arith, w.puts); looks = w.looks }) c.replace-then-is_below.ensures
+    (length-with_end_value (g.T.Integer.rank c.args.lo) (g.T.Integer.rank c.args.plan.end) c.args.value c.put_rest.new.entries.entries)
+
+pub returns-else-is_below-clause-ok : goal.returns-else-is_below-clause-ok
+returns-else-is_below-clause-ok g c =
+    let rank = g.T.Integer.rank in
+    let eq = g.V.PartialEq.eq in
+    let lo = rank c.args.lo in
+    let end = rank c.args.plan.end in
+    let es = c.args.entries.now.entries in
+    let ends = c.in-Some.ends in
+    let rest = subst (λ o. IsRest end es (option_map (ranks_of rank) o)) c.in-Some.is c.requires.rest in
+    let under = lt_fails lo (rank ends.0) (sym c.is_below.ensures ∙ c.if-is_below.false) in
+    on_ok_weaker c.replace_front.result (λ w. over_front eq g.met.V.Eq.laws lo end c.args.value c.requires.order es c.requires.present (rank ends.0) (rank ends.1) c.replace_front.new.self.entries c.requires.canonical
+    under rest (subst (λ n. IsFrontReplaced lo end c.args.value n es c.replace_front.new.self.entries) c.after-next.ensures w)) c.replace_front.ensures.ok

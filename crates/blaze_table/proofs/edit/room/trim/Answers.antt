@@ -1,0 +1,47 @@
+use Rattle.std.proofs.Common.{◌++◌, ap, subst, sym, ◌∙◌}
+use Rattle.std.specs.Option.{option_map}
+use Rattle.blaze_int.proofs.Comparisons.{le_holds, le_fails}
+use Rattle.blaze_entries.specs.Counted.{CountedEntries}
+use Rattle.blaze_entries.specs.Starts.{below, from}
+use Rattle.blaze_table.specs.Edited.{IsLeft}
+use Rattle.blaze_table.specs.Planned.{ends_of}
+use Rattle.blaze_table.proofs.Cuts.Splits.{halves}
+use Rattle.blaze_table.proofs.Paints.EditLists.{length-with_end}
+use Rattle.blaze_table.proofs.Neighbours.Growing.{trim_short, trim_long, trim_starts}
+use Rattle.blaze_table.proofs.Walks.Worked.{worked_none, worked_edited}
+use Rattle.blaze_table.proofs.edit.room.trim.Goals as goal
+
+pub before-end-requires : goal.before-end-requires
+before-end-requires g c =
+    let rank = g.T.Integer.rank in
+    let es = c.args.entries.now.entries in
+    trim_starts g.V.PartialEq.eq (rank c.args.lo) g.T.Integer.low g.T.Integer.high es c.in_hand.ensures c.requires.canonical _ _
+    (subst (λ o. IsLeft (rank c.args.lo) (below (rank c.args.lo) es) (option_map (ends_of rank) o)) c.in-Some.is c.requires.left)
+
+pub returns-then-is_at_most-clause-entries : goal.returns-then-is_at_most-clause-entries
+returns-then-is_at_most-clause-entries g c =
+    let rank = g.T.Integer.rank in
+    let es = c.args.entries.now.entries in
+    ap (λ (s : CountedEntries g.row.V.Denot). s.entries) c.set_end.ensures
+    ∙ trim_long g.V.PartialEq.eq (rank c.args.lo) g.T.Integer.low g.T.Integer.high es c.in_hand.ensures c.requires.canonical _ _
+    (subst (λ o. IsLeft (rank c.args.lo) (below (rank c.args.lo) es) (option_map (ends_of rank) o)) c.in-Some.is c.requires.left) (rank c.before-end.result) c.before-end.ensures (le_holds _ _ (sym c.is_at_most.ensures ∙ c.if-is_at_most.true))
+
+pub returns-then-is_at_most-clause-worked : goal.returns-then-is_at_most-clause-worked
+returns-then-is_at_most-clause-worked g c =
+    worked_edited 0 0 c.args.entries.now c.args.entries.now c.set_end.new.self _ (worked_none 0 0 c.args.entries.now) c.set_end.ensures
+    (length-with_end (g.T.Integer.rank c.in-Some.found.start) (g.T.Integer.rank c.before-end.result) c.args.entries.now.entries)
+
+pub returns-else-is_at_most-clause-entries : goal.returns-else-is_at_most-clause-entries
+returns-else-is_at_most-clause-entries g c =
+    let rank = g.T.Integer.rank in
+    let es = c.args.entries.now.entries in
+    trim_short g.V.PartialEq.eq (rank c.args.lo) g.T.Integer.low g.T.Integer.high es c.in_hand.ensures c.requires.canonical _ _
+    (subst (λ o. IsLeft (rank c.args.lo) (below (rank c.args.lo) es) (option_map (ends_of rank) o)) c.in-Some.is c.requires.left) (le_fails _ _ (sym c.is_at_most.ensures ∙ c.if-is_at_most.false))
+
+pub returns-in_default-clause-entries : goal.returns-in_default-clause-entries
+returns-in_default-clause-entries g c =
+    let rank = g.T.Integer.rank in
+    let lo = rank c.args.lo in
+    let es = c.args.entries.now.entries in
+    let left = subst (λ o. IsLeft lo (below lo es) (option_map (ends_of rank) o)) c.in_default.is c.requires.left in
+    halves lo g.T.Integer.low g.T.Integer.high es c.in_hand.ensures ∙ ap (λ xs. xs ++ from lo es) (sym left)
