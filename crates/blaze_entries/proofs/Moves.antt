@@ -10,7 +10,7 @@ use Rattle.blaze_entries.proofs.Ascending.{by_order, start_with_entry, start_wit
 
 module _ {V : Type 0} where
   -- an entry below all others comes first
-  with_entry-first : (e : Entry V) (b high : ℤ) (es : List (Entry V)) → e.lo <ℤ b → StartsAscend b high es → with_entry e es ≡ e ∷ es
+  pub with_entry-first : (e : Entry V) (b high : ℤ) (es : List (Entry V)) → e.lo <ℤ b → StartsAscend b high es → with_entry e es ≡ e ∷ es
   with_entry-first e b high [] l h = refl
   with_entry-first e b high (f ∷ fs) l h = by_order e.lo f.lo
       (λ o p q. rw p refl)

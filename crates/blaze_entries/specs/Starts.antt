@@ -86,3 +86,9 @@ pub record IsCloneInserted {V : Type 0} (is_clone : V → V → Type 0) (k start
   pub value : V
   pub clone : is_clone of.value value
   pub inserted : new ≡ with_entry (entry start of.hi value) old
+
+-- the first entry was taken out, which had the value v
+pub record IsFirstRemoved {V : Type 0} (v : V) (old new : List (Entry V)) : Type 0 where
+  pub first : Entry V
+  pub removed : old ≡ first ∷ new
+  pub value : first.value ≡ v

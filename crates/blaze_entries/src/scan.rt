@@ -117,7 +117,10 @@ fn next_found<'a, T: Integer, V: Eq>(
 {
     *looks = looks.one_more();
     match shown(nodes.next_back()) {
-        Some(last) => Some((beside(last.0, last.1, last.2, value), last.2)),
+        Some(last) => {
+            let (start, end, held) = last;
+            Some((beside(start, end, held, value), held))
+        }
         None => None,
     }
 }
@@ -187,10 +190,10 @@ pub fn walk<'a, T: Integer, V: Eq>(
     let top = next_or_last(hi);
     let mut nodes = nodes_up_to(tree, top);
     while let Some(next) = next_found(&mut nodes, value, looks) {
-        let found = next.0;
+        let (found, here) = next;
         left = length_outside(left, found, lo, hi);
         plan.see(lo, hi, found);
-        held = seen_value(lo, held, found, next.1);
+        held = seen_value(lo, held, found, here);
         if is_below(found.start, lo) {
             return (plan, left, held);
         }

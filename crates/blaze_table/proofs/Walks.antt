@@ -4,7 +4,5 @@ pub mod WalkedPlans
 pub mod Outside
 pub mod FewLooks
 pub mod Descents
-pub mod SeenPlans
 pub mod WalkedValues
-pub mod AboveValues
-pub mod Cuts
+pub mod Found

@@ -1,5 +1,5 @@
 -- A paint planned by what lies beside its range, and the steps that make it or a cut, in the words of the list.
-use Rattle.std.specs.Prelude.{◌≡◌, ℕ, ◌+◌, ◌≤◌, ◌⊎◌, ◌++◌, ◌&&◌, ◌||◌, ℤ, pos, ◌+ℤ◌, ◌≤ℤ◌, ◌<ℤ◌, int_lt, int_le, if◌then◌else◌, Bool, true, false, List, [], ◌∷◌, Option, Some, None, IfSome, IsSomeAnd}
+use Rattle.std.specs.Prelude.{◌≡◌, ℕ, ◌+◌, ◌≤◌, length, ◌⊎◌, ◌++◌, ◌&&◌, ◌||◌, ℤ, pos, ◌+ℤ◌, ◌≤ℤ◌, ◌<ℤ◌, int_lt, int_le, if◌then◌else◌, Bool, true, false, List, [], ◌∷◌, Option, Some, None, IfSome, IsSomeAnd}
 use Rattle.std.specs.Option.{option_map}
 use Rattle.std.specs.Ordering.{int_eq}
 use Rattle.blaze_entries.specs.Counted.{CountedEntries}
@@ -8,6 +8,7 @@ use Rattle.blaze_entries.specs.Scanned.{Seen}
 use Rattle.blaze_entries.specs.Starts.{below, from, last_below, start_at}
 use Rattle.blaze_entries.specs.declared.found.Found.{Found}
 use Rattle.blaze_table.specs.Count.{keys_in}
+use Rattle.blaze_table.specs.Cut.{GoesOnAbove}
 use Rattle.blaze_table.specs.Entries.{Entry, entry}
 use Rattle.blaze_table.specs.Splice.{before, after, IsSameAbove}
 use Rattle.blaze_table.specs.Work.{IsCounted}
@@ -68,12 +69,24 @@ IsLikeAbove eq l z es o = IfSome (last_below l es) (λ e. z <ℤ e.hi → IsSome
 abbrev pub IsUnlikeAbove : {V : Type 0} → (V → V → Bool) → (V → Bool) → ℤ → ℤ → List (Entry V) → Option V → Type 0
 IsUnlikeAbove eq test l h es o = IfSome (last_below l es) (λ e. h <ℤ e.hi → test e.value ≡ false → IsSomeAnd o (λ u. eq e.value u ≡ true))
 
--- What a walk has found for a paint of the entry p: the plan, how many keys lie outside of p, and a value equal to that of the
--- entry that goes on both below and above p with another value, if there is one.
-pub record IsWalkOf {V : Type 0} (eq : V → V → Bool) (p : Entry V) (es : List (Entry V)) (s : Seen) (n : ℕ) (o : Option V) : Type 0 where
-  pub plan : IsPlanOf (λ w. eq w p.value) p.lo p.hi es s
-  pub outside : pos n ≡ keys_in (before p.lo es) +ℤ keys_in (after p.hi es)
-  pub above : IsUnlikeAbove eq (λ w. eq w p.value) p.lo p.hi es o
+-- What a walk has found for an edit of the keys from l up to h: the plan, how many keys lie outside of them, and a value equal to
+-- that of the entry that goes on both below and above them, where its value is not equal to the range's.
+pub record IsWalkOf {V : Type 0} (eq : V → V → Bool) (test : V → Bool) (l h : ℤ) (es : List (Entry V)) (s : Seen) (n : ℕ) (o : Option V) : Type 0 where
+  pub plan : IsPlanOf test l h es s
+  pub outside : pos n ≡ keys_in (before l es) +ℤ keys_in (after h es)
+  pub above : IsUnlikeAbove eq test l h es o
+
+-- the entry that has the key h has keys above it too, and a value that is not equal to the range's
+pub record GoesOnUnequal {V : Type 0} (test : V → Bool) (h : ℤ) (es : List (Entry V)) : Type 0 where
+  pub over : GoesOnAbove h es
+  pub unequal : test over.entry.value ≡ false
+
+-- Looks alone, for an edit of the keys from l up to h: at most four, and the number of entries less those of what lies below and of
+-- what lies above those keys.
+pub record IsLooked {V : Type 0} (l h : ℤ) (old new : CountedEntries V) : Type 0 where
+  pub alone : new ≡ record old { looks = new.looks }
+  pub risen : old.looks ≤ new.looks
+  pub few : new.looks + length (before l old.entries) + length (after h old.entries) ≤ old.looks + length old.entries + 4
 
 -- ---- the steps
 

@@ -15,6 +15,7 @@ ghost use Rattle.blaze_table.specs.Table.{IsTable};
 ghost use Rattle.blaze_table.specs.Work.{IsCountedCut, IsCounted};
 
 use crate::edit::take_out;
+use crate::walk::{Walk, walk_down};
 use blaze_entries::{Entries, Found, Plan};
 use blaze_int::compare::is_below;
 use blaze_int::{Integer, SafeLength};
@@ -170,6 +171,36 @@ pub fn cut<T: Integer, V: Eq + Clone>(
     }
 }
 
+// Takes the first key out of the first entry, as a look has answered that entry, and answers the value that was there. What the
+// entry has above the key gets an entry with the clone that the look made; the first entry goes without a search.
+fn cut_front<T: Integer, V: Eq + Clone>(
+    entries: &mut Entries<T, V>,
+    start: T,
+    end: T,
+    cloned: Option<V>,
+) -> Result<V, AllocError>
+    requires clones { ClonesAreAlike V.is_clone V.eq }
+    requires canonical { IsCanonical V.eq entries.old.entries }
+    requires held { IsRangeCloned T.rank V.is_clone
+        (slice_get entries.old.entries 0) (Some (start, end, cloned)) }
+    ensures cut { IfOk result (λ value. IsKeyTaken V.eq (T.rank start) (Some value)
+        entries.old.entries entries.new.entries) }
+    ensures worked { OnOk result (IsWorked 1 0 entries.old entries.new) }
+    ensures refused { OnErr result (IsSomeAnd (slice_get entries.old.entries 0) (λ e. e.lo <ℤ e.hi)) }
+    ensures err { OnErr result (entries.new.entries ≡ entries.old.entries) }
+    ensures err_counted { OnErr result (IsCounted entries.old entries.new) }
+{
+    entries.in_hand();
+    match cloned {
+        Some(value) => {
+            end.in_hand();
+            entries.insert(start.add_one(), end, value)?;
+            Ok(entries.remove_first())
+        }
+        None => Ok(entries.remove_first()),
+    }
+}
+
 /// Takes the first key out, and answers it with the value that was there and the new count of keys, where `len` is the old.
 /// Refused memory leaves the entries as they are.
 pub fn cut_first<T: Integer, V: Eq + Clone>(
@@ -191,8 +222,9 @@ pub fn cut_first<T: Integer, V: Eq + Clone>(
     let first = entries.first_held()?;
     match first {
         Some(held) => {
-            let key = held.0;
-            let (value, rest) = cut_held(entries, len, key, held)?;
+            let (key, end, cloned) = held;
+            let value = cut_front(entries, key, end, cloned)?;
+            let rest = len.minus(T::SafeLen::one());
             Ok((key, value, rest))
         }
         None => unreachable!(),
@@ -221,7 +253,7 @@ pub fn cut_last<T: Integer, V: Eq + Clone>(
     let last = entries.last_held()?;
     match last {
         Some(held) => {
-            let key = held.1;
+            let (_, key, _) = held;
             let (value, rest) = cut_held(entries, len, key, held)?;
             Ok((key, value, rest))
         }
@@ -249,7 +281,12 @@ pub fn cut_range<T: Integer, V: Eq + Clone>(
 {
     entries.in_hand();
     let sought: Option<V> = None;
-    let (plan, outside, above) = entries.scan(len, lo, hi, sought.as_ref())?;
+    let found = walk_down(entries, len, lo, hi, sought.as_ref())?;
+    let Walk {
+        plan,
+        outside,
+        above,
+    } = found;
     take_out(entries, lo, plan, above)?;
     Ok(outside)
 }

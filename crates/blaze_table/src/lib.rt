@@ -16,6 +16,7 @@ mod splice;
 mod split;
 mod sweep;
 mod table;
+mod walk;
 
 pub use blaze_entries::{Count, IntoIter, Iter, Range};
 pub use entry_keys::keys_in_hand;

@@ -1,6 +1,6 @@
 //! Edits of entries. Each entry that they put in or take out is counted, but where it is said that it is not.
-ghost use Rattle.std.specs.Prelude.{◌≡◌, ◌+◌, [], ◌∷◌, length, map, Some, None, IsSome};
-ghost use Rattle.std.specs.Prelude.{OnSome, MatchOption, OnOk, OnErr, IfOk};
+ghost use Rattle.std.specs.Prelude.{◌≡◌, ◌+◌, [], length, map, Some, None, IsSome};
+ghost use Rattle.std.specs.Prelude.{OnOk, OnErr, IfOk, slice_get};
 ghost use Rattle.std.specs.List.Retain.{IsFiltered};
 ghost use Rattle.std.specs.Option.{option_map};
 ghost use Rattle.blaze_entries.specs.Answers.{AnswersAt, IsCallableAtEach};
@@ -8,7 +8,7 @@ ghost use Rattle.blaze_entries.specs.Counted.{uncounted};
 ghost use Rattle.blaze_entries.specs.Entries.{entry, shown_entry};
 ghost use Rattle.blaze_entries.specs.Starts.{StartsAscend, below, from, start_at, with_entry};
 ghost use Rattle.blaze_entries.specs.Starts.{without, with_end, with_end_value, IsStartMoved};
-ghost use Rattle.blaze_entries.specs.Starts.{IsFrontReplaced, IsCloneInserted};
+ghost use Rattle.blaze_entries.specs.Starts.{IsFrontReplaced, IsCloneInserted, IsFirstRemoved};
 
 use super::Entries;
 use crate::build::tree_of;
@@ -157,23 +157,20 @@ impl<T: Integer, V: Drop> Entries<T, V> {
         value_of(remove(&mut self.tree, start))
     }
 
-    /// Takes the first entry out, and answers it: first key, last key and value. No search is made. Nothing is counted where
-    /// there is none.
-    pub fn pop_first(&mut self) -> Option<(T, T, V)>
-        ensures first { MatchOption result ((self.old.entries ≡ []) × (self.new ≡ self.old)) (λ first.
-            self.old.entries ≡ shown_entry T.rank (λ v. v) first ∷ self.new.entries) }
-        ensures counted { OnSome result (self.new
+    /// Takes the first entry out, and answers its value. No search is made.
+    pub fn remove_first(&mut self) -> V
+        requires { IsSome (slice_get self.old.entries 0) }
+        ensures removed { IsFirstRemoved result self.old.entries self.new.entries }
+        ensures counted { self.new
             ≡ record self.old {
               entries = self.new.entries;
               taken_out = self.old.taken_out + 1;
-            }) }
+            } }
     {
+        self.taken_out = self.taken_out.one_more();
         match given(self.tree.pop_first()) {
-            Some(first) => {
-                self.taken_out = self.taken_out.one_more();
-                Some(first)
-            }
-            None => None,
+            Some((_, _, value)) => value,
+            None => unreachable!(),
         }
     }
 

@@ -154,10 +154,9 @@ impl<T: Integer, V: Eq + Clone> Entries<T, V> {
                   (reverse (below (T.rank hi +ℤ pos 2) self.old.entries));
             } }
     {
-        let seen = walk(&self.tree, len, lo, hi, value, &mut self.looks);
-        let plan = seen.0;
-        let above = above_cloned(plan.left, hi, seen.2)?;
-        Ok((plan, seen.1, above))
+        let (plan, outside, held) = walk(&self.tree, len, lo, hi, value, &mut self.looks);
+        let above = above_cloned(plan.left, hi, held)?;
+        Ok((plan, outside, above))
     }
 
     /// Walks as `scan` does, and answers also a clone of the value that the range's first key has. A refused clone leaves the
@@ -191,10 +190,9 @@ impl<T: Integer, V: Eq + Clone> Entries<T, V> {
                   (reverse (below (T.rank hi +ℤ pos 2) self.old.entries));
             } }
     {
-        let seen = walk(&self.tree, len, lo, hi, Some(value), &mut self.looks);
-        let plan = seen.0;
-        let above = above_cloned(plan.left, hi, seen.2)?;
-        let held = seen.2.cloned()?;
-        Ok((plan, seen.1, above, held))
+        let (plan, outside, held) = walk(&self.tree, len, lo, hi, Some(value), &mut self.looks);
+        let above = above_cloned(plan.left, hi, held)?;
+        let old = held.cloned()?;
+        Ok((plan, outside, above, old))
     }
 }

@@ -1,5 +1,5 @@
 -- A key taken out of the entry that has it: what the edit has to know of that entry, and what it answers.
-use Rattle.std.proofs.Common.{◌≡◌, Bool, ℤ, pos, ◌+ℤ◌, ◌≤ℤ◌, ◌<ℤ◌, true, false, cond, List, [], ◌∷◌, ◌++◌, Option, Some, None, Result, Ok, Err, OnErr, refl, ◌∙◌, sym, subst, ap, arith}
+use Rattle.std.proofs.Common.{◌≡◌, ℕ, Bool, ℤ, pos, ◌+ℤ◌, ◌≤ℤ◌, ◌<ℤ◌, true, false, cond, List, [], ◌∷◌, ◌++◌, Option, Some, None, Result, Ok, Err, OnErr, refl, ◌∙◌, sym, subst, ap, arith}
 use Rattle.std.specs.Cmp.{IsEquivalence}
 use Rattle.std.specs.List.{last_or}
 use Rattle.std.specs.Option.{option_map}
@@ -19,10 +19,11 @@ use Rattle.blaze_table.specs.Edited.{IsLeft, IsPlace}
 use Rattle.blaze_table.specs.Entries.{Entry, at, entry_at, SameOption}
 use Rattle.blaze_table.specs.Painted.{ClonesAreAlike}
 use Rattle.blaze_table.specs.Planned.{ends_of, IsLikeAbove, IsRest}
-use Rattle.blaze_table.specs.Splice.{before, IsBelow, IsCutOf, covered}
+use Rattle.blaze_table.specs.Splice.{before, IsBelow, IsCutOf, IsKeyTaken, IsKeyCut, covered}
+use Rattle.blaze_table.specs.Table.{IsTable}
 use Rattle.blaze_table.proofs.Canonical.Counted.{overlap_whole}
 use Rattle.blaze_table.proofs.Canonical.Lookup.{IsAbove, at_over, at_before, entry_in, entry_over}
-use Rattle.blaze_table.proofs.Cuts.Cutting.{cut_whole, at_cut, covered_past}
+use Rattle.blaze_table.proofs.Cuts.Cutting.{cut_whole, cut_content, cut_table, at_cut, covered_past, covered_fits}
 use Rattle.blaze_table.proofs.Cuts.Splits.{LastAt, last_at, no_last_from, parted, rest_canonical, ends_below, after_short, after_long, none_next}
 use Rattle.blaze_table.proofs.Neighbours.Growing.{last_there}
 use Rattle.blaze_table.proofs.Neighbours.Holders.{without-between}
@@ -179,7 +180,7 @@ module _ {V : Type 0} (eq : V → V → Bool) (laws : IsEquivalence eq) (k low h
       pub among_others : e.lo <ℤ e.hi → IsAmongOthers k es
       among_others u = record { entry = e; here = entry_held eq (k +ℤ pos 1) high e es i c k starts up; long = u }
 
-      pub one_covered : covered k k es ≡ pos 1
+      one_covered : covered k k es ≡ pos 1
       one_covered =
           ap (covered k k) i.parts ∙ covered_past eq k k (omega (arith, ints)) i.front under e i.back (parted eq k high e es i c) over
           ∙ omega (arith, ints, overlap_whole k k e starts (omega (arith, ints)) up)
@@ -215,3 +216,15 @@ module _ {V : Type 0} (eq : V → V → Bool) (laws : IsEquivalence eq) (k low h
   -- a key that an entry has is mapped
   pub some_key : {P : Entry V → Type 0} → HasKey P → at es k ≡ None → ⊥
   some_key h n = let some : Some h.of.value ≡ None = sym (at_held h.of h.last h.up) ∙ n in cc
+
+  -- a table has the key among its keys
+  pub key_fits : {P : Entry V → Type 0} → HasKey P → (n : ℕ) → IsTable eq low high n es → pos 1 ≤ℤ pos n
+  key_fits h n t = omega (arith, ints, one_covered h.of h.last h.up, covered_fits eq k k es c, t.counted)
+
+  -- without it there is one key less
+  pub key_cut : {P : Entry V → Type 0} → HasKey P → (n m : ℕ) (v : V) (new : List (Entry V)) → IsTable eq low high n es → pos m +ℤ pos 1 ≡ pos n → IsKeyTaken eq k (Some v) es new → IsKeyCut eq low high m k (Some v) es new
+  key_cut h n m v new t less taken = record {
+    table = cut_table eq laws k k (omega (arith, ints)) es new c taken.cut low high n m t (omega (arith, ints, one_covered h.of h.last h.up, less));
+    content = cut_content eq laws k es new c taken.cut;
+    value = taken.value;
+  }

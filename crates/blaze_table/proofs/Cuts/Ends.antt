@@ -12,7 +12,7 @@ use Rattle.blaze_entries.proofs.Halves.{below_takes, below_none}
 use Rattle.blaze_table.specs.Canonical.{IsCanonical}
 use Rattle.blaze_table.specs.Cut.{IsAmongOthers}
 use Rattle.blaze_table.specs.Entries.{Entry}
-use Rattle.blaze_table.proofs.Cuts.CutEdits.{has_key, among_others}
+use Rattle.blaze_table.proofs.Cuts.CutEdits.{HasKey, has_key, among_others}
 
 module _ {V : Type 0} (eq : V → V → Bool) where
   -- all entries start up to the end of the last
@@ -37,7 +37,7 @@ module _ {V : Type 0} (eq : V → V → Bool) where
   holds : (k : ℤ) (es : List (Entry V)) (e : Entry V) → k ≤ℤ e.hi → last_below (k +ℤ pos 1) es ≡ Some e → holder_of k es ≡ Some e
   holds k es e u q = ap (reaching k) q ∙ ap (λ b. cond b None (Some e)) (lt_false e.hi k u)
 
-  pub first_holder : (low high : ℤ) (es : List (Entry V)) → StartsAscend low high es → IsCanonical eq es → (e : Entry V) → slice_get es 0 ≡ Some e → holder_of e.lo es ≡ Some e
+  first_holder : (low high : ℤ) (es : List (Entry V)) → StartsAscend low high es → IsCanonical eq es → (e : Entry V) → slice_get es 0 ≡ Some e → holder_of e.lo es ≡ Some e
   first_holder low high [] s c e p = cc
   first_holder low high (x ∷ es) s c e p =
       let same : x ≡ e = cc in
@@ -90,3 +90,11 @@ module _ {V : Type 0} (eq : V → V → Bool) (laws : IsEquivalence eq) (low hig
         by_end None f i = absurd i
         by_end (Some e) f i =
             subst (λ o. IsSomeAnd o (λ x. ((rank r.0, rank r.1) ≡ range_in x) × IsManyCloned is_clone x r.2)) (sym (ap (λ t. holder_of (end t) es) i.0 ∙ f e refl)) i
+
+-- of the first entry: it has other keys too, and it has its first key
+module _ {V : Type 0} (eq : V → V → Bool) (laws : IsEquivalence eq) (low high : ℤ) (es : List (Entry V)) (s : StartsAscend low high es) (c : IsCanonical eq es) where
+  pub first_among : IsSomeAnd (slice_get es 0) (λ e. e.lo <ℤ e.hi) → IfSome (slice_get es 0) (λ e. IsAmongOthers e.lo es)
+  first_among i = end_among eq laws low high es s c (λ x. x.0) (slice_get es 0) (first_holder eq low high es s c) i
+
+  pub first_has : {T : Type 0} (rank : T → ℤ) (is_clone : V → V → Type 0) (r : T × T × Option V) → IsRangeCloned rank is_clone (slice_get es 0) (Some r) → HasKey eq laws (rank r.0) low high es s c (λ x. ((rank r.0, rank r.1) ≡ range_in x) × IsManyCloned is_clone x r.2)
+  first_has rank is_clone r i = has_key eq laws (rank r.0) low high es s c _ (end_held eq laws low high es s c (λ x. x.0) (slice_get es 0) (first_holder eq low high es s c) rank is_clone r i)

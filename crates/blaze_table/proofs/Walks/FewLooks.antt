@@ -1,5 +1,5 @@
 -- A walk down to a range looks at no more entries than a paint of the range takes out, but for a few.
-use Rattle.std.proofs.Common.{◌≡◌, ℕ, ◌+◌, ◌≤◌, ℤ, pos, ◌+ℤ◌, ◌≤ℤ◌, Bool, List, [], ◌∷◌, length, refl, ◌∙◌, sym, ap, arith, length-append}
+use Rattle.std.proofs.Common.{◌≡◌, ℕ, ◌+◌, ◌≤◌, ℤ, pos, ◌+ℤ◌, ◌≤ℤ◌, Bool, List, [], ◌∷◌, length, refl, ◌∙◌, ap, arith, length-append}
 use Rattle.std.specs.Prelude.{reverse, Result, Ok, Err, OnOk, IfOk}
 use Rattle.std.proofs.lemmas.Int.{ints, by_lt_z}
 use Rattle.std.proofs.lemmas.List.{reverse-append}
@@ -9,10 +9,10 @@ use Rattle.blaze_entries.specs.Counted.{CountedEntries}
 use Rattle.blaze_entries.specs.Scanned.{answers}
 use Rattle.blaze_entries.specs.Starts.{StartsAscend, below, from}
 use Rattle.blaze_entries.proofs.Halves.{below_takes, below_skips, below_none, from_takes, from_skips, from_all}
-use Rattle.blaze_table.specs.Entries.{Entry}
+use Rattle.blaze_table.specs.Entries.{Entry, entry}
 use Rattle.blaze_table.specs.Canonical.{IsCanonical}
-use Rattle.blaze_table.specs.Work.{IsCountedPaint}
-use Rattle.blaze_table.specs.Planned.{IsWorked}
+use Rattle.blaze_table.specs.Work.{IsCountedPaint, PutsAtMost}
+use Rattle.blaze_table.specs.Planned.{IsLooked, IsWorked}
 use Rattle.blaze_table.specs.Splice.{before, after, IsTablePainted}
 use Rattle.blaze_table.proofs.Canonical.Lookup.{IsAbove-from_apart, above_by}
 use Rattle.blaze_table.proofs.Walks.Plans.{from_above}
@@ -72,53 +72,40 @@ module _ {V : Type 0} (eq : V → V → Bool) where
       (λ u m p. rw (p, from_skips (h +ℤ pos 1) e es (omega (arith, ints)), over (omega (arith, ints))) (omega arith))
       (λ u m p. rw (p, from_takes (h +ℤ pos 1) e es (omega (arith, ints)), over (omega (arith, ints))) (omega arith))
 
-  -- the looks of a walk, one look more and the work behind them are those of a paint
-  pub counted : (l h low high : ℤ) (old mid new : CountedEntries V) → l ≤ℤ h → StartsAscend low high old.entries → IsCanonical eq old.entries
-      → mid ≡ record old { looks = mid.looks } → old.looks ≤ mid.looks → mid.looks ≤ old.looks + answers l (reverse (below (h +ℤ pos 2) old.entries)) + 1
-      → IsWorked 2 1 mid new → length new.entries ≤ length (before l mid.entries) + length (after h mid.entries) + 1 → IsCountedPaint old new
-  counted l h low high old mid new w s c seen risen looks work short =
-      let es = old.entries in
-      let same : mid.entries ≡ es = ap (λ (x : CountedEntries V). x.entries) seen in
+  module _ (l h low high : ℤ) (old : CountedEntries V) (w : l ≤ℤ h) (s : StartsAscend low high old.entries) (c : IsCanonical eq old.entries) where
+    abbrev es : List (Entry V)
+    es = old.entries
+
+    -- the looks of a walk, and one look more at most
+    pub looked_again : (mid new : CountedEntries V) → mid ≡ record old { looks = old.looks + answers l (reverse (below (h +ℤ pos 2) es)) } → new ≡ record mid { looks = new.looks } → mid.looks ≤ new.looks → new.looks ≤ mid.looks + 1 → IsLooked l h old new
+    looked_again mid new walked looked risen once =
+        let looks = ap (λ (x : CountedEntries V). x.looks) walked in
+        record {
+          alone = looked ∙ ap (λ (x : CountedEntries V). record x { looks = new.looks }) walked;
+          risen = omega (arith, looks, risen);
+          few = omega (arith, looks, once, answers_few l (reverse (below (h +ℤ pos 2) es)), from_reverse l (below (h +ℤ pos 2) es), few_starts l h low high es w s, before_starts l es c, after_starts h es c);
+        }
+
+    pub looked : (new : CountedEntries V) → new ≡ record old { looks = old.looks + answers l (reverse (below (h +ℤ pos 2) es)) } → IsLooked l h old new
+    looked new walked = looked_again new new walked refl (omega arith) (omega arith)
+
+-- few looks, and the work behind them, of which what is left below and above the range is one entry short at most
+module _ {V : Type 0} (l h : ℤ) (old mid new : CountedEntries V) (looked : IsLooked l h old mid) where
+  pub counted : (most : ℕ) → IsWorked most 1 mid new → length new.entries ≤ length (before l mid.entries) + length (after h mid.entries) + 1 → PutsAtMost most old new
+  counted most work short =
+      let same : mid.entries ≡ old.entries = ap (λ (x : CountedEntries V). x.entries) looked.alone in
       let long = ap length same in
       let low_part = ap (λ xs. length (before l xs)) same in
       let high_part = ap (λ xs. length (after h xs)) same in
-      let puts = ap (λ (x : CountedEntries V). x.put_in) seen in
-      let taken = ap (λ (x : CountedEntries V). x.taken_out) seen in
-      let few = answers_few l (reverse (below (h +ℤ pos 2) es)) in
-      let turned = from_reverse l (below (h +ℤ pos 2) es) in
+      let puts = ap (λ (x : CountedEntries V). x.put_in) looked.alone in
+      let taken = ap (λ (x : CountedEntries V). x.taken_out) looked.alone in
       record {
-        counted = counted_then old mid new (counted_looked old mid seen risen) work.counted;
+        counted = counted_then old mid new (counted_looked old mid looked.alone looked.risen) work.counted;
         puts = omega (arith, puts, work.puts);
-        looks = omega (arith, few, turned, looks, puts, taken, long, low_part, high_part, short, work.counted.puts, work.counted.taken, work.counted.balance, work.looks, few_starts l h low high es w s, before_starts l es c, after_starts h es c);
+        looks = omega (arith, looked.few, puts, taken, long, low_part, high_part, short, work.counted.puts, work.counted.taken, work.counted.balance, work.looks);
       }
 
-  pub counted_paint : {A E : Type 0} (p : Entry V) (low high : ℤ) (old mid new : CountedEntries V) → p.lo ≤ℤ p.hi → StartsAscend low high old.entries → IsCanonical eq old.entries
-      → mid ≡ record old { looks = mid.looks } → old.looks ≤ mid.looks → mid.looks ≤ old.looks + answers p.lo (reverse (below (p.hi +ℤ pos 2) old.entries)) + 1
-      → (len : A → ℕ) (r : Result A E) → OnOk r (IsWorked 2 1 mid new) → IfOk r (λ a. IsTablePainted eq low high (len a) p mid.entries new.entries) → OnOk r (IsCountedPaint old new)
-  counted_paint p low high old mid new w s c seen risen looks len (Ok a) work painted = counted p.lo p.hi low high old mid new w s c seen risen looks work painted.short
-  counted_paint p low high old mid new w s c seen risen looks len (Err e) work painted = tt
-
--- what a walk leaves: the looks alone have risen
-module _ {V : Type 0} (old mid : CountedEntries V) (n : ℕ) (walked : mid ≡ record old { looks = old.looks + n }) where
-  looks_of : mid.looks ≡ old.looks + n
-  looks_of = ap (λ (x : CountedEntries V). x.looks) walked
-
-  pub looked_alone : mid ≡ record old { looks = mid.looks }
-  looked_alone = walked ∙ ap (λ k. record old { looks = k }) (sym looks_of)
-
-  pub looked_risen : old.looks ≤ mid.looks
-  looked_risen = omega (arith, looks_of)
-
-  pub looked_few : mid.looks ≤ old.looks + n + 1
-  looked_few = omega (arith, looks_of)
-
-  -- and a look more
-  module _ (next : CountedEntries V) (looked : next ≡ record mid { looks = next.looks }) where
-    pub looked_again : next ≡ record old { looks = next.looks }
-    looked_again = looked ∙ ap (λ (x : CountedEntries V). record x { looks = next.looks }) walked
-
-    pub looked_still_risen : mid.looks ≤ next.looks → old.looks ≤ next.looks
-    looked_still_risen u = omega (arith, looks_of, u)
-
-    pub looked_once_more : next.looks ≤ mid.looks + 1 → next.looks ≤ old.looks + n + 1
-    looked_once_more u = omega (arith, looks_of, u)
+  -- of a paint
+  pub counted_paint : {A E : Type 0} (eq : V → V → Bool) (low high : ℤ) (v : V) (len : A → ℕ) (r : Result A E) → OnOk r (IsWorked 2 1 mid new) → IfOk r (λ a. IsTablePainted eq low high (len a) (entry l h v) mid.entries new.entries) → OnOk r (IsCountedPaint old new)
+  counted_paint eq low high v len (Ok a) work painted = counted 2 work painted.short
+  counted_paint eq low high v len (Err e) work painted = tt

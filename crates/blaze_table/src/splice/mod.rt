@@ -10,13 +10,12 @@ ghost use Rattle.blaze_table.specs.Splice.{IsTablePainted};
 ghost use Rattle.blaze_table.specs.Table.{IsTable};
 
 mod apply;
-mod plan;
 
+use crate::walk::{Walk, walk_by_looks, walk_down, walk_with_value};
 use apply::apply;
 use blaze_entries::{Entries, Plan};
 use blaze_int::compare::{is_at_most, length};
 use blaze_int::{Integer, SafeLength};
-use plan::{plan, value_above};
 use std::alloc::AllocError;
 
 // Whether one entry has all keys of a range that ends at `hi`, with an equal value.
@@ -28,15 +27,6 @@ fn is_inside<T: Integer>(plan: Plan<T>, hi: T) -> bool
         Some(found) => found.is_equal && is_at_most(hi, found.end),
         None => false,
     }
-}
-
-// What a walk has found for a paint: a plan, how many keys lie outside of the range, and a value equal to that of the entry that
-// goes on both below and above the range with another value, if there is one.
-#[derive(Drop)]
-struct Walk<T: Integer, V> {
-    plan: Plan<T>,
-    outside: T::SafeLen,
-    above: Option<V>,
 }
 
 // Puts a value on the keys from lo up to hi, by what a walk has found. Inside an entry with an equal value nothing changes.
@@ -52,8 +42,8 @@ fn paint_planned<T: Integer, V: Eq + Drop>(
 ) -> Result<T::SafeLen, AllocError>
     requires order { T.rank lo ≤ℤ T.rank hi }
     requires table { IsTable V.eq T.low T.high (T.SafeLen.number len) entries.old.entries }
-    requires walk { IsWalkOf V.eq
-        (entry (T.rank lo) (T.rank hi) value) entries.old.entries
+    requires walk { IsWalkOf V.eq (λ w. V.eq w value)
+        (T.rank lo) (T.rank hi) entries.old.entries
         (seen_of T.rank walk.plan) (T.SafeLen.number walk.outside) walk.above }
     ensures painted { IfOk result (λ len. IsTablePainted V.eq T.low T.high (T.SafeLen.number len)
         (entry (T.rank lo) (T.rank hi) value) entries.old.entries entries.new.entries) }
@@ -99,15 +89,8 @@ pub fn paint_by_splice<T: Integer, V: Eq + Clone>(
     ensures err { OnErr result (entries.new.entries ≡ entries.old.entries) }
     ensures err_counted { OnErr result (IsCounted entries.old entries.new) }
 {
-    entries.in_hand();
-    let (plan, outside) = plan(entries, len, lo, hi, &value);
-    let above = value_above(entries, hi, plan.left)?;
-    let walk = Walk {
-        plan,
-        outside,
-        above,
-    };
-    paint_planned(entries, len, lo, hi, value, walk)
+    let found = walk_by_looks(entries, len, lo, hi, &value)?;
+    paint_planned(entries, len, lo, hi, value, found)
 }
 
 /// Puts a value on the keys from lo up to hi, and answers how many keys there are then: the entries that the range touches
@@ -131,14 +114,8 @@ pub fn paint<T: Integer, V: Eq + Clone>(
     ensures err { OnErr result (entries.new.entries ≡ entries.old.entries) }
     ensures err_counted { OnErr result (IsCounted entries.old entries.new) }
 {
-    entries.in_hand();
-    let (plan, outside, above) = entries.scan(len, lo, hi, Some(&value))?;
-    let walk = Walk {
-        plan,
-        outside,
-        above,
-    };
-    paint_planned(entries, len, lo, hi, value, walk)
+    let found = walk_down(entries, len, lo, hi, Some(&value))?;
+    paint_planned(entries, len, lo, hi, value, found)
 }
 
 /// Puts a value on a key, as `paint` does on a range, and answers the value that was there, which the walk finds, and how many
@@ -160,13 +137,7 @@ pub fn insert<T: Integer, V: Eq + Clone>(
     ensures err { OnErr result (entries.new.entries ≡ entries.old.entries) }
     ensures err_counted { OnErr result (IsCounted entries.old entries.new) }
 {
-    entries.in_hand();
-    let (plan, outside, above, old) = entries.scan_with_value(len, key, key, &value)?;
-    let walk = Walk {
-        plan,
-        outside,
-        above,
-    };
-    let rest = paint_planned(entries, len, key, key, value, walk)?;
+    let (found, old) = walk_with_value(entries, len, key, &value)?;
+    let rest = paint_planned(entries, len, key, key, value, found)?;
     Ok((old, rest))
 }

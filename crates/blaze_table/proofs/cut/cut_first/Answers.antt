@@ -1,19 +1,47 @@
-use Rattle.std.proofs.Common.{Some, ap, sym, subst}
+use Rattle.std.proofs.Common.{◌<ℤ◌, Some, subst, arith}
+use Rattle.std.proofs.lemmas.Int.{ints}
 use Rattle.std.specs.List.{slice_get}
+use Rattle.std.specs.Prelude.{IsSomeAnd}
 use Rattle.blaze_entries.specs.Cloned.{IsRangeCloned}
 use Rattle.blaze_entries.specs.Counted.{CountedEntries}
-use Rattle.blaze_entries.specs.Starts.{holder_of}
-use Rattle.blaze_table.proofs.Cuts.CutEdits.{on_err}
-use Rattle.blaze_table.proofs.Cuts.Ends.{first_holder, end_among, end_held}
+use Rattle.blaze_table.specs.Splice.{IsKeyTaken}
+use Rattle.blaze_table.proofs.Cuts.CutEdits.{on_err, key_fits, key_cut}
+use Rattle.blaze_table.proofs.Cuts.Ends.{first_among, first_has}
+use Rattle.blaze_table.proofs.Cuts.Fronts.{first_key}
 use Rattle.blaze_table.proofs.cut.cut_first.Goals as goal
 
 pub returns-in_err-first-clause-refused : goal.returns-in_err-first-clause-refused
 returns-in_err-first-clause-refused g c =
-    let es = c.args.entries.now.entries in
-    on_err c.from_residual.result (end_among g.V.PartialEq.eq g.met.V.Eq.laws g.T.Integer.low g.T.Integer.high es c.in_hand.ensures c.requires.table.canonical (λ x. x.0) (slice_get es 0) (first_holder g.V.PartialEq.eq g.T.Integer.low g.T.Integer.high es c.in_hand.ensures c.requires.table.canonical) c.in_err-first.ensures.refused)
+    on_err c.from_residual.result (first_among g.V.PartialEq.eq g.met.V.Eq.laws g.T.Integer.low g.T.Integer.high c.args.entries.now.entries c.in_hand.ensures c.requires.table.canonical c.in_err-first.ensures.refused)
 
-pub cut_held-requires-clause-held : goal.cut_held-requires-clause-held
-cut_held-requires-clause-held g c =
+pub returns-in_err-value-in-Some-clause-refused : goal.returns-in_err-value-in-Some-clause-refused
+returns-in_err-value-in-Some-clause-refused g c =
+    on_err c.from_residual-in_err-value-in-Some.result (first_among g.V.PartialEq.eq g.met.V.Eq.laws g.T.Integer.low g.T.Integer.high c.args.entries.now.entries c.in_hand.ensures c.requires.table.canonical
+    (subst (λ (s : CountedEntries g.row.V.Denot). IsSomeAnd (slice_get s.entries 0) (λ e. e.lo <ℤ e.hi)) c.first_held.ensures.looked c.in_err-value-in-Some.ensures.refused))
+
+pub minus-rest-requires : goal.minus-rest-requires
+minus-rest-requires g c =
+    let rank = g.T.Integer.rank in
+    let eq = g.V.PartialEq.eq in
+    let low = g.T.Integer.low in
+    let high = g.T.Integer.high in
     let es = c.args.entries.now.entries in
-    subst (λ xs. IsRangeCloned g.T.Integer.rank g.V.Clone.is_clone (holder_of (g.T.Integer.rank c.in-Some.held.0) xs) (Some c.in-Some.held)) (sym (ap (λ (s : CountedEntries g.row.V.Denot). s.entries) c.first_held.ensures.looked))
-    (end_held g.V.PartialEq.eq g.met.V.Eq.laws g.T.Integer.low g.T.Integer.high es c.in_hand.ensures c.requires.table.canonical (λ x. x.0) (slice_get es 0) (first_holder g.V.PartialEq.eq g.T.Integer.low g.T.Integer.high es c.in_hand.ensures c.requires.table.canonical) g.T.Integer.rank g.V.Clone.is_clone c.in-Some.held (subst (IsRangeCloned g.T.Integer.rank g.V.Clone.is_clone (slice_get es 0)) c.in-Some.is c.in_ok-first.ensures.held))
+    let canonical = c.requires.table.canonical in
+    let h = first_has eq g.met.V.Eq.laws low high es c.in_hand.ensures canonical rank g.V.Clone.is_clone c.in-Some.held (subst (IsRangeCloned rank g.V.Clone.is_clone (slice_get es 0)) c.in-Some.is c.in_ok-first.ensures.held) in
+    omega (arith, ints, key_fits eq g.met.V.Eq.laws _ low high es c.in_hand.ensures canonical h _ c.requires.table, c.one.ensures)
+
+pub returns-clause-cut : goal.returns-clause-cut
+returns-clause-cut g c =
+    let rank = g.T.Integer.rank in
+    let eq = g.V.PartialEq.eq in
+    let low = g.T.Integer.low in
+    let high = g.T.Integer.high in
+    let es = c.args.entries.now.entries in
+    let canonical = c.requires.table.canonical in
+    let looked = subst (IsRangeCloned rank g.V.Clone.is_clone (slice_get es 0)) c.in-Some.is c.in_ok-first.ensures.held in
+    record {
+      first = first_key rank g.V.Clone.is_clone c.in-Some.held es looked;
+      cut = key_cut eq g.met.V.Eq.laws _ low high es c.in_hand.ensures canonical (first_has eq g.met.V.Eq.laws low high es c.in_hand.ensures canonical rank g.V.Clone.is_clone c.in-Some.held looked) _ _ _ _ c.requires.table
+          (omega (arith, ints, c.minus-rest.ensures.difference, c.one.ensures))
+          (subst (λ (s : CountedEntries g.row.V.Denot). IsKeyTaken eq (rank c.in-Some.held.0) (Some c.in_ok-value-in-Some.value) s.entries c.cut_front.new.entries.entries) c.first_held.ensures.looked c.in_ok-value-in-Some.ensures.cut);
+    }

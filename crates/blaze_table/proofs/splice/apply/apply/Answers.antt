@@ -6,7 +6,7 @@ use Rattle.blaze_entries.specs.Found.{ranks_of}
 use Rattle.blaze_entries.specs.Scanned.{seen_of}
 use Rattle.blaze_table.specs.Planned.{joined_start}
 use Rattle.blaze_table.proofs.Neighbours.Growing.{left_is}
-use Rattle.blaze_table.proofs.Walks.AboveValues.{like_above}
+use Rattle.blaze_table.proofs.Walks.Found.{like_above}
 use Rattle.blaze_table.proofs.Walks.Plans.{rest_is, rest_above, above_of}
 use Rattle.blaze_table.proofs.Paints.Widened.{paint_extends, paint_puts, started_below, started_there, end_up}
 use Rattle.blaze_table.proofs.splice.apply.apply.Goals as goal

@@ -5,7 +5,7 @@ use Rattle.blaze_entries.specs.Found.{found_in, found_of}
 use Rattle.blaze_entries.specs.Scanned.{seen_of, unseen, walked, answers, walked_keys}
 use Rattle.blaze_entries.specs.Starts.{below, last_below}
 use Rattle.blaze_table.proofs.Walks.Descents.{rounds}
-use Rattle.blaze_table.proofs.splice.plan.plan.Given as goal
+use Rattle.blaze_table.proofs.walk.looks.plan.Given as goal
 
 -- what is left of the walk, from below a key, gives the whole; the look at its first entry is made
 abbrev pub invariant-loop-last : goal.invariant-loop-last

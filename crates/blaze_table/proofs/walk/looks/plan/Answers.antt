@@ -10,7 +10,7 @@ use Rattle.blaze_entries.proofs.Halves.{below_next}
 use Rattle.blaze_entries.proofs.Scans.{step_fits, last_walked, last_answers, last_keys, next_walked, next_answers, next_keys}
 use Rattle.blaze_table.specs.Entries.{Entry}
 use Rattle.blaze_table.proofs.Walks.Descents.{down_to, at_bottom, rounds_fall}
-use Rattle.blaze_table.proofs.splice.plan.plan.Goals as goal
+use Rattle.blaze_table.proofs.walk.looks.plan.Goals as goal
 
 pub loop-last-init : goal.loop-last-init
 loop-last-init g c =
