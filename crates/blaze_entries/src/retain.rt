@@ -43,9 +43,9 @@ pub fn retain<T: Integer, V: Drop, F: FnMut(&RangeInclusive<T>, &V) -> bool>(
 {
     let mut from = T::min_value();
     while let Some(found) = entry_from(tree, from) {
-        let start = found.0;
-        let range = start..=found.1;
-        let stays = f(&range, found.2);
+        let (start, end, value) = found;
+        let range = start..=end;
+        let stays = f(&range, value);
         if !stays {
             drop_entry(tree, start);
         }

@@ -1,5 +1,5 @@
-//! Comparisons of keys, steps between them and lengths, by rank.
-ghost use Rattle.std.specs.Prelude.{◌≡◌, pos, ◌+ℤ◌, ◌-ℤ◌, ◌≤ℤ◌, ◌<ℤ◌, int_le, int_lt};
+//! Comparisons of keys, and lengths of ranges, by rank.
+ghost use Rattle.std.specs.Prelude.{◌≡◌, pos, ◌+ℤ◌, ◌≤ℤ◌, int_le, int_lt};
 ghost use Rattle.std.specs.Int.{int_max, int_min};
 ghost use Rattle.std.specs.Ordering.{int_eq};
 
@@ -36,24 +36,6 @@ pub fn is_next<T: Integer>(a: T, b: T) -> bool
         }
         None => false,
     }
-}
-
-/// The key after one that is below another.
-pub fn after<T: Integer>(key: T, above: T) -> T
-    requires { T.rank key <ℤ T.rank above }
-    ensures { T.rank result ≡ T.rank key +ℤ pos 1 }
-{
-    above.in_hand();
-    key.add_one()
-}
-
-/// The key before one that is above another.
-pub fn before<T: Integer>(key: T, below: T) -> T
-    requires { T.rank below <ℤ T.rank key }
-    ensures { T.rank result ≡ T.rank key -ℤ pos 1 }
-{
-    below.in_hand();
-    key.sub_one()
 }
 
 /// The lesser of two keys.

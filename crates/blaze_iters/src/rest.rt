@@ -3,7 +3,7 @@ ghost use Rattle.std.specs.Prelude.{◌≤ℤ◌};
 ghost use Rattle.blaze_iters.specs.Left.{IsSecond, IsSecondLast, IsRestAfter, IsRestBefore};
 
 use blaze_int::Integer;
-use blaze_int::compare::{after, before, is_below};
+use blaze_int::compare::is_below;
 
 /// The key after the first of a range, where it has one.
 pub(crate) fn second<T: Integer>(start: T, end: T) -> Option<T>
@@ -11,7 +11,8 @@ pub(crate) fn second<T: Integer>(start: T, end: T) -> Option<T>
     ensures { IsSecond T.rank start end result }
 {
     if is_below(start, end) {
-        Some(after(start, end))
+        end.in_hand();
+        Some(start.add_one())
     } else {
         None
     }
@@ -23,7 +24,8 @@ pub(crate) fn second_last<T: Integer>(start: T, end: T) -> Option<T>
     ensures { IsSecondLast T.rank start end result }
 {
     if is_below(start, end) {
-        Some(before(end, start))
+        start.in_hand();
+        Some(end.sub_one())
     } else {
         None
     }

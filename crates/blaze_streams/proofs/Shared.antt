@@ -2,7 +2,7 @@
 use Rattle.std.specs.Int.{int_max, int_min}
 use Rattle.std.specs.Prelude.{◌⊎◌, int_le}
 use Rattle.std.specs.Option.{option_map}
-use Rattle.std.proofs.Common.{◌≡◌, ℤ, pos, ◌-ℤ◌, ◌≤ℤ◌, ◌<ℤ◌, Bool, cond, List, [], ◌∷◌, Option, Some, None, refl, ◌∙◌, sym, subst, ap, arith, ⊎_elim}
+use Rattle.std.proofs.Common.{◌≡◌, ℤ, pos, ◌+ℤ◌, ◌≤ℤ◌, ◌<ℤ◌, Bool, cond, List, [], ◌∷◌, Option, Some, None, refl, ◌∙◌, sym, subst, ap, arith, ⊎_elim}
 use Rattle.std.proofs.lemmas.Int.{ints, by_lt_z}
 use Rattle.blaze_int.proofs.Comparisons.{le_true, le_false}
 use Rattle.blaze_entries.specs.Found.{range_in}
@@ -15,7 +15,7 @@ use Rattle.blaze_table.specs.Splice.{after}
 use Rattle.blaze_table.proofs.Canonical.Lookup.{at_in}
 use Rattle.blaze_table.proofs.Paints.Splices.{after_keeps}
 use Rattle.blaze_streams.specs.Choosing.{IsTaken}
-use Rattle.blaze_streams.specs.Cursors.{first_key, FirstHas, lesser}
+use Rattle.blaze_streams.specs.Cursors.{first_key, FirstHas, lesser, Reaches}
 use Rattle.blaze_streams.proofs.ChosenSoFar.{chosen_at}
 use Rattle.blaze_streams.proofs.Steady.{at_first}
 use Rattle.blaze_streams.proofs.Lesser.{lesser_exchanged, lesser_first}
@@ -33,7 +33,7 @@ nothing_to eq choose s t L L' R R' starts order nothing = taken_to eq choose L L
 
 -- the right list lets the keys below the left one go, where nothing is chosen without the left one
 pub right_gone : {A B V : Type 0} (eqa : A → A → Bool) (eqb : B → B → Bool) (eq : V → V → Bool) (choose : Option A → Option B → Option V) → ((o : Option B) → choose None o ≡ None) → (l x r y t : ℤ) (L L' : List (Entry A)) (R R' : List (Entry B))
-    → IsCanonical eqa L → IsCanonical eqb R → Some (l, x) ≡ option_map range_in (first_entry L) → Some (r, y) ≡ option_map range_in (first_entry R) → y <ℤ l → t ≡ l -ℤ pos 1 → L' ≡ L → R' ≡ after t R → IsTaken eq choose L L' R R' r t None
+    → IsCanonical eqa L → IsCanonical eqb R → Some (l, x) ≡ option_map range_in (first_entry L) → Some (r, y) ≡ option_map range_in (first_entry R) → y <ℤ l → t +ℤ pos 1 ≡ l → L' ≡ L → R' ≡ after t R → IsTaken eq choose L L' R R' r t None
 right_gone eqa eqb eq choose nothing l x r y t [] L' R R' ca cb p q u is left_is right_is = cc
 right_gone eqa eqb eq choose nothing l x r y t (e ∷ es) L' [] R' ca cb p q u is left_is right_is = cc
 right_gone eqa eqb eq choose nothing l x r y t (e ∷ es) L' (f ∷ fs) R' ca cb p q u is left_is right_is =
@@ -65,7 +65,7 @@ module _ {A B : Type 0} where
           ∙ ap (left_with_right (Some e.value)) (at_in f fs k (grind (arith, ints, l)) (grind (arith, ints, h)))
 
     -- the left list lets the keys below the right one go
-    pub left_gone : (l x r y t : ℤ) (L L' : List (Entry A)) (R : List (Entry B)) → IsCanonical eqa L → IsCanonical eqb R → Some (l, x) ≡ option_map range_in (first_entry L) → Some (r, y) ≡ option_map range_in (first_entry R) → x <ℤ r → t ≡ r -ℤ pos 1 → L' ≡ after t L
+    pub left_gone : (l x r y t : ℤ) (L L' : List (Entry A)) (R : List (Entry B)) → IsCanonical eqa L → IsCanonical eqb R → Some (l, x) ≡ option_map range_in (first_entry L) → Some (r, y) ≡ option_map range_in (first_entry R) → x <ℤ r → t +ℤ pos 1 ≡ r → L' ≡ after t L
         → IsTaken eqa left_with_right L L' R R l t None
     left_gone l x r y t [] L' R ca cb p q u is left_is = cc
     left_gone l x r y t (e ∷ es) L' [] ca cb p q u is left_is = cc
@@ -89,6 +89,11 @@ module _ {A B : Type 0} where
       left_has (e ∷ es) (f ∷ fs) ca cb p q u v =
           let left = ends e l x p in
           (grind (arith, ints, end_is, left.0, left.1, ca.0, v), grind (arith, ints, end_is, left.1))
+
+      -- nor does the right one's first range end below it
+      pub right_reaches : (R : List (Entry B)) → Some (r, y) ≡ option_map range_in (first_entry R) → Reaches end R
+      right_reaches [] q = tt
+      right_reaches (f ∷ fs) q = let right = ends f r y q in grind (arith, ints, end_is, right.1)
 
       pub shared_taken : (L L' : List (Entry A)) (R R' : List (Entry B)) (value : Option A) → IsCanonical eqa L → IsCanonical eqb R → Some (l, x) ≡ option_map range_in (first_entry L) → Some (r, y) ≡ option_map range_in (first_entry R) → r ≤ℤ x → l ≤ℤ y → SameOption eqa (at L end) value → L' ≡ after end L → R' ≡ after end R
           → IsTaken eqa left_with_right L L' R R' first end value

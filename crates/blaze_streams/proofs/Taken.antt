@@ -1,5 +1,5 @@
 -- What is taken of two lists.
-use Rattle.std.proofs.Common.{◌≡◌, ℤ, pos, ◌+ℤ◌, ◌-ℤ◌, ◌≤ℤ◌, ◌<ℤ◌, Bool, List, [], ◌∷◌, Option, Some, None, refl, ◌∙◌, sym, subst, ap, arith}
+use Rattle.std.proofs.Common.{◌≡◌, ℤ, pos, ◌+ℤ◌, ◌≤ℤ◌, ◌<ℤ◌, Bool, List, [], ◌∷◌, Option, Some, None, refl, ◌∙◌, sym, subst, ap, arith}
 use Rattle.std.specs.Int.{int_min}
 use Rattle.std.specs.Option.{option_map, option_xor}
 use Rattle.std.proofs.lemmas.Int.{ints}
@@ -89,7 +89,7 @@ module _ {A B : Type 0} (eqa : A → A → Bool) (eqb : B → B → Bool) (l x :
       (omega (arith, ints, c.0, here.0, here.1, is), omega (arith, ints, is), subst (AtMost (t +ℤ pos 1)) q tt)
 
   -- else up to the key before the other list's first key, which is b
-  pub end_bounded : (L : List (Entry A)) (R : List (Entry B)) (b p t : ℤ) → IsCanonical eqa L → Some (l, x) ≡ option_map range_in (first_entry L) → Some b ≡ first_key R → l <ℤ b → p ≡ b -ℤ pos 1 → t ≡ int_min p x → IsEndBefore l x t R
+  pub end_bounded : (L : List (Entry A)) (R : List (Entry B)) (b p t : ℤ) → IsCanonical eqa L → Some (l, x) ≡ option_map range_in (first_entry L) → Some b ≡ first_key R → l <ℤ b → p +ℤ pos 1 ≡ b → t ≡ int_min p x → IsEndBefore l x t R
   end_bounded [] R b p t c q r above before is = cc
   end_bounded (e ∷ es) R b p t c q r above before is =
       let here = ends e l x q in

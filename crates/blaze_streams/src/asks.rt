@@ -73,7 +73,8 @@ impl<VCL: ValueCarrier, VCR: ValueCarrier, W, F: FnMut(Option<VCL>, Option<VCR>)
         ensures { AnswersAt (either VCL.shown VCR.shown) F.FnMut f.old
             (shown_pair VCL.shown VCR.shown carrier) result f.new }
     {
-        f(carrier.0, carrier.1)
+        let (left, right) = carrier;
+        f(left, right)
     }
 }
 

@@ -7,7 +7,7 @@ ghost use Rattle.blaze_streams.specs.Gaps.{gap_before, rank_or_end};
 use crate::lists::canon::CanonIter;
 use crate::sorted_disjoint::SortedDisjoint;
 use blaze_int::Integer;
-use blaze_int::compare::{before, is_below};
+use blaze_int::compare::is_below;
 use std::alloc::{AllocError, Global};
 use std::ops::RangeInclusive;
 
@@ -24,7 +24,8 @@ fn push_gap<T: Integer>(
     start.in_hand();
     if let Some(first) = next {
         if is_below(first, start) {
-            gaps.push(first..=before(start, first))?;
+            first.in_hand();
+            gaps.push(first..=start.sub_one())?;
         }
     }
     Ok(())

@@ -1,5 +1,6 @@
 //! What is left of a stream that is gone through from its start.
-ghost use Rattle.std.specs.Prelude.{◌≡◌, [], Some, IfNone, IfOk};
+ghost use Rattle.std.specs.Prelude.{◌≡◌, pos, ◌+ℤ◌, ◌<ℤ◌, [], Some, IfNone, IfOk};
+ghost use Rattle.std.specs.Int.{int_max};
 ghost use Rattle.std.specs.Option.{option_map};
 ghost use Rattle.blaze_entries.specs.Found.{range_in, ranks_of};
 ghost use Rattle.blaze_entries.specs.Starts.{first_entry};
@@ -13,7 +14,7 @@ ghost use Rattle.blaze_streams.specs.Cursors.{first_key, steady_to, IsFrom, Reac
 use crate::carrier::ValueCarrier;
 use crate::sorted_disjoint_map::SortedDisjointMap;
 use blaze_int::Integer;
-use blaze_int::compare::{after, before, greater, is_at_most, is_below};
+use blaze_int::compare::{greater, is_at_most, is_below};
 use std::alloc::AllocError;
 use std::marker::Model;
 use std::mem;
@@ -54,6 +55,15 @@ fn take_first<T: Integer, VC: ValueCarrier, I: SortedDisjointMap<T, VC>>(
     Some((start, end, carrier))
 }
 
+// The first key above `end` of the range from `lo` up to `hi`, which has one.
+fn start_above<T: Integer>(lo: T, hi: T, end: T) -> T
+    requires { T.rank end <ℤ T.rank hi }
+    ensures { T.rank result ≡ int_max (T.rank end +ℤ pos 1) (T.rank lo) }
+{
+    hi.in_hand();
+    greater(lo, end.add_one())
+}
+
 /// How many ranges are passed one by one, behind the first, before a stream seeks.
 const STEPS: usize = 3;
 
@@ -71,7 +81,7 @@ fn take_above<T: Integer, VC: ValueCarrier, I: SortedDisjointMap<T, VC>>(
     let mut steps = STEPS;
     while let Some((lo, hi, carrier)) = take_first(stream) {
         if is_below(end, hi) {
-            return Some((greater(lo, after(end, hi)), hi, carrier));
+            return Some((start_above(lo, hi, end), hi, carrier));
         }
         if steps > 0 {
             steps -= 1;
@@ -127,7 +137,8 @@ impl<T: Integer, VC: ValueCarrier, I: SortedDisjointMap<T, VC>> Cursor<T, VC, I>
                 if is_at_most(*lo, start) {
                     Some(*hi)
                 } else {
-                    Some(before(*lo, start))
+                    start.in_hand();
+                    Some(lo.sub_one())
                 }
             }
         }
@@ -142,7 +153,8 @@ impl<T: Integer, VC: ValueCarrier, I: SortedDisjointMap<T, VC>> Cursor<T, VC, I>
         };
         if is_below(end, *hi) {
             if is_at_most(*lo, end) {
-                *lo = after(end, *hi);
+                hi.in_hand();
+                *lo = end.add_one();
             }
             return;
         }
@@ -151,7 +163,7 @@ impl<T: Integer, VC: ValueCarrier, I: SortedDisjointMap<T, VC>> Cursor<T, VC, I>
             return;
         };
         if is_below(end, hi) {
-            self.head = Some((greater(lo, after(end, hi)), hi, carrier));
+            self.head = Some((start_above(lo, hi, end), hi, carrier));
             return;
         }
         self.head = take_above(&mut self.rest, end);
@@ -168,7 +180,8 @@ impl<T: Integer, VC: ValueCarrier, I: SortedDisjointMap<T, VC>> Cursor<T, VC, I>
         if is_at_most(*hi, end) {
             self.head = take_first(&mut self.rest);
         } else if is_at_most(*lo, end) {
-            *lo = after(end, *hi);
+            hi.in_hand();
+            *lo = end.add_one();
         }
     }
 
@@ -208,7 +221,8 @@ impl<T: Integer, VC: ValueCarrier, I: SortedDisjointMap<T, VC>> Cursor<T, VC, I>
         }
         if is_below(end, *hi) {
             let other = carrier.carry();
-            *lo = after(end, *hi);
+            hi.in_hand();
+            *lo = end.add_one();
             return Ok(Some(other?));
         }
         let next = take_first(&mut self.rest);

@@ -9,7 +9,7 @@ use crate::carrier::ValueCarrier;
 use crate::lists::canon_map::CanonMapIter;
 use crate::sorted_disjoint_map::SortedDisjointMap;
 use blaze_int::Integer;
-use blaze_int::compare::{before, is_below};
+use blaze_int::compare::is_below;
 use std::alloc::{AllocError, Global};
 use std::ops::RangeInclusive;
 
@@ -27,7 +27,8 @@ fn push_none<T: Integer, VC: ValueCarrier>(
     start.in_hand();
     if let Some(first) = next {
         if is_below(first, start) {
-            out.push((first..=before(start, first), None))?;
+            first.in_hand();
+            out.push((first..=start.sub_one(), None))?;
         }
     }
     Ok(())

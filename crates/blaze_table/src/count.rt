@@ -28,8 +28,8 @@ pub fn count_list<T: Integer, V: Eq>(entries: &[(T, T, V)]) -> T::SafeLen
     ensures { pos (T.SafeLen.number result) ≡ keys_in (listed T.rank entries.now) }
 {
     let mut sum = T::SafeLen::zero();
-    for entry in entries {
-        sum = sum.plus(length(entry.0, entry.1));
+    for (start, end, _) in entries {
+        sum = sum.plus(length(*start, *end));
     }
     sum
 }

@@ -8,8 +8,8 @@ use blaze_int::Integer;
 pub fn keys_in_hand<T: Integer, V>(entries: &[(T, T, V)])
     ensures { AreKeys T.low T.high (listed T.rank entries.now) }
 {
-    for entry in entries {
-        entry.0.in_hand();
-        entry.1.in_hand();
+    for (start, end, _) in entries {
+        start.in_hand();
+        end.in_hand();
     }
 }

@@ -7,7 +7,6 @@ ghost use Rattle.blaze_table.specs.Gap.{IsGap, IsClearFrom};
 use crate::search::entry_above;
 use blaze_entries::Entries;
 use blaze_int::Integer;
-use blaze_int::compare::{after, before};
 
 /// The gap round a key that has no value.
 pub fn gap_round<T: Integer, V: Eq>(entries: &Entries<T, V>, key: T) -> (T, T)
@@ -33,9 +32,9 @@ fn gap_start<T: Integer, V: Eq>(entries: &Entries<T, V>, key: T) -> T
     key.in_hand();
     match entries.at_or_below(key) {
         Some(found) => {
-            let end = found.1;
+            let (_, end, _) = found;
             end.in_hand();
-            after(end, key)
+            end.add_one()
         }
         None => T::min_value(),
     }
@@ -55,10 +54,9 @@ fn gap_end<T: Integer, V: Eq>(entries: &Entries<T, V>, key: T) -> T
     key.in_hand();
     match entry_above(entries, key) {
         Some(found) => {
-            let start = found.0;
+            let (start, _, _) = found;
             start.in_hand();
-            let last = before(start, key);
-            last
+            start.sub_one()
         }
         None => T::max_value(),
     }

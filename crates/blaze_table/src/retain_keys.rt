@@ -13,7 +13,7 @@ ghost use Rattle.blaze_table.specs.Table.{IsTable};
 
 use crate::sweep::{lengthen_entry, push_entry};
 use blaze_entries::Entries;
-use blaze_int::compare::{after, is_below};
+use blaze_int::compare::is_below;
 use blaze_int::{Integer, SafeLength};
 use std::alloc::AllocError;
 
@@ -84,11 +84,12 @@ fn keep_keys<T: Integer, V: Eq + Clone, F: Fn(&T, &V) -> bool>(
         (listed T.rank out.old.items) +ℤ (T.rank end -ℤ T.rank start +ℤ pos 1)
         ≡ pos (T.SafeLen.number len) +ℤ keys_in (listed T.rank out.new.items)) }
 {
+    end.in_hand();
     let mut left = len;
     let mut key = start;
     while is_below(key, end) {
         left = keep_key(out, key, value, left, f)?;
-        key = after(key, end);
+        key = key.add_one();
     }
     left = keep_key(out, key, value, left, f)?;
     Ok(left)

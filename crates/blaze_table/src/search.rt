@@ -17,7 +17,8 @@ pub fn entry_holding<T: Integer, V>(entries: &Entries<T, V>, key: T) -> Option<(
 {
     entries.in_hand();
     let found = entries.at_or_below(key)?;
-    if is_at_most(key, found.1) {
+    let (_, end, _) = found;
+    if is_at_most(key, end) {
         Some(found)
     } else {
         None
@@ -42,10 +43,11 @@ pub fn entry_below<T: Integer, V: Eq>(entries: &Entries<T, V>, key: T) -> Option
 {
     entries.in_hand();
     let found = entries.at_or_below(key)?;
-    if is_below(found.1, key) {
+    let (start, end, _) = found;
+    if is_below(end, key) {
         Some(found)
     } else {
-        entries.below(found.0)
+        entries.below(start)
     }
 }
 
@@ -55,7 +57,10 @@ pub fn entries_ending_from<T: Integer, V>(entries: &Entries<T, V>, key: T) -> Ra
     ensures { result ≡ ending_from (T.rank key) entries.now.entries }
 {
     match entry_holding(entries, key) {
-        Some(found) => entries.iter_starting_from(found.0),
+        Some(found) => {
+            let (start, _, _) = found;
+            entries.iter_starting_from(start)
+        }
         None => entries.iter_starting_from(key),
     }
 }
@@ -67,7 +72,10 @@ pub fn entries_overlapping<T: Integer, V>(entries: &Entries<T, V>, lo: T, hi: T)
     ensures { result ≡ overlapping (T.rank lo) (T.rank hi) entries.now.entries }
 {
     match entry_holding(entries, lo) {
-        Some(found) => entries.iter_between(found.0, hi),
+        Some(found) => {
+            let (start, _, _) = found;
+            entries.iter_between(start, hi)
+        }
         None => entries.iter_between(lo, hi),
     }
 }

@@ -14,7 +14,7 @@ ghost use Rattle.blaze_table.specs.Table.{IsTable};
 
 use crate::count::count;
 use blaze_entries::Entries;
-use blaze_int::compare::{before, is_at_most};
+use blaze_int::compare::is_at_most;
 use blaze_int::{Integer, SafeLength, length_in_hand};
 use std::alloc::AllocError;
 
@@ -23,8 +23,8 @@ fn range_below<T: Integer, V>(entries: &Entries<T, V>, key: T) -> Option<(T, T)>
     ensures { option_map (ranks_of T.rank) result
         ≡ option_map range_in (last_below (T.rank key) entries.now.entries) }
 {
-    let entry = entries.below(key)?;
-    Some((entry.0, entry.1))
+    let (start, end, _) = entries.below(key)?;
+    Some((start, end))
 }
 
 // Splits entries at a key that one of them has and does not start at, by that one's first and last key.
@@ -45,10 +45,12 @@ fn split_across<T: Integer, V: Eq + Clone>(
     ensures err { OnErr result (entries.new ≡ entries.old) }
 {
     entries.in_hand();
-    entries.insert_clone(ends.0, key)?;
+    let (start, _) = ends;
+    start.in_hand();
+    entries.insert_clone(start, key)?;
     match entries.split_off(key) {
         Ok(from) => {
-            entries.set_end(ends.0, before(key, ends.0));
+            entries.set_end(start, key.sub_one());
             Ok(from)
         }
         Err(refused) => {
@@ -74,7 +76,7 @@ fn split_at<T: Integer, V: Eq + Clone>(
 {
     entries.in_hand();
     match range_below(entries, key) {
-        Some(ends) if is_at_most(key, ends.1) => split_across(entries, key, ends),
+        Some((start, end)) if is_at_most(key, end) => split_across(entries, key, (start, end)),
         _ => entries.split_off(key),
     }
 }
@@ -123,6 +125,6 @@ pub fn split<T: Integer, V: Eq + Clone>(
     ensures err { OnErr result (entries.new ≡ entries.old) }
 {
     let from = split_at(entries, key)?;
-    let lens = count_parts(entries, &from, len);
-    Ok((from, lens.0, lens.1))
+    let (below_len, from_len) = count_parts(entries, &from, len);
+    Ok((from, below_len, from_len))
 }

@@ -134,15 +134,6 @@ module _ {V : Type 0} (low high l h : ℤ) (es : List (Entry V)) where
       subst (λ x. SameOption unit_eq (at new k) (left_alone x (at es k))) (sym q)
       (subst (SameOption unit_eq (at new k)) (p ∙ sym (alone_none (at es k))) (same_itself unit_eq unit_laws (at new k)))
 
-  -- where the range has no key there is no gap
-  pub no_gaps : h <ℤ l → IsChosen unit_eq low high left_alone (one_range l h) es []
-  no_gaps u = record {
-    range_map = record { runs = one_per_run unit_eq unit_laws [] tt; keys = tt };
-    content = λ k.
-        let one : Entry (Unit {0}) = entry l h tt in
-        off [] k refl (by_lt_z k l (λ v. at_under one [] k v) (λ v. at_over one [] k (omega (arith, ints))));
-  }
-
   module _ (eq : V → V → Bool) (laws : IsEquivalence eq) (r : IsRangeMap eq low high es) where
     gaps_chosen : l ≤ℤ h → low ≤ℤ l → h ≤ℤ high → IsChosen unit_eq low high left_alone (one_range l h) es (gaps_within l h (overlapping l h es))
     gaps_chosen w a b =

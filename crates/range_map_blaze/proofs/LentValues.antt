@@ -96,10 +96,6 @@ module _ {V : Type 0} (eq : V → V → Bool) where
     lent_laws : IsEquivalence (lent_eq eq)
     lent_laws = record { refl = λ x. laws.refl x.now; symm = λ x y. laws.symm x.now y.now; congr = λ x y z. laws.congr x.now y.now z.now }
 
-    -- a clone of a reference is the reference
-    pub lent_alike : (x y : Bor V) → y ≡ x → lent_eq eq x y ≡ true
-    lent_alike x y s = subst (λ z. eq x.now z.now ≡ true) (sym s) (laws.refl x.now)
-
     module _ (low high : ℤ) where
       range_map_itself : (es : List (Entry (Bor V))) → IsRangeMap (lent_eq eq) low high es → IsRangeMap eq low high (map itself es)
       range_map_itself es r = record {

@@ -10,7 +10,3 @@ module _ {V : Type 0} where
   made_of told map es p t =
       let same = ap (λ (s : CountedEntries V). s.entries) p in
       (subst told (sym same) t, p ∙ ap uncounted (sym same))
-
-  -- told in other words
-  pub made_as : (told other : List (Entry V) → Type 0) (map : CountedEntries V) → (told map.entries → other map.entries) → IsMade told map → IsMade other map
-  made_as told other map f m = (f m.0, m.1)

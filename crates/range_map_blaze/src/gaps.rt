@@ -10,7 +10,7 @@ ghost use Rattle.range_map_blaze.specs.Somewhere.{AreGapsSomewhere};
 
 use crate::map::RangeMapBlaze;
 use crate::overlapping::{Overlapping, entries_on, no_entries};
-use blaze_int::compare::{after, before, is_below};
+use blaze_int::compare::is_below;
 use blaze_int::{Integer, bounds_of};
 use blaze_table::RangeTable;
 use std::iter::FusedIterator;
@@ -92,12 +92,14 @@ impl<'a, T: Integer, V: Eq> Iterator for Gaps<'a, T, V> {
             };
             let (start, end) = range.into_inner();
             self.left = if is_below(end, last) {
-                Some((after(end, last), last))
+                last.in_hand();
+                Some((end.add_one(), last))
             } else {
                 None
             };
             if is_below(first, start) {
-                return Some(first..=before(start, first));
+                first.in_hand();
+                return Some(first..=start.sub_one());
             }
         }
         None

@@ -85,7 +85,10 @@ impl<T: Integer, V: Eq> RangeMapBlaze<T, V> {
     {
         self.in_hand();
         match self.table.first() {
-            Some(entry) => Some((entry.0, entry.2)),
+            Some(entry) => {
+                let (start, _, value) = entry;
+                Some((start, value))
+            }
             None => None,
         }
     }
@@ -97,7 +100,10 @@ impl<T: Integer, V: Eq> RangeMapBlaze<T, V> {
     {
         self.in_hand();
         match self.table.last() {
-            Some(entry) => Some((entry.1, entry.2)),
+            Some(entry) => {
+                let (_, end, value) = entry;
+                Some((end, value))
+            }
             None => None,
         }
     }

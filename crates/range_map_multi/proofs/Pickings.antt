@@ -1,5 +1,5 @@
 -- The rows of what is picked from lists.
-use Rattle.std.proofs.Common.{◌≡◌, ℕ, suc, ◌+◌, ◌<◌, ◌≤◌, ℤ, Bool, true, false, nat_eq, List, [], ◌∷◌, ◌++◌, length, map, drop, get_or, Option, Some, None, is_some, refl, ◌∙◌, sym, ap, option_map, drop-cons, add-one, arith}
+use Rattle.std.proofs.Common.{◌≡◌, ℕ, ◌+◌, ◌<◌, ℤ, Bool, true, false, nat_eq, List, [], ◌∷◌, ◌++◌, length, map, Option, Some, None, is_some, refl, ◌∙◌, sym, ap, option_map, arith}
 use Rattle.std.specs.List.{slice_get, list_all, list_any}
 use Rattle.std.specs.Option.{option_and_then}
 use Rattle.std.proofs.lemmas.List.{nil_from_length}
@@ -66,14 +66,6 @@ module _ {A V B : Type 0} (shown : A → V) (items : B → List A) (lists : List
 
   pub asked_not_full : (found : List (Option A)) → list_all is_some found ≡ false → found ≡ picked (map items lists) places → list_all is_some (picked (map (λ v. map shown (items v)) lists) places) ≡ false
   asked_not_full found f p = ap (list_all is_some) (sym (picked_shown found p)) ∙ all_shown shown found ∙ f
-
--- the row, one place further
-pub picked_next : {A B : Type 0} (items : B → List A) (lists : List B) (places : List (Option ℕ)) (i : ℕ) (b : B) (p : Option ℕ) → i < length places → length places ≤ length lists
-    → picked (map items (drop i lists)) (drop i places) ≡ option_and_then (slice_get (items (get_or lists i b))) (get_or places i p) ∷ picked (map items (drop (i + 1) lists)) (drop (i + 1) places)
-picked_next items lists places i b p l m =
-    ap (λ xs. picked (map items xs) (drop i places)) (drop-cons lists i b (omega (arith, l, m)))
-    ∙ ap (picked (items (get_or lists i b) ∷ map items (drop (suc i) lists))) (drop-cons places i p l)
-    ∙ ap (λ n. option_and_then (slice_get (items (get_or lists i b))) (get_or places i p) ∷ picked (map items (drop n lists)) (drop n places)) (sym (add-one i))
 
 -- a row with nothing in a place is not full
 pub not_full : {A : Type 0} (xs rest found : List (Option A)) → found ≡ xs ++ None ∷ rest → list_all is_some found ≡ false

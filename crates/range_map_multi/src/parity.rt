@@ -18,8 +18,9 @@ fn with_keys<T: Integer, VC: ValueCarrier, I: SortedDisjointMap<T, VC>>(
     let mut items = Vec::new(alloc);
     let mut keys = Vec::new(alloc);
     for item in stream {
-        let first = *item.0.start();
-        let last = *item.0.end();
+        let (range, _) = &item;
+        let first = *range.start();
+        let last = *range.end();
         keys.push((first..=last, items.len()))?;
         items.push(item)?;
     }

@@ -11,7 +11,7 @@ use crate::cursor::Cursor;
 use crate::merge::pieces::{take_before, take_both};
 use crate::sorted_disjoint_map::SortedDisjointMap;
 use blaze_int::Integer;
-use blaze_int::compare::{before, is_below, lesser};
+use blaze_int::compare::{is_below, lesser};
 use std::alloc::AllocError;
 
 /// A choice from what two streams have at a key, by which of them have it.
@@ -50,8 +50,8 @@ impl<VC: ValueCarrier> Choice<VC, VC> for RightFirst {
         left: &mut Cursor<T, VC, L>,
         right: &mut Cursor<T, VC, R>,
     ) -> Result<Option<(T, T, Option<VC>)>, AllocError> {
-        if let Some(piece) = take_before(left, right)? {
-            return Ok(Some((piece.0, piece.1, Some(piece.2))));
+        if let Some((start, end, carrier)) = take_before(left, right)? {
+            return Ok(Some((start, end, Some(carrier))));
         }
         let Some((start, end)) = right.range() else {
             return Ok(None);
@@ -76,10 +76,11 @@ impl<VC: ValueCarrier> Choice<VC, VC> for ExactlyOne {
         right: &mut Cursor<T, VC, R>,
     ) -> Result<Option<(T, T, Option<VC>)>, AllocError> {
         if let Some(piece) = take_before(left, right)? {
-            return Ok(Some((piece.0, piece.1, Some(piece.2))));
+            let (start, end, carrier) = piece;
+            return Ok(Some((start, end, Some(carrier))));
         }
-        if let Some(piece) = take_before(right, left)? {
-            return Ok(Some((piece.0, piece.1, Some(piece.2))));
+        if let Some((start, end, carrier)) = take_before(right, left)? {
+            return Ok(Some((start, end, Some(carrier))));
         }
         let (Some((start, ours)), Some((_, theirs))) = (left.range(), right.range()) else {
             return Ok(None);
@@ -121,20 +122,21 @@ impl<VCL: ValueCarrier, VCR: ValueCarrier> Choice<VCL, VCR> for LeftAlone {
         left: &mut Cursor<T, VCL, L>,
         right: &mut Cursor<T, VCR, R>,
     ) -> Result<Option<(T, T, Option<VCL>)>, AllocError> {
-        if let Some(piece) = take_before(left, right)? {
-            return Ok(Some((piece.0, piece.1, Some(piece.2))));
+        if let Some((start, end, carrier)) = take_before(left, right)? {
+            return Ok(Some((start, end, Some(carrier))));
         }
-        let (Some(ours), Some(theirs)) = (left.range(), right.range()) else {
+        let (Some((ours, _)), Some((start, last))) = (left.range(), right.range()) else {
             return Ok(None);
         };
-        if is_below(theirs.1, ours.0) {
-            let end = before(ours.0, theirs.1);
+        if is_below(last, ours) {
+            last.in_hand();
+            let end = ours.sub_one();
             right.advance(end);
-            return Ok(Some((theirs.0, end, None)));
+            return Ok(Some((start, end, None)));
         }
-        right.advance_in_first(theirs.1);
-        left.advance(theirs.1);
-        Ok(Some((theirs.0, theirs.1, None)))
+        right.advance_in_first(last);
+        left.advance(last);
+        Ok(Some((start, last, None)))
     }
 
     ghost from_nothing = { refl };

@@ -50,9 +50,10 @@ fn put_chosen<
     let mut left = Cursor::new(left);
     let mut right = Cursor::new(right);
     while let Some(piece) = choice.take(&mut left, &mut right)? {
-        piece.0.in_hand();
-        piece.1.in_hand();
-        put_value(out, piece.0, piece.1, piece.2)?;
+        let (start, end, carrier) = piece;
+        start.in_hand();
+        end.in_hand();
+        put_value(out, start, end, carrier)?;
     }
     Ok(())
 }

@@ -43,7 +43,8 @@ pub fn take_before<
             if compare::is_at_most(bound, start) {
                 return Ok(None);
             }
-            compare::lesser(last, compare::before(bound, start))
+            start.in_hand();
+            compare::lesser(last, bound.sub_one())
         }
     };
     let carrier = cursor.take(end)?;
@@ -71,21 +72,24 @@ pub fn take_both<
         (λ piece. IsTaken VCL.Value.eq left_with_right left.old left.new right.old right.new
         (T.rank piece.0) (T.rank piece.1) (option_map VCL.shown piece.2))) }
 {
-    let (Some(ours), Some(theirs)) = (left.range(), right.range()) else {
+    let (Some((start, last)), Some((other_start, other_last))) = (left.range(), right.range())
+    else {
         return Ok(None);
     };
-    if compare::is_below(ours.1, theirs.0) {
-        let end = compare::before(theirs.0, ours.1);
+    if compare::is_below(last, other_start) {
+        last.in_hand();
+        let end = other_start.sub_one();
         left.advance(end);
-        return Ok(Some((ours.0, end, None)));
+        return Ok(Some((start, end, None)));
     }
-    if compare::is_below(theirs.1, ours.0) {
-        let end = compare::before(ours.0, theirs.1);
+    if compare::is_below(other_last, start) {
+        other_last.in_hand();
+        let end = start.sub_one();
         right.advance(end);
-        return Ok(Some((theirs.0, end, None)));
+        return Ok(Some((other_start, end, None)));
     }
-    let first = compare::greater(ours.0, theirs.0);
-    let end = compare::lesser(ours.1, theirs.1);
+    let first = compare::greater(start, other_start);
+    let end = compare::lesser(last, other_last);
     let carrier = left.take(end)?;
     right.advance_in_first(end);
     Ok(Some((first, end, Some(carrier))))

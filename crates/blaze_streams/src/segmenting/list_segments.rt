@@ -67,9 +67,10 @@ fn places_of<T: Integer>(
     let mut found = Vec::new(alloc);
     for i in 0..ranges.len() {
         let range = ranges[i];
-        range.0.in_hand();
-        range.1.in_hand();
-        found.push((range.0..=range.1, i))?;
+        let (start, end) = range;
+        start.in_hand();
+        end.in_hand();
+        found.push((start..=end, i))?;
     }
     Ok(CanonMapIter::new(found))
 }

@@ -102,12 +102,12 @@ impl<T: Integer, I: EntryEnds<T>> Iterator for KeyRanges<T, I> {
 
     fn next(&mut self) -> Option<RangeInclusive<T>> {
         let (start, mut end) = self.open.take()?;
-        while let Some(ends) = self.entries.next_ends() {
-            if !is_next(end, ends.0) {
-                self.open = Some(ends);
+        while let Some((next_start, next_end)) = self.entries.next_ends() {
+            if !is_next(end, next_start) {
+                self.open = Some((next_start, next_end));
                 return Some(start..=end);
             }
-            end = ends.1;
+            end = next_end;
         }
         Some(start..=end)
     }

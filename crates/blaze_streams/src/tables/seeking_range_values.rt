@@ -82,7 +82,8 @@ impl<'a, T: Integer, V: Eq + Clone> SortedDisjointMap<T, &'a V>
         let table = self.table;
         table.in_hand();
         if let Some(found) = self.entries.next() {
-            self.entries = table.iter_ending_from(greater(found.0, key));
+            let (start, _, _) = found;
+            self.entries = table.iter_ending_from(greater(start, key));
         }
     }
 

@@ -12,7 +12,7 @@ ghost use Rattle.blaze_table.specs.Work.{IsCounted};
 
 use blaze_entries::{Entries, Plan};
 use blaze_int::Integer;
-use blaze_int::compare::{after, is_below};
+use blaze_int::compare::is_below;
 use std::alloc::AllocError;
 
 /// Gives what an entry has above `end` a start of its own, if one goes on there: the entry is moved, or, where it starts below
@@ -34,15 +34,16 @@ pub fn put_rest<T: Integer, V: Drop>(
 {
     match rest {
         None => Ok(()),
-        Some(ends) => {
-            let next = after(end, ends.1);
-            if is_below(ends.0, lo) {
+        Some((start, last)) => {
+            last.in_hand();
+            let next = end.add_one();
+            if is_below(start, lo) {
                 match above {
-                    Some(value) => entries.insert(next, ends.1, value),
+                    Some(value) => entries.insert(next, last, value),
                     None => unreachable!(),
                 }
             } else {
-                entries.move_start(ends.0, next)
+                entries.move_start(start, next)
             }
         }
     }
@@ -99,12 +100,14 @@ fn put_over<T: Integer, V: Eq + Drop>(
             Ok(())
         }
         Some(ends) => {
-            if is_below(lo, ends.0) {
+            let (start, last) = ends;
+            if is_below(lo, start) {
                 put_rest(entries, lo, end, Some(ends), None)?;
                 entries.replace(lo, end, value);
                 Ok(())
             } else {
-                let next = after(end, ends.1);
+                last.in_hand();
+                let next = end.add_one();
                 entries.replace_front(lo, end, value, next)
             }
         }

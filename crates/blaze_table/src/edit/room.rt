@@ -10,7 +10,7 @@ ghost use Rattle.blaze_table.specs.Splice.{before};
 
 use blaze_entries::{Entries, Found};
 use blaze_int::Integer;
-use blaze_int::compare::{after, before as key_before, is_at_most, is_below};
+use blaze_int::compare::{is_at_most, is_below};
 
 /// Whether one entry has all keys from `lo` up to `end`, by the first and last key of the one that goes on above them and of the
 /// one that starts below them: then no other starts in the range.
@@ -19,7 +19,7 @@ pub fn spans<T: Integer>(lo: T, end: T, rest: Option<(T, T)>, left: Option<Found
         (option_map (ends_of T.rank) left) }
 {
     match (rest, left) {
-        (Some(ends), _) => is_at_most(ends.0, lo),
+        (Some((start, _)), _) => is_at_most(start, lo),
         (None, Some(found)) => is_at_most(end, found.end),
         (None, None) => false,
     }
@@ -38,8 +38,8 @@ pub fn trim<T: Integer, V: Eq>(entries: &mut Entries<T, V>, lo: T, left: Option<
     entries.in_hand();
     if let Some(found) = left {
         if is_at_most(lo, found.end) {
-            let end = key_before(lo, found.start);
-            entries.set_end(found.start, end);
+            found.start.in_hand();
+            entries.set_end(found.start, lo.sub_one());
         }
     }
 }
@@ -53,11 +53,12 @@ pub fn clear<T: Integer, V: Drop>(entries: &mut Entries<T, V>, first: T, end: T)
     ensures worked { IsWorked 0 1 entries.old entries.new }
 {
     while let Some(ends) = entries.range_at_or_above(first) {
+        let (start, _) = ends;
         entries.in_hand();
-        if is_below(end, ends.0) {
+        if is_below(end, start) {
             return;
         }
-        entries.remove(ends.0);
+        entries.remove(start);
     }
     entries.in_hand();
 }
@@ -72,6 +73,7 @@ pub fn clear_above<T: Integer, V: Drop>(entries: &mut Entries<T, V>, key: T, end
 {
     entries.in_hand();
     if is_below(key, end) {
-        clear(entries, after(key, end), end);
+        end.in_hand();
+        clear(entries, key.add_one(), end);
     }
 }

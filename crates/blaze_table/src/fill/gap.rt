@@ -9,7 +9,7 @@ ghost use Rattle.blaze_table.specs.Filling.{IsGapEnd, IsNextGap, IsOrdered};
 use crate::search::entries_ending_from;
 use blaze_entries::Entries;
 use blaze_int::Integer;
-use blaze_int::compare::{after, before, is_below, is_next};
+use blaze_int::compare::{is_below, is_next};
 
 /// Keys without a value: the first and the last of them, and whether the value right below them and that right above them are
 /// equal to the one that they are filled with.
@@ -28,7 +28,7 @@ fn before_or_least<T: Integer>(key: T) -> T
 {
     let least = T::min_value();
     if is_below(least, key) {
-        before(key, least)
+        key.sub_one()
     } else {
         key
     }
@@ -44,10 +44,11 @@ fn gap_below<T: Integer>(key: T, equal_below: bool, end: T, next: T, is_equal: b
     ensures above { IsTrue result.equal_above
         ↔ ((T.rank next ≡ T.rank result.end +ℤ pos 1) × IsTrue is_equal) }
 {
+    key.in_hand();
     let last = if is_below(end, next) {
         end
     } else {
-        before(next, key)
+        next.sub_one()
     };
     Gap {
         start: key,
@@ -73,6 +74,7 @@ pub fn first_gap<T: Integer, V: Eq>(
         (λ gap. IsNextGap V.eq (at entries.now.entries) value.now (T.rank start) (T.rank end)
         (T.rank gap.start) (T.rank gap.end) gap.equal_below gap.equal_above) }
 {
+    end.in_hand();
     let mut key = start;
     let mut is_equal = false;
     for (first, last, held) in entries_ending_from(entries, before_or_least(start)) {
@@ -82,7 +84,7 @@ pub fn first_gap<T: Integer, V: Eq>(
         if !is_below(last, end) {
             return None;
         }
-        key = after(last, end);
+        key = last.add_one();
         is_equal = *held == *value;
     }
     Some(Gap {
@@ -108,7 +110,8 @@ pub fn gap_above<T: Integer, V: Eq>(
         (T.rank gap.start) (T.rank gap.end) gap.equal_below gap.equal_above) }
 {
     if is_below(key, end) {
-        first_gap(entries, after(key, end), end, value)
+        end.in_hand();
+        first_gap(entries, key.add_one(), end, value)
     } else {
         None
     }

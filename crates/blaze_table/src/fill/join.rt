@@ -20,10 +20,12 @@ fn join<T: Integer, V: Eq + Drop>(entries: &mut Entries<T, V>, key: T)
 {
     entries.in_hand();
     if let Some(here) = entries.range_at_or_below(key) {
-        if is_at_most(key, here.0) {
+        let (start, end) = here;
+        if is_at_most(key, start) {
             if let Some(below) = entries.range_at_or_below(key.sub_one()) {
+                let (below_start, _) = below;
                 entries.remove(key);
-                entries.set_end(below.0, here.1);
+                entries.set_end(below_start, end);
             }
         }
     }

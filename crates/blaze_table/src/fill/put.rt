@@ -10,7 +10,7 @@ ghost use Rattle.blaze_table.specs.Work.{IsCounted};
 
 use super::gap::{Gap, gap_above};
 use blaze_entries::Entries;
-use blaze_int::compare::{after, length};
+use blaze_int::compare::length;
 use blaze_int::{Integer, SafeLength};
 use std::alloc::{AllocError, Global};
 
@@ -51,8 +51,7 @@ fn note_after<T: Integer>(joints: &mut Vec<T>, key: T, is_joint: bool) -> Result
         (map T.rank joints.new.items)) }
 {
     if is_joint {
-        let next = after(key, T::max_value());
-        joints.push(next)?;
+        joints.push(key.add_one())?;
     }
     Ok(())
 }

@@ -14,10 +14,11 @@ fn follows<T: Integer, V>(last: Option<T>, pair: &(T, T, V)) -> bool
     ensures { IsTrue result ↔ ((first_from T.rank T.low last ≤ℤ T.rank pair.now.0)
         × (T.rank pair.now.0 ≤ℤ T.rank pair.now.1)) }
 {
-    pair.0.in_hand();
+    let (start, end, _) = pair;
+    start.in_hand();
     match last {
-        Some(end) => is_below(end, pair.0) && is_at_most(pair.0, pair.1),
-        None => is_at_most(pair.0, pair.1),
+        Some(last) => is_below(last, *start) && is_at_most(*start, *end),
+        None => is_at_most(*start, *end),
     }
 }
 
@@ -31,7 +32,8 @@ pub(crate) fn is_ascending<T: Integer, V>(pairs: &[(T, T, V)]) -> bool
         if !follows(last, pair) {
             return false;
         }
-        last = Some(pair.1);
+        let (_, end, _) = pair;
+        last = Some(*end);
         rest = others;
     }
     true

@@ -27,8 +27,8 @@ pub(crate) fn held_of<T: Integer, V: Eq + Clone>(
     ensures { IfOk result (λ held. held.items ≡ map kept_value placed.items) }
 {
     let mut held = Vec::new(alloc);
-    for pair in placed {
-        held.push(Held::Kept(pair.3))?;
+    for (_, _, _, value) in placed {
+        held.push(Held::Kept(value))?;
     }
     Ok(held)
 }

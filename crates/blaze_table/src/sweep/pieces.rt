@@ -8,7 +8,7 @@ ghost use Rattle.blaze_table.specs.Pieces.{IsWaiting, KeepsReaching, ArePieces};
 use crate::sweep::push::push_entry;
 use crate::sweep::waiting::{drop_top, top_of};
 use blaze_int::Integer;
-use blaze_int::compare::{after, before, is_at_most, is_below};
+use blaze_int::compare::{is_at_most, is_below};
 use std::alloc::{AllocError, Global};
 use std::collections::BinaryHeap;
 
@@ -33,18 +33,21 @@ fn sweep_to<T: Integer, V>(
         (listed T.rank pieces.new.items)) }
 {
     let mut at = from;
+    to.in_hand();
     while let Some(top) = top_of(waiting) {
-        let pair = &placed[top.1];
-        if is_at_most(to, pair.1) {
-            push_entry(pieces, at, to, top.1)?;
+        let (_, index) = top;
+        let pair = &placed[index];
+        let (_, end, _, _) = pair;
+        if is_at_most(to, *end) {
+            push_entry(pieces, at, to, index)?;
             return Ok(());
         }
         drop_top(waiting, top);
-        if is_below(pair.1, at) {
+        if is_below(*end, at) {
             continue;
         }
-        push_entry(pieces, at, pair.1, top.1)?;
-        at = after(pair.1, to);
+        push_entry(pieces, at, *end, index)?;
+        at = end.add_one();
     }
     Ok(())
 }
@@ -74,7 +77,8 @@ fn advance<T: Integer, V>(
     if is_at_most(start, from) {
         return Ok(());
     }
-    sweep_to(placed, waiting, pieces, from, before(start, from))?;
+    from.in_hand();
+    sweep_to(placed, waiting, pieces, from, start.sub_one())?;
     Ok(())
 }
 
@@ -95,10 +99,10 @@ pub(crate) fn pieces_of<T: Integer, V>(
     let mut i = 0;
     while i < placed.len() {
         let pair = &placed[i];
-        let start = pair.0;
-        advance(placed, &mut waiting, &mut pieces, from, start)?;
-        waiting.push((pair.2, i))?;
-        from = start;
+        let (start, _, place, _) = pair;
+        advance(placed, &mut waiting, &mut pieces, from, *start)?;
+        waiting.push((*place, i))?;
+        from = *start;
         i += 1;
     }
     from.in_hand();

@@ -29,6 +29,6 @@ pub(crate) fn placed_of<T: Integer, V: Eq + Clone>(
         }
         placed.push((start, end, place, value))?;
     }
-    placed.sort_unstable_by_key(|pair| pair.0);
+    placed.sort_unstable_by_key(|(start, _, _, _)| *start);
     Ok(placed)
 }

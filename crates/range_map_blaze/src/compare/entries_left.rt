@@ -8,7 +8,7 @@ ghost use Rattle.blaze_streams.specs.Choosing.{ahead_of};
 ghost use Rattle.blaze_streams.specs.Cursors.{Reaches};
 
 use blaze_int::Integer;
-use blaze_int::compare::{after, is_at_most};
+use blaze_int::compare::is_at_most;
 use blaze_table::{Iter, RangeTable};
 use std::marker::Model;
 
@@ -77,7 +77,8 @@ impl<'a, T: Integer, V: Eq> EntriesLeft<'a, T, V> {
             if is_at_most(hi, end) {
                 self.first = take_first(&mut self.others);
             } else if is_at_most(lo, end) {
-                self.first = Some((after(end, hi), hi, value));
+                hi.in_hand();
+                self.first = Some((end.add_one(), hi, value));
             }
         }
     }

@@ -24,7 +24,8 @@ impl<'a, T: Integer, V> LentPair<'a, T, V> for (T, &'a V) {
     ghost pair = { shown_point T.rank (λ v. v.now) };
 
     fn parts(self) -> (T, T, &'a V) {
-        (self.0, self.0, self.1)
+        let (key, value) = self;
+        (key, key, value)
     }
 }
 
@@ -32,7 +33,8 @@ impl<'a, T: Integer, V> LentPair<'a, T, V> for &'a (T, V) {
     ghost pair = { λ p. shown_point T.rank (λ v. v) p.now };
 
     fn parts(self) -> (T, T, &'a V) {
-        (self.0, self.0, &self.1)
+        let (key, value) = self;
+        (*key, *key, value)
     }
 }
 
@@ -40,7 +42,8 @@ impl<'a, T: Integer, V> LentPair<'a, T, V> for &'a (T, &'a V) {
     ghost pair = { λ p. shown_point T.rank (λ v. v.now) p.now };
 
     fn parts(self) -> (T, T, &'a V) {
-        (self.0, self.0, self.1)
+        let (key, value) = self;
+        (*key, *key, *value)
     }
 }
 
@@ -58,7 +61,8 @@ impl<'a, T: Integer, V> LentPair<'a, T, V> for &'a (RangeInclusive<T>, V) {
     ghost pair = { λ p. shown_range T.rank (λ v. v) p.now };
 
     fn parts(self) -> (T, T, &'a V) {
-        (*self.0.start(), *self.0.end(), &self.1)
+        let (range, value) = self;
+        (*range.start(), *range.end(), value)
     }
 }
 
@@ -66,7 +70,8 @@ impl<'a, T: Integer, V> LentPair<'a, T, V> for &'a (RangeInclusive<T>, &'a V) {
     ghost pair = { λ p. shown_range T.rank (λ v. v.now) p.now };
 
     fn parts(self) -> (T, T, &'a V) {
-        (*self.0.start(), *self.0.end(), self.1)
+        let (range, value) = self;
+        (*range.start(), *range.end(), *value)
     }
 }
 

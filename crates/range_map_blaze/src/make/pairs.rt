@@ -25,7 +25,8 @@ impl<T: Integer, V: Drop> Pair<T, V> for (T, V) {
     ghost pair = { shown_point T.rank (λ v. v) };
 
     fn parts(self) -> (T, T, V) {
-        (self.0, self.0, self.1)
+        let (key, value) = self;
+        (key, key, value)
     }
 }
 

@@ -25,7 +25,9 @@ fn are_joinable<T: Integer, V: Eq>(pair: &(T, T, V), next: &(T, T, V)) -> bool
     ensures { result ≡ are_one_pair V.eq (shown_entry T.rank (λ v. v) pair.now)
         (shown_entry T.rank (λ v. v) next.now) }
 {
-    reaches(pair.1, next.0) && reaches(next.1, pair.0) && pair.2 == next.2
+    let (start, end, value) = pair;
+    let (next_start, next_end, next_value) = next;
+    reaches(*end, *next_start) && reaches(*next_end, *start) && *value == *next_value
 }
 
 // One pair from the lesser start to the greater end, with the value of the first.
@@ -33,17 +35,19 @@ fn join<T: Integer, V: Drop>(pair: (T, T, V), next: (T, T, V)) -> (T, T, V)
     ensures { shown_entry T.rank (λ v. v) result
         ≡ joined_pair (shown_entry T.rank (λ v. v) pair) (shown_entry T.rank (λ v. v) next) }
 {
-    let start = if is_below(next.0, pair.0) {
-        next.0
+    let (start, end, value) = pair;
+    let (next_start, next_end, _) = next;
+    let start = if is_below(next_start, start) {
+        next_start
     } else {
-        pair.0
+        start
     };
-    let end = if is_below(pair.1, next.1) {
-        next.1
+    let end = if is_below(end, next_end) {
+        next_end
     } else {
-        pair.1
+        end
     };
-    (start, end, pair.2)
+    (start, end, value)
 }
 
 impl<T: Integer, V: Eq + Clone> RangeMapBlaze<T, V> {
@@ -55,8 +59,9 @@ impl<T: Integer, V: Eq + Clone> RangeMapBlaze<T, V> {
         ensures err { OnErr result (self.new.entries ≡ self.old.entries) }
     {
         self.in_hand();
-        if is_at_most(pair.0, pair.1) {
-            let _ = self.table.paint(pair.0, pair.1, pair.2)?;
+        let (start, end, value) = pair;
+        if is_at_most(start, end) {
+            let _ = self.table.paint(start, end, value)?;
         }
         Ok(())
     }
@@ -93,7 +98,8 @@ impl<T: Integer, V: Eq + Clone> RangeMapBlaze<T, V> {
         ensures ended { T.rank next.1 <ℤ T.rank next.0 → IfOk result (λ left. left ≡ None) }
         ensures err { OnErr result (self.new.entries ≡ self.old.entries) }
     {
-        if is_below(next.1, next.0) {
+        let (start, end, _) = &next;
+        if is_below(*end, *start) {
             self.paint_pending(pending)?;
             return Ok(None);
         }

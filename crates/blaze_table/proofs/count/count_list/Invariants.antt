@@ -5,7 +5,7 @@ use Rattle.blaze_table.specs.Listed.{listed}
 use Rattle.blaze_table.proofs.count.count_list.Given as goal
 
 -- the sum is that of the entries so far
-abbrev pub invariant-loop-entry : goal.invariant-loop-entry
-invariant-loop-entry g l =
-    let left = listed g.T.Integer.rank (drop l.entry-index l.entries) in
+abbrev pub invariant-loop-start : goal.invariant-loop-start
+invariant-loop-start g l =
+    let left = listed g.T.Integer.rank (drop l.start-index l.entries) in
     IsCanonical g.V.PartialEq.eq left × (pos (g.T.SafeLen.SafeLength.number l.sum) +ℤ keys_in left ≡ keys_in (listed g.T.Integer.rank l.entries))

@@ -32,12 +32,12 @@ loop-end-preserved g c =
     let i = c.loop-end.invariant in
     let less = lt_holds (rank c.loop-end.key) (rank c.args.end) (sym c.is_below.ensures ∙ c.loop-end-test.true) in
     record {
-      from = omega (arith, ints, i.from, c.after-key.ensures);
-      to = omega (arith, ints, less, c.after-key.ensures);
-      kept = more_next (AnswersAtPair g.F.Fn) c.args.f.now rank g.V.PartialEq.eq g.T.Integer.low g.T.Integer.high g.T.Integer.of_rank (rank c.args.start) (rank c.loop-end.key) (rank c.after-key.result) c.args.value.now _ _ _
-          i.from c.after-key.ensures i.kept c.in_ok-left.ensures.kept;
-      room = omega (arith, ints, i.room, c.after-key.ensures, c.in_ok-left.ensures.room);
-      counted = omega (arith, ints, i.counted, c.in_ok-left.ensures.counted, c.after-key.ensures);
+      from = omega (arith, ints, i.from, c.add_one-key.ensures);
+      to = omega (arith, ints, less, c.add_one-key.ensures);
+      kept = more_next (AnswersAtPair g.F.Fn) c.args.f.now rank g.V.PartialEq.eq g.T.Integer.low g.T.Integer.high g.T.Integer.of_rank (rank c.args.start) (rank c.loop-end.key) (rank c.add_one-key.result) c.args.value.now _ _ _
+          i.from c.add_one-key.ensures i.kept c.in_ok-left.ensures.kept;
+      room = omega (arith, ints, i.room, c.add_one-key.ensures, c.in_ok-left.ensures.room);
+      counted = omega (arith, ints, i.counted, c.in_ok-left.ensures.counted, c.add_one-key.ensures);
     }
 
 pub returns-clause-kept : goal.returns-clause-kept

@@ -1,4 +1,5 @@
-use Rattle.std.proofs.Common.{◌∙◌, ap}
+use Rattle.std.proofs.Common.{◌<ℤ◌, ◌∙◌, ap, arith}
+use Rattle.std.proofs.lemmas.Int.{ints}
 use Rattle.blaze_entries.specs.Counted.{CountedEntries}
 use Rattle.blaze_entries.specs.Starts.{with_end}
 use Rattle.blaze_table.proofs.Neighbours.Holders.{holder, present, absent_inside}
@@ -16,9 +17,11 @@ insert_clone-requires-clause-absent g c =
     let h = holder eq k g.T.Integer.high c.args.entries.now.entries g.T.Integer.low _ _ c.in_hand.ensures c.requires.canonical c.requires.found in
     absent_inside eq k g.T.Integer.high c.args.entries.now.entries _ _ h k (starts_under eq g.met.V.Eq.laws k g.T.Integer.high c.args.entries.now.entries _ _ h) c.requires.reaches
 
-pub before-requires : goal.before-requires
-before-requires g c =
-    starts_under g.V.PartialEq.eq g.met.V.Eq.laws _ g.T.Integer.high _ _ _ (holder g.V.PartialEq.eq _ g.T.Integer.high _ g.T.Integer.low _ _ c.in_hand.ensures c.requires.canonical c.requires.found)
+pub sub_one-requires : goal.sub_one-requires
+sub_one-requires g c =
+    let under : g.T.Integer.rank c.args.ends.0 <ℤ g.T.Integer.rank c.args.key =
+    starts_under g.V.PartialEq.eq g.met.V.Eq.laws _ g.T.Integer.high _ _ _ (holder g.V.PartialEq.eq _ g.T.Integer.high _ g.T.Integer.low _ _ c.in_hand.ensures c.requires.canonical c.requires.found) in
+    omega (arith, ints, under, c.in_hand-2.ensures.from)
 
 pub remove_uncounted-requires : goal.remove_uncounted-requires
 remove_uncounted-requires g c =
@@ -33,9 +36,9 @@ returns-in-Ok-clause-split g c =
     let k = rank c.args.key in
     let es = c.args.entries.now.entries in
     split_inside eq g.met.V.Eq.laws k g.T.Integer.high es _ _ (holder eq k g.T.Integer.high es g.T.Integer.low _ _ c.in_hand.ensures c.requires.canonical c.requires.found)
-    g.V.Clone.is_clone c.requires.clones c.requires.reaches (rank c.before-in-Ok.result) c.insert_clone.new.self.entries c.set_end.new.self.entries c.in-Ok.from.entries c.before-in-Ok.ensures
+    g.V.Clone.is_clone c.requires.clones c.requires.reaches (rank c.sub_one.result) c.insert_clone.new.self.entries c.set_end.new.self.entries c.in-Ok.from.entries (omega (arith, ints, c.sub_one.ensures))
     c.in_ok-insert_clone.ensures.ok
-    (ap (λ (s : CountedEntries g.row.V.Denot). s.entries) c.set_end.ensures ∙ ap (λ (s : CountedEntries g.row.V.Denot). with_end (rank c.args.ends.0) (rank c.before-in-Ok.result) s.entries) c.in-Ok.ensures.below)
+    (ap (λ (s : CountedEntries g.row.V.Denot). s.entries) c.set_end.ensures ∙ ap (λ (s : CountedEntries g.row.V.Denot). with_end (rank c.args.ends.0) (rank c.sub_one.result) s.entries) c.in-Ok.ensures.below)
     (ap (λ (s : CountedEntries g.row.V.Denot). s.entries) c.in-Ok.ensures.from)
 
 pub returns-in-Err-clause-err : goal.returns-in-Err-clause-err

@@ -1,4 +1,4 @@
-use Rattle.std.proofs.Common.{◌≡◌, ◌-◌, length, ◌∙◌, subst}
+use Rattle.std.proofs.Common.{◌≡◌, ◌-◌, length, subst}
 use Rattle.std.specs.List.{slice_get}
 use Rattle.std.specs.Option.{option_map}
 use Rattle.blaze_entries.specs.Counted.{CountedEntries}

@@ -12,7 +12,7 @@ take-requires-clause-has g c =
     let eqb = g.VCO.Value.PartialEq.eq in
     has_end eqa eqb _ _ c.args.cursor.now c.args.other.now (rank c.match-bound.end) c.in-Some.ensures.ends (elim c.match-bound.branch [
       | in-None w ↦ end_whole eqa eqb _ _ _ _ _ c.range.ensures.canonical c.in-Some.ensures.ends (sym (ap (option_map rank) w.in-None.is) ∙ c.first-bound.ensures.first) (ap rank w.end-is)
-      | in-Some-bound+else-is_at_most w ↦ end_bounded eqa eqb _ _ _ _ _ _ _ c.range.ensures.canonical c.in-Some.ensures.ends w.in-Some-bound.ensures.first (le_fails _ _ (sym w.is_at_most.ensures ∙ w.if-is_at_most.false)) w.before-in-Some-bound.ensures (ap rank w.end-is ∙ w.lesser-end.ensures)
+      | in-Some-bound+else-is_at_most w ↦ end_bounded eqa eqb _ _ _ _ _ _ _ c.range.ensures.canonical c.in-Some.ensures.ends w.in-Some-bound.ensures.first (le_fails _ _ (sym w.is_at_most.ensures ∙ w.if-is_at_most.false)) w.sub_one.ensures (ap rank w.end-is ∙ w.lesser-end.ensures)
     ])
 
 pub returns-clause-taken : goal.returns-clause-taken
@@ -22,5 +22,5 @@ returns-clause-taken g c =
     let eqb = g.VCO.Value.PartialEq.eq in
     taken_alone eqa eqb _ _ c.args.cursor.now c.take.new.self c.args.other.now (rank c.match-bound.end) _ c.range.ensures.canonical c.first-bound.ensures.canonical c.in-Some.ensures.ends (elim c.match-bound.branch [
       | in-None w ↦ end_whole eqa eqb _ _ _ _ _ c.range.ensures.canonical c.in-Some.ensures.ends (sym (ap (option_map rank) w.in-None.is) ∙ c.first-bound.ensures.first) (ap rank w.end-is)
-      | in-Some-bound+else-is_at_most w ↦ end_bounded eqa eqb _ _ _ _ _ _ _ c.range.ensures.canonical c.in-Some.ensures.ends w.in-Some-bound.ensures.first (le_fails _ _ (sym w.is_at_most.ensures ∙ w.if-is_at_most.false)) w.before-in-Some-bound.ensures (ap rank w.end-is ∙ w.lesser-end.ensures)
+      | in-Some-bound+else-is_at_most w ↦ end_bounded eqa eqb _ _ _ _ _ _ _ c.range.ensures.canonical c.in-Some.ensures.ends w.in-Some-bound.ensures.first (le_fails _ _ (sym w.is_at_most.ensures ∙ w.if-is_at_most.false)) w.sub_one.ensures (ap rank w.end-is ∙ w.lesser-end.ensures)
     ]) c.in_ok-carrier.ensures.carrier c.take.ensures.rest

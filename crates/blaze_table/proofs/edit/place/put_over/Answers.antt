@@ -58,4 +58,4 @@ returns-else-is_below-clause-ok g c =
     let rest = subst (λ o. IsRest end es (option_map (ranks_of rank) o)) c.in-Some.is c.requires.rest in
     let under = lt_fails lo (rank ends.0) (sym c.is_below.ensures ∙ c.if-is_below.false) in
     on_ok_weaker c.replace_front.result (λ w. over_front eq g.met.V.Eq.laws lo end c.args.value c.requires.order es c.requires.present (rank ends.0) (rank ends.1) c.replace_front.new.self.entries c.requires.canonical
-    under rest (subst (λ n. IsFrontReplaced lo end c.args.value n es c.replace_front.new.self.entries) c.after-next.ensures w)) c.replace_front.ensures.ok
+    under rest (subst (λ n. IsFrontReplaced lo end c.args.value n es c.replace_front.new.self.entries) c.add_one-next.ensures w)) c.replace_front.ensures.ok

@@ -7,7 +7,7 @@ use Rattle.blaze_table.proofs.edit.room.clear_above.Goals as goal
 
 pub returns-then-is_below-clause-entries : goal.returns-then-is_below-clause-entries
 returns-then-is_below-clause-entries g c =
-    c.clear.ensures.entries ∙ ap (λ x. below x c.args.entries.now.entries ++ from (g.T.Integer.rank c.args.end +ℤ pos 1) c.args.entries.now.entries) c.after.ensures
+    c.clear.ensures.entries ∙ ap (λ x. below x c.args.entries.now.entries ++ from (g.T.Integer.rank c.args.end +ℤ pos 1) c.args.entries.now.entries) c.add_one.ensures
 
 pub returns-else-is_below-clause-entries : goal.returns-else-is_below-clause-entries
 returns-else-is_below-clause-entries g c =

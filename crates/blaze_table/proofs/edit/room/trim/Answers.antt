@@ -1,4 +1,5 @@
-use Rattle.std.proofs.Common.{◌++◌, ap, subst, sym, ◌∙◌}
+use Rattle.std.proofs.Common.{◌++◌, ◌<ℤ◌, ap, subst, sym, ◌∙◌, arith}
+use Rattle.std.proofs.lemmas.Int.{ints}
 use Rattle.std.specs.Option.{option_map}
 use Rattle.blaze_int.proofs.Comparisons.{le_holds, le_fails}
 use Rattle.blaze_entries.specs.Counted.{CountedEntries}
@@ -11,12 +12,14 @@ use Rattle.blaze_table.proofs.Neighbours.Growing.{trim_short, trim_long, trim_st
 use Rattle.blaze_table.proofs.Walks.Worked.{worked_none, worked_edited}
 use Rattle.blaze_table.proofs.edit.room.trim.Goals as goal
 
-pub before-end-requires : goal.before-end-requires
-before-end-requires g c =
+pub sub_one-requires : goal.sub_one-requires
+sub_one-requires g c =
     let rank = g.T.Integer.rank in
     let es = c.args.entries.now.entries in
+    let under : rank c.in-Some.found.start <ℤ rank c.args.lo =
     trim_starts g.V.PartialEq.eq (rank c.args.lo) g.T.Integer.low g.T.Integer.high es c.in_hand.ensures c.requires.canonical _ _
-    (subst (λ o. IsLeft (rank c.args.lo) (below (rank c.args.lo) es) (option_map (ends_of rank) o)) c.in-Some.is c.requires.left)
+    (subst (λ o. IsLeft (rank c.args.lo) (below (rank c.args.lo) es) (option_map (ends_of rank) o)) c.in-Some.is c.requires.left) in
+    omega (arith, ints, under, c.in_hand-then-is_at_most.ensures.from)
 
 pub returns-then-is_at_most-clause-entries : goal.returns-then-is_at_most-clause-entries
 returns-then-is_at_most-clause-entries g c =
@@ -24,12 +27,12 @@ returns-then-is_at_most-clause-entries g c =
     let es = c.args.entries.now.entries in
     ap (λ (s : CountedEntries g.row.V.Denot). s.entries) c.set_end.ensures
     ∙ trim_long g.V.PartialEq.eq (rank c.args.lo) g.T.Integer.low g.T.Integer.high es c.in_hand.ensures c.requires.canonical _ _
-    (subst (λ o. IsLeft (rank c.args.lo) (below (rank c.args.lo) es) (option_map (ends_of rank) o)) c.in-Some.is c.requires.left) (rank c.before-end.result) c.before-end.ensures (le_holds _ _ (sym c.is_at_most.ensures ∙ c.if-is_at_most.true))
+    (subst (λ o. IsLeft (rank c.args.lo) (below (rank c.args.lo) es) (option_map (ends_of rank) o)) c.in-Some.is c.requires.left) (rank c.sub_one.result) (omega (arith, ints, c.sub_one.ensures)) (le_holds _ _ (sym c.is_at_most.ensures ∙ c.if-is_at_most.true))
 
 pub returns-then-is_at_most-clause-worked : goal.returns-then-is_at_most-clause-worked
 returns-then-is_at_most-clause-worked g c =
     worked_edited 0 0 c.args.entries.now c.args.entries.now c.set_end.new.self _ (worked_none 0 0 c.args.entries.now) c.set_end.ensures
-    (length-with_end (g.T.Integer.rank c.in-Some.found.start) (g.T.Integer.rank c.before-end.result) c.args.entries.now.entries)
+    (length-with_end (g.T.Integer.rank c.in-Some.found.start) (g.T.Integer.rank c.sub_one.result) c.args.entries.now.entries)
 
 pub returns-else-is_at_most-clause-entries : goal.returns-else-is_at_most-clause-entries
 returns-else-is_at_most-clause-entries g c =

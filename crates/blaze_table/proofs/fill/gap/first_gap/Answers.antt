@@ -48,6 +48,12 @@ returns-then-not-is_below g c =
     let reaches : rank c.args.end ≤ℤ rank c.in-Some.last = grind (arith, ints, c.is_below-in-loop-first.ensures, c.if-not-is_below.true) in
     walked_held eq v content (rank c.args.start) key c.loop-first.is_equal e c.next.new.self w near (rank c.args.end) reaches
 
+pub add_one-key-requires : goal.add_one-key-requires
+add_one-key-requires g c =
+    let rank = g.T.Integer.rank in
+    let less : rank c.in-Some.last <ℤ rank c.args.end = grind (arith, ints, c.is_below-in-loop-first.ensures, c.if-not-is_below.false) in
+    omega (arith, ints, less, c.in_hand.ensures.to)
+
 pub loop-first-preserved : goal.loop-first-preserved
 loop-first-preserved g c =
     let rank = g.T.Integer.rank in
@@ -61,8 +67,8 @@ loop-first-preserved g c =
     let less : rank c.in-Some.last <ℤ rank c.args.end = grind (arith, ints, c.is_below-in-loop-first.ensures, c.if-not-is_below.false) in (
       tt,
       tt,
-      omega (arith, ints, less, c.after-key.ensures),
-      walked_next eq v content (rank c.args.start) key c.loop-first.is_equal e c.next.new.self w near (rank c.after-key.result) c.eq-is_equal.result c.after-key.ensures c.eq-is_equal.ensures,
+      omega (arith, ints, less, c.add_one-key.ensures),
+      walked_next eq v content (rank c.args.start) key c.loop-first.is_equal e c.next.new.self w near (rank c.add_one-key.result) c.eq-is_equal.result c.add_one-key.ensures c.eq-is_equal.ensures,
     )
 
 pub returns : goal.returns

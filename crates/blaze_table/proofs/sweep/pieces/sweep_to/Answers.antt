@@ -24,8 +24,8 @@ returns-then-is_at_most-clause-made g c =
     let waits = heap_items c.loop-top.waiting in
     let placed = c.args.placed.now in
     let top = c.in-Some.ensures in
-    let pair = c.index-placed-top.result in
-    let is = top_read rank placed at to waits i.waits c.in-Some.top pair top.top c.index-placed-top.is in
+    let pair = c.index-placed-index.result in
+    let is = top_read rank placed at to waits i.waits c.in-Some.top pair top.top c.index-placed-index.is in
     pieces_to rank placed g.T.Integer.low at to i.order waits i.waits (listed rank c.loop-top.pieces.items) i.made c.in-Some.top pair top.top top.greatest is
     to i.order (omega (arith, ints)) (le_holds _ _ (sym c.is_at_most.ensures ∙ c.if-is_at_most.true)) (listed rank c.push_entry.new.out.items) c.in_ok-push_entry.ensures.ok
 
@@ -38,8 +38,8 @@ loop-top-preserved-then-is_below g c =
     let waits = heap_items c.loop-top.waiting in
     let placed = c.args.placed.now in
     let top = c.in-Some.ensures in
-    let pair = c.index-placed-top.result in
-    let is = top_read rank placed at to waits i.waits c.in-Some.top pair top.top c.index-placed-top.is in
+    let pair = c.index-placed-index.result in
+    let is = top_read rank placed at to waits i.waits c.in-Some.top pair top.top c.index-placed-index.is in
     record {
       order = i.order;
       heap = c.drop_top.ensures.heap;
@@ -56,13 +56,13 @@ loop-top-preserved g c =
     let waits = heap_items c.loop-top.waiting in
     let placed = c.args.placed.now in
     let top = c.in-Some.ensures in
-    let pair = c.index-placed-top.result in
-    let is = top_read rank placed at to waits i.waits c.in-Some.top pair top.top c.index-placed-top.is in
-    let next = rank c.after-at.result in
+    let pair = c.index-placed-index.result in
+    let is = top_read rank placed at to waits i.waits c.in-Some.top pair top.top c.index-placed-index.is in
+    let next = rank c.add_one-at.result in
     let e = rank pair.1 in
     let h : at ≤ℤ e = lt_fails _ _ (sym c.is_below.ensures ∙ c.if-is_below.false) in
     let u : e <ℤ to = le_fails _ _ (sym c.is_at_most.ensures ∙ c.if-is_at_most.false) in
-    let step : next ≡ e +ℤ pos 1 = c.after-at.ensures in
+    let step : next ≡ e +ℤ pos 1 = c.add_one-at.ensures in
     let l : at ≤ℤ next = step_up at e next h step in
     record {
       order = step_to e to next u step;

@@ -4,7 +4,6 @@ use Rattle.std.proofs.lemmas.Iterator.Adapters.{YieldsList-from_vec}
 use Rattle.std.proofs.lemmas.List.{map-id}
 use Rattle.blaze_table.specs.CanonicalOf.{IsCanonicalOf}
 use Rattle.range_map_blaze.specs.Extended.{shown_point}
-use Rattle.range_map_blaze.specs.Made.{IsMade}
 use Rattle.range_map_blaze.proofs.map.RangeMapBlaze.from_array.Goals as goal
 
 pub returns : goal.returns

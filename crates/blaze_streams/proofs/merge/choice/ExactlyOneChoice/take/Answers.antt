@@ -15,7 +15,7 @@ returns-in-Some-clause-taken g c =
 pub returns-clause-taken : goal.returns-clause-taken
 returns-clause-taken g c =
     let none = MatchOption-at_none _ _ c.in_default.is c.in_ok-piece.ensures.taken in
-    let none' = MatchOption-at_none _ _ c.in_default-2.is c.in_ok-piece-2.ensures.taken in
+    let none' = MatchOption-at_none _ _ c.in_default-2.is c.in_ok-start.ensures.taken in
     both_skipped g.VC.Value.PartialEq.eq c.args.left.now c.advance_in_first.new.self c.args.right.now c.advance_in_first-2.new.self _ _ _ _ _ c.take_before.ensures.cursor c.take_before.ensures.other c.lesser-end.ensures
     none.1 (subst (λ l. lesser (first_key l) (first_key c.args.right.now) ≡ first_key l) none.0 none'.1)
     (c.in-Some-Some.ensures.ends ∙ ap (λ l. option_map range_in (first_entry l)) none.0) (c.in-Some-Some.ensures'.ends ∙ ap (λ l. option_map range_in (first_entry l)) none'.0)
