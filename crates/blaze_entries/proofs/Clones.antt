@@ -4,7 +4,7 @@ use Rattle.std.specs.Prelude.{map}
 use Rattle.std.specs.List.{AllZip}
 use Rattle.blaze_entries.specs.Cloned.{AreCloned}
 use Rattle.blaze_entries.specs.Entries.{Entry, entry}
-use Rattle.blaze_entries.specs.Nodes.{nodes_as_entries, node_as_entry, held, full, AreHeld}
+use Rattle.blaze_entries.specs.Nodes.{shown_nodes, shown_node, held, full, AreHeld}
 use Rattle.blaze_entries.specs.Starts.{StartsAscend}
 use Rattle.blaze_entries.specs.declared.nodes.EndValue.{EndValue}
 use Rattle.blaze_entries.proofs.Held.{are_held, full-held}
@@ -26,27 +26,27 @@ module _ {T V : Type 0} (rank : T → ℤ) (is_clone : V → V → Type 0) (opti
 
   record Copies (es : List (Entry V)) (ms : List (T × EndValue T (Option V))) : Type 0 where
     copies : List (Entry V)
-    are : nodes_as_entries rank ms ≡ map held copies
+    are : shown_nodes rank ms ≡ map held copies
     cloned : AreCloned is_clone es copies
 
-  copies_of : (ns ms : List (T × EndValue T (Option V))) (es : List (Entry V)) → nodes_as_entries rank ns ≡ map held es → AllZip IsNodeCloned ns ms → Copies es ms
+  copies_of : (ns ms : List (T × EndValue T (Option V))) (es : List (Entry V)) → shown_nodes rank ns ≡ map held es → AllZip IsNodeCloned ns ms → Copies es ms
   copies_of [] [] [] q z = record { copies = []; are = refl; cloned = tt }
   copies_of [] [] (e ∷ es) q z = cc
   copies_of [] (m ∷ ms) es q z = elim z [ ]
   copies_of (n ∷ ns) [] es q z = elim z [ ]
   copies_of (n ∷ ns) (m ∷ ms) [] q z = cc
   copies_of (n ∷ ns) (m ∷ ms) (e ∷ es) q z =
-      let head : node_as_entry rank n ≡ held e = cc in
-      let tail : nodes_as_entries rank ns ≡ map held es = cc in
+      let head : shown_node rank n ≡ held e = cc in
+      let tail : shown_nodes rank ns ≡ map held es = cc in
       let value = cloned_to e.value m.1.value (subst (λ o. optional o m.1.value) (ap (λ x. x.value) head) z.0.1.1) in
       let rest = copies_of ns ms es tail z.1 in
       let lo : rank m.0 ≡ e.lo = ap rank z.0.0 ∙ ap (λ x. x.lo) head in
       let hi : rank m.1.end ≡ e.hi = ap rank z.0.1.0 ∙ ap (λ x. x.hi) head in
       record {
         copies = entry e.lo e.hi value.copy ∷ rest.copies;
-        are = ap (λ l. entry l (rank m.1.end) m.1.value ∷ nodes_as_entries rank ms) lo
-            ∙ ap (λ h. entry e.lo h m.1.value ∷ nodes_as_entries rank ms) hi
-            ∙ ap (λ v. entry e.lo e.hi v ∷ nodes_as_entries rank ms) value.is
+        are = ap (λ l. entry l (rank m.1.end) m.1.value ∷ shown_nodes rank ms) lo
+            ∙ ap (λ h. entry e.lo h m.1.value ∷ shown_nodes rank ms) hi
+            ∙ ap (λ v. entry e.lo e.hi v ∷ shown_nodes rank ms) value.is
             ∙ ap (λ ps. entry e.lo e.hi (Some value.copy) ∷ ps) rest.are;
         cloned = ((refl, refl, value.like), rest.cloned);
       }
@@ -62,12 +62,12 @@ module _ {T V : Type 0} (rank : T → ℤ) (is_clone : V → V → Type 0) (opti
   )
 
   -- the nodes of the clone are full and ascend too, and its entries are clones
-  pub cloned_held : (low high : ℤ) (ns ms : List (T × EndValue T (Option V))) → AreHeld low high (nodes_as_entries rank ns) → AllZip IsNodeCloned ns ms → AreHeld low high (nodes_as_entries rank ms)
+  pub cloned_held : (low high : ℤ) (ns ms : List (T × EndValue T (Option V))) → AreHeld low high (shown_nodes rank ns) → AllZip IsNodeCloned ns ms → AreHeld low high (shown_nodes rank ms)
   cloned_held low high ns ms h z =
-      let c = copies_of ns ms (full (nodes_as_entries rank ns)) h.full.held z in
-      are_held low high (nodes_as_entries rank ms) c.copies c.are (copies_ascend low high (full (nodes_as_entries rank ns)) c.copies c.cloned h.ascend)
+      let c = copies_of ns ms (full (shown_nodes rank ns)) h.full.held z in
+      are_held low high (shown_nodes rank ms) c.copies c.are (copies_ascend low high (full (shown_nodes rank ns)) c.copies c.cloned h.ascend)
 
-  pub cloned_entries : (low high : ℤ) (ns ms : List (T × EndValue T (Option V))) → AreHeld low high (nodes_as_entries rank ns) → AllZip IsNodeCloned ns ms → AreCloned is_clone (full (nodes_as_entries rank ns)) (full (nodes_as_entries rank ms))
+  pub cloned_entries : (low high : ℤ) (ns ms : List (T × EndValue T (Option V))) → AreHeld low high (shown_nodes rank ns) → AllZip IsNodeCloned ns ms → AreCloned is_clone (full (shown_nodes rank ns)) (full (shown_nodes rank ms))
   cloned_entries low high ns ms h z =
-      let c = copies_of ns ms (full (nodes_as_entries rank ns)) h.full.held z in
-      subst (AreCloned is_clone (full (nodes_as_entries rank ns))) (sym (ap full c.are ∙ full-held c.copies)) c.cloned
+      let c = copies_of ns ms (full (shown_nodes rank ns)) h.full.held z in
+      subst (AreCloned is_clone (full (shown_nodes rank ns))) (sym (ap full c.are ∙ full-held c.copies)) c.cloned

@@ -14,7 +14,7 @@ use Rattle.std.proofs.lemmas.Int.{ints}
 use Rattle.std.proofs.lemmas.Map.Keys.{IsDistinct-from_sorted}
 use Rattle.std.proofs.lemmas.Map.Made.{update_all_none}
 use Rattle.blaze_entries.specs.Entries.{Entry, shown_entry}
-use Rattle.blaze_entries.specs.Nodes.{nodes_as_entries, node_as_entry_at, held, node_of}
+use Rattle.blaze_entries.specs.Nodes.{shown_nodes, shown_node_at, held, node_of}
 use Rattle.blaze_entries.specs.Starts.{StartsAscend, start_at}
 use Rattle.blaze_entries.specs.declared.nodes.EndValue.{EndValue}
 use Rattle.blaze_entries.proofs.Ascending.{by_order, start_none}
@@ -83,7 +83,7 @@ ranks_total rank = record {
 
 module _ {T V : Type 0} (rank : T → ℤ) where
   -- starts that ascend are in the order of ranks, and the other way round
-  starts_sorted : (b high : ℤ) (xs : List (T × EndValue T V)) → StartsAscend b high (nodes_as_entries rank xs) → IsStrictlySortedBy (on rank int_cmp) (keys_of xs)
+  starts_sorted : (b high : ℤ) (xs : List (T × EndValue T V)) → StartsAscend b high (shown_nodes rank xs) → IsStrictlySortedBy (on rank int_cmp) (keys_of xs)
   unfolding IsStrictlySortedBy
   starts_sorted b high [] a = tt
   starts_sorted b high (x ∷ xs) a = (
@@ -91,7 +91,7 @@ module _ {T V : Type 0} (rank : T → ℤ) where
     starts_sorted (rank x.0 +ℤ pos 1) high xs a.2,
   )
     where
-      all_later : (x : T × EndValue T V) (c : ℤ) → rank x.0 <ℤ c → (ys : List (T × EndValue T V)) → StartsAscend c high (nodes_as_entries rank ys) → AllByRecursion (λ y. on rank int_cmp x.0 y ≡ Less) (keys_of ys)
+      all_later : (x : T × EndValue T V) (c : ℤ) → rank x.0 <ℤ c → (ys : List (T × EndValue T V)) → StartsAscend c high (shown_nodes rank ys) → AllByRecursion (λ y. on rank int_cmp x.0 y ≡ Less) (keys_of ys)
       all_later x c u [] a = tt
       all_later x c u (y ∷ ys) a = (
         sym (int_cmp_is (rank x.0) (rank y.0) Less (omega (arith, ints, a.0))),
@@ -111,7 +111,7 @@ module _ {T V : Type 0} (rank : T → ℤ) where
       (λ o p e. let less = less_says r (rank y.0) s.0 in omega (arith, ints))
       (λ o p e. above r q ys s.1 (rw e at i))
 
-  sorted_starts : (b high : ℤ) (xs : List (T × EndValue T V)) → IsStrictlySortedBy (on rank int_cmp) (keys_of xs) → ((q : T) → HasStart xs q → b ≤ℤ rank q) → ((q : T) → HasStart xs q → rank q ≤ℤ high) → StartsAscend b high (nodes_as_entries rank xs)
+  sorted_starts : (b high : ℤ) (xs : List (T × EndValue T V)) → IsStrictlySortedBy (on rank int_cmp) (keys_of xs) → ((q : T) → HasStart xs q → b ≤ℤ rank q) → ((q : T) → HasStart xs q → rank q ≤ℤ high) → StartsAscend b high (shown_nodes rank xs)
   unfolding IsStrictlySortedBy
   sorted_starts b high [] s f t = tt
   sorted_starts b high (x ∷ xs) s f t = (
@@ -120,24 +120,24 @@ module _ {T V : Type 0} (rank : T → ℤ) where
     sorted_starts (rank x.0 +ℤ pos 1) high xs s.1 (λ q i. above (rank x.0) q xs s.0 i) (λ q i. t q (some_later (is_at (on rank int_cmp q) x.0) x.1 _ i)),
   )
 
-  module _ (low high : ℤ) (xs : List (T × EndValue T V)) (n : BTreeMap T (EndValue T V)) (a : StartsAscend low high (nodes_as_entries rank xs)) (made : IsFromIterResult (on rank int_cmp) xs n) where
+  module _ (low high : ℤ) (xs : List (T × EndValue T V)) (n : BTreeMap T (EndValue T V)) (a : StartsAscend low high (shown_nodes rank xs)) (made : IsFromIterResult (on rank int_cmp) xs n) where
     found : (q : T) → lookup (is_at (on rank int_cmp q)) n.entries ≡ lookup (is_at (on rank int_cmp q)) xs
     found q = made.0 q ∙ update_all_none (eq_by_cmp_equiv (ranks_total rank)) (eq_by_cmp (on rank int_cmp)) (λ x y. refl) xs q (IsDistinct-from_sorted (on rank int_cmp) (keys_of xs) (starts_sorted low high xs a))
 
     within : (q : T) → HasStart n.entries q → (low ≤ℤ rank q) × (rank q ≤ℤ high)
-    within q i = start_within (rank q) low high (nodes_as_entries rank xs) a
-        (subst (λ o. IsSome o) (as_entries_lookup rank q xs) (some_mapped (node_as_entry_at rank q) (lookup (is_at (on rank int_cmp q)) xs) (subst (λ o. IsSome o) (found q) i)))
+    within q i = start_within (rank q) low high (shown_nodes rank xs) a
+        (subst (λ o. IsSome o) (as_entries_lookup rank q xs) (some_mapped (shown_node_at rank q) (lookup (is_at (on rank int_cmp q)) xs) (subst (λ o. IsSome o) (found q) i)))
 
-    starts : StartsAscend low high (nodes_as_entries rank n.entries)
+    starts : StartsAscend low high (shown_nodes rank n.entries)
     starts = sorted_starts low high n.entries made.1 (λ q i. (within q i).0) (λ q i. (within q i).1)
 
-    pub collected : (of_rank : ℤ → T) → ((z : ℤ) → low ≤ℤ z → z ≤ℤ high → rank (of_rank z) ≡ z) → nodes_as_entries rank n.entries ≡ nodes_as_entries rank xs
-    collected of_rank has_key = same_starts low high (nodes_as_entries rank n.entries) (nodes_as_entries rank xs) starts a (λ j l u.
+    pub collected : (of_rank : ℤ → T) → ((z : ℤ) → low ≤ℤ z → z ≤ℤ high → rank (of_rank z) ≡ z) → shown_nodes rank n.entries ≡ shown_nodes rank xs
+    collected of_rank has_key = same_starts low high (shown_nodes rank n.entries) (shown_nodes rank xs) starts a (λ j l u.
         let q = of_rank j in
-        subst (λ z. start_at z (nodes_as_entries rank n.entries) ≡ start_at z (nodes_as_entries rank xs)) (has_key j l u)
-        (sym (as_entries_lookup rank q n.entries) ∙ ap (option_map (node_as_entry_at rank q)) (found q) ∙ as_entries_lookup rank q xs))
+        subst (λ z. start_at z (shown_nodes rank n.entries) ≡ start_at z (shown_nodes rank xs)) (has_key j l u)
+        (sym (as_entries_lookup rank q n.entries) ∙ ap (option_map (shown_node_at rank q)) (found q) ∙ as_entries_lookup rank q xs))
 
 -- the nodes of entries
-pub as_entries_of_nodes : {T V : Type 0} (rank : T → ℤ) (xs : List (T × T × V)) → nodes_as_entries rank (map node_of xs) ≡ map held (map (shown_entry rank (λ v. v)) xs)
+pub as_entries_of_nodes : {T V : Type 0} (rank : T → ℤ) (xs : List (T × T × V)) → shown_nodes rank (map node_of xs) ≡ map held (map (shown_entry rank (λ v. v)) xs)
 as_entries_of_nodes rank [] = refl
 as_entries_of_nodes rank (x ∷ xs) = ap (λ l. held (shown_entry rank (λ v. v) x) ∷ l) (as_entries_of_nodes rank xs)

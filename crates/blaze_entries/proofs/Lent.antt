@@ -7,7 +7,7 @@ use Rattle.std.proofs.lemmas.List.{length-map}
 use Rattle.std.proofs.lemmas.Option.{slice_get-map}
 use denote.Ref.{Bor}
 use Rattle.blaze_entries.specs.Entries.{Entry, entry}
-use Rattle.blaze_entries.specs.Nodes.{held, full, AreHeld, node_as_entry, node_as_entry_at, lent_node_as_entry, nodes_as_entries}
+use Rattle.blaze_entries.specs.Nodes.{held, full, AreHeld, shown_node, shown_node_at, shown_lent_node, shown_nodes}
 use Rattle.blaze_entries.specs.Starts.{last_below, reaching, holder_of, first_from, start_at, with_entry, IsCloneInserted}
 use Rattle.blaze_entries.specs.declared.nodes.EndValue.{EndValue}
 use Rattle.blaze_entries.proofs.Held.{last_below-held, first_from-held, start_at-held, none_held, some_held}
@@ -17,17 +17,17 @@ module _ {T V : Type 0} (rank : T → ℤ) where
   is_full p e q = subst (λ (x : Entry (Option V)). IsSome x.value) (sym q) refl
 
   -- a node that shows an entry has a value
-  pub full_lent : (r : Option (Bor T × Bor (EndValue T (Option V)))) (o : Option (Entry V)) → option_map (lent_node_as_entry rank) r ≡ option_map held o → IfSome r (λ p. IsSome p.1.now.value)
+  pub full_lent : (r : Option (Bor T × Bor (EndValue T (Option V)))) (o : Option (Entry V)) → option_map (shown_lent_node rank) r ≡ option_map held o → IfSome r (λ p. IsSome p.1.now.value)
   full_lent None o q = tt
   full_lent (Some p) None q = cc
-  full_lent (Some p) (Some e) q = let s : lent_node_as_entry rank p ≡ held e = cc in is_full (lent_node_as_entry rank p) e s
+  full_lent (Some p) (Some e) q = let s : shown_lent_node rank p ≡ held e = cc in is_full (shown_lent_node rank p) e s
 
   -- the node at a start
-  module _ (k : T) (r : Option (EndValue T (Option V))) (o : Option (Entry V)) (q : option_map (node_as_entry_at rank k) r ≡ option_map held o) where
+  module _ (k : T) (r : Option (EndValue T (Option V))) (o : Option (Entry V)) (q : option_map (shown_node_at rank k) r ≡ option_map held o) where
     pub some_taken : IsSome o → IsSome r
     some_taken i = by_cases r o q i
       where
-        by_cases : (r : Option (EndValue T (Option V))) (o : Option (Entry V)) → option_map (node_as_entry_at rank k) r ≡ option_map held o → IsSome o → IsSome r
+        by_cases : (r : Option (EndValue T (Option V))) (o : Option (Entry V)) → option_map (shown_node_at rank k) r ≡ option_map held o → IsSome o → IsSome r
         by_cases None None q i = i
         by_cases None (Some e) q i = cc
         by_cases (Some n) o q i = refl
@@ -35,19 +35,19 @@ module _ {T V : Type 0} (rank : T → ℤ) where
     pub full_taken : IfSome r (λ n. IsSome n.value)
     full_taken = by_cases r o q
       where
-        by_cases : (r : Option (EndValue T (Option V))) (o : Option (Entry V)) → option_map (node_as_entry_at rank k) r ≡ option_map held o → IfSome r (λ n. IsSome n.value)
+        by_cases : (r : Option (EndValue T (Option V))) (o : Option (Entry V)) → option_map (shown_node_at rank k) r ≡ option_map held o → IfSome r (λ n. IsSome n.value)
         by_cases None o q = tt
         by_cases (Some n) None q = cc
-        by_cases (Some n) (Some e) q = let s : node_as_entry_at rank k n ≡ held e = cc in is_full (node_as_entry_at rank k n) e s
+        by_cases (Some n) (Some e) q = let s : shown_node_at rank k n ≡ held e = cc in is_full (shown_node_at rank k n) e s
 
     pub value_taken : (v : V) → option_map (λ n. n.value) r ≡ Some (Some v) → option_map (λ e. e.value) o ≡ Some v
     value_taken v t = by_cases r o q t
       where
-        by_cases : (r : Option (EndValue T (Option V))) (o : Option (Entry V)) → option_map (node_as_entry_at rank k) r ≡ option_map held o → option_map (λ n. n.value) r ≡ Some (Some v) → option_map (λ e. e.value) o ≡ Some v
+        by_cases : (r : Option (EndValue T (Option V))) (o : Option (Entry V)) → option_map (shown_node_at rank k) r ≡ option_map held o → option_map (λ n. n.value) r ≡ Some (Some v) → option_map (λ e. e.value) o ≡ Some v
         by_cases None o q t = cc
         by_cases (Some n) None q t = cc
         by_cases (Some n) (Some e) q t =
-            let s : node_as_entry_at rank k n ≡ held e = cc in
+            let s : shown_node_at rank k n ≡ held e = cc in
             let w : n.value ≡ Some e.value = ap (λ (x : Entry (Option V)). x.value) s in
             cc
 
@@ -109,24 +109,24 @@ no_value X j = cc
 
 -- a node by its index in the list
 pub node_at_index : {T V : Type 0} (rank : T → ℤ) (m : List (T × EndValue T (Option V))) (i : ℕ) (r : Option (Bor T × Bor (EndValue T (Option V))))
-    → IfSome r (λ p. slice_get m i ≡ Some (p.0.now, p.1.now)) → IsSome r ↔ (0 < length m) → (low high : ℤ) → (h : AreHeld low high (nodes_as_entries rank m))
-    → option_map (lent_node_as_entry rank) r ≡ option_map held (slice_get (full (nodes_as_entries rank m)) i)
+    → IfSome r (λ p. slice_get m i ≡ Some (p.0.now, p.1.now)) → IsSome r ↔ (0 < length m) → (low high : ℤ) → (h : AreHeld low high (shown_nodes rank m))
+    → option_map (shown_lent_node rank) r ≡ option_map held (slice_get (full (shown_nodes rank m)) i)
 node_at_index {T} {V} rank m i r f v low high h =
-    shown m r f v ∙ ap (λ (ps : List (Entry (Option V))). slice_get ps i) h.full.held ∙ slice_get-map held (full (nodes_as_entries rank m)) i
+    shown m r f v ∙ ap (λ (ps : List (Entry (Option V))). slice_get ps i) h.full.held ∙ slice_get-map held (full (shown_nodes rank m)) i
   where
     shown : (m : List (T × EndValue T (Option V))) (r : Option (Bor T × Bor (EndValue T (Option V))))
-        → IfSome r (λ p. slice_get m i ≡ Some (p.0.now, p.1.now)) → IsSome r ↔ (0 < length m) → option_map (lent_node_as_entry rank) r ≡ slice_get (nodes_as_entries rank m) i
-    shown m (Some p) f v = sym (slice_get-map (node_as_entry rank) m i ∙ ap (option_map (node_as_entry rank)) f)
+        → IfSome r (λ p. slice_get m i ≡ Some (p.0.now, p.1.now)) → IsSome r ↔ (0 < length m) → option_map (shown_lent_node rank) r ≡ slice_get (shown_nodes rank m) i
+    shown m (Some p) f v = sym (slice_get-map (shown_node rank) m i ∙ ap (option_map (shown_node rank)) f)
     shown [] None f v = refl
     shown (e ∷ m) None f v = absurd (no_value (Bor T × Bor (EndValue T (Option V))) (v.1 (omega arith)))
 
 -- the last node
 pub last_node : {T V : Type 0} (rank : T → ℤ) (m : List (T × EndValue T (Option V))) (r : Option (Bor T × Bor (EndValue T (Option V))))
-    → IfSome r (λ p. slice_get m (length m - 1) ≡ Some (p.0.now, p.1.now)) → IsSome r ↔ (0 < length m) → (low high : ℤ) → (h : AreHeld low high (nodes_as_entries rank m))
-    → option_map (lent_node_as_entry rank) r ≡ option_map held (slice_get (full (nodes_as_entries rank m)) (length (full (nodes_as_entries rank m)) - 1))
+    → IfSome r (λ p. slice_get m (length m - 1) ≡ Some (p.0.now, p.1.now)) → IsSome r ↔ (0 < length m) → (low high : ℤ) → (h : AreHeld low high (shown_nodes rank m))
+    → option_map (shown_lent_node rank) r ≡ option_map held (slice_get (full (shown_nodes rank m)) (length (full (shown_nodes rank m)) - 1))
 last_node rank m r f v low high h =
-    let size : length m ≡ length (full (nodes_as_entries rank m)) = sym (length-map m (node_as_entry rank)) ∙ ap length h.full.held ∙ length-map (full (nodes_as_entries rank m)) held in
-    node_at_index rank m (length m - 1) r f v low high h ∙ ap (λ n. option_map held (slice_get (full (nodes_as_entries rank m)) (n - 1))) size
+    let size : length m ≡ length (full (shown_nodes rank m)) = sym (length-map m (shown_node rank)) ∙ ap length h.full.held ∙ length-map (full (shown_nodes rank m)) held in
+    node_at_index rank m (length m - 1) r f v low high h ∙ ap (λ n. option_map held (slice_get (full (shown_nodes rank m)) (n - 1))) size
 
 -- what is said of a refused answer
 pub on_err : {A E P : Type 0} (r : Result A E) → P → OnErr r P

@@ -15,7 +15,7 @@ use Rattle.std.proofs.lemmas.Int.{ints}
 use Rattle.blaze_entries.specs.Entries.{entry}
 use Rattle.blaze_entries.specs.Changed.{changed}
 use Rattle.blaze_entries.specs.declared.nodes.EndValue.{EndValue}
-use Rattle.blaze_entries.specs.Nodes.{nodes_as_entries, node_as_entry, node_as_entry_at}
+use Rattle.blaze_entries.specs.Nodes.{shown_nodes, shown_node, shown_node_at}
 use Rattle.blaze_entries.specs.Starts.{StartsAscend, below, from, up_to, first_entry, last_below, start_at, with_entry, without, with_end, with_end_value}
 use Rattle.blaze_entries.proofs.Ascending.{by_order}
 
@@ -77,45 +77,45 @@ filter_both p q (x ∷ xs) =
 
 module _ {T V : Type 0} (rank : T → ℤ) where
   module _ (k : T) where
-    pub as_entries_insert : (m : List (T × EndValue T V)) (s : EndValue T V) → nodes_as_entries rank (insert_entry (on rank int_cmp) m k s) ≡ with_entry (entry (rank k) (rank s.end) s.value) (nodes_as_entries rank m)
+    pub as_entries_insert : (m : List (T × EndValue T V)) (s : EndValue T V) → shown_nodes rank (insert_entry (on rank int_cmp) m k s) ≡ with_entry (entry (rank k) (rank s.end) s.value) (shown_nodes rank m)
     as_entries_insert [] s = refl
     as_entries_insert (e ∷ m) s = both (int_cmp (rank k) (rank e.0)) (as_entries_insert m s)
       where
-        both : (o : Ordering) → nodes_as_entries rank (insert_entry (on rank int_cmp) m k s) ≡ with_entry (entry (rank k) (rank s.end) s.value) (nodes_as_entries rank m)
-            → nodes_as_entries rank (match_ordering o ((k, s) ∷ e ∷ m) ((e.0, s) ∷ m) (e ∷ insert_entry (on rank int_cmp) m k s))
-            ≡ match_ordering o (entry (rank k) (rank s.end) s.value ∷ nodes_as_entries rank (e ∷ m)) (entry (rank e.0) (rank s.end) s.value ∷ nodes_as_entries rank m) (node_as_entry rank e ∷ with_entry (entry (rank k) (rank s.end) s.value) (nodes_as_entries rank m))
+        both : (o : Ordering) → shown_nodes rank (insert_entry (on rank int_cmp) m k s) ≡ with_entry (entry (rank k) (rank s.end) s.value) (shown_nodes rank m)
+            → shown_nodes rank (match_ordering o ((k, s) ∷ e ∷ m) ((e.0, s) ∷ m) (e ∷ insert_entry (on rank int_cmp) m k s))
+            ≡ match_ordering o (entry (rank k) (rank s.end) s.value ∷ shown_nodes rank (e ∷ m)) (entry (rank e.0) (rank s.end) s.value ∷ shown_nodes rank m) (shown_node rank e ∷ with_entry (entry (rank k) (rank s.end) s.value) (shown_nodes rank m))
         both Less p = refl
         both Equal p = refl
-        both Greater p = ap (λ t. node_as_entry rank e ∷ t) p
+        both Greater p = ap (λ t. shown_node rank e ∷ t) p
 
-    pub as_entries_remove : (m : List (T × EndValue T V)) → nodes_as_entries rank (remove_entry (is_at (on rank int_cmp k)) m) ≡ without (rank k) (nodes_as_entries rank m)
+    pub as_entries_remove : (m : List (T × EndValue T V)) → shown_nodes rank (remove_entry (is_at (on rank int_cmp k)) m) ≡ without (rank k) (shown_nodes rank m)
     as_entries_remove [] = refl
     as_entries_remove (e ∷ m) = both (int_eq (rank k) (rank e.0)) (as_entries_remove m)
       where
-        both : (t : Bool) → nodes_as_entries rank (remove_entry (is_at (on rank int_cmp k)) m) ≡ without (rank k) (nodes_as_entries rank m)
-            → nodes_as_entries rank (cond t m (e ∷ remove_entry (is_at (on rank int_cmp k)) m)) ≡ cond t (nodes_as_entries rank m) (node_as_entry rank e ∷ without (rank k) (nodes_as_entries rank m))
+        both : (t : Bool) → shown_nodes rank (remove_entry (is_at (on rank int_cmp k)) m) ≡ without (rank k) (shown_nodes rank m)
+            → shown_nodes rank (cond t m (e ∷ remove_entry (is_at (on rank int_cmp k)) m)) ≡ cond t (shown_nodes rank m) (shown_node rank e ∷ without (rank k) (shown_nodes rank m))
         both true p = refl
-        both false p = ap (λ t. node_as_entry rank e ∷ t) p
+        both false p = ap (λ t. shown_node rank e ∷ t) p
 
-    pub as_entries_end : (z : T) (m : List (T × EndValue T V)) → nodes_as_entries rank (changed (is_at (on rank int_cmp k)) (λ s. record s { end = z }) m) ≡ with_end (rank k) (rank z) (nodes_as_entries rank m)
+    pub as_entries_end : (z : T) (m : List (T × EndValue T V)) → shown_nodes rank (changed (is_at (on rank int_cmp k)) (λ s. record s { end = z }) m) ≡ with_end (rank k) (rank z) (shown_nodes rank m)
     as_entries_end z [] = refl
     as_entries_end z (e ∷ m) = both (int_eq (rank k) (rank e.0)) (as_entries_end z m)
       where
-        both : (t : Bool) → nodes_as_entries rank (changed (is_at (on rank int_cmp k)) (λ s. record s { end = z }) m) ≡ with_end (rank k) (rank z) (nodes_as_entries rank m)
-            → nodes_as_entries rank (cond t ((e.0, record e.1 { end = z }) ∷ m) (e ∷ changed (is_at (on rank int_cmp k)) (λ s. record s { end = z }) m)) ≡ cond t (entry (rank e.0) (rank z) e.1.value ∷ nodes_as_entries rank m) (node_as_entry rank e ∷ with_end (rank k) (rank z) (nodes_as_entries rank m))
+        both : (t : Bool) → shown_nodes rank (changed (is_at (on rank int_cmp k)) (λ s. record s { end = z }) m) ≡ with_end (rank k) (rank z) (shown_nodes rank m)
+            → shown_nodes rank (cond t ((e.0, record e.1 { end = z }) ∷ m) (e ∷ changed (is_at (on rank int_cmp k)) (λ s. record s { end = z }) m)) ≡ cond t (entry (rank e.0) (rank z) e.1.value ∷ shown_nodes rank m) (shown_node rank e ∷ with_end (rank k) (rank z) (shown_nodes rank m))
         both true p = refl
-        both false p = ap (λ t. node_as_entry rank e ∷ t) p
+        both false p = ap (λ t. shown_node rank e ∷ t) p
 
-    pub as_entries_set : (z : T) (v : V) (m : List (T × EndValue T V)) → nodes_as_entries rank (changed (is_at (on rank int_cmp k)) (λ _. record { end = z; value = v }) m) ≡ with_end_value (rank k) (rank z) v (nodes_as_entries rank m)
+    pub as_entries_set : (z : T) (v : V) (m : List (T × EndValue T V)) → shown_nodes rank (changed (is_at (on rank int_cmp k)) (λ _. record { end = z; value = v }) m) ≡ with_end_value (rank k) (rank z) v (shown_nodes rank m)
     as_entries_set z v [] = refl
     as_entries_set z v (e ∷ m) = both (int_eq (rank k) (rank e.0)) (as_entries_set z v m)
       where
-        both : (t : Bool) → nodes_as_entries rank (changed (is_at (on rank int_cmp k)) (λ _. record { end = z; value = v }) m) ≡ with_end_value (rank k) (rank z) v (nodes_as_entries rank m)
-            → nodes_as_entries rank (cond t ((e.0, record { end = z; value = v }) ∷ m) (e ∷ changed (is_at (on rank int_cmp k)) (λ _. record { end = z; value = v }) m)) ≡ cond t (entry (rank e.0) (rank z) v ∷ nodes_as_entries rank m) (node_as_entry rank e ∷ with_end_value (rank k) (rank z) v (nodes_as_entries rank m))
+        both : (t : Bool) → shown_nodes rank (changed (is_at (on rank int_cmp k)) (λ _. record { end = z; value = v }) m) ≡ with_end_value (rank k) (rank z) v (shown_nodes rank m)
+            → shown_nodes rank (cond t ((e.0, record { end = z; value = v }) ∷ m) (e ∷ changed (is_at (on rank int_cmp k)) (λ _. record { end = z; value = v }) m)) ≡ cond t (entry (rank e.0) (rank z) v ∷ shown_nodes rank m) (shown_node rank e ∷ with_end_value (rank k) (rank z) v (shown_nodes rank m))
         both true p = refl
-        both false p = ap (λ t. node_as_entry rank e ∷ t) p
+        both false p = ap (λ t. shown_node rank e ∷ t) p
 
-    pub as_entries_lookup : (m : List (T × EndValue T V)) → option_map (node_as_entry_at rank k) (lookup (is_at (on rank int_cmp k)) m) ≡ start_at (rank k) (nodes_as_entries rank m)
+    pub as_entries_lookup : (m : List (T × EndValue T V)) → option_map (shown_node_at rank k) (lookup (is_at (on rank int_cmp k)) m) ≡ start_at (rank k) (shown_nodes rank m)
     as_entries_lookup [] = refl
     as_entries_lookup (e ∷ m) =
         let later = as_entries_lookup m in
@@ -124,45 +124,45 @@ module _ {T V : Type 0} (rank : T → ℤ) where
         (λ o p q. rw q (ap (λ z. Some (entry z (rank e.1.end) e.1.value)) o))
         (λ o p q. rw q later)
 
-  as_entries_filter : (test : T → Bool) (keep : ℤ → Bool) → ((q : T) → test q ≡ keep (rank q)) → (m : List (T × EndValue T V)) → nodes_as_entries rank (filter (λ p. test p.0) m) ≡ filter (λ e. keep e.lo) (nodes_as_entries rank m)
+  as_entries_filter : (test : T → Bool) (keep : ℤ → Bool) → ((q : T) → test q ≡ keep (rank q)) → (m : List (T × EndValue T V)) → shown_nodes rank (filter (λ p. test p.0) m) ≡ filter (λ e. keep e.lo) (shown_nodes rank m)
   as_entries_filter test keep same [] = refl
   as_entries_filter test keep same (e ∷ m) = rw (same e.0) (both (keep (rank e.0)) (as_entries_filter test keep same m))
     where
-      both : (t : Bool) → nodes_as_entries rank (filter (λ p. test p.0) m) ≡ filter (λ e. keep e.lo) (nodes_as_entries rank m)
-          → nodes_as_entries rank (cond t (e ∷ filter (λ p. test p.0) m) (filter (λ p. test p.0) m)) ≡ cond t (node_as_entry rank e ∷ filter (λ e. keep e.lo) (nodes_as_entries rank m)) (filter (λ e. keep e.lo) (nodes_as_entries rank m))
-      both true p = ap (λ t. node_as_entry rank e ∷ t) p
+      both : (t : Bool) → shown_nodes rank (filter (λ p. test p.0) m) ≡ filter (λ e. keep e.lo) (shown_nodes rank m)
+          → shown_nodes rank (cond t (e ∷ filter (λ p. test p.0) m) (filter (λ p. test p.0) m)) ≡ cond t (shown_node rank e ∷ filter (λ e. keep e.lo) (shown_nodes rank m)) (filter (λ e. keep e.lo) (shown_nodes rank m))
+      both true p = ap (λ t. shown_node rank e ∷ t) p
       both false p = p
 
   -- all nodes start up to the greatest key
-  pub as_entries_all : (b high : ℤ) (m : List (T × EndValue T V)) → StartsAscend b high (nodes_as_entries rank m) → nodes_as_entries rank (entries_between (on rank int_cmp) Unbounded Unbounded m) ≡ below (high +ℤ pos 1) (nodes_as_entries rank m)
+  pub as_entries_all : (b high : ℤ) (m : List (T × EndValue T V)) → StartsAscend b high (shown_nodes rank m) → shown_nodes rank (entries_between (on rank int_cmp) Unbounded Unbounded m) ≡ below (high +ℤ pos 1) (shown_nodes rank m)
   as_entries_all b high [] h = refl
   as_entries_all b high (e ∷ m) h =
       let later = as_entries_all (rank e.0 +ℤ pos 1) high m h.2 in
       let is_below : int_lt (rank e.0) (high +ℤ pos 1) ≡ true = grind (arith, ints, h.1) in
-      rw is_below (ap (λ t. node_as_entry rank e ∷ t) later)
+      rw is_below (ap (λ t. shown_node rank e ∷ t) later)
 
   module _ (k : T) (m : List (T × EndValue T V)) where
     -- the nodes that start below a key
-    pub as_entries_between : nodes_as_entries rank (entries_between (on rank int_cmp) Unbounded (Excluded k) m) ≡ below (rank k) (nodes_as_entries rank m)
+    pub as_entries_between : shown_nodes rank (entries_between (on rank int_cmp) Unbounded (Excluded k) m) ≡ below (rank k) (shown_nodes rank m)
     as_entries_between = as_entries_filter (λ q. not (is_le (int_cmp (rank k) (rank q)))) (λ z. int_lt z (rank k)) (λ q. not_above_is (rank k) (rank q)) m
 
-    pub as_entries_before : option_map (node_as_entry rank) (last_or None (entries_between (on rank int_cmp) Unbounded (Excluded k) m)) ≡ last_below (rank k) (nodes_as_entries rank m)
-    as_entries_before = last_shown (node_as_entry rank) None (entries_between (on rank int_cmp) Unbounded (Excluded k) m) ∙ ap (last_or None) as_entries_between
+    pub as_entries_before : option_map (shown_node rank) (last_or None (entries_between (on rank int_cmp) Unbounded (Excluded k) m)) ≡ last_below (rank k) (shown_nodes rank m)
+    as_entries_before = last_shown (shown_node rank) None (entries_between (on rank int_cmp) Unbounded (Excluded k) m) ∙ ap (last_or None) as_entries_between
 
     -- the nodes that start from a key on
-    pub as_entries_at_or_above : nodes_as_entries rank (entries_between (on rank int_cmp) (Included k) Unbounded m) ≡ from (rank k) (nodes_as_entries rank m)
+    pub as_entries_at_or_above : shown_nodes rank (entries_between (on rank int_cmp) (Included k) Unbounded m) ≡ from (rank k) (shown_nodes rank m)
     as_entries_at_or_above = as_entries_filter (λ q. is_le (int_cmp (rank k) (rank q)) && true) (λ z. int_le (rank k) z) (λ q. up_to_and_is (rank k) (rank q)) m
 
     -- the nodes that start from a key on, up to another
-    pub as_entries_from_up_to : (last : T) → nodes_as_entries rank (entries_between (on rank int_cmp) (Included k) (Included last) m) ≡ up_to (rank last) (from (rank k) (nodes_as_entries rank m))
+    pub as_entries_from_up_to : (last : T) → shown_nodes rank (entries_between (on rank int_cmp) (Included k) (Included last) m) ≡ up_to (rank last) (from (rank k) (shown_nodes rank m))
     as_entries_from_up_to last =
         as_entries_filter (λ q. is_le (int_cmp (rank k) (rank q)) && not (is_lt (int_cmp (rank last) (rank q)))) (λ z. int_le (rank k) z && int_le z (rank last))
         (λ q. rw (up_to_is (rank k) (rank q)) (rw (not_past_is (rank last) (rank q)) refl)) m
-        ∙ filter_both (λ e. int_le (rank k) e.lo) (λ e. int_le e.lo (rank last)) (nodes_as_entries rank m)
+        ∙ filter_both (λ e. int_le (rank k) e.lo) (λ e. int_le e.lo (rank last)) (shown_nodes rank m)
 
     -- the parts below a key and from it on
-    pub as_entries_below : nodes_as_entries rank (entries_below (on rank int_cmp k) m) ≡ below (rank k) (nodes_as_entries rank m)
+    pub as_entries_below : shown_nodes rank (entries_below (on rank int_cmp k) m) ≡ below (rank k) (shown_nodes rank m)
     as_entries_below = as_entries_filter (λ q. is_gt (int_cmp (rank k) (rank q))) (λ z. int_lt z (rank k)) (λ q. above_is (rank k) (rank q)) m
 
-    pub as_entries_from : nodes_as_entries rank (entries_from (on rank int_cmp k) m) ≡ from (rank k) (nodes_as_entries rank m)
+    pub as_entries_from : shown_nodes rank (entries_from (on rank int_cmp k) m) ≡ from (rank k) (shown_nodes rank m)
     as_entries_from = as_entries_filter (λ q. is_le (int_cmp (rank k) (rank q))) (λ z. int_le (rank k) z) (λ q. up_to_is (rank k) (rank q)) m

@@ -5,7 +5,7 @@ use Rattle.std.proofs.lemmas.Int.{ints}
 use Rattle.std.proofs.lemmas.List.{length-map, reverse-append}
 use Rattle.blaze_entries.specs.Entries.{Entry, entry}
 use Rattle.blaze_entries.specs.Found.{found_in, IsFoundAt}
-use Rattle.blaze_entries.specs.Nodes.{held, full, nodes_as_entries, node_as_entry, AreFull}
+use Rattle.blaze_entries.specs.Nodes.{held, full, shown_nodes, shown_node, AreFull}
 use Rattle.std.specs.Int.{int_max, int_min}
 use Rattle.blaze_entries.specs.Overlap.{shared, overlap}
 use Rattle.blaze_entries.specs.Scanned.{Seen, seen, walked, seen_value, walked_value, answers, walked_keys}
@@ -27,8 +27,8 @@ pub found_entry : {T V : Type 0} {rank : T → ℤ} {test : V → Bool} {f : Fou
 found_entry {w = w} {e = e} i = ap (λ (t : ℤ × ℤ × Bool). entry t.0 t.1 w) i.found ∙ ap (entry e.lo e.hi) i.value
 
 -- as many nodes as entries
-pub length-nodes : {T V : Type 0} (rank : T → ℤ) (m : List (T × EndValue T (Option V))) → AreFull (nodes_as_entries rank m) → length m ≡ length (full (nodes_as_entries rank m))
-length-nodes rank m h = sym (length-map m (node_as_entry rank)) ∙ ap length h.held ∙ length-map (full (nodes_as_entries rank m)) held
+pub length-nodes : {T V : Type 0} (rank : T → ℤ) (m : List (T × EndValue T (Option V))) → AreFull (shown_nodes rank m) → length m ≡ length (full (shown_nodes rank m))
+length-nodes rank m h = sym (length-map m (shown_node rank)) ∙ ap length h.held ∙ length-map (full (shown_nodes rank m)) held
 
 pub shorter_last : {V : Type 0} (e : Entry V) (es fs : List (Entry V)) (m n : ℕ) → es ≡ fs ++ e ∷ [] → m ≡ length fs → n ≡ length es → m < n
 shorter_last e es fs m n h p q =

@@ -6,7 +6,7 @@ use Rattle.std.specs.Map.Iter.{TakesFirst, TakesLast}
 use Rattle.std.specs.Option.{option_map}
 use Rattle.std.proofs.lemmas.Int.{ints}
 use Rattle.blaze_entries.specs.Entries.{Entry}
-use Rattle.blaze_entries.specs.Nodes.{held, full, node_as_entry, nodes_as_entries, entries_of, AreFull, AreHeld}
+use Rattle.blaze_entries.specs.Nodes.{held, full, shown_node, shown_nodes, entries_of, AreFull, AreHeld}
 use Rattle.blaze_entries.specs.Starts.{StartsAscend}
 use Rattle.blaze_entries.specs.declared.nodes.EndValue.{EndValue}
 use Rattle.blaze_entries.proofs.Ascending.{start_lower}
@@ -83,14 +83,14 @@ module _ {A V : Type 0} (shows : A → Entry (Option V)) where
       }
 
 -- a node was taken off an end of nodes that are full
-module _ {T V A : Type 0} (rank : T → ℤ) (shows : A → T × EndValue T (Option V)) (nodes : List (T × EndValue T (Option V))) (r : Option A) (rest : List (T × EndValue T (Option V))) (h : AreFull (nodes_as_entries rank nodes)) where
+module _ {T V A : Type 0} (rank : T → ℤ) (shows : A → T × EndValue T (Option V)) (nodes : List (T × EndValue T (Option V))) (r : Option A) (rest : List (T × EndValue T (Option V))) (h : AreFull (shown_nodes rank nodes)) where
   -- what the step off the front took
-  pub first_node_taken : TakesFirst shows nodes r rest → Taken (λ a. node_as_entry rank (shows a)) (λ fs e. e ∷ fs) (entries_of rank nodes) r (nodes_as_entries rank rest)
-  first_node_taken t = first_taken (λ a. node_as_entry rank (shows a)) (nodes_as_entries rank nodes) r (nodes_as_entries rank rest) h (takes_first_shown (node_as_entry rank) shows nodes r rest t)
+  pub first_node_taken : TakesFirst shows nodes r rest → Taken (λ a. shown_node rank (shows a)) (λ fs e. e ∷ fs) (entries_of rank nodes) r (shown_nodes rank rest)
+  first_node_taken t = first_taken (λ a. shown_node rank (shows a)) (shown_nodes rank nodes) r (shown_nodes rank rest) h (takes_first_shown (shown_node rank) shows nodes r rest t)
 
   -- what the step off the back took
-  pub last_node_taken : TakesLast shows nodes r rest → Taken (λ a. node_as_entry rank (shows a)) (λ fs e. fs ++ e ∷ []) (entries_of rank nodes) r (nodes_as_entries rank rest)
-  last_node_taken t = last_taken (λ a. node_as_entry rank (shows a)) (nodes_as_entries rank nodes) r (nodes_as_entries rank rest) h (takes_last_shown (node_as_entry rank) shows nodes r rest t)
+  pub last_node_taken : TakesLast shows nodes r rest → Taken (λ a. shown_node rank (shows a)) (λ fs e. fs ++ e ∷ []) (entries_of rank nodes) r (shown_nodes rank rest)
+  last_node_taken t = last_taken (λ a. shown_node rank (shows a)) (shown_nodes rank nodes) r (shown_nodes rank rest) h (takes_last_shown (shown_node rank) shows nodes r rest t)
 
 -- what holds of an option holds of the one that it is the view of
 by_view : {B X : Type 0} (view : B → X) (r : Option B) (o : Option X) (P : Type 0) (Q : X → Type 0) → option_map view r ≡ o → MatchOption o P Q → MatchOption r P (λ x. Q (view x))

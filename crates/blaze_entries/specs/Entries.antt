@@ -1,6 +1,7 @@
 -- A range map as a list of entries, and its content: what it has at each key. Keys stand by their ranks.
-use Rattle.std.specs.Prelude.{◌≡◌, ℤ, int_le, Bool, true, ◌&&◌, if◌then◌else◌, List, [], ◌∷◌, Option, Some, None, refl}
+use Rattle.std.specs.Prelude.{◌≡◌, ℤ, int_le, Bool, true, ◌&&◌, if◌then◌else◌, List, [], ◌∷◌, map, Option, Some, None, refl}
 use Rattle.std.specs.Coded.{Coded, code_by, coded×, coded_ℤ}
+use Rattle.blaze_entries.specs.declared.range_entry.RangeEntry.{RangeEntry}
 
 -- an entry: the keys from lo up to hi have the value
 pub record Entry (V : Type 0) : Type 0 where
@@ -20,6 +21,14 @@ entry_code {V} v =
 -- a first key, a last key and what shows a value, as an entry
 abbrev pub shown_entry : {T R V : Type 0} → (T → ℤ) → (R → V) → T × T × R → Entry V
 shown_entry rank shown p = record { lo = rank p.0; hi = rank p.1; value = shown p.2 }
+
+-- a list of first keys, last keys and values, as entries
+abbrev pub shown_list : {T V : Type 0} → (T → ℤ) → List (T × T × V) → List (Entry V)
+shown_list rank entries = map (shown_entry rank (λ v. v)) entries
+
+-- an entry that one function hands to another
+abbrev pub shown_range_entry : {T R V : Type 0} → (T → ℤ) → (R → V) → RangeEntry T R → Entry V
+shown_range_entry rank shown e = record { lo = rank e.start; hi = rank e.end; value = shown e.value }
 
 -- the entry's range has the key
 abbrev pub holds : {V : Type 0} → Entry V → ℤ → Bool

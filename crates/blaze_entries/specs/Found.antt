@@ -13,12 +13,12 @@ abbrev pub found_in : {V : Type 0} → (V → Bool) → Entry V → ℤ × ℤ �
 found_in test e = (e.lo, e.hi, test e.value)
 
 -- an answer, by the ranks
-abbrev pub found_of : {T : Type 0} → (T → ℤ) → Found T → ℤ × ℤ × Bool
-found_of rank f = (rank f.start, rank f.end, f.is_equal)
+abbrev pub shown_found : {T : Type 0} → (T → ℤ) → Found T → ℤ × ℤ × Bool
+shown_found rank f = (rank f.start, rank f.end, f.is_equal)
 
 -- what a look at an entry answers, with the entry's value
 pub record IsFoundAt {T V : Type 0} (rank : T → ℤ) (test : V → Bool) (f : Found T) (w : V) (e : Entry V) : Type 0 where
-  pub found : found_of rank f ≡ found_in test e
+  pub found : shown_found rank f ≡ found_in test e
   pub value : w ≡ e.value
 
 -- an entry's ends
@@ -26,5 +26,5 @@ abbrev pub range_in : {V : Type 0} → Entry V → ℤ × ℤ
 range_in e = (e.lo, e.hi)
 
 -- two keys, by the ranks
-abbrev pub ranks_of : {T : Type 0} → (T → ℤ) → T × T → ℤ × ℤ
-ranks_of rank r = (rank r.0, rank r.1)
+abbrev pub shown_ends : {T : Type 0} → (T → ℤ) → T × T → ℤ × ℤ
+shown_ends rank r = (rank r.0, rank r.1)

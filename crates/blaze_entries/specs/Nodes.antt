@@ -8,23 +8,23 @@ use Rattle.blaze_entries.specs.Starts.{StartsAscend}
 use Rattle.blaze_entries.specs.declared.nodes.EndValue.{EndValue}
 
 -- a start with its node
-abbrev pub node_as_entry : {T V : Type 0} → (T → ℤ) → T × EndValue T V → Entry V
-node_as_entry rank p = entry (rank p.0) (rank p.1.end) p.1.value
+abbrev pub shown_node : {T V : Type 0} → (T → ℤ) → T × EndValue T V → Entry V
+shown_node rank p = entry (rank p.0) (rank p.1.end) p.1.value
 
 -- the start and node of an entry: first key, last key and value
 abbrev pub node_of : {T V : Type 0} → T × T × V → T × EndValue T (Option V)
 node_of e = (e.0, record { end = e.1; value = Some e.2 })
 
-abbrev pub nodes_as_entries : {T V : Type 0} → (T → ℤ) → List (T × EndValue T V) → List (Entry V)
-nodes_as_entries rank nodes = map (node_as_entry rank) nodes
+abbrev pub shown_nodes : {T V : Type 0} → (T → ℤ) → List (T × EndValue T V) → List (Entry V)
+shown_nodes rank nodes = map (shown_node rank) nodes
 
 -- a start and a node that are lent
-abbrev pub lent_node_as_entry : {T V : Type 0} → (T → ℤ) → Bor T × Bor (EndValue T V) → Entry V
-lent_node_as_entry rank p = node_as_entry rank (deref_pair p)
+abbrev pub shown_lent_node : {T V : Type 0} → (T → ℤ) → Bor T × Bor (EndValue T V) → Entry V
+shown_lent_node rank p = shown_node rank (deref_pair p)
 
 -- the node at a start
-abbrev pub node_as_entry_at : {T V : Type 0} → (T → ℤ) → T → EndValue T V → Entry V
-node_as_entry_at rank k node = node_as_entry rank (k, node)
+abbrev pub shown_node_at : {T V : Type 0} → (T → ℤ) → T → EndValue T V → Entry V
+shown_node_at rank k node = shown_node rank (k, node)
 
 -- an entry, as a node that is full
 abbrev pub held : {V : Type 0} → Entry V → Entry (Option V)
@@ -42,7 +42,7 @@ full (p ∷ ps) = node_before p.lo p.hi p.value (full ps)
 
 -- the entries of a tree's nodes
 abbrev pub entries_of : {T V : Type 0} → (T → ℤ) → List (T × EndValue T (Option V)) → List (Entry V)
-entries_of rank nodes = full (nodes_as_entries rank nodes)
+entries_of rank nodes = full (shown_nodes rank nodes)
 
 -- each node is full
 pub record AreFull {V : Type 0} (ps : List (Entry (Option V))) : Type 0 where

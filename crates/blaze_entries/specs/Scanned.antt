@@ -2,7 +2,7 @@
 use Rattle.std.specs.Prelude.{◌≡◌, ℕ, ◌+◌, ℤ, pos, ◌+ℤ◌, ◌<ℤ◌, false, MatchOption, IsSomeAnd, int_lt, int_le, Bool, if◌then◌else◌, List, [], ◌∷◌, Option, Some, None}
 use Rattle.std.specs.Option.{option_map}
 use Rattle.blaze_entries.specs.Entries.{Entry, holds}
-use Rattle.blaze_entries.specs.Found.{found_in, found_of}
+use Rattle.blaze_entries.specs.Found.{found_in, shown_found}
 use Rattle.blaze_entries.specs.Overlap.{overlap}
 use Rattle.blaze_entries.specs.declared.scan.Plan.{Plan}
 
@@ -18,8 +18,8 @@ pub record Seen : Type 0 where
 abbrev pub unseen : ℤ → Seen
 unseen h = record { end = h; rest = None; first = None; left = None }
 
-abbrev pub seen_of : {T : Type 0} → (T → ℤ) → Plan T → Seen
-seen_of rank p = record { end = rank p.end; rest = option_map (λ r. (rank r.0, rank r.1)) p.rest; first = option_map (found_of rank) p.first; left = option_map (found_of rank) p.left }
+abbrev pub shown_plan : {T : Type 0} → (T → ℤ) → Plan T → Seen
+shown_plan rank p = record { end = rank p.end; rest = option_map (λ r. (rank r.0, rank r.1)) p.rest; first = option_map (shown_found rank) p.first; left = option_map (shown_found rank) p.left }
 
 -- after an entry that goes on above h: its end where its value was asked for, else its rest
 abbrev pub seen_end : ℤ → Seen → ℤ × ℤ × Bool → Seen

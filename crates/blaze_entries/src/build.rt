@@ -2,8 +2,8 @@
 ghost use Rattle.std.specs.BTreeMap.{IsFromIterResult};
 ghost use Rattle.std.specs.Ordering.{int_cmp, on};
 ghost use Rattle.std.specs.Prelude.{◌≡◌, map, IfOk};
-ghost use Rattle.blaze_entries.specs.Entries.{shown_entry};
-ghost use Rattle.blaze_entries.specs.Nodes.{nodes_as_entries, held, node_of};
+ghost use Rattle.blaze_entries.specs.Entries.{shown_list};
+ghost use Rattle.blaze_entries.specs.Nodes.{shown_nodes, held, node_of};
 ghost use Rattle.blaze_entries.specs.Starts.{StartsAscend};
 
 use crate::nodes::{EndValue, Tree};
@@ -30,9 +30,9 @@ pub fn tree_of<T: Integer, V: Drop>(
     alloc: Global,
     entries: Vec<(T, T, V)>,
 ) -> Result<Tree<T, Option<V>>, AllocError>
-    requires { StartsAscend T.low T.high (map (shown_entry T.rank (λ v. v)) entries.items) }
-    ensures { IfOk result (λ tree. nodes_as_entries T.rank tree.entries
-        ≡ map held (map (shown_entry T.rank (λ v. v)) entries.items)) }
+    requires { StartsAscend T.low T.high (shown_list T.rank entries.items) }
+    ensures { IfOk result (λ tree. shown_nodes T.rank tree.entries
+        ≡ map held (shown_list T.rank entries.items)) }
 {
     let tree = collect(alloc, entries)?;
     Ok(tree)

@@ -1,10 +1,10 @@
 //! Entries by their starts, with counters of the work on them: how they are made, and reads that aren't counted. Looks that
 //! are counted stand in `looks`, edits in `edits`.
-ghost use Rattle.std.specs.Prelude.{◌≡◌, ◌-◌, [], pos, ◌+ℤ◌, ◌≤ℤ◌, length, map, slice_get, IfOk};
+ghost use Rattle.std.specs.Prelude.{◌≡◌, ◌-◌, [], pos, ◌+ℤ◌, ◌≤ℤ◌, length, slice_get, IfOk};
 ghost use Rattle.std.specs.Option.{option_map};
 ghost use Rattle.blaze_entries.specs.Cloned.{AreCloned};
 ghost use Rattle.blaze_entries.specs.Counted.{uncounted};
-ghost use Rattle.blaze_entries.specs.Entries.{shown_entry};
+ghost use Rattle.blaze_entries.specs.Entries.{shown_entry, shown_list};
 ghost use Rattle.blaze_entries.specs.Starts.{StartsAscend, from, last_below, first_from, up_to};
 
 mod edits;
@@ -41,7 +41,7 @@ impl<T: Integer, V> Model for Entries<T, V> {
 
     ghost coded = { counted_code V.code };
 
-    ghost use Rattle.blaze_entries.specs.Nodes.{nodes_as_entries, entries_of, AreHeld};
+    ghost use Rattle.blaze_entries.specs.Nodes.{shown_nodes, entries_of, AreHeld};
 
     ghost view = { λ c. record {
       entries = entries_of T.rank c.tree.entries;
@@ -50,7 +50,7 @@ impl<T: Integer, V> Model for Entries<T, V> {
       taken_out = c.taken_out.number;
     } };
 
-    ghost invariant = { λ c. AreHeld T.low T.high (nodes_as_entries T.rank c.tree.entries) };
+    ghost invariant = { λ c. AreHeld T.low T.high (shown_nodes T.rank c.tree.entries) };
 }
 
 impl<T: Integer, V: Drop> IntoIterator for Entries<T, V> {
@@ -181,9 +181,9 @@ impl<T: Integer, V> Entries<T, V> {
 impl<T: Integer, V: Drop> Entries<T, V> {
     /// The entries of a list whose starts ascend: first key, last key and value. Refused memory drops the list.
     pub fn from_sorted(alloc: Global, entries: Vec<(T, T, V)>) -> Result<Self, AllocError>
-        requires { StartsAscend T.low T.high (map (shown_entry T.rank (λ v. v)) entries.items) }
+        requires { StartsAscend T.low T.high (shown_list T.rank entries.items) }
         ensures { IfOk result (λ built. built
-            ≡ uncounted (map (shown_entry T.rank (λ v. v)) entries.items)) }
+            ≡ uncounted (shown_list T.rank entries.items)) }
     {
         let tree = tree_of(alloc, entries)?;
         Ok(Entries {

@@ -3,12 +3,13 @@ ghost use Rattle.std.specs.Prelude.{◌≡◌, ℤ, ◌<ℤ◌, Option, Some, If
 ghost use Rattle.std.specs.Option.{option_map, option_copied};
 ghost use Rattle.blaze_entries.specs.Cloned.{IsRangeCloned};
 ghost use Rattle.blaze_entries.specs.Entries.{Entry, entry, shown_entry};
-ghost use Rattle.blaze_entries.specs.Found.{found_in, found_of, range_in, ranks_of};
-ghost use Rattle.blaze_entries.specs.Nodes.{held, lent_node_as_entry, node_as_entry};
+ghost use Rattle.blaze_entries.specs.Found.{found_in, shown_found, range_in, shown_ends};
+ghost use Rattle.blaze_entries.specs.Nodes.{held, shown_lent_node, shown_node};
 ghost use Rattle.blaze_entries.specs.Starts.{reaching};
 
 use crate::found::Found;
 use crate::nodes::EndValue;
+use crate::range_entry::RangeEntry;
 use crate::start::Start;
 use blaze_int::Integer;
 use blaze_int::compare::is_below;
@@ -19,7 +20,7 @@ pub fn shown<'a, T: Integer, V>(
     node: Option<(&'a Start<T>, &'a EndValue<T, Option<V>>)>,
 ) -> Option<(T, T, &'a V)>
     requires { IfSome node (λ p. IsSome p.1.now.value) }
-    ensures { (e : Option (Entry V)) → option_map (lent_node_as_entry T.rank) node.entry
+    ensures { (e : Option (Entry V)) → option_map (shown_lent_node T.rank) node.entry
         ≡ option_map held e → option_map (shown_entry T.rank (λ v. v.now)) result ≡ e }
 {
     let (start, node) = node?;
@@ -32,7 +33,7 @@ pub fn shown<'a, T: Integer, V>(
 /// A node's first key, last key and value, by value.
 pub fn given<T: Integer, V>(node: Option<(Start<T>, EndValue<T, Option<V>>)>) -> Option<(T, T, V)>
     requires { IfSome node (λ p. IsSome p.1.value) }
-    ensures { (e : Option (Entry V)) → option_map (node_as_entry T.rank) node ≡ option_map held e
+    ensures { (e : Option (Entry V)) → option_map (shown_node T.rank) node ≡ option_map held e
         → option_map (shown_entry T.rank (λ v. v)) result ≡ e }
 {
     let (start, node) = node?;
@@ -49,8 +50,8 @@ pub fn found<T: Integer, V: Eq>(
     value: &V,
 ) -> Option<Found<T>>
     requires { IfSome node (λ p. IsSome p.1.now.value) }
-    ensures { (e : Option (Entry V)) → option_map (lent_node_as_entry T.rank) node.entry
-        ≡ option_map held e → option_map (found_of T.rank) result
+    ensures { (e : Option (Entry V)) → option_map (shown_lent_node T.rank) node.entry
+        ≡ option_map held e → option_map (shown_found T.rank) result
         ≡ option_map (found_in (λ w. V.eq w value.now)) e }
 {
     let (start, node) = node?;
@@ -66,8 +67,8 @@ pub fn found<T: Integer, V: Eq>(
 
 /// A node's first and last key.
 pub fn range_of<T: Integer, V>(node: Option<(&Start<T>, &EndValue<T, Option<V>>)>) -> Option<(T, T)>
-    ensures { (e : Option (Entry V)) → option_map (lent_node_as_entry T.rank) node.entry
-        ≡ option_map held e → option_map (ranks_of T.rank) result ≡ option_map range_in e }
+    ensures { (e : Option (Entry V)) → option_map (shown_lent_node T.rank) node.entry
+        ≡ option_map held e → option_map (shown_ends T.rank) result ≡ option_map range_in e }
 {
     let (start, node) = node?;
     Some((start.0, node.end))
@@ -118,8 +119,8 @@ pub fn reaching<'a, T: Integer, V>(
     node: Option<(&'a Start<T>, &'a EndValue<T, V>)>,
     key: T,
 ) -> Option<(&'a Start<T>, &'a EndValue<T, V>)>
-    ensures { option_map (lent_node_as_entry T.rank) result
-        ≡ reaching (T.rank key) (option_map (lent_node_as_entry T.rank) node.entry) }
+    ensures { option_map (shown_lent_node T.rank) result
+        ≡ reaching (T.rank key) (option_map (shown_lent_node T.rank) node.entry) }
 {
     let (start, node) = node?;
     if is_below(node.end, key) {
@@ -131,23 +132,31 @@ pub fn reaching<'a, T: Integer, V>(
 /// A node's first and last key, and a clone of its value where it has more than one.
 pub fn range_cloned<T: Integer, V: Clone>(
     node: Option<(&Start<T>, &EndValue<T, Option<V>>)>,
-) -> Result<Option<(T, T, Option<V>)>, AllocError>
+) -> Result<Option<RangeEntry<T, Option<V>>>, AllocError>
     requires { IfSome node (λ p. IsSome p.1.now.value) }
     ensures range { IfOk result (λ r. (o : Option (Entry V))
-        → option_map (lent_node_as_entry T.rank) node.entry ≡ option_map held o
+        → option_map (shown_lent_node T.rank) node.entry ≡ option_map held o
         → IsRangeCloned T.rank V.is_clone o r) }
     ensures refused { OnErr result ((o : Option (Entry V))
-        → option_map (lent_node_as_entry T.rank) node.entry ≡ option_map held o
+        → option_map (shown_lent_node T.rank) node.entry ≡ option_map held o
         → IsSomeAnd o (λ e. e.lo <ℤ e.hi)) }
 {
     let Some((start, node)) = node else {
         return Ok(None);
     };
     if !is_below(start.0, node.end) {
-        return Ok(Some((start.0, node.end, None)));
+        return Ok(Some(RangeEntry {
+            start: start.0,
+            end: node.end,
+            value: None,
+        }));
     }
     match &node.value {
-        Some(value) => Ok(Some((start.0, node.end, Some(value.clone()?)))),
+        Some(value) => Ok(Some(RangeEntry {
+            start: start.0,
+            end: node.end,
+            value: Some(value.clone()?),
+        })),
         None => unreachable!(),
     }
 }

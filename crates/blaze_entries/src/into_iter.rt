@@ -3,7 +3,7 @@ ghost use Rattle.std.specs.Prelude.{◌≡◌, length, Some, IfSome};
 ghost use Rattle.std.specs.Iterator.{YieldsFirstBy, YieldsLastBy, item_count, UpTo};
 ghost use Rattle.std.specs.Iterator.SizeHint.{IsWithinCount};
 ghost use Rattle.blaze_entries.specs.Entries.{shown_entry};
-ghost use Rattle.blaze_entries.specs.Nodes.{nodes_as_entries, entries_of, AreFull};
+ghost use Rattle.blaze_entries.specs.Nodes.{shown_nodes, entries_of, AreFull};
 
 use crate::full_nodes::given;
 use crate::nodes::EndValue;
@@ -28,16 +28,16 @@ impl<T: Integer, V> Model for IntoIter<T, V> {
 
     ghost coded = { coded_list (entry_code V.code) };
 
-    ghost use Rattle.blaze_entries.specs.Nodes.{nodes_as_entries, entries_of, AreFull};
+    ghost use Rattle.blaze_entries.specs.Nodes.{shown_nodes, entries_of, AreFull};
 
     ghost view = { λ s. entries_of T.rank s.rest };
 
-    ghost invariant = { λ s. AreFull (nodes_as_entries T.rank s.rest) };
+    ghost invariant = { λ s. AreFull (shown_nodes T.rank s.rest) };
 }
 
 impl<T: Integer, V> IntoIter<T, V> {
     pub(crate) fn new(rest: btree_map::IntoIter<Start<T>, EndValue<T, Option<V>>>) -> Self
-        requires { AreFull (nodes_as_entries T.rank rest) }
+        requires { AreFull (shown_nodes T.rank rest) }
         ensures { result ≡ entries_of T.rank rest }
     {
         IntoIter { rest }

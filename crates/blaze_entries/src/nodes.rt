@@ -1,10 +1,10 @@
 //! The tree: from each start to its end and value. Searches, and edits of its nodes.
 ghost use Rattle.std.specs.BTreeMap.{is_at, get};
-ghost use Rattle.std.specs.Prelude.{◌≡◌, ℤ, pos, ◌+ℤ◌, ◌≤ℤ◌, Some, None, IsSome, IfSome, OnOk, OnErr, IfOk};
+ghost use Rattle.std.specs.Prelude.{◌≡◌, ℤ, pos, ◌+ℤ◌, ◌≤ℤ◌, Some, None, IsSome, OnOk, OnErr, IfOk};
 ghost use Rattle.std.specs.Option.{option_map, option_copied};
 ghost use Rattle.std.specs.Ordering.{int_cmp, on};
 ghost use Rattle.blaze_entries.specs.Changed.{changed};
-ghost use Rattle.blaze_entries.specs.Nodes.{nodes_as_entries, lent_node_as_entry, node_as_entry_at};
+ghost use Rattle.blaze_entries.specs.Nodes.{shown_nodes, shown_lent_node, shown_node_at};
 ghost use Rattle.blaze_entries.specs.Starts.{StartsAscend, below, from, up_to, last_below};
 ghost use Rattle.blaze_entries.specs.Starts.{first_from};
 ghost use Rattle.blaze_entries.specs.Starts.{start_at, with_entry, without, with_end};
@@ -54,8 +54,8 @@ fn exchange<T: Integer, V: Drop>(
     node: EndValue<T, V>,
 ) -> Option<EndValue<T, V>>
     ensures nodes { tree.new.entries ≡ changed (is_at (on T.rank int_cmp start)) (λ _. node) tree.old.entries }
-    ensures old { option_map (node_as_entry_at T.rank start) result
-        ≡ option_map (node_as_entry_at T.rank start) (get (on T.rank int_cmp) tree.old start) }
+    ensures old { option_map (shown_node_at T.rank start) result
+        ≡ option_map (shown_node_at T.rank start) (get (on T.rank int_cmp) tree.old start) }
 {
     match tree.get_mut(&Start(start)) {
         Some(old) => Some(mem::replace(old, node)),
@@ -65,8 +65,8 @@ fn exchange<T: Integer, V: Drop>(
 
 /// The node with the greatest start below a key.
 pub fn node_below<T: Integer, V>(tree: &Tree<T, V>, key: T) -> Option<(&Start<T>, &EndValue<T, V>)>
-    ensures { option_map (lent_node_as_entry T.rank) result
-        ≡ last_below (T.rank key) (nodes_as_entries T.rank tree.now.entries) }
+    ensures { option_map (shown_lent_node T.rank) result
+        ≡ last_below (T.rank key) (shown_nodes T.rank tree.now.entries) }
 {
     tree.range(..Start(key)).next_back()
 }
@@ -76,8 +76,8 @@ pub fn nodes_up_to<'a, T: Integer, V>(
     tree: &'a Tree<T, V>,
     key: T,
 ) -> btree_map::Range<'a, Start<T>, EndValue<T, V>>
-    requires { StartsAscend T.low T.high (nodes_as_entries T.rank tree.now.entries) }
-    ensures { nodes_as_entries T.rank result ≡ below (T.rank key +ℤ pos 1) (nodes_as_entries T.rank tree.now.entries) }
+    requires { StartsAscend T.low T.high (shown_nodes T.rank tree.now.entries) }
+    ensures { shown_nodes T.rank result ≡ below (T.rank key +ℤ pos 1) (shown_nodes T.rank tree.now.entries) }
 {
     match key.checked_add_one() {
         Some(next) => tree.range(..Start(next)),
@@ -90,9 +90,9 @@ pub fn node_at_or_below<T: Integer, V>(
     tree: &Tree<T, V>,
     key: T,
 ) -> Option<(&Start<T>, &EndValue<T, V>)>
-    requires { StartsAscend T.low T.high (nodes_as_entries T.rank tree.now.entries) }
-    ensures { option_map (lent_node_as_entry T.rank) result
-        ≡ last_below (T.rank key +ℤ pos 1) (nodes_as_entries T.rank tree.now.entries) }
+    requires { StartsAscend T.low T.high (shown_nodes T.rank tree.now.entries) }
+    ensures { option_map (shown_lent_node T.rank) result
+        ≡ last_below (T.rank key +ℤ pos 1) (shown_nodes T.rank tree.now.entries) }
 {
     nodes_up_to(tree, key).next_back()
 }
@@ -102,7 +102,7 @@ pub fn nodes_from<'a, T: Integer, V>(
     tree: &'a Tree<T, V>,
     key: T,
 ) -> btree_map::Range<'a, Start<T>, EndValue<T, V>>
-    ensures { nodes_as_entries T.rank result ≡ from (T.rank key) (nodes_as_entries T.rank tree.now.entries) }
+    ensures { shown_nodes T.rank result ≡ from (T.rank key) (shown_nodes T.rank tree.now.entries) }
 {
     tree.range(Start(key)..)
 }
@@ -114,8 +114,8 @@ pub fn nodes_between<'a, T: Integer, V>(
     last: T,
 ) -> btree_map::Range<'a, Start<T>, EndValue<T, V>>
     requires { T.rank first ≤ℤ T.rank last }
-    ensures { nodes_as_entries T.rank result
-        ≡ up_to (T.rank last) (from (T.rank first) (nodes_as_entries T.rank tree.now.entries)) }
+    ensures { shown_nodes T.rank result
+        ≡ up_to (T.rank last) (from (T.rank first) (shown_nodes T.rank tree.now.entries)) }
 {
     tree.range(Start(first)..=Start(last))
 }
@@ -125,16 +125,16 @@ pub fn node_at_or_above<T: Integer, V>(
     tree: &Tree<T, V>,
     key: T,
 ) -> Option<(&Start<T>, &EndValue<T, V>)>
-    ensures { option_map (lent_node_as_entry T.rank) result
-        ≡ first_from (T.rank key) (nodes_as_entries T.rank tree.now.entries) }
+    ensures { option_map (shown_lent_node T.rank) result
+        ≡ first_from (T.rank key) (shown_nodes T.rank tree.now.entries) }
 {
     nodes_from(tree, key).next()
 }
 
 /// The node at a start.
 pub fn node_at<T: Integer, V>(tree: &Tree<T, V>, start: T) -> Option<&EndValue<T, V>>
-    ensures { option_map (node_as_entry_at T.rank start) (option_copied result)
-        ≡ start_at (T.rank start) (nodes_as_entries T.rank tree.now.entries) }
+    ensures { option_map (shown_node_at T.rank start) (option_copied result)
+        ≡ start_at (T.rank start) (shown_nodes T.rank tree.now.entries) }
 {
     tree.get(&Start(start))
 }
@@ -145,8 +145,8 @@ pub fn insert<T: Integer, V: Drop>(
     start: T,
     node: EndValue<T, V>,
 ) -> Result<(), AllocError>
-    ensures ok { OnOk result (nodes_as_entries T.rank tree.new.entries
-        ≡ with_entry (node_as_entry_at T.rank start node) (nodes_as_entries T.rank tree.old.entries)) }
+    ensures ok { OnOk result (shown_nodes T.rank tree.new.entries
+        ≡ with_entry (shown_node_at T.rank start node) (shown_nodes T.rank tree.old.entries)) }
     ensures err { OnErr result (tree.new.entries ≡ tree.old.entries) }
 {
     tree.insert(Start(start), node)?;
@@ -155,18 +155,18 @@ pub fn insert<T: Integer, V: Drop>(
 
 /// Takes the node at a start out.
 pub fn remove<T: Integer, V>(tree: &mut Tree<T, V>, start: T) -> Option<EndValue<T, V>>
-    ensures nodes { nodes_as_entries T.rank tree.new.entries
-        ≡ without (T.rank start) (nodes_as_entries T.rank tree.old.entries) }
-    ensures old { option_map (node_as_entry_at T.rank start) result
-        ≡ start_at (T.rank start) (nodes_as_entries T.rank tree.old.entries) }
+    ensures nodes { shown_nodes T.rank tree.new.entries
+        ≡ without (T.rank start) (shown_nodes T.rank tree.old.entries) }
+    ensures old { option_map (shown_node_at T.rank start) result
+        ≡ start_at (T.rank start) (shown_nodes T.rank tree.old.entries) }
 {
     tree.remove(&Start(start))
 }
 
 /// Moves the end of the node at a start.
 pub fn set_end<T: Integer, V>(tree: &mut Tree<T, V>, start: T, end: T)
-    ensures { nodes_as_entries T.rank tree.new.entries
-        ≡ with_end (T.rank start) (T.rank end) (nodes_as_entries T.rank tree.old.entries) }
+    ensures { shown_nodes T.rank tree.new.entries
+        ≡ with_end (T.rank start) (T.rank end) (shown_nodes T.rank tree.old.entries) }
 {
     change_end(tree, start, end);
 }
@@ -177,21 +177,21 @@ pub fn replace<T: Integer, V: Drop>(
     start: T,
     node: EndValue<T, V>,
 ) -> Option<EndValue<T, V>>
-    ensures nodes { nodes_as_entries T.rank tree.new.entries
+    ensures nodes { shown_nodes T.rank tree.new.entries
         ≡ with_end_value (T.rank start) (T.rank node.end) node.value
-        (nodes_as_entries T.rank tree.old.entries) }
-    ensures old { option_map (node_as_entry_at T.rank start) result
-        ≡ start_at (T.rank start) (nodes_as_entries T.rank tree.old.entries) }
+        (shown_nodes T.rank tree.old.entries) }
+    ensures old { option_map (shown_node_at T.rank start) result
+        ≡ start_at (T.rank start) (shown_nodes T.rank tree.old.entries) }
 {
     exchange(tree, start, node)
 }
 
 /// Keeps the nodes that start below a key, and answers the others.
 pub fn split_off<T: Integer, V>(tree: &mut Tree<T, V>, key: T) -> Result<Tree<T, V>, AllocError>
-    ensures below { OnOk result (nodes_as_entries T.rank tree.new.entries
-        ≡ below (T.rank key) (nodes_as_entries T.rank tree.old.entries)) }
-    ensures from { IfOk result (λ others. nodes_as_entries T.rank others.entries
-        ≡ from (T.rank key) (nodes_as_entries T.rank tree.old.entries)) }
+    ensures below { OnOk result (shown_nodes T.rank tree.new.entries
+        ≡ below (T.rank key) (shown_nodes T.rank tree.old.entries)) }
+    ensures from { IfOk result (λ others. shown_nodes T.rank others.entries
+        ≡ from (T.rank key) (shown_nodes T.rank tree.old.entries)) }
     ensures err { OnErr result (tree.new.entries ≡ tree.old.entries) }
 {
     let others = tree.split_off(&Start(key))?;
@@ -205,12 +205,12 @@ pub fn move_node<T: Integer, V: Drop>(
     to: T,
     place: EndValue<T, V>,
 ) -> Result<(), AllocError>
-    requires starts { StartsAscend T.low T.high (nodes_as_entries T.rank tree.old.entries) }
-    requires present { IsSome (start_at (T.rank from) (nodes_as_entries T.rank tree.old.entries)) }
-    requires absent { start_at (T.rank to) (nodes_as_entries T.rank tree.old.entries) ≡ None }
+    requires starts { StartsAscend T.low T.high (shown_nodes T.rank tree.old.entries) }
+    requires present { IsSome (start_at (T.rank from) (shown_nodes T.rank tree.old.entries)) }
+    requires absent { start_at (T.rank to) (shown_nodes T.rank tree.old.entries) ≡ None }
     ensures ok { OnOk result
-        (IsStartMoved (T.rank from) (T.rank to) (nodes_as_entries T.rank tree.old.entries)
-        (nodes_as_entries T.rank tree.new.entries)) }
+        (IsStartMoved (T.rank from) (T.rank to) (shown_nodes T.rank tree.old.entries)
+        (shown_nodes T.rank tree.new.entries)) }
     ensures err { OnErr result (tree.new.entries ≡ tree.old.entries) }
 {
     insert(tree, to, place)?;
@@ -229,12 +229,12 @@ pub fn replace_front<T: Integer, V: Drop>(
     to: T,
     place: EndValue<T, V>,
 ) -> Result<(), AllocError>
-    requires starts { StartsAscend T.low T.high (nodes_as_entries T.rank tree.old.entries) }
-    requires present { IsSome (start_at (T.rank start) (nodes_as_entries T.rank tree.old.entries)) }
-    requires absent { start_at (T.rank to) (nodes_as_entries T.rank tree.old.entries) ≡ None }
+    requires starts { StartsAscend T.low T.high (shown_nodes T.rank tree.old.entries) }
+    requires present { IsSome (start_at (T.rank start) (shown_nodes T.rank tree.old.entries)) }
+    requires absent { start_at (T.rank to) (shown_nodes T.rank tree.old.entries) ≡ None }
     ensures ok { OnOk result
         (IsFrontReplaced (T.rank start) (T.rank front.end) front.value (T.rank to)
-        (nodes_as_entries T.rank tree.old.entries) (nodes_as_entries T.rank tree.new.entries)) }
+        (shown_nodes T.rank tree.old.entries) (shown_nodes T.rank tree.new.entries)) }
     ensures err { OnErr result (tree.new.entries ≡ tree.old.entries) }
 {
     insert(tree, to, place)?;

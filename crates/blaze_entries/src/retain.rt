@@ -3,7 +3,7 @@ ghost use Rattle.std.specs.Prelude.{◌≡◌, option_map};
 ghost use Rattle.std.specs.List.Retain.{IsFiltered};
 ghost use Rattle.blaze_entries.specs.Answers.{AnswersAt, IsCallableAtEach};
 ghost use Rattle.blaze_entries.specs.Entries.{shown_entry};
-ghost use Rattle.blaze_entries.specs.Nodes.{nodes_as_entries, entries_of, AreHeld};
+ghost use Rattle.blaze_entries.specs.Nodes.{shown_nodes, entries_of, AreHeld};
 ghost use Rattle.blaze_entries.specs.Starts.{first_from, without};
 
 use crate::full_nodes::shown;
@@ -13,7 +13,7 @@ use std::ops::RangeInclusive;
 
 // The entry with the least start from a key on: its first key, last key and value.
 fn entry_from<T: Integer, V>(tree: &Tree<T, Option<V>>, key: T) -> Option<(T, T, &V)>
-    requires { AreHeld T.low T.high (nodes_as_entries T.rank tree.now.entries) }
+    requires { AreHeld T.low T.high (shown_nodes T.rank tree.now.entries) }
     ensures { option_map (shown_entry T.rank (λ v. v.now)) result
         ≡ first_from (T.rank key) (entries_of T.rank tree.now.entries) }
 {
@@ -22,8 +22,8 @@ fn entry_from<T: Integer, V>(tree: &Tree<T, Option<V>>, key: T) -> Option<(T, T,
 
 // Lets the entry at a start go.
 fn drop_entry<T: Integer, V: Drop>(tree: &mut Tree<T, Option<V>>, start: T)
-    requires { AreHeld T.low T.high (nodes_as_entries T.rank tree.old.entries) }
-    ensures held { AreHeld T.low T.high (nodes_as_entries T.rank tree.new.entries) }
+    requires { AreHeld T.low T.high (shown_nodes T.rank tree.old.entries) }
+    ensures held { AreHeld T.low T.high (shown_nodes T.rank tree.new.entries) }
     ensures entries { entries_of T.rank tree.new.entries
         ≡ without (T.rank start) (entries_of T.rank tree.old.entries) }
 {
@@ -35,9 +35,9 @@ pub fn retain<T: Integer, V: Drop, F: FnMut(&RangeInclusive<T>, &V) -> bool>(
     tree: &mut Tree<T, Option<V>>,
     mut f: F,
 )
-    requires held { AreHeld T.low T.high (nodes_as_entries T.rank tree.old.entries) }
+    requires held { AreHeld T.low T.high (shown_nodes T.rank tree.old.entries) }
     requires callable { IsCallableAtEach T.rank F.FnMut f (entries_of T.rank tree.old.entries) }
-    ensures held { AreHeld T.low T.high (nodes_as_entries T.rank tree.new.entries) }
+    ensures held { AreHeld T.low T.high (shown_nodes T.rank tree.new.entries) }
     ensures kept { IsFiltered (AnswersAt T.rank F.FnMut) f
         (entries_of T.rank tree.old.entries) (entries_of T.rank tree.new.entries) }
 {

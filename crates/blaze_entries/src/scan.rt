@@ -3,9 +3,9 @@ ghost use Rattle.std.specs.Prelude.{◌≡◌, ◌⊎◌, ◌+◌, ◌++◌, ◌
 ghost use Rattle.std.specs.Prelude.{reverse, None, MatchOption, OnSome, IfOk, OnErr};
 ghost use Rattle.std.specs.Option.{option_map, option_copied};
 ghost use Rattle.blaze_entries.specs.Entries.{Entry, entry};
-ghost use Rattle.blaze_entries.specs.Found.{found_of, is_sought, IsFoundAt};
-ghost use Rattle.blaze_entries.specs.Nodes.{nodes_as_entries, entries_of, AreFull, AreHeld};
-ghost use Rattle.blaze_entries.specs.Scanned.{seen_of, unseen, seen_end, seen_start, seen, walked};
+ghost use Rattle.blaze_entries.specs.Found.{shown_found, is_sought, IsFoundAt};
+ghost use Rattle.blaze_entries.specs.Nodes.{shown_nodes, entries_of, AreFull, AreHeld};
+ghost use Rattle.blaze_entries.specs.Scanned.{shown_plan, unseen, seen_end, seen_start, seen, walked};
 ghost use Rattle.blaze_entries.specs.Scanned.{answers, walked_keys, seen_value, walked_value};
 ghost use Rattle.blaze_entries.specs.Scanned.{IsAboveCloned, GoesOnUnlike};
 ghost use Rattle.blaze_entries.specs.Starts.{below};
@@ -37,7 +37,7 @@ pub struct Plan<T> {
 impl<T: Integer> Plan<T> {
     /// The plan before the first entry.
     pub fn new(hi: T) -> Plan<T>
-        ensures { seen_of T.rank result ≡ unseen (T.rank hi) }
+        ensures { shown_plan T.rank result ≡ unseen (T.rank hi) }
     {
         Plan {
             end: hi,
@@ -49,8 +49,8 @@ impl<T: Integer> Plan<T> {
 
     // Takes in an entry's end.
     fn see_end(&mut self, hi: T, found: Found<T>)
-        ensures { seen_of T.rank self.new
-            ≡ seen_end (T.rank hi) (seen_of T.rank self.old) (found_of T.rank found) }
+        ensures { shown_plan T.rank self.new
+            ≡ seen_end (T.rank hi) (shown_plan T.rank self.old) (shown_found T.rank found) }
     {
         if is_below(hi, found.end) {
             if found.is_equal {
@@ -63,8 +63,8 @@ impl<T: Integer> Plan<T> {
 
     // Takes in an entry's start.
     fn see_start(&mut self, lo: T, found: Found<T>)
-        ensures { seen_of T.rank self.new
-            ≡ seen_start (T.rank lo) (seen_of T.rank self.old) (found_of T.rank found) }
+        ensures { shown_plan T.rank self.new
+            ≡ seen_start (T.rank lo) (shown_plan T.rank self.old) (shown_found T.rank found) }
     {
         if is_below(found.start, lo) {
             self.left = Some(found);
@@ -75,8 +75,8 @@ impl<T: Integer> Plan<T> {
 
     /// Takes in an entry.
     pub fn see(&mut self, lo: T, hi: T, found: Found<T>)
-        ensures { seen_of T.rank self.new
-            ≡ seen (T.rank lo) (T.rank hi) (seen_of T.rank self.old) (found_of T.rank found) }
+        ensures { shown_plan T.rank self.new
+            ≡ seen (T.rank lo) (T.rank hi) (shown_plan T.rank self.old) (shown_found T.rank found) }
     {
         self.see_end(hi, found);
         self.see_start(lo, found);
@@ -86,7 +86,7 @@ impl<T: Integer> Plan<T> {
 // What an entry from `start` up to `end` shows beside a value, if one is asked for.
 #[inline(always)]
 fn beside<T: Integer, V: Eq>(start: T, end: T, other: &V, value: Option<&V>) -> Found<T>
-    ensures { found_of T.rank result
+    ensures { shown_found T.rank result
         ≡ (T.rank start, T.rank end, is_sought V.eq (option_copied value.entry) other.now) }
 {
     let is_equal = match value {
@@ -107,8 +107,8 @@ fn next_found<'a, T: Integer, V: Eq>(
     value: Option<&V>,
     looks: &mut Count,
 ) -> Option<(Found<T>, &'a V)>
-    requires { AreFull (nodes_as_entries T.rank nodes.old) }
-    ensures full { AreFull (nodes_as_entries T.rank nodes.new) }
+    requires { AreFull (shown_nodes T.rank nodes.old) }
+    ensures full { AreFull (shown_nodes T.rank nodes.new) }
     ensures found { MatchOption result (entries_of T.rank nodes.old ≡ []) (λ f. (e : Entry V)
         × IsFoundAt T.rank (is_sought V.eq (option_copied value.entry)) f.0 f.1.now e
         × (entries_of T.rank nodes.old ≡ entries_of T.rank nodes.new ++ e ∷ [])) }
@@ -166,11 +166,11 @@ pub fn walk<'a, T: Integer, V: Eq>(
     value: Option<&V>,
     looks: &mut Count,
 ) -> (Plan<T>, T::SafeLen, Option<&'a V>)
-    requires held { AreHeld T.low T.high (nodes_as_entries T.rank tree.now.entries) }
+    requires held { AreHeld T.low T.high (shown_nodes T.rank tree.now.entries) }
     requires len { walked_keys (T.rank lo) (T.rank hi)
         (reverse (below (T.rank hi +ℤ pos 2) (entries_of T.rank tree.now.entries)))
         ≤ℤ pos (T.SafeLen.number len) }
-    ensures plan { seen_of T.rank result.0
+    ensures plan { shown_plan T.rank result.0
         ≡ walked (is_sought V.eq (option_copied value.entry))
         (T.rank lo) (T.rank hi) (unseen (T.rank hi))
         (reverse (below (T.rank hi +ℤ pos 2) (entries_of T.rank tree.now.entries))) }
@@ -209,9 +209,9 @@ pub fn above_cloned<T: Integer, V: Clone>(
     held: Option<&V>,
 ) -> Result<Option<V>, AllocError>
     ensures clone { IfOk result (λ r. IsAboveCloned V.is_clone (T.rank hi)
-        (option_map (found_of T.rank) left) (option_copied held.entry) r) }
+        (option_map (shown_found T.rank) left) (option_copied held.entry) r) }
     ensures refused { OnErr result
-        (GoesOnUnlike (T.rank hi) (option_map (found_of T.rank) left)) }
+        (GoesOnUnlike (T.rank hi) (option_map (shown_found T.rank) left)) }
 {
     match left {
         Some(found) if !found.is_equal && is_below(hi, found.end) => {

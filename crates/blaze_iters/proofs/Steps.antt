@@ -6,11 +6,12 @@ use Rattle.std.specs.Option.{option_to_list}
 use Rattle.std.specs.Iterator.{MakesProgress, item_count}
 use Rattle.std.proofs.lemmas.Int.{ints}
 use Rattle.blaze_int.proofs.Naturals.{nat_of-pos}
-use Rattle.blaze_table.specs.Entries.{Entry, entry, shown_entry}
+use Rattle.blaze_entries.specs.declared.range_entry.RangeEntry.{RangeEntry}
+use Rattle.blaze_table.specs.Entries.{Entry, entry, shown_range_entry}
 use Rattle.blaze_table.specs.Canonical.{IsDisjoint, IsClear}
 use Rattle.blaze_table.specs.Pairs.{pairs_from, pairs_of, pair_list}
 use Rattle.blaze_table.proofs.Pairs.PairLists.{pairs_first, pairs_last, pairs_one, pair_list-append}
-use Rattle.blaze_iters.specs.Left.{RangesLeft, ranges_left, pairs_left, seen, OpensFirst, OpensLast, IsRestAfter, IsRestBefore}
+use Rattle.blaze_iters.specs.Left.{RangesLeft, ranges_left, pairs_left, shown_left, OpensFirst, OpensLast, IsRestAfter, IsRestBefore}
 use Rattle.blaze_iters.specs.Owned.{OwnedLeft, owned_ranges, HasSeveralFirst, HasSeveralLast}
 
 module _ {K V : Type 0} (of_rank : ℤ → K) where
@@ -55,42 +56,42 @@ module _ {K V : Type 0} (of_rank : ℤ → K) where
       rw (pair_list-append of_rank (front ++ left s.inner) back, pair_list-append of_rank front (left s.inner)) (simp length-append (omega arith))
 
 module _ {K R V : Type 0} (rank : K → ℤ) (of_rank : ℤ → K) (shown : R → V) where
-  abbrev parts : Option (K × K × R) → List (Entry V)
-  parts rest = option_to_list (option_map (shown_entry rank shown) rest)
+  abbrev parts : Option (RangeEntry K R) → List (Entry V)
+  parts rest = option_to_list (option_map (shown_range_entry rank shown) rest)
 
-  part_first : (lo hi : K) (value : R) (rest : Option (K × K × R)) → of_rank (rank lo) ≡ lo → IsRestAfter rank (lo, hi, value) rest
-      → pairs_of of_rank (entry (rank lo) (rank hi) (shown value)) ≡ (lo, shown value) ∷ pair_list of_rank (parts rest)
-  part_first lo hi value None k r = rw (only_key of_rank (rank lo) (rank hi) (shown value) r, ← r, k) refl
-  part_first lo hi value (Some q) k r = rw (r.2, r.3, append-nil) (rw k at (first_of_many of_rank (rank lo) (rank hi) (rank q.0) (shown value) r.0 r.1))
+  part_first : (e : RangeEntry K R) (rest : Option (RangeEntry K R)) → of_rank (rank e.start) ≡ e.start → IsRestAfter rank e rest
+      → pairs_of of_rank (shown_range_entry rank shown e) ≡ (e.start, shown e.value) ∷ pair_list of_rank (parts rest)
+  part_first e None k r = rw (only_key of_rank (rank e.start) (rank e.end) (shown e.value) r, ← r, k) refl
+  part_first e (Some q) k r = rw (r.2, r.3, append-nil) (rw k at (first_of_many of_rank (rank e.start) (rank e.end) (rank q.start) (shown e.value) r.0 r.1))
 
-  part_last : (lo hi : K) (value : R) (rest : Option (K × K × R)) → of_rank (rank hi) ≡ hi → IsRestBefore rank (lo, hi, value) rest
-      → pairs_of of_rank (entry (rank lo) (rank hi) (shown value)) ≡ pair_list of_rank (parts rest) ++ (hi, shown value) ∷ []
-  part_last lo hi value None k r = rw k at (only_key of_rank (rank lo) (rank hi) (shown value) r)
-  part_last lo hi value (Some q) k r = rw (r.2, r.3, append-nil) (rw k at (last_of_many of_rank (rank lo) (rank hi) (rank q.1) (shown value) r.0 r.1))
+  part_last : (e : RangeEntry K R) (rest : Option (RangeEntry K R)) → of_rank (rank e.end) ≡ e.end → IsRestBefore rank e rest
+      → pairs_of of_rank (shown_range_entry rank shown e) ≡ pair_list of_rank (parts rest) ++ (e.end, shown e.value) ∷ []
+  part_last e None k r = rw k at (only_key of_rank (rank e.start) (rank e.end) (shown e.value) r)
+  part_last e (Some q) k r = rw (r.2, r.3, append-nil) (rw k at (last_of_many of_rank (rank e.start) (rank e.end) (rank q.end) (shown e.value) r.0 r.1))
 
   -- the first key is taken
-  pub takes_first : {I : Type 0} (left : I → List (Entry V)) (lo hi : K) (value : R) (rest : Option (K × K × R)) (inner : I) (back : Option (K × K × R)) → of_rank (rank lo) ≡ lo → IsRestAfter rank (lo, hi, value) rest
-      → pairs_left of_rank left (seen rank shown (Some (lo, hi, value)) inner back) ≡ (lo, shown value) ∷ pairs_left of_rank left (seen rank shown rest inner back)
-  takes_first left lo hi value rest inner back k r =
+  pub takes_first : {I : Type 0} (left : I → List (Entry V)) (e : RangeEntry K R) (rest : Option (RangeEntry K R)) (inner : I) (back : Option (RangeEntry K R)) → of_rank (rank e.start) ≡ e.start → IsRestAfter rank e rest
+      → pairs_left of_rank left (shown_left rank shown (Some e) inner back) ≡ (e.start, shown e.value) ∷ pairs_left of_rank left (shown_left rank shown rest inner back)
+  takes_first left e rest inner back k r =
       let after = left inner ++ parts back in
-      rw (append_assoc (parts rest) (left inner) (parts back), pair_list-append of_rank (parts rest) after) (ap (λ t. t ++ pair_list of_rank after) (part_first lo hi value rest k r))
+      rw (append_assoc (parts rest) (left inner) (parts back), pair_list-append of_rank (parts rest) after) (ap (λ t. t ++ pair_list of_rank after) (part_first e rest k r))
 
   -- the last key is taken
-  pub takes_last : {I : Type 0} (left : I → List (Entry V)) (lo hi : K) (value : R) (rest front : Option (K × K × R)) (inner : I) → of_rank (rank hi) ≡ hi → IsRestBefore rank (lo, hi, value) rest
-      → pairs_left of_rank left (seen rank shown front inner (Some (lo, hi, value))) ≡ pairs_left of_rank left (seen rank shown front inner rest) ++ (hi, shown value) ∷ []
-  takes_last left lo hi value rest front inner k r =
+  pub takes_last : {I : Type 0} (left : I → List (Entry V)) (e : RangeEntry K R) (rest front : Option (RangeEntry K R)) (inner : I) → of_rank (rank e.end) ≡ e.end → IsRestBefore rank e rest
+      → pairs_left of_rank left (shown_left rank shown front inner (Some e)) ≡ pairs_left of_rank left (shown_left rank shown front inner rest) ++ (e.end, shown e.value) ∷ []
+  takes_last left e rest front inner k r =
       let before = parts front ++ left inner in
-      rw (pair_list-append of_rank before (parts (Some (lo, hi, value))), pair_list-append of_rank before (parts rest), append-nil, part_last lo hi value rest k r)
-      (sym (append_assoc (pair_list of_rank before) (pair_list of_rank (parts rest)) ((hi, shown value) ∷ [])))
+      rw (pair_list-append of_rank before (parts (Some e)), pair_list-append of_rank before (parts rest), append-nil, part_last e rest k r)
+      (sym (append_assoc (pair_list of_rank before) (pair_list of_rank (parts rest)) ((e.end, shown e.value) ∷ [])))
 
 module _ {K V : Type 0} (rank : K → ℤ) (of_rank : ℤ → K) (s : OwnedLeft V) where
   -- the range that is taken first has several keys
-  pub several_first : (lo hi : K) (value : V) (inner : List (Entry V)) (back : Option (K × K × V)) → owned_ranges s ≡ owned_ranges (seen rank (λ v. v) (Some (lo, hi, value)) inner back) → rank lo <ℤ rank hi → HasSeveralFirst s
-  several_first lo hi value inner back e h = (entry (rank lo) (rank hi) value, inner ++ option_to_list (option_map (shown_entry rank (λ (v : V). v)) back), e, h)
+  pub several_first : (e : RangeEntry K V) (inner : List (Entry V)) (back : Option (RangeEntry K V)) → owned_ranges s ≡ owned_ranges (shown_left rank (λ v. v) (Some e) inner back) → rank e.start <ℤ rank e.end → HasSeveralFirst s
+  several_first e inner back q h = (shown_range_entry rank (λ v. v) e, inner ++ option_to_list (option_map (shown_range_entry rank (λ (v : V). v)) back), q, h)
 
   -- the range that is taken last has several keys
-  pub several_last : (lo hi : K) (value : V) (front : Option (K × K × V)) (inner : List (Entry V)) → owned_ranges s ≡ owned_ranges (seen rank (λ v. v) front inner (Some (lo, hi, value))) → rank lo <ℤ rank hi → HasSeveralLast s
-  several_last lo hi value front inner e h = (entry (rank lo) (rank hi) value, option_to_list (option_map (shown_entry rank (λ (v : V). v)) front) ++ inner, e, h)
+  pub several_last : (e : RangeEntry K V) (front : Option (RangeEntry K V)) (inner : List (Entry V)) → owned_ranges s ≡ owned_ranges (shown_left rank (λ v. v) front inner (Some e)) → rank e.start <ℤ rank e.end → HasSeveralLast s
+  several_last e front inner q h = (shown_range_entry rank (λ v. v) e, option_to_list (option_map (shown_range_entry rank (λ (v : V). v)) front) ++ inner, q, h)
 
   pub some_of_first : HasSeveralFirst s → 1 ≤ length (pairs_left of_rank (λ es. es) s)
   some_of_first h = let full : h.0.lo ≤ℤ h.0.hi = omega (arith, ints, h.3) in rw h.2 (some_first of_rank h.0 h.1 full)

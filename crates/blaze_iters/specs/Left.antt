@@ -2,7 +2,8 @@
 use Rattle.std.specs.Prelude.{◌≡◌, ℤ, pos, ◌+ℤ◌, ◌≤ℤ◌, List, [], ◌∷◌, ◌++◌, map, reverse, Option, None, Some, IfSome, MatchOption, option_map}
 use Rattle.std.specs.Iterator.{YieldsFirstBy, YieldsLastBy}
 use Rattle.std.specs.Option.{option_to_list}
-use Rattle.blaze_table.specs.Entries.{Entry, shown_entry}
+use Rattle.blaze_entries.specs.declared.range_entry.RangeEntry.{RangeEntry}
+use Rattle.blaze_table.specs.Entries.{Entry, shown_range_entry}
 use Rattle.blaze_table.specs.Pairs.{pair_list}
 
 -- what is left of the range that is opened at each end, as an entry, and the iterator of the ranges between
@@ -71,8 +72,8 @@ shown_pair shown p = (p.0, shown p.1)
 -- ---- the words of this crate's own functions
 
 -- what is left, where an opened range is stored as its first key, last key and what shows its value
-abbrev pub seen : {T R V I : Type 0} → (T → ℤ) → (R → V) → Option (T × T × R) → I → Option (T × T × R) → RangesLeft V I
-seen rank shown front inner back = record { front = option_map (shown_entry rank shown) front; inner = inner; back = option_map (shown_entry rank shown) back }
+abbrev pub shown_left : {T R V I : Type 0} → (T → ℤ) → (R → V) → Option (RangeEntry T R) → I → Option (RangeEntry T R) → RangesLeft V I
+shown_left rank shown front inner back = record { front = option_map (shown_range_entry rank shown) front; inner = inner; back = option_map (shown_range_entry rank shown) back }
 
 -- the rest of an opened range is not empty
 abbrev pub IsFull : {V : Type 0} → Option (Entry V) → Type 0
@@ -91,9 +92,9 @@ abbrev pub IsSecondLast : {K : Type 0} → (K → ℤ) → K → K → Option K 
 IsSecondLast rank lo hi previous = MatchOption previous (rank lo ≡ rank hi) (λ k. (rank k +ℤ pos 1 ≡ rank hi) × (rank lo ≤ℤ rank k))
 
 -- what is left of a range without its first key: none, or the range from the next key on
-abbrev pub IsRestAfter : {K R : Type 0} → (K → ℤ) → K × K × R → Option (K × K × R) → Type 0
-IsRestAfter rank p rest = MatchOption rest (rank p.0 ≡ rank p.1) (λ q. (rank q.0 ≡ rank p.0 +ℤ pos 1) × (rank q.0 ≤ℤ rank p.1) × (q.1 ≡ p.1) × (q.2 ≡ p.2))
+abbrev pub IsRestAfter : {K R : Type 0} → (K → ℤ) → RangeEntry K R → Option (RangeEntry K R) → Type 0
+IsRestAfter rank e rest = MatchOption rest (rank e.start ≡ rank e.end) (λ r. (rank r.start ≡ rank e.start +ℤ pos 1) × (rank r.start ≤ℤ rank e.end) × (r.end ≡ e.end) × (r.value ≡ e.value))
 
 -- what is left of a range without its last key: none, or the range up to the key before
-abbrev pub IsRestBefore : {K R : Type 0} → (K → ℤ) → K × K × R → Option (K × K × R) → Type 0
-IsRestBefore rank p rest = MatchOption rest (rank p.0 ≡ rank p.1) (λ q. (rank q.1 +ℤ pos 1 ≡ rank p.1) × (rank p.0 ≤ℤ rank q.1) × (q.0 ≡ p.0) × (q.2 ≡ p.2))
+abbrev pub IsRestBefore : {K R : Type 0} → (K → ℤ) → RangeEntry K R → Option (RangeEntry K R) → Type 0
+IsRestBefore rank e rest = MatchOption rest (rank e.start ≡ rank e.end) (λ r. (rank r.end +ℤ pos 1 ≡ rank e.end) × (rank e.start ≤ℤ rank r.end) × (r.start ≡ e.start) × (r.value ≡ e.value))

@@ -2,10 +2,10 @@
 ghost use Rattle.std.specs.Prelude.{◌≡◌, ◌≤◌, [], length, None, IfSome, IfNone, unwrap_or};
 ghost use Rattle.std.specs.Iterator.{YieldsFirstBy, YieldsLastBy, item_count, UpTo};
 ghost use Rattle.std.specs.Iterator.SizeHint.{IsWithinCount};
-ghost use Rattle.blaze_table.specs.Entries.{shown_entry};
+ghost use Rattle.blaze_table.specs.Entries.{shown_range_entry};
 ghost use Rattle.blaze_table.specs.Painted.{ClonesAreAlike};
 ghost use Rattle.blaze_table.specs.Pairs.{pair_list};
-ghost use Rattle.blaze_iters.specs.Left.{unopened, seen, OpensFirst, OpensLast};
+ghost use Rattle.blaze_iters.specs.Left.{unopened, shown_left, OpensFirst, OpensLast};
 ghost use Rattle.blaze_iters.specs.Left.{YieldsOpeningFirst, YieldsOpeningLast, pairs_left};
 ghost use Rattle.blaze_iters.specs.Left.{keys_left};
 ghost use Rattle.blaze_iters.specs.Owned.{OwnedLeft, owned_ranges, IsOwned, GivesFirst, GivesLast};
@@ -13,7 +13,7 @@ ghost use Rattle.blaze_iters.specs.Owned.{IsLikePair};
 
 use crate::rest::{rest_after, rest_before, second, second_last};
 use blaze_int::Integer;
-use blaze_table::{IntoIter, RangeTable};
+use blaze_table::{IntoIter, RangeEntry, RangeTable};
 use std::alloc::AllocError;
 use std::iter::FusedIterator;
 use std::marker::Model;
@@ -22,21 +22,21 @@ use std::marker::Model;
 /// which gets the stored one. After a refused clone the iterator has ended.
 #[derive(Drop)]
 pub struct IntoIterMap<T: Integer, V> {
-    front: Option<(T, T, V)>,
+    front: Option<RangeEntry<T, V>>,
     inner: Option<IntoIter<T, V>>,
-    back: Option<(T, T, V)>,
+    back: Option<RangeEntry<T, V>>,
 }
 
 impl<T: Integer, V> Model for IntoIterMap<T, V> {
     ghost use Rattle.std.specs.Prelude.{[], unwrap_or};
-    ghost use Rattle.blaze_iters.specs.Left.{seen};
+    ghost use Rattle.blaze_iters.specs.Left.{shown_left};
     ghost use Rattle.blaze_iters.specs.Owned.{OwnedLeft, IsOwned};
 
     ghost Value = { OwnedLeft V };
 
-    ghost view = { λ s. seen T.rank (λ v. v) s.front (unwrap_or s.inner []) s.back };
+    ghost view = { λ s. shown_left T.rank (λ v. v) s.front (unwrap_or s.inner []) s.back };
 
-    ghost invariant = { λ s. IsOwned (seen T.rank (λ v. v) s.front (unwrap_or s.inner []) s.back) };
+    ghost invariant = { λ s. IsOwned (shown_left T.rank (λ v. v) s.front (unwrap_or s.inner []) s.back) };
 }
 
 impl<T: Integer, V: Eq + Drop> IntoIterMap<T, V> {
@@ -78,10 +78,11 @@ impl<T: Integer, V: Eq + Drop> IntoIterMap<T, V> {
         ensures { YieldsOpeningFirst (λ es. es) (λ k. k) (keys_left T.of_rank (λ es. es))
             self.old result self.new }
     {
-        let (start, end, value) = take_first(&mut self.front, &mut self.inner, &mut self.back)?;
-        start.in_hand();
-        self.front = rest_after(start, end, value);
-        Some(start)
+        let first = take_first(&mut self.front, &mut self.inner, &mut self.back)?;
+        let key = first.start;
+        key.in_hand();
+        self.front = rest_after(first);
+        Some(key)
     }
 
     /// Takes the last key that is left, and clones nothing.
@@ -89,10 +90,11 @@ impl<T: Integer, V: Eq + Drop> IntoIterMap<T, V> {
         ensures { YieldsOpeningLast (λ es. es) (λ k. k) (keys_left T.of_rank (λ es. es))
             self.old result self.new }
     {
-        let (start, end, value) = take_last(&mut self.front, &mut self.inner, &mut self.back)?;
-        end.in_hand();
-        self.back = rest_before(start, end, value);
-        Some(end)
+        let last = take_last(&mut self.front, &mut self.inner, &mut self.back)?;
+        let key = last.end;
+        key.in_hand();
+        self.back = rest_before(last);
+        Some(key)
     }
 }
 
@@ -106,7 +108,8 @@ impl<T: Integer, V: Eq + Clone> Iterator for IntoIterMap<T, V> {
     ghost remaining = { item_count (pairs_left T.of_rank (λ es. es)) };
 
     fn next(&mut self) -> Option<Result<(T, V), AllocError>> {
-        let (start, end, value) = take_first(&mut self.front, &mut self.inner, &mut self.back)?;
+        let first = take_first(&mut self.front, &mut self.inner, &mut self.back)?;
+        let RangeEntry { start, end, value } = first;
         start.in_hand();
         let next = match second(start, end) {
             Some(next) => next,
@@ -114,7 +117,11 @@ impl<T: Integer, V: Eq + Clone> Iterator for IntoIterMap<T, V> {
         };
         match value.clone() {
             Ok(copy) => {
-                self.front = Some((next, end, value));
+                self.front = Some(RangeEntry {
+                    start: next,
+                    end,
+                    value,
+                });
                 Some(Ok((start, copy)))
             }
             Err(refused) => {
@@ -142,7 +149,8 @@ impl<T: Integer, V: Eq + Clone> DoubleEndedIterator for IntoIterMap<T, V> {
     ghost next_back_gives = { GivesLast (pairs_left T.of_rank (λ es. es)) (IsLikePair V.eq) };
 
     fn next_back(&mut self) -> Option<Result<(T, V), AllocError>> {
-        let (start, end, value) = take_last(&mut self.front, &mut self.inner, &mut self.back)?;
+        let last = take_last(&mut self.front, &mut self.inner, &mut self.back)?;
+        let RangeEntry { start, end, value } = last;
         end.in_hand();
         let previous = match second_last(start, end) {
             Some(previous) => previous,
@@ -150,7 +158,11 @@ impl<T: Integer, V: Eq + Clone> DoubleEndedIterator for IntoIterMap<T, V> {
         };
         match value.clone() {
             Ok(copy) => {
-                self.back = Some((start, previous, value));
+                self.back = Some(RangeEntry {
+                    start,
+                    end: previous,
+                    value,
+                });
                 Some(Ok((end, copy)))
             }
             Err(refused) => {
@@ -164,75 +176,81 @@ impl<T: Integer, V: Eq + Clone> DoubleEndedIterator for IntoIterMap<T, V> {
 impl<T: Integer, V: Eq + Clone> FusedIterator for IntoIterMap<T, V> {}
 
 /// Takes the first range that no call has opened.
-fn first_whole<T: Integer, V: Drop>(inner: &mut Option<IntoIter<T, V>>) -> Option<(T, T, V)>
-    ensures { YieldsFirstBy (shown_entry T.rank (λ v. v)) (λ s. unwrap_or s [])
+fn first_whole<T: Integer, V: Drop>(inner: &mut Option<IntoIter<T, V>>) -> Option<RangeEntry<T, V>>
+    ensures { YieldsFirstBy (shown_range_entry T.rank (λ v. v)) (λ s. unwrap_or s [])
         inner.old result inner.new }
 {
     match inner {
-        Some(ranges) => ranges.next(),
+        Some(ranges) => {
+            let (start, end, value) = ranges.next()?;
+            Some(RangeEntry { start, end, value })
+        }
         None => None,
     }
 }
 
 /// Takes the last range that no call has opened.
-fn last_whole<T: Integer, V: Drop>(inner: &mut Option<IntoIter<T, V>>) -> Option<(T, T, V)>
-    ensures { YieldsLastBy (shown_entry T.rank (λ v. v)) (λ s. unwrap_or s [])
+fn last_whole<T: Integer, V: Drop>(inner: &mut Option<IntoIter<T, V>>) -> Option<RangeEntry<T, V>>
+    ensures { YieldsLastBy (shown_range_entry T.rank (λ v. v)) (λ s. unwrap_or s [])
         inner.old result inner.new }
 {
     match inner {
-        Some(ranges) => ranges.next_back(),
+        Some(ranges) => {
+            let (start, end, value) = ranges.next_back()?;
+            Some(RangeEntry { start, end, value })
+        }
         None => None,
     }
 }
 
 /// The first range that is left, or what is left of it.
 fn take_first<T: Integer, V: Drop>(
-    front: &mut Option<(T, T, V)>,
+    front: &mut Option<RangeEntry<T, V>>,
     inner: &mut Option<IntoIter<T, V>>,
-    back: &mut Option<(T, T, V)>,
-) -> Option<(T, T, V)>
-    requires { IsOwned (seen T.rank (λ v. v) front.old (unwrap_or inner.old []) back.old) }
-    ensures left { owned_ranges (seen T.rank (λ v. v) front.old (unwrap_or inner.old []) back.old)
-        ≡ owned_ranges (seen T.rank (λ v. v) result (unwrap_or inner.new []) back.new) }
-    ensures owned { IsOwned (seen T.rank (λ v. v) result (unwrap_or inner.new []) back.new) }
+    back: &mut Option<RangeEntry<T, V>>,
+) -> Option<RangeEntry<T, V>>
+    requires { IsOwned (shown_left T.rank (λ v. v) front.old (unwrap_or inner.old []) back.old) }
+    ensures left { owned_ranges (shown_left T.rank (λ v. v) front.old (unwrap_or inner.old []) back.old)
+        ≡ owned_ranges (shown_left T.rank (λ v. v) result (unwrap_or inner.new []) back.new) }
+    ensures owned { IsOwned (shown_left T.rank (λ v. v) result (unwrap_or inner.new []) back.new) }
     ensures front { front.new ≡ None }
     ensures opens { OpensFirst (λ es. es)
-        (seen T.rank (λ v. v) front.old (unwrap_or inner.old []) back.old)
-        (seen T.rank (λ v. v) front.new (unwrap_or inner.new []) back.new) }
+        (shown_left T.rank (λ v. v) front.old (unwrap_or inner.old []) back.old)
+        (shown_left T.rank (λ v. v) front.new (unwrap_or inner.new []) back.new) }
     ensures none { IfNone result
-        (owned_ranges (seen T.rank (λ v. v) None (unwrap_or inner.new []) back.new) ≡ []) }
+        (owned_ranges (shown_left T.rank (λ v. v) None (unwrap_or inner.new []) back.new) ≡ []) }
 {
     if let Some(rest) = front.take() {
         return Some(rest);
     }
     match first_whole(inner) {
-        Some((start, end, value)) => Some((start, end, value)),
+        Some(first) => Some(first),
         None => back.take(),
     }
 }
 
 /// The last range that is left, or what is left of it.
 fn take_last<T: Integer, V: Drop>(
-    front: &mut Option<(T, T, V)>,
+    front: &mut Option<RangeEntry<T, V>>,
     inner: &mut Option<IntoIter<T, V>>,
-    back: &mut Option<(T, T, V)>,
-) -> Option<(T, T, V)>
-    requires { IsOwned (seen T.rank (λ v. v) front.old (unwrap_or inner.old []) back.old) }
-    ensures left { owned_ranges (seen T.rank (λ v. v) front.old (unwrap_or inner.old []) back.old)
-        ≡ owned_ranges (seen T.rank (λ v. v) front.new (unwrap_or inner.new []) result) }
-    ensures owned { IsOwned (seen T.rank (λ v. v) front.new (unwrap_or inner.new []) result) }
+    back: &mut Option<RangeEntry<T, V>>,
+) -> Option<RangeEntry<T, V>>
+    requires { IsOwned (shown_left T.rank (λ v. v) front.old (unwrap_or inner.old []) back.old) }
+    ensures left { owned_ranges (shown_left T.rank (λ v. v) front.old (unwrap_or inner.old []) back.old)
+        ≡ owned_ranges (shown_left T.rank (λ v. v) front.new (unwrap_or inner.new []) result) }
+    ensures owned { IsOwned (shown_left T.rank (λ v. v) front.new (unwrap_or inner.new []) result) }
     ensures back { back.new ≡ None }
     ensures opens { OpensLast (λ es. es)
-        (seen T.rank (λ v. v) front.old (unwrap_or inner.old []) back.old)
-        (seen T.rank (λ v. v) front.new (unwrap_or inner.new []) back.new) }
+        (shown_left T.rank (λ v. v) front.old (unwrap_or inner.old []) back.old)
+        (shown_left T.rank (λ v. v) front.new (unwrap_or inner.new []) back.new) }
     ensures none { IfNone result
-        (owned_ranges (seen T.rank (λ v. v) front.new (unwrap_or inner.new []) None) ≡ []) }
+        (owned_ranges (shown_left T.rank (λ v. v) front.new (unwrap_or inner.new []) None) ≡ []) }
 {
     if let Some(rest) = back.take() {
         return Some(rest);
     }
     match last_whole(inner) {
-        Some((start, end, value)) => Some((start, end, value)),
+        Some(last) => Some(last),
         None => front.take(),
     }
 }

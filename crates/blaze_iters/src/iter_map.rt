@@ -3,33 +3,33 @@ ghost use Rattle.std.specs.Prelude.{◌≡◌, [], None, IfSome, IfNone};
 ghost use Rattle.std.specs.Iterator.{item_count, UpTo};
 ghost use Rattle.std.specs.Iterator.SizeHint.{IsWithinCount};
 ghost use Rattle.blaze_table.specs.Pairs.{pair_list};
-ghost use Rattle.blaze_iters.specs.Left.{RangesLeft, unopened, seen, AreFull, OpensFirst};
+ghost use Rattle.blaze_iters.specs.Left.{RangesLeft, unopened, shown_left, AreFull, OpensFirst};
 ghost use Rattle.blaze_iters.specs.Left.{OpensLast, YieldsOpeningFirst, YieldsOpeningLast};
 ghost use Rattle.blaze_iters.specs.Left.{ranges_left, pairs_left, shown_pair};
 
 use crate::rest::{rest_after, rest_before};
 use blaze_int::Integer;
 use blaze_streams::{BothEnds, RangeValuesIter, SortedDisjointMap, ValueCarrier};
-use blaze_table::RangeTable;
+use blaze_table::{RangeEntry, RangeTable};
 use std::iter::FusedIterator;
 use std::marker::Model;
 
 /// The keys of a stream's ranges, ascending, each with a carrier of its range's value.
 #[derive(Drop)]
 pub struct IterMap<T: Integer, VC: ValueCarrier + Copy, I: SortedDisjointMap<T, VC>> {
-    front: Option<(T, T, VC)>,
+    front: Option<RangeEntry<T, VC>>,
     inner: I,
-    back: Option<(T, T, VC)>,
+    back: Option<RangeEntry<T, VC>>,
 }
 
 impl<T: Integer, VC: ValueCarrier + Copy, I: SortedDisjointMap<T, VC>> Model for IterMap<T, VC, I> {
-    ghost use Rattle.blaze_iters.specs.Left.{RangesLeft, seen, AreFull};
+    ghost use Rattle.blaze_iters.specs.Left.{RangesLeft, shown_left, AreFull};
 
     ghost Value = { RangesLeft VC.Value I };
 
-    ghost view = { λ s. seen T.rank VC.shown s.front s.inner s.back };
+    ghost view = { λ s. shown_left T.rank VC.shown s.front s.inner s.back };
 
-    ghost invariant = { λ s. AreFull (seen T.rank VC.shown s.front s.inner s.back) };
+    ghost invariant = { λ s. AreFull (shown_left T.rank VC.shown s.front s.inner s.back) };
 }
 
 impl<T: Integer, VC: ValueCarrier + Copy, I: SortedDisjointMap<T, VC>> IterMap<T, VC, I> {
@@ -63,18 +63,18 @@ impl<'a, T: Integer, V: Eq + Clone> IterMap<T, &'a V, RangeValuesIter<'a, T, V>>
 
 /// The first range that is left, or what is left of it.
 fn take_first<T: Integer, VC: ValueCarrier, I: SortedDisjointMap<T, VC>>(
-    front: &mut Option<(T, T, VC)>,
+    front: &mut Option<RangeEntry<T, VC>>,
     inner: &mut I,
-    back: &mut Option<(T, T, VC)>,
-) -> Option<(T, T, VC)>
-    requires { AreFull (seen T.rank VC.shown front.old inner.old back.old) }
-    ensures left { ranges_left I.left (seen T.rank VC.shown front.old inner.old back.old)
-        ≡ ranges_left I.left (seen T.rank VC.shown result inner.new back.new) }
-    ensures full { AreFull (seen T.rank VC.shown result inner.new back.new) }
+    back: &mut Option<RangeEntry<T, VC>>,
+) -> Option<RangeEntry<T, VC>>
+    requires { AreFull (shown_left T.rank VC.shown front.old inner.old back.old) }
+    ensures left { ranges_left I.left (shown_left T.rank VC.shown front.old inner.old back.old)
+        ≡ ranges_left I.left (shown_left T.rank VC.shown result inner.new back.new) }
+    ensures full { AreFull (shown_left T.rank VC.shown result inner.new back.new) }
     ensures front { front.new ≡ None }
-    ensures opens { OpensFirst I.left (seen T.rank VC.shown front.old inner.old back.old)
-        (seen T.rank VC.shown front.new inner.new back.new) }
-    ensures none { IfNone result (ranges_left I.left (seen T.rank VC.shown None inner.new back.new)
+    ensures opens { OpensFirst I.left (shown_left T.rank VC.shown front.old inner.old back.old)
+        (shown_left T.rank VC.shown front.new inner.new back.new) }
+    ensures none { IfNone result (ranges_left I.left (shown_left T.rank VC.shown None inner.new back.new)
         ≡ []) }
 {
     if let Some(rest) = front.take() {
@@ -84,7 +84,7 @@ fn take_first<T: Integer, VC: ValueCarrier, I: SortedDisjointMap<T, VC>>(
     match inner.next() {
         Some((range, value)) => {
             let (start, end) = range.into_inner();
-            Some((start, end, value))
+            Some(RangeEntry { start, end, value })
         }
         None => back.take(),
     }
@@ -100,10 +100,10 @@ impl<T: Integer, VC: ValueCarrier + Copy, I: SortedDisjointMap<T, VC>> Iterator
     ghost remaining = { item_count (pairs_left T.of_rank I.left) };
 
     fn next(&mut self) -> Option<(T, VC)> {
-        let (start, end, value) = take_first(&mut self.front, &mut self.inner, &mut self.back)?;
-        start.in_hand();
-        self.front = rest_after(start, end, value);
-        Some((start, value))
+        let first = take_first(&mut self.front, &mut self.inner, &mut self.back)?;
+        first.start.in_hand();
+        self.front = rest_after(first);
+        Some((first.start, first.value))
     }
 
     /// At least as many keys are left as the ranges that no call has opened: the lower bound of the stream's.
@@ -119,18 +119,18 @@ impl<T: Integer, VC: ValueCarrier + Copy, I: SortedDisjointMap<T, VC>> Iterator
 
 /// The last range that is left, or what is left of it.
 fn take_last<T: Integer, VC: ValueCarrier, I: BothEnds<T, VC>>(
-    front: &mut Option<(T, T, VC)>,
+    front: &mut Option<RangeEntry<T, VC>>,
     inner: &mut I,
-    back: &mut Option<(T, T, VC)>,
-) -> Option<(T, T, VC)>
-    requires { AreFull (seen T.rank VC.shown front.old inner.old back.old) }
-    ensures left { ranges_left I.left (seen T.rank VC.shown front.old inner.old back.old)
-        ≡ ranges_left I.left (seen T.rank VC.shown front.new inner.new result) }
-    ensures full { AreFull (seen T.rank VC.shown front.new inner.new result) }
+    back: &mut Option<RangeEntry<T, VC>>,
+) -> Option<RangeEntry<T, VC>>
+    requires { AreFull (shown_left T.rank VC.shown front.old inner.old back.old) }
+    ensures left { ranges_left I.left (shown_left T.rank VC.shown front.old inner.old back.old)
+        ≡ ranges_left I.left (shown_left T.rank VC.shown front.new inner.new result) }
+    ensures full { AreFull (shown_left T.rank VC.shown front.new inner.new result) }
     ensures back { back.new ≡ None }
-    ensures opens { OpensLast I.left (seen T.rank VC.shown front.old inner.old back.old)
-        (seen T.rank VC.shown front.new inner.new back.new) }
-    ensures none { IfNone result (ranges_left I.left (seen T.rank VC.shown front.new inner.new None)
+    ensures opens { OpensLast I.left (shown_left T.rank VC.shown front.old inner.old back.old)
+        (shown_left T.rank VC.shown front.new inner.new back.new) }
+    ensures none { IfNone result (ranges_left I.left (shown_left T.rank VC.shown front.new inner.new None)
         ≡ []) }
 {
     if let Some(rest) = back.take() {
@@ -140,7 +140,7 @@ fn take_last<T: Integer, VC: ValueCarrier, I: BothEnds<T, VC>>(
     match inner.next_back() {
         Some((range, value)) => {
             let (start, end) = range.into_inner();
-            Some((start, end, value))
+            Some(RangeEntry { start, end, value })
         }
         None => front.take(),
     }
@@ -152,10 +152,10 @@ impl<T: Integer, VC: ValueCarrier + Copy, I: BothEnds<T, VC>> DoubleEndedIterato
         (pairs_left T.of_rank I.left) };
 
     fn next_back(&mut self) -> Option<(T, VC)> {
-        let (start, end, value) = take_last(&mut self.front, &mut self.inner, &mut self.back)?;
-        end.in_hand();
-        self.back = rest_before(start, end, value);
-        Some((end, value))
+        let last = take_last(&mut self.front, &mut self.inner, &mut self.back)?;
+        last.end.in_hand();
+        self.back = rest_before(last);
+        Some((last.end, last.value))
     }
 }
 

@@ -4,6 +4,7 @@ ghost use Rattle.blaze_iters.specs.Left.{IsSecond, IsSecondLast, IsRestAfter, Is
 
 use blaze_int::Integer;
 use blaze_int::compare::is_below;
+use blaze_table::RangeEntry;
 
 /// The key after the first of a range, where it has one.
 pub(crate) fn second<T: Integer>(start: T, end: T) -> Option<T>
@@ -32,17 +33,21 @@ pub(crate) fn second_last<T: Integer>(start: T, end: T) -> Option<T>
 }
 
 /// What is left of a range with its value once the first key is taken.
-pub(crate) fn rest_after<T: Integer, R: Drop>(start: T, end: T, value: R) -> Option<(T, T, R)>
-    requires { T.rank start ≤ℤ T.rank end }
-    ensures { IsRestAfter T.rank (start, end, value) result }
+pub(crate) fn rest_after<T: Integer, R: Drop>(entry: RangeEntry<T, R>) -> Option<RangeEntry<T, R>>
+    requires { T.rank entry.start ≤ℤ T.rank entry.end }
+    ensures { IsRestAfter T.rank entry result }
 {
-    Some((second(start, end)?, end, value))
+    let RangeEntry { start, end, value } = entry;
+    let start = second(start, end)?;
+    Some(RangeEntry { start, end, value })
 }
 
 /// What is left of a range with its value once the last key is taken.
-pub(crate) fn rest_before<T: Integer, R: Drop>(start: T, end: T, value: R) -> Option<(T, T, R)>
-    requires { T.rank start ≤ℤ T.rank end }
-    ensures { IsRestBefore T.rank (start, end, value) result }
+pub(crate) fn rest_before<T: Integer, R: Drop>(entry: RangeEntry<T, R>) -> Option<RangeEntry<T, R>>
+    requires { T.rank entry.start ≤ℤ T.rank entry.end }
+    ensures { IsRestBefore T.rank entry result }
 {
-    Some((start, second_last(start, end)?, value))
+    let RangeEntry { start, end, value } = entry;
+    let end = second_last(start, end)?;
+    Some(RangeEntry { start, end, value })
 }

@@ -15,18 +15,18 @@ use Rattle.blaze_table.proofs.Canonical.Runs.{one_per_run}
 use Rattle.blaze_table.proofs.Neighbours.Glued.{IsBelow-push}
 use Rattle.blaze_table.proofs.Paints.Splices.{below_more}
 use Rattle.blaze_streams.specs.declared.segmenting.list_segments.Segment.{Segment}
-use Rattle.blaze_streams.specs.Segments.{row, present, row_eq, entry_of, entries_of, IsSegmentsOf}
+use Rattle.blaze_streams.specs.Segments.{row, present, row_eq, shown_segment, shown_segments, IsSegmentsOf}
 use Rattle.blaze_streams.specs.Cursors.{AllCanonical, first_keys, all_after, IsNextSegment}
 use Rattle.blaze_streams.proofs.Steady.{changes}
 use Rattle.blaze_streams.proofs.LengthsLeft.{all_lengths_left, all_less}
 use Rattle.blaze_streams.proofs.Rows.{AnyStops, IsFirstSegment, is_first, rows_low, rows_under, rows_over, firsts_after, none_left, all_canonical_after}
 
-pub entries_more : {T : Type 0} (rank : T → ℤ) (new old : List (Segment T)) (s : Segment T) → new ≡ old ++ s ∷ [] → entries_of rank new ≡ entries_of rank old ++ entry_of rank s ∷ []
-entries_more {T} rank new old s e = ap (entries_of rank) e ∙ pushed old
+pub entries_more : {T : Type 0} (rank : T → ℤ) (new old : List (Segment T)) (s : Segment T) → new ≡ old ++ s ∷ [] → shown_segments rank new ≡ shown_segments rank old ++ shown_segment rank s ∷ []
+entries_more {T} rank new old s e = ap (shown_segments rank) e ∙ pushed old
   where
-    pushed : (ss : List (Segment T)) → entries_of rank (ss ++ s ∷ []) ≡ entries_of rank ss ++ entry_of rank s ∷ []
+    pushed : (ss : List (Segment T)) → shown_segments rank (ss ++ s ∷ []) ≡ shown_segments rank ss ++ shown_segment rank s ∷ []
     pushed [] = refl
-    pushed (x ∷ xs) = ap (λ l. entry_of rank x ∷ l) (pushed xs)
+    pushed (x ∷ xs) = ap (λ l. shown_segment rank x ∷ l) (pushed xs)
 
 pub option_same : {A : Type 0} (eq : A → A → Bool) (x y : Option A) → option_eq eq x y ≡ true → SameOption eq x y
 option_same eq None None h = tt

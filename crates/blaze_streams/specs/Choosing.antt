@@ -1,14 +1,15 @@
 -- Two streams gone through together, and what is chosen from them so far: the words of this crate's own functions, and of those
 -- that it exports for the crates above it alone. No clause that users of the streams meet names them.
 use Rattle.std.specs.Prelude.{◌≡◌, ℤ, ◌≤ℤ◌, ◌<ℤ◌, Bool, List, [], ◌∷◌, Option, Some, None}
-use Rattle.blaze_table.specs.Entries.{Entry, entry, at, shown_entry, SameOption}
+use Rattle.blaze_entries.specs.declared.range_entry.RangeEntry.{RangeEntry}
+use Rattle.blaze_table.specs.Entries.{Entry, entry, at, shown_range_entry, SameOption}
 use Rattle.blaze_table.specs.Splice.{glue, after}
 use Rattle.blaze_streams.specs.Cursors.{first_key, lesser}
 
 -- the first range of a stream, where it was taken out, and what is left of the stream
-abbrev pub ahead_of : {T C V : Type 0} → (T → ℤ) → (C → V) → Option (T × T × C) → List (Entry V) → List (Entry V)
+abbrev pub ahead_of : {T C V : Type 0} → (T → ℤ) → (C → V) → Option (RangeEntry T C) → List (Entry V) → List (Entry V)
 ahead_of rank shown None rest = rest
-ahead_of rank shown (Some p) rest = shown_entry rank shown p ∷ rest
+ahead_of rank shown (Some e) rest = shown_range_entry rank shown e ∷ rest
 
 -- What is taken of two lists: nothing is chosen from their first key on before `first`; what is chosen there is chosen at each
 -- key up to `end`, and equal to the value; of the lists is left what they have above.

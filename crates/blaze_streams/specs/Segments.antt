@@ -37,11 +37,11 @@ abbrev pub row_eq : {A : Type 0} → (A → A → Bool) → List (Option A) → 
 row_eq eq = pointwise (option_eq eq)
 
 -- a segment as an entry, with its row as its value
-abbrev pub entry_of : {T : Type 0} → (T → ℤ) → Segment T → Entry (List (Option ℕ))
-entry_of rank s = record { lo = rank s.lo; hi = rank s.hi; value = s.at.items }
+abbrev pub shown_segment : {T : Type 0} → (T → ℤ) → Segment T → Entry (List (Option ℕ))
+shown_segment rank s = record { lo = rank s.lo; hi = rank s.hi; value = s.at.items }
 
-abbrev pub entries_of : {T : Type 0} → (T → ℤ) → List (Segment T) → List (Entry (List (Option ℕ)))
-entries_of rank segments = map (entry_of rank) segments
+abbrev pub shown_segments : {T : Type 0} → (T → ℤ) → List (Segment T) → List (Entry (List (Option ℕ)))
+shown_segments rank segments = map (shown_segment rank) segments
 
 -- the segments of lists: at each key they have the row of the lists where it is present, and they are one per run of rows
 pub record IsSegmentsOf {A : Type 0} (eq : A → A → Bool) (lists : List (List (Entry A))) (segments : List (Entry (List (Option A)))) : Type 0 where

@@ -1,7 +1,7 @@
 //! The keys that a set lacks.
 ghost use Rattle.std.specs.Prelude.{◌≡◌, pos, ◌+ℤ◌, ◌++◌, IfOk, OnOk};
 ghost use Rattle.blaze_table.specs.Complement.{IsComplement};
-ghost use Rattle.blaze_table.specs.RangeSets.{bare_ranges, unit_eq};
+ghost use Rattle.blaze_table.specs.RangeSets.{shown_bare_ranges, unit_eq};
 ghost use Rattle.blaze_streams.specs.Gaps.{gap_before, rank_or_end};
 
 use crate::lists::canon::CanonIter;
@@ -17,8 +17,8 @@ fn push_gap<T: Integer>(
     next: Option<T>,
     start: T,
 ) -> Result<(), AllocError>
-    ensures { OnOk result (bare_ranges T.rank gaps.new.items
-        ≡ bare_ranges T.rank gaps.old.items ++ gap_before
+    ensures { OnOk result (shown_bare_ranges T.rank gaps.new.items
+        ≡ shown_bare_ranges T.rank gaps.old.items ++ gap_before
         (rank_or_end T.rank T.high next) (T.rank start)) }
 {
     start.in_hand();
@@ -36,8 +36,8 @@ fn push_rest<T: Integer>(
     gaps: &mut Vec<RangeInclusive<T>>,
     next: Option<T>,
 ) -> Result<(), AllocError>
-    ensures { OnOk result (bare_ranges T.rank gaps.new.items
-        ≡ bare_ranges T.rank gaps.old.items ++ gap_before (rank_or_end T.rank T.high next)
+    ensures { OnOk result (shown_bare_ranges T.rank gaps.new.items
+        ≡ shown_bare_ranges T.rank gaps.old.items ++ gap_before (rank_or_end T.rank T.high next)
         (T.high +ℤ pos 1)) }
 {
     if let Some(first) = next {

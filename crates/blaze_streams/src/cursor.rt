@@ -2,7 +2,7 @@
 ghost use Rattle.std.specs.Prelude.{◌≡◌, pos, ◌+ℤ◌, ◌<ℤ◌, [], Some, IfNone, IfOk};
 ghost use Rattle.std.specs.Int.{int_max};
 ghost use Rattle.std.specs.Option.{option_map};
-ghost use Rattle.blaze_entries.specs.Found.{range_in, ranks_of};
+ghost use Rattle.blaze_entries.specs.Found.{range_in, shown_ends};
 ghost use Rattle.blaze_entries.specs.Starts.{first_entry};
 ghost use Rattle.blaze_table.specs.Entries.{at, SameOption};
 ghost use Rattle.blaze_table.specs.Canonical.{IsCanonical};
@@ -15,6 +15,7 @@ use crate::carrier::ValueCarrier;
 use crate::sorted_disjoint_map::SortedDisjointMap;
 use blaze_int::Integer;
 use blaze_int::compare::{greater, is_at_most, is_below};
+use blaze_table::RangeEntry;
 use std::alloc::AllocError;
 use std::marker::Model;
 use std::mem;
@@ -22,7 +23,7 @@ use std::mem;
 /// The ranges that are left of a stream, with their carriers: what is left of the first, and the stream of the others.
 #[derive(Drop)]
 pub struct Cursor<T: Integer, VC: ValueCarrier, I: SortedDisjointMap<T, VC>> {
-    head: Option<(T, T, VC)>,
+    head: Option<RangeEntry<T, VC>>,
     rest: I,
 }
 
@@ -43,16 +44,16 @@ impl<T: Integer, VC: ValueCarrier, I: SortedDisjointMap<T, VC>> Model for Cursor
         × IsCanonical VC.Value.eq (ahead_of T.rank VC.shown a.head (I.left a.rest)) };
 }
 
-/// Takes the first range out of a stream: its first key, its last key and its carrier.
+/// Takes the first range out of a stream, with its carrier.
 fn take_first<T: Integer, VC: ValueCarrier, I: SortedDisjointMap<T, VC>>(
     stream: &mut I,
-) -> Option<(T, T, VC)>
+) -> Option<RangeEntry<T, VC>>
     ensures left { ahead_of T.rank VC.shown result (I.left stream.new) ≡ I.left stream.old }
     ensures none { IfNone result (I.left stream.new ≡ []) }
 {
-    let (range, carrier) = stream.next()?;
+    let (range, value) = stream.next()?;
     let (start, end) = range.into_inner();
-    Some((start, end, carrier))
+    Some(RangeEntry { start, end, value })
 }
 
 // The first key above `end` of the range from `lo` up to `hi`, which has one.
@@ -67,25 +68,26 @@ fn start_above<T: Integer>(lo: T, hi: T, end: T) -> T
 /// How many ranges are passed one by one, behind the first, before a stream seeks.
 const STEPS: usize = 3;
 
-/// Takes the ranges up to `end` out of a stream, and the first of what lies above: its first key, its last key and its
-/// carrier. After a few ranges the stream seeks. It stays a call, since `advance` looks at the first range itself.
+/// Takes the ranges up to `end` out of a stream, and the first of what lies above, with its carrier. After a few ranges the
+/// stream seeks. It stays a call, since `advance` looks at the first range itself.
 #[inline(never)]
 fn take_above<T: Integer, VC: ValueCarrier, I: SortedDisjointMap<T, VC>>(
     stream: &mut I,
     end: T,
-) -> Option<(T, T, VC)>
+) -> Option<RangeEntry<T, VC>>
     ensures left { ahead_of T.rank VC.shown result (I.left stream.new)
         ≡ after (T.rank end) (I.left stream.old) }
     ensures none { IfNone result (I.left stream.new ≡ []) }
 {
     let mut steps = STEPS;
-    while let Some((lo, hi, carrier)) = take_first(stream) {
-        if is_below(end, hi) {
-            return Some((start_above(lo, hi, end), hi, carrier));
+    while let Some(mut first) = take_first(stream) {
+        if is_below(end, first.end) {
+            first.start = start_above(first.start, first.end, end);
+            return Some(first);
         }
         if steps > 0 {
             steps -= 1;
-        } else if is_below(hi, end) {
+        } else if is_below(first.end, end) {
             stream.seek(end);
         }
     }
@@ -110,19 +112,19 @@ impl<T: Integer, VC: ValueCarrier, I: SortedDisjointMap<T, VC>> Cursor<T, VC, I>
     {
         match &self.head {
             None => None,
-            Some((lo, _, _)) => Some(*lo),
+            Some(head) => Some(head.start),
         }
     }
 
     /// The first key and the last key of the first range.
     pub fn range(&self) -> Option<(T, T)>
-        ensures ends { option_map (ranks_of T.rank) result
+        ensures ends { option_map (shown_ends T.rank) result
             ≡ option_map range_in (first_entry self.now) }
         ensures canonical { IsCanonical VC.Value.eq self.now }
     {
         match &self.head {
             None => None,
-            Some((lo, hi, _)) => Some((*lo, *hi)),
+            Some(head) => Some((head.start, head.end)),
         }
     }
 
@@ -133,12 +135,12 @@ impl<T: Integer, VC: ValueCarrier, I: SortedDisjointMap<T, VC>> Cursor<T, VC, I>
     {
         match &self.head {
             None => None,
-            Some((lo, hi, _)) => {
-                if is_at_most(*lo, start) {
-                    Some(*hi)
+            Some(head) => {
+                if is_at_most(head.start, start) {
+                    Some(head.end)
                 } else {
                     start.in_hand();
-                    Some(lo.sub_one())
+                    Some(head.start.sub_one())
                 }
             }
         }
@@ -148,22 +150,23 @@ impl<T: Integer, VC: ValueCarrier, I: SortedDisjointMap<T, VC>> Cursor<T, VC, I>
     pub fn advance(&mut self, end: T)
         ensures { self.new ≡ after (T.rank end) self.old }
     {
-        let Some((lo, hi, _)) = &mut self.head else {
+        let Some(head) = &mut self.head else {
             return;
         };
-        if is_below(end, *hi) {
-            if is_at_most(*lo, end) {
-                hi.in_hand();
-                *lo = end.add_one();
+        if is_below(end, head.end) {
+            if is_at_most(head.start, end) {
+                head.end.in_hand();
+                head.start = end.add_one();
             }
             return;
         }
-        let Some((lo, hi, carrier)) = take_first(&mut self.rest) else {
+        let Some(mut next) = take_first(&mut self.rest) else {
             self.head = None;
             return;
         };
-        if is_below(end, hi) {
-            self.head = Some((start_above(lo, hi, end), hi, carrier));
+        if is_below(end, next.end) {
+            next.start = start_above(next.start, next.end, end);
+            self.head = Some(next);
             return;
         }
         self.head = take_above(&mut self.rest, end);
@@ -174,14 +177,14 @@ impl<T: Integer, VC: ValueCarrier, I: SortedDisjointMap<T, VC>> Cursor<T, VC, I>
         requires { Reaches (T.rank end) self.old }
         ensures { self.new ≡ after (T.rank end) self.old }
     {
-        let Some((lo, hi, _)) = &mut self.head else {
+        let Some(head) = &mut self.head else {
             return;
         };
-        if is_at_most(*hi, end) {
+        if is_at_most(head.end, end) {
             self.head = take_first(&mut self.rest);
-        } else if is_at_most(*lo, end) {
-            hi.in_hand();
-            *lo = end.add_one();
+        } else if is_at_most(head.start, end) {
+            head.end.in_hand();
+            head.start = end.add_one();
         }
     }
 
@@ -192,9 +195,9 @@ impl<T: Integer, VC: ValueCarrier, I: SortedDisjointMap<T, VC>> Cursor<T, VC, I>
     {
         match &self.head {
             None => None,
-            Some((lo, _, carrier)) => {
-                if is_at_most(*lo, key) {
-                    Some(carrier)
+            Some(head) => {
+                if is_at_most(head.start, key) {
+                    Some(&head.value)
                 } else {
                     None
                 }
@@ -213,21 +216,28 @@ impl<T: Integer, VC: ValueCarrier, I: SortedDisjointMap<T, VC>> Cursor<T, VC, I>
             (shown_option VC.shown given)) }
         ensures rest { self.new ≡ after (T.rank end) self.old }
     {
-        let Some((lo, hi, carrier)) = &mut self.head else {
+        let Some(
+            RangeEntry {
+                start,
+                end: last,
+                value,
+            },
+        ) = &mut self.head
+        else {
             return Ok(None);
         };
-        if is_below(end, *lo) {
+        if is_below(end, *start) {
             return Ok(None);
         }
-        if is_below(end, *hi) {
-            let other = carrier.carry();
-            hi.in_hand();
-            *lo = end.add_one();
+        if is_below(end, *last) {
+            let other = value.carry();
+            last.in_hand();
+            *start = end.add_one();
             return Ok(Some(other?));
         }
         let next = take_first(&mut self.rest);
         match mem::replace(&mut self.head, next) {
-            Some((_, _, carrier)) => Ok(Some(carrier)),
+            Some(RangeEntry { value, .. }) => Ok(Some(value)),
             None => unreachable!(),
         }
     }

@@ -3,7 +3,7 @@ ghost use Rattle.std.specs.Prelude.{◌≡◌, ◌≤◌, ℕ, List, Option, len
 ghost use Rattle.std.specs.Iterator.{YieldsFirstBy, item_count};
 ghost use Rattle.std.specs.declared.ops.RangeInclusive.{RangeInclusive};
 ghost use Rattle.blaze_table.specs.Entries.{Entry};
-ghost use Rattle.blaze_table.specs.RangeSets.{bare_range, IsRangeSet};
+ghost use Rattle.blaze_table.specs.RangeSets.{shown_bare_range, IsRangeSet};
 
 use blaze_int::Integer;
 use std::ops::RangeInclusive;
@@ -34,5 +34,5 @@ pub trait SortedDisjoint<T: Integer>: Iterator<Item = RangeInclusive<T>> {
 
     // `next` takes the first of what is left, and answers `None` where nothing is left.
     ghost gives: { (s : Self) (r : Option (RangeInclusive T)) (t : Self) → Self.next_gives s r t
-        → YieldsFirstBy (bare_range T.rank) left s r t };
+        → YieldsFirstBy (shown_bare_range T.rank) left s r t };
 }

@@ -3,11 +3,11 @@
 use Rattle.std.specs.Prelude.{◌≡◌, ◌⊎◌, ℤ, pos, ◌+ℤ◌, ◌≤ℤ◌, ◌<ℤ◌, Bool, true, false, int_le, List, Option, Some, None, IsSome, IsSomeAnd}
 use Rattle.std.specs.List.{last_or}
 use Rattle.std.specs.Option.{option_map}
-use Rattle.blaze_entries.specs.Found.{range_in, ranks_of}
+use Rattle.blaze_entries.specs.Found.{range_in, shown_ends}
 use Rattle.blaze_entries.specs.Starts.{below, start_at, with_entry, IsStartMoved}
 use Rattle.blaze_entries.specs.declared.scan.Plan.{Plan}
 use Rattle.blaze_table.specs.Entries.{Entry, entry}
-use Rattle.blaze_table.specs.Planned.{ends_of, IsLikeAbove, IsRest}
+use Rattle.blaze_table.specs.Planned.{shown_found_ends, IsLikeAbove, IsRest}
 use Rattle.blaze_table.specs.Splice.{before}
 
 -- the ends of an entry that is there and goes on above z, where none starts right above z
@@ -42,8 +42,8 @@ pub record IsPlace {T V : Type 0} (rank : T → ℤ) (eq : V → V → Bool) (l 
   -- the range has a key
   pub order : l ≤ℤ rank plan.end
   -- which entry has keys on both sides of its end
-  pub rest : IsRest (rank plan.end) es (option_map (ranks_of rank) plan.rest)
+  pub rest : IsRest (rank plan.end) es (option_map (shown_ends rank) plan.rest)
   -- the last entry that starts below it
-  pub left : IsLeft l (below l es) (option_map (ends_of rank) plan.left)
+  pub left : IsLeft l (below l es) (option_map (shown_found_ends rank) plan.left)
   -- a value equal to that entry's, where that one goes on above the range
   pub above : IsLikeAbove eq l (rank plan.end) es value

@@ -5,10 +5,11 @@ use Rattle.blaze_table.specs.Entries.{Entry, entry, SameOption}
 use Rattle.blaze_table.specs.Splice.{glue}
 use Rattle.blaze_table.specs.declared.sweep.held.Held.{Held}
 use Rattle.blaze_table.specs.declared.sweep.held.Held.TheVariants.{Kept, Moved}
+use Rattle.blaze_table.specs.declared.sweep.placed.Placed.{Placed}
 
 -- the value that was not moved
-abbrev pub kept_value : {T V : Type 0} → T × T × ℕ × V → Held V
-kept_value p = Kept p.3
+abbrev pub kept_value : {T V : Type 0} → Placed T V → Held V
+kept_value p = Kept p.value
 
 -- the value: the one that was not moved, or that of the entry
 abbrev pub held_value : {V : Type 0} → List (Entry V) → Option (Held V) → Option V

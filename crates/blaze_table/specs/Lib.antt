@@ -14,7 +14,6 @@ pub mod Printed
 pub mod Retain
 pub mod Table
 pub mod RangeSets
-pub mod Listed
 pub mod Splice
 pub mod Keeping
 pub mod Whole

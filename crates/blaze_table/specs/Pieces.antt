@@ -6,37 +6,38 @@ use Rattle.std.specs.Ordering.{nat_cmp, ordering_then}
 use Rattle.std.specs.declared.cmp.Ordering.{Ordering}
 use Rattle.blaze_table.specs.Entries.{Entry, entry}
 use Rattle.blaze_table.specs.CanonicalOf.{IsCanonicalOf}
+use Rattle.blaze_table.specs.declared.sweep.placed.Placed.{Placed}
 
 -- ---- the placed pairs
 
 -- the pair stands in the list at its place, and has a key
-pub record IsPlaced {T V : Type 0} (rank : T → ℤ) (ps : List (Entry V)) (p : T × T × ℕ × V) : Type 0 where
-  pub is : slice_get ps p.2 ≡ Some (entry (rank p.0) (rank p.1) p.3)
-  pub order : rank p.0 ≤ℤ rank p.1
+pub record IsPlaced {T V : Type 0} (rank : T → ℤ) (ps : List (Entry V)) (p : Placed T V) : Type 0 where
+  pub is : slice_get ps p.place ≡ Some (entry (rank p.start) (rank p.end) p.value)
+  pub order : rank p.start ≤ℤ rank p.end
 
-abbrev pub places_of : {T V : Type 0} → List (T × T × ℕ × V) → List ℕ
-places_of placed = map (λ p. p.2) placed
+abbrev pub places_of : {T V : Type 0} → List (Placed T V) → List ℕ
+places_of placed = map (λ p. p.place) placed
 
 -- those of the first n pairs that have a key, each with its place
-pub record ArePlacedBelow {T V : Type 0} (rank : T → ℤ) (ps : List (Entry V)) (n : ℕ) (placed : List (T × T × ℕ × V)) : Type 0 where
+pub record ArePlacedBelow {T V : Type 0} (rank : T → ℤ) (ps : List (Entry V)) (n : ℕ) (placed : List (Placed T V)) : Type 0 where
   pub known : All (IsPlaced rank ps) placed
   pub complete : (j : ℕ) → j < n → (e : Entry V) → slice_get ps j ≡ Some e → e.lo ≤ℤ e.hi → Contains (places_of placed) j
 
 -- the pairs that have a key, each with its place
-abbrev pub ArePlaced : {T V : Type 0} → (T → ℤ) → List (Entry V) → List (T × T × ℕ × V) → Type 0
+abbrev pub ArePlaced : {T V : Type 0} → (T → ℤ) → List (Entry V) → List (Placed T V) → Type 0
 ArePlaced rank ps placed = ArePlacedBelow rank ps (length ps) placed
 
 -- the pair has the key k
-abbrev pub HasKey : {T V : Type 0} → (T → ℤ) → T × T × ℕ × V → ℤ → Type 0
-HasKey rank p k = (rank p.0 ≤ℤ k) × (k ≤ℤ rank p.1)
+abbrev pub HasKey : {T V : Type 0} → (T → ℤ) → Placed T V → ℤ → Type 0
+HasKey rank p k = (rank p.start ≤ℤ k) × (k ≤ℤ rank p.end)
 
 -- the pair's ends are keys
-abbrev pub EndsAreKeys : {T V : Type 0} → (T → ℤ) → ℤ → ℤ → T × T × ℕ × V → Type 0
-EndsAreKeys rank low high p = (low ≤ℤ rank p.0) × (rank p.1 ≤ℤ high)
+abbrev pub EndsAreKeys : {T V : Type 0} → (T → ℤ) → ℤ → ℤ → Placed T V → Type 0
+EndsAreKeys rank low high p = (low ≤ℤ rank p.start) × (rank p.end ≤ℤ high)
 
 -- no pair starts below one before it
-abbrev pub AreAscending : {T V : Type 0} → (T → ℤ) → List (T × T × ℕ × V) → Type 0
-AreAscending {T} {V} rank placed = (i j : ℕ) (p q : T × T × ℕ × V) → i ≤ j → slice_get placed i ≡ Some p → slice_get placed j ≡ Some q → rank p.0 ≤ℤ rank q.0
+abbrev pub AreAscending : {T V : Type 0} → (T → ℤ) → List (Placed T V) → Type 0
+AreAscending {T} {V} rank placed = (i j : ℕ) (p q : Placed T V) → i ≤ j → slice_get placed i ≡ Some p → slice_get placed j ≡ Some q → rank p.start ≤ℤ rank q.start
 
 -- ---- the pairs that wait, each by its place and its index among the placed pairs
 
@@ -45,49 +46,49 @@ abbrev pub place_cmp : ℕ × ℕ → ℕ × ℕ → Ordering
 place_cmp a b = ordering_then (nat_cmp a.0 b.0) (nat_cmp a.1 b.1)
 
 -- the pair at the index has the place, and starts at or below the key a
-pub record HasStarted {T V : Type 0} (rank : T → ℤ) (placed : List (T × T × ℕ × V)) (a : ℤ) (wait : ℕ × ℕ) : Type 0 where
-  pub pair : T × T × ℕ × V
+pub record HasStarted {T V : Type 0} (rank : T → ℤ) (placed : List (Placed T V)) (a : ℤ) (wait : ℕ × ℕ) : Type 0 where
+  pub pair : Placed T V
   pub is : slice_get placed wait.1 ≡ Some pair
-  pub place : pair.2 ≡ wait.0
-  pub start : rank pair.0 ≤ℤ a
+  pub place : pair.place ≡ wait.0
+  pub start : rank pair.start ≤ℤ a
 
 -- among those that wait are all pairs that start at or below the key `to` and have a key from a on; all have started at a
-pub record IsWaiting {T V : Type 0} (rank : T → ℤ) (placed : List (T × T × ℕ × V)) (a to : ℤ) (waits : List (ℕ × ℕ)) : Type 0 where
+pub record IsWaiting {T V : Type 0} (rank : T → ℤ) (placed : List (Placed T V)) (a to : ℤ) (waits : List (ℕ × ℕ)) : Type 0 where
   pub started : All (HasStarted rank placed a) waits
-  pub complete : (j : ℕ) (p : T × T × ℕ × V) → slice_get placed j ≡ Some p → a ≤ℤ rank p.1 → rank p.0 ≤ℤ to → Contains waits (p.2, j)
+  pub complete : (j : ℕ) (p : Placed T V) → slice_get placed j ≡ Some p → a ≤ℤ rank p.end → rank p.start ≤ℤ to → Contains waits (p.place, j)
 
 -- those of them that have a key from s on stay
-abbrev pub KeepsReaching : {T V : Type 0} → (T → ℤ) → List (T × T × ℕ × V) → ℤ → List (ℕ × ℕ) → List (ℕ × ℕ) → Type 0
-KeepsReaching {T} {V} rank placed s old new = (j : ℕ) (p : T × T × ℕ × V) → slice_get placed j ≡ Some p → s ≤ℤ rank p.1 → Contains old (p.2, j) → Contains new (p.2, j)
+abbrev pub KeepsReaching : {T V : Type 0} → (T → ℤ) → List (Placed T V) → ℤ → List (ℕ × ℕ) → List (ℕ × ℕ) → Type 0
+KeepsReaching {T} {V} rank placed s old new = (j : ℕ) (p : Placed T V) → slice_get placed j ≡ Some p → s ≤ℤ rank p.end → Contains old (p.place, j) → Contains new (p.place, j)
 
 -- ---- the pieces, each with the index of its pair
 
 -- no pair has a key from a up to below b
-abbrev pub IsUncovered : {T V : Type 0} → (T → ℤ) → List (T × T × ℕ × V) → ℤ → ℤ → Type 0
-IsUncovered {T} {V} rank placed a b = (j : ℕ) (p : T × T × ℕ × V) → slice_get placed j ≡ Some p → (k : ℤ) → a ≤ℤ k → k <ℤ b → HasKey rank p k → ⊥
+abbrev pub IsUncovered : {T V : Type 0} → (T → ℤ) → List (Placed T V) → ℤ → ℤ → Type 0
+IsUncovered {T} {V} rank placed a b = (j : ℕ) (p : Placed T V) → slice_get placed j ≡ Some p → (k : ℤ) → a ≤ℤ k → k <ℤ b → HasKey rank p k → ⊥
 
 -- the piece, which has a key, lies in the pair that it names, and no pair of a later place has a key of it
-pub record IsPiece {T V : Type 0} (rank : T → ℤ) (placed : List (T × T × ℕ × V)) (piece : Entry ℕ) : Type 0 where
-  pub pair : T × T × ℕ × V
+pub record IsPiece {T V : Type 0} (rank : T → ℤ) (placed : List (Placed T V)) (piece : Entry ℕ) : Type 0 where
+  pub pair : Placed T V
   pub is : slice_get placed piece.value ≡ Some pair
   pub order : piece.lo ≤ℤ piece.hi
-  pub start : rank pair.0 ≤ℤ piece.lo
-  pub end : piece.hi ≤ℤ rank pair.1
-  pub last : (j : ℕ) (p : T × T × ℕ × V) → slice_get placed j ≡ Some p → (k : ℤ) → piece.lo ≤ℤ k → k ≤ℤ piece.hi → HasKey rank p k → p.2 ≤ pair.2
+  pub start : rank pair.start ≤ℤ piece.lo
+  pub end : piece.hi ≤ℤ rank pair.end
+  pub last : (j : ℕ) (p : Placed T V) → slice_get placed j ≡ Some p → (k : ℤ) → piece.lo ≤ℤ k → k ≤ℤ piece.hi → HasKey rank p k → p.place ≤ pair.place
 
 -- the pieces are what the pairs paint on the keys from a up to below b
-abbrev pub ArePieces : {T V : Type 0} → (T → ℤ) → List (T × T × ℕ × V) → ℤ → ℤ → List (Entry ℕ) → Type 0
+abbrev pub ArePieces : {T V : Type 0} → (T → ℤ) → List (Placed T V) → ℤ → ℤ → List (Entry ℕ) → Type 0
 ArePieces rank placed a b [] = (a ≤ℤ b) × IsUncovered rank placed a b
 ArePieces rank placed a b (x ∷ xs) = (a ≤ℤ x.lo) × IsUncovered rank placed a x.lo × IsPiece rank placed x × ArePieces rank placed (x.hi +ℤ pos 1) b xs
 
 -- the pieces below the key a are made, and of the first n pairs those wait that have a key from there on; the others start there
 -- or above
-pub record IsUnderway {T V : Type 0} (rank : T → ℤ) (low : ℤ) (placed : List (T × T × ℕ × V)) (a : ℤ) (n : ℕ) (waits : List (ℕ × ℕ)) (pieces : List (Entry ℕ)) : Type 0 where
+pub record IsUnderway {T V : Type 0} (rank : T → ℤ) (low : ℤ) (placed : List (Placed T V)) (a : ℤ) (n : ℕ) (waits : List (ℕ × ℕ)) (pieces : List (Entry ℕ)) : Type 0 where
   pub made : ArePieces rank placed low a pieces
   pub started : All (HasStarted rank placed a) waits
-  pub complete : (j : ℕ) (p : T × T × ℕ × V) → slice_get placed j ≡ Some p → j < n → a ≤ℤ rank p.1 → Contains waits (p.2, j)
-  pub others : (j : ℕ) (p : T × T × ℕ × V) → slice_get placed j ≡ Some p → n ≤ j → a ≤ℤ rank p.0
+  pub complete : (j : ℕ) (p : Placed T V) → slice_get placed j ≡ Some p → j < n → a ≤ℤ rank p.end → Contains waits (p.place, j)
+  pub others : (j : ℕ) (p : Placed T V) → slice_get placed j ≡ Some p → n ≤ j → a ≤ℤ rank p.start
 
 -- the list is the canonical list of the pairs that are placed
-abbrev pub IsCanonicalOfPlaced : {T V : Type 0} → (V → V → Bool) → (T → ℤ) → ℤ → ℤ → List (T × T × ℕ × V) → List (Entry V) → Type 0
+abbrev pub IsCanonicalOfPlaced : {T V : Type 0} → (V → V → Bool) → (T → ℤ) → ℤ → ℤ → List (Placed T V) → List (Entry V) → Type 0
 IsCanonicalOfPlaced {T} {V} eq rank low high placed new = (ps : List (Entry V)) → ArePlaced rank ps placed → IsCanonicalOf eq low high ps new

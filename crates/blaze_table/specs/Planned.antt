@@ -91,8 +91,8 @@ pub record IsLooked {V : Type 0} (l h : ℤ) (old new : CountedEntries V) : Type
 -- ---- the steps
 
 -- the ends of an entry that was looked at
-abbrev pub ends_of : {T : Type 0} → (T → ℤ) → Found T → ℤ × ℤ
-ends_of rank f = (rank f.start, rank f.end)
+abbrev pub shown_found_ends : {T : Type 0} → (T → ℤ) → Found T → ℤ × ℤ
+shown_found_ends rank f = (rank f.start, rank f.end)
 
 -- the entry that starts at s, up to z, ends at t above it
 pub record IsRestOf {V : Type 0} (z : ℤ) (es : List (Entry V)) (s t : ℤ) : Type 0 where

@@ -8,12 +8,12 @@ use Rattle.blaze_table.specs.Canonical.{IsRangeMap}
 use Rattle.blaze_table.specs.Equality.{same_entries}
 
 -- a range alone, as an entry with the unit value
-abbrev pub bare_range : {T : Type 0} → (T → ℤ) → RangeInclusive T → Entry (Unit {0})
-bare_range rank r = record { lo = rank (range_inclusive_start r); hi = rank (range_inclusive_end r); value = tt }
+abbrev pub shown_bare_range : {T : Type 0} → (T → ℤ) → RangeInclusive T → Entry (Unit {0})
+shown_bare_range rank r = record { lo = rank (range_inclusive_start r); hi = rank (range_inclusive_end r); value = tt }
 
 -- a list of them, as entries
-abbrev pub bare_ranges : {T : Type 0} → (T → ℤ) → List (RangeInclusive T) → List (Entry (Unit {0}))
-bare_ranges rank ranges = map (bare_range rank) ranges
+abbrev pub shown_bare_ranges : {T : Type 0} → (T → ℤ) → List (RangeInclusive T) → List (Entry (Unit {0}))
+shown_bare_ranges rank ranges = map (shown_bare_range rank) ranges
 
 -- an entry with the unit value is stored as its two ends
 abbrev pub bare_code : Coded (Entry (Unit {0}))

@@ -2,7 +2,7 @@
 ghost use Rattle.std.specs.Prelude.{◌≡◌, pos, ◌≤ℤ◌};
 ghost use Rattle.blaze_table.specs.Canonical.{IsCanonical};
 ghost use Rattle.blaze_table.specs.Count.{keys_in};
-ghost use Rattle.blaze_table.specs.Listed.{listed};
+ghost use Rattle.blaze_table.specs.Entries.{shown_list};
 
 use blaze_entries::Entries;
 use blaze_int::compare::length;
@@ -23,9 +23,9 @@ pub fn count<T: Integer, V: Eq>(entries: &Entries<T, V>) -> T::SafeLen
 
 /// How many keys the entries of a list have: first key, last key and value.
 pub fn count_list<T: Integer, V: Eq>(entries: &[(T, T, V)]) -> T::SafeLen
-    requires canonical { IsCanonical V.eq (listed T.rank entries.now) }
-    requires fits { keys_in (listed T.rank entries.now) ≤ℤ pos T.SafeLen.most }
-    ensures { pos (T.SafeLen.number result) ≡ keys_in (listed T.rank entries.now) }
+    requires canonical { IsCanonical V.eq (shown_list T.rank entries.now) }
+    requires fits { keys_in (shown_list T.rank entries.now) ≤ℤ pos T.SafeLen.most }
+    ensures { pos (T.SafeLen.number result) ≡ keys_in (shown_list T.rank entries.now) }
 {
     let mut sum = T::SafeLen::zero();
     for (start, end, _) in entries {

@@ -3,20 +3,20 @@ ghost use Rattle.std.specs.Prelude.{◌≡◌, ◌-◌, length, true, Some, None
 ghost use Rattle.std.specs.Prelude.{Ok, OnOk, OnErr, IfOk, IsSome, IfSome, IsSomeAnd, slice_get};
 ghost use Rattle.std.specs.Option.{option_map};
 ghost use Rattle.blaze_entries.specs.Cloned.{IsRangeCloned};
-ghost use Rattle.blaze_entries.specs.Found.{range_in, ranks_of};
+ghost use Rattle.blaze_entries.specs.Found.{range_in, shown_ends};
 ghost use Rattle.blaze_entries.specs.Starts.{holder_of};
 ghost use Rattle.blaze_table.specs.Canonical.{IsCanonical};
 ghost use Rattle.blaze_table.specs.Cut.{IsAmongOthers, GoesOnAbove};
 ghost use Rattle.blaze_table.specs.Entries.{at};
 ghost use Rattle.blaze_table.specs.Painted.{ClonesAreAlike};
-ghost use Rattle.blaze_table.specs.Planned.{ends_of, IsWorked};
+ghost use Rattle.blaze_table.specs.Planned.{shown_found_ends, IsWorked};
 ghost use Rattle.blaze_table.specs.Splice.{IsKeyTaken, IsKeyCut, IsFirstKeyCut, IsLastKeyCut, IsTableCut};
 ghost use Rattle.blaze_table.specs.Table.{IsTable};
 ghost use Rattle.blaze_table.specs.Work.{IsCountedCut, IsCounted};
 
 use crate::edit::take_out;
 use crate::walk::{Walk, walk_down};
-use blaze_entries::{Entries, Found, Plan};
+use blaze_entries::{Entries, Found, Plan, RangeEntry};
 use blaze_int::compare::is_below;
 use blaze_int::{Integer, SafeLength};
 use std::alloc::AllocError;
@@ -24,9 +24,9 @@ use std::alloc::AllocError;
 // What a cut of a key knows of the entry that has it, from its first and last key.
 fn plan_of<T: Integer>(key: T, start: T, end: T) -> Plan<T>
     ensures end { result.end ≡ key }
-    ensures rest { option_map (ranks_of T.rank) result.rest
+    ensures rest { option_map (shown_ends T.rank) result.rest
         ≡ (if int_lt (T.rank key) (T.rank end) then Some (T.rank start, T.rank end) else None) }
-    ensures left { option_map (ends_of T.rank) result.left
+    ensures left { option_map (shown_found_ends T.rank) result.left
         ≡ (if int_lt (T.rank start) (T.rank key) then Some (T.rank start, T.rank end) else None) }
 {
     let rest = if is_below(key, end) {
@@ -97,7 +97,7 @@ fn cut_shared<T: Integer, V: Eq + Clone>(
 fn cut_key<T: Integer, V: Eq + Clone>(
     entries: &mut Entries<T, V>,
     key: T,
-    held: (T, T, Option<V>),
+    held: RangeEntry<T, Option<V>>,
 ) -> Result<V, AllocError>
     requires clones { ClonesAreAlike V.is_clone V.eq }
     requires canonical { IsCanonical V.eq entries.old.entries }
@@ -111,8 +111,8 @@ fn cut_key<T: Integer, V: Eq + Clone>(
     ensures err_counted { OnErr result (IsCounted entries.old entries.new) }
 {
     entries.in_hand();
-    let (start, end, cloned) = held;
-    match cloned {
+    let RangeEntry { start, end, value } = held;
+    match value {
         Some(value) => cut_shared(entries, key, start, end, value),
         None => Ok(entries.remove(key)),
     }
@@ -123,7 +123,7 @@ fn cut_held<T: Integer, V: Eq + Clone>(
     entries: &mut Entries<T, V>,
     len: T::SafeLen,
     key: T,
-    held: (T, T, Option<V>),
+    held: RangeEntry<T, Option<V>>,
 ) -> Result<(V, T::SafeLen), AllocError>
     requires clones { ClonesAreAlike V.is_clone V.eq }
     requires table { IsTable V.eq T.low T.high (T.SafeLen.number len) entries.old.entries }
@@ -175,15 +175,13 @@ pub fn cut<T: Integer, V: Eq + Clone>(
 // entry has above the key gets an entry with the clone that the look made; the first entry goes without a search.
 fn cut_front<T: Integer, V: Eq + Clone>(
     entries: &mut Entries<T, V>,
-    start: T,
-    end: T,
-    cloned: Option<V>,
+    held: RangeEntry<T, Option<V>>,
 ) -> Result<V, AllocError>
     requires clones { ClonesAreAlike V.is_clone V.eq }
     requires canonical { IsCanonical V.eq entries.old.entries }
     requires held { IsRangeCloned T.rank V.is_clone
-        (slice_get entries.old.entries 0) (Some (start, end, cloned)) }
-    ensures cut { IfOk result (λ value. IsKeyTaken V.eq (T.rank start) (Some value)
+        (slice_get entries.old.entries 0) (Some held) }
+    ensures cut { IfOk result (λ value. IsKeyTaken V.eq (T.rank held.start) (Some value)
         entries.old.entries entries.new.entries) }
     ensures worked { OnOk result (IsWorked 1 0 entries.old entries.new) }
     ensures refused { OnErr result (IsSomeAnd (slice_get entries.old.entries 0) (λ e. e.lo <ℤ e.hi)) }
@@ -191,7 +189,8 @@ fn cut_front<T: Integer, V: Eq + Clone>(
     ensures err_counted { OnErr result (IsCounted entries.old entries.new) }
 {
     entries.in_hand();
-    match cloned {
+    let RangeEntry { start, end, value } = held;
+    match value {
         Some(value) => {
             end.in_hand();
             entries.insert(start.add_one(), end, value)?;
@@ -222,8 +221,8 @@ pub fn cut_first<T: Integer, V: Eq + Clone>(
     let first = entries.first_held()?;
     match first {
         Some(held) => {
-            let (key, end, cloned) = held;
-            let value = cut_front(entries, key, end, cloned)?;
+            let key = held.start;
+            let value = cut_front(entries, held)?;
             let rest = len.minus(T::SafeLen::one());
             Ok((key, value, rest))
         }
@@ -253,7 +252,7 @@ pub fn cut_last<T: Integer, V: Eq + Clone>(
     let last = entries.last_held()?;
     match last {
         Some(held) => {
-            let (_, key, _) = held;
+            let key = held.end;
             let (value, rest) = cut_held(entries, len, key, held)?;
             Ok((key, value, rest))
         }

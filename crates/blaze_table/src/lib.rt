@@ -18,7 +18,7 @@ mod sweep;
 mod table;
 mod walk;
 
-pub use blaze_entries::{Count, IntoIter, Iter, Range};
+pub use blaze_entries::{Count, IntoIter, Iter, Range, RangeEntry};
 pub use entry_keys::keys_in_hand;
 pub use set::into_ranges_iter::IntoRangesIter;
 pub use set::range_set::RangeSetBlaze;

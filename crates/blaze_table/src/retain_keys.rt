@@ -2,13 +2,12 @@
 ghost use Rattle.std.specs.Prelude.{◌≡◌, pos, ◌+ℤ◌, ◌-ℤ◌, ◌≤ℤ◌, IfOk, OnOk};
 ghost use Rattle.std.specs.List.{All};
 ghost use Rattle.blaze_table.specs.Count.{keys_in};
-ghost use Rattle.blaze_table.specs.Entries.{entry};
+ghost use Rattle.blaze_table.specs.Entries.{entry, shown_list};
 ghost use Rattle.blaze_table.specs.Keeping.{AddsKey, KeepsMore};
 ghost use Rattle.blaze_table.specs.Painted.{ClonesAreAlike};
 ghost use Rattle.blaze_table.specs.Pairs.{pairs_of, pairs_from};
 ghost use Rattle.blaze_table.specs.Retain.{AnswersAtPair, IsCallableAtPairs, IsKeyRetained};
 ghost use Rattle.blaze_table.specs.Retain.{TakesPair};
-ghost use Rattle.blaze_table.specs.Listed.{listed};
 ghost use Rattle.blaze_table.specs.Table.{IsTable};
 
 use crate::sweep::{lengthen_entry, push_entry};
@@ -24,8 +23,8 @@ fn put_key<T: Integer, V: Eq + Clone>(
     value: &V,
 ) -> Result<(), AllocError>
     requires { ClonesAreAlike V.is_clone V.eq }
-    ensures { OnOk result (AddsKey V.eq (T.rank key) value.now (listed T.rank out.old.items)
-        (listed T.rank out.new.items)) }
+    ensures { OnOk result (AddsKey V.eq (T.rank key) value.now (shown_list T.rank out.old.items)
+        (shown_list T.rank out.new.items)) }
 {
     if !lengthen_entry(out, key, key, value) {
         let value = value.clone()?;
@@ -47,12 +46,12 @@ fn keep_key<T: Integer, V: Eq + Clone, F: Fn(&T, &V) -> bool>(
     requires counted { pos 1 ≤ℤ pos (T.SafeLen.number len) }
     ensures kept { OnOk result (KeepsMore (AnswersAtPair F.Fn) f.now T.rank V.eq T.low T.high
         (pairs_from T.of_rank (T.rank key) 1 value.now) (T.rank key) (T.rank key +ℤ pos 1)
-        (listed T.rank out.old.items) (listed T.rank out.new.items)) }
+        (shown_list T.rank out.old.items) (shown_list T.rank out.new.items)) }
     ensures room { IfOk result (λ left. pos (T.SafeLen.number len) ≤ℤ
         (pos (T.SafeLen.number left) +ℤ pos 1)) }
     ensures counted { IfOk result (λ left. pos (T.SafeLen.number left) +ℤ keys_in
-        (listed T.rank out.old.items) +ℤ pos 1
-        ≡ pos (T.SafeLen.number len) +ℤ keys_in (listed T.rank out.new.items)) }
+        (shown_list T.rank out.old.items) +ℤ pos 1
+        ≡ pos (T.SafeLen.number len) +ℤ keys_in (shown_list T.rank out.new.items)) }
 {
     key.in_hand();
     let stays = f(&key, value);
@@ -79,10 +78,10 @@ fn keep_keys<T: Integer, V: Eq + Clone, F: Fn(&T, &V) -> bool>(
     requires counted { (T.rank end -ℤ T.rank start +ℤ pos 1) ≤ℤ pos (T.SafeLen.number len) }
     ensures kept { OnOk result (KeepsMore (AnswersAtPair F.Fn) f.now T.rank V.eq T.low T.high
         (pairs_of T.of_rank (entry (T.rank start) (T.rank end) value.now)) (T.rank start)
-        (T.rank end +ℤ pos 1) (listed T.rank out.old.items) (listed T.rank out.new.items)) }
+        (T.rank end +ℤ pos 1) (shown_list T.rank out.old.items) (shown_list T.rank out.new.items)) }
     ensures counted { IfOk result (λ left. pos (T.SafeLen.number left) +ℤ keys_in
-        (listed T.rank out.old.items) +ℤ (T.rank end -ℤ T.rank start +ℤ pos 1)
-        ≡ pos (T.SafeLen.number len) +ℤ keys_in (listed T.rank out.new.items)) }
+        (shown_list T.rank out.old.items) +ℤ (T.rank end -ℤ T.rank start +ℤ pos 1)
+        ≡ pos (T.SafeLen.number len) +ℤ keys_in (shown_list T.rank out.new.items)) }
 {
     end.in_hand();
     let mut left = len;
@@ -106,9 +105,9 @@ pub fn retain_keys<T: Integer, V: Eq + Clone, F: Fn(&T, &V) -> bool>(
     requires clones { ClonesAreAlike V.is_clone V.eq }
     requires table { IsTable V.eq T.low T.high (T.SafeLen.number len) entries.now.entries }
     ensures retained { IfOk result (λ kept. IsKeyRetained F.Fn f.now T.rank T.of_rank V.eq T.low
-        T.high entries.now.entries (listed T.rank kept.0.items)) }
+        T.high entries.now.entries (shown_list T.rank kept.0.items)) }
     ensures table { IfOk result (λ kept. IsTable V.eq T.low T.high (T.SafeLen.number kept.1)
-        (listed T.rank kept.0.items)) }
+        (shown_list T.rank kept.0.items)) }
 {
     let mut out = Vec::new(entries.allocator());
     let mut left = len;

@@ -3,7 +3,7 @@
 ghost use Rattle.std.specs.Prelude.{◌≡◌, pos, ◌+ℤ◌, ◌≤ℤ◌, IfOk, OnErr};
 ghost use Rattle.std.specs.Option.{option_map};
 ghost use Rattle.blaze_entries.specs.Counted.{uncounted};
-ghost use Rattle.blaze_entries.specs.Found.{range_in, ranks_of};
+ghost use Rattle.blaze_entries.specs.Found.{range_in, shown_ends};
 ghost use Rattle.blaze_entries.specs.Starts.{last_below};
 ghost use Rattle.blaze_table.specs.Canonical.{IsCanonical};
 ghost use Rattle.blaze_table.specs.Count.{keys_in};
@@ -20,7 +20,7 @@ use std::alloc::AllocError;
 
 // The first and last key of the entry with the greatest start below a key.
 fn range_below<T: Integer, V>(entries: &Entries<T, V>, key: T) -> Option<(T, T)>
-    ensures { option_map (ranks_of T.rank) result
+    ensures { option_map (shown_ends T.rank) result
         ≡ option_map range_in (last_below (T.rank key) entries.now.entries) }
 {
     let (start, end, _) = entries.below(key)?;

@@ -5,7 +5,7 @@ ghost use Rattle.std.specs.Prelude.{MatchOption};
 ghost use Rattle.std.specs.Prelude.{option_map};
 ghost use Rattle.std.specs.List.Retain.{IsFiltered};
 ghost use Rattle.blaze_table.specs.Counted.{uncounted};
-ghost use Rattle.blaze_table.specs.Entries.{Entry, entry, at, entry_at, shown_entry, SameOption};
+ghost use Rattle.blaze_table.specs.Entries.{Entry, entry, at, entry_at, shown_entry, SameOption, shown_list};
 ghost use Rattle.blaze_table.specs.Entries.{SameEntries};
 ghost use Rattle.blaze_table.specs.Canonical.{IsRangeMap};
 ghost use Rattle.blaze_table.specs.Count.{keys_in, mapped_keys};
@@ -14,7 +14,6 @@ ghost use Rattle.blaze_table.specs.Cut.{IsCut, IsFirstCut, IsLastCut, IsRangeCut
 ghost use Rattle.blaze_table.specs.Cut.{GoesOnAbove};
 ghost use Rattle.blaze_table.specs.Ending.{ending_from, overlapping};
 ghost use Rattle.blaze_table.specs.Gap.{IsGap};
-ghost use Rattle.blaze_table.specs.Listed.{listed};
 ghost use Rattle.blaze_table.specs.Work.{IsCounted, IsCountedPaint, IsCountedCut};
 ghost use Rattle.blaze_table.specs.Retain.{AnswersAt, IsCallableAtEach, IsCallableAtPairs};
 ghost use Rattle.blaze_table.specs.Retain.{IsKeyRetained};
@@ -183,8 +182,8 @@ impl<T: Integer, V: Eq> RangeTable<T, V> {
 impl<T: Integer, V: Eq + Drop> RangeTable<T, V> {
     /// The table of a canonical list of entries: first key, last key and value. Refused memory drops the list.
     pub fn from_canonical(alloc: Global, entries: Vec<(T, T, V)>) -> Result<Self, AllocError>
-        requires { IsRangeMap V.eq T.low T.high (listed T.rank entries.items) }
-        ensures { IfOk result (λ table. table ≡ uncounted (listed T.rank entries.items)) }
+        requires { IsRangeMap V.eq T.low T.high (shown_list T.rank entries.items) }
+        ensures { IfOk result (λ table. table ≡ uncounted (shown_list T.rank entries.items)) }
     {
         let len = count_list(entries.as_slice());
         let entries = Entries::from_sorted(alloc, entries)?;
@@ -312,9 +311,9 @@ impl<T: Integer, V: Eq + Clone> RangeTable<T, V> {
         Ok(value)
     }
 
-    /// Takes the first key out, and answers it with the value that was there; `None` on the empty table. No search is made for
-    /// it. Refused memory leaves the entries unchanged. No memory is taken on the empty table and where the key is an entry of
-    /// its own.
+    /// Takes the first key out, and answers it with the value that was there; `None` on the empty table. The key is found without
+    /// a search; what is left of its entry is put in by one. Refused memory leaves the entries unchanged. No memory is taken on
+    /// the empty table and where the key is an entry of its own.
     pub fn pop_first(&mut self) -> Result<Option<(T, V)>, AllocError>
         requires { ClonesAreAlike V.is_clone V.eq }
         ensures ok { IfOk result (λ popped. MatchOption popped ((self.old.entries ≡ [])
@@ -336,9 +335,9 @@ impl<T: Integer, V: Eq + Clone> RangeTable<T, V> {
         Ok(Some((key, value)))
     }
 
-    /// Takes the last key out, and answers it with the value that was there; `None` on the empty table. No search is made for
-    /// it. Refused memory leaves the entries unchanged. No memory is taken on the empty table and where the key is an entry of
-    /// its own.
+    /// Takes the last key out, and answers it with the value that was there; `None` on the empty table. The key is found without
+    /// a search. Refused memory leaves the entries unchanged. No memory is taken on the empty table and where the key is an
+    /// entry of its own.
     pub fn pop_last(&mut self) -> Result<Option<(T, V)>, AllocError>
         requires { ClonesAreAlike V.is_clone V.eq }
         ensures ok { IfOk result (λ popped. MatchOption popped ((self.old.entries ≡ [])

@@ -6,9 +6,8 @@ use Rattle.std.specs.Cmp.{IsEquivalence}
 use Rattle.std.proofs.lemmas.List.{map-append}
 use denote.Ref.{Bor}
 use Rattle.blaze_entries.proofs.Alike.{same_along, same_trans}
-use Rattle.blaze_table.specs.Entries.{Entry, at, holds, shown_entry, SameOption, SameEntries}
+use Rattle.blaze_table.specs.Entries.{Entry, at, holds, shown_entry, SameOption, SameEntries, shown_list}
 use Rattle.blaze_table.specs.Canonical.{IsApart, IsCanonical, AreKeys, IsRangeMap}
-use Rattle.blaze_table.specs.Listed.{listed}
 use Rattle.blaze_table.specs.Painted.{last_at, painted_in_order}
 use Rattle.blaze_table.proofs.Paints.Painted.{content_as, length_as}
 use Rattle.blaze_table.proofs.Canonical.Runs.{canonical, one_per_run}
@@ -29,7 +28,7 @@ abbrev pub lent_eq : {V : Type 0} → (V → V → Bool) → Bor V → Bor V →
 lent_eq eq x y = eq x.now y.now
 
 module _ {V : Type 0} where
-  pub listed_itself : {T : Type 0} (rank : T → ℤ) (xs : List (T × T × Bor V)) → map itself (listed rank xs) ≡ map (shown_entry rank (λ v. v.now)) xs
+  pub listed_itself : {T : Type 0} (rank : T → ℤ) (xs : List (T × T × Bor V)) → map itself (shown_list rank xs) ≡ map (shown_entry rank (λ v. v.now)) xs
   listed_itself rank [] = refl
   listed_itself rank (x ∷ xs) = ap (λ es. shown_entry rank (λ v. v.now) x ∷ es) (listed_itself rank xs)
 
@@ -85,12 +84,12 @@ module _ {V : Type 0} (eq : V → V → Bool) where
 
   -- a lent value more, and a value equal to it
   pub cloned_more : {T : Type 0} (rank : T → ℤ) (xs : List (T × T × Bor V)) (es new : List (T × T × V)) (x : T × T × Bor V) (y : T × T × V) → new ≡ es ++ y ∷ [] → y.0 ≡ x.0 → y.1 ≡ x.1 → eq x.2.now y.2 ≡ true
-      → SameEntries eq (map (shown_entry rank (λ v. v.now)) xs) (listed rank es) → SameEntries eq (map (shown_entry rank (λ v. v.now)) (xs ++ x ∷ [])) (listed rank new)
+      → SameEntries eq (map (shown_entry rank (λ v. v.now)) xs) (shown_list rank es) → SameEntries eq (map (shown_entry rank (λ v. v.now)) (xs ++ x ∷ [])) (shown_list rank new)
   cloned_more rank xs es new x y n lo hi v s =
       let all = ap (map (shown_entry rank (λ w. w))) n ∙ map-append (shown_entry rank (λ w. w)) es (y ∷ []) in
       subst (λ fs. SameEntries eq (map (shown_entry rank (λ w. w.now)) (xs ++ x ∷ [])) fs) (sym all)
-      (subst (λ gs. SameEntries eq gs (listed rank es ++ shown_entry rank (λ w. w) y ∷ [])) (sym (map-append (shown_entry rank (λ w. w.now)) xs (x ∷ [])))
-      (same-push eq (map (shown_entry rank (λ w. w.now)) xs) (listed rank es) (shown_entry rank (λ w. w.now) x) (shown_entry rank (λ w. w) y) s (ap rank (sym lo)) (ap rank (sym hi)) v))
+      (subst (λ gs. SameEntries eq gs (shown_list rank es ++ shown_entry rank (λ w. w) y ∷ [])) (sym (map-append (shown_entry rank (λ w. w.now)) xs (x ∷ [])))
+      (same-push eq (map (shown_entry rank (λ w. w.now)) xs) (shown_list rank es) (shown_entry rank (λ w. w.now) x) (shown_entry rank (λ w. w) y) s (ap rank (sym lo)) (ap rank (sym hi)) v))
 
   module _ (laws : IsEquivalence eq) where
     lent_laws : IsEquivalence (lent_eq eq)
@@ -120,11 +119,11 @@ module _ {V : Type 0} (eq : V → V → Bool) where
       }
 
       -- what the lists of the code say of these
-      pub cloned_is : {T : Type 0} (rank : T → ℤ) (pairs lent : List (T × T × Bor V)) (new : List (Entry V)) → IsCanonicalOf (lent_eq eq) low high (listed rank pairs) (listed rank lent)
+      pub cloned_is : {T : Type 0} (rank : T → ℤ) (pairs lent : List (T × T × Bor V)) (new : List (Entry V)) → IsCanonicalOf (lent_eq eq) low high (shown_list rank pairs) (shown_list rank lent)
           → SameEntries eq (map (shown_entry rank (λ v. v.now)) lent) new → IsCanonicalOf eq low high (map (shown_entry rank (λ v. v.now)) pairs) new
       cloned_is rank pairs lent new c s =
-          let d = canonical_of_itself (listed rank pairs) (listed rank lent) c in
+          let d = canonical_of_itself (shown_list rank pairs) (shown_list rank lent) c in
           canonical_of_as (map (shown_entry rank (λ v. v.now)) pairs) (map (shown_entry rank (λ v. v.now)) lent) new
           (subst (λ es. IsCanonicalOf eq low high (map (shown_entry rank (λ v. v.now)) pairs) es) (listed_itself rank lent)
-          (subst (λ qs. IsCanonicalOf eq low high qs (map itself (listed rank lent))) (listed_itself rank pairs) d))
+          (subst (λ qs. IsCanonicalOf eq low high qs (map itself (shown_list rank lent))) (listed_itself rank pairs) d))
           s

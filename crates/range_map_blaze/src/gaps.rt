@@ -3,7 +3,7 @@ ghost use Rattle.std.specs.Prelude.{◌≡◌, ◌≤ℤ◌, IfSome};
 ghost use Rattle.std.specs.Iterator.{item_count};
 ghost use Rattle.blaze_int.specs.Bounds.{start_rank, end_rank};
 ghost use Rattle.blaze_table.specs.Chosen.{left_alone, IsChosen};
-ghost use Rattle.blaze_table.specs.RangeSets.{bare_range, unit_eq};
+ghost use Rattle.blaze_table.specs.RangeSets.{shown_bare_range, unit_eq};
 ghost use Rattle.blaze_table.specs.Whole.{YieldsWholeFirst};
 ghost use Rattle.range_map_blaze.specs.OneRange.{one_range};
 ghost use Rattle.range_map_blaze.specs.Somewhere.{AreGapsSomewhere};
@@ -80,7 +80,7 @@ fn gaps_on<T: Integer, V: Eq>(table: &RangeTable<T, V>, start: T, end: T) -> Gap
 impl<'a, T: Integer, V: Eq> Iterator for Gaps<'a, T, V> {
     type Item = RangeInclusive<T>;
 
-    ghost next_gives = { YieldsWholeFirst (λ r. r) (bare_range T.rank) (λ s. s) };
+    ghost next_gives = { YieldsWholeFirst (λ r. r) (shown_bare_range T.rank) (λ s. s) };
 
     ghost remaining = { item_count (λ s. s) };
 

@@ -1,7 +1,6 @@
 //! The entries on the keys of a range, by a walk over the entries within it.
 ghost use Rattle.std.specs.Prelude.{◌≤ℤ◌, IfOk};
-ghost use Rattle.blaze_table.specs.Entries.{SameEntries};
-ghost use Rattle.blaze_table.specs.Listed.{listed};
+ghost use Rattle.blaze_table.specs.Entries.{SameEntries, shown_list};
 ghost use Rattle.blaze_table.specs.Painted.{ClonesAreAlike};
 ghost use Rattle.range_map_blaze.specs.Within.{within};
 
@@ -18,7 +17,7 @@ impl<T: Integer, V: Eq + Clone> RangeMapBlaze<T, V> {
         requires clones { ClonesAreAlike V.is_clone V.eq }
         ensures { IfOk result
             (λ list. SameEntries V.eq (within (T.rank start) (T.rank end) self.now.entries)
-            (listed T.rank list.items)) }
+            (shown_list T.rank list.items)) }
     {
         self.in_hand();
         let mut list = Vec::new(self.allocator());

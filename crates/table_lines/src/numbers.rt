@@ -1,6 +1,6 @@
 //! Numbers that lines write, and lengths of ranges.
 ghost use Rattle.std.specs.Prelude.{◌≡◌, IfSome};
-ghost use Rattle.std.specs.Str.Parse.{IsNumeral, digits_value, without_leading_plus};
+ghost use Rattle.std.specs.Str.Parse.{digits_value, without_leading_plus};
 
 use blaze_int::{Integer, SafeLength, bounds_of};
 use std::ops::RangeInclusive;

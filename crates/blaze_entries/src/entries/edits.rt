@@ -1,11 +1,11 @@
 //! Edits of entries. Each entry that they put in or take out is counted, but where it is said that it is not.
-ghost use Rattle.std.specs.Prelude.{◌≡◌, ◌+◌, [], length, map, Some, None, IsSome};
+ghost use Rattle.std.specs.Prelude.{◌≡◌, ◌+◌, [], length, Some, None, IsSome};
 ghost use Rattle.std.specs.Prelude.{OnOk, OnErr, IfOk, slice_get};
 ghost use Rattle.std.specs.List.Retain.{IsFiltered};
 ghost use Rattle.std.specs.Option.{option_map};
 ghost use Rattle.blaze_entries.specs.Answers.{AnswersAt, IsCallableAtEach};
 ghost use Rattle.blaze_entries.specs.Counted.{uncounted};
-ghost use Rattle.blaze_entries.specs.Entries.{entry, shown_entry};
+ghost use Rattle.blaze_entries.specs.Entries.{entry, shown_list};
 ghost use Rattle.blaze_entries.specs.Starts.{StartsAscend, below, from, start_at, with_entry};
 ghost use Rattle.blaze_entries.specs.Starts.{without, with_end, with_end_value, IsStartMoved};
 ghost use Rattle.blaze_entries.specs.Starts.{IsFrontReplaced, IsCloneInserted, IsFirstRemoved};
@@ -55,9 +55,9 @@ impl<T: Integer, V: Drop> Entries<T, V> {
     /// Has the entries of a list whose starts ascend in place of its own: first key, last key and value. No entry is counted.
     /// Refused memory drops the list.
     pub fn set_sorted(&mut self, entries: Vec<(T, T, V)>) -> Result<(), AllocError>
-        requires { StartsAscend T.low T.high (map (shown_entry T.rank (λ v. v)) entries.items) }
+        requires { StartsAscend T.low T.high (shown_list T.rank entries.items) }
         ensures ok { OnOk result (self.new
-            ≡ record self.old { entries = map (shown_entry T.rank (λ v. v)) entries.items }) }
+            ≡ record self.old { entries = shown_list T.rank entries.items }) }
         ensures err { OnErr result (self.new ≡ self.old) }
     {
         let tree = tree_of(self.alloc, entries)?;

@@ -3,8 +3,8 @@ ghost use Rattle.std.specs.Prelude.{◌≡◌, ◌+◌, ◌-◌, pos, ◌+ℤ◌
 ghost use Rattle.std.specs.Prelude.{None, MatchOption, IfOk, OnErr, IsSome, IfSome, IsSomeAnd};
 ghost use Rattle.std.specs.Option.{option_map, option_copied};
 ghost use Rattle.blaze_entries.specs.Cloned.{IsRangeCloned};
-ghost use Rattle.blaze_entries.specs.Found.{found_in, found_of, is_sought, range_in, ranks_of};
-ghost use Rattle.blaze_entries.specs.Scanned.{seen_of, unseen, walked, walked_value};
+ghost use Rattle.blaze_entries.specs.Found.{found_in, shown_found, is_sought, range_in, shown_ends};
+ghost use Rattle.blaze_entries.specs.Scanned.{shown_plan, unseen, walked, walked_value};
 ghost use Rattle.blaze_entries.specs.Scanned.{answers, walked_keys, IsAboveCloned, GoesOnUnlike};
 ghost use Rattle.blaze_entries.specs.Starts.{below, last_below, first_from, holder_of, start_at};
 
@@ -12,6 +12,7 @@ use super::Entries;
 use crate::found::Found;
 use crate::full_nodes::{cloned, found, range_cloned, range_of, reaching};
 use crate::nodes::{node_at, node_at_or_above, node_at_or_below, node_below};
+use crate::range_entry::RangeEntry;
 use crate::scan::{Plan, above_cloned, walk};
 use blaze_int::Integer;
 use std::alloc::AllocError;
@@ -19,7 +20,7 @@ use std::alloc::AllocError;
 impl<T: Integer, V> Entries<T, V> {
     /// The first and last key of the entry with the greatest start up to a key.
     pub fn range_at_or_below(&mut self, key: T) -> Option<(T, T)>
-        ensures found { option_map (ranks_of T.rank) result
+        ensures found { option_map (shown_ends T.rank) result
             ≡ option_map range_in (last_below (T.rank key +ℤ pos 1) self.old.entries) }
         ensures looked { self.new ≡ record self.old { looks = self.old.looks + 1 } }
     {
@@ -29,7 +30,7 @@ impl<T: Integer, V> Entries<T, V> {
 
     /// The first and last key of the entry with the least start from a key on.
     pub fn range_at_or_above(&mut self, key: T) -> Option<(T, T)>
-        ensures found { option_map (ranks_of T.rank) result
+        ensures found { option_map (shown_ends T.rank) result
             ≡ option_map range_in (first_from (T.rank key) self.old.entries) }
         ensures looked { self.new ≡ record self.old { looks = self.old.looks + 1 } }
     {
@@ -41,7 +42,7 @@ impl<T: Integer, V> Entries<T, V> {
 impl<T: Integer, V: Clone> Entries<T, V> {
     /// The first and last key of the entry that has a key, and a clone of its value where it has more than one. A refused clone
     /// leaves the entries.
-    pub fn holder(&mut self, key: T) -> Result<Option<(T, T, Option<V>)>, AllocError>
+    pub fn holder(&mut self, key: T) -> Result<Option<RangeEntry<T, Option<V>>>, AllocError>
         ensures held { IfOk result (λ r.
             IsRangeCloned T.rank V.is_clone (holder_of (T.rank key) self.old.entries) r) }
         ensures refused { OnErr result
@@ -54,7 +55,7 @@ impl<T: Integer, V: Clone> Entries<T, V> {
     }
 
     /// The same of the first entry. No search is made.
-    pub fn first_held(&mut self) -> Result<Option<(T, T, Option<V>)>, AllocError>
+    pub fn first_held(&mut self) -> Result<Option<RangeEntry<T, Option<V>>>, AllocError>
         ensures held { IfOk result (λ r.
             IsRangeCloned T.rank V.is_clone (slice_get self.old.entries 0) r) }
         ensures refused { OnErr result
@@ -67,7 +68,7 @@ impl<T: Integer, V: Clone> Entries<T, V> {
     }
 
     /// The same of the last entry. No search is made.
-    pub fn last_held(&mut self) -> Result<Option<(T, T, Option<V>)>, AllocError>
+    pub fn last_held(&mut self) -> Result<Option<RangeEntry<T, Option<V>>>, AllocError>
         ensures held { IfOk result (λ r. IsRangeCloned T.rank V.is_clone
             (slice_get self.old.entries (length self.old.entries - 1)) r) }
         ensures refused { OnErr result (IsSomeAnd
@@ -96,7 +97,7 @@ impl<T: Integer, V: Clone> Entries<T, V> {
 impl<T: Integer, V: Eq> Entries<T, V> {
     /// The entry with the greatest start below a key.
     pub fn found_below(&mut self, key: T, value: &V) -> Option<Found<T>>
-        ensures found { option_map (found_of T.rank) result
+        ensures found { option_map (shown_found T.rank) result
             ≡ option_map (found_in (λ w. V.eq w value.now))
             (last_below (T.rank key) self.old.entries) }
         ensures looked { self.new ≡ record self.old { looks = self.old.looks + 1 } }
@@ -107,7 +108,7 @@ impl<T: Integer, V: Eq> Entries<T, V> {
 
     /// The entry with the greatest start up to a key.
     pub fn found_at_or_below(&mut self, key: T, value: &V) -> Option<Found<T>>
-        ensures found { option_map (found_of T.rank) result
+        ensures found { option_map (shown_found T.rank) result
             ≡ option_map (found_in (λ w. V.eq w value.now))
             (last_below (T.rank key +ℤ pos 1) self.old.entries) }
         ensures looked { self.new ≡ record self.old { looks = self.old.looks + 1 } }
@@ -133,7 +134,7 @@ impl<T: Integer, V: Eq + Clone> Entries<T, V> {
         requires { walked_keys (T.rank lo) (T.rank hi)
             (reverse (below (T.rank hi +ℤ pos 2) self.old.entries))
             ≤ℤ pos (T.SafeLen.number len) }
-        ensures plan { IfOk result (λ r. seen_of T.rank r.0
+        ensures plan { IfOk result (λ r. shown_plan T.rank r.0
             ≡ walked (is_sought V.eq (option_copied value.entry))
             (T.rank lo) (T.rank hi) (unseen (T.rank hi))
             (reverse (below (T.rank hi +ℤ pos 2) self.old.entries))) }
@@ -142,7 +143,7 @@ impl<T: Integer, V: Eq + Clone> Entries<T, V> {
             (reverse (below (T.rank hi +ℤ pos 2) self.old.entries))
             ≡ pos (T.SafeLen.number len)) }
         ensures above { IfOk result (λ r. IsAboveCloned V.is_clone (T.rank hi)
-            (option_map (found_of T.rank) r.0.left) (walked_value (T.rank lo) None
+            (option_map (shown_found T.rank) r.0.left) (walked_value (T.rank lo) None
             (reverse (below (T.rank hi +ℤ pos 2) self.old.entries))) r.2) }
         ensures refused { OnErr result (GoesOnUnlike (T.rank hi)
             (walked (is_sought V.eq (option_copied value.entry))
@@ -171,7 +172,7 @@ impl<T: Integer, V: Eq + Clone> Entries<T, V> {
         requires { walked_keys (T.rank lo) (T.rank hi)
             (reverse (below (T.rank hi +ℤ pos 2) self.old.entries))
             ≤ℤ pos (T.SafeLen.number len) }
-        ensures plan { IfOk result (λ r. seen_of T.rank r.0
+        ensures plan { IfOk result (λ r. shown_plan T.rank r.0
             ≡ walked (λ w. V.eq w value.now) (T.rank lo) (T.rank hi) (unseen (T.rank hi))
             (reverse (below (T.rank hi +ℤ pos 2) self.old.entries))) }
         ensures len { IfOk result (λ r. pos (T.SafeLen.number r.1)
@@ -179,7 +180,7 @@ impl<T: Integer, V: Eq + Clone> Entries<T, V> {
             (reverse (below (T.rank hi +ℤ pos 2) self.old.entries))
             ≡ pos (T.SafeLen.number len)) }
         ensures above { IfOk result (λ r. IsAboveCloned V.is_clone (T.rank hi)
-            (option_map (found_of T.rank) r.0.left) (walked_value (T.rank lo) None
+            (option_map (shown_found T.rank) r.0.left) (walked_value (T.rank lo) None
             (reverse (below (T.rank hi +ℤ pos 2) self.old.entries))) r.2) }
         ensures value { IfOk result (λ r. MatchOption (walked_value (T.rank lo) None
             (reverse (below (T.rank hi +ℤ pos 2) self.old.entries)))

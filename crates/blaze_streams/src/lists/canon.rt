@@ -2,7 +2,7 @@
 ghost use Rattle.std.specs.Prelude.{◌≡◌, length, refl, Some, IfSome};
 ghost use Rattle.std.specs.Iterator.{item_count, UpTo};
 ghost use Rattle.std.specs.Iterator.SizeHint.{IsWithinCount};
-ghost use Rattle.blaze_table.specs.RangeSets.{bare_range, bare_ranges, IsRangeSet};
+ghost use Rattle.blaze_table.specs.RangeSets.{shown_bare_range, shown_bare_ranges, IsRangeSet};
 ghost use Rattle.blaze_table.specs.Whole.{YieldsWholeFirst};
 
 use crate::sorted_disjoint::SortedDisjoint;
@@ -23,23 +23,23 @@ impl<T: Integer> Model for CanonIter<T> {
     ghost use Rattle.std.specs.Coded.{coded_list};
     ghost use Rattle.std.specs.Vec.Iter.{into_iter_items};
     ghost use Rattle.blaze_table.specs.Entries.{Entry};
-    ghost use Rattle.blaze_table.specs.RangeSets.{bare_code, bare_ranges, IsRangeSet};
+    ghost use Rattle.blaze_table.specs.RangeSets.{bare_code, shown_bare_ranges, IsRangeSet};
 
     ghost Value = { List (Entry (Unit {0})) };
 
     ghost coded = { coded_list bare_code };
 
-    ghost view = { λ s. bare_ranges T.rank (into_iter_items s.rest) };
+    ghost view = { λ s. shown_bare_ranges T.rank (into_iter_items s.rest) };
 
     ghost invariant = { λ s. IsRangeSet T.low T.high
-        (bare_ranges T.rank (into_iter_items s.rest)) };
+        (shown_bare_ranges T.rank (into_iter_items s.rest)) };
 }
 
 impl<T: Integer> CanonIter<T> {
     /// The ranges, in order. No memory is taken.
     pub fn new(ranges: Vec<RangeInclusive<T>>) -> Self
-        requires { IsRangeSet T.low T.high (bare_ranges T.rank ranges.items) }
-        ensures { result ≡ bare_ranges T.rank ranges.items }
+        requires { IsRangeSet T.low T.high (shown_bare_ranges T.rank ranges.items) }
+        ensures { result ≡ shown_bare_ranges T.rank ranges.items }
     {
         CanonIter {
             rest: ranges.into_iter(),
@@ -50,7 +50,7 @@ impl<T: Integer> CanonIter<T> {
 impl<T: Integer> Iterator for CanonIter<T> {
     type Item = RangeInclusive<T>;
 
-    ghost next_gives = { YieldsWholeFirst (λ r. r) (bare_range T.rank) (λ s. s) };
+    ghost next_gives = { YieldsWholeFirst (λ r. r) (shown_bare_range T.rank) (λ s. s) };
 
     ghost remaining = { item_count (λ s. s) };
 

@@ -4,7 +4,7 @@ ghost use Rattle.std.specs.Iterator.{item_count, UpTo};
 ghost use Rattle.std.specs.Iterator.SizeHint.{IsWithinCount};
 ghost use Rattle.blaze_table.specs.Canonical.{IsOnePerRun};
 ghost use Rattle.blaze_streams.specs.Violations.{IsFirstViolation};
-ghost use Rattle.blaze_table.specs.RangeSets.{bare_range, bare_ranges, unit_eq};
+ghost use Rattle.blaze_table.specs.RangeSets.{shown_bare_range, shown_bare_ranges, unit_eq};
 ghost use Rattle.blaze_table.specs.Whole.{YieldsWholeFirst};
 
 use crate::lists::canon::CanonIter;
@@ -39,10 +39,10 @@ impl<T: Integer> CheckSortedDisjoint<T> {
     /// The ranges, in order, where they keep the law; and else the place of the first that violates it: it is empty, or does not
     /// start above the end before it, or touches the range before it. No memory is taken.
     pub fn new(ranges: Vec<RangeInclusive<T>>) -> Result<Self, NotSorted>
-        ensures ok { IfOk result (λ stream. stream ≡ bare_ranges T.rank ranges.items) }
-        ensures accepted { IsOk result ↔ IsOnePerRun unit_eq (bare_ranges T.rank ranges.items) }
+        ensures ok { IfOk result (λ stream. stream ≡ shown_bare_ranges T.rank ranges.items) }
+        ensures accepted { IsOk result ↔ IsOnePerRun unit_eq (shown_bare_ranges T.rank ranges.items) }
         ensures refused { IfErr result
-            (λ error. IsFirstViolation unit_eq (bare_ranges T.rank ranges.items) error.at) }
+            (λ error. IsFirstViolation unit_eq (shown_bare_ranges T.rank ranges.items) error.at) }
     {
         match first_violation(ranges.as_slice()) {
             Some(at) => Err(NotSorted { at }),
@@ -56,7 +56,7 @@ impl<T: Integer> CheckSortedDisjoint<T> {
 impl<T: Integer> Iterator for CheckSortedDisjoint<T> {
     type Item = RangeInclusive<T>;
 
-    ghost next_gives = { YieldsWholeFirst (λ r. r) (bare_range T.rank) (λ s. s) };
+    ghost next_gives = { YieldsWholeFirst (λ r. r) (shown_bare_range T.rank) (λ s. s) };
 
     ghost remaining = { item_count (λ s. s) };
 

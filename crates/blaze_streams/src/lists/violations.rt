@@ -4,7 +4,7 @@ ghost use Rattle.std.specs.Option.{option_copied};
 ghost use Rattle.blaze_table.specs.Entries.{Entry};
 ghost use Rattle.blaze_table.specs.Canonical.{IsRangeMap};
 ghost use Rattle.blaze_streams.specs.Violations.{violates, IsFirstViolation};
-ghost use Rattle.blaze_table.specs.RangeSets.{bare_range};
+ghost use Rattle.blaze_table.specs.RangeSets.{shown_bare_range};
 ghost use Rattle.blaze_streams.specs.RangeLists.{IsWithin};
 ghost use Rattle.blaze_streams.specs.Ranges.{shown_range};
 
@@ -55,7 +55,7 @@ impl<T: Integer, VC: ValueCarrier> Ranged<T> for (RangeInclusive<T>, VC) {
 impl<T: Integer> Ranged<T> for RangeInclusive<T> {
     type Value = ();
 
-    ghost entry = { bare_range T.rank };
+    ghost entry = { shown_bare_range T.rank };
 
     fn start(&self) -> T {
         *self.start()

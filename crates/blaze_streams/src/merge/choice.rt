@@ -12,6 +12,7 @@ use crate::merge::pieces::{take_before, take_both};
 use crate::sorted_disjoint_map::SortedDisjointMap;
 use blaze_int::Integer;
 use blaze_int::compare::{is_below, lesser};
+use blaze_table::RangeEntry;
 use std::alloc::AllocError;
 
 /// A choice from what two streams have at a key, by which of them have it.
@@ -26,14 +27,14 @@ pub trait Choice<VCL: ValueCarrier, VCR: ValueCarrier> {
         &self,
         left: &mut Cursor<T, VCL, L>,
         right: &mut Cursor<T, VCR, R>,
-    ) -> Result<Option<(T, T, Option<VCL>)>, AllocError>
+    ) -> Result<Option<RangeEntry<T, Option<VCL>>>, AllocError>
         requires { VCL.can_carry }
         ensures left { IsCanonical VCL.Value.eq left.old }
         ensures right { IsCanonical VCR.Value.eq right.old }
         ensures taken { IfOk result (λ taken. MatchOption taken
             ((k : ℤ) → choice (at left.old k) (at right.old k) ≡ None)
             (λ piece. IsTaken VCL.Value.eq choice left.old left.new right.old right.new
-            (T.rank piece.0) (T.rank piece.1) (option_map VCL.shown piece.2))) };
+            (T.rank piece.start) (T.rank piece.end) (option_map VCL.shown piece.value))) };
 
     // Nothing is chosen from nothing.
     ghost from_nothing: { choice None None ≡ None };
@@ -49,16 +50,21 @@ impl<VC: ValueCarrier> Choice<VC, VC> for RightFirst {
         &self,
         left: &mut Cursor<T, VC, L>,
         right: &mut Cursor<T, VC, R>,
-    ) -> Result<Option<(T, T, Option<VC>)>, AllocError> {
-        if let Some((start, end, carrier)) = take_before(left, right)? {
-            return Ok(Some((start, end, Some(carrier))));
+    ) -> Result<Option<RangeEntry<T, Option<VC>>>, AllocError> {
+        if let Some(RangeEntry { start, end, value }) = take_before(left, right)? {
+            let value = Some(value);
+            return Ok(Some(RangeEntry { start, end, value }));
         }
         let Some((start, end)) = right.range() else {
             return Ok(None);
         };
         let carrier = right.take(end)?;
         left.advance(end);
-        Ok(Some((start, end, Some(carrier))))
+        Ok(Some(RangeEntry {
+            start,
+            end,
+            value: Some(carrier),
+        }))
     }
 
     ghost from_nothing = { refl };
@@ -74,13 +80,15 @@ impl<VC: ValueCarrier> Choice<VC, VC> for ExactlyOne {
         &self,
         left: &mut Cursor<T, VC, L>,
         right: &mut Cursor<T, VC, R>,
-    ) -> Result<Option<(T, T, Option<VC>)>, AllocError> {
+    ) -> Result<Option<RangeEntry<T, Option<VC>>>, AllocError> {
         if let Some(piece) = take_before(left, right)? {
-            let (start, end, carrier) = piece;
-            return Ok(Some((start, end, Some(carrier))));
+            let RangeEntry { start, end, value } = piece;
+            let value = Some(value);
+            return Ok(Some(RangeEntry { start, end, value }));
         }
-        if let Some((start, end, carrier)) = take_before(right, left)? {
-            return Ok(Some((start, end, Some(carrier))));
+        if let Some(RangeEntry { start, end, value }) = take_before(right, left)? {
+            let value = Some(value);
+            return Ok(Some(RangeEntry { start, end, value }));
         }
         let (Some((start, ours)), Some((_, theirs))) = (left.range(), right.range()) else {
             return Ok(None);
@@ -88,7 +96,11 @@ impl<VC: ValueCarrier> Choice<VC, VC> for ExactlyOne {
         let end = lesser(ours, theirs);
         left.advance_in_first(end);
         right.advance_in_first(end);
-        Ok(Some((start, end, None)))
+        Ok(Some(RangeEntry {
+            start,
+            end,
+            value: None,
+        }))
     }
 
     ghost from_nothing = { refl };
@@ -104,7 +116,7 @@ impl<VCL: ValueCarrier, VCR: ValueCarrier> Choice<VCL, VCR> for LeftWithRight {
         &self,
         left: &mut Cursor<T, VCL, L>,
         right: &mut Cursor<T, VCR, R>,
-    ) -> Result<Option<(T, T, Option<VCL>)>, AllocError> {
+    ) -> Result<Option<RangeEntry<T, Option<VCL>>>, AllocError> {
         take_both(left, right)
     }
 
@@ -121,9 +133,10 @@ impl<VCL: ValueCarrier, VCR: ValueCarrier> Choice<VCL, VCR> for LeftAlone {
         &self,
         left: &mut Cursor<T, VCL, L>,
         right: &mut Cursor<T, VCR, R>,
-    ) -> Result<Option<(T, T, Option<VCL>)>, AllocError> {
-        if let Some((start, end, carrier)) = take_before(left, right)? {
-            return Ok(Some((start, end, Some(carrier))));
+    ) -> Result<Option<RangeEntry<T, Option<VCL>>>, AllocError> {
+        if let Some(RangeEntry { start, end, value }) = take_before(left, right)? {
+            let value = Some(value);
+            return Ok(Some(RangeEntry { start, end, value }));
         }
         let (Some((ours, _)), Some((start, last))) = (left.range(), right.range()) else {
             return Ok(None);
@@ -132,11 +145,19 @@ impl<VCL: ValueCarrier, VCR: ValueCarrier> Choice<VCL, VCR> for LeftAlone {
             last.in_hand();
             let end = ours.sub_one();
             right.advance(end);
-            return Ok(Some((start, end, None)));
+            return Ok(Some(RangeEntry {
+                start,
+                end,
+                value: None,
+            }));
         }
         right.advance_in_first(last);
         left.advance(last);
-        Ok(Some((start, last, None)))
+        Ok(Some(RangeEntry {
+            start,
+            end: last,
+            value: None,
+        }))
     }
 
     ghost from_nothing = { refl };

@@ -2,7 +2,7 @@
 ghost use Rattle.std.specs.Prelude.{◌≡◌, [], IfOk, OnOk};
 ghost use Rattle.std.specs.Option.{option_map};
 ghost use Rattle.blaze_table.specs.Chosen.{IsChosen};
-ghost use Rattle.blaze_table.specs.Listed.{listed};
+ghost use Rattle.blaze_table.specs.Entries.{shown_list};
 ghost use Rattle.blaze_streams.specs.Choosing.{PutsAlike};
 
 use crate::carrier::{HasValue, ValueCarrier};
@@ -50,10 +50,9 @@ fn put_chosen<
     let mut left = Cursor::new(left);
     let mut right = Cursor::new(right);
     while let Some(piece) = choice.take(&mut left, &mut right)? {
-        let (start, end, carrier) = piece;
-        start.in_hand();
-        end.in_hand();
-        put_value(out, start, end, carrier)?;
+        piece.start.in_hand();
+        piece.end.in_hand();
+        put_value(out, piece.start, piece.end, piece.value)?;
     }
     Ok(())
 }
@@ -94,7 +93,7 @@ pub fn entries_chosen_of<
 ) -> Result<Vec<(T, T, VCL::Value)>, AllocError>
     requires { VCL.can_carry }
     ensures { IfOk result (λ entries. IsChosen VCL.Value.eq T.low T.high C.choice (L.left left)
-        (R.left right) (listed T.rank entries.items)) }
+        (R.left right) (shown_list T.rank entries.items)) }
 {
     let mut entries: Vec<(T, T, VCL::Value)> = Vec::with_capacity(alloc, room)?;
     put_chosen(left, right, choice, &mut entries)?;

@@ -1,7 +1,6 @@
 //! Lists that grow at their end, piece after piece.
 ghost use Rattle.std.specs.Prelude.{List, Some, OnOk};
-ghost use Rattle.blaze_table.specs.Entries.{Entry};
-ghost use Rattle.blaze_table.specs.Listed.{listed};
+ghost use Rattle.blaze_table.specs.Entries.{Entry, shown_list};
 ghost use Rattle.blaze_streams.specs.Choosing.{PutsAlike};
 ghost use Rattle.blaze_streams.specs.RangeLists.{shown_ranges};
 
@@ -36,7 +35,7 @@ impl<T: Integer, VC: ValueCarrier> PieceList<T, VC> for Vec<(RangeInclusive<T>, 
 
 /// A list of entries, of first key, last key and value, takes a value of the carrier, but where its last entry goes on with it.
 impl<T: Integer, V: Eq + Clone, VC: HasValue<Value = V>> PieceList<T, VC> for Vec<(T, T, V)> {
-    ghost entries = { λ list. listed T.rank list.items };
+    ghost entries = { λ list. shown_list T.rank list.items };
 
     fn put(&mut self, start: T, end: T, carrier: VC) -> Result<(), AllocError> {
         push_value(self, start, end, carrier)

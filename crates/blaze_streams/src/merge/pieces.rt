@@ -11,6 +11,7 @@ use crate::carrier::ValueCarrier;
 use crate::cursor::Cursor;
 use crate::sorted_disjoint_map::SortedDisjointMap;
 use blaze_int::{Integer, compare};
+use blaze_table::RangeEntry;
 use std::alloc::AllocError;
 
 /// Takes what the first range of one of two streams has below the first key of the other: its first key, its last key and a
@@ -24,14 +25,14 @@ pub fn take_before<
 >(
     cursor: &mut Cursor<T, VC, I>,
     other: &Cursor<T, VCO, O>,
-) -> Result<Option<(T, T, VC)>, AllocError>
+) -> Result<Option<RangeEntry<T, VC>>, AllocError>
     requires { VC.can_carry }
     ensures cursor { IsCanonical VC.Value.eq cursor.old }
     ensures other { IsCanonical VCO.Value.eq other.now }
     ensures taken { IfOk result (λ taken. MatchOption taken ((cursor.new ≡ cursor.old)
         × (lesser (first_key other.now) (first_key cursor.old) ≡ first_key other.now))
-        (λ piece. IsTakenAlone VC.Value.eq cursor.old cursor.new other.now (T.rank piece.0)
-        (T.rank piece.1) (VC.shown piece.2))) }
+        (λ piece. IsTakenAlone VC.Value.eq cursor.old cursor.new other.now (T.rank piece.start)
+        (T.rank piece.end) (VC.shown piece.value))) }
 {
     let bound = other.first();
     let Some((start, last)) = cursor.range() else {
@@ -48,7 +49,11 @@ pub fn take_before<
         }
     };
     let carrier = cursor.take(end)?;
-    Ok(Some((start, end, carrier)))
+    Ok(Some(RangeEntry {
+        start,
+        end,
+        value: carrier,
+    }))
 }
 
 /// Takes the keys that the first ranges of two streams share: the first of them, the last, and a carrier of the left one's value.
@@ -63,14 +68,14 @@ pub fn take_both<
 >(
     left: &mut Cursor<T, VCL, L>,
     right: &mut Cursor<T, VCR, R>,
-) -> Result<Option<(T, T, Option<VCL>)>, AllocError>
+) -> Result<Option<RangeEntry<T, Option<VCL>>>, AllocError>
     requires { VCL.can_carry }
     ensures left { IsCanonical VCL.Value.eq left.old }
     ensures right { IsCanonical VCR.Value.eq right.old }
     ensures taken { IfOk result (λ taken. MatchOption taken
         ((k : ℤ) → left_with_right (at left.old k) (at right.old k) ≡ None)
         (λ piece. IsTaken VCL.Value.eq left_with_right left.old left.new right.old right.new
-        (T.rank piece.0) (T.rank piece.1) (option_map VCL.shown piece.2))) }
+        (T.rank piece.start) (T.rank piece.end) (option_map VCL.shown piece.value))) }
 {
     let (Some((start, last)), Some((other_start, other_last))) = (left.range(), right.range())
     else {
@@ -80,17 +85,29 @@ pub fn take_both<
         last.in_hand();
         let end = other_start.sub_one();
         left.advance(end);
-        return Ok(Some((start, end, None)));
+        return Ok(Some(RangeEntry {
+            start,
+            end,
+            value: None,
+        }));
     }
     if compare::is_below(other_last, start) {
         other_last.in_hand();
         let end = start.sub_one();
         right.advance(end);
-        return Ok(Some((other_start, end, None)));
+        return Ok(Some(RangeEntry {
+            start: other_start,
+            end,
+            value: None,
+        }));
     }
     let first = compare::greater(start, other_start);
     let end = compare::lesser(last, other_last);
     let carrier = left.take(end)?;
     right.advance_in_first(end);
-    Ok(Some((first, end, Some(carrier))))
+    Ok(Some(RangeEntry {
+        start: first,
+        end,
+        value: Some(carrier),
+    }))
 }

@@ -1,7 +1,6 @@
 //! Ranges with their values put one after another.
 ghost use Rattle.std.specs.Prelude.{◌≡◌, ◌∷◌, ◌++◌, [], Some, true, OnOk, OnErr, MatchBool};
-ghost use Rattle.blaze_table.specs.Entries.{entry};
-ghost use Rattle.blaze_table.specs.Listed.{listed};
+ghost use Rattle.blaze_table.specs.Entries.{entry, shown_list};
 ghost use Rattle.blaze_table.specs.Splice.{glue};
 ghost use Rattle.blaze_streams.specs.Choosing.{PutsAlike};
 ghost use Rattle.blaze_streams.specs.RangeLists.{shown_ranges};
@@ -60,8 +59,8 @@ fn lengthen_entry<T: Integer, VC: HasValue>(
     end: T,
     carrier: &VC,
 ) -> bool
-    ensures { let old = listed T.rank out.old.items in MatchBool result
-        (listed T.rank out.new.items ≡ glue VC.Value.eq old (entry (T.rank start) (T.rank end)
+    ensures { let old = shown_list T.rank out.old.items in MatchBool result
+        (shown_list T.rank out.new.items ≡ glue VC.Value.eq old (entry (T.rank start) (T.rank end)
         (VC.shown carrier.now) ∷ [])) ((out.new.items ≡ out.old.items)
         × ((v : VC.Value) → VC.Value.eq (VC.shown carrier.now) v ≡ true
         → glue VC.Value.eq old (entry (T.rank start) (T.rank end) v ∷ [])
@@ -87,7 +86,7 @@ pub fn push_value<T: Integer, VC: HasValue>(
 ) -> Result<(), AllocError>
     requires { VC.can_carry }
     ensures ok { OnOk result (PutsAlike VC.Value.eq (T.rank start) (T.rank end)
-        (Some (VC.shown carrier)) (listed T.rank out.old.items) (listed T.rank out.new.items)) }
+        (Some (VC.shown carrier)) (shown_list T.rank out.old.items) (shown_list T.rank out.new.items)) }
     ensures err { OnErr result (out.new.items ≡ out.old.items) }
 {
     if !lengthen_entry(out, start, end, &carrier) {

@@ -1,7 +1,7 @@
 //! Segments of lists of ranges.
 ghost use Rattle.std.specs.Prelude.{◌≡◌, None, IfOk, IfSome, IfNone, nat_eq};
-ghost use Rattle.blaze_streams.specs.Segments.{numbered, all_numbered, AreInOrder, entry_of};
-ghost use Rattle.blaze_streams.specs.Segments.{entries_of, IsSegmentsOf};
+ghost use Rattle.blaze_streams.specs.Segments.{numbered, all_numbered, AreInOrder, shown_segment};
+ghost use Rattle.blaze_streams.specs.Segments.{shown_segments, IsSegmentsOf};
 ghost use Rattle.blaze_streams.specs.Cursors.{AllCanonical, first_keys, IsNextSegment};
 ghost use Rattle.blaze_table.specs.Canonical.{IsCanonical};
 
@@ -34,7 +34,7 @@ pub fn segments<T: Integer>(
 ) -> Result<Vec<Segment<T>>, AllocError>
     requires { AreInOrder (all_numbered T.rank lists.now) }
     ensures { IfOk result (λ found. IsSegmentsOf nat_eq (all_numbered T.rank lists.now)
-        (entries_of T.rank found.items)) }
+        (shown_segments T.rank found.items)) }
 {
     let mut cursors = cursors_of(alloc, lists)?;
     let found = segments_left(alloc, &mut cursors)?;
@@ -81,7 +81,7 @@ fn segments_left<T: Integer>(
     lists: &mut [PlaceCursor<T>],
 ) -> Result<Vec<Segment<T>>, AllocError>
     requires { AllCanonical nat_eq lists.old }
-    ensures { IfOk result (λ found. IsSegmentsOf nat_eq lists.old (entries_of T.rank found.items)) }
+    ensures { IfOk result (λ found. IsSegmentsOf nat_eq lists.old (shown_segments T.rank found.items)) }
 {
     let mut found = Vec::new(alloc);
     while let Some(segment) = next_segment(alloc, lists)? {
@@ -98,7 +98,7 @@ pub fn next_segment<T: Integer>(
     ensures none { IfOk result (λ next. IfNone next (first_keys lists.old ≡ None)) }
     ensures some { IfOk result
         (λ next. IfSome next (λ segment. IsNextSegment lists.old
-        (entry_of T.rank segment) lists.new)) }
+        (shown_segment T.rank segment) lists.new)) }
 {
     let Some(start) = segment_start(lists) else {
         return Ok(None);

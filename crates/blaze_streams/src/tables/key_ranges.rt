@@ -4,7 +4,7 @@ ghost use Rattle.std.specs.Iterator.{item_count, UpTo};
 ghost use Rattle.std.specs.Iterator.SizeHint.{IsWithinCount};
 ghost use Rattle.blaze_streams.specs.KeyRanges.{AreKeyRanges};
 ghost use Rattle.blaze_table.specs.Canonical.{IsRangeMap};
-ghost use Rattle.blaze_table.specs.RangeSets.{bare_range};
+ghost use Rattle.blaze_table.specs.RangeSets.{shown_bare_range};
 ghost use Rattle.blaze_table.specs.Whole.{YieldsWholeFirst};
 
 use crate::sorted_disjoint::SortedDisjoint;
@@ -96,7 +96,7 @@ pub fn into_ranges_of<T: Integer, V: Eq + Drop>(table: RangeTable<T, V>) -> MapI
 impl<T: Integer, I: EntryEnds<T>> Iterator for KeyRanges<T, I> {
     type Item = RangeInclusive<T>;
 
-    ghost next_gives = { YieldsWholeFirst (λ r. r) (bare_range T.rank) (λ s. s) };
+    ghost next_gives = { YieldsWholeFirst (λ r. r) (shown_bare_range T.rank) (λ s. s) };
 
     ghost remaining = { item_count (λ s. s) };
 

@@ -2,8 +2,7 @@
 use Rattle.std.proofs.Common.{◌∙◌, ℕ, Bool, List, [], ◌∷◌, ◌++◌, ℤ, sym}
 use Rattle.std.specs.Cmp.{IsEquivalence}
 use Rattle.blaze_entries.specs.Cloned.{AreCloned}
-use Rattle.blaze_table.specs.Entries.{Entry, SameEntries}
-use Rattle.blaze_table.specs.Listed.{listed}
+use Rattle.blaze_table.specs.Entries.{Entry, SameEntries, shown_list}
 use Rattle.blaze_table.specs.Painted.{ClonesAreAlike}
 use Rattle.blaze_table.specs.Table.{IsTable}
 use Rattle.blaze_table.proofs.Paints.Painted.{canonical_as}
@@ -11,7 +10,7 @@ use Rattle.blaze_table.proofs.Canonical.Counted.{are_keys_as, same_keys_in}
 
 -- all is the same as the clones, once the same entries are behind them as are left
 abbrev pub IsCopied : {T V : Type 0} → (T → ℤ) → (V → V → Bool) → List (Entry V) → List (Entry V) → List (T × T × V) → Type 0
-IsCopied {T} {V} rank eq all left copy = (fs : List (Entry V)) → SameEntries eq left fs → SameEntries eq all (listed rank copy ++ fs)
+IsCopied {T} {V} rank eq all left copy = (fs : List (Entry V)) → SameEntries eq left fs → SameEntries eq all (shown_list rank copy ++ fs)
 
 -- clones are the same, where a clone is equal to its source
 pub same_cloned : {V : Type 0} (eq : V → V → Bool) (is_clone : V → V → Type 0) → ClonesAreAlike is_clone eq → (es copies : List (Entry V)) → AreCloned is_clone es copies → SameEntries eq es copies

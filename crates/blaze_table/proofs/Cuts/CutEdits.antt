@@ -8,7 +8,7 @@ use Rattle.std.proofs.lemmas.Int.{ints, by_lt_z}
 use Rattle.std.proofs.lemmas.List.{append-nil}
 use Rattle.std.proofs.lemmas.List.Elements.{filter-append}
 use Rattle.blaze_int.proofs.Comparisons.{lt_true, lt_false, lt_holds}
-use Rattle.blaze_entries.specs.Found.{range_in, ranks_of}
+use Rattle.blaze_entries.specs.Found.{range_in, shown_ends}
 use Rattle.blaze_entries.specs.Starts.{StartsAscend, below, last_below, reaching, holder_of, start_at, without}
 use Rattle.blaze_entries.specs.declared.scan.Plan.{Plan}
 use Rattle.blaze_entries.proofs.Alike.{same_along}
@@ -18,7 +18,7 @@ use Rattle.blaze_table.specs.Cut.{IsAmongOthers}
 use Rattle.blaze_table.specs.Edited.{IsLeft, IsPlace}
 use Rattle.blaze_table.specs.Entries.{Entry, at, entry_at, SameOption}
 use Rattle.blaze_table.specs.Painted.{ClonesAreAlike}
-use Rattle.blaze_table.specs.Planned.{ends_of, IsLikeAbove, IsRest}
+use Rattle.blaze_table.specs.Planned.{shown_found_ends, IsLikeAbove, IsRest}
 use Rattle.blaze_table.specs.Splice.{before, IsBelow, IsCutOf, IsKeyTaken, IsKeyCut, covered}
 use Rattle.blaze_table.specs.Table.{IsTable}
 use Rattle.blaze_table.proofs.Canonical.Counted.{overlap_whole}
@@ -156,11 +156,11 @@ module _ {V : Type 0} (eq : V → V → Bool) (laws : IsEquivalence eq) (k low h
           Q y = k <ℤ y.hi → IsSomeAnd o (λ w. eq y.value w ≡ true)
 
       -- what the edit has to know
-      pub key_place : {T : Type 0} (rank : T → ℤ) (p : Plan T) → rank p.end ≡ k → option_map (ranks_of rank) p.rest ≡ cond (int_lt k x.1) (Some x) None → option_map (ends_of rank) p.left ≡ cond (int_lt x.0 k) (Some x) None
+      pub key_place : {T : Type 0} (rank : T → ℤ) (p : Plan T) → rank p.end ≡ k → option_map (shown_ends rank) p.rest ≡ cond (int_lt k x.1) (Some x) None → option_map (shown_found_ends rank) p.left ≡ cond (int_lt x.0 k) (Some x) None
           → (is_clone : V → V → Type 0) → ClonesAreAlike is_clone eq → (v : V) → eq e.value v ≡ true → (o : Option V) → (x.0 <ℤ k → k <ℤ x.1 → IsSomeAnd o (is_clone v)) → IsPlace rank eq k es p o
       key_place rank p end rest left is_clone alike v like o f = record {
         order = omega (arith, ints, end);
-        rest = subst (λ z. IsRest z es (option_map (ranks_of rank) p.rest)) (sym end) (rest_is _ rest);
+        rest = subst (λ z. IsRest z es (option_map (shown_ends rank) p.rest)) (sym end) (rest_is _ rest);
         left = left_is _ left;
         above = subst (λ z. IsLikeAbove eq k z es o) (sym end) (above_is is_clone alike v like o f);
       }

@@ -8,6 +8,7 @@ use Rattle.blaze_int.proofs.Comparisons.{lt_false}
 use Rattle.blaze_entries.specs.Cloned.{IsRangeCloned, IsManyCloned}
 use Rattle.blaze_entries.specs.Found.{range_in}
 use Rattle.blaze_entries.specs.Starts.{StartsAscend, below, last_below, reaching, holder_of}
+use Rattle.blaze_entries.specs.declared.range_entry.RangeEntry.{RangeEntry}
 use Rattle.blaze_entries.proofs.Halves.{below_takes, below_none}
 use Rattle.blaze_table.specs.Canonical.{IsCanonical}
 use Rattle.blaze_table.specs.Cut.{IsAmongOthers}
@@ -82,19 +83,19 @@ module _ {V : Type 0} (eq : V → V → Bool) (laws : IsEquivalence eq) (low hig
           let h = has_key eq laws (end (range_in e)) low high es s c (λ x. x.lo <ℤ x.hi) (subst (λ x. IsSomeAnd x (λ y. y.lo <ℤ y.hi)) (sym (f e refl)) i) in
           among_others eq laws (end (range_in e)) low high es s c h.of h.last h.up h.holds
 
-  module _ {T : Type 0} (rank : T → ℤ) (is_clone : V → V → Type 0) (r : T × T × Option V) where
-    pub end_held : IsRangeCloned rank is_clone o (Some r) → IsRangeCloned rank is_clone (holder_of (end (rank r.0, rank r.1)) es) (Some r)
+  module _ {T : Type 0} (rank : T → ℤ) (is_clone : V → V → Type 0) (r : RangeEntry T (Option V)) where
+    pub end_held : IsRangeCloned rank is_clone o (Some r) → IsRangeCloned rank is_clone (holder_of (end (rank r.start, rank r.end)) es) (Some r)
     end_held i = by_end o f i
       where
-        by_end : (o : Option (Entry V)) → ((e : Entry V) → o ≡ Some e → holder_of (end (range_in e)) es ≡ Some e) → IsRangeCloned rank is_clone o (Some r) → IsRangeCloned rank is_clone (holder_of (end (rank r.0, rank r.1)) es) (Some r)
+        by_end : (o : Option (Entry V)) → ((e : Entry V) → o ≡ Some e → holder_of (end (range_in e)) es ≡ Some e) → IsRangeCloned rank is_clone o (Some r) → IsRangeCloned rank is_clone (holder_of (end (rank r.start, rank r.end)) es) (Some r)
         by_end None f i = absurd i
         by_end (Some e) f i =
-            subst (λ o. IsSomeAnd o (λ x. ((rank r.0, rank r.1) ≡ range_in x) × IsManyCloned is_clone x r.2)) (sym (ap (λ t. holder_of (end t) es) i.0 ∙ f e refl)) i
+            subst (λ o. IsSomeAnd o (λ x. ((rank r.start, rank r.end) ≡ range_in x) × IsManyCloned is_clone x r.value)) (sym (ap (λ t. holder_of (end t) es) i.0 ∙ f e refl)) i
 
 -- of the first entry: it has other keys too, and it has its first key
 module _ {V : Type 0} (eq : V → V → Bool) (laws : IsEquivalence eq) (low high : ℤ) (es : List (Entry V)) (s : StartsAscend low high es) (c : IsCanonical eq es) where
   pub first_among : IsSomeAnd (slice_get es 0) (λ e. e.lo <ℤ e.hi) → IfSome (slice_get es 0) (λ e. IsAmongOthers e.lo es)
   first_among i = end_among eq laws low high es s c (λ x. x.0) (slice_get es 0) (first_holder eq low high es s c) i
 
-  pub first_has : {T : Type 0} (rank : T → ℤ) (is_clone : V → V → Type 0) (r : T × T × Option V) → IsRangeCloned rank is_clone (slice_get es 0) (Some r) → HasKey eq laws (rank r.0) low high es s c (λ x. ((rank r.0, rank r.1) ≡ range_in x) × IsManyCloned is_clone x r.2)
-  first_has rank is_clone r i = has_key eq laws (rank r.0) low high es s c _ (end_held eq laws low high es s c (λ x. x.0) (slice_get es 0) (first_holder eq low high es s c) rank is_clone r i)
+  pub first_has : {T : Type 0} (rank : T → ℤ) (is_clone : V → V → Type 0) (r : RangeEntry T (Option V)) → IsRangeCloned rank is_clone (slice_get es 0) (Some r) → HasKey eq laws (rank r.start) low high es s c (λ x. ((rank r.start, rank r.end) ≡ range_in x) × IsManyCloned is_clone x r.value)
+  first_has rank is_clone r i = has_key eq laws (rank r.start) low high es s c _ (end_held eq laws low high es s c (λ x. x.0) (slice_get es 0) (first_holder eq low high es s c) rank is_clone r i)

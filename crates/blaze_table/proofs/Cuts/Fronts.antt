@@ -8,6 +8,7 @@ use Rattle.std.specs.Prelude.{IsSome}
 use Rattle.std.proofs.lemmas.Int.{ints}
 use Rattle.blaze_entries.specs.Cloned.{IsRangeCloned, IsManyCloned}
 use Rattle.blaze_entries.specs.Starts.{StartsAscend, start_at, with_entry, IsFirstRemoved}
+use Rattle.blaze_entries.specs.declared.range_entry.RangeEntry.{RangeEntry}
 use Rattle.blaze_entries.proofs.Alike.{same_along}
 use Rattle.blaze_entries.proofs.Ascending.{by_order, start_none}
 use Rattle.blaze_entries.proofs.Moves.{with_entry-first}
@@ -28,15 +29,15 @@ first_there p es new q = subst (λ l. IsSome (slice_get l 0)) (sym q) (by_list e
     by_list [] = refl
     by_list (f ∷ fs) = by_order p.lo f.lo (λ o q r. rw q refl) (λ o q r. rw q refl) (λ o q r. rw q refl)
 
-module _ {T V : Type 0} (rank : T → ℤ) (is_clone : V → V → Type 0) (r : T × T × Option V) where
+module _ {T V : Type 0} (rank : T → ℤ) (is_clone : V → V → Type 0) (r : RangeEntry T (Option V)) where
   -- its first key is that of the look
-  pub first_key : (es : List (Entry V)) → IsRangeCloned rank is_clone (slice_get es 0) (Some r) → option_map (λ e. e.lo) (slice_get es 0) ≡ Some (rank r.0)
+  pub first_key : (es : List (Entry V)) → IsRangeCloned rank is_clone (slice_get es 0) (Some r) → option_map (λ e. e.lo) (slice_get es 0) ≡ Some (rank r.start)
   first_key [] i = absurd i
   first_key (e ∷ es) i = ap (λ (t : ℤ × ℤ). Some t.0) (sym i.0)
 
   module _ (eq : V → V → Bool) (laws : IsEquivalence eq) (low high : ℤ) where
     -- what is left has no more of the entry than what it has above the key
-    taken : (e : Entry V) (es above mid new : List (Entry V)) (w : V) → IsCanonical eq (e ∷ es) → rank r.0 ≡ e.lo → SameEntries eq (after e.lo (e ∷ es)) above → mid ≡ e ∷ above → IsFirstRemoved w mid new → IsKeyTaken eq (rank r.0) (Some w) (e ∷ es) new
+    taken : (e : Entry V) (es above mid new : List (Entry V)) (w : V) → IsCanonical eq (e ∷ es) → rank r.start ≡ e.lo → SameEntries eq (after e.lo (e ∷ es)) above → mid ≡ e ∷ above → IsFirstRemoved w mid new → IsKeyTaken eq (rank r.start) (Some w) (e ∷ es) new
     taken e es above mid new w c lo like is removed =
         let both : removed.first ∷ new ≡ e ∷ above = sym removed.removed ∙ is in
         let first : removed.first ≡ e = cc in
@@ -51,7 +52,7 @@ module _ {T V : Type 0} (rank : T → ℤ) (is_clone : V → V → Type 0) (r : 
         })
 
     -- the entry has one key
-    pub one_cut : (es new : List (Entry V)) (w : V) → IsCanonical eq es → IsRangeCloned rank is_clone (slice_get es 0) (Some r) → r.2 ≡ None → IsFirstRemoved w es new → IsKeyTaken eq (rank r.0) (Some w) es new
+    pub one_cut : (es new : List (Entry V)) (w : V) → IsCanonical eq es → IsRangeCloned rank is_clone (slice_get es 0) (Some r) → r.value ≡ None → IsFirstRemoved w es new → IsKeyTaken eq (rank r.start) (Some w) es new
     one_cut [] new w c i q removed = absurd i
     one_cut (e ∷ es) new w c i q removed =
         taken e es es (e ∷ es) new w c (ap (λ (t : ℤ × ℤ). t.0) i.0) (subst (λ l. SameEntries eq l es) (sym (after_whole eq e.lo e es c (subst (IsManyCloned is_clone e) q i.1) c.0)) (entries_themselves eq laws es)) refl removed
@@ -73,20 +74,20 @@ module _ {T V : Type 0} (rank : T → ℤ) (is_clone : V → V → Type 0) (r : 
           (λ o q r. absurd (omega (arith, ints)))
           (λ o q r. rw q (ap (λ l. e ∷ l) (with_entry-first p (e.hi +ℤ pos 1) high es (omega (arith, ints)) (others_ascend es s.2 c))))
 
-    module _ (v : V) (q : r.2 ≡ Some v) (n : ℤ) (next : n ≡ rank r.0 +ℤ pos 1) where
+    module _ (v : V) (q : r.value ≡ Some v) (n : ℤ) (next : n ≡ rank r.start +ℤ pos 1) where
       -- it has more: no entry starts at the next one
       pub none_next : (es : List (Entry V)) → StartsAscend low high es → IsCanonical eq es → IsRangeCloned rank is_clone (slice_get es 0) (Some r) → start_at n es ≡ None
       none_next [] s c i = absurd i
       none_next (e ∷ es) s c i = none_at e es s c n (next ∙ ap (λ (t : ℤ × ℤ). t.0 +ℤ pos 1) i.0) (subst (IsManyCloned is_clone e) q i.1).0
 
       -- and an entry with a clone of the value was put in there first
-      pub more_cut : ClonesAreAlike is_clone eq → (es mid new : List (Entry V)) (w : V) → StartsAscend low high es → IsCanonical eq es → IsRangeCloned rank is_clone (slice_get es 0) (Some r) → mid ≡ with_entry (entry n (rank r.1) v) es → IsFirstRemoved w mid new → IsKeyTaken eq (rank r.0) (Some w) es new
+      pub more_cut : ClonesAreAlike is_clone eq → (es mid new : List (Entry V)) (w : V) → StartsAscend low high es → IsCanonical eq es → IsRangeCloned rank is_clone (slice_get es 0) (Some r) → mid ≡ with_entry (entry n (rank r.end) v) es → IsFirstRemoved w mid new → IsKeyTaken eq (rank r.start) (Some w) es new
       more_cut alike [] mid new w s c i put removed = absurd i
       more_cut alike (e ∷ es) mid new w s c i put removed =
           let many = subst (IsManyCloned is_clone e) q i.1 in
           let lo = ap (λ (t : ℤ × ℤ). t.0) i.0 in
           let start : n ≡ e.lo +ℤ pos 1 = next ∙ ap (λ k. k +ℤ pos 1) lo in
-          let p : Entry V = entry n (rank r.1) v in
+          let p : Entry V = entry n (rank r.end) v in
           let long = many.0 in
           taken e es (p ∷ es) mid new w c lo
           (subst (λ l. SameEntries eq l (p ∷ es)) (sym (after_cuts e.lo e es long (omega (arith, ints)))) (sym start, sym (ap (λ (t : ℤ × ℤ). t.1) i.0), alike e.value v many.1, entries_themselves eq laws es))

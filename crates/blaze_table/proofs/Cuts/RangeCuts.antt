@@ -6,8 +6,8 @@ use Rattle.std.specs.Prelude.{IfSome, IsSome, IsSomeAnd, int_lt}
 use Rattle.std.proofs.lemmas.Int.{ints}
 use Rattle.blaze_int.proofs.Comparisons.{lt_holds, not_both}
 use Rattle.blaze_entries.specs.Counted.{CountedEntries}
-use Rattle.blaze_entries.specs.Found.{found_in, is_sought, range_in, ranks_of}
-use Rattle.blaze_entries.specs.Scanned.{seen_of}
+use Rattle.blaze_entries.specs.Found.{found_in, is_sought, range_in, shown_ends}
+use Rattle.blaze_entries.specs.Scanned.{shown_plan}
 use Rattle.blaze_entries.specs.Starts.{StartsAscend, last_below}
 use Rattle.blaze_entries.specs.declared.scan.Plan.{Plan}
 use Rattle.blaze_table.specs.Canonical.{IsCanonical}
@@ -27,7 +27,7 @@ use Rattle.blaze_table.proofs.Walks.FewLooks.{counted}
 use Rattle.blaze_table.proofs.Walks.Plans.{rest_is}
 
 module _ {V : Type 0} (eq : V → V → Bool) (sought : Option V) (free : sought ≡ None) (l h : ℤ) {T : Type 0} (rank : T → ℤ) (p : Plan T) (n : ℕ) (o : Option V)
-    (es : List (Entry V)) (f : IsWalkOf eq (is_sought eq sought) l h es (seen_of rank p) n o) where
+    (es : List (Entry V)) (f : IsWalkOf eq (is_sought eq sought) l h es (shown_plan rank p) n o) where
   abbrev test : V → Bool
   test = is_sought eq sought
 
@@ -46,7 +46,7 @@ module _ {V : Type 0} (eq : V → V → Bool) (sought : Option V) (free : sought
     pub range_place : IsPlace rank eq l es p o
     range_place = record {
       order = omega (arith, ints, w, end_is);
-      rest = rest_is eq test l h w low high es s c (seen_of rank p) (omega (arith, ints, end_is)) f.plan;
+      rest = rest_is eq test l h w low high es s c (shown_plan rank p) (omega (arith, ints, end_is)) f.plan;
       left = left_is rank test l low high es s p.left f.plan.left;
       above = like (last_below l es) f.above;
     }
@@ -59,12 +59,12 @@ module _ {V : Type 0} (eq : V → V → Bool) (sought : Option V) (free : sought
     pub rest_above : IsSome p.rest → GoesOnAbove h es
     rest_above i = by_last (last_below (h +ℤ pos 1) es) refl p.rest f.plan.rest i
       where
-        over : (e : Entry V) (b t : Bool) (x : Option (T × T)) → option_map (ranks_of rank) x ≡ cond b (cond t None (Some (range_in e))) None → IsSome x → b ≡ true
+        over : (e : Entry V) (b t : Bool) (x : Option (T × T)) → option_map (shown_ends rank) x ≡ cond b (cond t None (Some (range_in e))) None → IsSome x → b ≡ true
         over e true t x m i = refl
         over e false t (Some x) m i = cc
         over e false t None m i = cc
 
-        by_last : (q : Option (Entry V)) → last_below (h +ℤ pos 1) es ≡ q → (x : Option (T × T)) → option_map (ranks_of rank) x ≡ rest_of h (option_map (found_in test) q) → IsSome x → GoesOnAbove h es
+        by_last : (q : Option (Entry V)) → last_below (h +ℤ pos 1) es ≡ q → (x : Option (T × T)) → option_map (shown_ends rank) x ≡ rest_of h (option_map (found_in test) q) → IsSome x → GoesOnAbove h es
         by_last None q (Some x) m i = cc
         by_last None q None m i = cc
         by_last (Some e) q x m i =

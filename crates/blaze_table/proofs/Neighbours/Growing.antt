@@ -6,7 +6,7 @@ use Rattle.std.proofs.lemmas.Int.{ints}
 use Rattle.std.proofs.Common.{subst}
 use Rattle.std.proofs.lemmas.List.{append-nil, append_assoc}
 use Rattle.std.proofs.lemmas.List.Elements.{filter-append}
-use Rattle.blaze_entries.specs.Found.{found_of, range_in}
+use Rattle.blaze_entries.specs.Found.{shown_found, range_in}
 use Rattle.blaze_entries.specs.declared.found.Found.{Found}
 use Rattle.blaze_entries.specs.Starts.{StartsAscend, below, from, last_below, start_at, with_end}
 use Rattle.blaze_entries.proofs.Ascending.{by_order}
@@ -14,7 +14,7 @@ use Rattle.blaze_entries.proofs.Halves.{StartsBelow, below_takes, below_skips, b
 use Rattle.blaze_table.specs.Entries.{Entry, entry}
 use Rattle.blaze_table.specs.Canonical.{IsCanonical}
 use Rattle.blaze_table.specs.Edited.{IsLeft}
-use Rattle.blaze_table.specs.Planned.{ends_of}
+use Rattle.blaze_table.specs.Planned.{shown_found_ends}
 use Rattle.blaze_table.specs.Splice.{before, IsBelow}
 use Rattle.blaze_table.proofs.Paints.Splices.{before_cuts, before_keeps, below_more}
 use Rattle.blaze_table.proofs.Paints.Painted.{before_past}
@@ -99,13 +99,13 @@ module _ {V : Type 0} (eq : V → V → Bool) (k low high : ℤ) (es : List (Ent
 
 -- an entry that was looked at as the last below a key
 pub left_is : {T V : Type 0} (rank : T → ℤ) (test : V → Bool) (l low high : ℤ) (es : List (Entry V)) → StartsAscend low high es → (left : Option (Found T))
-    → option_map (found_of rank) left ≡ option_map (λ e. (e.lo, e.hi, test e.value)) (last_below l es) → IsLeft l (below l es) (option_map (ends_of rank) left)
+    → option_map (shown_found rank) left ≡ option_map (λ e. (e.lo, e.hi, test e.value)) (last_below l es) → IsLeft l (below l es) (option_map (shown_found_ends rank) left)
 left_is {T} {V} rank test l low high es s left q = by_both left (last_below l es) refl q
   where
-    by_both : (left : Option (Found T)) (o : Option (Entry V)) → last_below l es ≡ o → option_map (found_of rank) left ≡ option_map (λ e. (e.lo, e.hi, test e.value)) o → IsLeft l (below l es) (option_map (ends_of rank) left)
+    by_both : (left : Option (Found T)) (o : Option (Entry V)) → last_below l es ≡ o → option_map (shown_found rank) left ≡ option_map (λ e. (e.lo, e.hi, test e.value)) o → IsLeft l (below l es) (option_map (shown_found_ends rank) left)
     by_both None None p q = subst (λ xs. before l xs ≡ xs) (sym (no_last l low high es s p)) refl
     by_both None (Some e) p q = cc
     by_both (Some f) None p q = cc
     by_both (Some f) (Some e) p q =
-        let found : found_of rank f ≡ (e.lo, e.hi, test e.value) = cc in
+        let found : shown_found rank f ≡ (e.lo, e.hi, test e.value) = cc in
         ap (λ (t : ℤ × ℤ × Bool). Some (t.0, t.1)) found ∙ sym (ap (option_map range_in) p)

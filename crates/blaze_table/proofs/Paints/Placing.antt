@@ -6,7 +6,7 @@ use Rattle.std.specs.Option.{option_map}
 use Rattle.std.specs.Ordering.{int_eq}
 use Rattle.std.specs.Cmp.{IsEquivalence}
 use Rattle.std.proofs.lemmas.Int.{ints, by_lt_z}
-use Rattle.blaze_entries.specs.Found.{ranks_of}
+use Rattle.blaze_entries.specs.Found.{shown_ends}
 use Rattle.blaze_entries.specs.Starts.{below, from, last_below, start_at, with_entry, without, with_end_value, IsStartMoved, IsFrontReplaced}
 use Rattle.blaze_entries.specs.declared.scan.Plan.{Plan}
 use Rattle.blaze_entries.proofs.Ascending.{by_order}
@@ -183,7 +183,7 @@ module _ {V : Type 0} (eq : V → V → Bool) (laws : IsEquivalence eq) where
   rest_over f z w old new None r u q = rest_kept f f z w old new None None r tt tt q
   rest_over f z w old new (Some e) r u q = rest_kept f f z w old new (Some e) None r (λ v. u) (λ v x p. absurd (omega (arith, ints, u, v))) q
 
-  pub none_above : {T : Type 0} (rank : T → ℤ) (l : ℤ) (rest : Option (T × T)) (above : Option V) → IfSome (option_map (ranks_of rank) rest) (λ r. l <ℤ r.0) → IfSome rest (λ r. rank r.0 <ℤ l → IsSome above)
+  pub none_above : {T : Type 0} (rank : T → ℤ) (l : ℤ) (rest : Option (T × T)) (above : Option V) → IfSome (option_map (shown_ends rank) rest) (λ r. l <ℤ r.0) → IfSome rest (λ r. rank r.0 <ℤ l → IsSome above)
   none_above rank l None above u = tt
   none_above rank l (Some e) above u = λ v. absurd (omega (arith, ints, u, v))
 
@@ -193,7 +193,7 @@ module _ {V : Type 0} (eq : V → V → Bool) (laws : IsEquivalence eq) where
     z = rank plan.end
 
     abbrev rest : Option (ℤ × ℤ)
-    rest = option_map (ranks_of rank) plan.rest
+    rest = option_map (shown_ends rank) plan.rest
 
     -- the entry whose rest it is, where it starts below l, is the last that starts below it
     pub like_rest : IsLikeRest eq l es rest above
@@ -217,7 +217,7 @@ module _ {V : Type 0} (eq : V → V → Bool) (laws : IsEquivalence eq) where
         some_and P None i = absurd i
         some_and P (Some v) i = refl
 
-        by_rest : (o : Option (T × T)) → IsRest z es (option_map (ranks_of rank) o) → IsLikeRest eq l es (option_map (ranks_of rank) o) above → IfSome o (λ r. rank r.0 <ℤ l → IsSome above)
+        by_rest : (o : Option (T × T)) → IsRest z es (option_map (shown_ends rank) o) → IsLikeRest eq l es (option_map (shown_ends rank) o) above → IfSome o (λ r. rank r.0 <ℤ l → IsSome above)
         by_rest None r i = tt
         by_rest (Some t) r i = λ u. some_and _ above (i u r.of r.found)
 

@@ -10,6 +10,7 @@ use Rattle.blaze_table.specs.Painted.{last_at}
 use Rattle.blaze_table.specs.Splice.{glue}
 use Rattle.blaze_table.specs.declared.sweep.held.Held.{Held}
 use Rattle.blaze_table.specs.declared.sweep.held.Held.TheVariants.{Kept, Moved}
+use Rattle.blaze_table.specs.declared.sweep.placed.Placed.{Placed}
 use Rattle.blaze_table.specs.Held.{kept_value, held_value, value_in, PutsPiece}
 use Rattle.blaze_table.specs.Pieces.{ArePlaced, EndsAreKeys, ArePieces, IsCanonicalOfPlaced}
 use Rattle.blaze_table.specs.Swept.{IsSwept}
@@ -20,11 +21,11 @@ use Rattle.blaze_table.proofs.Sweeping.Placed.{one_item, item_of, none_at, value
 use Rattle.blaze_table.proofs.Sweeping.Sweeps.{swept_none, swept_more}
 
 -- what the pairs paint below the key `from` is in the list, the pieces from there on are left, and each pair's value is at hand
-pub record IsFilled {T V : Type 0} (eq : V → V → Bool) (rank : T → ℤ) (low high : ℤ) (placed : List (T × T × ℕ × V)) (b : ℤ) (rest : List (Entry ℕ)) (out : List (Entry V)) (held : List (Held V)) : Type 0 where
+pub record IsFilled {T V : Type 0} (eq : V → V → Bool) (rank : T → ℤ) (low high : ℤ) (placed : List (Placed T V)) (b : ℤ) (rest : List (Entry ℕ)) (out : List (Entry V)) (held : List (Held V)) : Type 0 where
   pub from : ℤ
   pub swept : (ps : List (Entry V)) → ArePlaced rank ps placed → IsSwept eq low high (last_at ps) from out
   pub left : ArePieces rank placed from b rest
-  pub at_hand : (j : ℕ) (p : T × T × ℕ × V) → slice_get placed j ≡ Some p → SameOption eq (value_in out held j) (Some p.3)
+  pub at_hand : (j : ℕ) (p : Placed T V) → slice_get placed j ≡ Some p → SameOption eq (value_in out held j) (Some p.value)
 
 not_itself : (a b : ℕ) → nat_eq a b ≡ false → a ≡ b → ⊥
 not_itself a b h q = grind arith
@@ -40,10 +41,10 @@ module _ {V : Type 0} (eq : V → V → Bool) (laws : IsEquivalence eq) where
       of None q t = absurd t
       of (Some v) q t = subst (λ o. SameOption eq o (Some w)) (sym (glue_keeps eq out p i v q)) t
 
-  module _ {T : Type 0} (rank : T → ℤ) (low high : ℤ) (placed : List (T × T × ℕ × V)) (keys : All (EndsAreKeys rank low high) placed) where
-    kept_first : (xs : List (T × T × ℕ × V)) (j : ℕ) (p : T × T × ℕ × V) → slice_get xs j ≡ Some p → SameOption eq (value_in [] (map kept_value xs) j) (Some p.3)
+  module _ {T : Type 0} (rank : T → ℤ) (low high : ℤ) (placed : List (Placed T V)) (keys : All (EndsAreKeys rank low high) placed) where
+    kept_first : (xs : List (Placed T V)) (j : ℕ) (p : Placed T V) → slice_get xs j ≡ Some p → SameOption eq (value_in [] (map kept_value xs) j) (Some p.value)
     kept_first [] j p q = cc
-    kept_first (x ∷ xs) zero p q = subst (λ (o : Option (T × T × ℕ × V)). SameOption eq (Some x.3) (option_map (λ (p : T × T × ℕ × V). p.3) o)) q (laws.refl x.3)
+    kept_first (x ∷ xs) zero p q = subst (λ (o : Option (Placed T V)). SameOption eq (Some x.value) (option_map (λ (p : Placed T V). p.value) o)) q (laws.refl x.value)
     kept_first (x ∷ xs) (suc j) p q = kept_first xs j p q
 
     pub filled_none : (b : ℤ) (pieces : List (Entry ℕ)) → ArePieces rank placed low b pieces → IsFilled eq rank low high placed b pieces [] (map kept_value placed)
@@ -55,7 +56,7 @@ module _ {V : Type 0} (eq : V → V → Bool) (laws : IsEquivalence eq) where
     }
 
     pub some_value : (b : ℤ) (x : Entry ℕ) (rest : List (Entry ℕ)) (out : List (Entry V)) (held : List (Held V)) → IsFilled eq rank low high placed b (x ∷ rest) out held → IsSome (value_in out held x.value)
-    some_value b x rest out held c = some (value_in out held x.value) c.left.2.pair.3 (c.at_hand x.value c.left.2.pair c.left.2.is)
+    some_value b x rest out held c = some (value_in out held x.value) c.left.2.pair.value (c.at_hand x.value c.left.2.pair c.left.2.is)
       where
         some : (o : Option V) (w : V) → SameOption eq o (Some w) → IsSome o
         some None w s = absurd s
@@ -67,7 +68,7 @@ module _ {V : Type 0} (eq : V → V → Bool) (laws : IsEquivalence eq) where
     filled_more b x rest out new held after f u puts c =
         let piece = c.left.2 in
         let p = entry x.lo x.hi puts.value in
-        let alike : SameOption eq (Some puts.value) (Some piece.pair.3) = same_trans eq laws (Some puts.value) (value_in out held x.value) (Some piece.pair.3) puts.alike (c.at_hand x.value piece.pair piece.is) in
+        let alike : SameOption eq (Some puts.value) (Some piece.pair.value) = same_trans eq laws (Some puts.value) (value_in out held x.value) (Some piece.pair.value) puts.alike (c.at_hand x.value piece.pair piece.is) in
         record {
           from = x.hi +ℤ pos 1;
           swept = λ ps are. swept_more eq laws low high (last_at ps) c.from x.lo x.hi puts.value out new c.left.0 (λ k l h. none_at rank ps placed are k (λ i y q w. c.left.1 i y q k l h w)) piece.order f u
@@ -81,12 +82,12 @@ module _ {V : Type 0} (eq : V → V → Bool) (laws : IsEquivalence eq) where
               (ap (λ l. slice_get l x.value) puts.moved ∙ get_set_same held x.value (Moved (length new - 1)) (within_held out held x.value (some_value b x rest out held c))) in
               let last : SameOption eq (option_map (λ (e : Entry V). e.value) (slice_get new (length new - 1))) (Some puts.value) =
               subst (λ l. SameOption eq (option_map (λ (e : Entry V). e.value) (slice_get l (length l - 1))) (Some puts.value)) (sym puts.glued) (glue_last eq laws out p) in
-              subst (λ o. SameOption eq (held_value new o) (Some pair.3)) (sym there)
-              (subst (λ (y : T × T × ℕ × V). SameOption eq (held_value new (Some (Moved (length new - 1)))) (Some y.3)) (sym same)
-              (same_trans eq laws (held_value new (Some (Moved (length new - 1)))) (Some puts.value) (Some piece.pair.3) last alike)))
+              subst (λ o. SameOption eq (held_value new o) (Some pair.value)) (sym there)
+              (subst (λ (y : Placed T V). SameOption eq (held_value new (Some (Moved (length new - 1)))) (Some y.value)) (sym same)
+              (same_trans eq laws (held_value new (Some (Moved (length new - 1)))) (Some puts.value) (Some piece.pair.value) last alike)))
               (λ t. let there : slice_get after j ≡ slice_get held j = ap (λ l. slice_get l j) puts.moved ∙ get_set_other held x.value j (Moved (length new - 1)) (not_itself x.value j t) in
-              subst (λ o. SameOption eq (held_value new o) (Some pair.3)) (sym there)
-              (subst (λ l. SameOption eq (held_value l (slice_get held j)) (Some pair.3)) (sym puts.glued) (held_keeps out p (slice_get held j) pair.3 (c.at_hand j pair q))));
+              subst (λ o. SameOption eq (held_value new o) (Some pair.value)) (sym there)
+              (subst (λ l. SameOption eq (held_value l (slice_get held j)) (Some pair.value)) (sym puts.glued) (held_keeps out p (slice_get held j) pair.value (c.at_hand j pair q))));
         }
 
     -- no piece is left

@@ -4,8 +4,7 @@ use Rattle.std.specs.Prelude.{slice_get, IsSome}
 use Rattle.std.specs.Cmp.{IsEquivalence}
 use Rattle.std.proofs.lemmas.List.{length-map}
 use Rattle.std.proofs.lemmas.Option.{slice_get-map, slice_get_read}
-use Rattle.blaze_table.specs.Entries.{Entry, SameOption, shown_entry}
-use Rattle.blaze_table.specs.Listed.{listed}
+use Rattle.blaze_table.specs.Entries.{Entry, SameOption, shown_entry, shown_list}
 use Rattle.blaze_table.specs.Splice.{glue}
 use Rattle.blaze_table.proofs.Paints.Splices.{by_join}
 use Rattle.blaze_table.specs.declared.sweep.held.Held.{Held}
@@ -40,11 +39,11 @@ module _ {V : Type 0} where
   within_entries (e ∷ es) (suc at) h = let l = within_entries es at h in omega (arith, l)
 
   -- that of an entry, as the code reads it
-  pub moved_value : {T : Type 0} (rank : T → ℤ) (xs : List (T × T × V)) (held : List (Held V)) (place at : ℕ) (x : T × T × V) → slice_get held place ≡ Some (Moved at) → IsSome (value_in (listed rank xs) held place) → x ≡ get_or xs at x → value_in (listed rank xs) held place ≡ Some x.2
+  pub moved_value : {T : Type 0} (rank : T → ℤ) (xs : List (T × T × V)) (held : List (Held V)) (place at : ℕ) (x : T × T × V) → slice_get held place ≡ Some (Moved at) → IsSome (value_in (shown_list rank xs) held place) → x ≡ get_or xs at x → value_in (shown_list rank xs) held place ≡ Some x.2
   moved_value rank xs held place at x m h q =
-      let w = within_entries (listed rank xs) at (subst (λ o. IsSome (held_value (listed rank xs) o)) m h) in
+      let w = within_entries (shown_list rank xs) at (subst (λ o. IsSome (held_value (shown_list rank xs) o)) m h) in
       let l : at < length xs = omega (arith, w, length-map xs (shown_entry rank (λ (v : V). v))) in
-      ap (held_value (listed rank xs)) m
+      ap (held_value (shown_list rank xs)) m
       ∙ ap (option_map (λ (e : Entry V). e.value)) (slice_get-map (shown_entry rank (λ v. v)) xs at ∙ ap (option_map (shown_entry rank (λ v. v))) (slice_get_read xs (length xs) at x refl l q))
 
   -- an entry keeps its value

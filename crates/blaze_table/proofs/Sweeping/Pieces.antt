@@ -8,11 +8,12 @@ use Rattle.blaze_table.proofs.Paints.Splices.{by_join}
 use Rattle.blaze_table.specs.Pieces.{IsUncovered, IsPiece, ArePieces, IsWaiting}
 use Rattle.blaze_table.proofs.Sweeping.Placed.{one_item}
 use Rattle.blaze_table.proofs.Sweeping.Waitings.{top_pair, top_is_last, none_is}
+use Rattle.blaze_table.specs.declared.sweep.placed.Placed.{Placed}
 
 pub same_number : (a b : ℕ) → nat_eq a b ≡ true → a ≡ b
 same_number a b h = grind arith
 
-module _ {T V : Type 0} (rank : T → ℤ) (placed : List (T × T × ℕ × V)) where
+module _ {T V : Type 0} (rank : T → ℤ) (placed : List (Placed T V)) where
   -- no pair has a key from b up to below c
   pub pieces_gap : (a b c : ℤ) (xs : List (Entry ℕ)) → b ≤ℤ c → IsUncovered rank placed b c → ArePieces rank placed a b xs → ArePieces rank placed a c xs
   pieces_gap a b c [] l bare m = (omega (arith, ints, m.0), λ j p q k f u h. by_lt_z k b (λ s. m.1 j p q k f s h) (λ s. bare j p q k s u h))
@@ -31,9 +32,9 @@ module _ {T V : Type 0} (rank : T → ℤ) (placed : List (T × T × ℕ × V)) 
         is = i.is;
         order = omega (arith, ints, i.order, j.order);
         start = i.start;
-        end = omega (arith, ints, j.end, ap (λ (y : T × T × ℕ × V). rank y.1) same);
+        end = omega (arith, ints, j.end, ap (λ (y : Placed T V). rank y.end) same);
         last = λ m q is k l u h. by_lt_z x.hi k
-            (λ s. let n = j.last m q is k (omega (arith, ints)) u h in omega (arith, n, ap (λ (y : T × T × ℕ × V). y.2) same))
+            (λ s. let n = j.last m q is k (omega (arith, ints)) u h in omega (arith, n, ap (λ (y : Placed T V). y.place) same))
             (λ s. i.last m q is k l s h);
       }
 
@@ -47,8 +48,8 @@ module _ {T V : Type 0} (rank : T → ℤ) (placed : List (T × T × ℕ × V)) 
 
   module _ (low a to : ℤ) (order : a ≤ℤ to) (waits : List (ℕ × ℕ)) (w : IsWaiting rank placed a to waits) (xs : List (Entry ℕ)) (m : ArePieces rank placed low a xs) where
     -- the top, which waits with the greatest place, has the keys up to t
-    pub pieces_to : (top : ℕ × ℕ) (e : T × T × ℕ × V) → slice_get waits 0 ≡ Some top → All (λ x. x.0 ≤ top.0) waits → slice_get placed top.1 ≡ Some e
-        → (t : ℤ) → a ≤ℤ t → t ≤ℤ to → t ≤ℤ rank e.1 → (new : List (Entry ℕ)) → new ≡ glue nat_eq xs (entry a t top.1 ∷ []) → ArePieces rank placed low (t +ℤ pos 1) new
+    pub pieces_to : (top : ℕ × ℕ) (e : Placed T V) → slice_get waits 0 ≡ Some top → All (λ x. x.0 ≤ top.0) waits → slice_get placed top.1 ≡ Some e
+        → (t : ℤ) → a ≤ℤ t → t ≤ℤ to → t ≤ℤ rank e.end → (new : List (Entry ℕ)) → new ≡ glue nat_eq xs (entry a t top.1 ∷ []) → ArePieces rank placed low (t +ℤ pos 1) new
     pieces_to top e first greatest is t f u h new r =
         let begun = top_pair rank placed a to waits w top first in
         let same : begun.pair ≡ e = one_item placed top.1 begun.pair e begun.is is in
@@ -57,9 +58,9 @@ module _ {T V : Type 0} (rank : T → ℤ) (placed : List (T × T × ℕ × V)) 
           pair = e;
           is = is;
           order = f;
-          start = omega (arith, ints, begun.start, ap (λ (y : T × T × ℕ × V). rank y.0) same);
+          start = omega (arith, ints, begun.start, ap (λ (y : Placed T V). rank y.start) same);
           end = h;
-          last = λ j p q k l v k_in. let n = top_is_last rank placed a to waits w top.0 greatest j p q k l (omega (arith, ints)) k_in in omega (arith, n, begun.place, ap (λ (y : T × T × ℕ × V). y.2) same);
+          last = λ j p q k l v k_in. let n = top_is_last rank placed a to waits w top.0 greatest j p q k l (omega (arith, ints)) k_in in omega (arith, n, begun.place, ap (λ (y : Placed T V). y.place) same);
         }) m)
 
     -- none waits

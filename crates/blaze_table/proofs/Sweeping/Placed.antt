@@ -18,6 +18,7 @@ use Rattle.blaze_table.specs.Pieces.{IsPlaced, places_of, ArePlacedBelow, ArePla
 use Rattle.blaze_table.proofs.Pairs.Lasts.{last_none, last_is}
 use Rattle.blaze_table.proofs.Canonical.Lookup.{holds_in, holds_ends}
 use Rattle.blaze_table.proofs.Sweeping.Orders.{tail_sorted, not_less}
+use Rattle.blaze_table.specs.declared.sweep.placed.Placed.{Placed}
 
 -- ---- items of lists
 
@@ -67,7 +68,7 @@ module _ {T V : Type 0} (rank : T → ℤ) (ps : List (Entry V)) where
     complete = λ j l e q w. absurd (omega arith);
   }
 
-  module _ (n : ℕ) (placed : List (T × T × ℕ × V)) (c : ArePlacedBelow rank ps n placed) (e : Entry V) (is : slice_get ps n ≡ Some e) where
+  module _ (n : ℕ) (placed : List (Placed T V)) (c : ArePlacedBelow rank ps n placed) (e : Entry V) (is : slice_get ps n ≡ Some e) where
     -- a pair that has no key
     pub placed_skip : e.hi <ℤ e.lo → ArePlacedBelow rank ps (n + 1) placed
     placed_skip w = record {
@@ -77,91 +78,91 @@ module _ {T V : Type 0} (rank : T → ℤ) (ps : List (Entry V)) where
     }
 
     -- a pair that has one
-    pub placed_more : (s t : T) (v : V) (new : List (T × T × ℕ × V)) → new ≡ placed ++ (s, t, n, v) ∷ [] → e ≡ entry (rank s) (rank t) v → rank s ≤ℤ rank t → ArePlacedBelow rank ps (n + 1) new
+    pub placed_more : (s t : T) (v : V) (new : List (Placed T V)) → new ≡ placed ++ (record { start = s; end = t; place = n; value = v }) ∷ [] → e ≡ entry (rank s) (rank t) v → rank s ≤ℤ rank t → ArePlacedBelow rank ps (n + 1) new
     placed_more s t v new is_new r o =
-        let places : places_of new ≡ places_of placed ++ n ∷ [] = ap places_of is_new ∙ map-append (λ (p : T × T × ℕ × V). p.2) placed ((s, t, n, v) ∷ []) in
+        let places : places_of new ≡ places_of placed ++ n ∷ [] = ap places_of is_new ∙ map-append (λ (p : Placed T V). p.place) placed ((record { start = s; end = t; place = n; value = v }) ∷ []) in
         record {
-          known = subst (All (IsPlaced rank ps)) (sym is_new) (All-push (IsPlaced rank ps) placed (s, t, n, v) c.known (record { is = is ∙ ap Some r; order = o }));
+          known = subst (All (IsPlaced rank ps)) (sym is_new) (All-push (IsPlaced rank ps) placed (record { start = s; end = t; place = n; value = v }) c.known (record { is = is ∙ ap Some r; order = o }));
           complete = one_more (λ j. (f : Entry V) → slice_get ps j ≡ Some f → f.lo ≤ℤ f.hi → Contains (places_of new) j) n
               (λ j l f q h. subst (λ m. Contains m j) (sym places) (Contains-append_left (places_of placed) (n ∷ []) j (c.complete j l f q h)))
               (λ f q h. subst (λ m. Contains m n) (sym places) (Contains-push (places_of placed) n));
         }
 
   -- the same pairs in another order
-  pub placed_sorted : (n : ℕ) (placed new : List (T × T × ℕ × V)) → ArePlacedBelow rank ps n placed → n ≡ length ps → IsPermutation placed new → ArePlaced rank ps new
+  pub placed_sorted : (n : ℕ) (placed new : List (Placed T V)) → ArePlacedBelow rank ps n placed → n ≡ length ps → IsPermutation placed new → ArePlaced rank ps new
   placed_sorted n placed new c l p = record {
     known = All-permutation (IsPlaced rank ps) placed new p c.known;
-    complete = λ j w e q h. Contains-permutation (places_of placed) (places_of new) j (IsPermutation-map (λ (p : T × T × ℕ × V). p.2) placed new p) (c.complete j (omega (arith, w, l)) e q h);
+    complete = λ j w e q h. Contains-permutation (places_of placed) (places_of new) j (IsPermutation-map (λ (p : Placed T V). p.place) placed new p) (c.complete j (omega (arith, w, l)) e q h);
   }
 
-  pub ends_are_keys : (low high : ℤ) (placed : List (T × T × ℕ × V)) → AreKeys low high ps → All (IsPlaced rank ps) placed → All (EndsAreKeys rank low high) placed
-  ends_are_keys low high placed are known = All-weaker (IsPlaced rank ps) (EndsAreKeys rank low high) (λ p h. keys_at low high ps p.2 (entry (rank p.0) (rank p.1) p.3) are h.is) placed known
+  pub ends_are_keys : (low high : ℤ) (placed : List (Placed T V)) → AreKeys low high ps → All (IsPlaced rank ps) placed → All (EndsAreKeys rank low high) placed
+  ends_are_keys low high placed are known = All-weaker (IsPlaced rank ps) (EndsAreKeys rank low high) (λ p h. keys_at low high ps p.place (entry (rank p.start) (rank p.end) p.value) are h.is) placed known
 
 -- ---- what a sort by the first keys leaves
 
 module _ {T V : Type 0} (rank : T → ℤ) (low high : ℤ) (cmp : T → T → Ordering)
     (order : (a b : T) → low ≤ℤ rank a → rank a ≤ℤ high → low ≤ℤ rank b → rank b ≤ℤ high → cmp a b ≡ int_cmp (rank a) (rank b)) where
   -- the first is the least
-  least : (p : T × T × ℕ × V) (placed : List (T × T × ℕ × V)) → All (EndsAreKeys rank low high) (p ∷ placed) → All (λ (p : T × T × ℕ × V). rank p.0 ≤ℤ rank p.1) (p ∷ placed) → IsSortedByKey (λ (p : T × T × ℕ × V). p.0) cmp (p ∷ placed)
-      → (j : ℕ) (q : T × T × ℕ × V) → slice_get (p ∷ placed) j ≡ Some q → rank p.0 ≤ℤ rank q.0
-  least p placed keys have up zero q is = let same : p ≡ q = cc in omega (arith, ints, ap (λ (x : T × T × ℕ × V). rank x.0) same)
+  least : (p : Placed T V) (placed : List (Placed T V)) → All (EndsAreKeys rank low high) (p ∷ placed) → All (λ (p : Placed T V). rank p.start ≤ℤ rank p.end) (p ∷ placed) → IsSortedByKey (λ (p : Placed T V). p.start) cmp (p ∷ placed)
+      → (j : ℕ) (q : Placed T V) → slice_get (p ∷ placed) j ≡ Some q → rank p.start ≤ℤ rank q.start
+  least p placed keys have up zero q is = let same : p ≡ q = cc in omega (arith, ints, ap (λ (x : Placed T V). rank x.start) same)
   least p [] keys have up (suc j) q is = cc
   least p (r ∷ placed) keys have up (suc j) q is =
       let k_tail = All-tail (EndsAreKeys rank low high) p (r ∷ placed) keys in
-      let h_tail = All-tail (λ (p : T × T × ℕ × V). rank p.0 ≤ℤ rank p.1) p (r ∷ placed) have in
+      let h_tail = All-tail (λ (p : Placed T V). rank p.start ≤ℤ rank p.end) p (r ∷ placed) have in
       let kp = All-head (EndsAreKeys rank low high) p (r ∷ placed) keys in
       let kr = All-head (EndsAreKeys rank low high) r placed k_tail in
-      let hp = All-head (λ (p : T × T × ℕ × V). rank p.0 ≤ℤ rank p.1) p (r ∷ placed) have in
-      let hr = All-head (λ (p : T × T × ℕ × V). rank p.0 ≤ℤ rank p.1) r placed h_tail in
-      let h : rank p.0 ≤ℤ rank r.0 = not_less (rank r.0) (rank p.0) (sym (ap is_lt (order r.0 p.0 kr.0 (omega (arith, ints, hr, kr.1)) kp.0 (omega (arith, ints, hp, kp.1)))) ∙ up 0 r (omega arith) (omega arith)) in
-      let t = least r placed k_tail h_tail (tail_sorted (λ (x y : T × T × ℕ × V). is_lt (cmp x.0 y.0)) p (r ∷ placed) up) j q is in
+      let hp = All-head (λ (p : Placed T V). rank p.start ≤ℤ rank p.end) p (r ∷ placed) have in
+      let hr = All-head (λ (p : Placed T V). rank p.start ≤ℤ rank p.end) r placed h_tail in
+      let h : rank p.start ≤ℤ rank r.start = not_less (rank r.start) (rank p.start) (sym (ap is_lt (order r.start p.start kr.0 (omega (arith, ints, hr, kr.1)) kp.0 (omega (arith, ints, hp, kp.1)))) ∙ up 0 r (omega arith) (omega arith)) in
+      let t = least r placed k_tail h_tail (tail_sorted (λ (x y : Placed T V). is_lt (cmp x.start y.start)) p (r ∷ placed) up) j q is in
       omega (arith, ints, h, t)
 
-  pub ascends : (placed : List (T × T × ℕ × V)) → All (EndsAreKeys rank low high) placed → All (λ (p : T × T × ℕ × V). rank p.0 ≤ℤ rank p.1) placed → IsSortedByKey (λ (p : T × T × ℕ × V). p.0) cmp placed → AreAscending rank placed
+  pub ascends : (placed : List (Placed T V)) → All (EndsAreKeys rank low high) placed → All (λ (p : Placed T V). rank p.start ≤ℤ rank p.end) placed → IsSortedByKey (λ (p : Placed T V). p.start) cmp placed → AreAscending rank placed
   ascends [] keys have up i j p q l r s = cc
   ascends (x ∷ xs) keys have up zero j p q l r s =
       let same : x ≡ p = cc in
       let h = least x xs keys have up j q s in
-      omega (arith, ints, h, ap (λ (x : T × T × ℕ × V). rank x.0) same)
+      omega (arith, ints, h, ap (λ (x : Placed T V). rank x.start) same)
   ascends (x ∷ xs) keys have up (suc i) zero p q l r s = absurd (omega arith)
   ascends (x ∷ xs) keys have up (suc i) (suc j) p q l r s =
-      ascends xs (All-tail (EndsAreKeys rank low high) x xs keys) (All-tail (λ (p : T × T × ℕ × V). rank p.0 ≤ℤ rank p.1) x xs have) (tail_sorted (λ (x y : T × T × ℕ × V). is_lt (cmp x.0 y.0)) x xs up) i j p q (omega arith) r s
+      ascends xs (All-tail (EndsAreKeys rank low high) x xs keys) (All-tail (λ (p : Placed T V). rank p.start ≤ℤ rank p.end) x xs have) (tail_sorted (λ (x y : Placed T V). is_lt (cmp x.start y.start)) x xs up) i j p q (omega arith) r s
 
 -- ---- what the placed pairs paint
 
 -- a pair with the place, at its index
-record IsFound {T V : Type 0} (placed : List (T × T × ℕ × V)) (place : ℕ) : Type 0 where
+record IsFound {T V : Type 0} (placed : List (Placed T V)) (place : ℕ) : Type 0 where
   index : ℕ
-  pair : T × T × ℕ × V
+  pair : Placed T V
   is : slice_get placed index ≡ Some pair
-  place_is : pair.2 ≡ place
+  place_is : pair.place ≡ place
 
-found : {T V : Type 0} (placed : List (T × T × ℕ × V)) (place : ℕ) → Contains (places_of placed) place → IsFound placed place
+found : {T V : Type 0} (placed : List (Placed T V)) (place : ℕ) → Contains (places_of placed) place → IsFound placed place
 found {T = T} {V = V} placed place c = at_index placed c.0 c.1 c.2
   where
-    at_index : (xs : List (T × T × ℕ × V)) (k : ℕ) → k < length (places_of xs) → slice_index_or (places_of xs) k place ≡ place → IsFound xs place
+    at_index : (xs : List (Placed T V)) (k : ℕ) → k < length (places_of xs) → slice_index_or (places_of xs) k place ≡ place → IsFound xs place
     at_index [] k l q = absurd (omega arith)
     at_index (x ∷ xs) zero l q = record { index = 0; pair = x; is = refl; place_is = q }
     at_index (x ∷ xs) (suc k) l q = let f = at_index xs k (omega arith) q in record { index = suc f.index; pair = f.pair; is = f.is; place_is = f.place_is }
 
-module _ {T V : Type 0} (rank : T → ℤ) (ps : List (Entry V)) (placed : List (T × T × ℕ × V)) (c : ArePlaced rank ps placed) where
+module _ {T V : Type 0} (rank : T → ℤ) (ps : List (Entry V)) (placed : List (Placed T V)) (c : ArePlaced rank ps placed) where
   -- a pair that has a key is placed
-  by_place : {P : Type 0} (j : ℕ) (e : Entry V) (k : ℤ) → slice_get ps j ≡ Some e → holds e k ≡ true → ((i : ℕ) (p : T × T × ℕ × V) → slice_get placed i ≡ Some p → p.2 ≡ j → HasKey rank p k → P) → P
+  by_place : {P : Type 0} (j : ℕ) (e : Entry V) (k : ℤ) → slice_get ps j ≡ Some e → holds e k ≡ true → ((i : ℕ) (p : Placed T V) → slice_get placed i ≡ Some p → p.place ≡ j → HasKey rank p k → P) → P
   by_place j e k q h f =
       let ends = holds_ends e k h in
       let it = found placed j (c.complete j (slice_get_within ps j e q) e q (omega (arith, ints, ends.0, ends.1))) in
       let known = item_of (IsPlaced rank ps) placed it.index it.pair c.known it.is in
-      let same : entry (rank it.pair.0) (rank it.pair.1) it.pair.3 ≡ e = one_item ps j (entry (rank it.pair.0) (rank it.pair.1) it.pair.3) e (subst (λ m. slice_get ps m ≡ Some (entry (rank it.pair.0) (rank it.pair.1) it.pair.3)) it.place_is known.is) q in
+      let same : entry (rank it.pair.start) (rank it.pair.end) it.pair.value ≡ e = one_item ps j (entry (rank it.pair.start) (rank it.pair.end) it.pair.value) e (subst (λ m. slice_get ps m ≡ Some (entry (rank it.pair.start) (rank it.pair.end) it.pair.value)) it.place_is known.is) q in
       f it.index it.pair it.is it.place_is (omega (arith, ints, ends.0, ap (λ (x : Entry V). x.lo) same), omega (arith, ints, ends.1, ap (λ (x : Entry V). x.hi) same))
 
   -- no pair has the key
-  pub none_at : (k : ℤ) → ((i : ℕ) (p : T × T × ℕ × V) → slice_get placed i ≡ Some p → HasKey rank p k → ⊥) → last_at ps k ≡ None
+  pub none_at : (k : ℤ) → ((i : ℕ) (p : Placed T V) → slice_get placed i ≡ Some p → HasKey rank p k → ⊥) → last_at ps k ≡ None
   none_at k none = last_none ps k (λ j e q. by_bool (holds e k) (λ h. by_place j e k q h (λ i p r s w. absurd (none i p r w))) (λ b. b))
 
   -- a piece has the value of its pair
-  pub value_of : (x : Entry ℕ) (piece : IsPiece rank placed x) (k : ℤ) → x.lo ≤ℤ k → k ≤ℤ x.hi → last_at ps k ≡ Some piece.pair.3
+  pub value_of : (x : Entry ℕ) (piece : IsPiece rank placed x) (k : ℤ) → x.lo ≤ℤ k → k ≤ℤ x.hi → last_at ps k ≡ Some piece.pair.value
   value_of x piece k l u =
       let pair = piece.pair in
-      let e = entry (rank pair.0) (rank pair.1) pair.3 in
-      last_is ps pair.2 e k (item_of (IsPlaced rank ps) placed x.value pair c.known piece.is).is (holds_in e k (omega (arith, ints, piece.start)) (omega (arith, ints, piece.end)))
+      let e = entry (rank pair.start) (rank pair.end) pair.value in
+      last_is ps pair.place e k (item_of (IsPlaced rank ps) placed x.value pair c.known piece.is).is (holds_in e k (omega (arith, ints, piece.start)) (omega (arith, ints, piece.end)))
       (λ i f g r. by_bool (holds f k) (λ h. by_place i f k r h (λ m p s t w. let n = piece.last m p s k l u w in absurd (omega (arith, g, n, t)))) (λ b. b))

@@ -10,6 +10,7 @@ use Rattle.blaze_table.specs.Entries.{Entry}
 use Rattle.blaze_table.specs.Pieces.{EndsAreKeys, AreAscending, HasStarted, IsWaiting, KeepsReaching, ArePieces, IsUnderway}
 use Rattle.blaze_table.proofs.Sweeping.Pieces.{ended}
 use Rattle.blaze_table.proofs.Sweeping.Placed.{one_item, item_of, one_more}
+use Rattle.blaze_table.specs.declared.sweep.placed.Placed.{Placed}
 
 contains_head : {X : Type 0} (x : X) (xs : List X) → Contains (x ∷ xs) x
 contains_head x xs = (0, omega arith, refl)
@@ -22,7 +23,7 @@ by_le j zero below above = above (omega arith)
 by_le zero (suc n) below above = below (omega arith)
 by_le (suc j) (suc n) below above = by_le j n (λ h. below (omega (arith, h))) (λ h. above (omega (arith, h)))
 
-module _ {T V : Type 0} (rank : T → ℤ) (low : ℤ) (placed : List (T × T × ℕ × V)) where
+module _ {T V : Type 0} (rank : T → ℤ) (low : ℤ) (placed : List (Placed T V)) where
   -- at the least key all pairs are to come
   pub underway_none : (high : ℤ) → All (EndsAreKeys rank low high) placed → IsUnderway rank low placed low 0 [] []
   underway_none high keys = record {
@@ -34,7 +35,7 @@ module _ {T V : Type 0} (rank : T → ℤ) (low : ℤ) (placed : List (T × T ×
 
   module _ (up : AreAscending rank placed) (a : ℤ) (n : ℕ) (waits : List (ℕ × ℕ)) (pieces : List (Entry ℕ)) (c : IsUnderway rank low placed a n waits pieces) where
     -- all that start below the next wait
-    pub waits_for : (s : T × T × ℕ × V) → slice_get placed n ≡ Some s → IsWaiting rank placed a (rank s.0 -ℤ pos 1) waits
+    pub waits_for : (s : Placed T V) → slice_get placed n ≡ Some s → IsWaiting rank placed a (rank s.start -ℤ pos 1) waits
     waits_for s is = record {
       started = c.started;
       complete = λ j p q r l. by_le j n (λ h. c.complete j p q h r) (λ h. let f = up n j s p h is q in absurd (omega (arith, ints, f, l)));
@@ -48,19 +49,19 @@ module _ {T V : Type 0} (rank : T → ℤ) (low : ℤ) (placed : List (T × T ×
     }
 
     -- one more waits
-    pub underway_more : (s : T × T × ℕ × V) → slice_get placed n ≡ Some s → (kept new : List (ℕ × ℕ)) (more : List (Entry ℕ))
-        → IsWaiting rank placed (rank s.0) (rank s.0 -ℤ pos 1) kept → KeepsReaching rank placed (rank s.0) waits kept → ArePieces rank placed low (rank s.0) more → IsPermutation ((s.2, n) ∷ kept) new
-        → IsUnderway rank low placed (rank s.0) (n + 1) new more
+    pub underway_more : (s : Placed T V) → slice_get placed n ≡ Some s → (kept new : List (ℕ × ℕ)) (more : List (Entry ℕ))
+        → IsWaiting rank placed (rank s.start) (rank s.start -ℤ pos 1) kept → KeepsReaching rank placed (rank s.start) waits kept → ArePieces rank placed low (rank s.start) more → IsPermutation ((s.place, n) ∷ kept) new
+        → IsUnderway rank low placed (rank s.start) (n + 1) new more
     underway_more s is kept new more w k made p =
-        let b = rank s.0 in
+        let b = rank s.start in
         let from = c.others n s is (omega arith) in
         record {
           made = made;
-          started = All-permutation (HasStarted rank placed b) ((s.2, n) ∷ kept) new p (All-cons (HasStarted rank placed b) (s.2, n) kept (record { pair = s; is = is; place = refl; start = omega (arith, ints) }) w.started);
-          complete = λ j q r l u. Contains-permutation ((s.2, n) ∷ kept) new (q.2, j) p
-              (one_more (λ i. (q : T × T × ℕ × V) → slice_get placed i ≡ Some q → b ≤ℤ rank q.1 → Contains ((s.2, n) ∷ kept) (q.2, i)) n
-              (λ i h q r u. contains_tail (s.2, n) (q.2, i) kept (k i q r u (c.complete i q r h (omega (arith, ints, from, u)))))
-              (λ q r u. subst (λ (x : T × T × ℕ × V). Contains ((s.2, n) ∷ kept) (x.2, n)) (one_item placed n s q is r) (contains_head (s.2, n) kept))
+          started = All-permutation (HasStarted rank placed b) ((s.place, n) ∷ kept) new p (All-cons (HasStarted rank placed b) (s.place, n) kept (record { pair = s; is = is; place = refl; start = omega (arith, ints) }) w.started);
+          complete = λ j q r l u. Contains-permutation ((s.place, n) ∷ kept) new (q.place, j) p
+              (one_more (λ i. (q : Placed T V) → slice_get placed i ≡ Some q → b ≤ℤ rank q.end → Contains ((s.place, n) ∷ kept) (q.place, i)) n
+              (λ i h q r u. contains_tail (s.place, n) (q.place, i) kept (k i q r u (c.complete i q r h (omega (arith, ints, from, u)))))
+              (λ q r u. subst (λ (x : Placed T V). Contains ((s.place, n) ∷ kept) (x.place, n)) (one_item placed n s q is r) (contains_head (s.place, n) kept))
               j l q r u);
           others = λ j q r l. up n j s q (omega (arith, l)) is r;
         }

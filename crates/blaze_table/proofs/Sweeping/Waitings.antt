@@ -8,6 +8,7 @@ use Rattle.std.proofs.lemmas.List.Sorted.{All-permutation, Contains-permutation}
 use Rattle.std.proofs.lemmas.Option.{slice_get_read, slice_get_within}
 use Rattle.blaze_table.specs.Pieces.{HasKey, HasStarted, IsWaiting, KeepsReaching}
 use Rattle.blaze_table.proofs.Sweeping.Placed.{one_item, item_of}
+use Rattle.blaze_table.specs.declared.sweep.placed.Placed.{Placed}
 
 pub contains_cases : {X : Type 0} (x y : X) (xs : List X) → Contains (x ∷ xs) y → (x ≡ y) ⊎ Contains xs y
 contains_cases x y xs c = elim_index c.0 c.1 c.2
@@ -19,23 +20,23 @@ contains_cases x y xs c = elim_index c.0 c.1 c.2
 contains_none : {X : Type 0} (y : X) → Contains [] y → ⊥
 contains_none y c = let h : c.0 < 0 = c.1 in absurd (omega arith)
 
-module _ {T V : Type 0} (rank : T → ℤ) (placed : List (T × T × ℕ × V)) where
+module _ {T V : Type 0} (rank : T → ℤ) (placed : List (Placed T V)) where
   module _ (a to : ℤ) (waits : List (ℕ × ℕ)) (w : IsWaiting rank placed a to waits) where
     -- the pair of the top is one that has started
     pub top_pair : (top : ℕ × ℕ) → slice_get waits 0 ≡ Some top → HasStarted rank placed a top
     top_pair top first = item_of (HasStarted rank placed a) waits 0 top w.started first
 
     -- as the code reads it
-    pub top_read : (top : ℕ × ℕ) (p : T × T × ℕ × V) → slice_get waits 0 ≡ Some top → p ≡ get_or placed top.1 p → slice_get placed top.1 ≡ Some p
+    pub top_read : (top : ℕ × ℕ) (p : Placed T V) → slice_get waits 0 ≡ Some top → p ≡ get_or placed top.1 p → slice_get placed top.1 ≡ Some p
     top_read top p first q = let begun = top_pair top first in slice_get_read placed (length placed) top.1 p refl (slice_get_within placed top.1 begun.pair begun.is) q
 
     -- no pair that has a key from a up to `to` has a later place than those that wait
-    pub top_is_last : (top : ℕ) → All (λ x. x.0 ≤ top) waits → (j : ℕ) (p : T × T × ℕ × V) → slice_get placed j ≡ Some p → (k : ℤ) → a ≤ℤ k → k ≤ℤ to → HasKey rank p k → p.2 ≤ top
-    top_is_last top greatest j p q k l u h = All-contains (λ x. x.0 ≤ top) waits (p.2, j) greatest (w.complete j p q (omega (arith, ints, h.1)) (omega (arith, ints, h.0)))
+    pub top_is_last : (top : ℕ) → All (λ x. x.0 ≤ top) waits → (j : ℕ) (p : Placed T V) → slice_get placed j ≡ Some p → (k : ℤ) → a ≤ℤ k → k ≤ℤ to → HasKey rank p k → p.place ≤ top
+    top_is_last top greatest j p q k l u h = All-contains (λ x. x.0 ≤ top) waits (p.place, j) greatest (w.complete j p q (omega (arith, ints, h.1)) (omega (arith, ints, h.0)))
 
     -- where none waits, no pair has a key from a up to `to`
-    pub none_is : waits ≡ [] → (j : ℕ) (p : T × T × ℕ × V) → slice_get placed j ≡ Some p → (k : ℤ) → a ≤ℤ k → k ≤ℤ to → HasKey rank p k → ⊥
-    none_is n j p q k l u h = contains_none (p.2, j) (subst (λ xs. Contains xs (p.2, j)) n (w.complete j p q (omega (arith, ints, h.1)) (omega (arith, ints, h.0))))
+    pub none_is : waits ≡ [] → (j : ℕ) (p : Placed T V) → slice_get placed j ≡ Some p → (k : ℤ) → a ≤ℤ k → k ≤ℤ to → HasKey rank p k → ⊥
+    none_is n j p q k l u h = contains_none (p.place, j) (subst (λ xs. Contains xs (p.place, j)) n (w.complete j p q (omega (arith, ints, h.1)) (omega (arith, ints, h.0))))
 
     -- further up
     pub waiting_from : (b : ℤ) → a ≤ℤ b → IsWaiting rank placed b to waits
@@ -45,13 +46,13 @@ module _ {T V : Type 0} (rank : T → ℤ) (placed : List (T × T × ℕ × V)) 
     }
 
     -- the top leaves, whose pair ends below a
-    pub waiting_less : (top : ℕ × ℕ) (e : T × T × ℕ × V) (rest : List (ℕ × ℕ)) → slice_get placed top.1 ≡ Some e → rank e.1 <ℤ a → IsPermutation waits (top ∷ rest) → IsWaiting rank placed a to rest
+    pub waiting_less : (top : ℕ × ℕ) (e : Placed T V) (rest : List (ℕ × ℕ)) → slice_get placed top.1 ≡ Some e → rank e.end <ℤ a → IsPermutation waits (top ∷ rest) → IsWaiting rank placed a to rest
     waiting_less top e rest q l p = record {
       started = All-tail (HasStarted rank placed a) top rest (All-permutation (HasStarted rank placed a) waits (top ∷ rest) p w.started);
       complete = λ j f r s t. ⊎_elim
-          (λ (m : top ≡ (f.2, j)). let same : e ≡ f = one_item placed j e f (subst (λ i. slice_get placed i ≡ Some e) (ap (λ (x : ℕ × ℕ). x.1) m) q) r in absurd (omega (arith, ints, ap (λ (x : T × T × ℕ × V). rank x.1) same)))
+          (λ (m : top ≡ (f.place, j)). let same : e ≡ f = one_item placed j e f (subst (λ i. slice_get placed i ≡ Some e) (ap (λ (x : ℕ × ℕ). x.1) m) q) r in absurd (omega (arith, ints, ap (λ (x : Placed T V). rank x.end) same)))
           (λ c. c)
-          (contains_cases top (f.2, j) rest (Contains-permutation waits (top ∷ rest) (f.2, j) p (w.complete j f r s t)));
+          (contains_cases top (f.place, j) rest (Contains-permutation waits (top ∷ rest) (f.place, j) p (w.complete j f r s t)));
     }
 
   -- up to the key before s, and so from s
@@ -63,6 +64,6 @@ module _ {T V : Type 0} (rank : T → ℤ) (placed : List (T × T × ℕ × V)) 
   -- what waited and has a key from s on still waits
   pub waiting_kept : (a to s : ℤ) (old new : List (ℕ × ℕ)) → IsWaiting rank placed a to old → IsWaiting rank placed s (s -ℤ pos 1) new → a <ℤ s → KeepsReaching rank placed s old new
   waiting_kept a to s old new w n l j p q u c =
-      let begun = All-contains (HasStarted rank placed a) old (p.2, j) w.started c in
+      let begun = All-contains (HasStarted rank placed a) old (p.place, j) w.started c in
       let same : begun.pair ≡ p = one_item placed j begun.pair p begun.is q in
-      n.complete j p q u (omega (arith, ints, begun.start, ap (λ (x : T × T × ℕ × V). rank x.0) same))
+      n.complete j p q u (omega (arith, ints, begun.start, ap (λ (x : Placed T V). rank x.start) same))

@@ -8,7 +8,7 @@ use Rattle.std.proofs.lemmas.Int.{ints}
 use Rattle.blaze_int.proofs.Comparisons.{le_true, not_both}
 use Rattle.blaze_entries.specs.Counted.{CountedEntries}
 use Rattle.blaze_entries.specs.declared.found.Found.{Found}
-use Rattle.blaze_entries.specs.Found.{found_in, found_of}
+use Rattle.blaze_entries.specs.Found.{found_in, shown_found}
 use Rattle.blaze_entries.specs.Scanned.{walked_value, IsAboveCloned, GoesOnUnlike, Seen, unseen, walked, walked_keys}
 use Rattle.blaze_entries.specs.Starts.{StartsAscend, below, last_below, start_at}
 use Rattle.blaze_table.specs.Canonical.{IsCanonical}
@@ -52,14 +52,14 @@ module _ {V : Type 0} (eq : V → V → Bool) (l h low high : ℤ) (w : l ≤ℤ
         by_last (Some e) q g = record { over = record { entry = e; here = last_held l e q h (omega (arith, ints)) (omega (arith, ints, g.0)); above = g.0 }; unequal = g.1 }
 
     -- that entry is there
-    pub left_there : {T : Type 0} (rank : T → ℤ) (left : Option (Found T)) → option_map (found_of rank) left ≡ option_map (found_in test) (last_below l es) → IfSome left (λ f. IsSome (start_at (rank f.start) es))
+    pub left_there : {T : Type 0} (rank : T → ℤ) (left : Option (Found T)) → option_map (shown_found rank) left ≡ option_map (found_in test) (last_below l es) → IfSome left (λ f. IsSome (start_at (rank f.start) es))
     left_there {T} rank left q = by_both left (last_below l es) refl q
       where
-        by_both : (left : Option (Found T)) (x : Option (Entry V)) → last_below l es ≡ x → option_map (found_of rank) left ≡ option_map (found_in test) x → IfSome left (λ f. IsSome (start_at (rank f.start) es))
+        by_both : (left : Option (Found T)) (x : Option (Entry V)) → last_below l es ≡ x → option_map (shown_found rank) left ≡ option_map (found_in test) x → IfSome left (λ f. IsSome (start_at (rank f.start) es))
         by_both None x r q = tt
         by_both (Some f) None r q = cc
         by_both (Some f) (Some e) r q =
-            let found : found_of rank f ≡ found_in test e = cc in
+            let found : shown_found rank f ≡ found_in test e = cc in
             let start : rank f.start ≡ e.lo = ap (λ (t : ℤ × ℤ × Bool). t.0) found in
             subst (λ o. IsSome o) (sym (ap (λ k. start_at k es) start ∙ start_last e r)) refl
 
@@ -80,21 +80,21 @@ module _ {V : Type 0} (eq : V → V → Bool) (l h low high : ℤ) (w : l ≤ℤ
           walked_value-at l eq h low high es w s c ∙ sym (value-entry_at es l) ∙ ap (option_map (λ (x : Entry V). x.value)) (last_held l e q l (omega (arith, ints)) (omega (arith, ints)))) i
 
       -- by a look
-      looked_above : {T : Type 0} (rank : T → ℤ) (left : Option (Found T)) → option_map (found_of rank) left ≡ option_map (found_in test) (last_below l es)
-          → IfSome left (λ f. IsAboveCloned is_clone h (Some (found_of rank f)) (option_map (λ e. e.value) (start_at (rank f.start) es)) o) → IsUnlikeAbove eq test l h es o
+      looked_above : {T : Type 0} (rank : T → ℤ) (left : Option (Found T)) → option_map (shown_found rank) left ≡ option_map (found_in test) (last_below l es)
+          → IfSome left (λ f. IsAboveCloned is_clone h (Some (shown_found rank f)) (option_map (λ e. e.value) (start_at (rank f.start) es)) o) → IsUnlikeAbove eq test l h es o
       looked_above {T} rank left q i = by_both left (last_below l es) refl q i
         where
-          by_both : (left : Option (Found T)) (x : Option (Entry V)) → last_below l es ≡ x → option_map (found_of rank) left ≡ option_map (found_in test) x
-              → IfSome left (λ f. IsAboveCloned is_clone h (Some (found_of rank f)) (option_map (λ e. e.value) (start_at (rank f.start) es)) o)
+          by_both : (left : Option (Found T)) (x : Option (Entry V)) → last_below l es ≡ x → option_map (shown_found rank) left ≡ option_map (found_in test) x
+              → IfSome left (λ f. IsAboveCloned is_clone h (Some (shown_found rank f)) (option_map (λ e. e.value) (start_at (rank f.start) es)) o)
               → IfSome x (λ e. h <ℤ e.hi → test e.value ≡ false → IsSomeAnd o (λ u. eq e.value u ≡ true))
           by_both left None r q i = tt
           by_both None (Some e) r q i = cc
           by_both (Some f) (Some e) r q i =
-              let found : found_of rank f ≡ found_in test e = cc in
+              let found : shown_found rank f ≡ found_in test e = cc in
               let start : rank f.start ≡ e.lo = ap (λ (t : ℤ × ℤ × Bool). t.0) found in
               above_like (Some e.value) (Some e) (λ g p u. ap (λ (y : Option (Entry V)). option_map (λ (z : Entry V). z.value) y) p)
               (subst (λ (y : ℤ × ℤ × Bool). IsAboveCloned is_clone h (Some y) (Some e.value) o) found
-              (subst (λ x. IsAboveCloned is_clone h (Some (found_of rank f)) x o) (ap (option_map (λ (z : Entry V). z.value)) (ap (λ k. start_at k es) start ∙ start_last e r)) i))
+              (subst (λ x. IsAboveCloned is_clone h (Some (shown_found rank f)) x o) (ap (option_map (λ (z : Entry V). z.value)) (ap (λ k. start_at k es) start ∙ start_last e r)) i))
 
 module _ {V : Type 0} (eq : V → V → Bool) (test : V → Bool) (l h low high : ℤ) (w : l ≤ℤ h) (len : ℕ) (es : List (Entry V)) (s : StartsAscend low high es) (t : IsTable eq low high len es)
     (p : Seen) (saw : p ≡ walked test l h (unseen h) (reverse (below (h +ℤ pos 2) es))) where
@@ -115,8 +115,8 @@ module _ {V : Type 0} (eq : V → V → Bool) (test : V → Bool) (l h low high 
     }
 
     -- with one that a look has made
-    pub found_by_look : {T : Type 0} (rank : T → ℤ) (left : Option (Found T)) → option_map (found_of rank) left ≡ p.left
-        → IfSome left (λ f. IsAboveCloned is_clone h (Some (found_of rank f)) (option_map (λ e. e.value) (start_at (rank f.start) es)) o) → IsWalkOf eq test l h es p n o
+    pub found_by_look : {T : Type 0} (rank : T → ℤ) (left : Option (Found T)) → option_map (shown_found rank) left ≡ p.left
+        → IfSome left (λ f. IsAboveCloned is_clone h (Some (shown_found rank f)) (option_map (λ e. e.value) (start_at (rank f.start) es)) o) → IsWalkOf eq test l h es p n o
     found_by_look rank left d i = record {
       plan = found_plan;
       outside = walked_outside eq l h low high len es w s t n q;

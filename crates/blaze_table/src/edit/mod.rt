@@ -2,12 +2,12 @@
 //! refused comes first: the starts that are put in.
 ghost use Rattle.std.specs.Prelude.{◌≡◌, ◌≤ℤ◌, ◌<ℤ◌, OnOk, OnErr, IfSome, IsSome};
 ghost use Rattle.std.specs.Option.{option_map};
-ghost use Rattle.blaze_entries.specs.Found.{range_in, ranks_of};
+ghost use Rattle.blaze_entries.specs.Found.{range_in, shown_ends};
 ghost use Rattle.blaze_entries.specs.Starts.{start_at};
 ghost use Rattle.blaze_table.specs.Canonical.{IsCanonical};
 ghost use Rattle.blaze_table.specs.Edited.{IsPlace};
 ghost use Rattle.blaze_table.specs.Entries.{entry};
-ghost use Rattle.blaze_table.specs.Planned.{ends_of, IsExtended, IsPutAt, IsRest, IsWorked};
+ghost use Rattle.blaze_table.specs.Planned.{shown_found_ends, IsExtended, IsPutAt, IsRest, IsWorked};
 ghost use Rattle.blaze_table.specs.Splice.{IsRangeCutOf};
 ghost use Rattle.blaze_table.specs.Work.{IsCounted};
 
@@ -31,7 +31,7 @@ pub fn put_at<T: Integer, V: Eq + Drop>(
 ) -> Result<(), AllocError>
     requires canonical { IsCanonical V.eq entries.old.entries }
     requires place { IsPlace T.rank V.eq (T.rank lo) entries.old.entries plan above }
-    requires first { option_map (ends_of T.rank) plan.first
+    requires first { option_map (shown_found_ends T.rank) plan.first
         ≡ option_map range_in (start_at (T.rank lo) entries.old.entries) }
     ensures put { OnOk result
         (IsPutAt V.eq
@@ -58,8 +58,8 @@ pub fn extend<T: Integer, V: Eq + Drop>(
     requires order { T.rank first ≤ℤ T.rank plan.end }
     requires there { IsSome (start_at (T.rank first) entries.old.entries) }
     requires rest { IsRest
-        (T.rank plan.end) entries.old.entries (option_map (ranks_of T.rank) plan.rest) }
-    requires above { IfSome (option_map (ranks_of T.rank) plan.rest) (λ r. T.rank first <ℤ r.0) }
+        (T.rank plan.end) entries.old.entries (option_map (shown_ends T.rank) plan.rest) }
+    requires above { IfSome (option_map (shown_ends T.rank) plan.rest) (λ r. T.rank first <ℤ r.0) }
     ensures extended { OnOk result
         (IsExtended V.eq (T.rank first) (T.rank plan.end) entries.old.entries entries.new.entries) }
     ensures worked { OnOk result (IsWorked 1 1 entries.old entries.new) }

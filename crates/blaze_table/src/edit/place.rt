@@ -2,12 +2,12 @@
 //! the first edit that can't be taken back.
 ghost use Rattle.std.specs.Prelude.{◌≡◌, ◌≤ℤ◌, ◌<ℤ◌, None, OnOk, OnErr, IfSome, IsSome};
 ghost use Rattle.std.specs.Option.{option_map};
-ghost use Rattle.blaze_entries.specs.Found.{range_in, ranks_of};
+ghost use Rattle.blaze_entries.specs.Found.{range_in, shown_ends};
 ghost use Rattle.blaze_entries.specs.Starts.{start_at};
 ghost use Rattle.blaze_table.specs.Canonical.{IsCanonical};
 ghost use Rattle.blaze_table.specs.Edited.{HasRoom, IsPlace, IsRestPut};
 ghost use Rattle.blaze_table.specs.Entries.{entry};
-ghost use Rattle.blaze_table.specs.Planned.{ends_of, IsRest, IsStartPut, IsWorked};
+ghost use Rattle.blaze_table.specs.Planned.{shown_found_ends, IsRest, IsStartPut, IsWorked};
 ghost use Rattle.blaze_table.specs.Work.{IsCounted};
 
 use blaze_entries::{Entries, Plan};
@@ -24,10 +24,10 @@ pub fn put_rest<T: Integer, V: Drop>(
     rest: Option<(T, T)>,
     above: Option<V>,
 ) -> Result<(), AllocError>
-    requires room { HasRoom (T.rank end) entries.old.entries (option_map (ranks_of T.rank) rest) }
+    requires room { HasRoom (T.rank end) entries.old.entries (option_map (shown_ends T.rank) rest) }
     requires above { IfSome rest (λ r. T.rank r.0 <ℤ T.rank lo → IsSome above) }
     ensures put { OnOk result (IsRestPut (T.rank lo) (T.rank end)
-        (option_map (ranks_of T.rank) rest) above entries.old.entries entries.new.entries) }
+        (option_map (shown_ends T.rank) rest) above entries.old.entries entries.new.entries) }
     ensures worked { OnOk result (IsWorked 1 0 entries.old entries.new) }
     ensures refused { OnErr result (IsSome rest) }
     ensures err { OnErr result (entries.new ≡ entries.old) }
@@ -86,7 +86,7 @@ fn put_over<T: Integer, V: Eq + Drop>(
     requires canonical { IsCanonical V.eq entries.old.entries }
     requires present { IsSome (start_at (T.rank lo) entries.old.entries) }
     requires rest { IsRest
-        (T.rank plan.end) entries.old.entries (option_map (ranks_of T.rank) plan.rest) }
+        (T.rank plan.end) entries.old.entries (option_map (shown_ends T.rank) plan.rest) }
     ensures ok { OnOk result (IsStartPut V.eq
         (entry (T.rank lo) (T.rank plan.end) value) entries.old.entries entries.new.entries) }
     ensures worked { OnOk result (IsWorked 2 0 entries.old entries.new) }
@@ -125,7 +125,7 @@ pub fn put<T: Integer, V: Eq + Drop>(
 ) -> Result<(), AllocError>
     requires canonical { IsCanonical V.eq entries.old.entries }
     requires place { IsPlace T.rank V.eq (T.rank lo) entries.old.entries plan above }
-    requires first { option_map (ends_of T.rank) plan.first
+    requires first { option_map (shown_found_ends T.rank) plan.first
         ≡ option_map range_in (start_at (T.rank lo) entries.old.entries) }
     ensures ok { OnOk result (IsStartPut V.eq
         (entry (T.rank lo) (T.rank plan.end) value) entries.old.entries entries.new.entries) }

@@ -1,11 +1,11 @@
 //! Room made for a range: the entry below it shortened, and what starts in it taken out. Nothing of it can be refused.
 ghost use Rattle.std.specs.Prelude.{◌≡◌, ◌++◌, pos, ◌+ℤ◌, ◌≤ℤ◌};
 ghost use Rattle.std.specs.Option.{option_map};
-ghost use Rattle.blaze_entries.specs.Found.{ranks_of};
+ghost use Rattle.blaze_entries.specs.Found.{shown_ends};
 ghost use Rattle.blaze_entries.specs.Starts.{below, from};
 ghost use Rattle.blaze_table.specs.Canonical.{IsCanonical};
 ghost use Rattle.blaze_table.specs.Edited.{IsLeft, spans};
-ghost use Rattle.blaze_table.specs.Planned.{ends_of, IsWorked};
+ghost use Rattle.blaze_table.specs.Planned.{shown_found_ends, IsWorked};
 ghost use Rattle.blaze_table.specs.Splice.{before};
 
 use blaze_entries::{Entries, Found};
@@ -15,8 +15,8 @@ use blaze_int::compare::{is_at_most, is_below};
 /// Whether one entry has all keys from `lo` up to `end`, by the first and last key of the one that goes on above them and of the
 /// one that starts below them: then no other starts in the range.
 pub fn spans<T: Integer>(lo: T, end: T, rest: Option<(T, T)>, left: Option<Found<T>>) -> bool
-    ensures { result ≡ spans (T.rank lo) (T.rank end) (option_map (ranks_of T.rank) rest)
-        (option_map (ends_of T.rank) left) }
+    ensures { result ≡ spans (T.rank lo) (T.rank end) (option_map (shown_ends T.rank) rest)
+        (option_map (shown_found_ends T.rank) left) }
 {
     match (rest, left) {
         (Some((start, _)), _) => is_at_most(start, lo),
@@ -29,7 +29,7 @@ pub fn spans<T: Integer>(lo: T, end: T, rest: Option<(T, T)>, left: Option<Found
 pub fn trim<T: Integer, V: Eq>(entries: &mut Entries<T, V>, lo: T, left: Option<Found<T>>)
     requires canonical { IsCanonical V.eq (below (T.rank lo) entries.old.entries) }
     requires left { IsLeft (T.rank lo) (below (T.rank lo) entries.old.entries)
-        (option_map (ends_of T.rank) left) }
+        (option_map (shown_found_ends T.rank) left) }
     ensures entries { entries.new.entries
         ≡ before (T.rank lo) (below (T.rank lo) entries.old.entries)
         ++ from (T.rank lo) entries.old.entries }

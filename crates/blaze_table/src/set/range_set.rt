@@ -4,7 +4,7 @@ ghost use Rattle.std.specs.Iterator.{Drains, IsFinite};
 ghost use Rattle.std.specs.declared.ops.RangeInclusive.{RangeInclusive};
 ghost use Rattle.blaze_table.specs.Entries.{at, shown_entry};
 ghost use Rattle.blaze_table.specs.Count.{keys_in, mapped_keys};
-ghost use Rattle.blaze_table.specs.RangeSets.{bare_ranges, IsSetOf, IsRangeSet};
+ghost use Rattle.blaze_table.specs.RangeSets.{shown_bare_ranges, IsSetOf, IsRangeSet};
 
 use crate::set::into_ranges_iter::IntoRangesIter;
 use crate::set::ranges_iter::RangesIter;
@@ -46,8 +46,8 @@ impl<T: Integer> RangeSetBlaze<T> {
 
     /// The set of a canonical list of ranges. Refused memory drops the list.
     pub fn from_canonical(alloc: Global, ranges: Vec<RangeInclusive<T>>) -> Result<Self, AllocError>
-        requires { IsRangeSet T.low T.high (bare_ranges T.rank ranges.items) }
-        ensures { IfOk result (λ set. set ≡ bare_ranges T.rank ranges.items) }
+        requires { IsRangeSet T.low T.high (shown_bare_ranges T.rank ranges.items) }
+        ensures { IfOk result (λ set. set ≡ shown_bare_ranges T.rank ranges.items) }
     {
         let entries = entries_of_ranges(alloc, ranges)?;
         let table = RangeTable::from_canonical(alloc, entries)?;
@@ -64,7 +64,7 @@ impl<T: Integer> RangeSetBlaze<T> {
             × IsFinite (I.IntoIter.remaining it) }
         ensures { IfOk result (λ set. (it : I.IntoIter) × (ranges : List (RangeInclusive T))
             × I.into_iter_gives iter it × Drains I.IntoIter.next_gives it ranges
-            × IsSetOf T.low T.high (bare_ranges T.rank ranges) set) }
+            × IsSetOf T.low T.high (shown_bare_ranges T.rank ranges) set) }
     {
         let mut pairs = Vec::new(alloc);
         for range in iter {
@@ -133,7 +133,7 @@ fn entries_of_ranges<T: Integer>(
     ranges: Vec<RangeInclusive<T>>,
 ) -> Result<Vec<(T, T, ())>, AllocError>
     ensures { IfOk result (λ entries. map (shown_entry T.rank (λ v. v)) entries.items
-        ≡ bare_ranges T.rank ranges.items) }
+        ≡ shown_bare_ranges T.rank ranges.items) }
 {
     let mut entries = Vec::with_capacity(alloc, ranges.len())?;
     for range in ranges {

@@ -2,7 +2,7 @@
 ghost use Rattle.std.specs.Prelude.{◌≡◌, length, Some, IfSome};
 ghost use Rattle.std.specs.Iterator.{item_count, UpTo};
 ghost use Rattle.std.specs.Iterator.SizeHint.{IsWithinCount};
-ghost use Rattle.blaze_table.specs.RangeSets.{bare_range, IsRangeSet};
+ghost use Rattle.blaze_table.specs.RangeSets.{shown_bare_range, IsRangeSet};
 ghost use Rattle.blaze_table.specs.Whole.{YieldsWholeFirst, YieldsWholeLast};
 
 use crate::table::RangeTable;
@@ -54,7 +54,7 @@ impl<'a, T: Integer> RangesIter<'a, T> {
 impl<'a, T: Integer> Iterator for RangesIter<'a, T> {
     type Item = RangeInclusive<T>;
 
-    ghost next_gives = { YieldsWholeFirst (λ r. r) (bare_range T.rank) (λ s. s) };
+    ghost next_gives = { YieldsWholeFirst (λ r. r) (shown_bare_range T.rank) (λ s. s) };
 
     ghost remaining = { item_count (λ s. s) };
 
@@ -75,7 +75,7 @@ impl<'a, T: Integer> Iterator for RangesIter<'a, T> {
 }
 
 impl<'a, T: Integer> DoubleEndedIterator for RangesIter<'a, T> {
-    ghost next_back_gives = { YieldsWholeLast (λ r. r) (bare_range T.rank) (λ s. s) };
+    ghost next_back_gives = { YieldsWholeLast (λ r. r) (shown_bare_range T.rank) (λ s. s) };
 
     fn next_back(&mut self) -> Option<RangeInclusive<T>> {
         let (start, end, _) = self.entries.next_back()?;

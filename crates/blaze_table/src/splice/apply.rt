@@ -1,14 +1,13 @@
 //! A planned paint made: the entry below it made longer, or an entry put in.
-ghost use Rattle.std.specs.Prelude.{◌≡◌, ◌≤ℤ◌, ◌<ℤ◌, OnOk, OnErr, IfSome, IsSome};
+ghost use Rattle.std.specs.Prelude.{◌≡◌, ◌≤ℤ◌, ◌<ℤ◌, OnOk, OnErr};
 ghost use Rattle.std.specs.Option.{option_map};
-ghost use Rattle.blaze_entries.specs.Found.{found_of, range_in, ranks_of};
-ghost use Rattle.blaze_entries.specs.Scanned.{seen_of};
-ghost use Rattle.blaze_entries.specs.Starts.{last_below, start_at};
+ghost use Rattle.blaze_entries.specs.Found.{shown_found};
+ghost use Rattle.blaze_entries.specs.Scanned.{shown_plan};
 ghost use Rattle.blaze_table.specs.Canonical.{IsCanonical};
 ghost use Rattle.blaze_table.specs.Entries.{entry};
-ghost use Rattle.blaze_table.specs.Planned.{ends_of, joined_start};
-ghost use Rattle.blaze_table.specs.Planned.{IsRest, IsPutAt, IsExtended, IsPlanOf, IsWorked};
-ghost use Rattle.blaze_table.specs.Planned.{IsLikeAbove, IsUnlikeAbove};
+ghost use Rattle.blaze_table.specs.Planned.{joined_start};
+ghost use Rattle.blaze_table.specs.Planned.{IsPlanOf, IsWorked};
+ghost use Rattle.blaze_table.specs.Planned.{IsUnlikeAbove};
 ghost use Rattle.blaze_table.specs.Splice.{IsPaintOf};
 ghost use Rattle.blaze_table.specs.Work.{IsCounted};
 
@@ -21,7 +20,7 @@ use std::alloc::AllocError;
 // The start of an entry that a painted range is joined with below it.
 fn joined_below<T: Integer>(left: Option<Found<T>>, lo: T) -> Option<T>
     ensures { option_map T.rank result
-        ≡ joined_start (T.rank lo) (option_map (found_of T.rank) left) }
+        ≡ joined_start (T.rank lo) (option_map (shown_found T.rank) left) }
 {
     match left {
         Some(found) if found.is_equal && (is_at_most(lo, found.end) || is_next(found.end, lo)) => {
@@ -44,7 +43,7 @@ pub fn apply<T: Integer, V: Eq + Drop>(
     requires order { T.rank lo ≤ℤ T.rank hi }
     requires canonical { IsCanonical V.eq entries.old.entries }
     requires plan { IsPlanOf (λ w. V.eq w value)
-        (T.rank lo) (T.rank hi) entries.old.entries (seen_of T.rank plan) }
+        (T.rank lo) (T.rank hi) entries.old.entries (shown_plan T.rank plan) }
     requires above { IsUnlikeAbove V.eq (λ w. V.eq w value)
         (T.rank lo) (T.rank hi) entries.old.entries above }
     ensures painted { OnOk result

@@ -1,7 +1,7 @@
 //! A value put on the keys of a range, in place: the entries beside the range are found, then edited.
 ghost use Rattle.std.specs.Option.{option_or};
 ghost use Rattle.std.specs.Prelude.{◌≡◌, ◌≤ℤ◌, Ok, IfOk, OnOk, OnErr};
-ghost use Rattle.blaze_entries.specs.Scanned.{seen_of};
+ghost use Rattle.blaze_entries.specs.Scanned.{shown_plan};
 ghost use Rattle.blaze_table.specs.Work.{IsCountedPaint, IsCounted};
 ghost use Rattle.blaze_table.specs.Entries.{entry, at, SameOption};
 ghost use Rattle.blaze_table.specs.Painted.{IsInside, ClonesAreAlike};
@@ -21,7 +21,7 @@ use std::alloc::AllocError;
 // Whether one entry has all keys of a range that ends at `hi`, with an equal value.
 fn is_inside<T: Integer>(plan: Plan<T>, hi: T) -> bool
     ensures { result
-        ≡ reaches (T.rank hi) (option_or (seen_of T.rank plan).first (seen_of T.rank plan).left) }
+        ≡ reaches (T.rank hi) (option_or (shown_plan T.rank plan).first (shown_plan T.rank plan).left) }
 {
     match plan.first.or(plan.left) {
         Some(found) => found.is_equal && is_at_most(hi, found.end),
@@ -44,7 +44,7 @@ fn paint_planned<T: Integer, V: Eq + Drop>(
     requires table { IsTable V.eq T.low T.high (T.SafeLen.number len) entries.old.entries }
     requires walk { IsWalkOf V.eq (λ w. V.eq w value)
         (T.rank lo) (T.rank hi) entries.old.entries
-        (seen_of T.rank walk.plan) (T.SafeLen.number walk.outside) walk.above }
+        (shown_plan T.rank walk.plan) (T.SafeLen.number walk.outside) walk.above }
     ensures painted { IfOk result (λ len. IsTablePainted V.eq T.low T.high (T.SafeLen.number len)
         (entry (T.rank lo) (T.rank hi) value) entries.old.entries entries.new.entries) }
     ensures inside { IsInside V.eq (T.rank lo) (T.rank hi) value entries.old.entries

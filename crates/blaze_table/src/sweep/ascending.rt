@@ -1,6 +1,6 @@
 //! Pairs that are ascending and disjoint already.
 ghost use Rattle.std.specs.Prelude.{◌≤ℤ◌, ◌↔◌, IsTrue, IfOk};
-ghost use Rattle.blaze_table.specs.Listed.{listed};
+ghost use Rattle.blaze_table.specs.Entries.{shown_list};
 ghost use Rattle.blaze_table.specs.CanonicalOf.{IsCanonicalOf};
 ghost use Rattle.blaze_table.specs.Swept.{AreApart, first_from};
 
@@ -24,7 +24,7 @@ fn follows<T: Integer, V>(last: Option<T>, pair: &(T, T, V)) -> bool
 
 /// Whether each pair has a key and starts above the end of the one before it.
 pub(crate) fn is_ascending<T: Integer, V>(pairs: &[(T, T, V)]) -> bool
-    ensures { IsTrue result ↔ AreApart T.low (listed T.rank pairs.now) }
+    ensures { IsTrue result ↔ AreApart T.low (shown_list T.rank pairs.now) }
 {
     let mut last = None;
     let mut rest = pairs;
@@ -44,9 +44,9 @@ pub(crate) fn joined_entries<T: Integer, V: Eq + Clone>(
     alloc: Global,
     pairs: Vec<(T, T, V)>,
 ) -> Result<Vec<(T, T, V)>, AllocError>
-    requires { AreApart T.low (listed T.rank pairs.items) }
-    ensures { IfOk result (λ entries. IsCanonicalOf V.eq T.low T.high (listed T.rank pairs.items)
-        (listed T.rank entries.items)) }
+    requires { AreApart T.low (shown_list T.rank pairs.items) }
+    ensures { IfOk result (λ entries. IsCanonicalOf V.eq T.low T.high (shown_list T.rank pairs.items)
+        (shown_list T.rank entries.items)) }
 {
     let mut entries = Vec::new(alloc);
     for (start, end, value) in pairs {

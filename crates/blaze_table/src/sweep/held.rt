@@ -1,10 +1,10 @@
 //! The values of pairs, moved out one after another.
 ghost use Rattle.std.specs.Prelude.{◌≡◌, Some, IfOk, IsSome, OnOk, map};
-ghost use Rattle.blaze_table.specs.Entries.{SameOption};
-ghost use Rattle.blaze_table.specs.Listed.{listed};
+ghost use Rattle.blaze_table.specs.Entries.{SameOption, shown_list};
 ghost use Rattle.blaze_table.specs.Painted.{ClonesAreAlike};
 ghost use Rattle.blaze_table.specs.Held.{value_in, kept_value, PutsPiece, moved_to};
 
+use crate::sweep::placed::Placed;
 use crate::sweep::push::push_entry;
 use blaze_int::Integer;
 use std::alloc::{AllocError, Global};
@@ -22,13 +22,13 @@ pub(crate) enum Held<V> {
 /// The values of pairs.
 pub(crate) fn held_of<T: Integer, V: Eq + Clone>(
     alloc: Global,
-    placed: Vec<(T, T, usize, V)>,
+    placed: Vec<Placed<T, V>>,
 ) -> Result<Vec<Held<V>>, AllocError>
     ensures { IfOk result (λ held. held.items ≡ map kept_value placed.items) }
 {
     let mut held = Vec::new(alloc);
-    for (_, _, _, value) in placed {
-        held.push(Held::Kept(value))?;
+    for pair in placed {
+        held.push(Held::Kept(pair.value))?;
     }
     Ok(held)
 }
@@ -40,9 +40,9 @@ fn value_at<T: Integer, V: Eq + Clone>(
     index: usize,
 ) -> Result<V, AllocError>
     requires clones { ClonesAreAlike V.is_clone V.eq }
-    requires there { IsSome (value_in (listed T.rank entries.now) held.old.items index) }
+    requires there { IsSome (value_in (shown_list T.rank entries.now) held.old.items index) }
     ensures value { IfOk result (λ value. SameOption V.eq (Some value)
-        (value_in (listed T.rank entries.now) held.old.items index)) }
+        (value_in (shown_list T.rank entries.now) held.old.items index)) }
     ensures held { held.new.items ≡ moved_to 0 held.old.items index }
 {
     match mem::replace(&mut held[index], Held::Moved(0)) {
@@ -64,9 +64,9 @@ pub(crate) fn put_piece<T: Integer, V: Eq + Clone>(
     index: usize,
 ) -> Result<(), AllocError>
     requires clones { ClonesAreAlike V.is_clone V.eq }
-    requires there { IsSome (value_in (listed T.rank entries.old.items) held.old.items index) }
+    requires there { IsSome (value_in (shown_list T.rank entries.old.items) held.old.items index) }
     ensures { OnOk result (PutsPiece V.eq (T.rank start) (T.rank end) index
-        (listed T.rank entries.old.items) (listed T.rank entries.new.items)
+        (shown_list T.rank entries.old.items) (shown_list T.rank entries.new.items)
         held.old.items held.new.items) }
 {
     let value = value_at(held, entries, index)?;

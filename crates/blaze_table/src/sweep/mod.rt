@@ -1,6 +1,6 @@
 //! The canonical list of pairs painted in order.
 ghost use Rattle.std.specs.Prelude.{IfOk};
-ghost use Rattle.blaze_table.specs.Listed.{listed};
+ghost use Rattle.blaze_table.specs.Entries.{shown_list};
 ghost use Rattle.blaze_table.specs.Painted.{ClonesAreAlike};
 ghost use Rattle.blaze_table.specs.CanonicalOf.{IsCanonicalOf};
 
@@ -34,8 +34,8 @@ pub fn canonical_of<T: Integer, V: Eq + Clone>(
     pairs: Vec<(T, T, V)>,
 ) -> Result<Vec<(T, T, V)>, AllocError>
     requires { ClonesAreAlike V.is_clone V.eq }
-    ensures { IfOk result (λ entries. IsCanonicalOf V.eq T.low T.high (listed T.rank pairs.items)
-        (listed T.rank entries.items)) }
+    ensures { IfOk result (λ entries. IsCanonicalOf V.eq T.low T.high (shown_list T.rank pairs.items)
+        (shown_list T.rank entries.items)) }
 {
     if is_ascending(pairs.as_slice()) {
         let entries = joined_entries(alloc, pairs)?;

@@ -1,10 +1,11 @@
 //! The pieces that pairs paint, from the least key up.
 ghost use Rattle.std.specs.Prelude.{◌≤ℤ◌, ◌+ℤ◌, ◌-ℤ◌, pos, All, IfOk, OnOk};
 ghost use Rattle.std.specs.BinaryHeap.{IsHeap, heap_items};
-ghost use Rattle.blaze_table.specs.Listed.{listed};
+ghost use Rattle.blaze_table.specs.Entries.{shown_list};
 ghost use Rattle.blaze_table.specs.Pieces.{AreAscending, EndsAreKeys, place_cmp};
 ghost use Rattle.blaze_table.specs.Pieces.{IsWaiting, KeepsReaching, ArePieces};
 
+use crate::sweep::placed::Placed;
 use crate::sweep::push::push_entry;
 use crate::sweep::waiting::{drop_top, top_of};
 use blaze_int::Integer;
@@ -14,7 +15,7 @@ use std::collections::BinaryHeap;
 
 /// Adds the pieces that the pairs that wait paint on the keys from `from` up to `to`.
 fn sweep_to<T: Integer, V>(
-    placed: &[(T, T, usize, V)],
+    placed: &[Placed<T, V>],
     waiting: &mut BinaryHeap<(usize, usize), Global>,
     pieces: &mut Vec<(T, T, usize)>,
     from: T,
@@ -25,28 +26,28 @@ fn sweep_to<T: Integer, V>(
     requires waits { IsWaiting T.rank placed.now (T.rank from) (T.rank to)
         (heap_items waiting.old) }
     requires made { ArePieces T.rank placed.now T.low (T.rank from)
-        (listed T.rank pieces.old.items) }
+        (shown_list T.rank pieces.old.items) }
     ensures heap { IsHeap place_cmp (heap_items waiting.new) }
     ensures waits { OnOk result (IsWaiting T.rank placed.now (T.rank to +ℤ pos 1) (T.rank to)
         (heap_items waiting.new)) }
     ensures made { OnOk result (ArePieces T.rank placed.now T.low (T.rank to +ℤ pos 1)
-        (listed T.rank pieces.new.items)) }
+        (shown_list T.rank pieces.new.items)) }
 {
     let mut at = from;
     to.in_hand();
     while let Some(top) = top_of(waiting) {
         let (_, index) = top;
         let pair = &placed[index];
-        let (_, end, _, _) = pair;
-        if is_at_most(to, *end) {
+        let end = pair.end;
+        if is_at_most(to, end) {
             push_entry(pieces, at, to, index)?;
             return Ok(());
         }
         drop_top(waiting, top);
-        if is_below(*end, at) {
+        if is_below(end, at) {
             continue;
         }
-        push_entry(pieces, at, *end, index)?;
+        push_entry(pieces, at, end, index)?;
         at = end.add_one();
     }
     Ok(())
@@ -54,7 +55,7 @@ fn sweep_to<T: Integer, V>(
 
 /// Adds the pieces that the pairs that wait paint on the keys from `from` up to below `start`.
 fn advance<T: Integer, V>(
-    placed: &[(T, T, usize, V)],
+    placed: &[Placed<T, V>],
     waiting: &mut BinaryHeap<(usize, usize), Global>,
     pieces: &mut Vec<(T, T, usize)>,
     from: T,
@@ -65,14 +66,14 @@ fn advance<T: Integer, V>(
     requires waits { IsWaiting T.rank placed.now (T.rank from) (T.rank start -ℤ pos 1)
         (heap_items waiting.old) }
     requires made { ArePieces T.rank placed.now T.low (T.rank from)
-        (listed T.rank pieces.old.items) }
+        (shown_list T.rank pieces.old.items) }
     ensures heap { IsHeap place_cmp (heap_items waiting.new) }
     ensures waits { OnOk result (IsWaiting T.rank placed.now (T.rank start)
         (T.rank start -ℤ pos 1) (heap_items waiting.new)) }
     ensures kept { OnOk result (KeepsReaching T.rank placed.now (T.rank start)
         (heap_items waiting.old) (heap_items waiting.new)) }
     ensures made { OnOk result (ArePieces T.rank placed.now T.low (T.rank start)
-        (listed T.rank pieces.new.items)) }
+        (shown_list T.rank pieces.new.items)) }
 {
     if is_at_most(start, from) {
         return Ok(());
@@ -86,12 +87,12 @@ fn advance<T: Integer, V>(
 /// of: of the pairs that have its keys, the one with the greatest place.
 pub(crate) fn pieces_of<T: Integer, V>(
     alloc: Global,
-    placed: &[(T, T, usize, V)],
+    placed: &[Placed<T, V>],
 ) -> Result<Vec<(T, T, usize)>, AllocError>
     requires ascending { AreAscending T.rank placed.now }
     requires keys { All (EndsAreKeys T.rank T.low T.high) placed.now }
     ensures { IfOk result (λ pieces. ArePieces T.rank placed.now T.low (T.high +ℤ pos 1)
-        (listed T.rank pieces.items)) }
+        (shown_list T.rank pieces.items)) }
 {
     let mut waiting = BinaryHeap::new(alloc);
     let mut pieces = Vec::new(alloc);
@@ -99,10 +100,9 @@ pub(crate) fn pieces_of<T: Integer, V>(
     let mut i = 0;
     while i < placed.len() {
         let pair = &placed[i];
-        let (start, _, place, _) = pair;
-        advance(placed, &mut waiting, &mut pieces, from, *start)?;
-        waiting.push((*place, i))?;
-        from = *start;
+        advance(placed, &mut waiting, &mut pieces, from, pair.start)?;
+        waiting.push((pair.place, i))?;
+        from = pair.start;
         i += 1;
     }
     from.in_hand();

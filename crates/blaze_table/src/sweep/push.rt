@@ -1,7 +1,6 @@
 //! Entries put one after another.
 ghost use Rattle.std.specs.Prelude.{◌≡◌, ◌∷◌, ◌++◌, [], OnOk, OnErr, MatchBool};
-ghost use Rattle.blaze_table.specs.Entries.{entry};
-ghost use Rattle.blaze_table.specs.Listed.{listed};
+ghost use Rattle.blaze_table.specs.Entries.{entry, shown_list};
 ghost use Rattle.blaze_table.specs.Splice.{glue};
 
 use blaze_int::Integer;
@@ -15,8 +14,8 @@ pub(crate) fn lengthen_entry<T: Integer, V: Eq + Clone>(
     end: T,
     value: &V,
 ) -> bool
-    ensures { let old = listed T.rank out.old.items in let added = entry (T.rank start)
-        (T.rank end) value.now ∷ [] in MatchBool result (listed T.rank out.new.items
+    ensures { let old = shown_list T.rank out.old.items in let added = entry (T.rank start)
+        (T.rank end) value.now ∷ [] in MatchBool result (shown_list T.rank out.new.items
         ≡ glue V.eq old added) ((out.new.items ≡ out.old.items)
         × (glue V.eq old added ≡ old ++ added)) }
 {
@@ -38,8 +37,8 @@ pub fn push_entry<T: Integer, V: Eq + Clone>(
     end: T,
     value: V,
 ) -> Result<(), AllocError>
-    ensures ok { OnOk result (listed T.rank out.new.items
-        ≡ glue V.eq (listed T.rank out.old.items)
+    ensures ok { OnOk result (shown_list T.rank out.new.items
+        ≡ glue V.eq (shown_list T.rank out.old.items)
         (entry (T.rank start) (T.rank end) value ∷ [])) }
     ensures err { OnErr result (out.new.items ≡ out.old.items) }
 {

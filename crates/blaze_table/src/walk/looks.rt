@@ -2,8 +2,8 @@
 ghost use Rattle.std.specs.Prelude.{◌≡◌, ◌+◌, ◌≤◌, pos, ◌+ℤ◌, ◌≤ℤ◌, reverse, Some, None};
 ghost use Rattle.std.specs.Prelude.{IsSome, IfSome, IfOk, OnErr};
 ghost use Rattle.std.specs.Option.{option_map};
-ghost use Rattle.blaze_entries.specs.Found.{found_of};
-ghost use Rattle.blaze_entries.specs.Scanned.{seen_of, unseen, walked, answers};
+ghost use Rattle.blaze_entries.specs.Found.{shown_found};
+ghost use Rattle.blaze_entries.specs.Scanned.{shown_plan, unseen, walked, answers};
 ghost use Rattle.blaze_entries.specs.Scanned.{walked_keys, IsAboveCloned, GoesOnUnlike};
 ghost use Rattle.blaze_entries.specs.Starts.{below, start_at};
 
@@ -23,7 +23,7 @@ pub fn plan<T: Integer, V: Eq>(
 ) -> (Plan<T>, T::SafeLen)
     requires { walked_keys (T.rank lo) (T.rank hi)
         (reverse (below (T.rank hi +ℤ pos 2) entries.old.entries)) ≤ℤ pos (T.SafeLen.number len) }
-    ensures plan { seen_of T.rank result.0
+    ensures plan { shown_plan T.rank result.0
         ≡ walked (λ w. V.eq w value.now) (T.rank lo) (T.rank hi) (unseen (T.rank hi))
         (reverse (below (T.rank hi +ℤ pos 2) entries.old.entries)) }
     ensures len { pos (T.SafeLen.number result.1)
@@ -59,10 +59,10 @@ pub fn value_above<T: Integer, V: Eq + Clone>(
 ) -> Result<Option<V>, AllocError>
     requires { IfSome left (λ f. IsSome (start_at (T.rank f.start) entries.old.entries)) }
     ensures above { IfOk result (λ r. IfSome left (λ f. IsAboveCloned V.is_clone (T.rank hi)
-        (Some (found_of T.rank f))
+        (Some (shown_found T.rank f))
         (option_map (λ e. e.value) (start_at (T.rank f.start) entries.old.entries)) r)) }
     ensures refused { OnErr result
-        (GoesOnUnlike (T.rank hi) (option_map (found_of T.rank) left)) }
+        (GoesOnUnlike (T.rank hi) (option_map (shown_found T.rank) left)) }
     ensures looked { entries.new ≡ record entries.old { looks = entries.new.looks } }
     ensures risen { entries.old.looks ≤ entries.new.looks }
     ensures few { entries.new.looks ≤ entries.old.looks + 1 }

@@ -2,7 +2,7 @@
 ghost use Rattle.std.specs.Option.{option_copied};
 ghost use Rattle.std.specs.Prelude.{◌≤ℤ◌, IfOk, OnErr};
 ghost use Rattle.blaze_entries.specs.Found.{is_sought};
-ghost use Rattle.blaze_entries.specs.Scanned.{seen_of};
+ghost use Rattle.blaze_entries.specs.Scanned.{shown_plan};
 ghost use Rattle.blaze_table.specs.Entries.{at, SameOption};
 ghost use Rattle.blaze_table.specs.Painted.{ClonesAreAlike};
 ghost use Rattle.blaze_table.specs.Planned.{IsWalkOf, IsLooked, GoesOnUnequal};
@@ -39,7 +39,7 @@ pub fn walk_down<T: Integer, V: Eq + Clone>(
     requires table { IsTable V.eq T.low T.high (T.SafeLen.number len) entries.old.entries }
     ensures found { IfOk result (λ w. IsWalkOf V.eq (is_sought V.eq (option_copied value.entry))
         (T.rank lo) (T.rank hi) entries.old.entries
-        (seen_of T.rank w.plan) (T.SafeLen.number w.outside) w.above) }
+        (shown_plan T.rank w.plan) (T.SafeLen.number w.outside) w.above) }
     ensures refused { OnErr result (GoesOnUnequal (is_sought V.eq (option_copied value.entry))
         (T.rank hi) entries.old.entries) }
     ensures looked { IsLooked (T.rank lo) (T.rank hi) entries.old entries.new }
@@ -65,7 +65,7 @@ pub fn walk_with_value<T: Integer, V: Eq + Clone>(
     requires table { IsTable V.eq T.low T.high (T.SafeLen.number len) entries.old.entries }
     ensures found { IfOk result (λ r. IsWalkOf V.eq (λ w. V.eq w value.now)
         (T.rank key) (T.rank key) entries.old.entries
-        (seen_of T.rank r.0.plan) (T.SafeLen.number r.0.outside) r.0.above) }
+        (shown_plan T.rank r.0.plan) (T.SafeLen.number r.0.outside) r.0.above) }
     ensures value { IfOk result (λ r. SameOption V.eq (at entries.old.entries (T.rank key)) r.1) }
     ensures looked { IsLooked (T.rank key) (T.rank key) entries.old entries.new }
 {
@@ -93,7 +93,7 @@ pub fn walk_by_looks<T: Integer, V: Eq + Clone>(
     requires table { IsTable V.eq T.low T.high (T.SafeLen.number len) entries.old.entries }
     ensures found { IfOk result (λ w. IsWalkOf V.eq (λ x. V.eq x value.now)
         (T.rank lo) (T.rank hi) entries.old.entries
-        (seen_of T.rank w.plan) (T.SafeLen.number w.outside) w.above) }
+        (shown_plan T.rank w.plan) (T.SafeLen.number w.outside) w.above) }
     ensures refused { OnErr result
         (GoesOnUnequal (λ x. V.eq x value.now) (T.rank hi) entries.old.entries) }
     ensures looked { IsLooked (T.rank lo) (T.rank hi) entries.old entries.new }

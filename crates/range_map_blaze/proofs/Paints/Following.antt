@@ -8,8 +8,7 @@ use Rattle.blaze_entries.proofs.Alike.{same_itself}
 use Rattle.blaze_table.specs.Canonical.{IsCanonical, IsRangeMap}
 use Rattle.blaze_table.specs.Chosen.{left_with_right, IsChosen}
 use Rattle.blaze_table.specs.Ending.{ending_from}
-use Rattle.blaze_table.specs.Entries.{Entry, entry, at, shown_entry, SameEntries, SameOption}
-use Rattle.blaze_table.specs.Listed.{listed}
+use Rattle.blaze_table.specs.Entries.{Entry, entry, at, shown_entry, SameEntries, SameOption, shown_list}
 use Rattle.std.specs.Int.{int_max, int_min}
 use Rattle.blaze_table.specs.Splice.{before, after}
 use Rattle.blaze_table.proofs.Canonical.Clones.{IsCopied}
@@ -149,16 +148,16 @@ module _ {V : Type 0} (eq : V → V → Bool) where
 module _ {T V : Type 0} (rank : T → ℤ) (eq : V → V → Bool) (all : List (Entry V)) where
   -- nothing is copied yet
   pub copied_none : (left : List (Entry V)) (items : List (T × T × V)) → left ≡ all → items ≡ [] → IsCopied rank eq all left items
-  copied_none left items p q fs s = subst (λ xs. SameEntries eq all (listed rank xs ++ fs)) (sym q) (subst (λ es. SameEntries eq es fs) p s)
+  copied_none left items p q fs s = subst (λ xs. SameEntries eq all (shown_list rank xs ++ fs)) (sym q) (subst (λ es. SameEntries eq es fs) p s)
 
   -- the first of what is left, copied with an equal value
   pub copied_more : (rest left : List (Entry V)) (e : Entry V) (x : T × T × V) (items new : List (T × T × V)) → IsCopied rank eq all (e ∷ rest) items → left ≡ rest
       → e.lo ≡ rank x.0 → e.hi ≡ rank x.1 → eq e.value x.2 ≡ true → new ≡ items ++ x ∷ [] → IsCopied rank eq all left new
   copied_more rest left e x items new i p lo hi v q fs s =
       let shown = shown_entry rank (λ w. w) in
-      let more = ap (λ xs. listed rank xs ++ fs) q ∙ ap (λ es. es ++ fs) (map-append shown items (x ∷ [])) ∙ append_assoc (listed rank items) (shown x ∷ []) fs in
+      let more = ap (λ xs. shown_list rank xs ++ fs) q ∙ ap (λ es. es ++ fs) (map-append shown items (x ∷ [])) ∙ append_assoc (shown_list rank items) (shown x ∷ []) fs in
       subst (SameEntries eq all) (sym more) (i (shown x ∷ fs) (lo, hi, v, subst (λ es. SameEntries eq es fs) p s))
 
   -- nothing is left
-  pub copied_all : (items : List (T × T × V)) → IsCopied rank eq all [] items → SameEntries eq all (listed rank items)
-  copied_all items i = subst (SameEntries eq all) (append-nil (listed rank items)) (i [] tt)
+  pub copied_all : (items : List (T × T × V)) → IsCopied rank eq all [] items → SameEntries eq all (shown_list rank items)
+  copied_all items i = subst (SameEntries eq all) (append-nil (shown_list rank items)) (i [] tt)

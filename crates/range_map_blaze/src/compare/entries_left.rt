@@ -2,20 +2,20 @@
 ghost use Rattle.std.specs.Prelude.{◌≡◌, [], IfNone, slice_get};
 ghost use Rattle.std.specs.Option.{option_map};
 ghost use Rattle.blaze_table.specs.Canonical.{IsCanonical};
-ghost use Rattle.blaze_table.specs.Entries.{shown_entry};
+ghost use Rattle.blaze_table.specs.Entries.{shown_range_entry};
 ghost use Rattle.blaze_table.specs.Splice.{after};
 ghost use Rattle.blaze_streams.specs.Choosing.{ahead_of};
 ghost use Rattle.blaze_streams.specs.Cursors.{Reaches};
 
 use blaze_int::Integer;
 use blaze_int::compare::is_at_most;
-use blaze_table::{Iter, RangeTable};
+use blaze_table::{Iter, RangeEntry, RangeTable};
 use std::marker::Model;
 
 /// The entries that are left: what is left of the first, and the others.
 #[derive(Drop)]
 pub struct EntriesLeft<'a, T: Integer, V: Eq> {
-    first: Option<(T, T, &'a V)>,
+    first: Option<RangeEntry<T, &'a V>>,
     others: Iter<'a, T, V>,
 }
 
@@ -36,13 +36,13 @@ impl<'a, T: Integer, V: Eq> Model for EntriesLeft<'a, T, V> {
         × IsCanonical V.eq (ahead_of T.rank (λ v. v.now) s.first s.others) };
 }
 
-// Takes the first entry out: its first key, last key and value.
-fn take_first<'a, T: Integer, V: Eq>(entries: &mut Iter<'a, T, V>) -> Option<(T, T, &'a V)>
+// Takes the first entry out.
+fn take_first<'a, T: Integer, V: Eq>(entries: &mut Iter<'a, T, V>) -> Option<RangeEntry<T, &'a V>>
     ensures left { ahead_of T.rank (λ v. v.now) result entries.new ≡ entries.old }
     ensures none { IfNone result (entries.new ≡ []) }
 {
-    let (lo, hi, value) = entries.next()?;
-    Some((lo, hi, value))
+    let (start, end, value) = entries.next()?;
+    Some(RangeEntry { start, end, value })
 }
 
 impl<'a, T: Integer, V: Eq> EntriesLeft<'a, T, V> {
@@ -56,14 +56,18 @@ impl<'a, T: Integer, V: Eq> EntriesLeft<'a, T, V> {
         EntriesLeft { first, others }
     }
 
-    /// What is left of the first entry: its first key, last key and value.
-    pub fn first(&self) -> Option<(T, T, &'a V)>
-        ensures first { option_map (shown_entry T.rank (λ v. v.now)) result ≡ slice_get self.now 0 }
+    /// What is left of the first entry.
+    pub fn first(&self) -> Option<RangeEntry<T, &'a V>>
+        ensures first { option_map (shown_range_entry T.rank (λ v. v.now)) result ≡ slice_get self.now 0 }
         ensures canonical { IsCanonical V.eq self.now }
     {
         match &self.first {
             None => None,
-            Some((lo, hi, value)) => Some((*lo, *hi, *value)),
+            Some(RangeEntry { start, end, value }) => Some(RangeEntry {
+                start: *start,
+                end: *end,
+                value: *value,
+            }),
         }
     }
 
@@ -73,12 +77,23 @@ impl<'a, T: Integer, V: Eq> EntriesLeft<'a, T, V> {
         requires { Reaches (T.rank end) self.old }
         ensures { self.new ≡ after (T.rank end) self.old }
     {
-        if let Some((lo, hi, value)) = self.first {
-            if is_at_most(hi, end) {
+        if let Some(
+            RangeEntry {
+                start,
+                end: last,
+                value,
+            },
+        ) = self.first
+        {
+            if is_at_most(last, end) {
                 self.first = take_first(&mut self.others);
-            } else if is_at_most(lo, end) {
-                hi.in_hand();
-                self.first = Some((end.add_one(), hi, value));
+            } else if is_at_most(start, end) {
+                last.in_hand();
+                self.first = Some(RangeEntry {
+                    start: end.add_one(),
+                    end: last,
+                    value,
+                });
             }
         }
     }

@@ -3,7 +3,7 @@ ghost use Rattle.std.specs.Prelude.{◌≡◌, ◌↔◌, ◌+◌, ◌≤◌, �
 ghost use Rattle.std.specs.Cmp.{on_total, po};
 ghost use Rattle.std.specs.Ordering.{int_cmp, ordering_then, on, as_partial_cmp};
 ghost use Rattle.std.specs.declared.cmp.Ordering.TheVariants.{Equal};
-ghost use Rattle.blaze_table.specs.Entries.{SameContent, shown_entry};
+ghost use Rattle.blaze_table.specs.Entries.{SameContent, shown_range_entry};
 ghost use Rattle.std.specs.Int.{int_min};
 ghost use Rattle.range_map_blaze.specs.Order.{pairs_cmp, map_cmp, first_cmp, IsComparedOn};
 ghost use Rattle.range_map_blaze.specs.OrderLaws.{equal_maps_tie, map_cmp_total};
@@ -13,6 +13,7 @@ use crate::compare::turns::Turns;
 use crate::map::RangeMapBlaze;
 use blaze_int::Integer;
 use blaze_int::compare::lesser;
+use blaze_table::RangeEntry;
 use std::cmp::Ordering;
 
 // How the first pairs of two entries compare.
@@ -30,17 +31,18 @@ fn compare_starts<T: Integer, V: Ord>(start: T, value: &V, other_start: T, other
 }
 
 // How the first pairs of two entries compare, and the last key of the entry that ends first.
-fn compare_first<T: Integer, V: Ord>(left: (T, T, &V), other: (T, T, &V)) -> (Ordering, T)
-    ensures order { result.0 ≡ first_cmp V.cmp (shown_entry T.rank (λ v. v.now) left.entry)
-        (shown_entry T.rank (λ v. v.now) other.entry) }
-    ensures end { T.rank result.1 ≡ int_min (shown_entry T.rank (λ v. v.now) other.entry).hi
-        (shown_entry T.rank (λ v. v.now) left.entry).hi }
+fn compare_first<T: Integer, V: Ord>(
+    left: RangeEntry<T, &V>,
+    other: RangeEntry<T, &V>,
+) -> (Ordering, T)
+    ensures order { result.0 ≡ first_cmp V.cmp (shown_range_entry T.rank (λ v. v.now) left.entry)
+        (shown_range_entry T.rank (λ v. v.now) other.entry) }
+    ensures end { T.rank result.1 ≡ int_min (shown_range_entry T.rank (λ v. v.now) other.entry).hi
+        (shown_range_entry T.rank (λ v. v.now) left.entry).hi }
 {
-    let (start, end, value) = left;
-    let (other_start, other_end, other_value) = other;
     (
-        compare_starts(start, value, other_start, other_value),
-        lesser(end, other_end),
+        compare_starts(left.start, left.value, other.start, other.value),
+        lesser(left.end, other.end),
     )
 }
 

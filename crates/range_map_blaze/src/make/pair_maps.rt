@@ -1,7 +1,6 @@
 //! Maps of lists of pairs, painted in order.
 ghost use Rattle.std.specs.Prelude.{map, IfOk};
-ghost use Rattle.blaze_table.specs.Entries.{SameEntries, shown_entry};
-ghost use Rattle.blaze_table.specs.Listed.{listed};
+ghost use Rattle.blaze_table.specs.Entries.{SameEntries, shown_entry, shown_list};
 ghost use Rattle.blaze_table.specs.Painted.{ClonesAreAlike};
 ghost use Rattle.blaze_table.specs.CanonicalOf.{IsCanonicalOf};
 ghost use Rattle.range_map_blaze.specs.Made.{IsMade};
@@ -18,7 +17,7 @@ pub(crate) fn map_of_pairs<T: Integer, V: Eq + Clone>(
     pairs: Vec<(T, T, V)>,
 ) -> Result<RangeMapBlaze<T, V>, AllocError>
     requires { ClonesAreAlike V.is_clone V.eq }
-    ensures { IfOk result (IsMade (IsCanonicalOf V.eq T.low T.high (listed T.rank pairs.items))) }
+    ensures { IfOk result (IsMade (IsCanonicalOf V.eq T.low T.high (shown_list T.rank pairs.items))) }
 {
     let entries = canonical_of(alloc, pairs)?;
     let table = RangeTable::from_canonical(alloc, entries)?;
@@ -33,7 +32,7 @@ fn cloned<T: Integer, V: Eq + Clone>(
     requires { ClonesAreAlike V.is_clone V.eq }
     ensures { IfOk result
         (λ entries. SameEntries V.eq (map (shown_entry T.rank (λ v. v.now)) lent.entry.items)
-        (listed T.rank entries.items)) }
+        (shown_list T.rank entries.items)) }
 {
     let mut entries = Vec::new(alloc);
     for (start, end, value) in lent {

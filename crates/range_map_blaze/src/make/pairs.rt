@@ -1,8 +1,7 @@
 //! Pairs of a key or a range with a value, each as a first key, a last key and the value.
 ghost use Rattle.std.specs.Prelude.{◌≡◌, map, IfOk};
 ghost use Rattle.std.specs.Iterator.{IsFiniteIterable};
-ghost use Rattle.blaze_table.specs.Entries.{Entry, shown_entry};
-ghost use Rattle.blaze_table.specs.Listed.{listed};
+ghost use Rattle.blaze_table.specs.Entries.{Entry, shown_entry, shown_list};
 ghost use Rattle.blaze_streams.specs.Ranges.{shown_range};
 ghost use Rattle.range_map_blaze.specs.Collected.{CollectsItems};
 ghost use Rattle.range_map_blaze.specs.Extended.{shown_point};
@@ -47,7 +46,7 @@ pub(crate) fn pairs_of<T: Integer, V: Drop, P: Pair<T, V>, I: IntoIterator<Item 
 ) -> Result<Vec<(T, T, V)>, AllocError>
     requires { IsFiniteIterable I.into_iter_gives I.IntoIter.can_next I.IntoIter.remaining iter }
     ensures { IfOk result (λ pairs. CollectsItems I.into_iter_gives I.IntoIter.next_gives
-        (λ items list. listed T.rank list ≡ map P.pair items) iter pairs.items) }
+        (λ items list. shown_list T.rank list ≡ map P.pair items) iter pairs.items) }
 {
     let mut pairs = Vec::new(alloc);
     for item in iter {

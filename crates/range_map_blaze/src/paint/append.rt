@@ -6,6 +6,7 @@ ghost use Rattle.range_map_blaze.specs.Extended.{IsExtended, IsPartlyExtended};
 use crate::map::RangeMapBlaze;
 use blaze_int::Integer;
 use blaze_streams::{OwnedRangeValuesIter, SortedDisjointMap, ValueCarrier};
+use blaze_table::RangeEntry;
 use std::alloc::AllocError;
 
 impl<T: Integer, V: Eq + Clone> RangeMapBlaze<T, V> {
@@ -62,7 +63,11 @@ impl<T: Integer, V: Eq + Clone> RangeMapBlaze<T, V> {
         self.in_hand();
         for (range, carrier) in ranges {
             let (start, end) = range.into_inner();
-            self.paint_pair((start, end, carrier.into_value()?))?;
+            self.paint_pair(RangeEntry {
+                start,
+                end,
+                value: carrier.into_value()?,
+            })?;
         }
         Ok(())
     }

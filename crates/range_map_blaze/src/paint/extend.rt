@@ -8,6 +8,7 @@ ghost use Rattle.range_map_blaze.specs.Extended.{shown_point, IsExtended};
 use crate::make::pairs::Pair;
 use crate::map::RangeMapBlaze;
 use blaze_int::Integer;
+use blaze_table::RangeEntry;
 use std::alloc::AllocError;
 use std::ops::RangeInclusive;
 
@@ -61,7 +62,8 @@ impl<T: Integer, V: Eq + Clone> RangeMapBlaze<T, V> {
         self.in_hand();
         let mut pending = None;
         for item in iter {
-            pending = self.take_pair(pending, item.parts())?;
+            let (start, end, value) = item.parts();
+            pending = self.take_pair(pending, RangeEntry { start, end, value })?;
         }
         self.paint_pending(pending)?;
         Ok(())
@@ -83,7 +85,7 @@ impl<T: Integer, V: Eq + Clone> RangeMapBlaze<T, V> {
         self.in_hand();
         for (range, value) in iter {
             let (start, end) = range.into_inner();
-            self.paint_pair((start, end, value))?;
+            self.paint_pair(RangeEntry { start, end, value })?;
         }
         Ok(())
     }

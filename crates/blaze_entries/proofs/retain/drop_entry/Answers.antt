@@ -1,4 +1,4 @@
-use Rattle.blaze_entries.specs.Nodes.{nodes_as_entries, full}
+use Rattle.blaze_entries.specs.Nodes.{shown_nodes, full}
 use Rattle.blaze_entries.specs.Starts.{without}
 use Rattle.blaze_entries.proofs.Ascending.{start_without}
 use Rattle.blaze_entries.proofs.Held.{are_held, edited_nodes, full_of, without-held}
@@ -9,7 +9,7 @@ returns-clause-held g c =
     let low = g.T.Integer.low in
     let high = g.T.Integer.high in
     let k = g.T.Integer.rank c.args.start in
-    let ps = nodes_as_entries g.T.Integer.rank c.args.tree.now.entries in
+    let ps = shown_nodes g.T.Integer.rank c.args.tree.now.entries in
     are_held low high _ (without k (full ps))
     (edited_nodes low high (without k) ps _ (without k (full ps)) c.requires c.remove.ensures.nodes (without-held k (full ps)))
     (start_without low high k (full ps) c.requires.ascend)
@@ -19,5 +19,5 @@ returns-clause-entries g c =
     let low = g.T.Integer.low in
     let high = g.T.Integer.high in
     let k = g.T.Integer.rank c.args.start in
-    let ps = nodes_as_entries g.T.Integer.rank c.args.tree.now.entries in
+    let ps = shown_nodes g.T.Integer.rank c.args.tree.now.entries in
     full_of _ (without k (full ps)) (edited_nodes low high (without k) ps _ (without k (full ps)) c.requires c.remove.ensures.nodes (without-held k (full ps)))

@@ -2,7 +2,7 @@ use Rattle.std.proofs.Common.{pos, ◌+ℤ◌, refl, sym, ap, subst, arith}
 use Rattle.std.proofs.lemmas.Int.{ints}
 use Rattle.blaze_entries.specs.Answers.{AnswersAt}
 use Rattle.blaze_entries.specs.Entries.{shown_entry}
-use Rattle.blaze_entries.specs.Nodes.{nodes_as_entries, entries_of, AreHeld}
+use Rattle.blaze_entries.specs.Nodes.{shown_nodes, entries_of, AreHeld}
 use Rattle.blaze_entries.proofs.Asked.{IsAsked, fewer_left, asked_none, asked_all, asked_top, next_asked, asked_parts, asked_folds, asked_yes, asked_no}
 use Rattle.blaze_entries.proofs.retain.retain.Goals as goal
 use Rattle.blaze_entries.proofs.retain.retain.Goals.{then-not-stays, else-not-stays}
@@ -70,7 +70,7 @@ loop-found-preserved g c =
       | else-not-stays w ↦ rw (w.tree-is) (asked_yes R c.args.f low high old _ _ _ h e c.in-Some.ensures c.f-stays.new.self
           (subst (λ b. R c.loop-found.f e b c.f-stays.new.self) w.if-not-stays.false answer))
     ] in
-    let held : AreHeld low high (nodes_as_entries rank c.if-not-stays.tree.entries) = elim c.if-not-stays.branch [
+    let held : AreHeld low high (shown_nodes rank c.if-not-stays.tree.entries) = elim c.if-not-stays.branch [
       | then-not-stays w ↦ rw (w.tree-is) w.drop_entry.ensures.held
       | else-not-stays w ↦ rw (w.tree-is) c.loop-found.invariant.0
     ] in

@@ -1,7 +1,7 @@
 use Rattle.std.proofs.Common.{refl}
 use Rattle.std.specs.Map.Iter.{deref_pair}
 use Rattle.blaze_entries.specs.Entries.{shown_entry}
-use Rattle.blaze_entries.specs.Nodes.{nodes_as_entries, full}
+use Rattle.blaze_entries.specs.Nodes.{shown_nodes, full}
 use Rattle.blaze_entries.proofs.Scans.{shown_last, shown_none, length-nodes, shorter_last}
 use Rattle.blaze_entries.proofs.Steps.{last_node_taken, taken_is_full}
 use Rattle.blaze_entries.proofs.scan.next_found.Goals as goal
@@ -26,7 +26,7 @@ pub returns-in-Some-clause-shorter : goal.returns-in-Some-clause-shorter
 returns-in-Some-clause-shorter g c =
     let rank = g.T.Integer.rank in
     let found = returns-in-Some-clause-found g c in
-    shorter_last found.0 (full (nodes_as_entries rank c.args.nodes.now)) (full (nodes_as_entries rank c.next_back.new.self)) _ _ found.2
+    shorter_last found.0 (full (shown_nodes rank c.args.nodes.now)) (full (shown_nodes rank c.next_back.new.self)) _ _ found.2
     (length-nodes rank c.next_back.new.self (returns-in-Some-clause-full g c)) (length-nodes rank c.args.nodes.now c.requires)
 
 pub returns-in-None-clause-full : goal.returns-in-None-clause-full

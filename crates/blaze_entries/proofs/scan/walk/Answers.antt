@@ -3,8 +3,8 @@ use Rattle.std.proofs.lemmas.Int.{ints}
 use Rattle.std.specs.Prelude.{reverse, map}
 use Rattle.std.specs.Option.{option_copied}
 use Rattle.blaze_entries.specs.Found.{is_sought}
-use Rattle.blaze_entries.specs.Nodes.{nodes_as_entries, full, held}
-use Rattle.blaze_entries.specs.Scanned.{seen_of, unseen, walked, answers, walked_keys, walked_value, seen_value}
+use Rattle.blaze_entries.specs.Nodes.{shown_nodes, full, held}
+use Rattle.blaze_entries.specs.Scanned.{shown_plan, unseen, walked, answers, walked_keys, walked_value, seen_value}
 use Rattle.blaze_entries.specs.Starts.{below}
 use Rattle.blaze_entries.proofs.Halves.{below_next}
 use Rattle.blaze_entries.proofs.Held.{nodes_ascend, full_of, full_held, below-held}
@@ -17,15 +17,15 @@ loop-next-init g c =
     let low = g.T.Integer.low in
     let high = g.T.Integer.high in
     let k = rank c.next_or_last-top.result +ℤ pos 1 in
-    let ps = nodes_as_entries rank c.args.tree.now.entries in
-    let q : nodes_as_entries rank c.nodes_up_to-nodes.result ≡ map held (below k (full ps)) =
+    let ps = shown_nodes rank c.args.tree.now.entries in
+    let q : shown_nodes rank c.nodes_up_to-nodes.result ≡ map held (below k (full ps)) =
     c.nodes_up_to-nodes.ensures
     ∙ ap (below k) c.requires.held.full.held ∙ below-held k (full ps) in
-    let e = full_of (nodes_as_entries rank c.nodes_up_to-nodes.result) (below k (full ps)) q
+    let e = full_of (shown_nodes rank c.nodes_up_to-nodes.result) (below k (full ps)) q
     ∙ below_next low high (rank c.args.hi) (rank c.next_or_last-top.result) (full ps) c.requires.held.ascend c.next_or_last-top.ensures in
     record {
-      full = full_held (nodes_as_entries rank c.nodes_up_to-nodes.result) (below k (full ps)) q;
-      plan = ap (λ s. walked (is_sought g.V.PartialEq.eq (option_copied c.args.value)) (rank c.args.lo) (rank c.args.hi) s (reverse (full (nodes_as_entries rank c.nodes_up_to-nodes.result)))) c.new-plan.ensures
+      full = full_held (shown_nodes rank c.nodes_up_to-nodes.result) (below k (full ps)) q;
+      plan = ap (λ s. walked (is_sought g.V.PartialEq.eq (option_copied c.args.value)) (rank c.args.lo) (rank c.args.hi) s (reverse (full (shown_nodes rank c.nodes_up_to-nodes.result)))) c.new-plan.ensures
           ∙ ap (λ es. walked (is_sought g.V.PartialEq.eq (option_copied c.args.value)) (rank c.args.lo) (rank c.args.hi) (unseen (rank c.args.hi)) (reverse es)) e;
       room = subst (λ es. walked_keys (rank c.args.lo) (rank c.args.hi) (reverse es) ≤ℤ pos (g.T.SafeLen.SafeLength.number c.args.len)) (sym e) c.requires.len;
       left = ap (λ es. pos (g.T.SafeLen.SafeLength.number c.args.len) +ℤ walked_keys (rank c.args.lo) (rank c.args.hi) (reverse es)) (sym e);
@@ -71,9 +71,9 @@ loop-next-preserved g c =
     let looks = next_answers l h test _ seen.0 seen.1.found _ _ down over in
     record {
       full = c.in-Some.ensures.full;
-      plan = ap (λ s. walked test l h s (reverse (full (nodes_as_entries rank c.next_found.new.nodes)))) c.see.ensures
-          ∙ sym (next_walked l h test _ seen.0 seen.1.found _ _ down over (seen_of rank c.loop-next.plan)) ∙ c.loop-next.invariant.plan;
-      value = ap (λ o. walked_value l o (reverse (full (nodes_as_entries rank c.next_found.new.nodes)))) (c.seen_value-held.ensures ∙ ap (seen_value l (option_copied c.loop-next.held)) (found_entry seen.1))
+      plan = ap (λ s. walked test l h s (reverse (full (shown_nodes rank c.next_found.new.nodes)))) c.see.ensures
+          ∙ sym (next_walked l h test _ seen.0 seen.1.found _ _ down over (shown_plan rank c.loop-next.plan)) ∙ c.loop-next.invariant.plan;
+      value = ap (λ o. walked_value l o (reverse (full (shown_nodes rank c.next_found.new.nodes)))) (c.seen_value-held.ensures ∙ ap (seen_value l (option_copied c.loop-next.held)) (found_entry seen.1))
           ∙ sym (next_value l h test _ seen.0 seen.1.found _ _ down over (option_copied c.loop-next.held)) ∙ c.loop-next.invariant.value;
       looks = omega (arith, looks, c.in-Some.ensures.looked, c.loop-next.invariant.looks);
       room = omega (arith, ints, keys, c.length_outside-left.ensures, c.loop-next.invariant.room);

@@ -1,5 +1,5 @@
 use Rattle.std.proofs.Common.{sym, ap, subst}
-use Rattle.blaze_table.specs.RangeSets.{bare_range, unit_eq}
+use Rattle.blaze_table.specs.RangeSets.{shown_bare_range, unit_eq}
 use Rattle.blaze_table.specs.Complement.{IsComplement}
 use Rattle.blaze_table.proofs.Pairs.UnitLaws.{unit_laws}
 use Rattle.blaze_streams.proofs.GapLists.{rank_of_next, gap_more, complement_made}
@@ -9,7 +9,7 @@ pub loop-range-preserved : goal.loop-range-preserved
 loop-range-preserved g c =
     let rank = g.T.Integer.rank in
     let high = g.T.Integer.high in
-    gap_more high _ _ _ _ _ c.loop-range.invariant _ _ _ (bare_range rank c.in-Some.range) _
+    gap_more high _ _ _ _ _ c.loop-range.invariant _ _ _ (shown_bare_range rank c.in-Some.range) _
     (g.met.S.SortedDisjoint.gives _ _ _ c.in-Some.ensures.steps) (ap rank c.into_inner-start.ensures.start) (ap rank c.into_inner-start.ensures.end)
     c.in_ok-push_gap.ensures (rank_of_next rank high _ _ c.checked_add_one-next.ensures)
 

@@ -1,10 +1,10 @@
 use Rattle.std.proofs.Common.{◌≡◌, ◌++◌}
-use Rattle.blaze_table.specs.RangeSets.{bare_ranges}
+use Rattle.blaze_table.specs.RangeSets.{shown_bare_ranges}
 use Rattle.blaze_streams.specs.Gaps.{gaps, rank_or_end}
 use Rattle.blaze_streams.proofs.complements.complement.Given as goal
 
 -- the gaps so far, and those of what is left, are all
 abbrev pub invariant-loop-range : goal.invariant-loop-range
 invariant-loop-range g l =
-    bare_ranges g.T.Integer.rank l.gaps.items ++ gaps (rank_or_end g.T.Integer.rank g.T.Integer.high l.next) g.T.Integer.high (g.S.SortedDisjoint.left l.range-iterator)
+    shown_bare_ranges g.T.Integer.rank l.gaps.items ++ gaps (rank_or_end g.T.Integer.rank g.T.Integer.high l.next) g.T.Integer.high (g.S.SortedDisjoint.left l.range-iterator)
     ≡ gaps g.T.Integer.low g.T.Integer.high (g.S.SortedDisjoint.left l.fn.set)

@@ -1,11 +1,11 @@
 use Rattle.std.proofs.Common.{◌≡◌, pos, ◌+ℤ◌, drop}
 use Rattle.blaze_table.specs.Canonical.{IsCanonical}
 use Rattle.blaze_table.specs.Count.{keys_in}
-use Rattle.blaze_table.specs.Listed.{listed}
+use Rattle.blaze_table.specs.Entries.{shown_list}
 use Rattle.blaze_table.proofs.count.count_list.Given as goal
 
 -- the sum is that of the entries so far
 abbrev pub invariant-loop-start : goal.invariant-loop-start
 invariant-loop-start g l =
-    let left = listed g.T.Integer.rank (drop l.start-index l.entries) in
-    IsCanonical g.V.PartialEq.eq left × (pos (g.T.SafeLen.SafeLength.number l.sum) +ℤ keys_in left ≡ keys_in (listed g.T.Integer.rank l.entries))
+    let left = shown_list g.T.Integer.rank (drop l.start-index l.entries) in
+    IsCanonical g.V.PartialEq.eq left × (pos (g.T.SafeLen.SafeLength.number l.sum) +ℤ keys_in left ≡ keys_in (shown_list g.T.Integer.rank l.entries))

@@ -43,5 +43,5 @@ returns-clause-cut g c =
       first = first_key rank g.V.Clone.is_clone c.in-Some.held es looked;
       cut = key_cut eq g.met.V.Eq.laws _ low high es c.in_hand.ensures canonical (first_has eq g.met.V.Eq.laws low high es c.in_hand.ensures canonical rank g.V.Clone.is_clone c.in-Some.held looked) _ _ _ _ c.requires.table
           (omega (arith, ints, c.minus-rest.ensures.difference, c.one.ensures))
-          (subst (λ (s : CountedEntries g.row.V.Denot). IsKeyTaken eq (rank c.in-Some.held.0) (Some c.in_ok-value-in-Some.value) s.entries c.cut_front.new.entries.entries) c.first_held.ensures.looked c.in_ok-value-in-Some.ensures.cut);
+          (subst (λ (s : CountedEntries g.row.V.Denot). IsKeyTaken eq (rank c.in-Some.held.start) (Some c.in_ok-value-in-Some.value) s.entries c.cut_front.new.entries.entries) c.first_held.ensures.looked c.in_ok-value-in-Some.ensures.cut);
     }

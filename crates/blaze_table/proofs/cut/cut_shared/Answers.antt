@@ -1,5 +1,5 @@
 use Rattle.std.proofs.Common.{subst, ap}
-use Rattle.blaze_entries.specs.Found.{ranks_of}
+use Rattle.blaze_entries.specs.Found.{shown_ends}
 use Rattle.blaze_table.specs.Splice.{IsRangeCutOf}
 use Rattle.blaze_table.proofs.Cuts.CutEdits.{has_key, on_err, key_place, rest_over, over_among, value_held}
 use Rattle.blaze_table.proofs.cut.cut_shared.Goals as goal
@@ -28,7 +28,7 @@ returns-in_err-take_out-clause-refused g c =
     let es = c.args.entries.now.entries in
     let h = has_key g.V.PartialEq.eq g.met.V.Eq.laws k g.T.Integer.low g.T.Integer.high es c.in_hand.ensures c.requires.canonical _ c.requires.held in
     on_err c.from_residual-in_err-take_out.result (over_among g.V.PartialEq.eq g.met.V.Eq.laws k g.T.Integer.low g.T.Integer.high es c.in_hand.ensures c.requires.canonical h.of h.last (rank c.args.start, rank c.args.end) h.holds.0
-    (rest_over (ranks_of rank) c.plan_of.result.rest k (rank c.args.start, rank c.args.end) c.plan_of.ensures.rest c.in_err-take_out.ensures.refused))
+    (rest_over (shown_ends rank) c.plan_of.result.rest k (rank c.args.start, rank c.args.end) c.plan_of.ensures.rest c.in_err-take_out.ensures.refused))
 
 pub returns-clause-cut : goal.returns-clause-cut
 returns-clause-cut g c =

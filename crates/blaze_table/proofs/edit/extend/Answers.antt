@@ -1,7 +1,7 @@
 use Rattle.std.proofs.Common.{None, ap}
 use Rattle.std.specs.Option.{option_map}
 use Rattle.blaze_entries.specs.Counted.{CountedEntries}
-use Rattle.blaze_entries.specs.Found.{ranks_of}
+use Rattle.blaze_entries.specs.Found.{shown_ends}
 use Rattle.blaze_entries.specs.Starts.{start_at}
 use Rattle.blaze_table.proofs.Cuts.Splits.{some_of}
 use Rattle.blaze_table.proofs.Paints.Composed.{extended}
@@ -13,7 +13,7 @@ use Rattle.blaze_table.proofs.edit.extend.Goals as goal
 pub put_rest-requires-clause-room : goal.put_rest-requires-clause-room
 put_rest-requires-clause-room g c =
     let rank = g.T.Integer.rank in
-    has_room g.V.PartialEq.eq g.met.V.Eq.laws (rank c.args.plan.end) c.args.entries.now.entries (option_map (ranks_of rank) c.args.plan.rest) c.requires.rest
+    has_room g.V.PartialEq.eq g.met.V.Eq.laws (rank c.args.plan.end) c.args.entries.now.entries (option_map (shown_ends rank) c.args.plan.rest) c.requires.rest
 
 pub put_rest-requires-clause-above : goal.put_rest-requires-clause-above
 put_rest-requires-clause-above g c =
@@ -30,7 +30,7 @@ returns-clause-extended g c =
     let e = some_of (start_at first es) c.requires.there in
     extended eq g.T.Integer.low g.T.Integer.high es c.in_hand.ensures first end e.0 c.requires.order e.1
     c.put_rest.new.entries.entries c.clear_above.new.entries.entries c.set_end.new.self.entries
-    (rest_over eq g.met.V.Eq.laws first end c.requires.order es c.put_rest.new.entries.entries (option_map (ranks_of rank) c.args.plan.rest) c.requires.rest c.requires.above c.in_ok-put_rest.ensures.put)
+    (rest_over eq g.met.V.Eq.laws first end c.requires.order es c.put_rest.new.entries.entries (option_map (shown_ends rank) c.args.plan.rest) c.requires.rest c.requires.above c.in_ok-put_rest.ensures.put)
     c.clear_above.ensures.entries (ap (λ (s : CountedEntries g.row.V.Denot). s.entries) c.set_end.ensures)
 
 pub returns-clause-worked : goal.returns-clause-worked

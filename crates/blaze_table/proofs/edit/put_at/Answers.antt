@@ -1,7 +1,7 @@
 use Rattle.std.proofs.Common.{subst, sym}
 use Rattle.std.specs.Option.{option_map}
 use Rattle.blaze_table.specs.Edited.{IsLeft}
-use Rattle.blaze_table.specs.Planned.{ends_of}
+use Rattle.blaze_table.specs.Planned.{shown_found_ends}
 use Rattle.blaze_table.proofs.Paints.Composed.{under_canonical, put_at}
 use Rattle.blaze_table.proofs.edit.put_at.Goals as goal
 
@@ -12,7 +12,7 @@ trim-requires-clause-canonical g c =
 pub trim-requires-clause-left : goal.trim-requires-clause-left
 trim-requires-clause-left g c =
     let rank = g.T.Integer.rank in
-    subst (λ es. IsLeft (rank c.args.lo) es (option_map (ends_of rank) c.args.plan.left)) (sym c.in_ok-put.ensures.ok.below) c.requires.place.left
+    subst (λ es. IsLeft (rank c.args.lo) es (option_map (shown_found_ends rank) c.args.plan.left)) (sym c.in_ok-put.ensures.ok.below) c.requires.place.left
 
 pub returns-clause-put : goal.returns-clause-put
 returns-clause-put g c =

@@ -1,8 +1,8 @@
 use Rattle.std.proofs.Common.{subst, sym, ◌∙◌}
 use Rattle.std.specs.Option.{option_map}
-use Rattle.blaze_entries.specs.Found.{ranks_of}
+use Rattle.blaze_entries.specs.Found.{shown_ends}
 use Rattle.blaze_table.specs.Edited.{IsLeft}
-use Rattle.blaze_table.specs.Planned.{ends_of}
+use Rattle.blaze_table.specs.Planned.{shown_found_ends}
 use Rattle.blaze_table.proofs.Paints.Composed.{under_canonical, rest_below, taken_out, taken_within}
 use Rattle.blaze_table.proofs.Paints.Placing.{has_room, above_there, rest_started}
 use Rattle.blaze_table.proofs.Paints.Spanned.{spanned}
@@ -11,7 +11,7 @@ use Rattle.blaze_table.proofs.edit.take_out.Goals as goal
 pub put_rest-requires-clause-room : goal.put_rest-requires-clause-room
 put_rest-requires-clause-room g c =
     let rank = g.T.Integer.rank in
-    has_room g.V.PartialEq.eq g.met.V.Eq.laws (rank c.args.plan.end) c.args.entries.now.entries (option_map (ranks_of rank) c.args.plan.rest) c.requires.place.rest
+    has_room g.V.PartialEq.eq g.met.V.Eq.laws (rank c.args.plan.end) c.args.entries.now.entries (option_map (shown_ends rank) c.args.plan.rest) c.requires.place.rest
 
 pub put_rest-requires-clause-above : goal.put_rest-requires-clause-above
 put_rest-requires-clause-above g c =
@@ -35,7 +35,7 @@ trim-requires-clause-left g c =
     let lo = rank c.args.lo in
     let es = c.args.entries.now.entries in
     let new = c.put_rest.new.entries.entries in
-    subst (λ xs. IsLeft lo xs (option_map (ends_of rank) c.args.plan.left))
+    subst (λ xs. IsLeft lo xs (option_map (shown_found_ends rank) c.args.plan.left))
     (sym (rest_below eq lo (rank c.args.plan.end) es new (rest_started eq g.met.V.Eq.laws rank lo es c.args.plan c.args.above c.requires.canonical c.requires.place new c.in_ok-put_rest.ensures.put))) c.requires.place.left
 
 pub returns-else-not-spans-clause-cut : goal.returns-else-not-spans-clause-cut
@@ -49,7 +49,7 @@ returns-else-not-spans-clause-cut g c =
     let put = c.in_ok-put_rest.ensures.put in
     taken_within eq g.T.Integer.low g.T.Integer.high es c.in_hand.ensures c.requires.canonical lo end new c.trim.new.entries.entries
     (rest_started eq g.met.V.Eq.laws rank lo es c.args.plan c.args.above c.requires.canonical c.requires.place new put) c.trim.ensures.entries
-    (spanned eq g.T.Integer.low g.T.Integer.high es c.in_hand.ensures c.requires.canonical lo end c.requires.place.order (option_map (ranks_of rank) c.args.plan.rest) (option_map (ends_of rank) c.args.plan.left) c.args.above new
+    (spanned eq g.T.Integer.low g.T.Integer.high es c.in_hand.ensures c.requires.canonical lo end c.requires.place.order (option_map (shown_ends rank) c.args.plan.rest) (option_map (shown_found_ends rank) c.args.plan.left) c.args.above new
     c.requires.place.rest c.requires.place.left put (sym c.spans.ensures ∙ c.if-not-spans.false))
 
 pub returns-then-not-spans-clause-cut : goal.returns-then-not-spans-clause-cut

@@ -1,7 +1,7 @@
 use Rattle.std.proofs.Common.{sym, subst}
 use Rattle.std.proofs.lemmas.List.{drop_all}
 use Rattle.blaze_table.specs.Canonical.{AreKeys}
-use Rattle.blaze_table.specs.Listed.{listed}
+use Rattle.blaze_table.specs.Entries.{shown_list}
 use Rattle.blaze_table.proofs.Pairs.Indexed.{from_index}
 use Rattle.blaze_table.proofs.entry_keys.keys_in_hand.Goals as goal
 
@@ -13,7 +13,7 @@ loop-start-preserved g c = λ h.
     let rank = g.T.Integer.rank in
     let all = c.args.entries.now in
     let here = from_index all c.loop-start.start-index c.loop-start-item.result c.loop-start-test.true c.loop-start-item.is in
-    c.loop-start.invariant (subst (λ es. AreKeys g.T.Integer.low g.T.Integer.high (listed rank es)) (sym here) (c.in_hand.ensures.from, c.in_hand-in-loop-start.ensures.to, h))
+    c.loop-start.invariant (subst (λ es. AreKeys g.T.Integer.low g.T.Integer.high (shown_list rank es)) (sym here) (c.in_hand.ensures.from, c.in_hand-in-loop-start.ensures.to, h))
 
 pub returns : goal.returns
-returns g c = c.loop-start.invariant (subst (λ es. AreKeys g.T.Integer.low g.T.Integer.high (listed g.T.Integer.rank es)) (sym (drop_all c.loop-start.start-index c.args.entries.now c.loop-start-test.false)) tt)
+returns g c = c.loop-start.invariant (subst (λ es. AreKeys g.T.Integer.low g.T.Integer.high (shown_list g.T.Integer.rank es)) (sym (drop_all c.loop-start.start-index c.args.entries.now c.loop-start-test.false)) tt)

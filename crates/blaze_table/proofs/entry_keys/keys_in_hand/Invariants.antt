@@ -1,10 +1,10 @@
 use Rattle.std.proofs.Common.{drop}
 use Rattle.blaze_table.specs.Canonical.{AreKeys}
-use Rattle.blaze_table.specs.Listed.{listed}
+use Rattle.blaze_table.specs.Entries.{shown_list}
 use Rattle.blaze_table.proofs.entry_keys.keys_in_hand.Given as goal
 
 -- the entries before are keys
 abbrev pub invariant-loop-start : goal.invariant-loop-start
 invariant-loop-start g l =
     let rank = g.T.Integer.rank in
-    AreKeys g.T.Integer.low g.T.Integer.high (listed rank (drop l.start-index l.entries)) → AreKeys g.T.Integer.low g.T.Integer.high (listed rank l.entries)
+    AreKeys g.T.Integer.low g.T.Integer.high (shown_list rank (drop l.start-index l.entries)) → AreKeys g.T.Integer.low g.T.Integer.high (shown_list rank l.entries)

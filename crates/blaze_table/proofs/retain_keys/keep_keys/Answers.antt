@@ -6,7 +6,7 @@ use Rattle.blaze_int.proofs.Comparisons.{lt_holds, lt_fails}
 use Rattle.blaze_table.specs.Keeping.{KeepsMore}
 use Rattle.blaze_table.specs.Pairs.{pairs_from}
 use Rattle.blaze_table.specs.Retain.{AnswersAtPair, TakesPair}
-use Rattle.blaze_table.specs.Listed.{listed}
+use Rattle.blaze_table.specs.Entries.{shown_list}
 use Rattle.blaze_table.proofs.Pairs.AtPairs.{all_at}
 use Rattle.blaze_table.proofs.Pairs.Keeping.{more_next}
 use Rattle.blaze_table.proofs.retain_keys.keep_keys.Goals as goal
@@ -50,7 +50,7 @@ returns-clause-kept g c =
     let long : (hi +ℤ pos 1) -ℤ lo ≡ hi -ℤ lo +ℤ pos 1 = omega (arith, ints) in
     let all = more_next (AnswersAtPair g.F.Fn) c.args.f.now rank g.V.PartialEq.eq g.T.Integer.low g.T.Integer.high g.T.Integer.of_rank lo (rank c.loop-end.key) (hi +ℤ pos 1) c.args.value.now _ _ _
     i.from (omega (arith, ints, end)) i.kept c.in_ok-left-2.ensures.kept in
-    subst (λ n. KeepsMore (AnswersAtPair g.F.Fn) c.args.f.now rank g.V.PartialEq.eq g.T.Integer.low g.T.Integer.high (pairs_from g.T.Integer.of_rank lo n c.args.value.now) lo (hi +ℤ pos 1) (listed rank c.args.out.now.items) (listed rank c.keep_key-2.new.out.items)) (ap nat_of long) all
+    subst (λ n. KeepsMore (AnswersAtPair g.F.Fn) c.args.f.now rank g.V.PartialEq.eq g.T.Integer.low g.T.Integer.high (pairs_from g.T.Integer.of_rank lo n c.args.value.now) lo (hi +ℤ pos 1) (shown_list rank c.args.out.now.items) (shown_list rank c.keep_key-2.new.out.items)) (ap nat_of long) all
 
 pub returns-clause-counted : goal.returns-clause-counted
 returns-clause-counted g c =

@@ -4,7 +4,7 @@ use Rattle.blaze_table.specs.Count.{keys_in}
 use Rattle.blaze_table.specs.Keeping.{KeepsMore}
 use Rattle.blaze_table.specs.Pairs.{pairs_from}
 use Rattle.blaze_table.specs.Retain.{AnswersAtPair}
-use Rattle.blaze_table.specs.Listed.{listed}
+use Rattle.blaze_table.specs.Entries.{shown_list}
 use Rattle.blaze_table.proofs.retain_keys.keep_keys.Given as goal
 
 -- the keys before `key` were asked at
@@ -13,8 +13,8 @@ invariant-loop-end g l =
     let rank = g.T.Integer.rank in
     let lo = rank l.fn.start in
     let number = g.T.SafeLen.SafeLength.number in
-    let old = listed rank l.initial.out.items in
-    let new = listed rank l.out.items in
+    let old = shown_list rank l.initial.out.items in
+    let new = shown_list rank l.out.items in
     record {
       from : lo ≤ℤ rank l.key;
       to : rank l.key ≤ℤ rank l.end;

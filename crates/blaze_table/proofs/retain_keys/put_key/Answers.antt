@@ -1,6 +1,5 @@
 use Rattle.std.proofs.Common.{ap, ◌∙◌, ◌∷◌, []}
-use Rattle.blaze_table.specs.Entries.{entry}
-use Rattle.blaze_table.specs.Listed.{listed}
+use Rattle.blaze_table.specs.Entries.{entry, shown_list}
 use Rattle.blaze_table.specs.Splice.{glue}
 use Rattle.blaze_table.proofs.retain_keys.put_key.Goals as goal
 
@@ -11,7 +10,7 @@ returns-in_ok-push_entry g c =
     record {
       value = c.in_ok-value.value;
       like = c.requires _ _ c.in_ok-value.ensures.cases;
-      glued = c.in_ok-push_entry.ensures.ok ∙ ap (λ items. glue g.V.PartialEq.eq (listed rank items) (entry (rank c.args.key) (rank c.args.key) c.in_ok-value.value ∷ [])) kept.0;
+      glued = c.in_ok-push_entry.ensures.ok ∙ ap (λ items. glue g.V.PartialEq.eq (shown_list rank items) (entry (rank c.args.key) (rank c.args.key) c.in_ok-value.value ∷ [])) kept.0;
     }
 
 pub returns-else-not-lengthen_entry : goal.returns-else-not-lengthen_entry

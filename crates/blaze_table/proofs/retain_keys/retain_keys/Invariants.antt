@@ -1,5 +1,5 @@
 use Rattle.std.proofs.Common.{pos}
-use Rattle.blaze_table.specs.Listed.{listed}
+use Rattle.blaze_table.specs.Entries.{shown_list}
 use Rattle.blaze_table.specs.Retain.{AnswersAtPair}
 use Rattle.blaze_table.proofs.Pairs.Keeping.{IsReached}
 use Rattle.blaze_table.proofs.retain_keys.retain_keys.Given as goal
@@ -9,4 +9,4 @@ invariant-loop-start g l =
     let rank = g.T.Integer.rank in
     (goal.iterator-loop-start g).can_next l.start-iterator
     × (goal.iterator-loop-start g).is_finite l.start-iterator
-    × IsReached (AnswersAtPair g.F.Fn) l.f rank g.V.PartialEq.eq g.T.Integer.low g.T.Integer.high g.T.Integer.of_rank l.entries.entries l.start-iterator (pos (g.T.SafeLen.SafeLength.number l.left)) (listed rank l.out.items)
+    × IsReached (AnswersAtPair g.F.Fn) l.f rank g.V.PartialEq.eq g.T.Integer.low g.T.Integer.high g.T.Integer.of_rank l.entries.entries l.start-iterator (pos (g.T.SafeLen.SafeLength.number l.left)) (shown_list rank l.out.items)

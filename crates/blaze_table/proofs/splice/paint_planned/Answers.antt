@@ -1,6 +1,6 @@
 use Rattle.std.proofs.Common.{arith, sym, ◌∙◌}
 use Rattle.std.proofs.lemmas.Int.{ints}
-use Rattle.blaze_entries.specs.Scanned.{seen_of}
+use Rattle.blaze_entries.specs.Scanned.{shown_plan}
 use Rattle.blaze_table.specs.Entries.{entry}
 use Rattle.blaze_table.proofs.Canonical.Counted.{keys_painted, painted_table}
 use Rattle.blaze_table.proofs.Neighbours.SeenInside.{inside_seen, inside_short, not_reached}
@@ -12,7 +12,7 @@ pub returns-then-is_inside-clause-painted : goal.returns-then-is_inside-clause-p
 returns-then-is_inside-clause-painted g c =
     let rank = g.T.Integer.rank in
     let eq = g.V.PartialEq.eq in
-    let seen = inside_seen eq c.args.value (rank c.args.lo) (rank c.args.hi) c.requires.order g.T.Integer.low g.T.Integer.high c.args.entries.now.entries c.in_hand.ensures c.requires.table.canonical (seen_of rank c.args.walk.plan) c.requires.walk.plan in
+    let seen = inside_seen eq c.args.value (rank c.args.lo) (rank c.args.hi) c.requires.order g.T.Integer.low g.T.Integer.high c.args.entries.now.entries c.in_hand.ensures c.requires.table.canonical (shown_plan rank c.args.walk.plan) c.requires.walk.plan in
     let inside = seen.0 (sym c.is_inside.ensures ∙ c.if-is_inside.true) in
     record {
       table = c.requires.table;
@@ -23,13 +23,13 @@ returns-then-is_inside-clause-painted g c =
 pub returns-in_err-apply-clause-inside : goal.returns-in_err-apply-clause-inside
 returns-in_err-apply-clause-inside g c = λ i.
     let rank = g.T.Integer.rank in
-    absurd (not_reached g.V.PartialEq.eq c.args.value (rank c.args.lo) (rank c.args.hi) c.requires.order g.T.Integer.low g.T.Integer.high c.args.entries.now.entries c.in_hand.ensures c.requires.table.canonical (seen_of rank c.args.walk.plan) c.requires.walk.plan
+    absurd (not_reached g.V.PartialEq.eq c.args.value (rank c.args.lo) (rank c.args.hi) c.requires.order g.T.Integer.low g.T.Integer.high c.args.entries.now.entries c.in_hand.ensures c.requires.table.canonical (shown_plan rank c.args.walk.plan) c.requires.walk.plan
     (sym c.is_inside.ensures ∙ c.if-is_inside.false) i)
 
 pub returns-clause-inside : goal.returns-clause-inside
 returns-clause-inside g c = λ i.
     let rank = g.T.Integer.rank in
-    absurd (not_reached g.V.PartialEq.eq c.args.value (rank c.args.lo) (rank c.args.hi) c.requires.order g.T.Integer.low g.T.Integer.high c.args.entries.now.entries c.in_hand.ensures c.requires.table.canonical (seen_of rank c.args.walk.plan) c.requires.walk.plan
+    absurd (not_reached g.V.PartialEq.eq c.args.value (rank c.args.lo) (rank c.args.hi) c.requires.order g.T.Integer.low g.T.Integer.high c.args.entries.now.entries c.in_hand.ensures c.requires.table.canonical (shown_plan rank c.args.walk.plan) c.requires.walk.plan
     (sym c.is_inside.ensures ∙ c.if-is_inside.false) i)
 
 pub plus-requires : goal.plus-requires

@@ -2,7 +2,7 @@ use Rattle.std.proofs.Common.{List, Some, refl, sym, subst, ap}
 use Rattle.std.specs.Option.{option_map}
 use Rattle.std.specs.Prelude.{IfSome, IsSome}
 use Rattle.blaze_entries.specs.Counted.{CountedEntries}
-use Rattle.blaze_entries.specs.Found.{found_of}
+use Rattle.blaze_entries.specs.Found.{shown_found}
 use Rattle.blaze_entries.specs.Scanned.{IsAboveCloned}
 use Rattle.blaze_entries.specs.Starts.{start_at}
 use Rattle.blaze_table.specs.Entries.{Entry}
@@ -39,7 +39,7 @@ returns-clause-found g c =
     let same = ap (λ (s : CountedEntries g.row.V.Denot). s.entries) c.plan.ensures.looked in
     found_by_look g.V.PartialEq.eq _ _ _ g.T.Integer.low g.T.Integer.high c.requires.order _ c.args.entries.now.entries c.in_hand.ensures c.requires.table _ c.plan.ensures.plan
     _ c.plan.ensures.len g.V.Clone.is_clone c.requires.clones c.in_ok-above.above rank left refl
-    (subst (λ (es : List (Entry g.row.V.Denot)). IfSome left (λ f. IsAboveCloned g.V.Clone.is_clone (rank c.args.hi) (Some (found_of rank f)) (option_map (λ (e : Entry g.row.V.Denot). e.value) (start_at (rank f.start) es)) c.in_ok-above.above)) same c.in_ok-above.ensures.above)
+    (subst (λ (es : List (Entry g.row.V.Denot)). IfSome left (λ f. IsAboveCloned g.V.Clone.is_clone (rank c.args.hi) (Some (shown_found rank f)) (option_map (λ (e : Entry g.row.V.Denot). e.value) (start_at (rank f.start) es)) c.in_ok-above.above)) same c.in_ok-above.ensures.above)
 
 pub returns-clause-looked : goal.returns-clause-looked
 returns-clause-looked g c =

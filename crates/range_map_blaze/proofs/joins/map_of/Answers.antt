@@ -3,8 +3,7 @@ use Rattle.std.proofs.lemmas.List.{map-append}
 use Rattle.std.specs.Range.{range_inclusive_start}
 use Rattle.blaze_table.specs.Canonical.{IsRangeMap}
 use Rattle.blaze_table.specs.Counted.{uncounted}
-use Rattle.blaze_table.specs.Entries.{Entry, entry, shown_entry}
-use Rattle.blaze_table.specs.Listed.{listed}
+use Rattle.blaze_table.specs.Entries.{Entry, entry, shown_entry, shown_list}
 use Rattle.range_map_blaze.proofs.joins.map_of.Goals as goal
 
 pub loop-item-init : goal.loop-item-init
@@ -13,7 +12,7 @@ loop-item-init g c = rw (c.new-entries.ensures.items, c.into_iter-item-iterator.
 pub loop-item-preserved : goal.loop-item-preserved
 loop-item-preserved g c =
     let rank = g.T.Integer.rank in
-    let old = listed rank c.loop-item.entries.items in
+    let old = shown_list rank c.loop-item.entries.items in
     let start = c.into_inner-start.result.0 in
     let end = c.into_inner-start.result.1 in
     let value = c.in-Some.item.1.0 in
@@ -21,7 +20,7 @@ loop-item-preserved g c =
     let lo = ap rank c.into_inner-start.ensures.start in
     let hi = ap rank c.into_inner-start.ensures.end in
     let left = c.in-Some.ensures.steps.0 in
-    ap (λ items. listed rank items ++ c.next.new.self) c.in_ok-push.ensures.items
+    ap (λ items. shown_list rank items ++ c.next.new.self) c.in_ok-push.ensures.items
     ∙ ap (λ es. es ++ c.next.new.self) (map-append (shown_entry rank (λ v. v)) c.loop-item.entries.items _)
     ∙ append_assoc old (e ∷ []) c.next.new.self
     ∙ ap (λ l. old ++ entry l (rank end) value ∷ c.next.new.self) lo
@@ -30,10 +29,10 @@ loop-item-preserved g c =
 
 pub from_canonical-requires : goal.from_canonical-requires
 from_canonical-requires g c =
-    let all = sym (append-nil _) ∙ ap (λ es. listed g.T.Integer.rank c.loop-item.entries.items ++ es) (sym c.in-None.ensures.steps.0.0) ∙ c.loop-item.invariant in
+    let all = sym (append-nil _) ∙ ap (λ es. shown_list g.T.Integer.rank c.loop-item.entries.items ++ es) (sym c.in-None.ensures.steps.0.0) ∙ c.loop-item.invariant in
     subst (IsRangeMap g.W.PartialEq.eq g.T.Integer.low g.T.Integer.high) (sym all) c.in_hand.ensures
 
 pub returns : goal.returns
 returns g c =
-    let all = sym (append-nil _) ∙ ap (λ es. listed g.T.Integer.rank c.loop-item.entries.items ++ es) (sym c.in-None.ensures.steps.0.0) ∙ c.loop-item.invariant in
+    let all = sym (append-nil _) ∙ ap (λ es. shown_list g.T.Integer.rank c.loop-item.entries.items ++ es) (sym c.in-None.ensures.steps.0.0) ∙ c.loop-item.invariant in
     c.in_ok-table.ensures ∙ ap uncounted all

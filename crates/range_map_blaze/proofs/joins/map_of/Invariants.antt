@@ -1,7 +1,7 @@
 use Rattle.std.proofs.Common.{◌≡◌, ◌++◌}
-use Rattle.blaze_table.specs.Listed.{listed}
+use Rattle.blaze_table.specs.Entries.{shown_list}
 use Rattle.range_map_blaze.proofs.joins.map_of.Given as goal
 
 -- the entries are those taken from the stream, and the rest is left
 abbrev pub invariant-loop-item : goal.invariant-loop-item
-invariant-loop-item g l = listed g.T.Integer.rank l.entries.items ++ l.item-iterator ≡ l.fn.stream
+invariant-loop-item g l = shown_list g.T.Integer.rank l.entries.items ++ l.item-iterator ≡ l.fn.stream

@@ -2,7 +2,7 @@ use Rattle.std.proofs.Common.{◌∙◌, length, map, ap, arith}
 use Rattle.std.specs.Option.{is_some}
 use Rattle.std.specs.List.{list_any}
 use Rattle.std.proofs.lemmas.List.{length-map}
-use Rattle.blaze_streams.specs.Segments.{entry_of}
+use Rattle.blaze_streams.specs.Segments.{shown_segment}
 use Rattle.range_map_multi.specs.ManyJoins.{shown_row}
 use Rattle.range_map_multi.specs.Parts.{picked}
 use Rattle.range_map_multi.proofs.AnsweredRows.{asked_none, asked_all, asked_count, asked_some, asked_less, asked_takes, asked_more}
@@ -18,17 +18,17 @@ loop-out-init g c =
 
 pub loop-out-smaller : goal.loop-out-smaller
 loop-out-smaller g c =
-    asked_less _ _ _ _ _ _ _ _ _ _ c.loop-out.cursors c.next_segment.new.lists c.loop-out.f _ (entry_of g.T.Integer.rank c.in-Some.segment) c.loop-out.invariant (rw c.in-Some.is at c.in_ok-segment.ensures.some)
+    asked_less _ _ _ _ _ _ _ _ _ _ c.loop-out.cursors c.next_segment.new.lists c.loop-out.f _ (shown_segment g.T.Integer.rank c.in-Some.segment) c.loop-out.invariant (rw c.in-Some.is at c.in_ok-segment.ensures.some)
 
 pub fill_row-requires : goal.fill_row-requires
 fill_row-requires g c =
-    let count = asked_count _ _ _ _ _ _ _ _ _ _ c.loop-out.cursors c.next_segment.new.lists c.loop-out.f _ (entry_of g.T.Integer.rank c.in-Some.segment) c.loop-out.invariant (rw c.in-Some.is at c.in_ok-segment.ensures.some) in
+    let count = asked_count _ _ _ _ _ _ _ _ _ _ c.loop-out.cursors c.next_segment.new.lists c.loop-out.f _ (shown_segment g.T.Integer.rank c.in-Some.segment) c.loop-out.invariant (rw c.in-Some.is at c.in_ok-segment.ensures.some) in
     omega (arith, count, length-map c.args.lists.now (λ v. map g.S.Shows.shown v.items), ap length c.deref.ensures.value)
 
 pub f-answer-requires : goal.f-answer-requires
 f-answer-requires g c =
     let shown = g.S.Shows.shown in
-    let segment = entry_of g.T.Integer.rank c.in-Some.segment in
+    let segment = shown_segment g.T.Integer.rank c.in-Some.segment in
     let next = rw c.in-Some.is at c.in_ok-segment.ensures.some in
     let some = asked_some _ _ _ _ _ _ _ _ _ _ c.loop-out.cursors c.next_segment.new.lists c.loop-out.f _ segment c.loop-out.invariant next in
     asked_takes _ _ _ _ _ _ _ _ _ _ c.loop-out.cursors c.next_segment.new.lists c.loop-out.f _ segment c.loop-out.invariant next c.requires.callable some _
@@ -37,7 +37,7 @@ f-answer-requires g c =
 pub loop-out-preserved : goal.loop-out-preserved
 loop-out-preserved g c =
     let shown = g.S.Shows.shown in
-    let segment = entry_of g.T.Integer.rank c.in-Some.segment in
+    let segment = shown_segment g.T.Integer.rank c.in-Some.segment in
     let next = rw c.in-Some.is at c.in_ok-segment.ensures.some in
     let some = asked_some _ _ _ _ _ _ _ _ _ _ c.loop-out.cursors c.next_segment.new.lists c.loop-out.f _ segment c.loop-out.invariant next in
     asked_more _ _ _ _ _ _ _ _ _ _ c.loop-out.cursors c.next_segment.new.lists c.loop-out.f _ segment c.loop-out.invariant next g.met.W.Eq.laws _ _ c.f-answer.result some

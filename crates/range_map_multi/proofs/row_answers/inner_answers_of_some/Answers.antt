@@ -2,7 +2,7 @@ use Rattle.std.proofs.Common.{◌∙◌, length, map, ap, arith}
 use Rattle.std.specs.Option.{is_some}
 use Rattle.std.specs.List.{list_all}
 use Rattle.std.proofs.lemmas.List.{length-map}
-use Rattle.blaze_streams.specs.Segments.{entry_of}
+use Rattle.blaze_streams.specs.Segments.{shown_segment}
 use Rattle.range_map_multi.specs.ManyJoins.{shown_full_row}
 use Rattle.range_map_multi.specs.Parts.{picked}
 use Rattle.range_map_multi.proofs.AnsweredRows.{asked_none, asked_all, asked_count, asked_less, asked_takes, asked_more, asked_not}
@@ -19,21 +19,21 @@ loop-out-init g c =
 
 pub loop-out-smaller : goal.loop-out-smaller
 loop-out-smaller g c =
-    asked_less _ _ _ _ _ _ _ _ _ _ c.loop-out.cursors c.next_segment.new.lists c.loop-out.f _ (entry_of g.T.Integer.rank c.in-Some.segment) c.loop-out.invariant (rw c.in-Some.is at c.in_ok-segment.ensures.some)
+    asked_less _ _ _ _ _ _ _ _ _ _ c.loop-out.cursors c.next_segment.new.lists c.loop-out.f _ (shown_segment g.T.Integer.rank c.in-Some.segment) c.loop-out.invariant (rw c.in-Some.is at c.in_ok-segment.ensures.some)
 
 pub fill_row-requires : goal.fill_row-requires
 fill_row-requires g c =
-    let count = asked_count _ _ _ _ _ _ _ _ _ _ c.loop-out.cursors c.next_segment.new.lists c.loop-out.f _ (entry_of g.T.Integer.rank c.in-Some.segment) c.loop-out.invariant (rw c.in-Some.is at c.in_ok-segment.ensures.some) in
+    let count = asked_count _ _ _ _ _ _ _ _ _ _ c.loop-out.cursors c.next_segment.new.lists c.loop-out.f _ (shown_segment g.T.Integer.rank c.in-Some.segment) c.loop-out.invariant (rw c.in-Some.is at c.in_ok-segment.ensures.some) in
     omega (arith, count, length-map c.args.lists.now (λ v. map g.S.Shows.shown v.items), ap length c.deref.ensures.value)
 
 pub loop-out-smaller-then-not-branch : goal.loop-out-smaller-then-not-branch
 loop-out-smaller-then-not-branch g c =
-    asked_less _ _ _ _ _ _ _ _ _ _ c.loop-out.cursors c.next_segment.new.lists c.loop-out.f _ (entry_of g.T.Integer.rank c.in-Some.segment) c.loop-out.invariant (rw c.in-Some.is at c.in_ok-segment.ensures.some)
+    asked_less _ _ _ _ _ _ _ _ _ _ c.loop-out.cursors c.next_segment.new.lists c.loop-out.f _ (shown_segment g.T.Integer.rank c.in-Some.segment) c.loop-out.invariant (rw c.in-Some.is at c.in_ok-segment.ensures.some)
 
 pub loop-out-preserved-then-not-branch : goal.loop-out-preserved-then-not-branch
 loop-out-preserved-then-not-branch g c =
     let shown = g.S.Shows.shown in
-    let segment = entry_of g.T.Integer.rank c.in-Some.segment in
+    let segment = shown_segment g.T.Integer.rank c.in-Some.segment in
     let next = rw c.in-Some.is at c.in_ok-segment.ensures.some in
     let found = c.in_ok-fill_row.ensures ∙ ap (picked _) c.deref.ensures.value in
     let not_full = rw c.if-not-branch.true at c.in_ok-fill_full_row.ensures in
@@ -42,7 +42,7 @@ loop-out-preserved-then-not-branch g c =
 pub f-answer-requires : goal.f-answer-requires
 f-answer-requires g c =
     let shown = g.S.Shows.shown in
-    let segment = entry_of g.T.Integer.rank c.in-Some.segment in
+    let segment = shown_segment g.T.Integer.rank c.in-Some.segment in
     let next = rw c.in-Some.is at c.in_ok-segment.ensures.some in
     let found = c.in_ok-fill_row.ensures ∙ ap (picked _) c.deref.ensures.value in
     let full = rw c.if-not-branch.false at c.in_ok-fill_full_row.ensures in
@@ -54,7 +54,7 @@ f-answer-requires g c =
 pub loop-out-preserved : goal.loop-out-preserved
 loop-out-preserved g c =
     let shown = g.S.Shows.shown in
-    let segment = entry_of g.T.Integer.rank c.in-Some.segment in
+    let segment = shown_segment g.T.Integer.rank c.in-Some.segment in
     let next = rw c.in-Some.is at c.in_ok-segment.ensures.some in
     let found = c.in_ok-fill_row.ensures ∙ ap (picked _) c.deref.ensures.value in
     let full = rw c.if-not-branch.false at c.in_ok-fill_full_row.ensures in

@@ -2,7 +2,7 @@ use Rattle.std.proofs.Common.{◌≡◌, ◌∙◌, subst}
 use Rattle.std.specs.Option.{option_map}
 use Rattle.blaze_entries.specs.Counted.{CountedEntries}
 use Rattle.blaze_entries.specs.Entries.{shown_entry}
-use Rattle.blaze_entries.specs.Nodes.{nodes_as_entries, full}
+use Rattle.blaze_entries.specs.Nodes.{shown_nodes, full}
 use Rattle.blaze_entries.specs.Starts.{last_below}
 use Rattle.blaze_entries.proofs.Lent.{full_lent, found_below}
 use Rattle.blaze_entries.proofs.entries.Entries.below.Goals as goal
@@ -10,12 +10,12 @@ use Rattle.blaze_entries.proofs.entries.Entries.below.Goals as goal
 pub shown-requires : goal.shown-requires
 shown-requires g c =
     let k = g.T.Integer.rank c.args.key in
-    let ps = nodes_as_entries g.T.Integer.rank c.self.inside.tree.entries in
+    let ps = shown_nodes g.T.Integer.rank c.self.inside.tree.entries in
     full_lent g.T.Integer.rank c.node_below.result (last_below k (full ps)) (c.node_below.ensures ∙ found_below g.T.Integer.low g.T.Integer.high k ps c.self.invariant)
 
 pub returns : goal.returns
 returns g c =
     let k = g.T.Integer.rank c.args.key in
-    let ps = nodes_as_entries g.T.Integer.rank c.self.inside.tree.entries in
+    let ps = shown_nodes g.T.Integer.rank c.self.inside.tree.entries in
     subst (λ (s : CountedEntries g.row.V.Denot). option_map (shown_entry g.T.Integer.rank (λ v. v.now)) c.shown.result ≡ last_below k s.entries) c.self.view_is
     (c.shown.ensures (last_below k (full ps)) (c.node_below.ensures ∙ found_below g.T.Integer.low g.T.Integer.high k ps c.self.invariant))

@@ -1,7 +1,7 @@
 use Rattle.std.proofs.Common.{subst}
 use Rattle.blaze_entries.specs.Cloned.{AreCloned}
 use Rattle.blaze_entries.specs.Counted.{CountedEntries}
-use Rattle.blaze_entries.specs.Nodes.{nodes_as_entries, full}
+use Rattle.blaze_entries.specs.Nodes.{shown_nodes, full}
 use Rattle.blaze_entries.proofs.Clones.{cloned_held, cloned_entries}
 use Rattle.blaze_entries.proofs.entries.Entries.clone.Goals as goal
 
@@ -11,5 +11,5 @@ invariant_of-result g c =
 
 pub returns-clause-clones : goal.returns-clause-clones
 returns-clause-clones g c =
-    subst (λ (s : CountedEntries g.row.V.Denot). AreCloned g.V.Clone.is_clone s.entries (full (nodes_as_entries g.T.Integer.rank c.in_ok-tree.tree.entries))) c.self.view_is
+    subst (λ (s : CountedEntries g.row.V.Denot). AreCloned g.V.Clone.is_clone s.entries (full (shown_nodes g.T.Integer.rank c.in_ok-tree.tree.entries))) c.self.view_is
     (cloned_entries g.T.Integer.rank g.V.Clone.is_clone _ (λ v h. h) (λ v w h. h) g.T.Integer.low g.T.Integer.high _ c.in_ok-tree.tree.entries c.self.invariant c.in_ok-tree.ensures.cases)

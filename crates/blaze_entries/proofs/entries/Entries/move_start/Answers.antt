@@ -1,7 +1,7 @@
 use Rattle.std.proofs.Common.{◌≡◌, length, ap, sym, subst, ◌∙◌}
 use Rattle.std.specs.Prelude.{None, IsSome}
 use Rattle.blaze_entries.specs.Counted.{CountedEntries}
-use Rattle.blaze_entries.specs.Nodes.{nodes_as_entries, full}
+use Rattle.blaze_entries.specs.Nodes.{shown_nodes, full}
 use Rattle.blaze_entries.specs.Starts.{start_at, IsStartMoved}
 use Rattle.blaze_entries.proofs.Held.{nodes_ascend, are_held, start_moved_full}
 use Rattle.blaze_entries.proofs.Lent.{absent_at, present_at}
@@ -33,7 +33,7 @@ invariant_of-self-2 g c =
 pub returns-clause-ok : goal.returns-clause-ok
 returns-clause-ok g c =
     let rank = g.T.Integer.rank in
-    subst (λ (s : CountedEntries g.row.V.Denot). IsStartMoved (rank c.args.from) (rank c.args.to) s.entries (full (nodes_as_entries rank c.move_node.new.tree.entries))) c.self.view_is
+    subst (λ (s : CountedEntries g.row.V.Denot). IsStartMoved (rank c.args.from) (rank c.args.to) s.entries (full (shown_nodes rank c.move_node.new.tree.entries))) c.self.view_is
     (start_moved_full g.T.Integer.low g.T.Integer.high _ _ _ _ c.self.invariant c.in_ok-move_node.ensures.ok).0
 
 pub returns-clause-length : goal.returns-clause-length

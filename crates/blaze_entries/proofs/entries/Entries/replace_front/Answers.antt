@@ -1,7 +1,7 @@
 use Rattle.std.proofs.Common.{◌≡◌, ◌+◌, length, ap, sym, subst, ◌∙◌}
 use Rattle.std.specs.Prelude.{None, IsSome}
 use Rattle.blaze_entries.specs.Counted.{CountedEntries}
-use Rattle.blaze_entries.specs.Nodes.{nodes_as_entries, full}
+use Rattle.blaze_entries.specs.Nodes.{shown_nodes, full}
 use Rattle.blaze_entries.specs.Starts.{start_at, IsFrontReplaced}
 use Rattle.blaze_entries.proofs.Held.{nodes_ascend, are_held, front_replaced_full}
 use Rattle.blaze_entries.proofs.Lent.{absent_at, present_at}
@@ -33,7 +33,7 @@ invariant_of-self-2 g c =
 pub returns-clause-ok : goal.returns-clause-ok
 returns-clause-ok g c =
     let rank = g.T.Integer.rank in
-    subst (λ (s : CountedEntries g.row.V.Denot). IsFrontReplaced (rank c.args.start) (rank c.args.end) c.args.value (rank c.args.to) s.entries (full (nodes_as_entries rank c.replace_front.new.tree.entries))) c.self.view_is
+    subst (λ (s : CountedEntries g.row.V.Denot). IsFrontReplaced (rank c.args.start) (rank c.args.end) c.args.value (rank c.args.to) s.entries (full (shown_nodes rank c.replace_front.new.tree.entries))) c.self.view_is
     (front_replaced_full g.T.Integer.low g.T.Integer.high _ _ c.args.value _ _ _ c.self.invariant c.in_ok-replace_front.ensures.ok).0
 
 pub returns-clause-longer : goal.returns-clause-longer

@@ -1,6 +1,6 @@
 use Rattle.std.proofs.Common.{ap, ◌∙◌}
 use Rattle.blaze_entries.specs.Counted.{CountedEntries}
-use Rattle.blaze_entries.specs.Nodes.{nodes_as_entries, full}
+use Rattle.blaze_entries.specs.Nodes.{shown_nodes, full}
 use Rattle.blaze_entries.specs.Starts.{below, from}
 use Rattle.blaze_entries.proofs.Ascending.{start_lower}
 use Rattle.blaze_entries.proofs.Halves.{starts_from, starts_of_below}
@@ -13,7 +13,7 @@ invariant_of-result g c =
     let low = g.T.Integer.low in
     let high = g.T.Integer.high in
     let k = g.T.Integer.rank c.args.key in
-    let ps = nodes_as_entries g.T.Integer.rank c.self.inside.tree.entries in
+    let ps = shown_nodes g.T.Integer.rank c.self.inside.tree.entries in
     are_held low high _ (from k (full ps))
     (edited_nodes low high (from k) ps _ (from k (full ps)) c.self.invariant c.in_ok-tree.ensures.from (from-held k (full ps)))
     (start_lower k low high (from k (full ps)) c.in_hand.ensures.from (starts_from k low high (full ps) c.self.invariant.ascend))
@@ -23,7 +23,7 @@ invariant_of-self-2 g c =
     let low = g.T.Integer.low in
     let high = g.T.Integer.high in
     let k = g.T.Integer.rank c.args.key in
-    let ps = nodes_as_entries g.T.Integer.rank c.self.inside.tree.entries in
+    let ps = shown_nodes g.T.Integer.rank c.self.inside.tree.entries in
     are_held low high _ (below k (full ps))
     (edited_nodes low high (below k) ps _ (below k (full ps)) c.self.invariant c.in_ok-tree.ensures.below (below-held k (full ps)))
     (starts_of_below k low high (full ps) c.self.invariant.ascend)
@@ -33,7 +33,7 @@ returns-clause-below g c =
     let low = g.T.Integer.low in
     let high = g.T.Integer.high in
     let k = g.T.Integer.rank c.args.key in
-    let ps = nodes_as_entries g.T.Integer.rank c.self.inside.tree.entries in
+    let ps = shown_nodes g.T.Integer.rank c.self.inside.tree.entries in
     edited (below k) c.args.self.now _ _ _ (full ps) _ c.self.view_is
     (full_of _ (below k (full ps)) (edited_nodes low high (below k) ps _ (below k (full ps)) c.self.invariant c.in_ok-tree.ensures.below (below-held k (full ps))))
 
@@ -42,7 +42,7 @@ returns-clause-from g c =
     let low = g.T.Integer.low in
     let high = g.T.Integer.high in
     let k = g.T.Integer.rank c.args.key in
-    let ps = nodes_as_entries g.T.Integer.rank c.self.inside.tree.entries in
+    let ps = shown_nodes g.T.Integer.rank c.self.inside.tree.entries in
     begun _ _ _ _ _
     (full_of _ (from k (full ps)) (edited_nodes low high (from k) ps _ (from k (full ps)) c.self.invariant c.in_ok-tree.ensures.from (from-held k (full ps)))
     ∙ ap (λ (s : CountedEntries g.row.V.Denot). from k s.entries) c.self.view_is)

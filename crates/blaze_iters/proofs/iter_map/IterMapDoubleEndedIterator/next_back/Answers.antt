@@ -3,11 +3,11 @@ use Rattle.blaze_iters.proofs.iter_map.IterMapDoubleEndedIterator.next_back.Goal
 
 pub returns-clause-steps : goal.returns-clause-steps
 returns-clause-steps g c =
-    let key = g.met.T.Integer.ranked.one_key c.in_ok-start.end c.in_hand.ensures.from c.in_hand.ensures.to in (
-      rw (← c.self.view_is, c.in_ok-start.ensures.left)
-          (takes_last g.T.Integer.rank g.T.Integer.of_rank g.VC.ValueCarrier.shown g.I.SortedDisjointMap.left c.in_ok-start.start c.in_ok-start.end c.in_ok-start.value
+    let key = g.met.T.Integer.ranked.one_key c.in_ok-last.last.end c.in_hand.ensures.from c.in_hand.ensures.to in (
+      rw (← c.self.view_is, c.in_ok-last.ensures.left)
+          (takes_last g.T.Integer.rank g.T.Integer.of_rank g.VC.ValueCarrier.shown g.I.SortedDisjointMap.left c.in_ok-last.last
           c.rest_before-self-inside.result c.take_last.new.front c.take_last.new.inner key c.rest_before-self-inside.ensures),
-      rw (← c.self.view_is) (opened_last _ _ _ _ c.in_ok-start.ensures.opens),
+      rw (← c.self.view_is) (opened_last _ _ _ _ c.in_ok-last.ensures.opens),
     )
 
 pub returns-clause-goes : goal.returns-clause-goes

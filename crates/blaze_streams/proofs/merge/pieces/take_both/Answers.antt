@@ -1,7 +1,7 @@
 use Rattle.std.specs.Option.{option_map}
 use Rattle.std.proofs.Common.{Some, refl, ◌∙◌, sym, ap, inl, inr}
 use Rattle.blaze_int.proofs.Comparisons.{lt_fails, lt_holds}
-use Rattle.blaze_entries.specs.Found.{ranks_of}
+use Rattle.blaze_entries.specs.Found.{shown_ends}
 use Rattle.blaze_streams.proofs.Shared.{left_gone, left_has, none_with, nothing_shared, right_gone, right_reaches, shared_taken}
 use Rattle.blaze_table.specs.Chosen.{left_with_right}
 use Rattle.blaze_streams.proofs.merge.pieces.take_both.Goals.{in_default-via-in-Some+in_default, in_default-via-in_default}
@@ -12,8 +12,8 @@ returns-in_default-clause-taken g c =
     let rank = g.T.Integer.rank in
     nothing_shared g.VCL.Value.PartialEq.eq g.VCR.Value.PartialEq.eq c.args.left.now c.args.right.now
     (elim c.in_default.branch [
-      | in_default-via-in-Some+in_default w ↦ inr (sym (ap (option_map (ranks_of rank)) w.in_default.is-1) ∙ c.range-2.ensures.ends)
-      | in_default-via-in_default w ↦ inl (sym (ap (option_map (ranks_of rank)) w.in_default.is-0) ∙ c.range.ensures.ends)
+      | in_default-via-in-Some+in_default w ↦ inr (sym (ap (option_map (shown_ends rank)) w.in_default.is-1) ∙ c.range-2.ensures.ends)
+      | in_default-via-in_default w ↦ inl (sym (ap (option_map (shown_ends rank)) w.in_default.is-0) ∙ c.range.ensures.ends)
     ])
 
 pub returns-then-is_below-clause-taken : goal.returns-then-is_below-clause-taken

@@ -1,7 +1,6 @@
 use Rattle.std.proofs.Common.{◌≡◌, ◌∷◌, ◌++◌, [], Some, ap, sym, ◌∙◌}
 use Rattle.std.proofs.lemmas.List.{map-append}
-use Rattle.blaze_table.specs.Entries.{entry, shown_entry}
-use Rattle.blaze_table.specs.Listed.{listed}
+use Rattle.blaze_table.specs.Entries.{entry, shown_entry, shown_list}
 use Rattle.blaze_streams.proofs.merge.push.push_value.Goals as goal
 
 pub returns-in_ok-push-clause-ok : goal.returns-in_ok-push-clause-ok
@@ -10,8 +9,8 @@ returns-in_ok-push-clause-ok g c =
     let value = c.in_ok-value.value in
     let items = c.lengthen_entry.new.out.items in
     let added = (c.args.start, c.args.end, value) ∷ [] in
-    let list : listed rank c.push.new.self.items ≡ listed rank c.args.out.now.items ++ entry (rank c.args.start) (rank c.args.end) value ∷ [] =
-    ap (listed rank) c.in_ok-push.ensures.items ∙ map-append (shown_entry rank (λ v. v)) items added ∙ ap (λ l. listed rank l ++ listed rank added) c.if-not-lengthen_entry.ensures.0 in
+    let list : shown_list rank c.push.new.self.items ≡ shown_list rank c.args.out.now.items ++ entry (rank c.args.start) (rank c.args.end) value ∷ [] =
+    ap (shown_list rank) c.in_ok-push.ensures.items ∙ map-append (shown_entry rank (λ v. v)) items added ∙ ap (λ l. shown_list rank l ++ shown_list rank added) c.if-not-lengthen_entry.ensures.0 in
     record { alike = Some value; same = c.in_ok-value.ensures; put = list ∙ sym (c.if-not-lengthen_entry.ensures.1 value c.in_ok-value.ensures) }
 
 pub returns-else-not-lengthen_entry-clause-ok : goal.returns-else-not-lengthen_entry-clause-ok

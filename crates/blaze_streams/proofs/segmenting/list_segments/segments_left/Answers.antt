@@ -1,6 +1,6 @@
 use Rattle.std.proofs.Common.{nat_eq}
 use Rattle.std.specs.Cmp.{nat_eq_equiv}
-use Rattle.blaze_streams.specs.Segments.{entry_of, entries_of}
+use Rattle.blaze_streams.specs.Segments.{shown_segment, shown_segments}
 use Rattle.blaze_streams.proofs.FoundSegments.{entries_more, found_none, found_more, found_all, next_less}
 use Rattle.blaze_streams.proofs.segmenting.list_segments.segments_left.Goals as goal
 
@@ -13,8 +13,8 @@ loop-found-smaller g c = next_less nat_eq c.loop-found.lists c.next_segment.new.
 pub loop-found-preserved : goal.loop-found-preserved
 loop-found-preserved g c =
     let rank = g.T.Integer.rank in
-    found_more nat_eq nat_eq_equiv c.args.lists.now c.loop-found.lists (entries_of rank c.loop-found.found.items) (entry_of rank c.in-Some.segment)
-    (entries_of rank c.push.new.self.items) c.next_segment.new.lists c.loop-found.invariant (rw c.in-Some.is at c.in_ok-segment.ensures.some)
+    found_more nat_eq nat_eq_equiv c.args.lists.now c.loop-found.lists (shown_segments rank c.loop-found.found.items) (shown_segment rank c.in-Some.segment)
+    (shown_segments rank c.push.new.self.items) c.next_segment.new.lists c.loop-found.invariant (rw c.in-Some.is at c.in_ok-segment.ensures.some)
     (entries_more rank c.push.new.self.items c.loop-found.found.items c.in-Some.segment c.in_ok-push.ensures.items)
 
 pub returns : goal.returns

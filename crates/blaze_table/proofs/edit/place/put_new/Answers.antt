@@ -1,7 +1,7 @@
 use Rattle.std.proofs.Common.{ap, ◌∙◌}
 use Rattle.std.specs.Option.{option_map}
 use Rattle.blaze_entries.specs.Counted.{CountedEntries}
-use Rattle.blaze_entries.specs.Found.{ranks_of}
+use Rattle.blaze_entries.specs.Found.{shown_ends}
 use Rattle.blaze_table.specs.Entries.{entry}
 use Rattle.blaze_table.proofs.Paints.Placing.{put_there, put_back, like_rest, above_there, new_room, new_started}
 use Rattle.blaze_table.proofs.edit.place.put_new.Goals as goal
@@ -10,7 +10,7 @@ pub put_rest-requires-clause-room : goal.put_rest-requires-clause-room
 put_rest-requires-clause-room g c =
     let rank = g.T.Integer.rank in
     new_room g.V.PartialEq.eq g.met.V.Eq.laws (entry (rank c.args.lo) (rank c.args.plan.end) c.args.value) c.requires.place.order c.args.entries.now.entries c.insert.new.self.entries c.requires.absent
-    (ap (λ (s : CountedEntries g.row.V.Denot). s.entries) c.in_ok-insert.ensures.ok) (option_map (ranks_of rank) c.args.plan.rest) c.requires.place.rest
+    (ap (λ (s : CountedEntries g.row.V.Denot). s.entries) c.in_ok-insert.ensures.ok) (option_map (shown_ends rank) c.args.plan.rest) c.requires.place.rest
 
 pub put_rest-requires-clause-above : goal.put_rest-requires-clause-above
 put_rest-requires-clause-above g c =
@@ -37,4 +37,4 @@ returns-clause-ok g c =
     let es = c.args.entries.now.entries in
     let like = like_rest eq g.met.V.Eq.laws rank (rank c.args.lo) es c.args.plan c.args.above c.requires.canonical c.requires.place in
     new_started eq g.met.V.Eq.laws (entry (rank c.args.lo) (rank c.args.plan.end) c.args.value) c.requires.place.order es c.insert.new.self.entries c.requires.absent
-    (ap (λ (s : CountedEntries g.row.V.Denot). s.entries) c.in_ok-insert.ensures.ok) (option_map (ranks_of rank) c.args.plan.rest) c.args.above c.put_rest.new.entries.entries c.requires.place.rest like c.in_default.ensures.put
+    (ap (λ (s : CountedEntries g.row.V.Denot). s.entries) c.in_ok-insert.ensures.ok) (option_map (shown_ends rank) c.args.plan.rest) c.args.above c.put_rest.new.entries.entries c.requires.place.rest like c.in_default.ensures.put

@@ -3,7 +3,7 @@ use Rattle.std.proofs.lemmas.Result.{on_ok_weaker}
 use Rattle.std.specs.Option.{option_map}
 use Rattle.blaze_int.proofs.Comparisons.{lt_holds, lt_fails}
 use Rattle.blaze_entries.specs.Counted.{CountedEntries}
-use Rattle.blaze_entries.specs.Found.{ranks_of}
+use Rattle.blaze_entries.specs.Found.{shown_ends}
 use Rattle.blaze_entries.specs.Starts.{IsFrontReplaced}
 use Rattle.blaze_entries.proofs.Moves.{length-with_end_value}
 use Rattle.blaze_table.specs.Planned.{IsRest}
@@ -18,7 +18,7 @@ returns-in-None-clause-ok g c =
     let lo = rank c.args.lo in
     let end = rank c.args.plan.end in
     let es = c.args.entries.now.entries in
-    let rest = subst (λ o. IsRest end es (option_map (ranks_of rank) o)) c.in-None.is c.requires.rest in
+    let rest = subst (λ o. IsRest end es (option_map (shown_ends rank) o)) c.in-None.is c.requires.rest in
     over_kept eq g.met.V.Eq.laws lo end c.args.value c.requires.order es c.requires.present es c.replace.new.self.entries
     (rest_over eq g.met.V.Eq.laws lo end c.requires.order es es None rest tt refl) (ap (λ (s : CountedEntries g.row.V.Denot). s.entries) c.replace.ensures)
 
@@ -35,9 +35,9 @@ returns-in_ok-put_rest-in-Some-clause-ok g c =
     let end = rank c.args.plan.end in
     let es = c.args.entries.now.entries in
     let over = lt_holds lo (rank c.in-Some.ends.0) (sym c.is_below.ensures ∙ c.if-is_below.true) in
-    let rest = subst (λ o. IsRest end es (option_map (ranks_of rank) o)) c.in-Some.is c.requires.rest in
+    let rest = subst (λ o. IsRest end es (option_map (shown_ends rank) o)) c.in-Some.is c.requires.rest in
     over_kept eq g.met.V.Eq.laws lo end c.args.value c.requires.order es c.requires.present c.put_rest.new.entries.entries c.replace-then-is_below.new.self.entries
-    (rest_over eq g.met.V.Eq.laws lo end c.requires.order es c.put_rest.new.entries.entries (Some (ranks_of rank c.in-Some.ends)) rest over c.in_ok-put_rest-in-Some.ensures.put)
+    (rest_over eq g.met.V.Eq.laws lo end c.requires.order es c.put_rest.new.entries.entries (Some (shown_ends rank c.in-Some.ends)) rest over c.in_ok-put_rest-in-Some.ensures.put)
     (ap (λ (s : CountedEntries g.row.V.Denot). s.entries) c.replace-then-is_below.ensures)
 
 pub returns-in_ok-put_rest-in-Some-clause-worked : goal.returns-in_ok-put_rest-in-Some-clause-worked
@@ -55,7 +55,7 @@ returns-else-is_below-clause-ok g c =
     let end = rank c.args.plan.end in
     let es = c.args.entries.now.entries in
     let ends = c.in-Some.ends in
-    let rest = subst (λ o. IsRest end es (option_map (ranks_of rank) o)) c.in-Some.is c.requires.rest in
+    let rest = subst (λ o. IsRest end es (option_map (shown_ends rank) o)) c.in-Some.is c.requires.rest in
     let under = lt_fails lo (rank ends.0) (sym c.is_below.ensures ∙ c.if-is_below.false) in
     on_ok_weaker c.replace_front.result (λ w. over_front eq g.met.V.Eq.laws lo end c.args.value c.requires.order es c.requires.present (rank ends.0) (rank ends.1) c.replace_front.new.self.entries c.requires.canonical
     under rest (subst (λ n. IsFrontReplaced lo end c.args.value n es c.replace_front.new.self.entries) c.add_one-next.ensures w)) c.replace_front.ensures.ok

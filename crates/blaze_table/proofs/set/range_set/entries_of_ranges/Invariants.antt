@@ -1,9 +1,9 @@
 use Rattle.std.proofs.Common.{◌≡◌, ◌++◌, map}
 use Rattle.std.specs.Vec.Iter.{into_iter_items}
 use Rattle.blaze_table.specs.Entries.{shown_entry}
-use Rattle.blaze_table.specs.RangeSets.{bare_ranges}
+use Rattle.blaze_table.specs.RangeSets.{shown_bare_ranges}
 use Rattle.blaze_table.proofs.set.range_set.entries_of_ranges.Given as goal
 
 -- the entries made, and the ranges that are left, are all
 abbrev pub invariant-loop-range : goal.invariant-loop-range
-invariant-loop-range g l = map (shown_entry g.T.Integer.rank (λ v. v)) l.entries.items ++ bare_ranges g.T.Integer.rank (into_iter_items l.range-iterator) ≡ bare_ranges g.T.Integer.rank l.fn.ranges.items
+invariant-loop-range g l = map (shown_entry g.T.Integer.rank (λ v. v)) l.entries.items ++ shown_bare_ranges g.T.Integer.rank (into_iter_items l.range-iterator) ≡ shown_bare_ranges g.T.Integer.rank l.fn.ranges.items

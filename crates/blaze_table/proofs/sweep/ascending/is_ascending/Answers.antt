@@ -1,5 +1,5 @@
 use Rattle.std.proofs.Common.{◌≡◌, ◌∷◌, true, sym, ◌∙◌, subst, rules}
-use Rattle.blaze_table.specs.Listed.{listed}
+use Rattle.blaze_table.specs.Entries.{shown_list}
 use Rattle.blaze_table.specs.Swept.{AreApart, first_from}
 use Rattle.blaze_table.proofs.sweep.ascending.is_ascending.Goals as goal
 
@@ -9,7 +9,7 @@ returns-then-not-follows g c =
     let split : c.loop-pair.rest.now ≡ c.in-Some.pair.now ∷ c.in-Some.others.now = search rules in (
       λ t. absurd (cc),
       λ a.
-          let rest = subst (λ xs. AreApart (first_from rank g.T.Integer.low c.loop-pair.last) (listed rank xs)) split (c.loop-pair.invariant.1 a) in
+          let rest = subst (λ xs. AreApart (first_from rank g.T.Integer.low c.loop-pair.last) (shown_list rank xs)) split (c.loop-pair.invariant.1 a) in
           let follows : c.follows.result ≡ true = c.follows.ensures.1 (rest.0, rest.1) in
           sym c.if-not-follows.true ∙ follows,
     )

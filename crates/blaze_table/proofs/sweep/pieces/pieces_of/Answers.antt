@@ -2,7 +2,7 @@ use Rattle.std.proofs.Common.{◌≡◌, Some, refl, length, arith}
 use Rattle.std.specs.Prelude.{slice_get}
 use Rattle.std.specs.BinaryHeap.{heap_items}
 use Rattle.std.proofs.lemmas.Option.{slice_get_read}
-use Rattle.blaze_table.specs.Listed.{listed}
+use Rattle.blaze_table.specs.Entries.{shown_list}
 use Rattle.blaze_table.proofs.Sweeping.Underway.{underway_none, waits_for, all_wait, underway_more}
 use Rattle.blaze_table.proofs.sweep.pieces.pieces_of.Goals as goal
 
@@ -22,7 +22,7 @@ advance-requires-clause-waits g c =
     let i = c.loop-i.invariant in
     let pair = c.index-placed-i.result in
     let is : slice_get placed c.loop-i.i ≡ Some pair = slice_get_read placed (length placed) c.loop-i.i pair refl c.loop-i-test.true c.index-placed-i.is in
-    waits_for rank g.T.Integer.low placed c.requires.ascending (rank c.loop-i.from) c.loop-i.i (heap_items c.loop-i.waiting) (listed rank c.loop-i.pieces.items) i.so_far pair is
+    waits_for rank g.T.Integer.low placed c.requires.ascending (rank c.loop-i.from) c.loop-i.i (heap_items c.loop-i.waiting) (shown_list rank c.loop-i.pieces.items) i.so_far pair is
 
 pub advance-requires-clause-order : goal.advance-requires-clause-order
 advance-requires-clause-order g c =
@@ -43,8 +43,8 @@ loop-i-preserved g c =
     record {
       in_range = omega (arith, c.loop-i-test.true);
       heap = c.in_ok-push.ensures.heap_order c.advance.ensures.heap;
-      so_far = underway_more rank g.T.Integer.low placed c.requires.ascending (rank c.loop-i.from) c.loop-i.i (heap_items c.loop-i.waiting) (listed rank c.loop-i.pieces.items) i.so_far pair is
-          (heap_items c.advance.new.waiting) (heap_items c.push.new.self) (listed rank c.advance.new.pieces.items)
+      so_far = underway_more rank g.T.Integer.low placed c.requires.ascending (rank c.loop-i.from) c.loop-i.i (heap_items c.loop-i.waiting) (shown_list rank c.loop-i.pieces.items) i.so_far pair is
+          (heap_items c.advance.new.waiting) (heap_items c.push.new.self) (shown_list rank c.advance.new.pieces.items)
           c.in_ok-advance.ensures.waits c.in_ok-advance.ensures.kept c.in_ok-advance.ensures.made c.in_ok-push.ensures.permutation;
     }
 
@@ -52,4 +52,4 @@ pub sweep_to-requires-clause-waits : goal.sweep_to-requires-clause-waits
 sweep_to-requires-clause-waits g c =
     let rank = g.T.Integer.rank in
     let i = c.loop-i.invariant in
-    all_wait rank g.T.Integer.low c.args.placed.now c.requires.ascending (rank c.loop-i.from) c.loop-i.i (heap_items c.loop-i.waiting) (listed rank c.loop-i.pieces.items) i.so_far (rank c.max_value-last.result) (omega (arith, c.loop-i-test.false))
+    all_wait rank g.T.Integer.low c.args.placed.now c.requires.ascending (rank c.loop-i.from) c.loop-i.i (heap_items c.loop-i.waiting) (shown_list rank c.loop-i.pieces.items) i.so_far (rank c.max_value-last.result) (omega (arith, c.loop-i-test.false))

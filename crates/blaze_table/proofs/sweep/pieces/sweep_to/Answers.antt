@@ -2,7 +2,7 @@ use Rattle.std.proofs.Common.{◌≡◌, ◌≤ℤ◌, ◌<ℤ◌, ◌+ℤ◌, p
 use Rattle.std.specs.BinaryHeap.{heap_items}
 use Rattle.std.proofs.lemmas.Int.{ints}
 use Rattle.blaze_int.proofs.Comparisons.{le_holds, le_fails, lt_holds, lt_fails}
-use Rattle.blaze_table.specs.Listed.{listed}
+use Rattle.blaze_table.specs.Entries.{shown_list}
 use Rattle.blaze_table.specs.Pieces.{ArePieces}
 use Rattle.blaze_table.proofs.Sweeping.Orders.{step_up, step_to, step_past, weaker}
 use Rattle.blaze_table.proofs.Sweeping.Pieces.{pieces_to, pieces_rest}
@@ -26,8 +26,8 @@ returns-then-is_at_most-clause-made g c =
     let top = c.in-Some.ensures in
     let pair = c.index-placed-index.result in
     let is = top_read rank placed at to waits i.waits c.in-Some.top pair top.top c.index-placed-index.is in
-    pieces_to rank placed g.T.Integer.low at to i.order waits i.waits (listed rank c.loop-top.pieces.items) i.made c.in-Some.top pair top.top top.greatest is
-    to i.order (omega (arith, ints)) (le_holds _ _ (sym c.is_at_most.ensures ∙ c.if-is_at_most.true)) (listed rank c.push_entry.new.out.items) c.in_ok-push_entry.ensures.ok
+    pieces_to rank placed g.T.Integer.low at to i.order waits i.waits (shown_list rank c.loop-top.pieces.items) i.made c.in-Some.top pair top.top top.greatest is
+    to i.order (omega (arith, ints)) (le_holds _ _ (sym c.is_at_most.ensures ∙ c.if-is_at_most.true)) (shown_list rank c.push_entry.new.out.items) c.in_ok-push_entry.ensures.ok
 
 pub loop-top-preserved-then-is_below : goal.loop-top-preserved-then-is_below
 loop-top-preserved-then-is_below g c =
@@ -59,7 +59,7 @@ loop-top-preserved g c =
     let pair = c.index-placed-index.result in
     let is = top_read rank placed at to waits i.waits c.in-Some.top pair top.top c.index-placed-index.is in
     let next = rank c.add_one-at.result in
-    let e = rank pair.1 in
+    let e = rank pair.end in
     let h : at ≤ℤ e = lt_fails _ _ (sym c.is_below.ensures ∙ c.if-is_below.false) in
     let u : e <ℤ to = le_fails _ _ (sym c.is_at_most.ensures ∙ c.if-is_at_most.false) in
     let step : next ≡ e +ℤ pos 1 = c.add_one-at.ensures in
@@ -68,9 +68,9 @@ loop-top-preserved g c =
       order = step_to e to next u step;
       heap = c.drop_top.ensures.heap;
       waits = waiting_less rank placed next to waits (waiting_from rank placed at to waits i.waits next l) c.in-Some.top pair (heap_items c.drop_top.new.waiting) is (step_past e next step) c.drop_top.ensures.permutation;
-      made = subst (λ k. ArePieces rank placed g.T.Integer.low k (listed rank c.push_entry-in-Some.new.out.items)) (sym step)
-          (pieces_to rank placed g.T.Integer.low at to i.order waits i.waits (listed rank c.loop-top.pieces.items) i.made c.in-Some.top pair top.top top.greatest is
-          e h (weaker e to u) (omega (arith, ints)) (listed rank c.push_entry-in-Some.new.out.items) c.in_ok-push_entry-2.ensures.ok);
+      made = subst (λ k. ArePieces rank placed g.T.Integer.low k (shown_list rank c.push_entry-in-Some.new.out.items)) (sym step)
+          (pieces_to rank placed g.T.Integer.low at to i.order waits i.waits (shown_list rank c.loop-top.pieces.items) i.made c.in-Some.top pair top.top top.greatest is
+          e h (weaker e to u) (omega (arith, ints)) (shown_list rank c.push_entry-in-Some.new.out.items) c.in_ok-push_entry-2.ensures.ok);
     }
 
 pub returns-clause-waits : goal.returns-clause-waits
@@ -83,4 +83,4 @@ pub returns-clause-made : goal.returns-clause-made
 returns-clause-made g c =
     let rank = g.T.Integer.rank in
     let i = c.loop-top.invariant in
-    pieces_rest rank c.args.placed.now g.T.Integer.low (rank c.loop-top.at) (rank c.args.to) i.order (heap_items c.loop-top.waiting) i.waits (listed rank c.loop-top.pieces.items) i.made c.in_default.ensures.none
+    pieces_rest rank c.args.placed.now g.T.Integer.low (rank c.loop-top.at) (rank c.args.to) i.order (heap_items c.loop-top.waiting) i.waits (shown_list rank c.loop-top.pieces.items) i.made c.in_default.ensures.none

@@ -1,6 +1,6 @@
 use Rattle.std.proofs.Common.{◌≤ℤ◌}
 use Rattle.std.specs.BinaryHeap.{IsHeap, heap_items, heap_len}
-use Rattle.blaze_table.specs.Listed.{listed}
+use Rattle.blaze_table.specs.Entries.{shown_list}
 use Rattle.blaze_table.specs.Pieces.{place_cmp, IsWaiting, ArePieces}
 use Rattle.blaze_table.proofs.sweep.pieces.sweep_to.Given as goal
 
@@ -12,7 +12,7 @@ invariant-loop-top g l =
       order : rank l.at ≤ℤ rank l.fn.to;
       heap : IsHeap place_cmp (heap_items l.waiting);
       waits : IsWaiting rank l.placed (rank l.at) (rank l.fn.to) (heap_items l.waiting);
-      made : ArePieces rank l.placed g.T.Integer.low (rank l.at) (listed rank l.pieces.items);
+      made : ArePieces rank l.placed g.T.Integer.low (rank l.at) (shown_list rank l.pieces.items);
     }
 
 abbrev pub decreases-loop-top : goal.decreases-loop-top

@@ -4,8 +4,7 @@ use Rattle.std.proofs.lemmas.List.Elements.{All-weaker}
 use Rattle.std.proofs.lemmas.List.Sorted.{answers_always}
 use Rattle.std.specs.Vec.Iter.{into_iter_items}
 use Rattle.blaze_int.proofs.Comparisons.{le_holds, le_fails}
-use Rattle.blaze_table.specs.Entries.{shown_entry}
-use Rattle.blaze_table.specs.Listed.{listed}
+use Rattle.blaze_table.specs.Entries.{shown_entry, shown_list}
 use Rattle.blaze_table.specs.Pieces.{IsPlaced}
 use Rattle.blaze_table.proofs.Sweeping.Placed.{head_of_drop, placed_none, placed_skip, placed_more, placed_sorted, ends_are_keys, ascends}
 use Rattle.blaze_table.proofs.sweep.placed.placed_of.Goals as goal
@@ -16,20 +15,20 @@ loop-start-init g c =
     rw (c.into_iter-start-iterator.ensures.into_iter_gives.0, c.new-placed.ensures.items)
     (record {
       in_all = omega arith;
-      rest = λ _. listed rank c.args.pairs.items;
-      so_far = placed_none rank (listed rank c.args.pairs.items);
+      rest = λ _. shown_list rank c.args.pairs.items;
+      so_far = placed_none rank (shown_list rank c.args.pairs.items);
     })
 
 pub loop-start-preserved-then-not-is_at_most : goal.loop-start-preserved-then-not-is_at_most
 loop-start-preserved-then-not-is_at_most g c =
     let rank = g.T.Integer.rank in
     let i = c.loop-start.invariant in
-    let ps = listed rank c.args.pairs.items in
+    let ps = shown_list rank c.args.pairs.items in
     let pair : g.row.T.Denot × g.row.T.Denot × g.row.V.Denot = (c.in-Some.start, c.in-Some.end, c.in-Some.value) in
     let e = shown_entry rank (λ v. v) pair in
     let rest = into_iter_items c.next.new.self in
     let split : into_iter_items c.loop-start.start-iterator ≡ pair ∷ rest = search rules in
-    let head = head_of_drop c.loop-start.count ps e (listed rank rest) (i.rest ∙ ap (listed rank) split) in
+    let head = head_of_drop c.loop-start.count ps e (shown_list rank rest) (i.rest ∙ ap (shown_list rank) split) in
     record {
       in_all = omega (arith, ap length split, i.in_all);
       rest = head.1;
@@ -40,12 +39,12 @@ pub loop-start-preserved : goal.loop-start-preserved
 loop-start-preserved g c =
     let rank = g.T.Integer.rank in
     let i = c.loop-start.invariant in
-    let ps = listed rank c.args.pairs.items in
+    let ps = shown_list rank c.args.pairs.items in
     let pair : g.row.T.Denot × g.row.T.Denot × g.row.V.Denot = (c.in-Some.start, c.in-Some.end, c.in-Some.value) in
     let e = shown_entry rank (λ v. v) pair in
     let rest = into_iter_items c.next.new.self in
     let split : into_iter_items c.loop-start.start-iterator ≡ pair ∷ rest = search rules in
-    let head = head_of_drop c.loop-start.count ps e (listed rank rest) (i.rest ∙ ap (listed rank) split) in
+    let head = head_of_drop c.loop-start.count ps e (shown_list rank rest) (i.rest ∙ ap (shown_list rank) split) in
     record {
       in_all = omega (arith, ap length split, i.in_all);
       rest = head.1;
@@ -57,7 +56,7 @@ pub returns-clause-placed : goal.returns-clause-placed
 returns-clause-placed g c =
     let rank = g.T.Integer.rank in
     let i = c.loop-start.invariant in
-    let ps = listed rank c.args.pairs.items in
+    let ps = shown_list rank c.args.pairs.items in
     let new = c.sort_unstable_by_key.new.self.items in
     let sort = c.sort_unstable_by_key.ensures in
     let none : into_iter_items c.loop-start.start-iterator ≡ [] = nil_from_length (into_iter_items c.loop-start.start-iterator) (sym c.loop-start.start-iterator.rest.ok.0 ∙ c.in-None.ensures.steps.0) in
@@ -68,7 +67,7 @@ pub returns-clause-keys : goal.returns-clause-keys
 returns-clause-keys g c =
     let rank = g.T.Integer.rank in
     let i = c.loop-start.invariant in
-    let ps = listed rank c.args.pairs.items in
+    let ps = shown_list rank c.args.pairs.items in
     let new = c.sort_unstable_by_key.new.self.items in
     let sort = c.sort_unstable_by_key.ensures in
     let none : into_iter_items c.loop-start.start-iterator ≡ [] = nil_from_length (into_iter_items c.loop-start.start-iterator) (sym c.loop-start.start-iterator.rest.ok.0 ∙ c.in-None.ensures.steps.0) in
@@ -79,11 +78,11 @@ pub returns-clause-ascending : goal.returns-clause-ascending
 returns-clause-ascending g c =
     let rank = g.T.Integer.rank in
     let i = c.loop-start.invariant in
-    let ps = listed rank c.args.pairs.items in
+    let ps = shown_list rank c.args.pairs.items in
     let new = c.sort_unstable_by_key.new.self.items in
     let sort = c.sort_unstable_by_key.ensures in
     let none : into_iter_items c.loop-start.start-iterator ≡ [] = nil_from_length (into_iter_items c.loop-start.start-iterator) (sym c.loop-start.start-iterator.rest.ok.0 ∙ c.in-None.ensures.steps.0) in
     let placed = placed_sorted rank ps c.loop-start.count c.loop-start.placed.items new i.so_far (omega (arith, i.in_all, ap length none, length-map c.args.pairs.items (shown_entry rank (λ v. v)))) sort.permutation in
     ascends rank g.T.Integer.low g.T.Integer.high g.T.Ord.cmp g.met.T.Integer.ranked.order new (ends_are_keys rank ps g.T.Integer.low g.T.Integer.high new c.requires placed.known)
-    (All-weaker (IsPlaced rank ps) (λ p. rank p.0 ≤ℤ rank p.1) (λ p h. h.order) new placed.known)
-    (sort.sorted (λ p. p.0) (answers_always _ _ _ (λ f a r h k. search rules)))
+    (All-weaker (IsPlaced rank ps) (λ p. rank p.start ≤ℤ rank p.end) (λ p h. h.order) new placed.known)
+    (sort.sorted (λ p. p.start) (answers_always _ _ _ (λ f a r h k. search rules)))

@@ -1,6 +1,6 @@
 use Rattle.std.proofs.Common.{◌≡◌, ◌+◌, length, drop}
 use Rattle.std.specs.Vec.Iter.{into_iter_items}
-use Rattle.blaze_table.specs.Listed.{listed}
+use Rattle.blaze_table.specs.Entries.{shown_list}
 use Rattle.blaze_table.specs.Pieces.{ArePlacedBelow}
 use Rattle.blaze_table.proofs.sweep.placed.placed_of.Given as goal
 
@@ -9,6 +9,6 @@ invariant-loop-start g l =
     let rank = g.T.Integer.rank in
     record {
       in_all : l.count + length (into_iter_items l.start-iterator) ≡ length l.fn.pairs.items;
-      rest : drop l.count (listed rank l.fn.pairs.items) ≡ listed rank (into_iter_items l.start-iterator);
-      so_far : ArePlacedBelow rank (listed rank l.fn.pairs.items) l.count l.placed.items;
+      rest : drop l.count (shown_list rank l.fn.pairs.items) ≡ shown_list rank (into_iter_items l.start-iterator);
+      so_far : ArePlacedBelow rank (shown_list rank l.fn.pairs.items) l.count l.placed.items;
     }

@@ -3,7 +3,7 @@ use Rattle.std.proofs.lemmas.Int.{ints}
 use Rattle.blaze_table.specs.Canonical.{IsCanonical, AreKeys}
 use Rattle.blaze_table.specs.Count.{keys_in}
 use Rattle.blaze_table.specs.Counted.{CountedEntries}
-use Rattle.blaze_table.specs.Listed.{listed}
+use Rattle.blaze_table.specs.Entries.{shown_list}
 use Rattle.blaze_table.proofs.Canonical.Counted.{keys_among}
 use Rattle.blaze_table.proofs.Canonical.RangeMaps.{starts_ascend}
 use Rattle.blaze_table.proofs.Canonical.Runs.{canonical}
@@ -29,5 +29,5 @@ invariant_of-result g c =
     record {
       canonical = subst (λ (s : CountedEntries g.row.V.Denot). IsCanonical eq s.entries) (sym c.in_ok-entries.ensures) (canonical eq g.met.V.Eq.laws _ c.requires.runs);
       are_keys = subst (λ (s : CountedEntries g.row.V.Denot). AreKeys g.T.Integer.low g.T.Integer.high s.entries) (sym c.in_ok-entries.ensures) c.requires.keys;
-      counted = c.count_list-len.ensures ∙ ap (λ xs. keys_in (listed g.T.Integer.rank xs)) c.as_slice.ensures.value ∙ ap (λ (s : CountedEntries g.row.V.Denot). keys_in s.entries) (sym c.in_ok-entries.ensures);
+      counted = c.count_list-len.ensures ∙ ap (λ xs. keys_in (shown_list g.T.Integer.rank xs)) c.as_slice.ensures.value ∙ ap (λ (s : CountedEntries g.row.V.Denot). keys_in s.entries) (sym c.in_ok-entries.ensures);
     }

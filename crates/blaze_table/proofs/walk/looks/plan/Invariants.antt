@@ -1,8 +1,8 @@
 use Rattle.std.proofs.Common.{◌≡◌, ◌+◌, ℤ, pos, ◌+ℤ◌, ◌≤ℤ◌}
 use Rattle.std.specs.Prelude.{reverse}
 use Rattle.std.specs.Option.{option_map}
-use Rattle.blaze_entries.specs.Found.{found_in, found_of}
-use Rattle.blaze_entries.specs.Scanned.{seen_of, unseen, walked, answers, walked_keys}
+use Rattle.blaze_entries.specs.Found.{found_in, shown_found}
+use Rattle.blaze_entries.specs.Scanned.{shown_plan, unseen, walked, answers, walked_keys}
 use Rattle.blaze_entries.specs.Starts.{below, last_below}
 use Rattle.blaze_table.proofs.Walks.Descents.{rounds}
 use Rattle.blaze_table.proofs.walk.looks.plan.Given as goal
@@ -12,8 +12,8 @@ abbrev pub invariant-loop-last : goal.invariant-loop-last
 invariant-loop-last g l = record {
   key : ℤ;
   same : l.entries ≡ record l.fn.entries { looks = l.entries.looks };
-  found : option_map (found_of g.T.Integer.rank) l.last ≡ option_map (found_in (λ w. g.V.PartialEq.eq w l.value)) (last_below key l.fn.entries.entries);
-  plan : walked (λ w. g.V.PartialEq.eq w l.value) (g.T.Integer.rank l.lo) (g.T.Integer.rank l.hi) (seen_of g.T.Integer.rank l.plan) (reverse (below key l.fn.entries.entries))
+  found : option_map (shown_found g.T.Integer.rank) l.last ≡ option_map (found_in (λ w. g.V.PartialEq.eq w l.value)) (last_below key l.fn.entries.entries);
+  plan : walked (λ w. g.V.PartialEq.eq w l.value) (g.T.Integer.rank l.lo) (g.T.Integer.rank l.hi) (shown_plan g.T.Integer.rank l.plan) (reverse (below key l.fn.entries.entries))
       ≡ walked (λ w. g.V.PartialEq.eq w l.value) (g.T.Integer.rank l.lo) (g.T.Integer.rank l.hi) (unseen (g.T.Integer.rank l.hi)) (reverse (below (g.T.Integer.rank l.hi +ℤ pos 2) l.fn.entries.entries));
   looks : l.entries.looks + answers (g.T.Integer.rank l.lo) (reverse (below key l.fn.entries.entries))
       ≡ l.fn.entries.looks + answers (g.T.Integer.rank l.lo) (reverse (below (g.T.Integer.rank l.hi +ℤ pos 2) l.fn.entries.entries)) + 1;
@@ -23,4 +23,4 @@ invariant-loop-last g l = record {
 }
 
 abbrev pub decreases-loop-last : goal.decreases-loop-last
-decreases-loop-last g l = rounds l.fn.entries.entries (option_map (found_of g.T.Integer.rank) l.last)
+decreases-loop-last g l = rounds l.fn.entries.entries (option_map (shown_found g.T.Integer.rank) l.last)

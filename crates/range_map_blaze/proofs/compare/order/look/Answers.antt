@@ -1,5 +1,5 @@
 use Rattle.std.proofs.Common.{◌≡◌, ◌∙◌, ◌≤ℤ◌, List, sym, ap, subst}
-use Rattle.blaze_table.specs.Entries.{Entry, shown_entry}
+use Rattle.blaze_table.specs.Entries.{Entry, shown_range_entry}
 use Rattle.std.specs.Int.{int_min}
 use Rattle.blaze_table.specs.Splice.{after}
 use Rattle.range_map_blaze.specs.Order.{IsComparedOn}
@@ -12,20 +12,20 @@ returns-in-None-first-clause-answer g c = both_at_end g.V.PartialEq.eq g.V.Ord.c
 pub returns-in-Some-first-clause-answer : goal.returns-in-Some-first-clause-answer
 returns-in-Some-first-clause-answer g c =
     let rank = g.T.Integer.rank in
-    let f : Entry g.row.V.Denot = shown_entry rank (λ v. v.now) c.in-Some-first.field-0 in
+    let f : Entry g.row.V.Denot = shown_range_entry rank (λ v. v.now) c.in-Some-first.field-0 in
     left_at_end g.V.PartialEq.eq g.V.Ord.cmp c.args.left.now c.args.other.now f c.in-None.ensures.first c.in-Some-first.ensures.first c.in-Some-first.ensures.canonical
 
 pub returns-in-None-first-2-clause-answer : goal.returns-in-None-first-2-clause-answer
 returns-in-None-first-2-clause-answer g c =
     let rank = g.T.Integer.rank in
-    let e : Entry g.row.V.Denot = shown_entry rank (λ v. v.now) c.in-Some.first in
+    let e : Entry g.row.V.Denot = shown_range_entry rank (λ v. v.now) c.in-Some.first in
     other_at_end g.V.PartialEq.eq g.V.Ord.cmp c.args.left.now c.args.other.now e c.in-Some.ensures.first c.in-None-first-2.ensures.first c.in-Some.ensures.canonical
 
 pub returns-then-is_ne-clause-answer : goal.returns-then-is_ne-clause-answer
 returns-then-is_ne-clause-answer g c =
     let rank = g.T.Integer.rank in
-    let e : Entry g.row.V.Denot = shown_entry rank (λ v. v.now) c.in-Some.first in
-    let f : Entry g.row.V.Denot = shown_entry rank (λ v. v.now) c.in-Some-first-2.other_first in
+    let e : Entry g.row.V.Denot = shown_range_entry rank (λ v. v.now) c.in-Some.first in
+    let f : Entry g.row.V.Denot = shown_range_entry rank (λ v. v.now) c.in-Some-first-2.other_first in
     let order = c.compare_first-order.result.0 in
     decided_at_first g.V.PartialEq.eq g.V.Ord.cmp c.args.left.now c.args.other.now e f c.in-Some.ensures.first c.in-Some-first-2.ensures.first c.in-Some.ensures.canonical c.in-Some-first-2.ensures.canonical order c.compare_first-order.ensures.order
     (not_Equal order c.is_ne.result c.is_ne.ensures c.if-is_ne.true)
@@ -33,16 +33,16 @@ returns-then-is_ne-clause-answer g c =
 pub advance-requires : goal.advance-requires
 advance-requires g c =
     let rank = g.T.Integer.rank in
-    let e : Entry g.row.V.Denot = shown_entry rank (λ v. v.now) c.in-Some.first in
-    let f : Entry g.row.V.Denot = shown_entry rank (λ v. v.now) c.in-Some-first-2.other_first in
+    let e : Entry g.row.V.Denot = shown_range_entry rank (λ v. v.now) c.in-Some.first in
+    let f : Entry g.row.V.Denot = shown_range_entry rank (λ v. v.now) c.in-Some-first-2.other_first in
     reaches_first c.args.left.now e (rank c.compare_first-order.result.1) c.in-Some.ensures.first
     (subst (λ m. m ≤ℤ e.hi) (sym c.compare_first-order.ensures.end) (earlier_left e.hi f.hi))
 
 pub advance-requires-in-Some-first-2 : goal.advance-requires-in-Some-first-2
 advance-requires-in-Some-first-2 g c =
     let rank = g.T.Integer.rank in
-    let e : Entry g.row.V.Denot = shown_entry rank (λ v. v.now) c.in-Some.first in
-    let f : Entry g.row.V.Denot = shown_entry rank (λ v. v.now) c.in-Some-first-2.other_first in
+    let e : Entry g.row.V.Denot = shown_range_entry rank (λ v. v.now) c.in-Some.first in
+    let f : Entry g.row.V.Denot = shown_range_entry rank (λ v. v.now) c.in-Some-first-2.other_first in
     reaches_first c.args.other.now f (rank c.compare_first-order.result.1) c.in-Some-first-2.ensures.first
     (subst (λ m. m ≤ℤ f.hi) (sym c.compare_first-order.ensures.end) (earlier_right e.hi f.hi))
 
@@ -51,8 +51,8 @@ returns-else-is_ne-clause-on g c =
     let rank = g.T.Integer.rank in
     let L : List (Entry g.row.V.Denot) = c.args.left.now in
     let M : List (Entry g.row.V.Denot) = c.args.other.now in
-    let e : Entry g.row.V.Denot = shown_entry rank (λ v. v.now) c.in-Some.first in
-    let f : Entry g.row.V.Denot = shown_entry rank (λ v. v.now) c.in-Some-first-2.other_first in
+    let e : Entry g.row.V.Denot = shown_range_entry rank (λ v. v.now) c.in-Some.first in
+    let f : Entry g.row.V.Denot = shown_range_entry rank (λ v. v.now) c.in-Some-first-2.other_first in
     let tied = sym c.compare_first-order.ensures.order ∙ is_Equal c.compare_first-order.result.0 c.is_ne.result c.is_ne.ensures c.if-is_ne.false in
     let on = compared_after g.V.PartialEq.eq g.V.Ord.cmp L M e f c.in-Some.ensures.first c.in-Some-first-2.ensures.first c.in-Some.ensures.canonical c.in-Some-first-2.ensures.canonical tied in
     let left : after (int_min f.hi e.hi) L ≡ c.advance.new.self = ap (λ m. after m L) (sym c.compare_first-order.ensures.end) ∙ sym c.advance.ensures in

@@ -2,7 +2,7 @@ use Rattle.std.proofs.Common.{[], ◌++◌, ◌∷◌, ◌∙◌, sym, ap, subst
 use Rattle.std.proofs.lemmas.List.{map-append}
 use Rattle.blaze_table.specs.Complement.{IsComplement}
 use Rattle.blaze_table.specs.Entries.{entry, SameEntries, shown_entry}
-use Rattle.blaze_table.specs.RangeSets.{bare_range, unit_eq}
+use Rattle.blaze_table.specs.RangeSets.{shown_bare_range, unit_eq}
 use Rattle.range_map_blaze.proofs.Choices.{complement_of}
 use Rattle.range_map_blaze.proofs.Made.{made_of}
 use Rattle.range_map_blaze.proofs.Streams.{same-push, range_map_as}
@@ -21,7 +21,7 @@ loop-range-init g c = (
 pub loop-range-preserved : goal.loop-range-preserved
 loop-range-preserved g c =
     let i = c.loop-range.invariant in
-    let r = bare_range g.T.Integer.rank c.in-Some.range in
+    let r = shown_bare_range g.T.Integer.rank c.in-Some.range in
     let v = c.args.value.now in
     let e = entry r.lo r.hi v in
     let items = c.loop-range.entries.items in

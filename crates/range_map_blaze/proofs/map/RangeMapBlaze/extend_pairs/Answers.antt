@@ -7,7 +7,7 @@ loop-item-init g c = underway_begun g.V.PartialEq.eq g.met.V.Eq.laws g.T.Integer
 pub loop-item-preserved : goal.loop-item-preserved
 loop-item-preserved g c =
     underway_item g.V.PartialEq.eq g.met.V.Eq.laws g.T.Integer.low g.T.Integer.high g.P.Pair.pair c.loop-item.yielded c.in-Some.item _ _ _ _
-    (c.in_ok-pending.ensures.ok _ _ c.loop-item.invariant) c.parts.ensures
+    (c.in_ok-pending.ensures.ok _ _ c.loop-item.invariant) c.parts-start.ensures
 
 pub returns-in_err-pending : goal.returns-in_err-pending
 returns-in_err-pending g c =

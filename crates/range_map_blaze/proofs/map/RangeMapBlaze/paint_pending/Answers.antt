@@ -1,12 +1,12 @@
 use Rattle.std.proofs.Common.{ap, sym, subst}
 use Rattle.std.specs.Prelude.{option_map}
 use Rattle.std.specs.Option.{option_to_list}
-use Rattle.blaze_table.specs.Entries.{shown_entry}
+use Rattle.blaze_table.specs.Entries.{shown_range_entry}
 use Rattle.range_map_blaze.specs.Extended.{IsExtended}
 use Rattle.range_map_blaze.proofs.Paints.Paintings.{extended_none}
 use Rattle.range_map_blaze.proofs.map.RangeMapBlaze.paint_pending.Goals as goal
 
 pub returns-in-None-clause-ok : goal.returns-in-None-clause-ok
 returns-in-None-clause-ok g c =
-    subst (λ ps. IsExtended g.V.PartialEq.eq g.T.Integer.low g.T.Integer.high ps c.args.self.now.entries c.args.self.now.entries) (ap (λ o. option_to_list (option_map (shown_entry g.T.Integer.rank (λ v. v)) o)) (sym c.in-None.is))
+    subst (λ ps. IsExtended g.V.PartialEq.eq g.T.Integer.low g.T.Integer.high ps c.args.self.now.entries c.args.self.now.entries) (ap (λ o. option_to_list (option_map (shown_range_entry g.T.Integer.rank (λ v. v)) o)) (sym c.in-None.is))
     (extended_none g.V.PartialEq.eq g.met.V.Eq.laws g.T.Integer.low g.T.Integer.high _ c.in_hand.ensures)

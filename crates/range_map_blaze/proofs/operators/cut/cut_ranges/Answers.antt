@@ -2,7 +2,7 @@ use Rattle.std.proofs.Common.{[], ◌++◌, ◌∷◌, ◌∙◌, sym, ap, appen
 use Rattle.std.specs.Iterator.{IsFinite}
 use Rattle.blaze_table.proofs.Pairs.UnitLaws.{unit_laws}
 use Rattle.blaze_table.specs.Chosen.{left_alone, IsChosen}
-use Rattle.blaze_table.specs.RangeSets.{bare_range, unit_eq}
+use Rattle.blaze_table.specs.RangeSets.{shown_bare_range, unit_eq}
 use Rattle.range_map_blaze.proofs.Paints.CutRanges.{cut_none, cut_more}
 use Rattle.range_map_blaze.proofs.Paints.Insides.{with_key}
 use Rattle.range_map_blaze.proofs.operators.cut.cut_ranges.Goals as goal
@@ -22,12 +22,12 @@ cut_range-requires-clause-order g c =
     let i = c.loop-range.invariant in
     let took = g.met.S.SortedDisjoint.gives _ _ _ c.in-Some.ensures.steps in
     rw (c.into_inner-start.ensures.start, c.into_inner-start.ensures.end)
-    (with_key unit_eq unit_laws g.T.Integer.low g.T.Integer.high i.0 (bare_range g.T.Integer.rank c.in-Some.range) _ _ (i.1 ∙ ap (λ rs. i.0 ++ rs) took) c.in_hand-2.ensures)
+    (with_key unit_eq unit_laws g.T.Integer.low g.T.Integer.high i.0 (shown_bare_range g.T.Integer.rank c.in-Some.range) _ _ (i.1 ∙ ap (λ rs. i.0 ++ rs) took) c.in_hand-2.ensures)
 
 pub loop-range-preserved : goal.loop-range-preserved
 loop-range-preserved g c =
     let i = c.loop-range.invariant in
-    let r = bare_range g.T.Integer.rank c.in-Some.range in
+    let r = shown_bare_range g.T.Integer.rank c.in-Some.range in
     let took = g.met.S.SortedDisjoint.gives _ _ _ c.in-Some.ensures.steps in (
       i.0 ++ r ∷ [],
       i.1 ∙ ap (λ rs. i.0 ++ rs) took ∙ sym (append_assoc i.0 (r ∷ []) _),

@@ -2,7 +2,7 @@ use Rattle.std.proofs.Common.{None, refl, ◌∙◌, ap, sym}
 use Rattle.std.specs.Option.{option_map}
 use Rattle.std.proofs.lemmas.Option.{MatchOption-at_none}
 use Rattle.blaze_int.proofs.Comparisons.{lt_holds}
-use Rattle.blaze_entries.specs.Found.{range_in, ranks_of}
+use Rattle.blaze_entries.specs.Found.{range_in, shown_ends}
 use Rattle.blaze_entries.specs.Starts.{first_entry}
 use Rattle.blaze_table.specs.Chosen.{left_alone}
 use Rattle.blaze_table.specs.Splice.{after}
@@ -15,8 +15,8 @@ pub returns-in_default-2-clause-taken : goal.returns-in_default-2-clause-taken
 returns-in_default-2-clause-taken g c =
     let none = MatchOption-at_none _ _ c.in_default.is c.in_ok-start.ensures.taken in
     elim c.in_default-2.branch [
-      | in_default-2-via-in-Some+in_default w ↦ nothing_left left_alone refl c.args.left.now c.args.right.now none.1 (sym (ap (option_map (ranks_of g.T.Integer.rank)) w.in_default-2.is-1) ∙ c.range-2.ensures.ends)
-      | in_default-2-via-in_default w ↦ nothing_alone c.args.left.now c.args.right.now (sym (ap (option_map (ranks_of g.T.Integer.rank)) w.in_default-2.is-0) ∙ c.range.ensures.ends ∙ ap (λ l. option_map range_in (first_entry l)) none.0)
+      | in_default-2-via-in-Some+in_default w ↦ nothing_left left_alone refl c.args.left.now c.args.right.now none.1 (sym (ap (option_map (shown_ends g.T.Integer.rank)) w.in_default-2.is-1) ∙ c.range-2.ensures.ends)
+      | in_default-2-via-in_default w ↦ nothing_alone c.args.left.now c.args.right.now (sym (ap (option_map (shown_ends g.T.Integer.rank)) w.in_default-2.is-0) ∙ c.range.ensures.ends ∙ ap (λ l. option_map range_in (first_entry l)) none.0)
     ]
 
 pub returns-then-is_below-clause-taken : goal.returns-then-is_below-clause-taken

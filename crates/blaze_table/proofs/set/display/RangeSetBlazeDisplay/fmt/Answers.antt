@@ -3,7 +3,7 @@ use Rattle.std.proofs.Output.{has_written_append}
 use Rattle.std.specs.Fmt.{HasWritten, ◌++?◌}
 use Rattle.std.specs.Range.{range_inclusive_start, range_inclusive_end}
 use Rattle.blaze_table.specs.Printed.{ranges_text}
-use Rattle.blaze_table.specs.RangeSets.{bare_range}
+use Rattle.blaze_table.specs.RangeSets.{shown_bare_range}
 use Rattle.blaze_table.proofs.Pairs.Texts.{split_some, range_shown}
 use Rattle.blaze_table.proofs.set.display.RangeSetBlazeDisplay.fmt.Goals as goal
 
@@ -30,7 +30,7 @@ loop-range-preserved g c = (
       let last = c.into_inner-start.result.1 in
       let first_is : of_rank (rank (range_inclusive_start c.in-Some.range)) ≡ first = ap (λ k. of_rank (rank k)) (sym c.into_inner-start.ensures.start) ∙ g.met.T.Integer.ranked.one_key first c.in_hand.ensures.from c.in_hand.ensures.to in
       let last_is : of_rank (rank (range_inclusive_end c.in-Some.range)) ≡ last = ap (λ k. of_rank (rank k)) (sym c.into_inner-start.ensures.end) ∙ g.met.T.Integer.ranked.one_key last c.in_hand-in-loop-range.ensures.from c.in_hand-in-loop-range.ensures.to in
-      let text_is = ap (λ t. Some c.loop-range.lead.now ++? t) (sym (range_shown text of_rank (bare_range rank c.in-Some.range) first last first_is last_is)) ∙ parts.2 in
+      let text_is = ap (λ t. Some c.loop-range.lead.now ++? t) (sym (range_shown text of_rank (shown_bare_range rank c.in-Some.range) first last first_is last_is)) ∙ parts.2 in
       let writes = rw text_is at c.in_ok-write.ensures.writes in
       let wrote : HasWritten g.W.Write.write_str_gives c.loop-range.f parts.0 c.write.new.self = search (rules, writes) in
       (so_far.0 ++ parts.0, parts.1, has_written_append _ _ _ _ _ _ so_far.2 wrote, parts.3, append_assoc so_far.0 parts.0 parts.1 ∙ ap (λ l. so_far.0 ++ l) parts.4 ∙ so_far.4),

@@ -1,5 +1,5 @@
 use Rattle.std.proofs.Common.{subst}
-use Rattle.blaze_table.specs.Listed.{listed}
+use Rattle.blaze_table.specs.Entries.{shown_list}
 use Rattle.blaze_table.specs.RangeSets.{IsSetOf}
 use Rattle.blaze_table.proofs.Pairs.KeySets.{set_of}
 use Rattle.blaze_table.proofs.set.range_set.RangeSetBlaze.from_ranges.Goals as goal
@@ -10,10 +10,10 @@ returns g c =
     let rank = g.T.Integer.rank in
     let low = g.T.Integer.low in
     let high = g.T.Integer.high in
-    let entries = listed rank c.in_ok-entries.entries.items in (
+    let entries = shown_list rank c.in_ok-entries.entries.items in (
       it.result,
       c.loop-range.yielded,
       it.ensures.into_iter_gives,
       (c.next.new.self, (c.loop-range.range-iterator, c.loop-range.yielded_by, c.in-None.ensures.steps)),
-      rw c.in_ok-table.ensures (subst (λ ranges. IsSetOf low high ranges entries) c.loop-range.invariant (set_of low high (listed rank c.loop-range.pairs.items) entries c.in_ok-entries.ensures)),
+      rw c.in_ok-table.ensures (subst (λ ranges. IsSetOf low high ranges entries) c.loop-range.invariant (set_of low high (shown_list rank c.loop-range.pairs.items) entries c.in_ok-entries.ensures)),
     )

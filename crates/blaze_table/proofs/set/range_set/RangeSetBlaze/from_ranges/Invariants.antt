@@ -1,8 +1,8 @@
 use Rattle.std.proofs.Common.{◌≡◌}
-use Rattle.blaze_table.specs.Listed.{listed}
-use Rattle.blaze_table.specs.RangeSets.{bare_ranges}
+use Rattle.blaze_table.specs.Entries.{shown_list}
+use Rattle.blaze_table.specs.RangeSets.{shown_bare_ranges}
 use Rattle.blaze_table.proofs.set.range_set.RangeSetBlaze.from_ranges.Given as goal
 
 -- the pairs are the ranges so far
 abbrev pub invariant-loop-range : goal.invariant-loop-range
-invariant-loop-range g l = listed g.T.Integer.rank l.pairs.items ≡ bare_ranges g.T.Integer.rank l.yielded
+invariant-loop-range g l = shown_list g.T.Integer.rank l.pairs.items ≡ shown_bare_ranges g.T.Integer.rank l.yielded
