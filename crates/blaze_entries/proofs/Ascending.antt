@@ -1,11 +1,11 @@
 -- Lists in the order of their starts: what the edits keep, and how long they are.
-use Rattle.std.proofs.Common.{◌≡◌, ◌+◌, ℤ, pos, ◌+ℤ◌, ◌≤ℤ◌, ◌<ℤ◌, true, false, cond, List, [], ◌∷◌, length, Option, Some, None, refl, arith}
+use Rattle.std.proofs.Common.{◌≡◌, ◌+◌, ℤ, pos, ◌+ℤ◌, ◌≤ℤ◌, ◌<ℤ◌, true, false, cond, List, [], ◌∷◌, ◌++◌, length, Option, Some, None, refl, arith}
 use Rattle.std.specs.Prelude.{IsSome}
 use Rattle.std.specs.Ordering.{int_cmp, int_eq}
 use Rattle.std.specs.declared.cmp.Ordering.TheVariants.{Less, Equal, Greater}
 use Rattle.std.proofs.lemmas.Int.{ints, by_lt_z}
 use Rattle.blaze_entries.specs.Entries.{Entry, entry}
-use Rattle.blaze_entries.specs.Starts.{StartsAscend, first_entry, start_at, with_entry, without, with_end, with_end_value}
+use Rattle.blaze_entries.specs.Starts.{StartsAscend, start_at, with_entry, without, with_end, with_end_value, with_last_end}
 
 -- two numbers, by their order
 pub by_order : {P : Type 0} (a b : ℤ)
@@ -17,11 +17,6 @@ by_order a b l e g = by_lt_z a b
     (λ h. by_lt_z b a (λ k. g k (grind (arith, ints)) (grind (arith, ints))) (λ k. e (omega (arith, ints)) (grind (arith, ints)) (grind (arith, ints))))
 
 module _ {V : Type 0} where
-  -- a list with no first entry
-  pub first_none : (es : List (Entry V)) → first_entry es ≡ None → es ≡ []
-  first_none [] n = refl
-  first_none (e ∷ es) n = cc
-
   -- none starts below the first
   pub start_none : (k b high : ℤ) (es : List (Entry V)) → k <ℤ b → StartsAscend b high es → start_at k es ≡ None
   start_none k b high [] l h = refl
@@ -57,6 +52,16 @@ module _ {V : Type 0} where
         | true ↦ h
         | false ↦ (h.0, h.1, start_with_end (e.lo +ℤ pos 1) high k z es h.2)
       ]
+
+  pub start_with_last_end : (b high z : ℤ) (es : List (Entry V)) → StartsAscend b high es → StartsAscend b high (with_last_end z es)
+  start_with_last_end b high z [] h = tt
+  start_with_last_end b high z (e ∷ []) h = h
+  start_with_last_end b high z (e ∷ f ∷ es) h = (h.0, h.1, start_with_last_end (e.lo +ℤ pos 1) high z (f ∷ es) h.2)
+
+  -- a front of the list
+  pub start_front : (b high : ℤ) (xs ys : List (Entry V)) → StartsAscend b high (xs ++ ys) → StartsAscend b high xs
+  start_front b high [] ys h = tt
+  start_front b high (x ∷ xs) ys h = (h.0, h.1, start_front (x.lo +ℤ pos 1) high xs ys h.2)
 
   pub start_with_end_value : (b high k z : ℤ) (v : V) (es : List (Entry V)) → StartsAscend b high es → StartsAscend b high (with_end_value k z v es)
   start_with_end_value b high k z v [] h = tt

@@ -1,15 +1,21 @@
--- Entries that a closure is asked at, one after another, where those at which it answers false go at once.
-use Rattle.std.proofs.Common.{◌≡◌, ◌<◌, ℤ, pos, negsuc, ◌+ℤ◌, ◌-ℤ◌, ◌≤ℤ◌, ◌<ℤ◌, Bool, true, false, List, [], ◌∷◌, ◌++◌, length, Some, None, refl, ◌∙◌, sym, subst, ap, arith, append_assoc}
-use Rattle.std.specs.List.{items_where_true, FoldsTo}
-use Rattle.std.specs.List.Retain.{ReturnsInTurn, IsFiltered}
+-- Entries that a closure is asked at, one after another, where those at which it answers false go.
+use Rattle.std.proofs.Common.{◌≡◌, ◌<◌, ℤ, pos, negsuc, ◌+ℤ◌, ◌-ℤ◌, ◌≤ℤ◌, ◌<ℤ◌, Bool, true, false, List, [], ◌∷◌, ◌++◌, refl, ◌∙◌, sym, subst, ap, arith, append_assoc}
+use Rattle.std.specs.Borrow.{Bor}
+use Rattle.std.specs.Fn.{Mut, Called}
+use Rattle.std.specs.List.{FoldsTo}
+use Rattle.std.specs.List.Retain.{IsFiltered}
+use Rattle.std.specs.Range.{range_inclusive_start, range_inclusive_end, range_inclusive_exhausted}
+use Rattle.std.specs.declared.ops.RangeInclusive.{RangeInclusive}
+use Rattle.std.proofs.lemmas.Fn.{FoldsTo-push}
 use Rattle.std.proofs.lemmas.Int.{ints}
-use Rattle.std.proofs.lemmas.List.{length-append, append-nil}
+use Rattle.std.proofs.lemmas.List.{append-nil}
 use Rattle.blaze_int.specs.Unsigned.{nat_of}
-use Rattle.blaze_entries.specs.Entries.{Entry}
-use Rattle.blaze_entries.specs.Starts.{StartsAscend, from, first_entry, first_from, without}
-use Rattle.blaze_entries.proofs.Ascending.{by_order, first_none}
+use Rattle.blaze_entries.specs.Answers.{IsShown, AnswersAt, SomeCallAt, IsCallableAtEach, TakesEntry, KeepsEach, KeepsUpTo}
+use Rattle.blaze_entries.specs.Entries.{Entry, shown_entry}
+use Rattle.blaze_entries.specs.Starts.{StartsAscend, from, without}
+use Rattle.blaze_entries.proofs.Ascending.{by_order}
+use Rattle.blaze_entries.proofs.InTurn.{kept_calls, filtered_kept, filtered_dropped, folds-append}
 use Rattle.blaze_entries.proofs.Halves.{StartsBelow, from_skips, from_all, more_below}
-use Rattle.blaze_entries.proofs.InTurn.{returns-push, folds-returned, picked-push_true, picked-push_false}
 
 -- less is left up to high from a greater key on
 pub fewer_left : (high a b : ℤ) → a <ℤ b → a ≤ℤ high → nat_of (high +ℤ pos 1 -ℤ b) < nat_of (high +ℤ pos 1 -ℤ a)
@@ -25,139 +31,173 @@ module _ {V : Type 0} where
   from_past k [] ys h = refl
   from_past k (x ∷ xs) ys h = from_skips k x (xs ++ ys) h.0 ∙ from_past k xs ys h.1
 
-  without_past : (k : ℤ) (xs ys : List (Entry V)) → StartsBelow k xs → without k (xs ++ ys) ≡ xs ++ without k ys
-  without_past k [] ys h = refl
-  without_past k (x ∷ xs) ys h = by_order k x.lo
+  -- without the first that starts at or above its start
+  without_past : (xs : List (Entry V)) (e : Entry V) (ys : List (Entry V)) → StartsBelow e.lo xs → without e.lo (xs ++ e ∷ ys) ≡ xs ++ ys
+  without_past [] e ys h = by_order e.lo e.lo (λ o p q. absurd (omega (arith, ints))) (λ o p q. rw q refl) (λ o p q. absurd (omega (arith, ints)))
+  without_past (x ∷ xs) e ys h = by_order e.lo x.lo
       (λ o p q. absurd (omega (arith, ints, h.0)))
       (λ o p q. absurd (omega (arith, ints, h.0)))
-      (λ o p q. rw q (ap (λ l. x ∷ l) (without_past k xs ys h.1)))
+      (λ o p q. rw q (ap (λ l. x ∷ l) (without_past xs e ys h.1)))
 
-  pub without_first : (e : Entry V) (es : List (Entry V)) → without e.lo (e ∷ es) ≡ es
-  without_first e es = by_order e.lo e.lo (λ o p q. absurd (omega (arith, ints))) (λ o p q. rw q refl) (λ o p q. absurd (omega (arith, ints)))
+  below_both : (k : ℤ) (xs ys : List (Entry V)) → StartsBelow k xs → StartsBelow k ys → StartsBelow k (xs ++ ys)
+  below_both k [] ys h i = i
+  below_both k (x ∷ xs) ys h i = (h.0, below_both k xs ys h.1 i)
 
-  below_picked : (k : ℤ) (bs : List Bool) (xs : List (Entry V)) → StartsBelow k xs → StartsBelow k (items_where_true bs xs)
-  below_picked k [] xs h = tt
-  below_picked k (b ∷ bs) [] h = tt
-  below_picked k (true ∷ bs) (x ∷ xs) h = (h.0, below_picked k bs xs h.1)
-  below_picked k (false ∷ bs) (x ∷ xs) h = below_picked k bs xs h.1
+  -- an entry among others in order
+  record IsPlaced (k high : ℤ) (xs : List (Entry V)) (e : Entry V) (ys : List (Entry V)) : Type 0 where
+    starts : k ≤ℤ e.lo
+    is_key : e.lo ≤ℤ high
+    below : StartsBelow e.lo xs
+    above : StartsAscend (e.lo +ℤ pos 1) high ys
 
-  below_push : (k j : ℤ) (xs : List (Entry V)) (e : Entry V) → k ≤ℤ j → e.lo <ℤ j → StartsBelow k xs → StartsBelow j (xs ++ e ∷ [])
-  below_push k j [] e l m h = (m, tt)
-  below_push k j (x ∷ xs) e l m h = (omega (arith, ints, h.0), below_push k j xs e l m h.1)
+  placed : (k high : ℤ) (xs : List (Entry V)) (e : Entry V) (ys : List (Entry V)) → StartsAscend k high (xs ++ e ∷ ys) → IsPlaced k high xs e ys
+  placed k high [] e ys h = record { starts = h.0; is_key = h.1; below = tt; above = h.2 }
+  placed k high (x ∷ xs) e ys h =
+      let p = placed (x.lo +ℤ pos 1) high xs e ys h.2 in
+      record { starts = omega (arith, ints, h.0, p.starts); is_key = p.is_key; below = (omega (arith, ints, p.starts), p.below); above = p.above }
 
-module _ {F V : Type 0} (R : F → Entry V → Bool → F → Type 0) (f : F) (low high : ℤ) (old : List (Entry V)) where
-  -- the entries that start below k were asked at, and the list is what is kept of them, and the others
-  pub record IsAsked (k : ℤ) (es : List (Entry V)) (g : F) : Type 0 where
+module _ {F T V : Type 0} (rank : T → ℤ) (g : Mut F (Bor (RangeInclusive T) × (Bor V × Unit {0})) Bool) where
+  -- f was asked at the entries of es before `rest`, keeps each of them, and is now h
+  pub record IsKeptBefore (f : F) (es rest : List (Entry V)) (h : F) : Type 0 where
+    pub done : List (Entry V)
+    pub parts : es ≡ done ++ rest
+    pub kept : KeepsEach rank g f done h
+
+  -- f was asked at those of the entries `old` that start below k, and is now h: es has what is kept of them, and then the others
+  pub record IsAsked (f : F) (high : ℤ) (old : List (Entry V)) (k : ℤ) (es : List (Entry V)) (h : F) : Type 0 where
     pub done : List (Entry V)
     pub others : List (Entry V)
-    pub answers : List Bool
-    pub parts : old ≡ done ++ others
-    pub long : length answers ≡ length done
-    pub returns : ReturnsInTurn R f answers done g
-    pub kept : es ≡ items_where_true answers done ++ others
+    pub parts : es ≡ done ++ others
     pub below : StartsBelow k done
     pub above : StartsAscend k high others
+    pub callable : IsCallableAtEach rank g h others
+    pub filtered : (kept : List (Entry V)) → IsFiltered (AnswersAt rank g) h others kept
+        → IsFiltered (AnswersAt rank g) f old (done ++ kept)
 
-  pub asked_none : StartsAscend low high old → IsAsked low old f
-  asked_none a = record {
-    done = [];
-    others = old;
-    answers = [];
-    parts = refl;
-    long = refl;
-    returns = refl;
-    kept = refl;
-    below = tt;
-    above = a;
+  -- what may be called at entries in turn may be called at the later ones after the calls at the others
+  callable_after : (f h : F) (xs ys : List (Entry V)) → IsCallableAtEach rank g f (xs ++ ys)
+      → FoldsTo (SomeCallAt rank g) f xs h → IsCallableAtEach rank g h ys
+  callable_after f h xs ys c p = record {
+    at = λ before after e i q r. c.at (xs ++ before) after e i (ap (λ l. xs ++ l) q ∙ sym (append_assoc xs before (e ∷ after)))
+        (folds-append (SomeCallAt rank g) f h i xs before p r);
   }
 
-  module _ (k : ℤ) (es : List (Entry V)) (g : F) (h : IsAsked k es g) where
-    from_is : from k es ≡ h.others
-    from_is = ap (from k) h.kept ∙ from_past k (items_where_true h.answers h.done) h.others (below_picked k h.answers h.done h.below) ∙ from_all k k high h.others (omega (arith, ints)) h.above
+module _ {F T V : Type 0} {rank : T → ℤ} {g : Mut F (Bor (RangeInclusive T) × (Bor V × Unit {0})) Bool} where
+  -- a range from an entry's first key up to its last, beside its value
+  pub is_shown : {start end : T} {range : Bor (RangeInclusive T)} {value : Bor V} → range_inclusive_start range.now ≡ start
+      → range_inclusive_end range.now ≡ end → range_inclusive_exhausted range.now ≡ false
+      → IsShown rank g (shown_entry rank (λ v. v.now) (start, end, value)) range value
+  is_shown s e w = record { starts = ap rank s; ends = ap rank e; whole = w; stored = refl }
 
-    all_asked : h.others ≡ [] → IsFiltered R f old es
-    all_asked n =
-        let all : old ≡ h.done = h.parts ∙ ap (λ l. h.done ++ l) n ∙ append-nil h.done in (
-          h.answers,
-          g,
-          h.long ∙ sym (ap length all),
-          subst (λ l. ReturnsInTurn R f h.answers l g) (sym all) h.returns,
-          h.kept ∙ ap (λ l. items_where_true h.answers h.done ++ l) n ∙ append-nil (items_where_true h.answers h.done) ∙ ap (items_where_true h.answers) (sym all),
-        )
+  pub answers_at : {f h : F} {e : Entry V} {range : Bor (RangeInclusive T)} {value : Bor V} {r b : Bool}
+      → Called g f (range, (value, tt)) r h → IsShown rank g e range value → r ≡ b → AnswersAt rank g f e b h
+  answers_at {f} {h} {e} c i q = subst (λ r. AnswersAt rank g f e r h) q (record { range = _; value = _; shown = i; called = c })
 
-    -- nothing is left from k on
-    pub asked_all : None ≡ first_from k es → IsFiltered R f old es
-    asked_all n = all_asked (sym from_is ∙ first_none (from k es) (sym n))
+  pub kept_none : (f : F) (es rest : List (Entry V)) → rest ≡ es → IsKeptBefore rank g f es rest f
+  kept_none f es rest q = record { done = []; parts = sym q; kept = refl }
 
-    -- nothing is left above the greatest key
-    pub asked_top : high <ℤ k → IsFiltered R f old es
-    asked_top l = all_asked (empty h.others h.above)
+  module _ {f : F} {es left : List (Entry V)} {h : F} (k : IsKeptBefore rank g f es left h) where
+    pub kept_all : left ≡ [] → KeepsEach rank g f es h
+    kept_all q = subst (λ l. KeepsEach rank g f l h) (sym (k.parts ∙ ap (λ l. k.done ++ l) q ∙ append-nil k.done)) k.kept
+
+    module _ {e : Entry V} {rest : List (Entry V)} (next : left ≡ e ∷ rest) where
+      parts : es ≡ k.done ++ e ∷ rest
+      parts = k.parts ∙ ap (λ l. k.done ++ l) next
+
+      pub kept_callable : IsCallableAtEach rank g f es → TakesEntry rank g h e
+      kept_callable c = c.at k.done rest e h parts (kept_calls (AnswersAt rank g) f h k.done k.kept)
+
+      pub kept_more : {i : F} → AnswersAt rank g h e true i → IsKeptBefore rank g f es rest i
+      kept_more {i} a = record {
+        done = k.done ++ e ∷ [];
+        parts = parts ∙ sym (append_assoc k.done (e ∷ []) rest);
+        kept = FoldsTo-push (λ s e t. AnswersAt rank g s e true t) f k.done h e i k.kept a;
+      }
+
+      pub kept_up_to : {i : F} → AnswersAt rank g h e false i → KeepsUpTo rank g f es e.lo i
+      kept_up_to a = record {
+        before = k.done;
+        first = e;
+        after = rest;
+        parts = parts;
+        starts = refl;
+        between = h;
+        kept = k.kept;
+        dropped = a;
+      }
+
+  pub asked_none : {f : F} {low high : ℤ} {old : List (Entry V)} {k : ℤ} → k ≡ low → StartsAscend low high old
+      → IsCallableAtEach rank g f old → IsAsked rank g f high old k old f
+  asked_none {f} {low} {high} {old} q a c = record {
+    done = [];
+    others = old;
+    parts = refl;
+    below = tt;
+    above = subst (λ k. StartsAscend k high old) (sym q) a;
+    callable = c;
+    filtered = λ kept i. i;
+  }
+
+  module _ {f : F} {high : ℤ} {old : List (Entry V)} {k : ℤ} {es : List (Entry V)} {h : F} (a : IsAsked rank g f high old k es h) where
+    others_are : a.others ≡ from k es
+    others_are =
+        sym (ap (from k) a.parts ∙ from_past k a.done a.others a.below ∙ from_all k k high a.others (omega (arith, ints)) a.above)
+
+    pub asked_callable : IsCallableAtEach rank g h (from k es)
+    asked_callable = subst (IsCallableAtEach rank g h) others_are a.callable
+
+    keeps_others : (i : F) → KeepsEach rank g h a.others i → IsFiltered (AnswersAt rank g) f old es
+    keeps_others i e =
+        let all = filtered_kept (AnswersAt rank g) h i a.others [] [] e ([], i, refl, refl, refl) in
+        subst (IsFiltered (AnswersAt rank g) f old) (sym a.parts)
+        (a.filtered a.others (subst (λ l. IsFiltered (AnswersAt rank g) h l l) (append-nil a.others) all))
+
+    -- each of the others is kept
+    pub asked_all : (i : F) → KeepsEach rank g h (from k es) i → IsFiltered (AnswersAt rank g) f old es
+    asked_all i e = keeps_others i (subst (λ l. KeepsEach rank g h l i) (sym others_are) e)
+
+    -- none is left above the greatest key
+    pub asked_top : high <ℤ k → IsFiltered (AnswersAt rank g) f old es
+    asked_top l = by_others a.others a.above refl
       where
-        empty : (xs : List (Entry V)) → StartsAscend k high xs → xs ≡ []
-        empty [] a = refl
-        empty (x ∷ xs) a = absurd (omega (arith, ints, a.0, a.1))
+        by_others : (xs : List (Entry V)) → StartsAscend k high xs → a.others ≡ xs → IsFiltered (AnswersAt rank g) f old es
+        by_others [] s q = keeps_others h (subst (λ l. KeepsEach rank g h l h) (sym q) refl)
+        by_others (x ∷ xs) s q = absurd (omega (arith, ints, s.0, s.1))
 
-    module _ (e : Entry V) (is : Some e ≡ first_from k es) where
-      pub record IsNextAsked : Type 0 where
-        pub rest : List (Entry V)
-        pub split : h.others ≡ e ∷ rest
-        pub starts : k ≤ℤ e.lo
-        pub is_key : e.lo ≤ℤ high
-        pub above : StartsAscend (e.lo +ℤ pos 1) high rest
+    -- the others are kept up to one that goes
+    module _ {start : ℤ} {i : F} (u : KeepsUpTo rank g h (from k es) start i) where
+      split : a.others ≡ u.before ++ u.first ∷ u.after
+      split = others_are ∙ u.parts
 
-      pub next_asked : IsNextAsked
-      next_asked = first h.others (sym (ap first_entry from_is) ∙ sym is) refl
-        where
-          first : (xs : List (Entry V)) → first_entry xs ≡ Some e → h.others ≡ xs → IsNextAsked
-          first [] p q = cc
-          first (x ∷ xs) p q =
-              let same : x ≡ e = cc in
-              let a : StartsAscend k high (e ∷ xs) = subst (λ (y : Entry V). StartsAscend k high (y ∷ xs)) same (subst (StartsAscend k high) q h.above) in
-              record {
-                rest = xs;
-                split = q ∙ ap (λ y. y ∷ xs) same;
-                starts = a.0;
-                is_key = a.1;
-                above = a.2;
-              }
+      here : IsPlaced k high u.before u.first u.after
+      here = placed k high u.before u.first u.after (subst (StartsAscend k high) split a.above)
 
-      pub asked_parts : old ≡ h.done ++ e ∷ next_asked.rest
-      asked_parts = h.parts ∙ ap (λ l. h.done ++ l) next_asked.split
+      pub next_starts : k ≤ℤ start
+      next_starts = omega (arith, ints, here.starts, u.starts)
 
-      pub asked_folds : FoldsTo (λ s x t. (b : Bool) × R s x b t) f h.done g
-      asked_folds = folds-returned R f g h.answers h.done h.long h.returns
+      pub next_is_key : start ≤ℤ high
+      next_is_key = omega (arith, ints, here.is_key, u.starts)
 
-      one_more : old ≡ (h.done ++ e ∷ []) ++ next_asked.rest
-      one_more = asked_parts ∙ sym (append_assoc h.done (e ∷ []) next_asked.rest)
-
-      -- the entry stays
-      pub asked_yes : (g' : F) → R g e true g' → IsAsked (e.lo +ℤ pos 1) es g'
-      asked_yes g' r = record {
-        done = h.done ++ e ∷ [];
-        others = next_asked.rest;
-        answers = h.answers ++ true ∷ [];
-        parts = one_more;
-        long = omega (arith, h.long, length-append h.answers (true ∷ []), length-append h.done (e ∷ []));
-        returns = returns-push R f g g' h.answers h.done true e h.long h.returns r;
-        kept = h.kept ∙ ap (λ l. items_where_true h.answers h.done ++ l) next_asked.split ∙ sym (append_assoc (items_where_true h.answers h.done) (e ∷ []) next_asked.rest)
-            ∙ ap (λ l. l ++ next_asked.rest) (sym (picked-push_true h.answers h.done e h.long));
-        below = below_push k (e.lo +ℤ pos 1) h.done e (omega (arith, ints, next_asked.starts)) (omega (arith, ints)) h.below;
-        above = next_asked.above;
-      }
-
-      -- the entry goes
-      pub asked_no : (g' : F) (new : List (Entry V)) → R g e false g' → new ≡ without e.lo es → IsAsked (e.lo +ℤ pos 1) new g'
-      asked_no g' new r n = record {
-        done = h.done ++ e ∷ [];
-        others = next_asked.rest;
-        answers = h.answers ++ false ∷ [];
-        parts = one_more;
-        long = omega (arith, h.long, length-append h.answers (false ∷ []), length-append h.done (e ∷ []));
-        returns = returns-push R f g g' h.answers h.done false e h.long h.returns r;
-        kept = n ∙ ap (without e.lo) (h.kept ∙ ap (λ l. items_where_true h.answers h.done ++ l) next_asked.split)
-            ∙ without_past e.lo (items_where_true h.answers h.done) (e ∷ next_asked.rest) (below_picked e.lo h.answers h.done (more_below k e.lo h.done next_asked.starts h.below))
-            ∙ ap (λ l. items_where_true h.answers h.done ++ l) (without_first e next_asked.rest)
-            ∙ ap (λ l. l ++ next_asked.rest) (sym (picked-push_false h.answers h.done e h.long));
-        below = below_push k (e.lo +ℤ pos 1) h.done e (omega (arith, ints, next_asked.starts)) (omega (arith, ints)) h.below;
-        above = next_asked.above;
-      }
+      pub next_asked : {new : List (Entry V)} {j : ℤ} → new ≡ without start es → j ≡ start +ℤ pos 1 → IsAsked rank g f high old j new i
+      next_asked {new} {j} q n =
+          let below = below_both u.first.lo a.done u.before (more_below k u.first.lo a.done here.starts a.below) here.below in
+          let next : u.first.lo +ℤ pos 1 ≡ j = omega (arith, ints, n, u.starts) in
+          record {
+            done = a.done ++ u.before;
+            others = u.after;
+            parts = q ∙ ap (λ s. without s es) u.starts
+                ∙ ap (without u.first.lo)
+                (a.parts ∙ ap (λ l. a.done ++ l) split ∙ sym (append_assoc a.done u.before (u.first ∷ u.after)))
+                ∙ without_past (a.done ++ u.before) u.first u.after below;
+            below = more_below u.first.lo j (a.done ++ u.before) (omega (arith, ints, next)) below;
+            above = subst (λ s. StartsAscend s high u.after) next here.above;
+            callable = callable_after rank g u.between i (u.first ∷ []) u.after
+                (callable_after rank g h u.between u.before (u.first ∷ u.after) (subst (IsCallableAtEach rank g h) split a.callable)
+                (kept_calls (AnswersAt rank g) h u.between u.before u.kept))
+                (i, (false, u.dropped), refl);
+            filtered = λ kept t.
+                let dropped = filtered_dropped (AnswersAt rank g) u.between i u.first u.after kept u.dropped t in
+                let others = filtered_kept (AnswersAt rank g) h u.between u.before (u.first ∷ u.after) kept u.kept dropped in
+                subst (IsFiltered (AnswersAt rank g) f old) (sym (append_assoc a.done u.before kept))
+                (a.filtered (u.before ++ kept) (subst (λ l. IsFiltered (AnswersAt rank g) h l (u.before ++ kept)) (sym split) others));
+          }

@@ -6,7 +6,7 @@ use Rattle.std.specs.declared.cmp.Ordering.TheVariants.{Less, Equal, Greater}
 use Rattle.std.specs.List.{filter, last_or}
 use Rattle.std.specs.Option.{option_map}
 use Rattle.blaze_entries.specs.Entries.{Entry, entry}
-use Rattle.blaze_entries.specs.Starts.{StartsAscend, below, from, up_to, first_entry, last_below, first_from, start_at, with_entry, without, with_end, with_end_value, IsStartMoved, IsFrontReplaced}
+use Rattle.blaze_entries.specs.Starts.{StartsAscend, below, from, up_to, first_entry, last_below, first_from, start_at, with_entry, without, with_end, with_end_value, with_last_end, IsStartMoved, IsFrontReplaced}
 use Rattle.blaze_entries.specs.Nodes.{held, full, AreFull, AreHeld}
 
 module _ {V : Type 0} where
@@ -96,6 +96,11 @@ module _ {V : Type 0} where
         | true ↦ refl
         | false ↦ ap (λ l. held e ∷ l) (with_end-held k h es)
       ]
+
+  pub with_last_end-held : (h : ℤ) (es : List (Entry V)) → with_last_end h (map held es) ≡ map held (with_last_end h es)
+  with_last_end-held h [] = refl
+  with_last_end-held h (e ∷ []) = refl
+  with_last_end-held h (e ∷ f ∷ es) = ap (λ l. held e ∷ l) (with_last_end-held h (f ∷ es))
 
   pub with_end_value-held : (k h : ℤ) (v : V) (es : List (Entry V)) → with_end_value k h (Some v) (map held es) ≡ map held (with_end_value k h v es)
   with_end_value-held k h v [] = refl

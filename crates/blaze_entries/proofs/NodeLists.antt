@@ -1,22 +1,24 @@
 -- What the map's own edits and searches are on the entries that it shows.
-use Rattle.std.proofs.Common.{◌≡◌, ℤ, pos, ◌+ℤ◌, Bool, true, false, cond, not, ◌&&◌, List, [], ◌∷◌, ◌++◌, Option, Some, None, refl, ◌∙◌, sym, ap, arith}
+use Rattle.std.proofs.Common.{◌≡◌, ◌-◌, length, ℤ, pos, ◌+ℤ◌, ◌≤ℤ◌, Bool, true, false, cond, not, ◌&&◌, List, [], ◌∷◌, ◌++◌, Option, Some, None, refl, ◌∙◌, sym, subst, ap, arith}
 use Rattle.std.specs.Prelude.{int_lt, int_le, map}
 use Rattle.std.specs.Ordering.{int_cmp, int_eq, is_gt, is_le, is_lt, match_ordering, on}
 use Rattle.std.specs.declared.cmp.Ordering.{Ordering}
 use Rattle.std.specs.declared.cmp.Ordering.TheVariants.{Less, Equal, Greater}
-use Rattle.std.specs.List.{filter, last_or}
+use Rattle.std.specs.List.{filter, last_or, slice_get}
 use Rattle.std.specs.Option.{option_map}
-use Rattle.std.specs.Map.{lookup, remove_entry}
+use Rattle.std.specs.Map.{lookup, remove_entry, keys_of, values_of}
 use Rattle.std.specs.Map.Iter.{TakesFirst, TakesLast}
 use Rattle.std.specs.BTreeMap.{insert_entry, is_at}
 use Rattle.std.specs.BTreeMap.Range.{entries_between, entries_below, entries_from}
 use Rattle.std.specs.declared.ops.Bound.TheVariants.{Included, Excluded, Unbounded}
 use Rattle.std.proofs.lemmas.Int.{ints}
-use Rattle.blaze_entries.specs.Entries.{entry}
+use Rattle.std.proofs.lemmas.List.{length-map}
+use Rattle.std.proofs.lemmas.Option.{slice_get-map}
+use Rattle.blaze_entries.specs.Entries.{Entry, entry}
 use Rattle.blaze_entries.specs.Changed.{changed}
 use Rattle.blaze_entries.specs.declared.nodes.EndValue.{EndValue}
 use Rattle.blaze_entries.specs.Nodes.{shown_nodes, shown_node, shown_node_at}
-use Rattle.blaze_entries.specs.Starts.{StartsAscend, below, from, up_to, first_entry, last_below, start_at, with_entry, without, with_end, with_end_value}
+use Rattle.blaze_entries.specs.Starts.{StartsAscend, below, from, up_to, first_entry, last_below, start_at, with_entry, without, with_end, with_end_value, with_last_end}
 use Rattle.blaze_entries.proofs.Ascending.{by_order}
 
 pub last_of_append : {X : Type 0} (o : Option X) (t : List X) (e : X) → last_or o (t ++ e ∷ []) ≡ Some e
@@ -166,3 +168,42 @@ module _ {T V : Type 0} (rank : T → ℤ) where
 
     pub as_entries_from : shown_nodes rank (entries_from (on rank int_cmp k) m) ≡ from (rank k) (shown_nodes rank m)
     as_entries_from = as_entries_filter (λ q. is_le (int_cmp (rank k) (rank q))) (λ z. int_le (rank k) z) (λ q. up_to_is (rank k) (rank q)) m
+
+-- the last entry with another end: what the list is with an entry at its start
+with_last : {V : Type 0} (h b high : ℤ) (x : Entry V) (xs : List (Entry V)) (e : Entry V) → StartsAscend b high (x ∷ xs) → slice_get (x ∷ xs) (length xs) ≡ Some e
+    → (b ≤ℤ e.lo) × (with_entry (entry e.lo h e.value) (x ∷ xs) ≡ with_last_end h (x ∷ xs))
+with_last {V} h b high x [] e s p =
+    let same : x ≡ e = cc in
+    subst (λ (f : Entry V). (b ≤ℤ f.lo) × (with_entry (entry f.lo h f.value) (x ∷ []) ≡ entry x.lo h x.value ∷ [])) same
+    (s.0, by_order x.lo x.lo (λ o p q. absurd (omega (arith, ints))) (λ o p q. rw p refl) (λ o p q. absurd (omega (arith, ints))))
+with_last h b high x (y ∷ ys) e s p =
+    let later = with_last h (x.lo +ℤ pos 1) high y ys e s.2 p in
+    let up = later.0 in (
+      omega (arith, ints, s.0, up),
+      by_order e.lo x.lo (λ o p q. absurd (omega (arith, ints))) (λ o p q. absurd (omega (arith, ints))) (λ o p q. rw p (ap (λ l. x ∷ l) later.1)),
+    )
+
+-- a value written through the last entry of a map, which differs in its end
+pub last_end_written : {T V : Type 0} (rank : T → ℤ) (low high : ℤ) (m new : List (T × EndValue T V)) (k h : T) (v : EndValue T V) (written : EndValue T V → List (T × EndValue T V))
+    → StartsAscend low high (shown_nodes rank m) → slice_get (keys_of m) (length m - 1) ≡ Some k → slice_get (values_of m) (length m - 1) ≡ Some v
+    → ((w : EndValue T V) → written w ≡ insert_entry (on rank int_cmp) m k w) → new ≡ written (record v { end = h })
+    → shown_nodes rank new ≡ with_last_end (rank h) (shown_nodes rank m)
+last_end_written {T} {V} rank low high m new k h v written s p q u n =
+    ap (shown_nodes rank) n ∙ ap (shown_nodes rank) (u (record v { end = h })) ∙ as_entries_insert rank k m (record v { end = h })
+    ∙ by_list m s p q
+  where
+    both : (o : Option (T × EndValue T V)) → option_map (λ e. e.0) o ≡ Some k → option_map (λ e. e.1) o ≡ Some v → o ≡ Some (k, v)
+    both None p q = cc
+    both (Some e) p q =
+        let first : e.0 ≡ k = cc in
+        let second : e.1 ≡ v = cc in
+        ap (λ x. Some (x, e.1)) first ∙ ap (λ y. Some (k, y)) second
+
+    by_list : (es : List (T × EndValue T V)) → StartsAscend low high (shown_nodes rank es) → slice_get (keys_of es) (length es - 1) ≡ Some k → slice_get (values_of es) (length es - 1) ≡ Some v
+        → with_entry (entry (rank k) (rank h) v.value) (shown_nodes rank es) ≡ with_last_end (rank h) (shown_nodes rank es)
+    by_list [] s p q = absurd (cc)
+    by_list (x ∷ es) s p q =
+        let place : length (x ∷ es) - 1 ≡ length (shown_nodes rank es) = omega (arith, length-map es (shown_node rank)) in
+        let found = both (slice_get (x ∷ es) (length (x ∷ es) - 1)) (sym (slice_get-map (λ e. e.0) (x ∷ es) (length (x ∷ es) - 1)) ∙ p) (sym (slice_get-map (λ e. e.1) (x ∷ es) (length (x ∷ es) - 1)) ∙ q) in
+        (with_last (rank h) low high (shown_node rank x) (shown_nodes rank es) (shown_node rank (k, v)) s
+        (ap (slice_get (shown_nodes rank (x ∷ es))) (sym place) ∙ slice_get-map (shown_node rank) (x ∷ es) (length (x ∷ es) - 1) ∙ ap (option_map (shown_node rank)) found)).1

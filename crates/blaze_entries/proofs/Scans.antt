@@ -1,5 +1,5 @@
 -- What a look at the last of the nodes that are left says, and what a walk has after it.
-use Rattle.std.proofs.Common.{◌≡◌, ℕ, ◌+◌, ◌<◌, length, ℤ, pos, ◌+ℤ◌, ◌-ℤ◌, ◌≤ℤ◌, Bool, true, false, cond, List, [], ◌∷◌, ◌++◌, Option, Some, None, ◌∙◌, sym, ap, arith, length-append}
+use Rattle.std.proofs.Common.{◌≡◌, ℕ, ◌+◌, ◌<◌, ◌≤◌, length, ℤ, pos, ◌+ℤ◌, ◌-ℤ◌, ◌≤ℤ◌, Bool, true, false, cond, List, [], ◌∷◌, ◌++◌, Option, Some, None, ◌∙◌, sym, ap, arith, length-append}
 use Rattle.std.specs.Prelude.{MatchOption, int_lt, int_le, reverse}
 use Rattle.std.proofs.lemmas.Int.{ints}
 use Rattle.std.proofs.lemmas.List.{length-map, reverse-append}
@@ -9,7 +9,8 @@ use Rattle.blaze_entries.specs.Nodes.{held, full, shown_nodes, shown_node, AreFu
 use Rattle.std.specs.Int.{int_max, int_min}
 use Rattle.blaze_entries.specs.Overlap.{shared, overlap}
 use Rattle.blaze_entries.specs.Scanned.{Seen, seen, walked, seen_value, walked_value, answers, walked_keys}
-use Rattle.blaze_entries.specs.declared.found.Found.{Found}
+use Rattle.blaze_entries.specs.Starts.{below}
+use Rattle.blaze_entries.specs.declared.range_entry.RangeEntry.{RangeEntry}
 use Rattle.blaze_entries.specs.declared.nodes.EndValue.{EndValue}
 
 -- what shows the last entry
@@ -23,8 +24,16 @@ shown_none None es fs q h = h.0
 shown_none (Some f) es fs q h = cc
 
 -- what was looked at with its value is the entry
-pub found_entry : {T V : Type 0} {rank : T → ℤ} {test : V → Bool} {f : Found T} {w : V} {e : Entry V} → IsFoundAt rank test f w e → entry (rank f.start) (rank f.end) w ≡ e
+pub found_entry : {T V : Type 0} {rank : T → ℤ} {test : V → Bool} {f : RangeEntry T Bool} {w : V} {e : Entry V} → IsFoundAt rank test f w e → entry (rank f.start) (rank f.end) w ≡ e
 found_entry {w = w} {e = e} i = ap (λ (t : ℤ × ℤ × Bool). entry t.0 t.1 w) i.found ∙ ap (entry e.lo e.hi) i.value
+
+-- a part is no longer than the whole
+pub length-below : {V : Type 0} (k : ℤ) (es : List (Entry V)) → length (below k es) ≤ length es
+length-below k [] = omega arith
+length-below k (e ∷ es) = elim (int_lt e.lo k) as (λ b. length (cond b (e ∷ below k es) (below k es)) ≤ length (e ∷ es)) [
+  | true ↦ omega (arith, length-below k es)
+  | false ↦ omega (arith, length-below k es)
+]
 
 -- as many nodes as entries
 pub length-nodes : {T V : Type 0} (rank : T → ℤ) (m : List (T × EndValue T (Option V))) → AreFull (shown_nodes rank m) → length m ≡ length (full (shown_nodes rank m))

@@ -9,7 +9,7 @@ use Rattle.blaze_entries.specs.Entries.{Entry}
 use Rattle.blaze_entries.specs.Nodes.{held, full, shown_node, shown_nodes, entries_of, AreFull, AreHeld}
 use Rattle.blaze_entries.specs.Starts.{StartsAscend}
 use Rattle.blaze_entries.specs.declared.nodes.EndValue.{EndValue}
-use Rattle.blaze_entries.proofs.Ascending.{start_lower}
+use Rattle.blaze_entries.proofs.Ascending.{start_front, start_lower}
 use Rattle.blaze_entries.proofs.Held.{full-held}
 use Rattle.blaze_entries.proofs.Lent.{no_value}
 
@@ -137,8 +137,23 @@ rest_is_held {V = V} {es = es} {qs = qs} t low high h = record { ascend = by_ent
         let all = subst (StartsAscend low high) y h in
         start_lower (e.lo +ℤ pos 1) low high (full qs) (omega (arith, ints, all.0)) all.2
 
+-- and so is what a step off the back leaves
+pub front_is_held : {A V : Type 0} {shows : A → Entry (Option V)} {es : List (Entry V)} {r : Option A} {qs : List (Entry (Option V))} (t : Taken shows (λ fs e. fs ++ e ∷ []) es r qs) (low high : ℤ)
+    → StartsAscend low high es → AreHeld low high qs
+front_is_held {V = V} {es = es} {qs = qs} t low high h = record { ascend = by_entry t.entry t.yields; full = t.others }
+  where
+    by_entry : (o : Option (Entry V)) → MatchOption o ((es ≡ []) × (full qs ≡ [])) (λ e. es ≡ full qs ++ e ∷ []) → StartsAscend low high (full qs)
+    by_entry None y = subst (StartsAscend low high) (sym y.1) tt
+    by_entry (Some e) y = start_front low high (full qs) (e ∷ []) (subst (StartsAscend low high) y h)
+
 -- what a call that takes the first of a list out says, as a step of the list
 pub pops_first : {X : Type 0} (nodes : List X) (r : Option X) (rest : List X) → IsSome r ↔ (0 < length nodes) → IfSome r (λ p. nodes ≡ p ∷ rest) → IfNone r (rest ≡ nodes) → TakesFirst (λ p. p) nodes r rest
 pops_first [] None rest v s n = (refl, n)
 pops_first {X} (x ∷ nodes) None rest v s n = absurd (no_value X (v.1 (omega arith)))
 pops_first nodes (Some p) rest v s n = s
+
+-- the same of the last
+pub pops_last : {X : Type 0} (nodes : List X) (r : Option X) (rest : List X) → IsSome r ↔ (0 < length nodes) → IfSome r (λ p. nodes ≡ rest ++ p ∷ []) → IfNone r (rest ≡ nodes) → TakesLast (λ p. p) nodes r rest
+pops_last [] None rest v s n = (refl, n)
+pops_last {X} (x ∷ nodes) None rest v s n = absurd (no_value X (v.1 (omega arith)))
+pops_last nodes (Some p) rest v s n = s

@@ -23,8 +23,3 @@ module _ {V : Type 0} (f : List (Entry V) → List (Entry V)) (s : CountedEntrie
 -- entries of which nothing was counted
 pub begun : {V : Type 0} (es fs : List (Entry V)) (a b c : ℕ) → es ≡ fs → a ≡ 0 → b ≡ 0 → c ≡ 0 → counted es a b c ≡ uncounted fs
 begun es fs a b c e p q r = ap (λ x. counted x a b c) e ∙ ap (λ x. counted fs x b c) p ∙ ap (λ x. counted fs 0 x c) q ∙ ap (λ x. counted fs 0 0 x) r
-
--- looks at the entries
-pub looked : {V : Type 0} (m : List (Entry V) → ℕ) (s : CountedEntries V) (a b c n : ℕ) (es : List (Entry V)) → counted es a b c ≡ s → n ≡ a + m es → counted es n b c ≡ record s { looks = s.looks + m s.entries }
-looked {V} m s a b c n es was q =
-    subst (λ (t : CountedEntries V). counted es n b c ≡ record t { looks = t.looks + m t.entries }) was (ap (λ k. counted es k b c) q)

@@ -2,7 +2,7 @@
 use Rattle.std.specs.Prelude.{◌≡◌, ℤ, ◌≤ℤ◌, ◌<ℤ◌, List, Option, Some, None, IsSomeAnd}
 use Rattle.std.specs.List.{AllZip}
 use Rattle.blaze_entries.specs.Entries.{Entry}
-use Rattle.blaze_entries.specs.Found.{range_in}
+use Rattle.blaze_entries.specs.Found.{range_in, shown_ends}
 use Rattle.blaze_entries.specs.declared.range_entry.RangeEntry.{RangeEntry}
 
 -- position by position the same range, and a clone of the value
@@ -17,4 +17,4 @@ IsManyCloned is_clone e (Some v) = (e.lo <ℤ e.hi) × is_clone e.value v
 -- what a look at an entry answers: its first and last key, and a clone of its value where it has more than one
 abbrev pub IsRangeCloned : {T V : Type 0} → (T → ℤ) → (V → V → Type 0) → Option (Entry V) → Option (RangeEntry T (Option V)) → Type 0
 IsRangeCloned rank is_clone o None = o ≡ None
-IsRangeCloned rank is_clone o (Some r) = IsSomeAnd o (λ e. ((rank r.start, rank r.end) ≡ range_in e) × IsManyCloned is_clone e r.value)
+IsRangeCloned rank is_clone o (Some r) = IsSomeAnd o (λ e. (shown_ends rank r ≡ range_in e) × IsManyCloned is_clone e r.value)

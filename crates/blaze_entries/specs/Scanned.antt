@@ -1,36 +1,42 @@
 -- A walk down the entries from above a range, and what it has seen.
-use Rattle.std.specs.Prelude.{◌≡◌, ℕ, ◌+◌, ℤ, pos, ◌+ℤ◌, ◌<ℤ◌, false, MatchOption, IsSomeAnd, int_lt, int_le, Bool, if◌then◌else◌, List, [], ◌∷◌, Option, Some, None}
+use Rattle.std.specs.Prelude.{◌≡◌, ℕ, ◌+◌, ℤ, pos, ◌+ℤ◌, ◌<ℤ◌, false, MatchOption, IsSomeAnd, int_lt, int_le, ◌||◌, Bool, if◌then◌else◌, List, [], ◌∷◌, Option, Some, None}
 use Rattle.std.specs.Option.{option_map}
 use Rattle.blaze_entries.specs.Entries.{Entry, holds}
-use Rattle.blaze_entries.specs.Found.{found_in, shown_found}
+use Rattle.blaze_entries.specs.Found.{found_in, shown_ends, shown_found}
 use Rattle.blaze_entries.specs.Overlap.{overlap}
 use Rattle.blaze_entries.specs.declared.scan.Plan.{Plan}
 
 -- by the ranks: where the range ends once it is joined with what is above it, the ends of the entry that keeps a rest above
--- the range, the entry that starts where the range does, and the entry that starts below the range
+-- the range, the entry that starts where the range does, and the entry that starts below the range; and how many entries start
+-- above the range's first key and end within the range
 pub record Seen : Type 0 where
   pub end : ℤ
   pub rest : Option (ℤ × ℤ)
   pub first : Option (ℤ × ℤ × Bool)
   pub left : Option (ℤ × ℤ × Bool)
+  pub gone : ℕ
 
 -- of a range that ends at h, before the first entry
 abbrev pub unseen : ℤ → Seen
-unseen h = record { end = h; rest = None; first = None; left = None }
+unseen h = record { end = h; rest = None; first = None; left = None; gone = 0 }
 
 abbrev pub shown_plan : {T : Type 0} → (T → ℤ) → Plan T → Seen
-shown_plan rank p = record { end = rank p.end; rest = option_map (λ r. (rank r.0, rank r.1)) p.rest; first = option_map (shown_found rank) p.first; left = option_map (shown_found rank) p.left }
+shown_plan rank p = record { end = rank p.end; rest = option_map (shown_ends rank) p.rest; first = option_map (shown_found rank) p.first; left = option_map (shown_found rank) p.left; gone = p.gone }
 
 -- after an entry that goes on above h: its end where its value was asked for, else its rest
 abbrev pub seen_end : ℤ → Seen → ℤ × ℤ × Bool → Seen
 seen_end h s t = if int_lt h t.1 then (if t.2 then record s { end = t.1 } else (if int_le t.0 h then record s { rest = Some (t.0, t.1) } else s)) else s
 
--- after an entry that starts at l, or below it
-abbrev pub seen_start : ℤ → Seen → ℤ × ℤ × Bool → Seen
-seen_start l s t = if int_lt t.0 l then record s { left = Some t } else (if int_le t.0 l then record s { first = Some t } else s)
+-- after an entry that starts above the range's first key: it is one more to go, where its value was asked for or it ends up to h
+abbrev pub seen_within : ℤ → Seen → ℤ × ℤ × Bool → Seen
+seen_within h s t = if t.2 || int_le t.1 h then record s { gone = s.gone + 1 } else s
+
+-- after an entry that starts below l, at it, or above it
+abbrev pub seen_start : ℤ → ℤ → Seen → ℤ × ℤ × Bool → Seen
+seen_start l h s t = if int_lt t.0 l then record s { left = Some t } else (if int_le t.0 l then record s { first = Some t } else seen_within h s t)
 
 abbrev pub seen : ℤ → ℤ → Seen → ℤ × ℤ × Bool → Seen
-seen l h s t = seen_start l (seen_end h s t) t
+seen l h s t = seen_start l h (seen_end h s t) t
 
 module _ {V : Type 0} (test : V → Bool) (l h : ℤ) where
   -- the entries in the order of the walk: it ends behind the first that starts below l

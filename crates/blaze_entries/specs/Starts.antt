@@ -1,5 +1,5 @@
 -- Entries in the order of their starts: found and edited by a start.
-use Rattle.std.specs.Prelude.{◌≡◌, ℤ, pos, ◌+ℤ◌, ◌≤ℤ◌, int_lt, int_le, cond, List, [], ◌∷◌, Option, Some, None}
+use Rattle.std.specs.Prelude.{◌≡◌, ℤ, pos, ◌+ℤ◌, ◌≤ℤ◌, int_lt, int_le, cond, List, [], ◌∷◌, ◌++◌, Option, Some, None}
 use Rattle.std.specs.Ordering.{int_cmp, int_eq, match_ordering}
 use Rattle.std.specs.List.{filter, last_or}
 use Rattle.blaze_entries.specs.Entries.{Entry, entry}
@@ -67,6 +67,12 @@ abbrev pub with_end_value : {V : Type 0} → ℤ → ℤ → V → List (Entry V
 with_end_value k h v [] = []
 with_end_value k h v (e ∷ es) = cond (int_eq k e.lo) (entry e.lo h v ∷ es) (e ∷ with_end_value k h v es)
 
+-- the same entries, but the last one ends at h
+abbrev pub with_last_end : {V : Type 0} → ℤ → List (Entry V) → List (Entry V)
+with_last_end h [] = []
+with_last_end h (e ∷ []) = entry e.lo h e.value ∷ []
+with_last_end h (e ∷ f ∷ es) = e ∷ with_last_end h (f ∷ es)
+
 -- the entry that starts at k starts at `start`, with the same end and value
 pub record IsStartMoved {V : Type 0} (k start : ℤ) (old new : List (Entry V)) : Type 0 where
   pub of : Entry V
@@ -92,3 +98,9 @@ pub record IsFirstRemoved {V : Type 0} (v : V) (old new : List (Entry V)) : Type
   pub first : Entry V
   pub removed : old ≡ first ∷ new
   pub value : first.value ≡ v
+
+-- the last entry was taken out, which had the value v
+pub record IsLastRemoved {V : Type 0} (v : V) (old new : List (Entry V)) : Type 0 where
+  pub last : Entry V
+  pub removed : old ≡ new ++ last ∷ []
+  pub value : last.value ≡ v

@@ -7,7 +7,6 @@ ghost use Rattle.blaze_entries.specs.Found.{found_in, shown_found, range_in, sho
 ghost use Rattle.blaze_entries.specs.Nodes.{held, shown_lent_node, shown_node};
 ghost use Rattle.blaze_entries.specs.Starts.{reaching};
 
-use crate::found::Found;
 use crate::nodes::EndValue;
 use crate::range_entry::RangeEntry;
 use crate::start::Start;
@@ -48,7 +47,7 @@ pub fn given<T: Integer, V>(node: Option<(Start<T>, EndValue<T, Option<V>>)>) ->
 pub fn found<T: Integer, V: Eq>(
     node: Option<(&Start<T>, &EndValue<T, Option<V>>)>,
     value: &V,
-) -> Option<Found<T>>
+) -> Option<RangeEntry<T, bool>>
     requires { IfSome node (λ p. IsSome p.1.now.value) }
     ensures { (e : Option (Entry V)) → option_map (shown_lent_node T.rank) node.entry
         ≡ option_map held e → option_map (shown_found T.rank) result
@@ -56,22 +55,28 @@ pub fn found<T: Integer, V: Eq>(
 {
     let (start, node) = node?;
     match &node.value {
-        Some(other) => Some(Found {
+        Some(other) => Some(RangeEntry {
             start: start.0,
             end: node.end,
-            is_equal: *other == *value,
+            value: *other == *value,
         }),
         None => unreachable!(),
     }
 }
 
 /// A node's first and last key.
-pub fn range_of<T: Integer, V>(node: Option<(&Start<T>, &EndValue<T, Option<V>>)>) -> Option<(T, T)>
+pub fn range_of<T: Integer, V>(
+    node: Option<(&Start<T>, &EndValue<T, Option<V>>)>,
+) -> Option<RangeEntry<T, ()>>
     ensures { (e : Option (Entry V)) → option_map (shown_lent_node T.rank) node.entry
         ≡ option_map held e → option_map (shown_ends T.rank) result ≡ option_map range_in e }
 {
     let (start, node) = node?;
-    Some((start.0, node.end))
+    Some(RangeEntry {
+        start: start.0,
+        end: node.end,
+        value: (),
+    })
 }
 
 /// A node's value.

@@ -3,8 +3,8 @@
 
 mod build;
 mod count;
+mod counted;
 mod entries;
-mod found;
 mod full_nodes;
 mod into_iter;
 mod iter;
@@ -17,8 +17,8 @@ mod scan;
 mod start;
 
 pub use count::Count;
+pub use counted::Counted;
 pub use entries::Entries;
-pub use found::Found;
 pub use into_iter::IntoIter;
 pub use iter::Iter;
 pub use overlap::length_outside;

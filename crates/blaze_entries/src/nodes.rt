@@ -8,7 +8,7 @@ ghost use Rattle.blaze_entries.specs.Nodes.{shown_nodes, shown_lent_node, shown_
 ghost use Rattle.blaze_entries.specs.Starts.{StartsAscend, below, from, up_to, last_below};
 ghost use Rattle.blaze_entries.specs.Starts.{first_from};
 ghost use Rattle.blaze_entries.specs.Starts.{start_at, with_entry, without, with_end};
-ghost use Rattle.blaze_entries.specs.Starts.{with_end_value, IsStartMoved, IsFrontReplaced};
+ghost use Rattle.blaze_entries.specs.Starts.{with_end_value, with_last_end, IsStartMoved, IsFrontReplaced};
 
 use crate::start::Start;
 use blaze_int::Integer;
@@ -169,6 +169,17 @@ pub fn set_end<T: Integer, V>(tree: &mut Tree<T, V>, start: T, end: T)
         ≡ with_end (T.rank start) (T.rank end) (shown_nodes T.rank tree.old.entries) }
 {
     change_end(tree, start, end);
+}
+
+/// Moves the end of the last node. No search is made.
+pub fn set_last_end<T: Integer, V>(tree: &mut Tree<T, V>, end: T)
+    requires { StartsAscend T.low T.high (shown_nodes T.rank tree.old.entries) }
+    ensures { shown_nodes T.rank tree.new.entries
+        ≡ with_last_end (T.rank end) (shown_nodes T.rank tree.old.entries) }
+{
+    if let Some(mut last) = tree.last_entry() {
+        last.get_mut().end = end;
+    }
 }
 
 /// Puts a node in place of that at a start, and answers the old one.

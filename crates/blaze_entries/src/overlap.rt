@@ -2,12 +2,17 @@
 ghost use Rattle.std.specs.Prelude.{◌≡◌, pos, ◌+ℤ◌, ◌≤ℤ◌};
 ghost use Rattle.blaze_entries.specs.Overlap.{shared};
 
-use crate::found::Found;
+use crate::range_entry::RangeEntry;
 use blaze_int::compare::{greater, is_at_most, length, lesser};
 use blaze_int::{Integer, SafeLength};
 
 /// A length less how many keys of an entry lie from lo up to hi.
-pub fn length_outside<T: Integer>(len: T::SafeLen, found: Found<T>, lo: T, hi: T) -> T::SafeLen
+pub fn length_outside<T: Integer>(
+    len: T::SafeLen,
+    found: RangeEntry<T, bool>,
+    lo: T,
+    hi: T,
+) -> T::SafeLen
     requires { shared (T.rank lo) (T.rank hi) (T.rank found.start) (T.rank found.end)
         ≤ℤ pos (T.SafeLen.number len) }
     ensures { pos (T.SafeLen.number result)

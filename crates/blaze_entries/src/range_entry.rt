@@ -1,4 +1,4 @@
-//! An entry that one function hands to another.
+//! An entry that is kept for a later step, or what a look at one has answered.
 
 /// An entry: its first and last key, and its value or what stands for it.
 #[derive(Clone, Copy, Drop)]

@@ -1,5 +1,5 @@
 //! A walk down the tree from above a range, in one search.
-ghost use Rattle.std.specs.Prelude.{◌≡◌, ◌⊎◌, ◌+◌, ◌++◌, ◌∷◌, [], pos, ◌+ℤ◌, ◌≤ℤ◌, ◌<◌, length};
+ghost use Rattle.std.specs.Prelude.{◌≡◌, ◌⊎◌, ◌+◌, ◌++◌, ◌∷◌, [], pos, ◌+ℤ◌, ◌≤ℤ◌, ◌<◌, ◌≤◌, ◌^◌, length};
 ghost use Rattle.std.specs.Prelude.{reverse, None, MatchOption, OnSome, IfOk, OnErr};
 ghost use Rattle.std.specs.Option.{option_map, option_copied};
 ghost use Rattle.blaze_entries.specs.Entries.{Entry, entry};
@@ -11,10 +11,10 @@ ghost use Rattle.blaze_entries.specs.Scanned.{IsAboveCloned, GoesOnUnlike};
 ghost use Rattle.blaze_entries.specs.Starts.{below};
 
 use crate::count::Count;
-use crate::found::Found;
 use crate::full_nodes::shown;
 use crate::nodes::{EndValue, Tree, nodes_up_to};
 use crate::overlap::length_outside;
+use crate::range_entry::RangeEntry;
 use crate::start::Start;
 use blaze_int::Integer;
 use blaze_int::compare::{is_at_most, is_below};
@@ -27,11 +27,13 @@ pub struct Plan<T> {
     /// Where the range ends, once it is joined with what is above it.
     pub end: T,
     /// The first and last key of the entry that keeps a rest above the range.
-    pub rest: Option<(T, T)>,
+    pub rest: Option<RangeEntry<T, ()>>,
     /// The entry that starts where the range does.
-    pub first: Option<Found<T>>,
+    pub first: Option<RangeEntry<T, bool>>,
     /// The entry with the greatest start below the range.
-    pub left: Option<Found<T>>,
+    pub left: Option<RangeEntry<T, bool>>,
+    /// How many entries start above the range's first key and end within the plan's range.
+    pub gone: usize,
 }
 
 impl<T: Integer> Plan<T> {
@@ -44,59 +46,70 @@ impl<T: Integer> Plan<T> {
             rest: None,
             first: None,
             left: None,
+            gone: 0,
         }
     }
 
     // Takes in an entry's end.
-    fn see_end(&mut self, hi: T, found: Found<T>)
-        ensures { shown_plan T.rank self.new
+    fn see_end(&mut self, hi: T, found: RangeEntry<T, bool>)
+        ensures seen { shown_plan T.rank self.new
             ≡ seen_end (T.rank hi) (shown_plan T.rank self.old) (shown_found T.rank found) }
+        ensures gone { self.new.gone ≡ self.old.gone }
     {
         if is_below(hi, found.end) {
-            if found.is_equal {
+            if found.value {
                 self.end = found.end;
             } else if is_at_most(found.start, hi) {
-                self.rest = Some((found.start, found.end));
+                self.rest = Some(RangeEntry {
+                    start: found.start,
+                    end: found.end,
+                    value: (),
+                });
             }
         }
     }
 
     // Takes in an entry's start.
-    fn see_start(&mut self, lo: T, found: Found<T>)
-        ensures { shown_plan T.rank self.new
-            ≡ seen_start (T.rank lo) (shown_plan T.rank self.old) (shown_found T.rank found) }
+    fn see_start(&mut self, lo: T, hi: T, found: RangeEntry<T, bool>)
+        requires { self.old.gone + 1 < 2 ^ 64 }
+        ensures seen { shown_plan T.rank self.new ≡ seen_start (T.rank lo) (T.rank hi)
+            (shown_plan T.rank self.old) (shown_found T.rank found) }
+        ensures gone { self.new.gone ≤ self.old.gone + 1 }
     {
         if is_below(found.start, lo) {
             self.left = Some(found);
         } else if is_at_most(found.start, lo) {
             self.first = Some(found);
+        } else if found.value || is_at_most(found.end, hi) {
+            self.gone += 1;
         }
     }
 
     /// Takes in an entry.
-    pub fn see(&mut self, lo: T, hi: T, found: Found<T>)
-        ensures { shown_plan T.rank self.new
+    pub fn see(&mut self, lo: T, hi: T, found: RangeEntry<T, bool>)
+        requires { self.old.gone + 1 < 2 ^ 64 }
+        ensures seen { shown_plan T.rank self.new
             ≡ seen (T.rank lo) (T.rank hi) (shown_plan T.rank self.old) (shown_found T.rank found) }
+        ensures gone { self.new.gone ≤ self.old.gone + 1 }
     {
         self.see_end(hi, found);
-        self.see_start(lo, found);
+        self.see_start(lo, hi, found);
     }
 }
 
 // What an entry from `start` up to `end` shows beside a value, if one is asked for.
 #[inline(always)]
-fn beside<T: Integer, V: Eq>(start: T, end: T, other: &V, value: Option<&V>) -> Found<T>
+fn beside<T: Integer, V: Eq>(start: T, end: T, other: &V, value: Option<&V>) -> RangeEntry<T, bool>
     ensures { shown_found T.rank result
         ≡ (T.rank start, T.rank end, is_sought V.eq (option_copied value.entry) other.now) }
 {
-    let is_equal = match value {
-        Some(value) => *other == *value,
-        None => false,
-    };
-    Found {
+    RangeEntry {
         start,
         end,
-        is_equal,
+        value: match value {
+            Some(value) => *other == *value,
+            None => false,
+        },
     }
 }
 
@@ -106,7 +119,7 @@ fn next_found<'a, T: Integer, V: Eq>(
     nodes: &mut btree_map::Range<'a, Start<T>, EndValue<T, Option<V>>>,
     value: Option<&V>,
     looks: &mut Count,
-) -> Option<(Found<T>, &'a V)>
+) -> Option<(RangeEntry<T, bool>, &'a V)>
     requires { AreFull (shown_nodes T.rank nodes.old) }
     ensures full { AreFull (shown_nodes T.rank nodes.new) }
     ensures found { MatchOption result (entries_of T.rank nodes.old ≡ []) (λ f. (e : Entry V)
@@ -130,7 +143,7 @@ fn next_found<'a, T: Integer, V: Eq>(
 fn seen_value<'a, T: Integer, V>(
     key: T,
     held: Option<&'a V>,
-    found: Found<T>,
+    found: RangeEntry<T, bool>,
     value: &'a V,
 ) -> Option<&'a V>
     ensures { option_copied result ≡ seen_value (T.rank key) (option_copied held.entry)
@@ -184,6 +197,7 @@ pub fn walk<'a, T: Integer, V: Eq>(
         ≡ looks.old.number + answers (T.rank lo)
         (reverse (below (T.rank hi +ℤ pos 2) (entries_of T.rank tree.now.entries))) }
 {
+    let most = tree.len();
     let mut plan = Plan::new(hi);
     let mut left = len;
     let mut held = None;
@@ -204,7 +218,7 @@ pub fn walk<'a, T: Integer, V: Eq>(
 /// A clone of the value that a range's first key has, where the entry `left`, which starts below the range, goes on above it
 /// with an unequal value: that key is its own then.
 pub fn above_cloned<T: Integer, V: Clone>(
-    left: Option<Found<T>>,
+    left: Option<RangeEntry<T, bool>>,
     hi: T,
     held: Option<&V>,
 ) -> Result<Option<V>, AllocError>
@@ -214,7 +228,7 @@ pub fn above_cloned<T: Integer, V: Clone>(
         (GoesOnUnlike (T.rank hi) (option_map (shown_found T.rank) left)) }
 {
     match left {
-        Some(found) if !found.is_equal && is_below(hi, found.end) => {
+        Some(found) if !found.value && is_below(hi, found.end) => {
             let above = held.cloned()?;
             Ok(above)
         }

@@ -1,5 +1,5 @@
 //! Starts, as the tree compares them.
-ghost use Rattle.std.specs.Prelude.{◌≡◌, ◌≤ℤ◌};
+ghost use Rattle.std.specs.Prelude.{◌≡◌};
 ghost use Rattle.std.specs.Cmp.Rules.{comparing};
 ghost use Rattle.std.specs.Ordering.{as_partial_cmp, int_cmp, int_eq, on};
 ghost use Rattle.std.proofs.Common.{rules};

@@ -117,14 +117,18 @@ impl<T: Integer, VC: ValueCarrier, I: SortedDisjointMap<T, VC>> Cursor<T, VC, I>
     }
 
     /// The first key and the last key of the first range.
-    pub fn range(&self) -> Option<(T, T)>
+    pub fn range(&self) -> Option<RangeEntry<T, ()>>
         ensures ends { option_map (shown_ends T.rank) result
             ≡ option_map range_in (first_entry self.now) }
         ensures canonical { IsCanonical VC.Value.eq self.now }
     {
         match &self.head {
             None => None,
-            Some(head) => Some((head.start, head.end)),
+            Some(head) => Some(RangeEntry {
+                start: head.start,
+                end: head.end,
+                value: (),
+            }),
         }
     }
 

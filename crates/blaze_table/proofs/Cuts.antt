@@ -1,3 +1,4 @@
+pub mod Backs
 pub mod Cutting
 pub mod CutEdits
 pub mod Ends

@@ -4,7 +4,7 @@ pub mod Painted
 pub mod Inside
 pub mod EditLists
 pub mod Clearing
+pub mod Inner
 pub mod Placing
 pub mod Widened
 pub mod Composed
-pub mod Spanned

@@ -1,13 +1,13 @@
 -- The one edit of a list in place: the entries that touch a range give way. What goes on above the range gets a start of its own;
 -- what goes on below it is shortened; what starts in it is taken out.
-use Rattle.std.specs.Prelude.{◌≡◌, ◌⊎◌, ℤ, pos, ◌+ℤ◌, ◌≤ℤ◌, ◌<ℤ◌, Bool, true, false, int_le, List, Option, Some, None, IsSome, IsSomeAnd}
+use Rattle.std.specs.Prelude.{◌≡◌, ◌+◌, length, ◌⊎◌, ℤ, pos, ◌+ℤ◌, ◌≤ℤ◌, ◌<ℤ◌, ◌||◌, Bool, true, false, int_lt, List, Option, Some, None, IsSome, IsSomeAnd}
 use Rattle.std.specs.List.{last_or}
 use Rattle.std.specs.Option.{option_map}
 use Rattle.blaze_entries.specs.Found.{range_in, shown_ends}
 use Rattle.blaze_entries.specs.Starts.{below, start_at, with_entry, IsStartMoved}
 use Rattle.blaze_entries.specs.declared.scan.Plan.{Plan}
 use Rattle.blaze_table.specs.Entries.{Entry, entry}
-use Rattle.blaze_table.specs.Planned.{shown_found_ends, IsLikeAbove, IsRest}
+use Rattle.blaze_table.specs.Planned.{inner, moved, IsLikeAbove, IsRest}
 use Rattle.blaze_table.specs.Splice.{before}
 
 -- the ends of an entry that is there and goes on above z, where none starts right above z
@@ -31,11 +31,11 @@ abbrev pub IsLikeRest : {V : Type 0} → (V → V → Bool) → ℤ → List (En
 IsLikeRest eq l es None above = Unit {0}
 IsLikeRest eq l es (Some r) above = r.0 <ℤ l → (e : Entry _) → start_at r.0 es ≡ Some e → IsSomeAnd above (λ v. eq e.value v ≡ true)
 
--- whether one entry has all keys from l up to z: the one that goes on above them, or else the one below l
-abbrev pub spans : ℤ → ℤ → Option (ℤ × ℤ) → Option (ℤ × ℤ) → Bool
-spans l z (Some r) left = int_le r.0 l
-spans l z None None = false
-spans l z None (Some f) = int_le z f.1
+-- whether the entry that starts at l goes: there is one, and it is not the one that keeps a rest
+abbrev pub goes : {X : Type 0} → ℤ → Option X → Option (ℤ × ℤ) → Bool
+goes l None rest = false
+goes l (Some f) None = true
+goes l (Some f) (Some r) = int_lt l r.0 || int_lt r.0 l
 
 -- what an edit of the keys from l up to the plan's end has to know of the entries
 pub record IsPlace {T V : Type 0} (rank : T → ℤ) (eq : V → V → Bool) (l : ℤ) (es : List (Entry V)) (plan : Plan T) (value : Option V) : Type 0 where
@@ -44,6 +44,10 @@ pub record IsPlace {T V : Type 0} (rank : T → ℤ) (eq : V → V → Bool) (l 
   -- which entry has keys on both sides of its end
   pub rest : IsRest (rank plan.end) es (option_map (shown_ends rank) plan.rest)
   -- the last entry that starts below it
-  pub left : IsLeft l (below l es) (option_map (shown_found_ends rank) plan.left)
+  pub left : IsLeft l (below l es) (option_map (shown_ends rank) plan.left)
+  -- whether an entry starts where it does
+  pub first : option_map (shown_ends rank) plan.first ≡ option_map range_in (start_at l es)
+  -- how many start above its first key and go
+  pub gone : plan.gone + moved l (option_map (shown_ends rank) plan.rest) ≡ length (inner l (rank plan.end) es)
   -- a value equal to that entry's, where that one goes on above the range
   pub above : IsLikeAbove eq l (rank plan.end) es value

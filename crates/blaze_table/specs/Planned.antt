@@ -6,7 +6,6 @@ use Rattle.blaze_entries.specs.Counted.{CountedEntries}
 use Rattle.blaze_entries.specs.Found.{found_in}
 use Rattle.blaze_entries.specs.Scanned.{Seen}
 use Rattle.blaze_entries.specs.Starts.{below, from, last_below, start_at}
-use Rattle.blaze_entries.specs.declared.found.Found.{Found}
 use Rattle.blaze_table.specs.Count.{keys_in}
 use Rattle.blaze_table.specs.Cut.{GoesOnAbove}
 use Rattle.blaze_table.specs.Entries.{Entry, entry}
@@ -54,12 +53,22 @@ abbrev pub joined_start : ℤ → Option (ℤ × ℤ × Bool) → Option ℤ
 joined_start l None = None
 joined_start l (Some n) = if n.2 && (int_le l n.1 || int_eq l (n.1 +ℤ pos 1)) then Some n.0 else None
 
+-- the entries that start above l, up to z
+abbrev pub inner : {V : Type 0} → ℤ → ℤ → List (Entry V) → List (Entry V)
+inner l z es = from (l +ℤ pos 1) (below (z +ℤ pos 1) es)
+
+-- whether the entry that keeps a rest starts above l: it does not go then, its start moves
+abbrev pub moved : ℤ → Option (ℤ × ℤ) → ℕ
+moved l None = 0
+moved l (Some r) = if int_lt l r.0 then 1 else 0
+
 -- what was seen of the entries is what an edit of the keys from l up to h has to know
 pub record IsPlanOf {V : Type 0} (test : V → Bool) (l h : ℤ) (es : List (Entry V)) (s : Seen) : Type 0 where
   pub end : IsEnd test h es s.end
   pub rest : s.rest ≡ rest_of h (option_map (found_in test) (last_below (h +ℤ pos 1) es))
   pub first : s.first ≡ option_map (found_in test) (start_at l es)
   pub left : s.left ≡ option_map (found_in test) (last_below l es)
+  pub gone : s.gone + moved l s.rest ≡ length (inner l s.end es)
 
 -- a value equal to that of the last entry that starts below l, where that one goes on above z
 abbrev pub IsLikeAbove : {V : Type 0} → (V → V → Bool) → ℤ → ℤ → List (Entry V) → Option V → Type 0
@@ -89,10 +98,6 @@ pub record IsLooked {V : Type 0} (l h : ℤ) (old new : CountedEntries V) : Type
   pub few : new.looks + length (before l old.entries) + length (after h old.entries) ≤ old.looks + length old.entries + 4
 
 -- ---- the steps
-
--- the ends of an entry that was looked at
-abbrev pub shown_found_ends : {T : Type 0} → (T → ℤ) → Found T → ℤ × ℤ
-shown_found_ends rank f = (rank f.start, rank f.end)
 
 -- the entry that starts at s, up to z, ends at t above it
 pub record IsRestOf {V : Type 0} (z : ℤ) (es : List (Entry V)) (s t : ℤ) : Type 0 where

@@ -10,9 +10,9 @@ use blaze_int::{Integer, SafeLength};
 
 /// How many keys entries have.
 pub fn count<T: Integer, V: Eq>(entries: &Entries<T, V>) -> T::SafeLen
-    requires canonical { IsCanonical V.eq entries.now.entries }
-    requires fits { keys_in entries.now.entries ≤ℤ pos T.SafeLen.most }
-    ensures { pos (T.SafeLen.number result) ≡ keys_in entries.now.entries }
+    requires canonical { IsCanonical V.eq entries.now.counted.entries }
+    requires fits { keys_in entries.now.counted.entries ≤ℤ pos T.SafeLen.most }
+    ensures { pos (T.SafeLen.number result) ≡ keys_in entries.now.counted.entries }
 {
     let mut sum = T::SafeLen::zero();
     for (start, end, _) in entries.iter() {

@@ -1,76 +1,29 @@
 //! Keys taken out of entries, in place. Each clone and each growth comes before the first edit that can't be taken back.
-ghost use Rattle.std.specs.Prelude.{◌≡◌, ◌-◌, length, true, Some, None, ◌≤ℤ◌, ◌<ℤ◌, int_lt, if◌then◌else◌};
+ghost use Rattle.std.specs.Prelude.{◌≡◌, ◌-◌, length, Some, None, ◌≤ℤ◌, ◌<ℤ◌};
 ghost use Rattle.std.specs.Prelude.{Ok, OnOk, OnErr, IfOk, IsSome, IfSome, IsSomeAnd, slice_get};
-ghost use Rattle.std.specs.Option.{option_map};
-ghost use Rattle.blaze_entries.specs.Cloned.{IsRangeCloned};
-ghost use Rattle.blaze_entries.specs.Found.{range_in, shown_ends};
+ghost use Rattle.blaze_entries.specs.Cloned.{IsRangeCloned, IsManyCloned};
+ghost use Rattle.blaze_entries.specs.Found.{range_in};
 ghost use Rattle.blaze_entries.specs.Starts.{holder_of};
 ghost use Rattle.blaze_table.specs.Canonical.{IsCanonical};
 ghost use Rattle.blaze_table.specs.Cut.{IsAmongOthers, GoesOnAbove};
 ghost use Rattle.blaze_table.specs.Entries.{at};
 ghost use Rattle.blaze_table.specs.Painted.{ClonesAreAlike};
-ghost use Rattle.blaze_table.specs.Planned.{shown_found_ends, IsWorked};
+ghost use Rattle.blaze_table.specs.Planned.{IsWorked};
 ghost use Rattle.blaze_table.specs.Splice.{IsKeyTaken, IsKeyCut, IsFirstKeyCut, IsLastKeyCut, IsTableCut};
 ghost use Rattle.blaze_table.specs.Table.{IsTable};
 ghost use Rattle.blaze_table.specs.Work.{IsCountedCut, IsCounted};
 
 use crate::edit::take_out;
 use crate::walk::{Walk, walk_down};
-use blaze_entries::{Entries, Found, Plan, RangeEntry};
+use blaze_entries::{Counted, RangeEntry};
 use blaze_int::compare::is_below;
 use blaze_int::{Integer, SafeLength};
 use std::alloc::AllocError;
 
-// What a cut of a key knows of the entry that has it, from its first and last key.
-fn plan_of<T: Integer>(key: T, start: T, end: T) -> Plan<T>
-    ensures end { result.end ≡ key }
-    ensures rest { option_map (shown_ends T.rank) result.rest
-        ≡ (if int_lt (T.rank key) (T.rank end) then Some (T.rank start, T.rank end) else None) }
-    ensures left { option_map (shown_found_ends T.rank) result.left
-        ≡ (if int_lt (T.rank start) (T.rank key) then Some (T.rank start, T.rank end) else None) }
-{
-    let rest = if is_below(key, end) {
-        Some((start, end))
-    } else {
-        None
-    };
-    let left = if is_below(start, key) {
-        Some(Found {
-            start,
-            end,
-            is_equal: false,
-        })
-    } else {
-        None
-    };
-    Plan {
-        end: key,
-        rest,
-        first: None,
-        left,
-    }
-}
-
-// A clone of a value, where its entry has keys both below and above a key.
-fn clone_around<T: Integer, V: Clone>(
-    key: T,
-    start: T,
-    end: T,
-    value: &V,
-) -> Result<Option<V>, AllocError>
-    ensures clone { IfOk result (λ r. T.rank start <ℤ T.rank key → T.rank key <ℤ T.rank end
-        → IsSomeAnd r (V.is_clone value.now)) }
-    ensures refused { OnErr result (T.rank key <ℤ T.rank end) }
-{
-    if !is_below(start, key) || !is_below(key, end) {
-        return Ok(None);
-    }
-    Ok(Some(value.clone()?))
-}
-
-// Takes a key out of the entry that has it, from `start` up to `end`, where `value` is equal to that entry's, and answers it.
+// Takes a key out of an entry that has others too, from `start` up to `end`, where `value` is a clone of that entry's, and
+// answers it. Only what the entry has above the key may take memory: it gets a start of its own.
 fn cut_shared<T: Integer, V: Eq + Clone>(
-    entries: &mut Entries<T, V>,
+    entries: &mut Counted<T, V>,
     key: T,
     start: T,
     end: T,
@@ -79,23 +32,34 @@ fn cut_shared<T: Integer, V: Eq + Clone>(
     requires clones { ClonesAreAlike V.is_clone V.eq }
     requires canonical { IsCanonical V.eq entries.old.entries }
     requires held { IsSomeAnd (holder_of (T.rank key) entries.old.entries)
-        (λ e. ((T.rank start, T.rank end) ≡ range_in e) × (V.eq e.value value ≡ true)) }
+        (λ e. ((T.rank start, T.rank end) ≡ range_in e) × IsManyCloned V.is_clone e (Some value)) }
     ensures cut { IfOk result (λ value. IsKeyTaken V.eq (T.rank key) (Some value)
         entries.old.entries entries.new.entries) }
-    ensures worked { OnOk result (IsWorked 1 1 entries.old entries.new) }
-    ensures refused { OnErr result (IsAmongOthers (T.rank key) entries.old.entries) }
-    ensures err { OnErr result (entries.new.entries ≡ entries.old.entries) }
-    ensures err_counted { OnErr result (IsCounted entries.old entries.new) }
+    ensures worked { OnOk result (IsWorked 1 0 entries.old entries.new) }
+    ensures refused { OnErr result (T.rank key <ℤ T.rank end) }
+    ensures err { OnErr result (entries.new ≡ entries.old) }
 {
     entries.in_hand();
-    let above = clone_around(key, start, end, &value)?;
-    take_out(entries, key, plan_of(key, start, end), above)?;
+    start.in_hand();
+    end.in_hand();
+    if !is_below(key, end) {
+        entries.set_end(start, key.sub_one());
+        return Ok(value);
+    }
+    let next = key.add_one();
+    if !is_below(start, key) {
+        entries.move_start(start, next)?;
+        return Ok(value);
+    }
+    let above = value.clone()?;
+    entries.insert(next, end, above)?;
+    entries.set_end(start, key.sub_one());
     Ok(value)
 }
 
 // Takes a key out of the entry that has it, as a look at that entry has answered it, and answers the value that was there.
 fn cut_key<T: Integer, V: Eq + Clone>(
-    entries: &mut Entries<T, V>,
+    entries: &mut Counted<T, V>,
     key: T,
     held: RangeEntry<T, Option<V>>,
 ) -> Result<V, AllocError>
@@ -105,10 +69,9 @@ fn cut_key<T: Integer, V: Eq + Clone>(
         (holder_of (T.rank key) entries.old.entries) (Some held) }
     ensures cut { IfOk result (λ value. IsKeyTaken V.eq (T.rank key) (Some value)
         entries.old.entries entries.new.entries) }
-    ensures worked { OnOk result (IsWorked 1 1 entries.old entries.new) }
+    ensures worked { OnOk result (IsWorked 1 0 entries.old entries.new) }
     ensures refused { OnErr result (IsAmongOthers (T.rank key) entries.old.entries) }
-    ensures err { OnErr result (entries.new.entries ≡ entries.old.entries) }
-    ensures err_counted { OnErr result (IsCounted entries.old entries.new) }
+    ensures err { OnErr result (entries.new ≡ entries.old) }
 {
     entries.in_hand();
     let RangeEntry { start, end, value } = held;
@@ -120,7 +83,7 @@ fn cut_key<T: Integer, V: Eq + Clone>(
 
 // The same, with the new count of keys, where `len` is the old.
 fn cut_held<T: Integer, V: Eq + Clone>(
-    entries: &mut Entries<T, V>,
+    entries: &mut Counted<T, V>,
     len: T::SafeLen,
     key: T,
     held: RangeEntry<T, Option<V>>,
@@ -131,7 +94,7 @@ fn cut_held<T: Integer, V: Eq + Clone>(
         (holder_of (T.rank key) entries.old.entries) (Some held) }
     ensures cut { IfOk result (λ r. IsKeyCut V.eq T.low T.high (T.SafeLen.number r.1)
         (T.rank key) (Some r.0) entries.old.entries entries.new.entries) }
-    ensures worked { OnOk result (IsWorked 1 1 entries.old entries.new) }
+    ensures worked { OnOk result (IsWorked 1 0 entries.old entries.new) }
     ensures refused { OnErr result (IsAmongOthers (T.rank key) entries.old.entries) }
     ensures err { OnErr result (entries.new.entries ≡ entries.old.entries) }
     ensures err_counted { OnErr result (IsCounted entries.old entries.new) }
@@ -145,7 +108,7 @@ fn cut_held<T: Integer, V: Eq + Clone>(
 /// Takes a key out, and answers the value that was there and the new count of keys, where `len` is the old. Refused memory
 /// leaves the entries as they are.
 pub fn cut<T: Integer, V: Eq + Clone>(
-    entries: &mut Entries<T, V>,
+    entries: &mut Counted<T, V>,
     len: T::SafeLen,
     key: T,
 ) -> Result<(Option<V>, T::SafeLen), AllocError>
@@ -174,7 +137,7 @@ pub fn cut<T: Integer, V: Eq + Clone>(
 // Takes the first key out of the first entry, as a look has answered that entry, and answers the value that was there. What the
 // entry has above the key gets an entry with the clone that the look made; the first entry goes without a search.
 fn cut_front<T: Integer, V: Eq + Clone>(
-    entries: &mut Entries<T, V>,
+    entries: &mut Counted<T, V>,
     held: RangeEntry<T, Option<V>>,
 ) -> Result<V, AllocError>
     requires clones { ClonesAreAlike V.is_clone V.eq }
@@ -203,7 +166,7 @@ fn cut_front<T: Integer, V: Eq + Clone>(
 /// Takes the first key out, and answers it with the value that was there and the new count of keys, where `len` is the old.
 /// Refused memory leaves the entries as they are.
 pub fn cut_first<T: Integer, V: Eq + Clone>(
-    entries: &mut Entries<T, V>,
+    entries: &mut Counted<T, V>,
     len: T::SafeLen,
 ) -> Result<(T, V, T::SafeLen), AllocError>
     requires clones { ClonesAreAlike V.is_clone V.eq }
@@ -230,10 +193,36 @@ pub fn cut_first<T: Integer, V: Eq + Clone>(
     }
 }
 
+// Takes the last key out of the last entry, as a look has answered that entry, and answers the value that was there. No memory is
+// taken, and no search is made.
+fn cut_back<T: Integer, V: Eq + Clone>(
+    entries: &mut Counted<T, V>,
+    held: RangeEntry<T, Option<V>>,
+) -> V
+    requires clones { ClonesAreAlike V.is_clone V.eq }
+    requires canonical { IsCanonical V.eq entries.old.entries }
+    requires held { IsRangeCloned T.rank V.is_clone
+        (slice_get entries.old.entries (length entries.old.entries - 1)) (Some held) }
+    ensures cut { IsKeyTaken V.eq (T.rank held.end) (Some result)
+        entries.old.entries entries.new.entries }
+    ensures worked { IsWorked 0 0 entries.old entries.new }
+{
+    entries.in_hand();
+    let RangeEntry { start, end, value } = held;
+    match value {
+        Some(value) => {
+            start.in_hand();
+            entries.set_last_end(end.sub_one());
+            value
+        }
+        None => entries.remove_last(),
+    }
+}
+
 /// Takes the last key out, and answers it with the value that was there and the new count of keys, where `len` is the old.
 /// Refused memory leaves the entries as they are.
 pub fn cut_last<T: Integer, V: Eq + Clone>(
-    entries: &mut Entries<T, V>,
+    entries: &mut Counted<T, V>,
     len: T::SafeLen,
 ) -> Result<(T, V, T::SafeLen), AllocError>
     requires clones { ClonesAreAlike V.is_clone V.eq }
@@ -253,7 +242,8 @@ pub fn cut_last<T: Integer, V: Eq + Clone>(
     match last {
         Some(held) => {
             let key = held.end;
-            let (value, rest) = cut_held(entries, len, key, held)?;
+            let value = cut_back(entries, held);
+            let rest = len.minus(T::SafeLen::one());
             Ok((key, value, rest))
         }
         None => unreachable!(),
@@ -263,7 +253,7 @@ pub fn cut_last<T: Integer, V: Eq + Clone>(
 /// Takes the keys from lo up to hi out, and answers the new count of keys, where `len` is the old. Refused memory leaves the
 /// entries as they are.
 pub fn cut_range<T: Integer, V: Eq + Clone>(
-    entries: &mut Entries<T, V>,
+    entries: &mut Counted<T, V>,
     len: T::SafeLen,
     lo: T,
     hi: T,

@@ -11,9 +11,9 @@ use blaze_int::compare::{is_at_most, is_below};
 
 /// The entry that holds a key: its first key, last key and value.
 pub fn entry_holding<T: Integer, V>(entries: &Entries<T, V>, key: T) -> Option<(T, T, &V)>
-    requires { IsOrdered entries.now.entries }
+    requires { IsOrdered entries.now.counted.entries }
     ensures { option_map (shown_entry T.rank (λ v. v.now)) result
-        ≡ entry_at entries.now.entries (T.rank key) }
+        ≡ entry_at entries.now.counted.entries (T.rank key) }
 {
     entries.in_hand();
     let found = entries.at_or_below(key)?;
@@ -28,7 +28,7 @@ pub fn entry_holding<T: Integer, V>(entries: &Entries<T, V>, key: T) -> Option<(
 /// The least entry that starts above a key: its first key, last key and value.
 pub fn entry_above<T: Integer, V>(entries: &Entries<T, V>, key: T) -> Option<(T, T, &V)>
     ensures { option_map (shown_entry T.rank (λ v. v.now)) result
-        ≡ find (λ e. int_lt (T.rank key) e.lo) entries.now.entries }
+        ≡ find (λ e. int_lt (T.rank key) e.lo) entries.now.counted.entries }
 {
     entries.in_hand();
     key.in_hand();
@@ -37,9 +37,9 @@ pub fn entry_above<T: Integer, V>(entries: &Entries<T, V>, key: T) -> Option<(T,
 
 /// The greatest entry that ends below a key: its first key, last key and value.
 pub fn entry_below<T: Integer, V: Eq>(entries: &Entries<T, V>, key: T) -> Option<(T, T, &V)>
-    requires { IsCanonical V.eq entries.now.entries }
+    requires { IsCanonical V.eq entries.now.counted.entries }
     ensures { option_map (shown_entry T.rank (λ v. v.now)) result
-        ≡ find (λ e. int_lt e.hi (T.rank key)) (reverse entries.now.entries) }
+        ≡ find (λ e. int_lt e.hi (T.rank key)) (reverse entries.now.counted.entries) }
 {
     entries.in_hand();
     let found = entries.at_or_below(key)?;
@@ -53,8 +53,8 @@ pub fn entry_below<T: Integer, V: Eq>(entries: &Entries<T, V>, key: T) -> Option
 
 /// The entries that end at a key or above it, ascending: first key, last key and value.
 pub fn entries_ending_from<T: Integer, V>(entries: &Entries<T, V>, key: T) -> Range<'_, T, V>
-    requires { IsOrdered entries.now.entries }
-    ensures { result ≡ ending_from (T.rank key) entries.now.entries }
+    requires { IsOrdered entries.now.counted.entries }
+    ensures { result ≡ ending_from (T.rank key) entries.now.counted.entries }
 {
     match entry_holding(entries, key) {
         Some(found) => {
@@ -67,9 +67,9 @@ pub fn entries_ending_from<T: Integer, V>(entries: &Entries<T, V>, key: T) -> Ra
 
 /// The entries that share a key with the range from `lo` up to `hi`, ascending, from both ends: first key, last key and value.
 pub fn entries_overlapping<T: Integer, V>(entries: &Entries<T, V>, lo: T, hi: T) -> Range<'_, T, V>
-    requires ordered { IsOrdered entries.now.entries }
+    requires ordered { IsOrdered entries.now.counted.entries }
     requires order { T.rank lo ≤ℤ T.rank hi }
-    ensures { result ≡ overlapping (T.rank lo) (T.rank hi) entries.now.entries }
+    ensures { result ≡ overlapping (T.rank lo) (T.rank hi) entries.now.counted.entries }
 {
     match entry_holding(entries, lo) {
         Some(found) => {

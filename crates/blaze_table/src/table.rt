@@ -1,39 +1,31 @@
 //! The table.
 ghost use Rattle.std.specs.Prelude.{◌≡◌, ◌↔◌, ◌-◌, ◌≤ℤ◌, int_lt, pos, [], length, slice_get, find};
-ghost use Rattle.std.specs.Prelude.{reverse, false, Some, None, Ok, IfOk, OnOk, OnErr, IsTrue};
-ghost use Rattle.std.specs.Prelude.{MatchOption};
-ghost use Rattle.std.specs.Prelude.{option_map};
-ghost use Rattle.std.specs.List.Retain.{IsFiltered};
+ghost use Rattle.std.specs.Prelude.{reverse, false, None, Ok, IfOk, OnOk, OnErr, IsTrue, option_map};
 ghost use Rattle.blaze_table.specs.Counted.{uncounted};
-ghost use Rattle.blaze_table.specs.Entries.{Entry, entry, at, entry_at, shown_entry, SameOption, shown_list};
+ghost use Rattle.blaze_table.specs.Entries.{entry, at, entry_at, shown_entry, SameOption, shown_list};
 ghost use Rattle.blaze_table.specs.Entries.{SameEntries};
 ghost use Rattle.blaze_table.specs.Canonical.{IsRangeMap};
 ghost use Rattle.blaze_table.specs.Count.{keys_in, mapped_keys};
 ghost use Rattle.blaze_table.specs.Painted.{IsPainted, ClonesAreAlike, IsInside};
-ghost use Rattle.blaze_table.specs.Cut.{IsCut, IsFirstCut, IsLastCut, IsRangeCut, IsSplit, IsAmongOthers};
-ghost use Rattle.blaze_table.specs.Cut.{GoesOnAbove};
 ghost use Rattle.blaze_table.specs.Ending.{ending_from, overlapping};
 ghost use Rattle.blaze_table.specs.Gap.{IsGap};
-ghost use Rattle.blaze_table.specs.Work.{IsCounted, IsCountedPaint, IsCountedCut};
-ghost use Rattle.blaze_table.specs.Retain.{AnswersAt, IsCallableAtEach, IsCallableAtPairs};
-ghost use Rattle.blaze_table.specs.Retain.{IsKeyRetained};
+ghost use Rattle.blaze_table.specs.Work.{IsCounted, IsCountedPaint};
 
+mod cut;
 mod fill;
+mod retain;
+mod split;
 
-use crate::count::{count, count_list};
-use crate::cut::{cut, cut_first, cut_last, cut_range};
+use crate::count::count_list;
 use crate::gaps::gap_round;
-use crate::retain_keys::retain_keys;
 use crate::search::{
     entries_ending_from, entries_overlapping, entry_above, entry_below, entry_holding,
 };
 use crate::splice::{insert, paint, paint_by_splice};
-use crate::split::split;
 use blaze_entries::{Entries, IntoIter, Iter, Range};
 use blaze_int::{Integer, SafeLength, differ};
 use std::alloc::{AllocError, Global};
 use std::marker::Model;
-use std::ops::RangeInclusive;
 
 /// Ranges with their values: ascending, disjoint, as few as there can be; and the number of their keys. Contracts see the
 /// list with the work on it: looks at entries, entries put in and entries taken out.
@@ -51,9 +43,9 @@ impl<T: Integer, V: Eq> Model for RangeTable<T, V> {
 
     ghost coded = { counted_code V.code };
 
-    ghost view = { λ a. a.entries };
+    ghost view = { λ a. a.entries.counted };
 
-    ghost invariant = { λ a. IsTable V.eq T.low T.high (T.SafeLen.number a.len) a.entries.entries };
+    ghost invariant = { λ a. IsTable V.eq T.low T.high (T.SafeLen.number a.len) a.entries.counted.entries };
 }
 
 impl<T: Integer, V: Eq> RangeTable<T, V> {
@@ -197,19 +189,6 @@ impl<T: Integer, V: Eq + Drop> RangeTable<T, V> {
         self.entries.clear();
         self.len = T::SafeLen::zero();
     }
-
-    /// Keeps the entries that a closure answers true at: one call for each, ascending. No memory is taken, and no entry is
-    /// counted.
-    pub fn retain_entries<F: FnMut(&RangeInclusive<T>, &V) -> bool>(&mut self, f: F)
-        requires { IsCallableAtEach T.rank F.FnMut f self.old.entries }
-        ensures range_map { IsRangeMap V.eq T.low T.high self.new.entries }
-        ensures kept { IsFiltered (AnswersAt T.rank F.FnMut) f self.old.entries self.new.entries }
-        ensures uncounted { self.new ≡ record self.old { entries = self.new.entries } }
-    {
-        self.entries.retain(f);
-        let len = count(&self.entries);
-        self.len = len;
-    }
 }
 
 impl<T: Integer, V: Eq + Clone> RangeTable<T, V> {
@@ -244,7 +223,7 @@ impl<T: Integer, V: Eq + Clone> RangeTable<T, V> {
         ensures err_counted { OnErr result (IsCounted self.old self.new) }
     {
         let old_len = self.len;
-        let new_len = paint(&mut self.entries, old_len, lo, hi, value)?;
+        let new_len = paint(&mut self.entries.counted, old_len, lo, hi, value)?;
         self.len = new_len;
         Ok(differ(new_len, old_len))
     }
@@ -265,7 +244,7 @@ impl<T: Integer, V: Eq + Clone> RangeTable<T, V> {
         ensures err_counted { OnErr result (IsCounted self.old self.new) }
     {
         let old_len = self.len;
-        let new_len = paint_by_splice(&mut self.entries, old_len, lo, hi, value)?;
+        let new_len = paint_by_splice(&mut self.entries.counted, old_len, lo, hi, value)?;
         self.len = new_len;
         Ok(differ(new_len, old_len))
     }
@@ -285,132 +264,9 @@ impl<T: Integer, V: Eq + Clone> RangeTable<T, V> {
         ensures err_counted { OnErr result (IsCounted self.old self.new) }
     {
         let old_len = self.len;
-        let (old, new_len) = insert(&mut self.entries, old_len, key, value)?;
+        let (old, new_len) = insert(&mut self.entries.counted, old_len, key, value)?;
         self.len = new_len;
         Ok(old)
-    }
-
-    /// Takes a key out, and answers the value that was there. Refused memory leaves the entries unchanged. No memory is taken
-    /// where the key has no value or is an entry of its own.
-    pub fn cut_key(&mut self, key: T) -> Result<Option<V>, AllocError>
-        requires { ClonesAreAlike V.is_clone V.eq }
-        ensures ok { OnOk result
-            (IsCut V.eq T.low T.high (T.rank key) self.old.entries self.new.entries) }
-        ensures value { IfOk result
-            (λ value. SameOption V.eq (at self.old.entries (T.rank key)) value) }
-        ensures none { at self.old.entries (T.rank key) ≡ None → (result ≡ Ok None)
-            × (self.new.entries ≡ self.old.entries) }
-        ensures counted { OnOk result (IsCountedCut self.old self.new) }
-        ensures refused { OnErr result (IsAmongOthers (T.rank key) self.old.entries) }
-        ensures err { OnErr result (self.new.entries ≡ self.old.entries) }
-        ensures err_counted { OnErr result (IsCounted self.old self.new) }
-    {
-        let old_len = self.len;
-        let (value, len) = cut(&mut self.entries, old_len, key)?;
-        self.len = len;
-        Ok(value)
-    }
-
-    /// Takes the first key out, and answers it with the value that was there; `None` on the empty table. The key is found without
-    /// a search; what is left of its entry is put in by one. Refused memory leaves the entries unchanged. No memory is taken on
-    /// the empty table and where the key is an entry of its own.
-    pub fn pop_first(&mut self) -> Result<Option<(T, V)>, AllocError>
-        requires { ClonesAreAlike V.is_clone V.eq }
-        ensures ok { IfOk result (λ popped. MatchOption popped ((self.old.entries ≡ [])
-            × (self.new ≡ self.old)) (λ pair. IsFirstCut V.eq T.low T.high (T.rank pair.0) pair.1
-            self.old.entries self.new.entries)) }
-        ensures counted { OnOk result (IsCountedCut self.old self.new) }
-        ensures refused { OnErr result ((first : Entry V)
-            × (slice_get self.old.entries 0 ≡ Some first)
-            × IsAmongOthers first.lo self.old.entries) }
-        ensures err { OnErr result (self.new.entries ≡ self.old.entries) }
-        ensures err_counted { OnErr result (IsCounted self.old self.new) }
-    {
-        if self.entries.len() == 0 {
-            return Ok(None);
-        }
-        let old_len = self.len;
-        let (key, value, len) = cut_first(&mut self.entries, old_len)?;
-        self.len = len;
-        Ok(Some((key, value)))
-    }
-
-    /// Takes the last key out, and answers it with the value that was there; `None` on the empty table. The key is found without
-    /// a search. Refused memory leaves the entries unchanged. No memory is taken on the empty table and where the key is an
-    /// entry of its own.
-    pub fn pop_last(&mut self) -> Result<Option<(T, V)>, AllocError>
-        requires { ClonesAreAlike V.is_clone V.eq }
-        ensures ok { IfOk result (λ popped. MatchOption popped ((self.old.entries ≡ [])
-            × (self.new ≡ self.old)) (λ pair. IsLastCut V.eq T.low T.high (T.rank pair.0) pair.1
-            self.old.entries self.new.entries)) }
-        ensures counted { OnOk result (IsCountedCut self.old self.new) }
-        ensures refused { OnErr result ((last : Entry V)
-            × (slice_get self.old.entries (length self.old.entries - 1) ≡ Some last)
-            × IsAmongOthers last.hi self.old.entries) }
-        ensures err { OnErr result (self.new.entries ≡ self.old.entries) }
-        ensures err_counted { OnErr result (IsCounted self.old self.new) }
-    {
-        if self.entries.len() == 0 {
-            return Ok(None);
-        }
-        let old_len = self.len;
-        let (key, value, len) = cut_last(&mut self.entries, old_len)?;
-        self.len = len;
-        Ok(Some((key, value)))
-    }
-
-    /// Takes the keys from lo up to hi out. Refused memory leaves the entries unchanged. Memory is taken only where an entry
-    /// with keys of the range goes on above it.
-    pub fn cut_range(&mut self, lo: T, hi: T) -> Result<(), AllocError>
-        requires order { T.rank lo ≤ℤ T.rank hi }
-        requires clones { ClonesAreAlike V.is_clone V.eq }
-        ensures ok { OnOk result (IsRangeCut V.eq T.low T.high (T.rank lo) (T.rank hi)
-            self.old.entries self.new.entries) }
-        ensures counted { OnOk result (IsCountedCut self.old self.new) }
-        ensures refused { OnErr result (GoesOnAbove (T.rank hi) self.old.entries) }
-        ensures err { OnErr result (self.new.entries ≡ self.old.entries) }
-        ensures err_counted { OnErr result (IsCounted self.old self.new) }
-    {
-        let old_len = self.len;
-        let len = cut_range(&mut self.entries, old_len, lo, hi)?;
-        self.len = len;
-        Ok(())
-    }
-
-    /// Keeps the keys that a closure answers true at: one call for each key that has a value, ascending, with the stored
-    /// value. Refused memory leaves the table unchanged. No entry is counted.
-    pub fn retain_keys<F: Fn(&T, &V) -> bool>(&mut self, f: F) -> Result<(), AllocError>
-        requires callable { IsCallableAtPairs F.Fn f T.of_rank self.old.entries }
-        requires clones { ClonesAreAlike V.is_clone V.eq }
-        ensures ok { OnOk result
-            (IsKeyRetained F.Fn f T.rank T.of_rank V.eq T.low T.high self.old.entries
-            self.new.entries) }
-        ensures uncounted { OnOk result (self.new
-            ≡ record self.old { entries = self.new.entries }) }
-        ensures err { OnErr result (self.new ≡ self.old) }
-    {
-        let (kept, len) = retain_keys(&self.entries, self.len, &f)?;
-        self.entries.set_sorted(kept)?;
-        self.len = len;
-        Ok(())
-    }
-
-    /// Keeps the keys below one, and answers the table of the keys from it on. Refused memory leaves the table unchanged.
-    pub fn split_at(&mut self, key: T) -> Result<Self, AllocError>
-        requires { ClonesAreAlike V.is_clone V.eq }
-        ensures ok { IfOk result (λ from. IsSplit V.eq T.low T.high (T.rank key) self.old.entries
-            self.new.entries from.entries) }
-        ensures uncounted { IfOk result (λ from. (self.new
-            ≡ record self.old { entries = self.new.entries }) × (from ≡ uncounted from.entries)) }
-        ensures err { OnErr result (self.new ≡ self.old) }
-    {
-        let old_len = self.len;
-        let (entries, below_len, from_len) = split(&mut self.entries, key, old_len)?;
-        self.len = below_len;
-        Ok(RangeTable {
-            entries,
-            len: from_len,
-        })
     }
 }
 

@@ -3,7 +3,7 @@ ghost use Rattle.std.specs.Prelude.{◌≡◌, ◌<ℤ◌, ℤ, [], None, Ok, Ma
 ghost use Rattle.blaze_int.specs.Bounds.{start_rank, end_rank};
 ghost use Rattle.blaze_table.specs.Entries.{at, SameOption};
 ghost use Rattle.blaze_table.specs.Counted.{uncounted};
-ghost use Rattle.blaze_table.specs.Work.{IsCountedCut};
+ghost use Rattle.blaze_table.specs.Work.{IsCounted, IsCountedCut};
 ghost use Rattle.blaze_table.specs.Cut.{IsCut, IsRangeCut, IsSplit, IsAmongOthers, GoesOnAbove};
 ghost use Rattle.blaze_table.specs.Painted.{ClonesAreAlike};
 ghost use Rattle.range_map_blaze.specs.Pairs.{IsFirstPair, IsLastPair, PopsFirst, PopsLast};
@@ -28,6 +28,7 @@ impl<T: Integer, V: Eq + Clone> RangeMapBlaze<T, V> {
             × (self.new.entries ≡ self.old.entries) }
         ensures refused { OnErr result (IsAmongOthers (T.rank key) self.old.entries) }
         ensures err { OnErr result (self.new.entries ≡ self.old.entries) }
+        ensures err_counted { OnErr result (IsCounted self.old self.new) }
     {
         self.table.cut_key(key)
     }
@@ -50,6 +51,7 @@ impl<T: Integer, V: Eq + Clone> RangeMapBlaze<T, V> {
             (GoesOnAbove (end_rank T.rank T.high (R.end_bound range)) self.old.entries) }
         ensures counted { OnOk result (IsCountedCut self.old self.new) }
         ensures err { OnErr result (self.new.entries ≡ self.old.entries) }
+        ensures err_counted { OnErr result (IsCounted self.old self.new) }
     {
         self.in_hand();
         match bounds_of(&range) {
@@ -70,6 +72,7 @@ impl<T: Integer, V: Eq + Clone> RangeMapBlaze<T, V> {
         ensures refused { OnErr result ((key : ℤ) × (value : V)
             × IsFirstPair (at self.old.entries) key value × IsAmongOthers key self.old.entries) }
         ensures err { OnErr result (self.new.entries ≡ self.old.entries) }
+        ensures err_counted { OnErr result (IsCounted self.old self.new) }
     {
         self.in_hand();
         let popped = self.table.pop_first()?;
@@ -88,6 +91,7 @@ impl<T: Integer, V: Eq + Clone> RangeMapBlaze<T, V> {
         ensures refused { OnErr result ((key : ℤ) × (value : V)
             × IsLastPair (at self.old.entries) key value × IsAmongOthers key self.old.entries) }
         ensures err { OnErr result (self.new.entries ≡ self.old.entries) }
+        ensures err_counted { OnErr result (IsCounted self.old self.new) }
     {
         self.in_hand();
         let popped = self.table.pop_last()?;

@@ -67,12 +67,6 @@ module _ {A V B : Type 0} (shown : A → V) (items : B → List A) (lists : List
   pub asked_not_full : (found : List (Option A)) → list_all is_some found ≡ false → found ≡ picked (map items lists) places → list_all is_some (picked (map (λ v. map shown (items v)) lists) places) ≡ false
   asked_not_full found f p = ap (list_all is_some) (sym (picked_shown found p)) ∙ all_shown shown found ∙ f
 
--- a row with nothing in a place is not full
-pub not_full : {A : Type 0} (xs rest found : List (Option A)) → found ≡ xs ++ None ∷ rest → list_all is_some found ≡ false
-not_full [] rest found p = ap (list_all is_some) p
-not_full (None ∷ xs) rest found p = ap (list_all is_some) p
-not_full (Some x ∷ xs) rest found p = ap (list_all is_some) p ∙ not_full xs rest (xs ++ None ∷ rest) refl
-
 -- a row that is full and not empty has something
 pub full_has_some : {A : Type 0} (r : List (Option A)) → 0 < length r → list_all is_some r ≡ true → list_any is_some r ≡ true
 full_has_some [] l p = let no : ⊥ = omega (arith, l) in absurd no

@@ -55,7 +55,7 @@ impl<VC: ValueCarrier> Choice<VC, VC> for RightFirst {
             let value = Some(value);
             return Ok(Some(RangeEntry { start, end, value }));
         }
-        let Some((start, end)) = right.range() else {
+        let Some(RangeEntry { start, end, .. }) = right.range() else {
             return Ok(None);
         };
         let carrier = right.take(end)?;
@@ -90,14 +90,14 @@ impl<VC: ValueCarrier> Choice<VC, VC> for ExactlyOne {
             let value = Some(value);
             return Ok(Some(RangeEntry { start, end, value }));
         }
-        let (Some((start, ours)), Some((_, theirs))) = (left.range(), right.range()) else {
+        let (Some(ours), Some(theirs)) = (left.range(), right.range()) else {
             return Ok(None);
         };
-        let end = lesser(ours, theirs);
+        let end = lesser(ours.end, theirs.end);
         left.advance_in_first(end);
         right.advance_in_first(end);
         Ok(Some(RangeEntry {
-            start,
+            start: ours.start,
             end,
             value: None,
         }))
@@ -138,24 +138,24 @@ impl<VCL: ValueCarrier, VCR: ValueCarrier> Choice<VCL, VCR> for LeftAlone {
             let value = Some(value);
             return Ok(Some(RangeEntry { start, end, value }));
         }
-        let (Some((ours, _)), Some((start, last))) = (left.range(), right.range()) else {
+        let (Some(ours), Some(theirs)) = (left.range(), right.range()) else {
             return Ok(None);
         };
-        if is_below(last, ours) {
-            last.in_hand();
-            let end = ours.sub_one();
+        if is_below(theirs.end, ours.start) {
+            theirs.end.in_hand();
+            let end = ours.start.sub_one();
             right.advance(end);
             return Ok(Some(RangeEntry {
-                start,
+                start: theirs.start,
                 end,
                 value: None,
             }));
         }
-        right.advance_in_first(last);
-        left.advance(last);
+        right.advance_in_first(theirs.end);
+        left.advance(theirs.end);
         Ok(Some(RangeEntry {
-            start,
-            end: last,
+            start: theirs.start,
+            end: theirs.end,
             value: None,
         }))
     }

@@ -35,7 +35,14 @@ pub fn take_before<
         (T.rank piece.end) (VC.shown piece.value))) }
 {
     let bound = other.first();
-    let Some((start, last)) = cursor.range() else {
+    let Some(
+        RangeEntry {
+            start,
+            end: last,
+            ..
+        },
+    ) = cursor.range()
+    else {
         return Ok(None);
     };
     let end = match bound {
@@ -77,32 +84,31 @@ pub fn take_both<
         (λ piece. IsTaken VCL.Value.eq left_with_right left.old left.new right.old right.new
         (T.rank piece.start) (T.rank piece.end) (option_map VCL.shown piece.value))) }
 {
-    let (Some((start, last)), Some((other_start, other_last))) = (left.range(), right.range())
-    else {
+    let (Some(ours), Some(theirs)) = (left.range(), right.range()) else {
         return Ok(None);
     };
-    if compare::is_below(last, other_start) {
-        last.in_hand();
-        let end = other_start.sub_one();
+    if compare::is_below(ours.end, theirs.start) {
+        ours.end.in_hand();
+        let end = theirs.start.sub_one();
         left.advance(end);
         return Ok(Some(RangeEntry {
-            start,
+            start: ours.start,
             end,
             value: None,
         }));
     }
-    if compare::is_below(other_last, start) {
-        other_last.in_hand();
-        let end = start.sub_one();
+    if compare::is_below(theirs.end, ours.start) {
+        theirs.end.in_hand();
+        let end = ours.start.sub_one();
         right.advance(end);
         return Ok(Some(RangeEntry {
-            start: other_start,
+            start: theirs.start,
             end,
             value: None,
         }));
     }
-    let first = compare::greater(start, other_start);
-    let end = compare::lesser(last, other_last);
+    let first = compare::greater(ours.start, theirs.start);
+    let end = compare::lesser(ours.end, theirs.end);
     let carrier = left.take(end)?;
     right.advance_in_first(end);
     Ok(Some(RangeEntry {

@@ -1,51 +1,35 @@
--- A key taken out of the entry that has it: what the edit has to know of that entry, and what it answers.
-use Rattle.std.proofs.Common.{◌≡◌, ℕ, Bool, ℤ, pos, ◌+ℤ◌, ◌≤ℤ◌, ◌<ℤ◌, true, false, cond, List, [], ◌∷◌, ◌++◌, Option, Some, None, Result, Ok, Err, OnErr, refl, ◌∙◌, sym, subst, ap, arith}
+-- A key taken out of the entry that has it: the edits, what they have to know of that entry, and what the cut answers.
+use Rattle.std.proofs.Common.{◌≡◌, ℕ, Bool, ℤ, pos, ◌+ℤ◌, ◌-ℤ◌, ◌≤ℤ◌, ◌<ℤ◌, true, cond, List, [], ◌∷◌, ◌++◌, Option, Some, None, Result, Ok, Err, OnErr, refl, ◌∙◌, sym, subst, ap, arith}
 use Rattle.std.specs.Cmp.{IsEquivalence}
-use Rattle.std.specs.List.{last_or}
 use Rattle.std.specs.Option.{option_map}
-use Rattle.std.specs.Prelude.{IfSome, IsSome, IsSomeAnd, int_lt}
+use Rattle.std.specs.Prelude.{IsSome, IsSomeAnd}
 use Rattle.std.proofs.lemmas.Int.{ints, by_lt_z}
-use Rattle.std.proofs.lemmas.List.{append-nil}
-use Rattle.std.proofs.lemmas.List.Elements.{filter-append}
-use Rattle.blaze_int.proofs.Comparisons.{lt_true, lt_false, lt_holds}
-use Rattle.blaze_entries.specs.Found.{range_in, shown_ends}
-use Rattle.blaze_entries.specs.Starts.{StartsAscend, below, last_below, reaching, holder_of, start_at, without}
-use Rattle.blaze_entries.specs.declared.scan.Plan.{Plan}
-use Rattle.blaze_entries.proofs.Alike.{same_along}
-use Rattle.blaze_entries.proofs.Halves.{below_takes, below_skips, below_all, below_none, more_below}
+use Rattle.std.proofs.lemmas.List.{append_assoc}
+use Rattle.blaze_int.proofs.Comparisons.{lt_true, lt_false}
+use Rattle.blaze_entries.specs.Cloned.{IsManyCloned}
+use Rattle.blaze_entries.specs.Found.{range_in}
+use Rattle.blaze_entries.specs.Starts.{StartsAscend, last_below, reaching, holder_of, start_at, with_entry, without, with_end, IsStartMoved}
+use Rattle.blaze_entries.proofs.Alike.{one_value, same_along}
+use Rattle.blaze_entries.proofs.Halves.{more_below}
 use Rattle.blaze_table.specs.Canonical.{IsCanonical}
 use Rattle.blaze_table.specs.Cut.{IsAmongOthers}
-use Rattle.blaze_table.specs.Edited.{IsLeft, IsPlace}
-use Rattle.blaze_table.specs.Entries.{Entry, at, entry_at, SameOption}
+use Rattle.blaze_table.specs.Entries.{Entry, entry, at, entry_at, SameEntries, SameOption}
 use Rattle.blaze_table.specs.Painted.{ClonesAreAlike}
-use Rattle.blaze_table.specs.Planned.{shown_found_ends, IsLikeAbove, IsRest}
-use Rattle.blaze_table.specs.Splice.{before, IsBelow, IsCutOf, IsKeyTaken, IsKeyCut, covered}
+use Rattle.blaze_table.specs.Splice.{before, after, IsBelow, IsCutOf, IsKeyTaken, IsKeyCut, covered}
 use Rattle.blaze_table.specs.Table.{IsTable}
 use Rattle.blaze_table.proofs.Canonical.Counted.{overlap_whole}
 use Rattle.blaze_table.proofs.Canonical.Lookup.{IsAbove, at_over, at_before, entry_in, entry_over}
-use Rattle.blaze_table.proofs.Cuts.Cutting.{cut_whole, cut_content, cut_table, at_cut, covered_past, covered_fits}
-use Rattle.blaze_table.proofs.Cuts.Splits.{LastAt, last_at, no_last_from, parted, rest_canonical, ends_below, after_short, after_long, none_next}
+use Rattle.blaze_table.proofs.Cuts.Cutting.{after_whole, cut_content, cut_table, at_cut, covered_past, covered_fits}
+use Rattle.blaze_table.proofs.Cuts.Splits.{LastAt, last_at, no_last_from, parted, rest_canonical, ends_below, none_next}
 use Rattle.blaze_table.proofs.Neighbours.Growing.{last_there}
-use Rattle.blaze_table.proofs.Neighbours.Holders.{without-between}
-use Rattle.blaze_table.proofs.Paints.Painted.{before_past}
-use Rattle.blaze_table.proofs.Paints.Splices.{below_more}
+use Rattle.blaze_table.proofs.Neighbours.Holders.{starts_behind, starts_over, with_entry-between, without-between}
+use Rattle.blaze_table.proofs.Paints.EditLists.{end_put}
+use Rattle.blaze_table.proofs.Paints.Painted.{before_past, after_past, entries_themselves}
+use Rattle.blaze_table.proofs.Paints.Splices.{before_cuts, before_ends, after_cuts, below_more}
 
 pub on_err : {A E P : Type 0} (r : Result A E) → P → OnErr r P
 on_err (Ok x) p = tt
 on_err (Err e) p = p
-
-pub some_and : {A : Type 0} {P Q : A → Type 0} (o : Option A) → ((x : A) → P x → Q x) → IsSomeAnd o P → IsSomeAnd o Q
-some_and None f i = i
-some_and (Some x) f i = f x i
-
--- a plan that has a rest is of an entry that goes on above the key
-pub rest_over : {A : Type 0} (f : A → ℤ × ℤ) (r : Option A) (k : ℤ) (x : ℤ × ℤ) → option_map f r ≡ cond (int_lt k x.1) (Some x) None → IsSome r → k <ℤ x.1
-rest_over {A} f r k x p i = lt_holds k x.1 (by_test (int_lt k x.1) r p i)
-  where
-    by_test : (b : Bool) (r : Option A) → option_map f r ≡ cond b (Some x) None → IsSome r → b ≡ true
-    by_test true r p i = refl
-    by_test false (Some a) p i = cc
-    by_test false None p i = cc
 
 module _ {V : Type 0} where
   -- what a key has behind entries that end below it
@@ -60,14 +44,6 @@ module _ {V : Type 0} where
   pub above_from : (k j high : ℤ) (es : List (Entry V)) → j <ℤ k → StartsAscend k high es → IsAbove j es
   above_from k j high [] l a = tt
   above_from k j high (e ∷ es) l a = omega (arith, ints, a.0)
-
-  last_of : (o : Option (Entry V)) (xs : List (Entry V)) (e : Entry V) → last_or o (xs ++ e ∷ []) ≡ Some e
-  last_of o [] e = refl
-  last_of o (x ∷ xs) e = last_of (Some x) xs e
-
-  last_ended : (P : Entry V → Type 0) (k : ℤ) → ((e : Entry V) → e.hi <ℤ k → P e) → (o : Option (Entry V)) (xs : List (Entry V)) → IfSome o P → IsBelow k xs → IfSome (last_or o xs) P
-  last_ended P k f o [] i b = i
-  last_ended P k f o (x ∷ xs) i b = last_ended P k f (Some x) xs (f x b.0) b.1
 
 -- the last entry that starts below b has the keys up to its end
 pub entry_held : {V : Type 0} (eq : V → V → Bool) (b high : ℤ) (e : Entry V) (es : List (Entry V)) → LastAt b high e es → IsCanonical eq es → (j : ℤ) → e.lo ≤ℤ j → j ≤ℤ e.hi → entry_at es j ≡ Some e
@@ -99,75 +75,101 @@ module _ {V : Type 0} (eq : V → V → Bool) (laws : IsEquivalence eq) (k low h
     under : IsBelow k i.front
     under = below_more e.lo k i.front starts (ends_below eq i.front e i.back (parted eq k high e es i c))
 
+    canonical : IsCanonical eq (e ∷ i.back)
+    canonical = rest_canonical eq k high e es i c
+
     over : IsAbove k i.back
     over = above_from (k +ℤ pos 1) k high i.back (omega (arith, ints)) i.back_from
 
     ended : e.hi <ℤ k → at es k ≡ None
-    ended u = ap (λ l. at l k) i.parts ∙ at_past k i.front (e ∷ i.back) under ∙ at_over e i.back k u ∙ at_before eq i.back k k (rest_canonical eq k high e es i c).2 over (omega (arith, ints))
+    ended u = ap (λ l. at l k) i.parts ∙ at_past k i.front (e ∷ i.back) under ∙ at_over e i.back k u ∙ at_before eq i.back k k canonical.2 over (omega (arith, ints))
 
-    below_parts : below k es ≡ i.front ++ below k (e ∷ i.back)
-    below_parts = ap (below k) i.parts ∙ filter-append (λ x. int_lt x.lo k) i.front (e ∷ i.back)
-        ∙ ap (λ l. l ++ below k (e ∷ i.back)) (below_all k i.front (more_below e.lo k i.front starts i.front_below))
+    -- the entry gives way to what it has below the key, and to a list like what lies above it
+    cut_apart : (xs above new : List (Entry V)) → before k (e ∷ i.back) ≡ xs → SameEntries eq (after k (e ∷ i.back)) above → new ≡ i.front ++ (xs ++ above) → IsCutOf eq k es new
+    cut_apart xs above new p like q = record {
+      above = above;
+      like = subst (λ l. SameEntries eq l above) (sym (ap (after k) i.parts ∙ after_past k k i.front (e ∷ i.back) (omega (arith, ints)) under)) like;
+      joined = q ∙ sym (append_assoc i.front xs above) ∙ ap (λ l. l ++ above) (sym (ap (before k) i.parts ∙ before_past k i.front (e ∷ i.back) under ∙ ap (λ l. i.front ++ l) p));
+    }
 
-    none_behind : below k i.back ≡ []
-    none_behind = below_none k (k +ℤ pos 1) high i.back (omega (arith, ints)) i.back_from
+    -- it ends at the key: what lies above is what stands behind it
+    back_like : e.hi ≤ℤ k → k ≤ℤ e.hi → SameEntries eq (after k (e ∷ i.back)) i.back
+    back_like h l = subst (λ xs. SameEntries eq xs i.back) (sym (after_whole eq k e i.back canonical h l)) (entries_themselves eq laws i.back)
 
-    last_under : e.lo <ℤ k → last_below k es ≡ Some e
-    last_under u = ap (last_or None) (below_parts ∙ ap (λ l. i.front ++ l) (below_takes k e i.back u ∙ ap (λ l. e ∷ l) none_behind)) ∙ last_of None i.front e
+    -- the edits at its start a, where it ends at z
+    module _ (a z : ℤ) (ends : (a, z) ≡ range_in e) where
+      at_lo : a ≡ e.lo
+      at_lo = ap (λ (t : ℤ × ℤ). t.0) ends
 
-    front_under : k ≤ℤ e.lo → below k es ≡ i.front
-    front_under u = below_parts ∙ ap (λ l. i.front ++ l) (below_skips k e i.back u ∙ none_behind) ∙ append-nil i.front
+      at_hi : z ≡ e.hi
+      at_hi = ap (λ (t : ℤ × ℤ). t.1) ends
 
-    -- the plan of the cut, by the entry's ends
-    module _ (x : ℤ × ℤ) (q : x ≡ range_in e) where
-      rest_is : (r : Option (ℤ × ℤ)) → r ≡ cond (int_lt k x.1) (Some x) None → IsRest k es r
-      rest_is r p =
-          let ends = subst (λ x. r ≡ cond (int_lt k x.1) (Some x) None) q p in
-          by_lt_z k e.hi
-          (λ u. subst (IsRest k es) (sym (ends ∙ ap (λ b. cond b (Some (range_in e)) None) (lt_true k e.hi u))) (record {
-            of = e;
-            found = last_there (k +ℤ pos 1) high e es i;
-            ends = refl;
-            starts = starts;
-            over = u;
-            none = none_next eq k high e es i c low s u;
-            rest = after_long eq k high e es i c u;
-          }))
-          (λ u. subst (IsRest k es) (sym (ends ∙ ap (λ b. cond b (Some (range_in e)) None) (lt_false k e.hi u))) (after_short eq k high e es i c u))
+      shortened : (y : ℤ) → y +ℤ pos 1 ≡ k → (ys : List (Entry V)) → with_end a y (i.front ++ e ∷ ys) ≡ i.front ++ entry e.lo (k -ℤ pos 1) e.value ∷ ys
+      shortened y t ys =
+          ap (λ x. with_end x y (i.front ++ e ∷ ys)) at_lo ∙ end_put e.lo y e i.front ys refl i.front_below
+          ∙ ap (λ x. i.front ++ entry e.lo x e.value ∷ ys) (omega (arith, ints, t))
 
-      left_is : (r : Option (ℤ × ℤ)) → r ≡ cond (int_lt x.0 k) (Some x) None → IsLeft k (below k es) r
-      left_is r p =
-          let ends = subst (λ x. r ≡ cond (int_lt x.0 k) (Some x) None) q p in
-          by_lt_z e.lo k
-          (λ u. subst (IsLeft k (below k es)) (sym (ends ∙ ap (λ b. cond b (Some (range_in e)) None) (lt_true e.lo k u))) (sym (ap (option_map range_in) (last_under u))))
-          (λ u. subst (IsLeft k (below k es)) (sym (ends ∙ ap (λ b. cond b (Some (range_in e)) None) (lt_false e.lo k u)))
-          (subst (λ l. before k l ≡ l) (sym (front_under u)) (ap (before k) (sym (append-nil i.front)) ∙ before_past k i.front [] under ∙ append-nil i.front)))
+      there : start_at a es ≡ Some e
+      there = ap (λ x. start_at x es) at_lo ∙ last_there (k +ℤ pos 1) high e es i
 
-      -- a clone of the entry's value, for what it has above the key
-      above_is : (is_clone : V → V → Type 0) → ClonesAreAlike is_clone eq → (v : V) → eq e.value v ≡ true → (o : Option V) → (x.0 <ℤ k → k <ℤ x.1 → IsSomeAnd o (is_clone v)) → IsLikeAbove eq k k es o
-      above_is is_clone alike v like o f =
-          let lo = ap (λ (t : ℤ × ℤ). t.0) q in
-          let hi = ap (λ (t : ℤ × ℤ). t.1) q in
-          by_lt_z e.lo k
-          (λ u. subst (λ y. IfSome y Q) (sym (last_under u)) (λ m. some_and o (λ w j. sym (laws.congr v e.value w (laws.symm v e.value ∙ like)) ∙ alike v w j) (f (omega (arith, ints)) (omega (arith, ints)))))
-          (λ u. subst (λ l. IfSome (last_or None l) Q) (sym (front_under u)) (last_ended Q k (λ y w m. absurd (omega (arith, ints))) None i.front tt under))
-        where
-          Q : Entry V → Type 0
-          Q y = k <ℤ y.hi → IsSomeAnd o (λ w. eq y.value w ≡ true)
+      present : IsSome (start_at a es)
+      present = subst (λ o. IsSome o) (sym there) refl
 
-      -- what the edit has to know
-      pub key_place : {T : Type 0} (rank : T → ℤ) (p : Plan T) → rank p.end ≡ k → option_map (shown_ends rank) p.rest ≡ cond (int_lt k x.1) (Some x) None → option_map (shown_found_ends rank) p.left ≡ cond (int_lt x.0 k) (Some x) None
-          → (is_clone : V → V → Type 0) → ClonesAreAlike is_clone eq → (v : V) → eq e.value v ≡ true → (o : Option V) → (x.0 <ℤ k → k <ℤ x.1 → IsSomeAnd o (is_clone v)) → IsPlace rank eq k es p o
-      key_place rank p end rest left is_clone alike v like o f = record {
-        order = omega (arith, ints, end);
-        rest = subst (λ z. IsRest z es (option_map (shown_ends rank) p.rest)) (sym end) (rest_is _ rest);
-        left = left_is _ left;
-        above = subst (λ z. IsLikeAbove eq k z es o) (sym end) (above_is is_clone alike v like o f);
-      }
+      -- it ends at the key: its end moves down
+      end_cut : a <ℤ z → z ≤ℤ k → k ≤ℤ z → (y : ℤ) → y +ℤ pos 1 ≡ k → (new : List (Entry V)) → new ≡ with_end a y es → IsCutOf eq k es new
+      end_cut long under up y t new q =
+          let lo = at_lo in
+          let hi = at_hi in
+          cut_apart (entry e.lo (k -ℤ pos 1) e.value ∷ []) i.back new (before_cuts k e i.back (omega (arith, ints)) (omega (arith, ints)))
+          (back_like (omega (arith, ints)) (omega (arith, ints)))
+          (q ∙ ap (with_end a y) i.parts ∙ shortened y t i.back)
 
       -- it goes on above the key
-      pub over_among : k <ℤ x.1 → IsAmongOthers k es
-      over_among u = let hi = ap (λ (t : ℤ × ℤ). t.1) q in let lo = starts in record { entry = e; here = entry_held eq (k +ℤ pos 1) high e es i c k lo (omega (arith, ints)); long = omega (arith, ints) }
+      module _ (over : k <ℤ z) where
+        back_over : StartsAscend (e.hi +ℤ pos 1) high i.back
+        back_over = starts_over eq (k +ℤ pos 1) high e i.back canonical.1 i.back_from
+
+        none_above : start_at (k +ℤ pos 1) es ≡ None
+        none_above = let hi = at_hi in none_next eq k high e es i c low s (omega (arith, ints))
+
+        module _ (p : Entry V) (next : p.lo ≡ k +ℤ pos 1) (end : p.hi ≡ z) (like : eq e.value p.value ≡ true) where
+          like_above : SameEntries eq (after k (e ∷ i.back)) (p ∷ i.back)
+          like_above =
+              let hi = at_hi in
+              subst (λ l. SameEntries eq l (p ∷ i.back)) (sym (after_cuts k e i.back (omega (arith, ints)) starts)) (sym next, omega (arith, ints), like, entries_themselves eq laws i.back)
+
+          -- and starts at it: its start moves up
+          front_cut : k ≤ℤ a → (new : List (Entry V)) → new ≡ with_entry p (without a es) → IsCutOf eq k es new
+          front_cut l new q =
+              let lo = at_lo in
+              let hi = at_hi in
+              let first = starts in
+              cut_apart [] (p ∷ i.back) new (before_ends k e i.back (omega (arith, ints)) (omega (arith, ints))) like_above
+              (q ∙ ap (λ x. with_entry p (without a x)) i.parts ∙ ap (with_entry p) (without-between a e i.front i.back (sym lo) (more_below e.lo a i.front (omega (arith, ints)) i.front_below))
+              ∙ with_entry-between p (e.hi +ℤ pos 1) high i.front i.back (more_below e.lo p.lo i.front (omega (arith, ints)) i.front_below) (omega (arith, ints)) back_over)
+
+          -- or starts below it: an entry is put in, and its end moves down
+          inside_cut : a <ℤ k → (y : ℤ) → y +ℤ pos 1 ≡ k → (mid new : List (Entry V)) → mid ≡ with_entry p es → new ≡ with_end a y mid → IsCutOf eq k es new
+          inside_cut l y t mid new m q =
+              let lo = at_lo in
+              let hi = at_hi in
+              let xs = i.front ++ e ∷ [] in
+              let behind = starts_behind p.lo i.front e (more_below e.lo p.lo i.front (omega (arith, ints)) i.front_below) (omega (arith, ints)) in
+              let put : with_entry p es ≡ i.front ++ e ∷ p ∷ i.back = ap (with_entry p) (i.parts ∙ sym (append_assoc i.front (e ∷ []) i.back)) ∙ with_entry-between p (e.hi +ℤ pos 1) high xs i.back behind (omega (arith, ints)) back_over ∙ append_assoc i.front (e ∷ []) (p ∷ i.back) in
+              cut_apart (entry e.lo (k -ℤ pos 1) e.value ∷ []) (p ∷ i.back) new (before_cuts k e i.back (omega (arith, ints)) (omega (arith, ints))) like_above
+              (q ∙ ap (with_end a y) (m ∙ put) ∙ shortened y t (p ∷ i.back))
+
+        -- the next key has no start of its own
+        none_at_next : (n : ℤ) → n ≡ k +ℤ pos 1 → start_at n es ≡ None
+        none_at_next n next = ap (λ x. start_at x es) next ∙ none_above
+
+        start_cut : (n : ℤ) → n ≡ k +ℤ pos 1 → k ≤ℤ a → (new : List (Entry V)) → IsStartMoved a n es new → IsCutOf eq k es new
+        start_cut n next l new w =
+            let one : w.of ≡ e = one_value (start_at a es) w.found there in
+            front_cut (entry n w.of.hi w.of.value) next (ap (λ (x : Entry V). x.hi) one ∙ sym at_hi) (subst (λ (x : Entry V). eq e.value x.value ≡ true) (sym one) (laws.refl e.value)) l new w.moved
+
+        between_cut : (n : ℤ) → n ≡ k +ℤ pos 1 → (v w : V) → eq e.value v ≡ true → eq v w ≡ true → a <ℤ k → (y : ℤ) → y +ℤ pos 1 ≡ k → (mid new : List (Entry V)) → mid ≡ with_entry (entry n z w) es → new ≡ with_end a y mid → IsCutOf eq k es new
+        between_cut n next v w like copy l y t mid new m q = inside_cut (entry n z w) next refl (sym (laws.congr v e.value w (laws.symm v e.value ∙ like)) ∙ copy) l y t mid new m q
 
     module _ (up : k ≤ℤ e.hi) where
       -- what is at the key
@@ -199,9 +201,41 @@ module _ {V : Type 0} (eq : V → V → Bool) (laws : IsEquivalence eq) (k low h
         pub whole_cut : IsCutOf eq k es (without k es)
         whole_cut =
             let l = lo in
-            subst (λ x. IsCutOf eq k es x) (sym (ap (without k) i.parts ∙ without-between k e i.front i.back lo (more_below e.lo k i.front starts i.front_below)))
-            (subst (λ x. IsCutOf eq k x (i.front ++ i.back)) (sym i.parts)
-            (cut_whole eq laws k k (omega (arith, ints)) i.front under e i.back (rest_canonical eq k high e es i c).2 over (omega (arith, ints)) up (omega (arith, ints))))
+            cut_apart [] i.back (without k es) (before_ends k e i.back up (omega (arith, ints))) (back_like (omega (arith, ints)) up)
+            (ap (without k) i.parts ∙ without-between k e i.front i.back lo (more_below e.lo k i.front starts i.front_below))
+
+  -- a look has answered that the entry has other keys too, and a clone of its value
+  module _ (is_clone : V → V → Type 0) (alike : ClonesAreAlike is_clone eq) (a z : ℤ) (v : V) (held : IsSomeAnd (holder_of k es) (λ e. ((a, z) ≡ range_in e) × IsManyCloned is_clone e (Some v))) where
+    abbrev shared : HasKey (λ e. ((a, z) ≡ range_in e) × IsManyCloned is_clone e (Some v))
+    shared = has_key _ held
+
+    like : eq shared.of.value v ≡ true
+    like = alike shared.of.value v shared.holds.1.1
+
+    taken : (new : List (Entry V)) → IsCutOf eq k es new → IsKeyTaken eq k (Some v) es new
+    taken new cut = record { cut = cut; value = value_held shared.of shared.last shared.up v like }
+
+    pub held_there : IsSome (start_at a es)
+    held_there = present shared.of shared.last a z shared.holds.0
+
+    pub end_taken : z ≤ℤ k → (y : ℤ) → y +ℤ pos 1 ≡ k → (new : List (Entry V)) → new ≡ with_end a y es → IsKeyTaken eq k (Some v) es new
+    end_taken under y t new q =
+        let ends = shared.holds.0 in
+        let lo = ap (λ (t : ℤ × ℤ). t.0) ends in
+        let hi = ap (λ (t : ℤ × ℤ). t.1) ends in
+        let long = shared.holds.1.0 in
+        let up = shared.up in
+        taken new (end_cut shared.of shared.last a z ends (omega (arith, ints)) under (omega (arith, ints)) y t new q)
+
+    module _ (over : k <ℤ z) (n : ℤ) (next : n ≡ k +ℤ pos 1) where
+      pub next_absent : start_at n es ≡ None
+      next_absent = none_at_next shared.of shared.last a z shared.holds.0 over n next
+
+      pub start_taken : k ≤ℤ a → (new : List (Entry V)) → IsStartMoved a n es new → IsKeyTaken eq k (Some v) es new
+      start_taken under new w = taken new (start_cut shared.of shared.last a z shared.holds.0 over n next under new w)
+
+      pub inside_taken : a <ℤ k → (w : V) → is_clone v w → (y : ℤ) → y +ℤ pos 1 ≡ k → (mid new : List (Entry V)) → mid ≡ with_entry (entry n z w) es → new ≡ with_end a y mid → IsKeyTaken eq k (Some v) es new
+      inside_taken l w copy y t mid new m q = taken new (between_cut shared.of shared.last a z shared.holds.0 over n next v w like (alike v w copy) l y t mid new m q)
 
   -- no entry has the key
   pub no_key : holder_of k es ≡ None → at es k ≡ None

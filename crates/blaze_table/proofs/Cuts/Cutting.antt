@@ -5,10 +5,9 @@ use Rattle.std.specs.Cmp.{IsEquivalence}
 use Rattle.std.specs.Ordering.{int_eq}
 use Rattle.std.proofs.lemmas.Int.{ints, by_lt_z}
 use Rattle.std.proofs.lemmas.Bool.{and_left}
-use Rattle.std.proofs.lemmas.List.{append-nil}
 use Rattle.blaze_int.proofs.Comparisons.{eq_true, le_true, le_false}
 use Rattle.blaze_entries.proofs.Alike.{same_along, same_trans, same_or_right}
-use Rattle.blaze_table.specs.Entries.{Entry, at, SameEntries, SameOption, entry}
+use Rattle.blaze_table.specs.Entries.{Entry, at, SameOption, entry}
 use Rattle.blaze_table.specs.Canonical.{IsCanonical, AreKeys}
 use Rattle.blaze_table.specs.Count.{keys_in}
 use Rattle.blaze_table.specs.Splice.{before, after, glue, IsBelow, IsRangeCutOf, IsCutOf, IsTableCut, overlap, covered}
@@ -17,8 +16,8 @@ use Rattle.blaze_table.specs.Table.{IsTable}
 use Rattle.blaze_table.proofs.Canonical.Lookup.{IsAbove, above_rest, at_in, at_over, at_before, above_by}
 use Rattle.blaze_table.proofs.Canonical.RangeMaps.{range_map}
 use Rattle.blaze_table.proofs.Canonical.Unique.{back}
-use Rattle.blaze_table.proofs.Paints.Splices.{before_ends, by_before, after_skips, by_after, canonical_glue, canonical_before, canonical_after, at_glue, above_after, below_before, at-before_under, at-before_over, at-after_over, below_more}
-use Rattle.blaze_table.proofs.Paints.Painted.{before_past, after_past, entries_themselves, canonical_as, above_as, content_as}
+use Rattle.blaze_table.proofs.Paints.Splices.{by_before, after_skips, by_after, canonical_glue, canonical_before, canonical_after, at_glue, above_after, below_before, at-before_under, at-before_over, at-after_over, below_more}
+use Rattle.blaze_table.proofs.Paints.Painted.{entries_themselves, canonical_as, above_as, content_as}
 use Rattle.blaze_table.proofs.Canonical.Counted.{keys_apart, covered_none, overlap_none, overlap_most, keys_glue, are_keys_glue, are_keys_before, are_keys_after, are_keys_as, same_keys_in}
 
 module _ {V : Type 0} (eq : V → V → Bool) where
@@ -61,18 +60,6 @@ module _ {V : Type 0} (eq : V → V → Bool) where
     like = entries_themselves eq laws (after h es);
     joined = halves l h w es c n;
   }
-
-  module _ (laws : IsEquivalence eq) (l h : ℤ) (w : l ≤ℤ h) (A : List (Entry V)) (b : IsBelow l A) where
-    module _ (e : Entry V) (C : List (Entry V)) where
-      pub cut_whole : IsCanonical eq C → IsAbove h C → l ≤ℤ e.lo → l ≤ℤ e.hi → e.hi ≤ℤ h → IsRangeCutOf eq l h (A ++ e ∷ C) (A ++ C)
-      cut_whole c a u v q =
-          let above_is : after h (A ++ e ∷ C) ≡ C = after_past l h A (e ∷ C) w b ∙ after_skips h e C q ∙ after_all h C c a in
-          let below_is : before l (A ++ e ∷ C) ≡ A = before_past l A (e ∷ C) b ∙ ap (λ l. A ++ l) (before_ends l e C v u) ∙ append-nil A in
-          record {
-            above = C;
-            like = subst (λ l. SameEntries eq l C) (sym above_is) (entries_themselves eq laws C);
-            joined = ap (λ l. l ++ C) (sym below_is);
-          }
 
   -- the value at a key of the range e
   pub at_cut : (k : ℤ) (A : List (Entry V)) → IsBelow k A → (e : Entry V) (C : List (Entry V)) → e.lo ≤ℤ k → k ≤ℤ e.hi → at (A ++ e ∷ C) k ≡ Some e.value

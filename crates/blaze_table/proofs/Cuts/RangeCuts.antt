@@ -1,5 +1,5 @@
 -- A range of keys cut by what a walk that looks for no value has found: what the edit has to know of the list, and what it counts.
-use Rattle.std.proofs.Common.{◌≡◌, ℕ, ◌+◌, ◌≤◌, ℤ, pos, ◌+ℤ◌, ◌≤ℤ◌, ◌<ℤ◌, Bool, true, false, cond, List, Option, Some, None, length, length-append, refl, ◌∙◌, subst, ap, arith, inl, inr}
+use Rattle.std.proofs.Common.{◌≡◌, ℕ, ℤ, pos, ◌+ℤ◌, ◌≤ℤ◌, ◌<ℤ◌, Bool, true, false, cond, List, Option, Some, None, length, length-append, refl, ◌∙◌, subst, ap, arith, inl, inr}
 use Rattle.std.specs.Cmp.{IsEquivalence}
 use Rattle.std.specs.Option.{option_map}
 use Rattle.std.specs.Prelude.{IfSome, IsSome, IsSomeAnd, int_lt}
@@ -10,6 +10,7 @@ use Rattle.blaze_entries.specs.Found.{found_in, is_sought, range_in, shown_ends}
 use Rattle.blaze_entries.specs.Scanned.{shown_plan}
 use Rattle.blaze_entries.specs.Starts.{StartsAscend, last_below}
 use Rattle.blaze_entries.specs.declared.scan.Plan.{Plan}
+use Rattle.blaze_entries.specs.declared.range_entry.RangeEntry.{RangeEntry}
 use Rattle.blaze_table.specs.Canonical.{IsCanonical}
 use Rattle.blaze_table.specs.Cut.{GoesOnAbove}
 use Rattle.blaze_table.specs.Edited.{IsPlace}
@@ -20,11 +21,10 @@ use Rattle.blaze_table.specs.Table.{IsTable}
 use Rattle.blaze_table.specs.Work.{IsCountedCut}
 use Rattle.blaze_table.proofs.Canonical.Counted.{keys_apart}
 use Rattle.blaze_table.proofs.Cuts.Cutting.{cut_table}
-use Rattle.blaze_table.proofs.Neighbours.Growing.{left_is}
 use Rattle.blaze_table.proofs.Paints.Painted.{length_as}
 use Rattle.blaze_table.proofs.Walks.Found.{last_held}
 use Rattle.blaze_table.proofs.Walks.FewLooks.{counted}
-use Rattle.blaze_table.proofs.Walks.Plans.{rest_is}
+use Rattle.blaze_table.proofs.Walks.Plans.{place_is}
 
 module _ {V : Type 0} (eq : V → V → Bool) (sought : Option V) (free : sought ≡ None) (l h : ℤ) {T : Type 0} (rank : T → ℤ) (p : Plan T) (n : ℕ) (o : Option V)
     (es : List (Entry V)) (f : IsWalkOf eq (is_sought eq sought) l h es (shown_plan rank p) n o) where
@@ -44,12 +44,7 @@ module _ {V : Type 0} (eq : V → V → Bool) (sought : Option V) (free : sought
   module _ (low high : ℤ) (w : l ≤ℤ h) (s : StartsAscend low high es) (c : IsCanonical eq es) where
     -- what the edit has to know
     pub range_place : IsPlace rank eq l es p o
-    range_place = record {
-      order = omega (arith, ints, w, end_is);
-      rest = rest_is eq test l h w low high es s c (shown_plan rank p) (omega (arith, ints, end_is)) f.plan;
-      left = left_is rank test l low high es s p.left f.plan.left;
-      above = like (last_below l es) f.above;
-    }
+    range_place = place_is eq test l h w low high es s c rank p o f.plan (like (last_below l es) f.above)
       where
         like : (x : Option (Entry V)) → IfSome x (λ e. h <ℤ e.hi → test e.value ≡ false → IsSomeAnd o (λ u. eq e.value u ≡ true)) → IfSome x (λ e. rank p.end <ℤ e.hi → IsSomeAnd o (λ u. eq e.value u ≡ true))
         like None i = tt
@@ -59,12 +54,12 @@ module _ {V : Type 0} (eq : V → V → Bool) (sought : Option V) (free : sought
     pub rest_above : IsSome p.rest → GoesOnAbove h es
     rest_above i = by_last (last_below (h +ℤ pos 1) es) refl p.rest f.plan.rest i
       where
-        over : (e : Entry V) (b t : Bool) (x : Option (T × T)) → option_map (shown_ends rank) x ≡ cond b (cond t None (Some (range_in e))) None → IsSome x → b ≡ true
+        over : {X : Type 0} (e : Entry V) (b t : Bool) (x : Option (RangeEntry T X)) → option_map (shown_ends rank) x ≡ cond b (cond t None (Some (range_in e))) None → IsSome x → b ≡ true
         over e true t x m i = refl
         over e false t (Some x) m i = cc
         over e false t None m i = cc
 
-        by_last : (q : Option (Entry V)) → last_below (h +ℤ pos 1) es ≡ q → (x : Option (T × T)) → option_map (shown_ends rank) x ≡ rest_of h (option_map (found_in test) q) → IsSome x → GoesOnAbove h es
+        by_last : {X : Type 0} (q : Option (Entry V)) → last_below (h +ℤ pos 1) es ≡ q → (x : Option (RangeEntry T X)) → option_map (shown_ends rank) x ≡ rest_of h (option_map (found_in test) q) → IsSome x → GoesOnAbove h es
         by_last None q (Some x) m i = cc
         by_last None q None m i = cc
         by_last (Some e) q x m i =
@@ -78,7 +73,7 @@ module _ {V : Type 0} (eq : V → V → Bool) (sought : Option V) (free : sought
         record { table = cut_table eq laws l h w es new c cut low high len n t (omega (arith, ints, t.counted, f.outside, keys_apart eq l h es w c)); cut = cut }
 
 -- few looks, and the edit behind them
-pub counted_cut : {V : Type 0} (eq : V → V → Bool) (laws : IsEquivalence eq) (l h : ℤ) (old mid new : CountedEntries V) → IsLooked l h old mid → IsRangeCutOf eq l h mid.entries new.entries → IsWorked 1 1 mid new → IsCountedCut old new
+pub counted_cut : {V : Type 0} (eq : V → V → Bool) (laws : IsEquivalence eq) (l h : ℤ) (old mid new : CountedEntries V) → IsLooked l h old mid → IsRangeCutOf eq l h mid.entries new.entries → IsWorked 1 0 mid new → IsCountedCut old new
 counted_cut eq laws l h old mid new looked r work =
     let long = ap length r.joined ∙ length-append (before l mid.entries) r.above in
     counted l h old mid new looked 1 work (omega (arith, long, length_as eq laws (after h mid.entries) r.above r.like))

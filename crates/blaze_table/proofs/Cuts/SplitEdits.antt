@@ -91,13 +91,13 @@ module _ {V : Type 0} (eq : V → V → Bool) (laws : IsEquivalence eq) (k high 
       (split_between eq laws k [] tt es c (above_from k (k -ℤ pos 1) high es (omega (arith, ints)) starts)))
 
   -- what a plain split answers
-  pub if_split : {E : Type 0} (r : Result (CountedEntries V) E) (old new : CountedEntries V) → old.entries ≡ es → IsSplitOf eq k es (below k es) (from k es)
-      → OnOk r (new ≡ record old { entries = below k old.entries }) → IfOk r (λ o. o ≡ uncounted (from k old.entries)) → IfOk r (λ o. IsSplitOf eq k es new.entries o.entries)
-  if_split (Err x) old new q w b f = tt
-  if_split (Ok o) old new q w b f =
+  pub if_split : {O E : Type 0} (counted : O → CountedEntries V) (r : Result O E) (old new : CountedEntries V) → old.entries ≡ es → IsSplitOf eq k es (below k es) (from k es)
+      → OnOk r (new ≡ record old { entries = below k old.entries }) → IfOk r (λ o. counted o ≡ uncounted (from k old.entries)) → IfOk r (λ o. IsSplitOf eq k es new.entries (counted o).entries)
+  if_split counted (Err x) old new q w b f = tt
+  if_split counted (Ok o) old new q w b f =
       let low : new.entries ≡ below k es = ap (λ (s : CountedEntries V). s.entries) b ∙ ap (below k) q in
-      let up : o.entries ≡ from k es = ap (λ (s : CountedEntries V). s.entries) f ∙ ap (from k) q in
-      subst (λ x. IsSplitOf eq k es x o.entries) (sym low) (subst (λ x. IsSplitOf eq k es (below k es) x) (sym up) w)
+      let up : (counted o).entries ≡ from k es = ap (λ (s : CountedEntries V). s.entries) f ∙ ap (from k) q in
+      subst (λ x. IsSplitOf eq k es x (counted o).entries) (sym low) (subst (λ x. IsSplitOf eq k es (below k es) x) (sym up) w)
 
 -- an entry that was put in is taken out again, and nothing was counted
 pub clone_removed : {V : Type 0} (is_clone : V → V → Type 0) (s k : ℤ) (s0 s1 s2 s3 : CountedEntries V) → start_at k s0.entries ≡ None → IsCloneInserted is_clone s k s0.entries s1.entries

@@ -6,15 +6,14 @@ use Rattle.std.proofs.lemmas.Int.{ints}
 use Rattle.std.proofs.Common.{subst}
 use Rattle.std.proofs.lemmas.List.{append-nil, append_assoc}
 use Rattle.std.proofs.lemmas.List.Elements.{filter-append}
-use Rattle.blaze_entries.specs.Found.{shown_found, range_in}
-use Rattle.blaze_entries.specs.declared.found.Found.{Found}
+use Rattle.blaze_entries.specs.Found.{shown_found, range_in, shown_ends}
+use Rattle.blaze_entries.specs.declared.range_entry.RangeEntry.{RangeEntry}
 use Rattle.blaze_entries.specs.Starts.{StartsAscend, below, from, last_below, start_at, with_end}
 use Rattle.blaze_entries.proofs.Ascending.{by_order}
 use Rattle.blaze_entries.proofs.Halves.{StartsBelow, below_takes, below_skips, below_all, below_none, from_skips, from_none, from_all, more_below}
 use Rattle.blaze_table.specs.Entries.{Entry, entry}
 use Rattle.blaze_table.specs.Canonical.{IsCanonical}
 use Rattle.blaze_table.specs.Edited.{IsLeft}
-use Rattle.blaze_table.specs.Planned.{shown_found_ends}
 use Rattle.blaze_table.specs.Splice.{before, IsBelow}
 use Rattle.blaze_table.proofs.Paints.Splices.{before_cuts, before_keeps, below_more}
 use Rattle.blaze_table.proofs.Paints.Painted.{before_past}
@@ -98,11 +97,11 @@ module _ {V : Type 0} (eq : V → V → Bool) (k low high : ℤ) (es : List (Ent
         ∙ sym (ap (λ t. t ++ from k es) (ap (before k) b ∙ before_past k i.front (r.found ∷ []) (front_ends r i) ∙ ap (λ t. i.front ++ t) (before_cuts k r.found [] (omega (arith, ints)) (omega (arith, ints)))) ∙ ap (λ t. (i.front ++ cut ∷ []) ++ t) (from_last k high r.found es i))
 
 -- an entry that was looked at as the last below a key
-pub left_is : {T V : Type 0} (rank : T → ℤ) (test : V → Bool) (l low high : ℤ) (es : List (Entry V)) → StartsAscend low high es → (left : Option (Found T))
-    → option_map (shown_found rank) left ≡ option_map (λ e. (e.lo, e.hi, test e.value)) (last_below l es) → IsLeft l (below l es) (option_map (shown_found_ends rank) left)
+pub left_is : {T V : Type 0} (rank : T → ℤ) (test : V → Bool) (l low high : ℤ) (es : List (Entry V)) → StartsAscend low high es → (left : Option (RangeEntry T Bool))
+    → option_map (shown_found rank) left ≡ option_map (λ e. (e.lo, e.hi, test e.value)) (last_below l es) → IsLeft l (below l es) (option_map (shown_ends rank) left)
 left_is {T} {V} rank test l low high es s left q = by_both left (last_below l es) refl q
   where
-    by_both : (left : Option (Found T)) (o : Option (Entry V)) → last_below l es ≡ o → option_map (shown_found rank) left ≡ option_map (λ e. (e.lo, e.hi, test e.value)) o → IsLeft l (below l es) (option_map (shown_found_ends rank) left)
+    by_both : (left : Option (RangeEntry T Bool)) (o : Option (Entry V)) → last_below l es ≡ o → option_map (shown_found rank) left ≡ option_map (λ e. (e.lo, e.hi, test e.value)) o → IsLeft l (below l es) (option_map (shown_ends rank) left)
     by_both None None p q = subst (λ xs. before l xs ≡ xs) (sym (no_last l low high es s p)) refl
     by_both None (Some e) p q = cc
     by_both (Some f) None p q = cc

@@ -1,15 +1,17 @@
 -- Entries taken out between two keys, and the parts of parts of a list.
-use Rattle.std.proofs.Common.{◌≡◌, ℤ, pos, ◌+ℤ◌, ◌≤ℤ◌, ◌<ℤ◌, cond, List, [], ◌∷◌, ◌++◌, Option, Some, None, refl, ◌∙◌, sym, subst, ap, arith}
-use Rattle.std.specs.Prelude.{IsSome, IfSome, int_lt, int_le}
+use Rattle.std.proofs.Common.{◌≡◌, ◌≤◌, ℤ, pos, ◌+ℤ◌, ◌≤ℤ◌, ◌<ℤ◌, cond, List, [], ◌∷◌, length, drop, Option, Some, None, refl, ◌∙◌, sym, subst, ap, arith}
+use Rattle.std.specs.Prelude.{IsSome, int_lt, int_le}
 use Rattle.std.specs.Option.{option_map}
 use Rattle.std.proofs.lemmas.Int.{ints, by_lt_z}
 use Rattle.blaze_int.proofs.Comparisons.{lt_true, lt_false, le_true, le_false}
 use Rattle.blaze_entries.specs.Found.{range_in}
 use Rattle.blaze_entries.specs.Starts.{StartsAscend, below, from, first_entry, first_from, start_at, without}
-use Rattle.blaze_entries.proofs.Halves.{starts_from, from_all}
+use Rattle.blaze_entries.proofs.Ascending.{by_order}
+use Rattle.blaze_entries.proofs.Moves.{absent_next}
+use Rattle.blaze_entries.proofs.Halves.{from_takes, from_skips}
 use Rattle.blaze_table.specs.Entries.{Entry}
-use Rattle.blaze_table.proofs.Cuts.Splits.{halves, first_there}
-use Rattle.blaze_table.proofs.Paints.EditLists.{below_without, from_without}
+use Rattle.blaze_table.proofs.Cuts.Splits.{first_there}
+use Rattle.blaze_table.proofs.Paints.EditLists.{below_without}
 
 module _ {V : Type 0} where
   pub from_from : (j k : ℤ) (es : List (Entry V)) → j ≤ℤ k → from k (from j es) ≡ from k es
@@ -35,6 +37,14 @@ module _ {V : Type 0} where
   started s t None p = cc
   started s t (Some e) p = let q : (s, t) ≡ range_in e = cc in (e, (refl, sym (ap (λ (x : ℤ × ℤ). x.0) q)))
 
+  -- one starts there, where some do
+  pub none_there : (n : ℤ) (es : List (Entry V)) → None ≡ option_map range_in (first_from n es) → 1 ≤ length (from n es) → ⊥
+  none_there n es p some = by_parts (from n es) p some
+    where
+      by_parts : (xs : List (Entry V)) → None ≡ option_map range_in (first_entry xs) → 1 ≤ length xs → ⊥
+      by_parts [] q i = omega arith
+      by_parts (e ∷ xs) q i = cc
+
   -- the entries after a look for the next that starts from n on
   module _ (n low high : ℤ) (cur was : List (Entry V)) (same : cur ≡ was) (h : StartsAscend low high cur) where
     found : first_from n was ≡ first_from n cur
@@ -49,24 +59,46 @@ module _ {V : Type 0} where
         let is = d.1.1 in
         (omega (arith, ints), subst (λ o. IsSome o) (sym (subst (λ (x : ℤ). start_at x cur ≡ Some d.0) is e.1)) refl)
 
-    -- or it starts above z, or there is none: then all that started up to z is taken out
-    pub all_out : (z : ℤ) (old : List (Entry V)) → n ≤ℤ z → below n was ≡ below n old → from (z +ℤ pos 1) was ≡ from (z +ℤ pos 1) old
-        → (r : Option (ℤ × ℤ)) → r ≡ option_map range_in (first_from n was) → IfSome r (λ x. z <ℤ x.0) → cur ≡ below n old ++ from (z +ℤ pos 1) old
-    all_out z old w b a r p u =
-        halves n low high cur h ∙ ap (λ x. x ++ from n cur) (ap (below n) same ∙ b)
-        ∙ ap (λ x. below n old ++ x) (all_above (from n cur) (starts_from n low high cur h) r (p ∙ ap (option_map range_in) found) u ∙ from_from n (z +ℤ pos 1) cur (omega (arith, ints)) ∙ ap (from (z +ℤ pos 1)) same ∙ a)
+    -- what is left without it
+    pub left_from : (s t : ℤ) (new : List (Entry V)) → Some (s, t) ≡ option_map range_in (first_from n was) → new ≡ without s cur → from n new ≡ drop 1 (from n was)
+    left_from s t new p q =
+        let over = (there s t p).0 in
+        by_parts over (from n cur) refl
       where
-        all_above : (xs : List (Entry V)) → StartsAscend n high xs → (r : Option (ℤ × ℤ)) → r ≡ option_map range_in (first_entry xs) → IfSome r (λ x. z <ℤ x.0) → xs ≡ from (z +ℤ pos 1) xs
-        all_above [] h r p u = refl
-        all_above (e ∷ xs) h None p u = cc
-        all_above (e ∷ xs) h (Some x) p u =
-            let is : x ≡ range_in e = cc in
-            let start : x.0 ≡ e.lo = ap (λ (y : ℤ × ℤ). y.0) is in
-            sym (from_all (z +ℤ pos 1) e.lo high (e ∷ xs) (omega (arith, ints)) (omega (arith, ints), h.1, h.2))
+        first_out : (es : List (Entry V)) (e : Entry V) (xs : List (Entry V)) → n ≤ℤ e.lo → from n es ≡ e ∷ xs → from n (without e.lo es) ≡ xs
+        first_out [] e xs u r = cc
+        first_out (f ∷ fs) e xs u r = by_order e.lo f.lo
+            (λ o a b. let k : f ∷ from n fs ≡ e ∷ xs = sym (from_takes n f fs (omega (arith, ints))) ∙ r in let one : f ≡ e = cc in absurd (omega (arith, ints, ap (λ (x : Entry V). x.lo) one)))
+            (λ o a b. let k : f ∷ from n fs ≡ e ∷ xs = sym (from_takes n f fs (omega (arith, ints))) ∙ r in let same : from n fs ≡ xs = cc in rw b same)
+            (λ o a b. by_lt_z f.lo n
+            (λ m. rw b (from_skips n f (without e.lo fs) m ∙ first_out fs e xs u (sym (from_skips n f fs m) ∙ r)))
+            (λ m. let k : f ∷ from n fs ≡ e ∷ xs = sym (from_takes n f fs m) ∙ r in let one : f ≡ e = cc in absurd (omega (arith, ints, ap (λ (x : Entry V). x.lo) one))))
+
+        by_parts : n ≤ℤ s → (xs : List (Entry V)) → from n cur ≡ xs → from n new ≡ drop 1 (from n was)
+        by_parts over [] r = let k : Some (s, t) ≡ None = p ∙ ap (option_map range_in) found ∙ ap (λ (x : List (Entry V)). option_map range_in (first_entry x)) r in cc
+        by_parts over (e ∷ xs) r =
+            let k : Some (s, t) ≡ Some (range_in e) = p ∙ ap (option_map range_in) found ∙ ap (λ (x : List (Entry V)). option_map range_in (first_entry x)) r in
+            let ends : (s, t) ≡ range_in e = cc in
+            let start : s ≡ e.lo = ap (λ (x : ℤ × ℤ). x.0) ends in
+            ap (from n) q ∙ ap (λ x. from n (without x cur)) start ∙ first_out cur e xs (omega (arith, ints)) r ∙ sym (ap (drop 1) (ap (from n) (sym same) ∙ r))
 
   -- what is kept when one more is taken out
   pub kept_below : (k s : ℤ) (new cur was args : List (Entry V)) → k ≤ℤ s → new ≡ without s cur → cur ≡ was → below k was ≡ below k args → below k new ≡ below k args
   kept_below k s new cur was args l n c a = ap (below k) n ∙ below_without k s cur l ∙ ap (below k) c ∙ a
 
-  pub kept_above : (k s : ℤ) (new cur was args : List (Entry V)) → s <ℤ k → new ≡ without s cur → cur ≡ was → from k was ≡ from k args → from k new ≡ from k args
-  kept_above k s new cur was args l n c a = ap (from k) n ∙ from_without k s cur l ∙ ap (from k) c ∙ a
+  -- a key that one starts above has a key after it
+  pub not_last : (k b high : ℤ) (es : List (Entry V)) → StartsAscend b high es → 1 ≤ length (from (k +ℤ pos 1) es) → k <ℤ high
+  not_last k b high [] s n = absurd (omega arith)
+  not_last k b high (e ∷ es) s n = by_lt_z k high
+      (λ u. u)
+      (λ u.
+      let skip = ap length (from_skips (k +ℤ pos 1) e es (omega (arith, ints, s.1))) in
+      not_last k (e.lo +ℤ pos 1) high es s.2 (omega (arith, skip)))
+
+  -- nothing is taken out where nothing starts
+  pub none_out : (k : ℤ) (es : List (Entry V)) → start_at k es ≡ None → without k es ≡ es
+  none_out k [] q = refl
+  none_out k (e ∷ es) q = by_order k e.lo
+      (λ o a b. rw b (ap (λ t. e ∷ t) (none_out k es (absent_next k e es b q))))
+      (λ o a b. let here : Some e ≡ None = sym (ap (λ t. cond t (Some e) (start_at k es)) b) ∙ q in cc)
+      (λ o a b. rw b (ap (λ t. e ∷ t) (none_out k es (absent_next k e es b q))))

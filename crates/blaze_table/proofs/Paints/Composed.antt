@@ -1,19 +1,25 @@
 -- The steps of a paint in place one after another.
-use Rattle.std.proofs.Common.{◌≡◌, ℤ, pos, ◌+ℤ◌, ◌-ℤ◌, ◌≤ℤ◌, Bool, List, [], ◌∷◌, ◌++◌, Some, refl, ◌∙◌, sym, subst, ap, arith}
+use Rattle.std.proofs.Common.{◌≡◌, ℤ, pos, ◌+ℤ◌, ◌-ℤ◌, ◌≤ℤ◌, ◌<ℤ◌, Bool, List, [], ◌∷◌, ◌++◌, length, Option, Some, None, refl, ◌∙◌, sym, subst, ap, arith}
 use Rattle.std.specs.Prelude.{int_lt, int_le}
+use Rattle.std.specs.Option.{option_map}
 use Rattle.std.proofs.lemmas.Int.{ints, by_lt_z}
 use Rattle.std.proofs.lemmas.List.{append_assoc, append-nil}
 use Rattle.std.proofs.lemmas.List.Elements.{filter-append}
-use Rattle.blaze_entries.specs.Starts.{StartsAscend, below, from, start_at, with_end}
+use Rattle.blaze_entries.specs.Starts.{StartsAscend, below, from, last_below, start_at, with_end}
 use Rattle.blaze_entries.proofs.Halves.{StartsBelow, below_takes, from_skips, below_all, below_none, from_none, more_below}
+use Rattle.blaze_entries.specs.Found.{range_in, shown_ends}
+use Rattle.blaze_entries.specs.declared.range_entry.RangeEntry.{RangeEntry}
+use Rattle.blaze_table.specs.Edited.{IsLeft}
 use Rattle.blaze_table.specs.Entries.{Entry, entry}
 use Rattle.blaze_table.specs.Canonical.{IsCanonical}
-use Rattle.blaze_table.specs.Planned.{IsRestKept, IsStartPut, IsPutAt, IsExtended}
+use Rattle.blaze_table.specs.Planned.{inner, IsRestKept, IsStartPut, IsPutAt, IsExtended}
 use Rattle.blaze_table.specs.Splice.{before, IsRangeCutOf}
 use Rattle.blaze_table.proofs.Paints.Splices.{by_before, before_ends, before_keeps, before_cuts}
-use Rattle.blaze_table.proofs.Cuts.Splits.{starts_below, halves, from_at}
+use Rattle.blaze_table.proofs.Cuts.Splits.{last_at, starts_below, halves, from_at}
+use Rattle.blaze_table.proofs.Neighbours.Growing.{last_there, below_last, front_last}
 use Rattle.blaze_table.proofs.Paints.EditLists.{end_put}
 use Rattle.blaze_table.proofs.Paints.Clearing.{below_from, from_from}
+use Rattle.blaze_table.proofs.Paints.Inner.{inner_same, from_trimmed, start_trimmed}
 
 module _ {V : Type 0} (eq : V → V → Bool) where
   canonical_first : (xs ys : List (Entry V)) → IsCanonical eq (xs ++ ys) → IsCanonical eq xs
@@ -39,6 +45,14 @@ module _ {V : Type 0} (eq : V → V → Bool) where
       (λ u p. rw p (omega (arith, ints, c.0), starts_before k es c.2))
       (λ u m p. rw p (m, tt))
       (λ u m p. rw p tt)
+
+  -- the entry below a range shortened, which changes nothing of what starts in it
+  module _ (l z : ℤ) (new third : List (Entry V)) (c : IsCanonical eq (below l new)) (q : third ≡ before l (below l new) ++ from l new) where
+    pub trimmed_start : start_at l third ≡ start_at l new
+    trimmed_start = start_trimmed l (before l (below l new)) new third (starts_before l (below l new) c) q
+
+    pub trimmed_inner : length (inner l z third) ≡ length (inner l z new)
+    trimmed_inner = inner_same l z third new (from_trimmed l (before l (below l new)) new third (starts_before l (below l new) c) q)
 
   pub rest_below : (l z : ℤ) (old new : List (Entry V)) → IsRestKept eq (l -ℤ pos 1) z old new → below l new ≡ below l old
   rest_below l z old new r = let q : (l -ℤ pos 1) +ℤ pos 1 ≡ l = omega (arith, ints) in subst (λ x. below x new ≡ below x old) q r.below
@@ -66,14 +80,6 @@ module _ {V : Type 0} (eq : V → V → Bool) where
           joined = t ∙ ap (λ x. x ++ from (z +ℤ pos 1) c3) (low_part ∙ before_below l low high es s c) ∙ ap (λ x. before l es ++ x) high_part;
         }
 
-    -- a range of one entry taken out
-    pub taken_within : (l z : ℤ) (c2 c3 : List (Entry V)) → IsRestKept eq (l -ℤ pos 1) z es c2 → c3 ≡ before l (below l c2) ++ from l c2 → from l c2 ≡ from (z +ℤ pos 1) c2 → IsRangeCutOf eq l z es c3
-    taken_within l z c2 c3 r q n = record {
-      above = from (z +ℤ pos 1) c2;
-      like = r.like.alike;
-      joined = q ∙ ap (λ x. before l x ++ from l c2) (rest_below l z es c2 r) ∙ ap (λ x. x ++ from l c2) (before_below l low high es s c) ∙ ap (λ x. before l es ++ x) n;
-    }
-
     -- an entry put in at l
     module _ (l z : ℤ) (v : V) (w : l ≤ℤ z) (c2 : List (Entry V)) (r : IsStartPut eq (entry l z v) es c2) where
       abbrev p : Entry V
@@ -100,22 +106,43 @@ module _ {V : Type 0} (eq : V → V → Bool) where
                 ∙ ap (λ x. x ++ p ∷ above) (before_below l low high es s c);
           }
 
-  -- an entry made longer
+  -- an entry made longer, the last one that starts below l
   module _ (low high : ℤ) (es : List (Entry V)) (s : StartsAscend low high es) where
-    pub extended : (f z : ℤ) (e : Entry V) → f ≤ℤ z → start_at f es ≡ Some e → (c1 c2 c3 : List (Entry V)) → IsRestKept eq f z es c1 → c2 ≡ below (f +ℤ pos 1) c1 ++ from (z +ℤ pos 1) c1 → c3 ≡ with_end f z c2 → IsExtended eq f z es c3
-    extended f z e w h c1 c2 c3 r q t =
-        let i = from_at f low high e es s h in
-        let here = i.0 in
+    -- which one it is
+    pub record IsLeftAt (l f : ℤ) : Type 0 where
+      pub of : Entry V
+      pub found : start_at f es ≡ Some of
+      pub under : f <ℤ l
+      pub parts : below l es ≡ below f es ++ of ∷ []
+
+    pub left_at : {T : Type 0} (rank : T → ℤ) (l f : ℤ) (left : Option (RangeEntry T Bool)) → IsLeft l (below l es) (option_map (shown_ends rank) left) → option_map (λ x. rank x.start) left ≡ Some f → IsLeftAt l f
+    left_at {T} rank l f None i q = cc
+    left_at {T} rank l f (Some x) i q = by_last (last_below l es) refl i
+      where
+        by_last : (o : Option (Entry V)) → last_below l es ≡ o → Some (shown_ends rank x) ≡ option_map range_in o → IsLeftAt l f
+        by_last None p r = cc
+        by_last (Some e) p r =
+            let t = last_at l low high e es s p in
+            let ends : shown_ends rank x ≡ range_in e = cc in
+            let start : rank x.start ≡ f = cc in
+            let here : e.lo ≡ f = sym (ap (λ (y : ℤ × ℤ). y.0) ends) ∙ start in
+            let up = t.starts in
+            record {
+              of = e;
+              found = ap (λ k. start_at k es) (sym here) ∙ last_there l high e es t;
+              under = omega (arith, ints);
+              parts = below_last l high e es t ∙ ap (λ xs. xs ++ e ∷ []) (sym (front_last l high e es t) ∙ ap (λ k. below k es) here);
+            }
+
+    pub extended : (l f z : ℤ) (i : IsLeftAt l f) (c1 c2 c3 : List (Entry V)) → IsRestKept eq (l -ℤ pos 1) z es c1 → c2 ≡ below l c1 ++ from (z +ℤ pos 1) c1 → c3 ≡ with_end f z c2 → IsExtended eq f z es c3
+    extended l f z i c1 c2 c3 r q t =
+        let e = i.of in
+        let here = (from_at f low high e es s i.found).0 in
         let above = from (z +ℤ pos 1) c1 in
-        let whole : below (f +ℤ pos 1) es ≡ below f es ++ e ∷ [] =
-        ap (below (f +ℤ pos 1)) (halves f low high es s) ∙ filter-append (λ x. int_lt x.lo (f +ℤ pos 1)) (below f es) (from f es)
-        ∙ ap (λ x. x ++ below (f +ℤ pos 1) (from f es)) (below_all (f +ℤ pos 1) (below f es) (more_below f (f +ℤ pos 1) (below f es) (omega (arith, ints)) (starts_below f es)))
-        ∙ ap (λ x. below f es ++ below (f +ℤ pos 1) x) i.1
-        ∙ ap (λ x. below f es ++ x) (below_takes (f +ℤ pos 1) e (from (f +ℤ pos 1) es) (omega (arith, ints)) ∙ ap (λ x. e ∷ x) (below_from (f +ℤ pos 1) (f +ℤ pos 1) es (omega (arith, ints)))) in
-        let parts : c2 ≡ below f es ++ e ∷ above = q ∙ ap (λ x. x ++ above) (r.below ∙ whole) ∙ append_assoc (below f es) (e ∷ []) above in
+        let parts : c2 ≡ below f es ++ e ∷ above = q ∙ ap (λ x. x ++ above) (rest_below l z es c1 r ∙ i.parts) ∙ append_assoc (below f es) (e ∷ []) above in
         record {
           of = e;
-          found = h;
+          found = i.found;
           above = above;
           like = r.like;
           put = t ∙ ap (with_end f z) parts ∙ end_put f z e (below f es) above here (starts_below f es) ∙ ap (λ x. below f es ++ entry x z e.value ∷ above) here;

@@ -4,7 +4,7 @@ use Rattle.std.specs.Prelude.{IsSome, int_lt, int_le}
 use Rattle.std.specs.Ordering.{int_eq}
 use Rattle.std.proofs.lemmas.Int.{ints}
 use Rattle.blaze_int.proofs.Comparisons.{eq_true}
-use Rattle.blaze_entries.specs.Starts.{below, from, start_at, with_entry, without, with_end, with_end_value}
+use Rattle.blaze_entries.specs.Starts.{below, from, start_at, with_entry, without, with_end, with_end_value, with_last_end}
 use Rattle.blaze_entries.proofs.Ascending.{by_order}
 use Rattle.blaze_entries.proofs.Halves.{StartsBelow, below_takes, below_skips, from_takes, from_skips}
 use Rattle.blaze_entries.proofs.Moves.{absent_next}
@@ -136,6 +136,11 @@ module _ {V : Type 0} where
     | true ↦ refl
     | false ↦ omega (arith, length-with_end k z es)
   ]
+
+  pub length-with_last_end : (z : ℤ) (es : List (Entry V)) → length (with_last_end z es) ≡ length es
+  length-with_last_end z [] = refl
+  length-with_last_end z (e ∷ []) = refl
+  length-with_last_end z (e ∷ f ∷ es) = omega (arith, length-with_last_end z (f ∷ es))
 
   pub end_put : (k z : ℤ) (e : Entry V) (xs ys : List (Entry V)) → e.lo ≡ k → StartsBelow k xs → with_end k z (xs ++ e ∷ ys) ≡ xs ++ entry e.lo z e.value ∷ ys
   end_put k z e [] ys p h = by_order k e.lo (λ o q r. absurd (omega (arith, ints))) (λ o q r. rw r refl) (λ o q r. absurd (omega (arith, ints)))

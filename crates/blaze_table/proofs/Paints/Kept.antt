@@ -5,7 +5,7 @@ use Rattle.std.specs.List.{Contains}
 use Rattle.std.proofs.lemmas.Int.{ints, by_lt_z}
 use Rattle.std.proofs.lemmas.List.Elements.{Contains-append_left, Contains-append_right, Contains-append_cases, Contains-push, Contains-push_cases}
 use Rattle.blaze_entries.specs.Starts.{from}
-use Rattle.blaze_entries.proofs.Halves.{StartsBelow, from_takes, from_skips}
+use Rattle.blaze_entries.proofs.Halves.{from_takes, from_skips}
 use Rattle.blaze_table.specs.Entries.{Entry}
 use Rattle.blaze_table.specs.Canonical.{IsCanonical}
 use Rattle.blaze_table.specs.Painted.{IsApartFrom, IsAlreadyIn, IsInside, LeavesAlone}
@@ -31,11 +31,6 @@ module _ {V : Type 0} where
   -- the first is in a list that begins with it
   same_in : (f : Entry V) (es : List (Entry V)) (e : Entry V) → f ≡ e → Contains (f ∷ es) e
   same_in f es e q = subst (Contains (f ∷ es)) q (first_in f es)
-
-  -- one of entries that all start below k
-  pub under_in : (k : ℤ) (es : List (Entry V)) (e : Entry V) → StartsBelow k es → Contains es e → e.lo <ℤ k
-  under_in k [] e s c = none_in e c
-  under_in k (f ∷ fs) e s c = by_first f fs e c (λ q. subst (λ (x : Entry V). x.lo <ℤ k) q s.0) (λ l. under_in k fs e s.1 l)
 
   pub in_from : (k : ℤ) (es : List (Entry V)) (e : Entry V) → Contains es e → k ≤ℤ e.lo → Contains (from k es) e
   in_from k [] e c u = c

@@ -9,6 +9,7 @@ use Rattle.std.proofs.lemmas.Int.{ints, by_lt_z}
 use Rattle.blaze_entries.specs.Found.{shown_ends}
 use Rattle.blaze_entries.specs.Starts.{below, from, last_below, start_at, with_entry, without, with_end_value, IsStartMoved, IsFrontReplaced}
 use Rattle.blaze_entries.specs.declared.scan.Plan.{Plan}
+use Rattle.blaze_entries.specs.declared.range_entry.RangeEntry.{RangeEntry}
 use Rattle.blaze_entries.proofs.Ascending.{by_order}
 use Rattle.blaze_entries.proofs.Alike.{one_value}
 use Rattle.blaze_entries.proofs.Halves.{below_takes, below_skips}
@@ -91,7 +92,7 @@ module _ {V : Type 0} (eq : V → V → Bool) where
   none_under b l (g ∷ gs) w a c = below_skips l g gs (omega (arith, ints, a)) ∙ none_under g.hi l gs (omega (arith, ints, a, c.0)) (IsAbove-from_apart eq g gs c.1) c.2
 
   -- an entry that starts below a key and reaches it is the last that starts below it
-  around_last : (s l : ℤ) (e : Entry V) (es : List (Entry V)) → IsCanonical eq es → start_at s es ≡ Some e → s <ℤ l → l ≤ℤ e.hi → last_below l es ≡ Some e
+  pub around_last : (s l : ℤ) (e : Entry V) (es : List (Entry V)) → IsCanonical eq es → start_at s es ≡ Some e → s <ℤ l → l ≤ℤ e.hi → last_below l es ≡ Some e
   around_last s l e [] c p u w = cc
   around_last s l e (f ∷ fs) c p u w = by_order s f.lo
       (λ o q r. let over = over_later f.hi s e fs (IsAbove-from_apart eq f fs c.1) c.2 (later r) in absurd (omega (arith, ints, c.0)))
@@ -183,7 +184,7 @@ module _ {V : Type 0} (eq : V → V → Bool) (laws : IsEquivalence eq) where
   rest_over f z w old new None r u q = rest_kept f f z w old new None None r tt tt q
   rest_over f z w old new (Some e) r u q = rest_kept f f z w old new (Some e) None r (λ v. u) (λ v x p. absurd (omega (arith, ints, u, v))) q
 
-  pub none_above : {T : Type 0} (rank : T → ℤ) (l : ℤ) (rest : Option (T × T)) (above : Option V) → IfSome (option_map (shown_ends rank) rest) (λ r. l <ℤ r.0) → IfSome rest (λ r. rank r.0 <ℤ l → IsSome above)
+  pub none_above : {T X : Type 0} (rank : T → ℤ) (l : ℤ) (rest : Option (RangeEntry T X)) (above : Option V) → IfSome (option_map (shown_ends rank) rest) (λ r. l <ℤ r.0) → IfSome rest (λ r. rank r.start <ℤ l → IsSome above)
   none_above rank l None above u = tt
   none_above rank l (Some e) above u = λ v. absurd (omega (arith, ints, u, v))
 
@@ -210,14 +211,14 @@ module _ {V : Type 0} (eq : V → V → Bool) (laws : IsEquivalence eq) where
             subst (λ o. IfSome o (λ x. z <ℤ x.hi → IsSomeAnd above (λ v. eq x.value v ≡ true))) (around_last eq t.0 l e es c q u (omega (arith, ints))) p.above reach
 
     -- so that `above` is there
-    pub above_there : IfSome plan.rest (λ r. rank r.0 <ℤ l → IsSome above)
+    pub above_there : IfSome plan.rest (λ r. rank r.start <ℤ l → IsSome above)
     above_there = by_rest plan.rest p.rest like_rest
       where
         some_and : (P : V → Type 0) (o : Option V) → IsSomeAnd o P → IsSome o
         some_and P None i = absurd i
         some_and P (Some v) i = refl
 
-        by_rest : (o : Option (T × T)) → IsRest z es (option_map (shown_ends rank) o) → IsLikeRest eq l es (option_map (shown_ends rank) o) above → IfSome o (λ r. rank r.0 <ℤ l → IsSome above)
+        by_rest : {X : Type 0} (o : Option (RangeEntry T X)) → IsRest z es (option_map (shown_ends rank) o) → IsLikeRest eq l es (option_map (shown_ends rank) o) above → IfSome o (λ r. rank r.start <ℤ l → IsSome above)
         by_rest None r i = tt
         by_rest (Some t) r i = λ u. some_and _ above (i u r.of r.found)
 

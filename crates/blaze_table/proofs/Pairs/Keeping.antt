@@ -124,6 +124,7 @@ module _ {F T V : Type 0} (R : F → T × V → Bool → F → Type 0) (f : F) (
 
   -- the entries before those that are left were gone over, and the list is what is kept of them
   pub record IsReached (of_rank : ℤ → T) (all left : List (Entry V)) (len : ℤ) (es : List (Entry V)) : Type 0 where
+    pub canonical : IsCanonical eq all
     pub done : List (Entry V)
     pub parts : all ≡ done ++ left
     pub end : ℤ
@@ -131,19 +132,20 @@ module _ {F T V : Type 0} (R : F → T × V → Bool → F → Type 0) (f : F) (
     pub above : IsAbove (end -ℤ pos 1) left
     pub counted : len ≡ keys_in es +ℤ keys_in left
 
-  pub reached_none : (of_rank : ℤ → T) (all : List (Entry V)) (len : ℤ) → AreKeys low high all → len ≡ keys_in all → IsReached of_rank all all len []
-  reached_none of_rank all len a e = record {
+  pub reached_none : (of_rank : ℤ → T) (all : List (Entry V)) (len : ℕ) → IsTable eq low high len all → IsReached of_rank all all (pos len) []
+  reached_none of_rank all len t = record {
+    canonical = t.canonical;
     done = [];
     parts = refl;
     end = low;
     kept = kept_none low;
-    above = above_low low high all a;
-    counted = omega (arith, ints);
+    above = above_low low high all t.are_keys;
+    counted = omega (arith, ints, t.counted);
   }
 
-  module _ (of_rank : ℤ → T) (all : List (Entry V)) (e : Entry V) (rest : List (Entry V)) (len : ℤ) (es : List (Entry V)) (h : IsReached of_rank all (e ∷ rest) len es) (c : IsCanonical eq all) where
+  module _ (of_rank : ℤ → T) (all : List (Entry V)) (e : Entry V) (rest : List (Entry V)) (len : ℤ) (es : List (Entry V)) (h : IsReached of_rank all (e ∷ rest) len es) where
     here : IsCanonical eq (e ∷ rest)
-    here = canonical_part eq h.done (e ∷ rest) (subst (IsCanonical eq) h.parts c)
+    here = canonical_part eq h.done (e ∷ rest) (subst (IsCanonical eq) h.parts h.canonical)
 
     pub reached_order : e.lo ≤ℤ e.hi
     reached_order = here.0
@@ -154,6 +156,7 @@ module _ {F T V : Type 0} (R : F → T × V → Bool → F → Type 0) (f : F) (
     pub reached_more : (next : ℤ) (new : List (Entry V)) → KeepsMore R f rank eq low high (pairs_of of_rank e) e.lo (e.hi +ℤ pos 1) es new
         → next +ℤ keys_in es +ℤ (e.hi -ℤ e.lo +ℤ pos 1) ≡ len +ℤ keys_in new → IsReached of_rank all rest next new
     reached_more next new m q = record {
+      canonical = h.canonical;
       done = h.done ++ e ∷ [];
       parts = h.parts ∙ sym (append_assoc h.done (e ∷ []) rest);
       end = e.hi +ℤ pos 1;

@@ -1,10 +1,11 @@
 -- A walk down the entries by single looks, each below the start of the entry before.
-use Rattle.std.proofs.Common.{◌≡◌, ℕ, ◌+◌, ◌<◌, ℤ, Bool, List, [], ◌∷◌, ◌++◌, length, Option, Some, None, refl, ◌∙◌, sym, ap, arith, length-append}
+use Rattle.std.proofs.Common.{◌≡◌, ℕ, ◌+◌, ◌<◌, ◌≤◌, ℤ, Bool, List, [], ◌∷◌, ◌++◌, length, Option, Some, None, refl, ◌∙◌, sym, ap, arith, length-append}
 use Rattle.std.specs.Prelude.{reverse}
 use Rattle.std.specs.Option.{option_map}
 use Rattle.std.proofs.lemmas.List.{reverse-append}
 use Rattle.blaze_entries.specs.Found.{found_in}
 use Rattle.blaze_entries.specs.Starts.{StartsAscend, below, last_below}
+use Rattle.blaze_entries.proofs.Scans.{length-below}
 use Rattle.blaze_table.specs.Entries.{Entry}
 use Rattle.blaze_table.proofs.Cuts.Splits.{last_at, no_last}
 use Rattle.blaze_table.proofs.Neighbours.Growing.{below_last, front_last}
@@ -46,6 +47,11 @@ module _ {V : Type 0} (test : V → Bool) (low high : ℤ) (es : List (Entry V))
       by_last : (o : Option (Entry V)) → last_below k es ≡ o → None ≡ option_map (found_in test) o → reverse (below k es) ≡ []
       by_last None p q = ap reverse (no_last k low high es s p)
       by_last (Some e) p q = cc
+
+  -- there are no more rounds than entries
+  pub rounds_fit : (k : ℤ) (r : Option (ℤ × ℤ × Bool)) → r ≡ option_map (found_in test) (last_below k es) → rounds es r ≤ length es
+  rounds_fit k None q = omega arith
+  rounds_fit k (Some t) q = let d = down_to k t q in omega (arith, d.fewer, length-below k es)
 
   -- the next look is below the entry
   pub rounds_fall : (k : ℤ) (t : ℤ × ℤ × Bool) (r o : Option (ℤ × ℤ × Bool)) → o ≡ Some t → r ≡ option_map (found_in test) (last_below t.0 es) → rounds es r < rounds es o

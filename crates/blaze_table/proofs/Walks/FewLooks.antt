@@ -91,7 +91,7 @@ module _ {V : Type 0} (eq : V → V → Bool) where
 
 -- few looks, and the work behind them, of which what is left below and above the range is one entry short at most
 module _ {V : Type 0} (l h : ℤ) (old mid new : CountedEntries V) (looked : IsLooked l h old mid) where
-  pub counted : (most : ℕ) → IsWorked most 1 mid new → length new.entries ≤ length (before l mid.entries) + length (after h mid.entries) + 1 → PutsAtMost most old new
+  pub counted : (most : ℕ) → IsWorked most 0 mid new → length new.entries ≤ length (before l mid.entries) + length (after h mid.entries) + 1 → PutsAtMost most old new
   counted most work short =
       let same : mid.entries ≡ old.entries = ap (λ (x : CountedEntries V). x.entries) looked.alone in
       let long = ap length same in
@@ -106,6 +106,6 @@ module _ {V : Type 0} (l h : ℤ) (old mid new : CountedEntries V) (looked : IsL
       }
 
   -- of a paint
-  pub counted_paint : {A E : Type 0} (eq : V → V → Bool) (low high : ℤ) (v : V) (len : A → ℕ) (r : Result A E) → OnOk r (IsWorked 2 1 mid new) → IfOk r (λ a. IsTablePainted eq low high (len a) (entry l h v) mid.entries new.entries) → OnOk r (IsCountedPaint old new)
+  pub counted_paint : {A E : Type 0} (eq : V → V → Bool) (low high : ℤ) (v : V) (len : A → ℕ) (r : Result A E) → OnOk r (IsWorked 2 0 mid new) → IfOk r (λ a. IsTablePainted eq low high (len a) (entry l h v) mid.entries new.entries) → OnOk r (IsCountedPaint old new)
   counted_paint eq low high v len (Ok a) work painted = counted 2 work painted.short
   counted_paint eq low high v len (Err e) work painted = tt

@@ -7,7 +7,7 @@ use Rattle.std.specs.Prelude.{reverse, int_le, ◌&&◌, ◌||◌, IsSome, IfSom
 use Rattle.std.proofs.lemmas.Int.{ints}
 use Rattle.blaze_int.proofs.Comparisons.{le_true, not_both}
 use Rattle.blaze_entries.specs.Counted.{CountedEntries}
-use Rattle.blaze_entries.specs.declared.found.Found.{Found}
+use Rattle.blaze_entries.specs.declared.range_entry.RangeEntry.{RangeEntry}
 use Rattle.blaze_entries.specs.Found.{found_in, shown_found}
 use Rattle.blaze_entries.specs.Scanned.{walked_value, IsAboveCloned, GoesOnUnlike, Seen, unseen, walked, walked_keys}
 use Rattle.blaze_entries.specs.Starts.{StartsAscend, below, last_below, start_at}
@@ -52,10 +52,10 @@ module _ {V : Type 0} (eq : V → V → Bool) (l h low high : ℤ) (w : l ≤ℤ
         by_last (Some e) q g = record { over = record { entry = e; here = last_held l e q h (omega (arith, ints)) (omega (arith, ints, g.0)); above = g.0 }; unequal = g.1 }
 
     -- that entry is there
-    pub left_there : {T : Type 0} (rank : T → ℤ) (left : Option (Found T)) → option_map (shown_found rank) left ≡ option_map (found_in test) (last_below l es) → IfSome left (λ f. IsSome (start_at (rank f.start) es))
+    pub left_there : {T : Type 0} (rank : T → ℤ) (left : Option (RangeEntry T Bool)) → option_map (shown_found rank) left ≡ option_map (found_in test) (last_below l es) → IfSome left (λ f. IsSome (start_at (rank f.start) es))
     left_there {T} rank left q = by_both left (last_below l es) refl q
       where
-        by_both : (left : Option (Found T)) (x : Option (Entry V)) → last_below l es ≡ x → option_map (shown_found rank) left ≡ option_map (found_in test) x → IfSome left (λ f. IsSome (start_at (rank f.start) es))
+        by_both : (left : Option (RangeEntry T Bool)) (x : Option (Entry V)) → last_below l es ≡ x → option_map (shown_found rank) left ≡ option_map (found_in test) x → IfSome left (λ f. IsSome (start_at (rank f.start) es))
         by_both None x r q = tt
         by_both (Some f) None r q = cc
         by_both (Some f) (Some e) r q =
@@ -80,11 +80,11 @@ module _ {V : Type 0} (eq : V → V → Bool) (l h low high : ℤ) (w : l ≤ℤ
           walked_value-at l eq h low high es w s c ∙ sym (value-entry_at es l) ∙ ap (option_map (λ (x : Entry V). x.value)) (last_held l e q l (omega (arith, ints)) (omega (arith, ints)))) i
 
       -- by a look
-      looked_above : {T : Type 0} (rank : T → ℤ) (left : Option (Found T)) → option_map (shown_found rank) left ≡ option_map (found_in test) (last_below l es)
+      looked_above : {T : Type 0} (rank : T → ℤ) (left : Option (RangeEntry T Bool)) → option_map (shown_found rank) left ≡ option_map (found_in test) (last_below l es)
           → IfSome left (λ f. IsAboveCloned is_clone h (Some (shown_found rank f)) (option_map (λ e. e.value) (start_at (rank f.start) es)) o) → IsUnlikeAbove eq test l h es o
       looked_above {T} rank left q i = by_both left (last_below l es) refl q i
         where
-          by_both : (left : Option (Found T)) (x : Option (Entry V)) → last_below l es ≡ x → option_map (shown_found rank) left ≡ option_map (found_in test) x
+          by_both : (left : Option (RangeEntry T Bool)) (x : Option (Entry V)) → last_below l es ≡ x → option_map (shown_found rank) left ≡ option_map (found_in test) x
               → IfSome left (λ f. IsAboveCloned is_clone h (Some (shown_found rank f)) (option_map (λ e. e.value) (start_at (rank f.start) es)) o)
               → IfSome x (λ e. h <ℤ e.hi → test e.value ≡ false → IsSomeAnd o (λ u. eq e.value u ≡ true))
           by_both left None r q i = tt
@@ -115,7 +115,7 @@ module _ {V : Type 0} (eq : V → V → Bool) (test : V → Bool) (l h low high 
     }
 
     -- with one that a look has made
-    pub found_by_look : {T : Type 0} (rank : T → ℤ) (left : Option (Found T)) → option_map (shown_found rank) left ≡ p.left
+    pub found_by_look : {T : Type 0} (rank : T → ℤ) (left : Option (RangeEntry T Bool)) → option_map (shown_found rank) left ≡ p.left
         → IfSome left (λ f. IsAboveCloned is_clone h (Some (shown_found rank f)) (option_map (λ e. e.value) (start_at (rank f.start) es)) o) → IsWalkOf eq test l h es p n o
     found_by_look rank left d i = record {
       plan = found_plan;

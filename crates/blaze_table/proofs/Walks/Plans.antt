@@ -1,26 +1,28 @@
 -- What the plan of a paint says of the list.
 use Rattle.std.proofs.Common.{◌≡◌, ℤ, pos, ◌+ℤ◌, ◌≤ℤ◌, ◌<ℤ◌, Bool, true, false, cond, List, [], ◌∷◌, Option, Some, None, refl, ◌∙◌, sym, subst, ap, arith, inl, inr}
-use Rattle.std.specs.Prelude.{IfSome, int_lt}
-use Rattle.std.specs.List.{last_or}
+use Rattle.std.specs.Prelude.{IfSome, IsSomeAnd, int_le, ◌&&◌, ◌||◌}
 use Rattle.std.specs.Option.{option_map}
 use Rattle.std.proofs.lemmas.Int.{ints, by_lt_z}
 use Rattle.blaze_int.proofs.Comparisons.{by_bool, lt_true, lt_false, not_both}
-use Rattle.blaze_entries.specs.Found.{found_in}
-use Rattle.blaze_entries.specs.Scanned.{Seen}
-use Rattle.blaze_entries.specs.Starts.{StartsAscend, from, last_below}
+use Rattle.std.specs.Ordering.{int_eq}
+use Rattle.blaze_entries.specs.Found.{found_in, range_in, shown_found, shown_ends}
+use Rattle.blaze_entries.specs.Scanned.{Seen, shown_plan}
+use Rattle.blaze_entries.specs.Starts.{StartsAscend, from, last_below, start_at}
+use Rattle.blaze_entries.specs.declared.range_entry.RangeEntry.{RangeEntry}
+use Rattle.blaze_entries.specs.declared.scan.Plan.{Plan}
 use Rattle.blaze_entries.proofs.Alike.{one_value}
-use Rattle.blaze_entries.proofs.Ascending.{start_lower}
-use Rattle.blaze_entries.proofs.NodeLists.{last_of_append}
 use Rattle.blaze_entries.proofs.Halves.{from_takes, from_skips}
 use Rattle.blaze_table.specs.Entries.{Entry, entry}
+use Rattle.blaze_table.specs.Edited.{IsPlace}
 use Rattle.blaze_table.specs.Canonical.{IsCanonical}
-use Rattle.blaze_table.specs.Planned.{IsUnjoined, IsJoinedTo, IsEnd, rest_of, joined_start, IsPlanOf, IsRestOf, IsRest}
+use Rattle.blaze_table.specs.Planned.{IsLikeAbove, IsUnjoined, IsJoinedTo, IsEnd, rest_of, joined_start, IsPlanOf, IsRestOf, IsRest}
 use Rattle.blaze_table.specs.Splice.{after}
 use Rattle.blaze_table.proofs.Canonical.Lookup.{IsAbove, IsAbove-from_apart, above_by}
 use Rattle.blaze_table.proofs.Paints.Splices.{by_after, after_skips}
 use Rattle.blaze_table.proofs.Cuts.Splits.{LastAt, last_at, after_short, after_long, after_none, none_next}
-use Rattle.blaze_table.proofs.Neighbours.Growing.{last_there, below_last}
-use Rattle.blaze_table.proofs.Paints.Widened.{after_over, started_at}
+use Rattle.blaze_table.proofs.Neighbours.Growing.{last_there, left_is}
+use Rattle.blaze_table.proofs.Paints.Placing.{around_last}
+use Rattle.blaze_table.proofs.Paints.Widened.{after_over, started_at, end_up}
 
 module _ {V : Type 0} (eq : V → V → Bool) where
   -- all that lies above z starts above it
@@ -47,6 +49,13 @@ module _ {V : Type 0} (eq : V → V → Bool) where
       last_key : (x : Entry V) (xs : List (Entry V)) → x ∷ xs ≡ n ∷ ns → x.hi ≡ z
       last_key x xs w = let same : x ≡ n = cc in ap (λ (y : Entry V). y.hi) same ∙ q
 
+-- the ends of an entry that was looked at
+found_ends : {T V : Type 0} (rank : T → ℤ) (test : V → Bool) (a : Option (RangeEntry T Bool)) (o : Option (Entry V)) → option_map (shown_found rank) a ≡ option_map (found_in test) o → option_map (shown_ends rank) a ≡ option_map range_in o
+found_ends rank test None None q = refl
+found_ends rank test None (Some e) q = cc
+found_ends rank test (Some f) None q = cc
+found_ends rank test (Some f) (Some e) q = let found : shown_found rank f ≡ found_in test e = cc in ap (λ (t : ℤ × ℤ × Bool). Some (t.0, t.1)) found
+
 module _ {V : Type 0} (eq : V → V → Bool) (test : V → Bool) (l h : ℤ) (w : l ≤ℤ h) (low high : ℤ) (es : List (Entry V)) (s : StartsAscend low high es) (c : IsCanonical eq es) where
   -- the rest, by the last entry that starts up to h
   module _ (z : ℤ) (up : h ≤ℤ z) (end : IsEnd test h es z) where
@@ -64,6 +73,15 @@ module _ {V : Type 0} (eq : V → V → Bool) (test : V → Bool) (l h : ℤ) (w
       equal_rest q = elim end [
         | inl j ↦ absurd (not_both (test e.value) q (subst (IsUnjoined test h) (after_long eq h high e es i c over) j.1 refl))
         | inr j ↦ after_end eq h z j.next j.others es up c j.first j.ends
+      ]
+
+      equal_end : test e.value ≡ true → z ≡ e.hi
+      equal_end q = elim end [
+        | inl j ↦ absurd (not_both (test e.value) q (subst (IsUnjoined test h) (after_long eq h high e es i c over) j.1 refl))
+        | inr j ↦
+            let both : j.next ∷ j.others ≡ entry (h +ℤ pos 1) e.hi e.value ∷ from (h +ℤ pos 1) es = sym j.first ∙ after_long eq h high e es i c over in
+            let same : j.next ≡ entry (h +ℤ pos 1) e.hi e.value = cc in
+            sym j.ends ∙ ap (λ (x : Entry V). x.hi) same
       ]
 
       unequal_rest : test e.value ≡ false → IsRestOf z es e.lo e.hi
@@ -97,34 +115,41 @@ module _ {V : Type 0} (eq : V → V → Bool) (test : V → Bool) (l h : ℤ) (w
   pub rest_is : (p : Seen) → h ≤ℤ p.end → IsPlanOf test l h es p → IsRest p.end es p.rest
   rest_is p up r = subst (IsRest p.end es) (sym r.rest) (rest_from p.end up r.end (last_below (h +ℤ pos 1) es) refl)
 
-  -- the rest of an entry is above the one that the range is joined with
-  pub rest_above : (f : ℤ) (ends : ℤ × ℤ) (p : Seen) → Some f ≡ joined_start l p.left → IsPlanOf test l h es p → p.rest ≡ Some ends → f <ℤ ends.0
-  rest_above f ends p q r t = by_last (last_below (h +ℤ pos 1) es) refl (sym t ∙ r.rest)
+  -- the entry that the range is joined with does not go on above the joined range
+  pub joined_within : (f : ℤ) (p : Seen) → Some f ≡ joined_start l p.left → IsPlanOf test l h es p → IsLikeAbove eq l p.end es None
+  joined_within f p q r = by_last (last_below l es) refl
     where
-      by_last : (o : Option (Entry V)) → last_below (h +ℤ pos 1) es ≡ o → Some ends ≡ rest_of h (option_map (found_in test) o) → f <ℤ ends.0
-      by_last None is u = cc
-      by_last (Some e) is u =
+      by_last : (o : Option (Entry V)) → last_below l es ≡ o → IfSome o (λ e. p.end <ℤ e.hi → IsSomeAnd None (λ u. eq e.value u ≡ true))
+      by_last None is = tt
+      by_last (Some e) is = λ u.
           let t = started_at test l low high es s f (q ∙ ap (joined_start l) r.left) in
-          let k = seen (int_lt h e.hi) (test e.value) (e.lo, e.hi) u in
-          let start : e.lo ≡ ends.0 = ap (λ (x : ℤ × ℤ). x.0) k.2 in
-          let first = t.lo in
-          let under = (last_at l low high t.of es s t.is).starts in
-          by_lt_z e.lo l
-          (λ y. absurd (not_both (test e.value) (ap (λ (x : Entry V). test x.value) (one_value (last_below l es) (lower y) t.is) ∙ t.like) k.1))
-          (λ y. omega (arith, ints))
-        where
-          seen : (m n : Bool) (x : ℤ × ℤ) → Some ends ≡ cond m (cond n None (Some x)) None → (m ≡ true) × (n ≡ false) × (x ≡ ends)
-          seen true true x u = cc
-          seen true false x u = (refl, refl, cc)
-          seen false n x u = cc
+          let same : t.of ≡ e = one_value (last_below l es) t.is is in
+          let like : test e.value ≡ true = ap (λ (x : Entry V). test x.value) (sym same) ∙ t.like in
+          let here = last_at l low high e es s is in
+          let under = here.starts in
+          let up = end_up eq test h es c p.end r.end in
+          let last = around_last eq e.lo (h +ℤ pos 1) e es c (last_there l high e es here) (omega (arith, ints)) (omega (arith, ints)) in
+          let all : p.end ≡ e.hi = equal_end p.end up r.end e last (omega (arith, ints)) like in
+          absurd (omega (arith, ints))
 
-          -- the last entry that starts up to h is the last below l, where it starts below l
-          lower : e.lo <ℤ l → last_below l es ≡ Some e
-          lower y =
-              let j = last_at (h +ℤ pos 1) low high e es s is in
-              let i : LastAt l high e es = record { front = j.front; back = j.back; parts = j.parts; starts = y; front_below = j.front_below; back_from = start_lower (h +ℤ pos 1) l high j.back (omega (arith, ints)) j.back_from } in
-              ap (last_or None) (below_last l high e es i) ∙ last_of_append None j.front e
+  -- what the plan tells an edit
+  pub place_is : {T : Type 0} (rank : T → ℤ) (plan : Plan T) (o : Option V) → IsPlanOf test l h es (shown_plan rank plan) → IsLikeAbove eq l (rank plan.end) es o → IsPlace rank eq l es plan o
+  place_is rank plan o i like =
+      let up = end_up eq test h es c (rank plan.end) i.end in
+      record {
+        order = omega (arith, ints);
+        rest = rest_is (shown_plan rank plan) up i;
+        left = left_is rank test l low high es s plan.left i.left;
+        first = found_ends rank test plan.first (start_at l es) i.first;
+        gone = i.gone;
+        above = like;
+      }
 
-pub above_of : (f : ℤ) (r : Option (ℤ × ℤ)) → ((x : ℤ × ℤ) → r ≡ Some x → f <ℤ x.0) → IfSome r (λ x. f <ℤ x.0)
-above_of f None h = tt
-above_of f (Some r) h = h r refl
+-- the start of the entry that a range is joined with
+pub joined_left : {T : Type 0} (rank : T → ℤ) (l f : ℤ) (left : Option (RangeEntry T Bool)) → Some f ≡ joined_start l (option_map (shown_found rank) left) → option_map (λ x. rank x.start) left ≡ Some f
+joined_left rank l f None q = cc
+joined_left rank l f (Some x) q =
+    elim (x.value && (int_le l (rank x.end) || int_eq l (rank x.end +ℤ pos 1))) as (λ b. Some f ≡ cond b (Some (rank x.start)) None → Some (rank x.start) ≡ Some f) [
+      | true ↦ λ t. sym t
+      | false ↦ λ t. cc
+    ] q

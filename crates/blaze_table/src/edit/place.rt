@@ -1,16 +1,16 @@
 //! The starts of an edit put in: that of the entry that a range gets, and that of what lies above it. Each growth comes before
 //! the first edit that can't be taken back.
-ghost use Rattle.std.specs.Prelude.{◌≡◌, ◌≤ℤ◌, ◌<ℤ◌, None, OnOk, OnErr, IfSome, IsSome};
+ghost use Rattle.std.specs.Prelude.{◌≡◌, ◌<ℤ◌, length, None, OnOk, OnErr, IfSome, IsSome};
 ghost use Rattle.std.specs.Option.{option_map};
-ghost use Rattle.blaze_entries.specs.Found.{range_in, shown_ends};
+ghost use Rattle.blaze_entries.specs.Found.{shown_ends};
 ghost use Rattle.blaze_entries.specs.Starts.{start_at};
 ghost use Rattle.blaze_table.specs.Canonical.{IsCanonical};
 ghost use Rattle.blaze_table.specs.Edited.{HasRoom, IsPlace, IsRestPut};
 ghost use Rattle.blaze_table.specs.Entries.{entry};
-ghost use Rattle.blaze_table.specs.Planned.{shown_found_ends, IsRest, IsStartPut, IsWorked};
+ghost use Rattle.blaze_table.specs.Planned.{inner, IsStartPut, IsWorked};
 ghost use Rattle.blaze_table.specs.Work.{IsCounted};
 
-use blaze_entries::{Entries, Plan};
+use blaze_entries::{Counted, Plan, RangeEntry};
 use blaze_int::Integer;
 use blaze_int::compare::is_below;
 use std::alloc::AllocError;
@@ -18,14 +18,14 @@ use std::alloc::AllocError;
 /// Gives what an entry has above `end` a start of its own, if one goes on there: the entry is moved, or, where it starts below
 /// `lo`, `above` is put in. Refused memory leaves the entries as they are.
 pub fn put_rest<T: Integer, V: Drop>(
-    entries: &mut Entries<T, V>,
+    entries: &mut Counted<T, V>,
     lo: T,
     end: T,
-    rest: Option<(T, T)>,
+    rest: Option<RangeEntry<T, ()>>,
     above: Option<V>,
 ) -> Result<(), AllocError>
     requires room { HasRoom (T.rank end) entries.old.entries (option_map (shown_ends T.rank) rest) }
-    requires above { IfSome rest (λ r. T.rank r.0 <ℤ T.rank lo → IsSome above) }
+    requires above { IfSome rest (λ r. T.rank r.start <ℤ T.rank lo → IsSome above) }
     ensures put { OnOk result (IsRestPut (T.rank lo) (T.rank end)
         (option_map (shown_ends T.rank) rest) above entries.old.entries entries.new.entries) }
     ensures worked { OnOk result (IsWorked 1 0 entries.old entries.new) }
@@ -34,16 +34,16 @@ pub fn put_rest<T: Integer, V: Drop>(
 {
     match rest {
         None => Ok(()),
-        Some((start, last)) => {
-            last.in_hand();
+        Some(ends) => {
+            ends.end.in_hand();
             let next = end.add_one();
-            if is_below(start, lo) {
+            if is_below(ends.start, lo) {
                 match above {
-                    Some(value) => entries.insert(next, last, value),
+                    Some(value) => entries.insert(next, ends.end, value),
                     None => unreachable!(),
                 }
             } else {
-                entries.move_start(start, next)
+                entries.move_start(ends.start, next)
             }
         }
     }
@@ -51,7 +51,7 @@ pub fn put_rest<T: Integer, V: Drop>(
 
 // Puts an entry in at a start where none is, and gives what lies above it a start of its own.
 fn put_new<T: Integer, V: Eq + Drop>(
-    entries: &mut Entries<T, V>,
+    entries: &mut Counted<T, V>,
     lo: T,
     value: V,
     plan: Plan<T>,
@@ -62,6 +62,8 @@ fn put_new<T: Integer, V: Eq + Drop>(
     requires absent { start_at (T.rank lo) entries.old.entries ≡ None }
     ensures ok { OnOk result (IsStartPut V.eq
         (entry (T.rank lo) (T.rank plan.end) value) entries.old.entries entries.new.entries) }
+    ensures gone { OnOk result
+        (length (inner (T.rank lo) (T.rank plan.end) entries.new.entries) ≡ plan.gone) }
     ensures worked { OnOk result (IsWorked 2 0 entries.old entries.new) }
     ensures err { OnErr result (entries.new.entries ≡ entries.old.entries) }
     ensures err_counted { OnErr result (IsCounted entries.old entries.new) }
@@ -77,18 +79,18 @@ fn put_new<T: Integer, V: Eq + Drop>(
 
 // Puts an entry in place of the one that starts there, and gives what lies above it a start of its own.
 fn put_over<T: Integer, V: Eq + Drop>(
-    entries: &mut Entries<T, V>,
+    entries: &mut Counted<T, V>,
     lo: T,
     value: V,
     plan: Plan<T>,
 ) -> Result<(), AllocError>
-    requires order { T.rank lo ≤ℤ T.rank plan.end }
     requires canonical { IsCanonical V.eq entries.old.entries }
+    requires place { IsPlace T.rank V.eq (T.rank lo) entries.old.entries plan None }
     requires present { IsSome (start_at (T.rank lo) entries.old.entries) }
-    requires rest { IsRest
-        (T.rank plan.end) entries.old.entries (option_map (shown_ends T.rank) plan.rest) }
     ensures ok { OnOk result (IsStartPut V.eq
         (entry (T.rank lo) (T.rank plan.end) value) entries.old.entries entries.new.entries) }
+    ensures gone { OnOk result
+        (length (inner (T.rank lo) (T.rank plan.end) entries.new.entries) ≡ plan.gone) }
     ensures worked { OnOk result (IsWorked 2 0 entries.old entries.new) }
     ensures err { OnErr result (entries.new.entries ≡ entries.old.entries) }
     ensures err_counted { OnErr result (IsCounted entries.old entries.new) }
@@ -100,13 +102,12 @@ fn put_over<T: Integer, V: Eq + Drop>(
             Ok(())
         }
         Some(ends) => {
-            let (start, last) = ends;
-            if is_below(lo, start) {
+            if is_below(lo, ends.start) {
                 put_rest(entries, lo, end, Some(ends), None)?;
                 entries.replace(lo, end, value);
                 Ok(())
             } else {
-                last.in_hand();
+                ends.end.in_hand();
                 let next = end.add_one();
                 entries.replace_front(lo, end, value, next)
             }
@@ -117,7 +118,7 @@ fn put_over<T: Integer, V: Eq + Drop>(
 /// Puts an entry in at `lo`, up to the plan's end, where the plan says whether one starts there, and gives what lies above it a
 /// start of its own. Refused memory leaves the entries as they are.
 pub fn put<T: Integer, V: Eq + Drop>(
-    entries: &mut Entries<T, V>,
+    entries: &mut Counted<T, V>,
     lo: T,
     value: V,
     plan: Plan<T>,
@@ -125,14 +126,15 @@ pub fn put<T: Integer, V: Eq + Drop>(
 ) -> Result<(), AllocError>
     requires canonical { IsCanonical V.eq entries.old.entries }
     requires place { IsPlace T.rank V.eq (T.rank lo) entries.old.entries plan above }
-    requires first { option_map (shown_found_ends T.rank) plan.first
-        ≡ option_map range_in (start_at (T.rank lo) entries.old.entries) }
     ensures ok { OnOk result (IsStartPut V.eq
         (entry (T.rank lo) (T.rank plan.end) value) entries.old.entries entries.new.entries) }
+    ensures gone { OnOk result
+        (length (inner (T.rank lo) (T.rank plan.end) entries.new.entries) ≡ plan.gone) }
     ensures worked { OnOk result (IsWorked 2 0 entries.old entries.new) }
     ensures err { OnErr result (entries.new.entries ≡ entries.old.entries) }
     ensures err_counted { OnErr result (IsCounted entries.old entries.new) }
 {
+    entries.in_hand();
     match plan.first {
         Some(_) => put_over(entries, lo, value, plan),
         None => put_new(entries, lo, value, plan, above),

@@ -1,35 +1,41 @@
 //! Room made for a range: the entry below it shortened, and what starts in it taken out. Nothing of it can be refused.
-ghost use Rattle.std.specs.Prelude.{◌≡◌, ◌++◌, pos, ◌+ℤ◌, ◌≤ℤ◌};
+ghost use Rattle.std.specs.Prelude.{◌≡◌, ◌++◌, ◌≤◌, pos, ◌+ℤ◌, length, drop, is_some};
 ghost use Rattle.std.specs.Option.{option_map};
 ghost use Rattle.blaze_entries.specs.Found.{shown_ends};
-ghost use Rattle.blaze_entries.specs.Starts.{below, from};
+ghost use Rattle.blaze_entries.specs.Starts.{below, from, start_at, without};
 ghost use Rattle.blaze_table.specs.Canonical.{IsCanonical};
-ghost use Rattle.blaze_table.specs.Edited.{IsLeft, spans};
-ghost use Rattle.blaze_table.specs.Planned.{shown_found_ends, IsWorked};
+ghost use Rattle.blaze_table.specs.Edited.{IsLeft, goes};
+ghost use Rattle.blaze_table.specs.Planned.{IsWorked};
 ghost use Rattle.blaze_table.specs.Splice.{before};
 
-use blaze_entries::{Entries, Found};
+use blaze_entries::{Counted, RangeEntry};
 use blaze_int::Integer;
 use blaze_int::compare::{is_at_most, is_below};
 
-/// Whether one entry has all keys from `lo` up to `end`, by the first and last key of the one that goes on above them and of the
-/// one that starts below them: then no other starts in the range.
-pub fn spans<T: Integer>(lo: T, end: T, rest: Option<(T, T)>, left: Option<Found<T>>) -> bool
-    ensures { result ≡ spans (T.rank lo) (T.rank end) (option_map (shown_ends T.rank) rest)
-        (option_map (shown_found_ends T.rank) left) }
+/// Whether the entry that starts at `lo` goes: there is one, and it is not the one that keeps a rest.
+pub fn goes<T: Integer>(
+    lo: T,
+    first: Option<RangeEntry<T, bool>>,
+    rest: Option<RangeEntry<T, ()>>,
+) -> bool
+    ensures { result ≡ goes (T.rank lo) first (option_map (shown_ends T.rank) rest) }
 {
-    match (rest, left) {
-        (Some((start, _)), _) => is_at_most(start, lo),
-        (None, Some(found)) => is_at_most(end, found.end),
-        (None, None) => false,
+    match (first, rest) {
+        (None, _) => false,
+        (Some(_), None) => true,
+        (Some(_), Some(ends)) => is_below(lo, ends.start) || is_below(ends.start, lo),
     }
 }
 
 /// Ends the entry that starts below a key below that key.
-pub fn trim<T: Integer, V: Eq>(entries: &mut Entries<T, V>, lo: T, left: Option<Found<T>>)
+pub fn trim<T: Integer, V: Eq>(
+    entries: &mut Counted<T, V>,
+    lo: T,
+    left: Option<RangeEntry<T, bool>>,
+)
     requires canonical { IsCanonical V.eq (below (T.rank lo) entries.old.entries) }
     requires left { IsLeft (T.rank lo) (below (T.rank lo) entries.old.entries)
-        (option_map (shown_found_ends T.rank) left) }
+        (option_map (shown_ends T.rank) left) }
     ensures entries { entries.new.entries
         ≡ before (T.rank lo) (below (T.rank lo) entries.old.entries)
         ++ from (T.rank lo) entries.old.entries }
@@ -44,36 +50,63 @@ pub fn trim<T: Integer, V: Eq>(entries: &mut Entries<T, V>, lo: T, left: Option<
     }
 }
 
-/// Takes out the entries that start from a key on, up to `end`: a look for each, and one more that finds no other.
-pub fn clear<T: Integer, V: Drop>(entries: &mut Entries<T, V>, first: T, end: T)
-    requires { T.rank first ≤ℤ T.rank end }
-    ensures entries { entries.new.entries
-        ≡ below (T.rank first) entries.old.entries
-        ++ from (T.rank end +ℤ pos 1) entries.old.entries }
-    ensures worked { IsWorked 0 1 entries.old entries.new }
+// Takes out the entry with the least start from a key on, by one look.
+fn remove_next<T: Integer, V: Drop>(entries: &mut Counted<T, V>, key: T)
+    requires { 1 ≤ length (from (T.rank key) entries.old.entries) }
+    ensures below { below (T.rank key) entries.new.entries ≡ below (T.rank key) entries.old.entries }
+    ensures from { from (T.rank key) entries.new.entries
+        ≡ drop 1 (from (T.rank key) entries.old.entries) }
+    ensures worked { IsWorked 0 0 entries.old entries.new }
 {
-    while let Some(ends) = entries.range_at_or_above(first) {
-        let (start, _) = ends;
-        entries.in_hand();
-        if is_below(end, start) {
-            return;
+    match entries.range_at_or_above(key) {
+        Some(ends) => {
+            entries.in_hand();
+            entries.remove(ends.start);
         }
-        entries.remove(start);
+        None => unreachable!(),
+    }
+}
+
+/// Takes out so many of the entries that start above a key, the nearest first: a look for each.
+pub fn clear_above<T: Integer, V: Drop>(entries: &mut Counted<T, V>, key: T, count: usize)
+    requires { count ≤ length (from (T.rank key +ℤ pos 1) entries.old.entries) }
+    ensures entries { entries.new.entries
+        ≡ below (T.rank key +ℤ pos 1) entries.old.entries
+        ++ drop count (from (T.rank key +ℤ pos 1) entries.old.entries) }
+    ensures worked { IsWorked 0 0 entries.old entries.new }
+{
+    entries.in_hand();
+    if count == 0 {
+        return;
+    }
+    let next = key.add_one();
+    for _turn in 0..count {
+        remove_next(entries, next);
     }
     entries.in_hand();
 }
 
-/// Takes out the entries that start above a key, up to `end`, as `clear` does.
-pub fn clear_above<T: Integer, V: Drop>(entries: &mut Entries<T, V>, key: T, end: T)
-    requires { T.rank key ≤ℤ T.rank end }
+// Takes out the entry that starts at a key, where one goes.
+fn remove_start<T: Integer, V: Drop>(entries: &mut Counted<T, V>, lo: T, goes: bool)
+    requires { goes ≡ is_some (start_at (T.rank lo) entries.old.entries) }
+    ensures entries { entries.new.entries ≡ without (T.rank lo) entries.old.entries }
+    ensures worked { IsWorked 0 0 entries.old entries.new }
+{
+    if goes {
+        entries.remove(lo);
+    }
+}
+
+/// Takes out the entry that starts at a key, where one goes, and so many of those that start above it.
+pub fn clear<T: Integer, V: Drop>(entries: &mut Counted<T, V>, lo: T, goes: bool, count: usize)
+    requires here { goes ≡ is_some (start_at (T.rank lo) entries.old.entries) }
+    requires above { count ≤ length (from (T.rank lo +ℤ pos 1) entries.old.entries) }
     ensures entries { entries.new.entries
-        ≡ below (T.rank key +ℤ pos 1) entries.old.entries
-        ++ from (T.rank end +ℤ pos 1) entries.old.entries }
-    ensures worked { IsWorked 0 1 entries.old entries.new }
+        ≡ below (T.rank lo) entries.old.entries
+        ++ drop count (from (T.rank lo +ℤ pos 1) entries.old.entries) }
+    ensures worked { IsWorked 0 0 entries.old entries.new }
 {
     entries.in_hand();
-    if is_below(key, end) {
-        end.in_hand();
-        clear(entries, key.add_one(), end);
-    }
+    remove_start(entries, lo, goes);
+    clear_above(entries, lo, count);
 }

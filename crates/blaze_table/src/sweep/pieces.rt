@@ -43,7 +43,7 @@ fn sweep_to<T: Integer, V>(
             push_entry(pieces, at, to, index)?;
             return Ok(());
         }
-        drop_top(waiting, top);
+        drop_top(waiting);
         if is_below(end, at) {
             continue;
         }

@@ -1,5 +1,5 @@
 //! The pairs that wait, each by its place and its index; the one with the greatest place on top.
-ghost use Rattle.std.specs.Prelude.{◌≡◌, ◌≤◌, ◌∷◌, ◌+◌, [], All, IfSome, IfNone, IsPermutation};
+ghost use Rattle.std.specs.Prelude.{◌≡◌, ◌≤◌, ◌∷◌, ◌+◌, [], All, IsSome, IfSome, IfNone, IsPermutation};
 ghost use Rattle.std.specs.BinaryHeap.{IsHeap, heap_items, heap_len};
 ghost use Rattle.std.specs.List.{slice_get};
 ghost use Rattle.blaze_table.specs.Pieces.{place_cmp};
@@ -21,12 +21,12 @@ pub(crate) fn top_of(waiting: &BinaryHeap<(usize, usize), Global>) -> Option<(us
 }
 
 /// Takes the pair with the greatest place out.
-pub(crate) fn drop_top(waiting: &mut BinaryHeap<(usize, usize), Global>, top: (usize, usize))
+pub(crate) fn drop_top(waiting: &mut BinaryHeap<(usize, usize), Global>)
     requires heap { IsHeap place_cmp (heap_items waiting.old) }
-    requires top { slice_get (heap_items waiting.old) 0 ≡ Some top }
+    requires some { IsSome (slice_get (heap_items waiting.old) 0) }
     ensures heap { IsHeap place_cmp (heap_items waiting.new) }
-    ensures permutation { IsPermutation (heap_items waiting.old)
-        (top ∷ heap_items waiting.new) }
+    ensures permutation { IfSome (slice_get (heap_items waiting.old) 0)
+        (λ top. IsPermutation (heap_items waiting.old) (top ∷ heap_items waiting.new)) }
     ensures len { heap_len waiting.new + 1 ≡ heap_len waiting.old }
 {
     match waiting.pop() {

@@ -7,7 +7,7 @@ ghost use Rattle.blaze_entries.specs.Scanned.{shown_plan, unseen, walked, answer
 ghost use Rattle.blaze_entries.specs.Scanned.{walked_keys, IsAboveCloned, GoesOnUnlike};
 ghost use Rattle.blaze_entries.specs.Starts.{below, start_at};
 
-use blaze_entries::{Entries, Found, Plan, length_outside, next_or_last};
+use blaze_entries::{Counted, Plan, RangeEntry, length_outside, next_or_last};
 use blaze_int::Integer;
 use blaze_int::compare::is_below;
 use std::alloc::AllocError;
@@ -15,7 +15,7 @@ use std::alloc::AllocError;
 /// Walks down the entries by single looks, from the one that may start right above a range to the first that starts below
 /// it. A length loses how many of their keys lie in the range.
 pub fn plan<T: Integer, V: Eq>(
-    entries: &mut Entries<T, V>,
+    entries: &mut Counted<T, V>,
     len: T::SafeLen,
     lo: T,
     hi: T,
@@ -36,6 +36,7 @@ pub fn plan<T: Integer, V: Eq>(
         } }
 {
     entries.in_hand();
+    entries.length_in_hand();
     let mut plan = Plan::new(hi);
     let mut left = len;
     let mut last = entries.found_at_or_below(next_or_last(hi), value);
@@ -53,9 +54,9 @@ pub fn plan<T: Integer, V: Eq>(
 /// A clone of the value of the entry `left`, which starts below a range, where it goes on above the range with another value,
 /// by one look. A refused clone leaves the entries.
 pub fn value_above<T: Integer, V: Eq + Clone>(
-    entries: &mut Entries<T, V>,
+    entries: &mut Counted<T, V>,
     hi: T,
-    left: Option<Found<T>>,
+    left: Option<RangeEntry<T, bool>>,
 ) -> Result<Option<V>, AllocError>
     requires { IfSome left (λ f. IsSome (start_at (T.rank f.start) entries.old.entries)) }
     ensures above { IfOk result (λ r. IfSome left (λ f. IsAboveCloned V.is_clone (T.rank hi)
@@ -68,7 +69,7 @@ pub fn value_above<T: Integer, V: Eq + Clone>(
     ensures few { entries.new.looks ≤ entries.old.looks + 1 }
 {
     match left {
-        Some(found) if !found.is_equal && is_below(hi, found.end) => {
+        Some(found) if !found.value && is_below(hi, found.end) => {
             let above = entries.clone_value(found.start)?;
             Ok(Some(above))
         }

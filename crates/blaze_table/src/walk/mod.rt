@@ -10,7 +10,7 @@ ghost use Rattle.blaze_table.specs.Table.{IsTable};
 
 mod looks;
 
-use blaze_entries::{Entries, Plan};
+use blaze_entries::{Counted, Plan};
 use blaze_int::Integer;
 use looks::{plan, value_above};
 use std::alloc::AllocError;
@@ -28,7 +28,7 @@ pub struct Walk<T: Integer, V> {
 /// inlined, so that a plan is not copied on its way.
 #[inline(always)]
 pub fn walk_down<T: Integer, V: Eq + Clone>(
-    entries: &mut Entries<T, V>,
+    entries: &mut Counted<T, V>,
     len: T::SafeLen,
     lo: T,
     hi: T,
@@ -56,7 +56,7 @@ pub fn walk_down<T: Integer, V: Eq + Clone>(
 /// Walks as `walk_down` does, down to a key, and answers also a value equal to the one that it has.
 #[inline(always)]
 pub fn walk_with_value<T: Integer, V: Eq + Clone>(
-    entries: &mut Entries<T, V>,
+    entries: &mut Counted<T, V>,
     len: T::SafeLen,
     key: T,
     value: &V,
@@ -82,7 +82,7 @@ pub fn walk_with_value<T: Integer, V: Eq + Clone>(
 /// Finds the same by single looks, beside a value.
 #[inline(always)]
 pub fn walk_by_looks<T: Integer, V: Eq + Clone>(
-    entries: &mut Entries<T, V>,
+    entries: &mut Counted<T, V>,
     len: T::SafeLen,
     lo: T,
     hi: T,

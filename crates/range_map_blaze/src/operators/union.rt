@@ -42,9 +42,23 @@ pub fn union<T: Integer, V: Eq + Clone>(
     ensures { IfOk result
         (λ map. IsUnion V.eq T.low T.high left.now.entries right.now.entries map.entries) }
 {
+    let path = path_for(left.ranges_len(), right.ranges_len());
+    union_on(path, left, right)
+}
+
+/// The same by a path.
+fn union_on<T: Integer, V: Eq + Clone>(
+    path: Path,
+    left: &RangeMapBlaze<T, V>,
+    right: &RangeMapBlaze<T, V>,
+) -> Result<RangeMapBlaze<T, V>, AllocError>
+    requires { ClonesAreAlike V.is_clone V.eq }
+    ensures { IfOk result
+        (λ map. IsUnion V.eq T.low T.high left.now.entries right.now.entries map.entries) }
+{
     left.in_hand();
     right.in_hand();
-    match path_for(left.ranges_len(), right.ranges_len()) {
+    match path {
         Path::Over => {
             let map = painted_over(left.clone()?, right.range_values())?;
             Ok(map)
@@ -89,7 +103,7 @@ pub fn union_with<T: Integer, V: Eq + Clone>(
 {
     match path_for(left.ranges_len(), right.ranges_len()) {
         Path::Over => painted_over(left, right.range_values()),
-        Path::Under | Path::Merge => union(&left, right),
+        path => union_on(path, &left, right),
     }
 }
 
@@ -104,7 +118,7 @@ pub fn union_under<T: Integer, V: Eq + Clone>(
 {
     match path_for(left.ranges_len(), right.ranges_len()) {
         Path::Under => painted_under(left.range_values(), right),
-        Path::Over | Path::Merge => union(left, &right),
+        path => union_on(path, left, &right),
     }
 }
 

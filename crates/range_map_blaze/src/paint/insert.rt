@@ -3,7 +3,7 @@ ghost use Rattle.std.specs.Prelude.{◌≡◌, ◌↔◌, ◌<ℤ◌, false, Ok,
 ghost use Rattle.blaze_int.specs.Bounds.{start_rank, end_rank};
 ghost use Rattle.blaze_table.specs.Entries.{entry, at, SameOption};
 ghost use Rattle.blaze_table.specs.Count.{keys_in};
-ghost use Rattle.blaze_table.specs.Work.{IsCountedPaint};
+ghost use Rattle.blaze_table.specs.Work.{IsCounted, IsCountedPaint};
 ghost use Rattle.blaze_table.specs.Painted.{IsPainted, IsInside, ClonesAreAlike};
 ghost use Rattle.range_map_blaze.specs.Somewhere.{IsPaintedSomewhere};
 
@@ -26,6 +26,7 @@ impl<T: Integer, V: Eq + Clone> RangeMapBlaze<T, V> {
             → self.new.entries ≡ self.old.entries }
         ensures counted { OnOk result (IsCountedPaint self.old self.new) }
         ensures err { OnErr result (self.new.entries ≡ self.old.entries) }
+        ensures err_counted { OnErr result (IsCounted self.old self.new) }
     {
         self.table.insert(key, value)
     }
@@ -60,6 +61,7 @@ impl<T: Integer, V: Eq + Clone> RangeMapBlaze<T, V> {
             → (result ≡ Ok false) × (self.new.entries ≡ self.old.entries) }
         ensures counted { OnOk result (IsCountedPaint self.old self.new) }
         ensures err { OnErr result (self.new.entries ≡ self.old.entries) }
+        ensures err_counted { OnErr result (IsCounted self.old self.new) }
     {
         self.in_hand();
         match bounds_of(&range) {

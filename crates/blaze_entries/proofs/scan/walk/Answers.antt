@@ -1,14 +1,15 @@
-use Rattle.std.proofs.Common.{◌≡◌, ◌+◌, pos, ◌+ℤ◌, ◌≤ℤ◌, None, arith, ap, sym, subst, ◌∙◌}
+use Rattle.std.proofs.Common.{◌≡◌, ◌+◌, length, pos, ◌+ℤ◌, ◌≤ℤ◌, None, arith, ap, sym, subst, ◌∙◌}
 use Rattle.std.proofs.lemmas.Int.{ints}
+use Rattle.std.proofs.lemmas.List.{length-map}
 use Rattle.std.specs.Prelude.{reverse, map}
 use Rattle.std.specs.Option.{option_copied}
 use Rattle.blaze_entries.specs.Found.{is_sought}
-use Rattle.blaze_entries.specs.Nodes.{shown_nodes, full, held}
-use Rattle.blaze_entries.specs.Scanned.{shown_plan, unseen, walked, answers, walked_keys, walked_value, seen_value}
+use Rattle.blaze_entries.specs.Nodes.{shown_node, shown_nodes, full, held}
+use Rattle.blaze_entries.specs.Scanned.{Seen, shown_plan, unseen, walked, answers, walked_keys, walked_value, seen_value}
 use Rattle.blaze_entries.specs.Starts.{below}
 use Rattle.blaze_entries.proofs.Halves.{below_next}
 use Rattle.blaze_entries.proofs.Held.{nodes_ascend, full_of, full_held, below-held}
-use Rattle.blaze_entries.proofs.Scans.{found_entry, down_from, step_fits, last_keys, next_walked, last_value, next_value, next_answers, next_keys}
+use Rattle.blaze_entries.proofs.Scans.{length-below, found_entry, down_from, step_fits, last_keys, next_walked, last_value, next_value, next_answers, next_keys}
 use Rattle.blaze_entries.proofs.scan.walk.Goals as goal
 
 pub loop-next-init : goal.loop-next-init
@@ -25,6 +26,12 @@ loop-next-init g c =
     ∙ below_next low high (rank c.args.hi) (rank c.next_or_last-top.result) (full ps) c.requires.held.ascend c.next_or_last-top.ensures in
     record {
       full = full_held (shown_nodes rank c.nodes_up_to-nodes.result) (below k (full ps)) q;
+      fits =
+          let none = ap (λ (s : Seen). s.gone) c.new-plan.ensures in
+          let shown = length-map c.nodes_up_to-nodes.result (shown_node rank) in
+          let all = length-map c.args.tree.now.entries (shown_node rank) in
+          let some = ap length c.nodes_up_to-nodes.ensures in
+          omega (arith, none, shown, all, some, length-below k ps, c.len-most.ensures.len);
       plan = ap (λ s. walked (is_sought g.V.PartialEq.eq (option_copied c.args.value)) (rank c.args.lo) (rank c.args.hi) s (reverse (full (shown_nodes rank c.nodes_up_to-nodes.result)))) c.new-plan.ensures
           ∙ ap (λ es. walked (is_sought g.V.PartialEq.eq (option_copied c.args.value)) (rank c.args.lo) (rank c.args.hi) (unseen (rank c.args.hi)) (reverse es)) e;
       room = subst (λ es. walked_keys (rank c.args.lo) (rank c.args.hi) (reverse es) ≤ℤ pos (g.T.SafeLen.SafeLength.number c.args.len)) (sym e) c.requires.len;
@@ -71,7 +78,8 @@ loop-next-preserved g c =
     let looks = next_answers l h test _ seen.0 seen.1.found _ _ down over in
     record {
       full = c.in-Some.ensures.full;
-      plan = ap (λ s. walked test l h s (reverse (full (shown_nodes rank c.next_found.new.nodes)))) c.see.ensures
+      fits = omega (arith, c.see.ensures.gone, c.in-Some.ensures.shorter, c.loop-next.invariant.fits);
+      plan = ap (λ s. walked test l h s (reverse (full (shown_nodes rank c.next_found.new.nodes)))) c.see.ensures.seen
           ∙ sym (next_walked l h test _ seen.0 seen.1.found _ _ down over (shown_plan rank c.loop-next.plan)) ∙ c.loop-next.invariant.plan;
       value = ap (λ o. walked_value l o (reverse (full (shown_nodes rank c.next_found.new.nodes)))) (c.seen_value-held.ensures ∙ ap (seen_value l (option_copied c.loop-next.held)) (found_entry seen.1))
           ∙ sym (next_value l h test _ seen.0 seen.1.found _ _ down over (option_copied c.loop-next.held)) ∙ c.loop-next.invariant.value;

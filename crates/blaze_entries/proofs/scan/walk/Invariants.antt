@@ -1,4 +1,4 @@
-use Rattle.std.proofs.Common.{◌≡◌, ◌+◌, pos, ◌+ℤ◌, ◌≤ℤ◌, length, None}
+use Rattle.std.proofs.Common.{◌≡◌, ◌+◌, pos, ◌+ℤ◌, ◌≤ℤ◌, ◌≤◌, length, None}
 use Rattle.std.specs.Prelude.{reverse}
 use Rattle.std.specs.Option.{option_copied}
 use Rattle.blaze_entries.specs.Found.{is_sought}
@@ -11,6 +11,7 @@ use Rattle.blaze_entries.proofs.scan.walk.Given as goal
 abbrev pub invariant-loop-next : goal.invariant-loop-next
 invariant-loop-next g l = record {
   full : AreFull (shown_nodes g.T.Integer.rank l.nodes);
+  fits : l.plan.gone + length l.nodes ≤ l.most;
   plan : walked (is_sought g.V.PartialEq.eq (option_copied l.value)) (g.T.Integer.rank l.lo) (g.T.Integer.rank l.hi) (shown_plan g.T.Integer.rank l.plan) (reverse (entries_of g.T.Integer.rank l.nodes))
       ≡ walked (is_sought g.V.PartialEq.eq (option_copied l.value)) (g.T.Integer.rank l.lo) (g.T.Integer.rank l.hi) (unseen (g.T.Integer.rank l.hi)) (reverse (below (g.T.Integer.rank l.hi +ℤ pos 2) (entries_of g.T.Integer.rank l.fn.tree.entries)));
   value : walked_value (g.T.Integer.rank l.lo) (option_copied l.held) (reverse (entries_of g.T.Integer.rank l.nodes))

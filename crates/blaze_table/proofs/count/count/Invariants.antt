@@ -9,4 +9,4 @@ invariant-loop-start g l =
     (goal.iterator-loop-start g).can_next l.start-iterator
     × (goal.iterator-loop-start g).is_finite l.start-iterator
     × IsCanonical g.V.PartialEq.eq l.start-iterator
-    × (pos (g.T.SafeLen.SafeLength.number l.sum) +ℤ keys_in l.start-iterator ≡ keys_in l.entries.entries)
+    × (pos (g.T.SafeLen.SafeLength.number l.sum) +ℤ keys_in l.start-iterator ≡ keys_in l.entries.counted.entries)

@@ -1,10 +1,12 @@
-use Rattle.std.proofs.Common.{◌-◌, length, Some, ap, sym, subst}
+use Rattle.std.proofs.Common.{◌-◌, length, Some, subst, arith}
+use Rattle.std.proofs.lemmas.Int.{ints}
 use Rattle.std.specs.List.{slice_get}
 use Rattle.blaze_entries.specs.Cloned.{IsRangeCloned}
 use Rattle.blaze_entries.specs.Counted.{CountedEntries}
-use Rattle.blaze_entries.specs.Starts.{holder_of}
-use Rattle.blaze_table.proofs.Cuts.CutEdits.{on_err}
-use Rattle.blaze_table.proofs.Cuts.Ends.{last_holder, end_among, end_held}
+use Rattle.blaze_table.specs.Splice.{IsKeyTaken}
+use Rattle.blaze_table.proofs.Cuts.Backs.{last_key, last_has}
+use Rattle.blaze_table.proofs.Cuts.CutEdits.{on_err, key_fits, key_cut}
+use Rattle.blaze_table.proofs.Cuts.Ends.{last_holder, end_among}
 use Rattle.blaze_table.proofs.cut.cut_last.Goals as goal
 
 pub returns-in_err-last-clause-refused : goal.returns-in_err-last-clause-refused
@@ -12,8 +14,30 @@ returns-in_err-last-clause-refused g c =
     let es = c.args.entries.now.entries in
     on_err c.from_residual.result (end_among g.V.PartialEq.eq g.met.V.Eq.laws g.T.Integer.low g.T.Integer.high es c.in_hand.ensures c.requires.table.canonical (λ x. x.1) (slice_get es (length es - 1)) (last_holder g.V.PartialEq.eq es c.requires.table.canonical) c.in_err-last.ensures.refused)
 
-pub cut_held-requires-clause-held : goal.cut_held-requires-clause-held
-cut_held-requires-clause-held g c =
+pub minus-rest-requires : goal.minus-rest-requires
+minus-rest-requires g c =
+    let rank = g.T.Integer.rank in
+    let eq = g.V.PartialEq.eq in
+    let low = g.T.Integer.low in
+    let high = g.T.Integer.high in
     let es = c.args.entries.now.entries in
-    subst (λ xs. IsRangeCloned g.T.Integer.rank g.V.Clone.is_clone (holder_of (g.T.Integer.rank c.in-Some.held.end) xs) (Some c.in-Some.held)) (sym (ap (λ (s : CountedEntries g.row.V.Denot). s.entries) c.last_held.ensures.looked))
-    (end_held g.V.PartialEq.eq g.met.V.Eq.laws g.T.Integer.low g.T.Integer.high es c.in_hand.ensures c.requires.table.canonical (λ x. x.1) (slice_get es (length es - 1)) (last_holder g.V.PartialEq.eq es c.requires.table.canonical) g.T.Integer.rank g.V.Clone.is_clone c.in-Some.held (subst (IsRangeCloned g.T.Integer.rank g.V.Clone.is_clone (slice_get es (length es - 1))) c.in-Some.is c.in_ok-last.ensures.held))
+    let canonical = c.requires.table.canonical in
+    let looked = subst (IsRangeCloned rank g.V.Clone.is_clone (slice_get es (length es - 1))) c.in-Some.is c.in_ok-last.ensures.held in
+    let h = last_has rank g.V.Clone.is_clone c.in-Some.held es looked eq g.met.V.Eq.laws low high c.in_hand.ensures canonical in
+    omega (arith, ints, key_fits eq g.met.V.Eq.laws _ low high es c.in_hand.ensures canonical h _ c.requires.table, c.one.ensures)
+
+pub returns-clause-cut : goal.returns-clause-cut
+returns-clause-cut g c =
+    let rank = g.T.Integer.rank in
+    let eq = g.V.PartialEq.eq in
+    let low = g.T.Integer.low in
+    let high = g.T.Integer.high in
+    let es = c.args.entries.now.entries in
+    let canonical = c.requires.table.canonical in
+    let looked = subst (IsRangeCloned rank g.V.Clone.is_clone (slice_get es (length es - 1))) c.in-Some.is c.in_ok-last.ensures.held in
+    record {
+      last = last_key rank g.V.Clone.is_clone c.in-Some.held es looked;
+      cut = key_cut eq g.met.V.Eq.laws _ low high es c.in_hand.ensures canonical (last_has rank g.V.Clone.is_clone c.in-Some.held es looked eq g.met.V.Eq.laws low high c.in_hand.ensures canonical) _ _ _ _ c.requires.table
+          (omega (arith, ints, c.minus-rest.ensures.difference, c.one.ensures))
+          (subst (λ (s : CountedEntries g.row.V.Denot). IsKeyTaken eq (rank c.in-Some.held.end) (Some c.cut_back-value.result) s.entries c.cut_back-value.new.entries.entries) c.last_held.ensures.looked c.cut_back-value.ensures.cut);
+    }

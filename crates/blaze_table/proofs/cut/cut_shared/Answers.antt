@@ -1,40 +1,57 @@
-use Rattle.std.proofs.Common.{subst, ap}
-use Rattle.blaze_entries.specs.Found.{shown_ends}
-use Rattle.blaze_table.specs.Splice.{IsRangeCutOf}
-use Rattle.blaze_table.proofs.Cuts.CutEdits.{has_key, on_err, key_place, rest_over, over_among, value_held}
+use Rattle.std.proofs.Common.{sym, ap, ◌∙◌, rules}
+use Rattle.blaze_int.proofs.Comparisons.{lt_holds, lt_fails}
+use Rattle.blaze_entries.specs.Counted.{CountedEntries}
+use Rattle.blaze_table.proofs.Cuts.CutEdits.{held_there, next_absent, end_taken, start_taken, inside_taken}
+use Rattle.blaze_table.proofs.Paints.EditLists.{length-with_end}
+use Rattle.blaze_table.proofs.Walks.Worked.{worked_none, worked_edited}
 use Rattle.blaze_table.proofs.cut.cut_shared.Goals as goal
 
-pub returns-in_err-above-clause-refused : goal.returns-in_err-above-clause-refused
-returns-in_err-above-clause-refused g c =
+pub returns-then-not-is_below-clause-cut : goal.returns-then-not-is_below-clause-cut
+returns-then-not-is_below-clause-cut g c =
     let rank = g.T.Integer.rank in
-    let k = rank c.args.key in
-    let es = c.args.entries.now.entries in
-    let h = has_key g.V.PartialEq.eq g.met.V.Eq.laws k g.T.Integer.low g.T.Integer.high es c.in_hand.ensures c.requires.canonical _ c.requires.held in
-    on_err c.from_residual.result (over_among g.V.PartialEq.eq g.met.V.Eq.laws k g.T.Integer.low g.T.Integer.high es c.in_hand.ensures c.requires.canonical h.of h.last (rank c.args.start, rank c.args.end) h.holds.0 c.in_err-above.ensures.refused)
+    end_taken g.V.PartialEq.eq g.met.V.Eq.laws (rank c.args.key) g.T.Integer.low g.T.Integer.high c.args.entries.now.entries c.in_hand.ensures c.requires.canonical g.V.Clone.is_clone c.requires.clones (rank c.args.start) (rank c.args.end) c.args.value c.requires.held
+    (lt_fails (rank c.args.key) (rank c.args.end) (sym c.is_below.ensures ∙ c.if-not-is_below.true)) _ c.sub_one.ensures c.set_end.new.self.entries (ap (λ (s : CountedEntries g.row.V.Denot). s.entries) c.set_end.ensures)
 
-pub take_out-requires-clause-place : goal.take_out-requires-clause-place
-take_out-requires-clause-place g c =
+pub returns-then-not-is_below-clause-worked : goal.returns-then-not-is_below-clause-worked
+returns-then-not-is_below-clause-worked g c =
     let rank = g.T.Integer.rank in
-    let k = rank c.args.key in
-    let es = c.args.entries.now.entries in
-    let h = has_key g.V.PartialEq.eq g.met.V.Eq.laws k g.T.Integer.low g.T.Integer.high es c.in_hand.ensures c.requires.canonical _ c.requires.held in
-    key_place g.V.PartialEq.eq g.met.V.Eq.laws k g.T.Integer.low g.T.Integer.high es c.in_hand.ensures c.requires.canonical h.of h.last (rank c.args.start, rank c.args.end) h.holds.0
-    rank c.plan_of.result (ap rank c.plan_of.ensures.end) c.plan_of.ensures.rest c.plan_of.ensures.left g.V.Clone.is_clone c.requires.clones c.args.value h.holds.1 c.in_ok-above.above c.in_ok-above.ensures.clone
+    worked_edited 1 0 c.args.entries.now c.args.entries.now c.set_end.new.self _ (worked_none 1 0 c.args.entries.now) c.set_end.ensures
+    (length-with_end (rank c.args.start) (rank c.sub_one.result) c.args.entries.now.entries)
 
-pub returns-in_err-take_out-clause-refused : goal.returns-in_err-take_out-clause-refused
-returns-in_err-take_out-clause-refused g c =
+pub move_start-requires-clause-present : goal.move_start-requires-clause-present
+move_start-requires-clause-present g c =
     let rank = g.T.Integer.rank in
-    let k = rank c.args.key in
-    let es = c.args.entries.now.entries in
-    let h = has_key g.V.PartialEq.eq g.met.V.Eq.laws k g.T.Integer.low g.T.Integer.high es c.in_hand.ensures c.requires.canonical _ c.requires.held in
-    on_err c.from_residual-in_err-take_out.result (over_among g.V.PartialEq.eq g.met.V.Eq.laws k g.T.Integer.low g.T.Integer.high es c.in_hand.ensures c.requires.canonical h.of h.last (rank c.args.start, rank c.args.end) h.holds.0
-    (rest_over (shown_ends rank) c.plan_of.result.rest k (rank c.args.start, rank c.args.end) c.plan_of.ensures.rest c.in_err-take_out.ensures.refused))
+    held_there g.V.PartialEq.eq g.met.V.Eq.laws (rank c.args.key) g.T.Integer.low g.T.Integer.high c.args.entries.now.entries c.in_hand.ensures c.requires.canonical g.V.Clone.is_clone c.requires.clones (rank c.args.start) (rank c.args.end) c.args.value c.requires.held
+
+pub move_start-requires-clause-absent : goal.move_start-requires-clause-absent
+move_start-requires-clause-absent g c =
+    let rank = g.T.Integer.rank in
+    next_absent g.V.PartialEq.eq g.met.V.Eq.laws (rank c.args.key) g.T.Integer.low g.T.Integer.high c.args.entries.now.entries c.in_hand.ensures c.requires.canonical g.V.Clone.is_clone c.requires.clones (rank c.args.start) (rank c.args.end) c.args.value c.requires.held
+    (lt_holds (rank c.args.key) (rank c.args.end) (sym c.is_below.ensures ∙ c.if-not-is_below.false)) _ c.add_one-next.ensures
+
+pub returns-then-not-is_below-2-clause-cut : goal.returns-then-not-is_below-2-clause-cut
+returns-then-not-is_below-2-clause-cut g c =
+    let rank = g.T.Integer.rank in
+    start_taken g.V.PartialEq.eq g.met.V.Eq.laws (rank c.args.key) g.T.Integer.low g.T.Integer.high c.args.entries.now.entries c.in_hand.ensures c.requires.canonical g.V.Clone.is_clone c.requires.clones (rank c.args.start) (rank c.args.end) c.args.value c.requires.held
+    (lt_holds (rank c.args.key) (rank c.args.end) (sym c.is_below.ensures ∙ c.if-not-is_below.false)) _ c.add_one-next.ensures
+    (lt_fails (rank c.args.start) (rank c.args.key) (sym c.is_below-2.ensures ∙ c.if-not-is_below-2.true)) c.move_start.new.self.entries c.in_ok-move_start.ensures.ok
+
+pub insert-requires : goal.insert-requires
+insert-requires g c =
+    let rank = g.T.Integer.rank in
+    next_absent g.V.PartialEq.eq g.met.V.Eq.laws (rank c.args.key) g.T.Integer.low g.T.Integer.high c.args.entries.now.entries c.in_hand.ensures c.requires.canonical g.V.Clone.is_clone c.requires.clones (rank c.args.start) (rank c.args.end) c.args.value c.requires.held
+    (lt_holds (rank c.args.key) (rank c.args.end) (sym c.is_below.ensures ∙ c.if-not-is_below.false)) _ c.add_one-next.ensures
 
 pub returns-clause-cut : goal.returns-clause-cut
 returns-clause-cut g c =
     let rank = g.T.Integer.rank in
-    let k = rank c.args.key in
-    let es = c.args.entries.now.entries in
-    let h = has_key g.V.PartialEq.eq g.met.V.Eq.laws k g.T.Integer.low g.T.Integer.high es c.in_hand.ensures c.requires.canonical _ c.requires.held in
-    let cut = subst (λ (t : g.row.T.Denot). IsRangeCutOf g.V.PartialEq.eq k (rank t) es c.take_out.new.entries.entries) c.plan_of.ensures.end c.in_ok-take_out.ensures.cut in
-    record { cut = cut; value = value_held g.V.PartialEq.eq g.met.V.Eq.laws k g.T.Integer.low g.T.Integer.high es c.in_hand.ensures c.requires.canonical h.of h.last h.up c.args.value h.holds.1 }
+    inside_taken g.V.PartialEq.eq g.met.V.Eq.laws (rank c.args.key) g.T.Integer.low g.T.Integer.high c.args.entries.now.entries c.in_hand.ensures c.requires.canonical g.V.Clone.is_clone c.requires.clones (rank c.args.start) (rank c.args.end) c.args.value c.requires.held
+    (lt_holds (rank c.args.key) (rank c.args.end) (sym c.is_below.ensures ∙ c.if-not-is_below.false)) _ c.add_one-next.ensures
+    (lt_holds (rank c.args.start) (rank c.args.key) (sym c.is_below-2.ensures ∙ c.if-not-is_below-2.false)) c.in_ok-above.above c.in_ok-above.ensures.cases _ c.sub_one-2.ensures
+    c.insert.new.self.entries c.set_end-2.new.self.entries (ap (λ (s : CountedEntries g.row.V.Denot). s.entries) c.in_ok-insert.ensures.ok) (ap (λ (s : CountedEntries g.row.V.Denot). s.entries) c.set_end-2.ensures)
+
+pub returns-clause-worked : goal.returns-clause-worked
+returns-clause-worked g c =
+    let rank = g.T.Integer.rank in
+    worked_edited 1 0 c.args.entries.now c.insert.new.self c.set_end-2.new.self _ (record { counted = search rules; puts = search rules; looks = search rules }) c.set_end-2.ensures
+    (length-with_end (rank c.args.start) (rank c.sub_one-2.result) c.insert.new.self.entries)

@@ -1,40 +1,66 @@
-use Rattle.std.proofs.Common.{None, ap}
+use Rattle.std.proofs.Common.{◌++◌, None, ap, ◌∙◌, arith}
 use Rattle.std.specs.Option.{option_map}
+use Rattle.std.proofs.lemmas.Int.{ints}
 use Rattle.blaze_entries.specs.Counted.{CountedEntries}
-use Rattle.blaze_entries.specs.Found.{shown_ends}
-use Rattle.blaze_entries.specs.Starts.{start_at}
-use Rattle.blaze_table.proofs.Cuts.Splits.{some_of}
-use Rattle.blaze_table.proofs.Paints.Composed.{extended}
+use Rattle.blaze_entries.specs.Found.{range_in, shown_ends}
+use Rattle.blaze_entries.specs.Starts.{below, start_at}
+use Rattle.blaze_table.proofs.Paints.Composed.{left_at, extended}
 use Rattle.blaze_table.proofs.Paints.EditLists.{length-with_end}
-use Rattle.blaze_table.proofs.Paints.Placing.{has_room, none_above, rest_over}
+use Rattle.blaze_table.proofs.Paints.Inner.{both_some, cleared, inner_fits, rest_gone, rest_start, rest_under}
+use Rattle.blaze_table.proofs.Paints.Placing.{has_room, above_there, rest_started}
 use Rattle.blaze_table.proofs.Walks.Worked.{worked_edited, worked_then}
 use Rattle.blaze_table.proofs.edit.extend.Goals as goal
 
 pub put_rest-requires-clause-room : goal.put_rest-requires-clause-room
 put_rest-requires-clause-room g c =
     let rank = g.T.Integer.rank in
-    has_room g.V.PartialEq.eq g.met.V.Eq.laws (rank c.args.plan.end) c.args.entries.now.entries (option_map (shown_ends rank) c.args.plan.rest) c.requires.rest
+    has_room g.V.PartialEq.eq g.met.V.Eq.laws (rank c.args.plan.end) c.args.entries.now.entries (option_map (shown_ends rank) c.args.plan.rest) c.requires.place.rest
 
 pub put_rest-requires-clause-above : goal.put_rest-requires-clause-above
 put_rest-requires-clause-above g c =
     let rank = g.T.Integer.rank in
-    none_above g.V.PartialEq.eq g.met.V.Eq.laws rank (rank c.args.first) c.args.plan.rest None c.requires.above
+    above_there g.V.PartialEq.eq g.met.V.Eq.laws rank (rank c.args.lo) c.args.entries.now.entries c.args.plan None c.requires.canonical c.requires.place
+
+pub clear-requires-clause-here : goal.clear-requires-clause-here
+clear-requires-clause-here g c =
+    let rank = g.T.Integer.rank in
+    let lo = rank c.args.lo in
+    let es = c.args.entries.now.entries in
+    let p = c.requires.place in
+    c.goes-first_goes.ensures
+    ∙ rest_start lo lo (rank c.args.plan.end) g.T.Integer.low g.T.Integer.high c.args.plan.first (option_map (shown_ends rank) c.args.plan.rest) None es c.put_rest.new.entries.entries (omega (arith, ints)) p.order c.in_hand.ensures
+    (both_some (shown_ends rank) range_in c.args.plan.first (start_at lo es) p.first) c.in_ok-put_rest.ensures.put
+
+pub clear-requires-clause-above : goal.clear-requires-clause-above
+clear-requires-clause-above g c =
+    let rank = g.T.Integer.rank in
+    let lo = rank c.args.lo in
+    let end = rank c.args.plan.end in
+    let es = c.args.entries.now.entries in
+    let p = c.requires.place in
+    inner_fits lo end c.put_rest.new.entries.entries c.args.plan.gone
+    (rest_gone lo end (option_map (shown_ends rank) c.args.plan.rest) None c.args.plan.gone es c.put_rest.new.entries.entries p.gone (rest_under end es (option_map (shown_ends rank) c.args.plan.rest) p.rest) c.in_ok-put_rest.ensures.put)
 
 pub returns-clause-extended : goal.returns-clause-extended
 returns-clause-extended g c =
     let rank = g.T.Integer.rank in
     let eq = g.V.PartialEq.eq in
-    let first = rank c.args.first in
+    let low = g.T.Integer.low in
+    let high = g.T.Integer.high in
+    let lo = rank c.args.lo in
     let end = rank c.args.plan.end in
     let es = c.args.entries.now.entries in
-    let e = some_of (start_at first es) c.requires.there in
-    extended eq g.T.Integer.low g.T.Integer.high es c.in_hand.ensures first end e.0 c.requires.order e.1
-    c.put_rest.new.entries.entries c.clear_above.new.entries.entries c.set_end.new.self.entries
-    (rest_over eq g.met.V.Eq.laws first end c.requires.order es c.put_rest.new.entries.entries (option_map (shown_ends rank) c.args.plan.rest) c.requires.rest c.requires.above c.in_ok-put_rest.ensures.put)
-    c.clear_above.ensures.entries (ap (λ (s : CountedEntries g.row.V.Denot). s.entries) c.set_end.ensures)
+    let new = c.put_rest.new.entries.entries in
+    let p = c.requires.place in
+    let put = c.in_ok-put_rest.ensures.put in
+    let gone = rest_gone lo end (option_map (shown_ends rank) c.args.plan.rest) None c.args.plan.gone es new p.gone (rest_under end es (option_map (shown_ends rank) c.args.plan.rest) p.rest) put in
+    extended eq low high es c.in_hand.ensures lo (rank c.args.first) end (left_at eq low high es c.in_hand.ensures rank lo (rank c.args.first) c.args.plan.left p.left c.requires.joined)
+    new c.clear.new.entries.entries c.set_end.new.self.entries (rest_started eq g.met.V.Eq.laws rank lo es c.args.plan None c.requires.canonical p new put)
+    (c.clear.ensures.entries ∙ ap (λ x. below lo new ++ x) (cleared lo end low high new c.in_hand-2.ensures p.order c.args.plan.gone gone))
+    (ap (λ (s : CountedEntries g.row.V.Denot). s.entries) c.set_end.ensures)
 
 pub returns-clause-worked : goal.returns-clause-worked
 returns-clause-worked g c =
-    worked_edited 1 1 c.args.entries.now c.clear_above.new.entries c.set_end.new.self _
-    (worked_then 1 0 1 c.args.entries.now c.put_rest.new.entries c.clear_above.new.entries c.in_ok-put_rest.ensures.worked c.clear_above.ensures.worked) c.set_end.ensures
-    (length-with_end (g.T.Integer.rank c.args.first) (g.T.Integer.rank c.args.plan.end) c.clear_above.new.entries.entries)
+    worked_edited 1 0 c.args.entries.now c.clear.new.entries c.set_end.new.self _
+    (worked_then 1 0 0 c.args.entries.now c.put_rest.new.entries c.clear.new.entries c.in_ok-put_rest.ensures.worked c.clear.ensures.worked) c.set_end.ensures
+    (length-with_end (g.T.Integer.rank c.args.first) (g.T.Integer.rank c.args.plan.end) c.clear.new.entries.entries)

@@ -1,8 +1,10 @@
-use Rattle.std.proofs.Common.{subst, sym}
+use Rattle.std.proofs.Common.{◌++◌, pos, ◌+ℤ◌, subst, sym, ap, ◌∙◌}
 use Rattle.std.specs.Option.{option_map}
+use Rattle.blaze_entries.specs.Starts.{below}
+use Rattle.blaze_entries.specs.Found.{shown_ends}
 use Rattle.blaze_table.specs.Edited.{IsLeft}
-use Rattle.blaze_table.specs.Planned.{shown_found_ends}
-use Rattle.blaze_table.proofs.Paints.Composed.{under_canonical, put_at}
+use Rattle.blaze_table.proofs.Paints.Composed.{under_canonical, trimmed_inner, put_at}
+use Rattle.blaze_table.proofs.Paints.Inner.{inner_fits, cleared}
 use Rattle.blaze_table.proofs.edit.put_at.Goals as goal
 
 pub trim-requires-clause-canonical : goal.trim-requires-clause-canonical
@@ -12,10 +14,28 @@ trim-requires-clause-canonical g c =
 pub trim-requires-clause-left : goal.trim-requires-clause-left
 trim-requires-clause-left g c =
     let rank = g.T.Integer.rank in
-    subst (λ es. IsLeft (rank c.args.lo) es (option_map (shown_found_ends rank) c.args.plan.left)) (sym c.in_ok-put.ensures.ok.below) c.requires.place.left
+    subst (λ es. IsLeft (rank c.args.lo) es (option_map (shown_ends rank) c.args.plan.left)) (sym c.in_ok-put.ensures.ok.below) c.requires.place.left
+
+pub clear_above-requires : goal.clear_above-requires
+clear_above-requires g c =
+    let lo = g.T.Integer.rank c.args.lo in
+    let end = g.T.Integer.rank c.args.plan.end in
+    let new = c.put.new.entries.entries in
+    let eq = g.V.PartialEq.eq in
+    let canonical = under_canonical eq g.T.Integer.low g.T.Integer.high c.args.entries.now.entries c.in_hand.ensures c.requires.canonical lo new c.in_ok-put.ensures.ok.below in
+    inner_fits lo end c.trim.new.entries.entries c.args.plan.gone (trimmed_inner eq lo end new c.trim.new.entries.entries canonical c.trim.ensures.entries ∙ c.in_ok-put.ensures.gone)
 
 pub returns-clause-put : goal.returns-clause-put
 returns-clause-put g c =
-    let rank = g.T.Integer.rank in
-    put_at g.V.PartialEq.eq g.T.Integer.low g.T.Integer.high c.args.entries.now.entries c.in_hand.ensures c.requires.canonical (rank c.args.lo) (rank c.args.plan.end) c.args.value c.requires.place.order c.put.new.entries.entries c.in_ok-put.ensures.ok
-    c.in_hand-2.ensures c.trim.new.entries.entries c.clear_above.new.entries.entries c.trim.ensures.entries c.clear_above.ensures.entries
+    let low = g.T.Integer.low in
+    let high = g.T.Integer.high in
+    let lo = g.T.Integer.rank c.args.lo in
+    let end = g.T.Integer.rank c.args.plan.end in
+    let es = c.args.entries.now.entries in
+    let new = c.put.new.entries.entries in
+    let third = c.trim.new.entries.entries in
+    let eq = g.V.PartialEq.eq in
+    let canonical = under_canonical eq low high es c.in_hand.ensures c.requires.canonical lo new c.in_ok-put.ensures.ok.below in
+    put_at eq low high es c.in_hand.ensures c.requires.canonical lo end c.args.value c.requires.place.order new c.in_ok-put.ensures.ok c.in_hand-2.ensures third c.clear_above.new.entries.entries c.trim.ensures.entries
+    (c.clear_above.ensures.entries
+    ∙ ap (λ x. below (lo +ℤ pos 1) third ++ x) (cleared lo end low high third c.in_hand-3.ensures c.requires.place.order c.args.plan.gone (trimmed_inner eq lo end new third canonical c.trim.ensures.entries ∙ c.in_ok-put.ensures.gone)))

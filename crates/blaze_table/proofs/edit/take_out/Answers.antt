@@ -1,11 +1,13 @@
-use Rattle.std.proofs.Common.{subst, sym, ◌∙◌}
+use Rattle.std.proofs.Common.{◌++◌, subst, sym, ap, ◌∙◌, arith}
 use Rattle.std.specs.Option.{option_map}
-use Rattle.blaze_entries.specs.Found.{shown_ends}
+use Rattle.std.specs.Prelude.{is_some}
+use Rattle.std.proofs.lemmas.Int.{ints}
+use Rattle.blaze_entries.specs.Found.{range_in, shown_ends}
+use Rattle.blaze_entries.specs.Starts.{below, start_at}
 use Rattle.blaze_table.specs.Edited.{IsLeft}
-use Rattle.blaze_table.specs.Planned.{shown_found_ends}
-use Rattle.blaze_table.proofs.Paints.Composed.{under_canonical, rest_below, taken_out, taken_within}
+use Rattle.blaze_table.proofs.Paints.Composed.{trimmed_start, trimmed_inner, under_canonical, rest_below, taken_out}
+use Rattle.blaze_table.proofs.Paints.Inner.{both_some, cleared, inner_fits, rest_gone, rest_start, rest_under}
 use Rattle.blaze_table.proofs.Paints.Placing.{has_room, above_there, rest_started}
-use Rattle.blaze_table.proofs.Paints.Spanned.{spanned}
 use Rattle.blaze_table.proofs.edit.take_out.Goals as goal
 
 pub put_rest-requires-clause-room : goal.put_rest-requires-clause-room
@@ -35,29 +37,58 @@ trim-requires-clause-left g c =
     let lo = rank c.args.lo in
     let es = c.args.entries.now.entries in
     let new = c.put_rest.new.entries.entries in
-    subst (λ xs. IsLeft lo xs (option_map (shown_found_ends rank) c.args.plan.left))
+    subst (λ xs. IsLeft lo xs (option_map (shown_ends rank) c.args.plan.left))
     (sym (rest_below eq lo (rank c.args.plan.end) es new (rest_started eq g.met.V.Eq.laws rank lo es c.args.plan c.args.above c.requires.canonical c.requires.place new c.in_ok-put_rest.ensures.put))) c.requires.place.left
 
-pub returns-else-not-spans-clause-cut : goal.returns-else-not-spans-clause-cut
-returns-else-not-spans-clause-cut g c =
+pub clear-requires-clause-here : goal.clear-requires-clause-here
+clear-requires-clause-here g c =
+    let rank = g.T.Integer.rank in
+    let eq = g.V.PartialEq.eq in
+    let lo = rank c.args.lo in
+    let es = c.args.entries.now.entries in
+    let new = c.put_rest.new.entries.entries in
+    let p = c.requires.place in
+    let put = c.in_ok-put_rest.ensures.put in
+    let below = rest_below eq lo (rank c.args.plan.end) es new (rest_started eq g.met.V.Eq.laws rank lo es c.args.plan c.args.above c.requires.canonical p new put) in
+    let canonical = under_canonical eq g.T.Integer.low g.T.Integer.high es c.in_hand.ensures c.requires.canonical lo new below in
+    c.goes-first_goes.ensures
+    ∙ rest_start lo lo (rank c.args.plan.end) g.T.Integer.low g.T.Integer.high c.args.plan.first (option_map (shown_ends rank) c.args.plan.rest) c.args.above es new (omega (arith, ints)) p.order c.in_hand.ensures
+    (both_some (shown_ends rank) range_in c.args.plan.first (start_at lo es) p.first) put
+    ∙ ap (λ o. is_some o) (sym (trimmed_start eq lo (rank c.args.plan.end) new c.trim.new.entries.entries canonical c.trim.ensures.entries))
+
+pub clear-requires-clause-above : goal.clear-requires-clause-above
+clear-requires-clause-above g c =
     let rank = g.T.Integer.rank in
     let eq = g.V.PartialEq.eq in
     let lo = rank c.args.lo in
     let end = rank c.args.plan.end in
     let es = c.args.entries.now.entries in
     let new = c.put_rest.new.entries.entries in
+    let p = c.requires.place in
     let put = c.in_ok-put_rest.ensures.put in
-    taken_within eq g.T.Integer.low g.T.Integer.high es c.in_hand.ensures c.requires.canonical lo end new c.trim.new.entries.entries
-    (rest_started eq g.met.V.Eq.laws rank lo es c.args.plan c.args.above c.requires.canonical c.requires.place new put) c.trim.ensures.entries
-    (spanned eq g.T.Integer.low g.T.Integer.high es c.in_hand.ensures c.requires.canonical lo end c.requires.place.order (option_map (shown_ends rank) c.args.plan.rest) (option_map (shown_found_ends rank) c.args.plan.left) c.args.above new
-    c.requires.place.rest c.requires.place.left put (sym c.spans.ensures ∙ c.if-not-spans.false))
+    let below = rest_below eq lo end es new (rest_started eq g.met.V.Eq.laws rank lo es c.args.plan c.args.above c.requires.canonical p new put) in
+    let canonical = under_canonical eq g.T.Integer.low g.T.Integer.high es c.in_hand.ensures c.requires.canonical lo new below in
+    let same = trimmed_inner eq lo end new c.trim.new.entries.entries canonical c.trim.ensures.entries in
+    inner_fits lo end c.trim.new.entries.entries c.args.plan.gone
+    (same ∙ rest_gone lo end (option_map (shown_ends rank) c.args.plan.rest) c.args.above c.args.plan.gone es new p.gone (rest_under end es (option_map (shown_ends rank) c.args.plan.rest) p.rest) put)
 
-pub returns-then-not-spans-clause-cut : goal.returns-then-not-spans-clause-cut
-returns-then-not-spans-clause-cut g c =
+pub returns-clause-cut : goal.returns-clause-cut
+returns-clause-cut g c =
     let rank = g.T.Integer.rank in
     let eq = g.V.PartialEq.eq in
+    let low = g.T.Integer.low in
+    let high = g.T.Integer.high in
     let lo = rank c.args.lo in
+    let end = rank c.args.plan.end in
     let es = c.args.entries.now.entries in
     let new = c.put_rest.new.entries.entries in
-    taken_out eq g.T.Integer.low g.T.Integer.high es c.in_hand.ensures c.requires.canonical lo (rank c.args.plan.end) c.requires.place.order new c.trim.new.entries.entries c.clear.new.entries.entries
-    (rest_started eq g.met.V.Eq.laws rank lo es c.args.plan c.args.above c.requires.canonical c.requires.place new c.in_ok-put_rest.ensures.put) c.trim.ensures.entries c.clear.ensures.entries
+    let third = c.trim.new.entries.entries in
+    let p = c.requires.place in
+    let put = c.in_ok-put_rest.ensures.put in
+    let started = rest_started eq g.met.V.Eq.laws rank lo es c.args.plan c.args.above c.requires.canonical p new put in
+    let canonical = under_canonical eq low high es c.in_hand.ensures c.requires.canonical lo new (rest_below eq lo end es new started) in
+    let gone =
+    trimmed_inner eq lo end new third canonical c.trim.ensures.entries
+    ∙ rest_gone lo end (option_map (shown_ends rank) c.args.plan.rest) c.args.above c.args.plan.gone es new p.gone (rest_under end es (option_map (shown_ends rank) c.args.plan.rest) p.rest) put in
+    taken_out eq low high es c.in_hand.ensures c.requires.canonical lo end p.order new third c.clear.new.entries.entries started c.trim.ensures.entries
+    (c.clear.ensures.entries ∙ ap (λ x. below lo third ++ x) (cleared lo end low high third c.in_hand-3.ensures p.order c.args.plan.gone gone))

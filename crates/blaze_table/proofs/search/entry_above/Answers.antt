@@ -12,4 +12,4 @@ returns-in_err-checked_add_one g c =
 
 pub returns : goal.returns
 returns g c =
-    c.at_or_above.ensures ∙ ap (λ k. first_from k c.args.entries.now.entries) c.in_ok-checked_add_one.ensures.0 ∙ above_is (g.T.Integer.rank c.args.key) c.args.entries.now.entries
+    c.at_or_above.ensures ∙ ap (λ k. first_from k c.args.entries.now.counted.entries) c.in_ok-checked_add_one.ensures.0 ∙ above_is (g.T.Integer.rank c.args.key) c.args.entries.now.counted.entries

@@ -1,12 +1,31 @@
-use Rattle.std.proofs.Common.{arith, sym, ◌∙◌}
+use Rattle.std.proofs.Common.{◌≡◌, ℕ, ℤ, pos, ◌+ℤ◌, ◌-ℤ◌, ◌≤ℤ◌, Bool, List, None, ap, arith, sym, ◌∙◌}
+use Rattle.std.specs.Cmp.{IsEquivalence}
 use Rattle.std.proofs.lemmas.Int.{ints}
 use Rattle.blaze_entries.specs.Scanned.{shown_plan}
-use Rattle.blaze_table.specs.Entries.{entry}
+use Rattle.blaze_table.specs.Canonical.{AreKeys, IsCanonical}
+use Rattle.blaze_table.specs.Count.{keys_in}
+use Rattle.blaze_table.specs.Entries.{Entry, entry}
+use Rattle.blaze_table.specs.Splice.{before, after, IsPaintOf, IsTablePainted}
 use Rattle.blaze_table.proofs.Canonical.Counted.{keys_painted, painted_table}
 use Rattle.blaze_table.proofs.Neighbours.SeenInside.{inside_seen, inside_short, not_reached}
 use Rattle.blaze_table.proofs.Paints.Inside.{inside_painted}
 use Rattle.blaze_table.proofs.Paints.Painted.{is_painted, painted_short}
+use Rattle.blaze_table.specs.Planned.{joined_start}
+use Rattle.blaze_table.proofs.Walks.Found.{like_above}
+use Rattle.blaze_table.proofs.Walks.Plans.{joined_within, place_is, joined_left}
+use Rattle.blaze_table.proofs.Paints.Widened.{paint_extends, paint_puts, end_up}
 use Rattle.blaze_table.proofs.splice.paint_planned.Goals as goal
+
+-- a list painted, with its count of keys
+table_painted : {V : Type 0} (eq : V → V → Bool) (laws : IsEquivalence eq) (low high : ℤ) (n : ℕ) (p : Entry V) (old new : List (Entry V)) → p.lo ≤ℤ p.hi → low ≤ℤ p.lo → p.hi ≤ℤ high → IsCanonical eq old → AreKeys low high old
+    → pos n ≡ (keys_in (before p.lo old) +ℤ keys_in (after p.hi old)) +ℤ ((p.hi -ℤ p.lo) +ℤ pos 1) → IsPaintOf eq p old new → IsTablePainted eq low high n p old new
+table_painted eq laws low high n p old new order from to c keys count made =
+    let painted = is_painted eq laws p old new order c made in
+    record {
+      table = painted_table eq laws low high n p old new from to keys count made painted.canonical;
+      painted = painted;
+      short = painted_short eq laws p old new made;
+    }
 
 pub returns-then-is_inside-clause-painted : goal.returns-then-is_inside-clause-painted
 returns-then-is_inside-clause-painted g c =
@@ -20,37 +39,79 @@ returns-then-is_inside-clause-painted g c =
       short = inside_short eq c.args.value (rank c.args.lo) (rank c.args.hi) c.requires.order c.args.entries.now.entries c.requires.table.canonical inside;
     }
 
-pub returns-in_err-apply-clause-inside : goal.returns-in_err-apply-clause-inside
-returns-in_err-apply-clause-inside g c = λ i.
+pub returns-in_err-extend-in-Some-clause-inside : goal.returns-in_err-extend-in-Some-clause-inside
+returns-in_err-extend-in-Some-clause-inside g c = λ i.
     let rank = g.T.Integer.rank in
     absurd (not_reached g.V.PartialEq.eq c.args.value (rank c.args.lo) (rank c.args.hi) c.requires.order g.T.Integer.low g.T.Integer.high c.args.entries.now.entries c.in_hand.ensures c.requires.table.canonical (shown_plan rank c.args.walk.plan) c.requires.walk.plan
     (sym c.is_inside.ensures ∙ c.if-is_inside.false) i)
 
-pub returns-clause-inside : goal.returns-clause-inside
-returns-clause-inside g c = λ i.
+pub returns-in_ok-extend-in-Some-clause-inside : goal.returns-in_ok-extend-in-Some-clause-inside
+returns-in_ok-extend-in-Some-clause-inside g c = λ i.
     let rank = g.T.Integer.rank in
     absurd (not_reached g.V.PartialEq.eq c.args.value (rank c.args.lo) (rank c.args.hi) c.requires.order g.T.Integer.low g.T.Integer.high c.args.entries.now.entries c.in_hand.ensures c.requires.table.canonical (shown_plan rank c.args.walk.plan) c.requires.walk.plan
     (sym c.is_inside.ensures ∙ c.if-is_inside.false) i)
 
-pub plus-requires : goal.plus-requires
-plus-requires g c =
+pub returns-in_err-put_at-in-None-clause-inside : goal.returns-in_err-put_at-in-None-clause-inside
+returns-in_err-put_at-in-None-clause-inside g c = λ i.
+    let rank = g.T.Integer.rank in
+    absurd (not_reached g.V.PartialEq.eq c.args.value (rank c.args.lo) (rank c.args.hi) c.requires.order g.T.Integer.low g.T.Integer.high c.args.entries.now.entries c.in_hand.ensures c.requires.table.canonical (shown_plan rank c.args.walk.plan) c.requires.walk.plan
+    (sym c.is_inside.ensures ∙ c.if-is_inside.false) i)
+
+pub returns-in_ok-put_at-in-None-clause-inside : goal.returns-in_ok-put_at-in-None-clause-inside
+returns-in_ok-put_at-in-None-clause-inside g c = λ i.
+    let rank = g.T.Integer.rank in
+    absurd (not_reached g.V.PartialEq.eq c.args.value (rank c.args.lo) (rank c.args.hi) c.requires.order g.T.Integer.low g.T.Integer.high c.args.entries.now.entries c.in_hand.ensures c.requires.table.canonical (shown_plan rank c.args.walk.plan) c.requires.walk.plan
+    (sym c.is_inside.ensures ∙ c.if-is_inside.false) i)
+
+pub plus-painted-requires : goal.plus-painted-requires
+plus-painted-requires g c =
     let rank = g.T.Integer.rank in
     let bound = keys_painted g.V.PartialEq.eq g.met.V.Eq.laws g.T.Integer.low g.T.Integer.high (rank c.args.lo) (rank c.args.hi) c.args.entries.now.entries c.requires.order c.in_hand-2.ensures.from c.in_hand-3.ensures.to c.requires.table.canonical c.requires.table.are_keys in
     let outside = c.requires.walk.outside in
     omega (arith, ints, bound, g.met.T.Integer.has_room, outside, c.length.ensures)
 
-pub returns-clause-painted : goal.returns-clause-painted
-returns-clause-painted g c =
+pub extend-requires-clause-place : goal.extend-requires-clause-place
+extend-requires-clause-place g c =
     let rank = g.T.Integer.rank in
     let eq = g.V.PartialEq.eq in
-    let p = entry (rank c.args.lo) (rank c.args.hi) c.args.value in
-    let old = c.args.entries.now.entries in
-    let new = c.apply.new.entries.entries in
-    let made = c.in_ok-apply.ensures.painted in
-    let outside = c.requires.walk.outside in
-    let painted = is_painted eq g.met.V.Eq.laws p old new c.requires.order c.requires.table.canonical made in
-    record {
-      table = painted_table eq g.met.V.Eq.laws g.T.Integer.low g.T.Integer.high _ p old new c.in_hand-2.ensures.from c.in_hand-3.ensures.to c.requires.table.are_keys (omega (arith, ints, outside, c.length.ensures, c.plus.ensures)) made painted.canonical;
-      painted = painted;
-      short = painted_short eq g.met.V.Eq.laws p old new made;
-    }
+    let test = λ (w : g.row.V.Denot). eq w c.args.value in
+    let lo = rank c.args.lo in
+    let hi = rank c.args.hi in
+    let es = c.args.entries.now.entries in
+    place_is eq test lo hi c.requires.order g.T.Integer.low g.T.Integer.high es c.in_hand.ensures c.requires.table.canonical rank c.args.walk.plan None c.requires.walk.plan
+    (joined_within eq test lo hi c.requires.order g.T.Integer.low g.T.Integer.high es c.in_hand.ensures c.requires.table.canonical (rank c.in-Some.first) (shown_plan rank c.args.walk.plan) c.in-Some.ensures c.requires.walk.plan)
+
+pub extend-requires-clause-joined : goal.extend-requires-clause-joined
+extend-requires-clause-joined g c = let rank = g.T.Integer.rank in joined_left rank (rank c.args.lo) (rank c.in-Some.first) c.args.walk.plan.left c.in-Some.ensures
+
+pub put_at-requires-clause-place : goal.put_at-requires-clause-place
+put_at-requires-clause-place g c =
+    let rank = g.T.Integer.rank in
+    let eq = g.V.PartialEq.eq in
+    let test = λ (w : g.row.V.Denot). eq w c.args.value in
+    let lo = rank c.args.lo in
+    let hi = rank c.args.hi in
+    let es = c.args.entries.now.entries in
+    let up = end_up eq test hi es c.requires.table.canonical (rank c.args.walk.plan.end) c.requires.walk.plan.end in
+    place_is eq test lo hi c.requires.order g.T.Integer.low g.T.Integer.high es c.in_hand.ensures c.requires.table.canonical rank c.args.walk.plan c.args.walk.above c.requires.walk.plan
+    (like_above eq test lo hi (rank c.args.walk.plan.end) c.requires.order up c.args.walk.above es c.requires.walk.above (c.in-None.ensures ∙ ap (joined_start lo) c.requires.walk.plan.left))
+
+pub returns-in_ok-extend-in-Some-clause-painted : goal.returns-in_ok-extend-in-Some-clause-painted
+returns-in_ok-extend-in-Some-clause-painted g c =
+    let rank = g.T.Integer.rank in
+    let start = c.in-Some.ensures ∙ ap (joined_start (rank c.args.lo)) c.requires.walk.plan.left in
+    let made = c.in_ok-extend-in-Some.ensures.extended in
+    table_painted g.V.PartialEq.eq g.met.V.Eq.laws g.T.Integer.low g.T.Integer.high _ (entry (rank c.args.lo) (rank c.args.hi) c.args.value) _ c.extend.new.entries.entries c.requires.order c.in_hand-2.ensures.from c.in_hand-3.ensures.to c.requires.table.canonical c.requires.table.are_keys
+    (let outside = c.requires.walk.outside in omega (arith, ints, outside, c.length.ensures, c.plus-painted.ensures))
+    (paint_extends g.V.PartialEq.eq g.met.V.Eq.laws (rank c.args.lo) (rank c.args.hi) c.args.value c.requires.order g.T.Integer.low g.T.Integer.high c.args.entries.now.entries c.in_hand.ensures c.requires.table.canonical
+    (rank c.args.walk.plan.end) c.requires.walk.plan.end made.above made.like (rank c.in-Some.first) c.extend.new.entries.entries start made.of made.found made.put)
+
+pub returns-in_ok-put_at-in-None-clause-painted : goal.returns-in_ok-put_at-in-None-clause-painted
+returns-in_ok-put_at-in-None-clause-painted g c =
+    let rank = g.T.Integer.rank in
+    let start = c.in-None.ensures ∙ ap (joined_start (rank c.args.lo)) c.requires.walk.plan.left in
+    let made = c.in_ok-put_at-in-None.ensures.put in
+    table_painted g.V.PartialEq.eq g.met.V.Eq.laws g.T.Integer.low g.T.Integer.high _ (entry (rank c.args.lo) (rank c.args.hi) c.args.value) _ c.put_at.new.entries.entries c.requires.order c.in_hand-2.ensures.from c.in_hand-3.ensures.to c.requires.table.canonical c.requires.table.are_keys
+    (let outside = c.requires.walk.outside in omega (arith, ints, outside, c.length.ensures, c.plus-painted.ensures))
+    (paint_puts g.V.PartialEq.eq g.met.V.Eq.laws (rank c.args.lo) (rank c.args.hi) c.args.value c.requires.order g.T.Integer.low g.T.Integer.high c.args.entries.now.entries c.in_hand.ensures c.requires.table.canonical
+    (rank c.args.walk.plan.end) c.requires.walk.plan.end made.above made.like c.put_at.new.entries.entries start made.put)

@@ -14,14 +14,14 @@ pub new-requires : goal.new-requires
 new-requires g c =
     let a = g.T.Integer.rank c.args.first in
     let b = g.T.Integer.rank c.args.last in
-    let ps = shown_nodes g.T.Integer.rank c.self.inside.tree.entries in
-    full_held _ (up_to b (from a (full ps))) (edited_nodes g.T.Integer.low g.T.Integer.high (λ l. up_to b (from a l)) ps _ (up_to b (from a (full ps))) c.self.invariant c.nodes_between.ensures (between-held a b (full ps)))
+    let ps = shown_nodes g.T.Integer.rank c.counted.inside.tree.entries in
+    full_held _ (up_to b (from a (full ps))) (edited_nodes g.T.Integer.low g.T.Integer.high (λ l. up_to b (from a l)) ps _ (up_to b (from a (full ps))) c.counted.invariant c.nodes_between.ensures (between-held a b (full ps)))
 
 pub returns : goal.returns
 returns g c =
     let a = g.T.Integer.rank c.args.first in
     let b = g.T.Integer.rank c.args.last in
-    let ps = shown_nodes g.T.Integer.rank c.self.inside.tree.entries in
+    let ps = shown_nodes g.T.Integer.rank c.counted.inside.tree.entries in
     c.new.ensures
-    ∙ full_of _ (up_to b (from a (full ps))) (edited_nodes g.T.Integer.low g.T.Integer.high (λ l. up_to b (from a l)) ps _ (up_to b (from a (full ps))) c.self.invariant c.nodes_between.ensures (between-held a b (full ps)))
-    ∙ ap (λ (s : CountedEntries g.row.V.Denot). up_to b (from a s.entries)) c.self.view_is
+    ∙ full_of _ (up_to b (from a (full ps))) (edited_nodes g.T.Integer.low g.T.Integer.high (λ l. up_to b (from a l)) ps _ (up_to b (from a (full ps))) c.counted.invariant c.nodes_between.ensures (between-held a b (full ps)))
+    ∙ ap (λ (s : CountedEntries g.row.V.Denot). up_to b (from a s.entries)) c.counted.view_is

@@ -3,6 +3,7 @@ use Rattle.std.specs.Option.{option_map}
 use Rattle.blaze_entries.specs.Counted.{CountedEntries}
 use Rattle.blaze_entries.specs.Found.{shown_ends}
 use Rattle.blaze_table.specs.Entries.{entry}
+use Rattle.blaze_table.proofs.Paints.Inner.{rest_under, new_gone}
 use Rattle.blaze_table.proofs.Paints.Placing.{put_there, put_back, like_rest, above_there, new_room, new_started}
 use Rattle.blaze_table.proofs.edit.place.put_new.Goals as goal
 
@@ -38,3 +39,11 @@ returns-clause-ok g c =
     let like = like_rest eq g.met.V.Eq.laws rank (rank c.args.lo) es c.args.plan c.args.above c.requires.canonical c.requires.place in
     new_started eq g.met.V.Eq.laws (entry (rank c.args.lo) (rank c.args.plan.end) c.args.value) c.requires.place.order es c.insert.new.self.entries c.requires.absent
     (ap (λ (s : CountedEntries g.row.V.Denot). s.entries) c.in_ok-insert.ensures.ok) (option_map (shown_ends rank) c.args.plan.rest) c.args.above c.put_rest.new.entries.entries c.requires.place.rest like c.in_default.ensures.put
+
+pub returns-clause-gone : goal.returns-clause-gone
+returns-clause-gone g c =
+    let rank = g.T.Integer.rank in
+    let p = entry (rank c.args.lo) (rank c.args.plan.end) c.args.value in
+    new_gone p c.args.plan.gone (option_map (shown_ends rank) c.args.plan.rest) c.args.above c.args.entries.now.entries c.insert.new.self.entries c.put_rest.new.entries.entries c.requires.place.gone
+    (rest_under (rank c.args.plan.end) c.args.entries.now.entries (option_map (shown_ends rank) c.args.plan.rest) c.requires.place.rest)
+    (ap (λ (s : CountedEntries g.row.V.Denot). s.entries) c.in_ok-insert.ensures.ok) c.in_default.ensures.put

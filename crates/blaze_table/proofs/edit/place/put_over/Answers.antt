@@ -1,4 +1,4 @@
-use Rattle.std.proofs.Common.{None, Some, sym, subst, ap, ◌∙◌, refl, arith}
+use Rattle.std.proofs.Common.{◌≡◌, ◌+◌, length, None, Some, sym, subst, ap, ◌∙◌, refl, arith}
 use Rattle.std.proofs.lemmas.Result.{on_ok_weaker}
 use Rattle.std.specs.Option.{option_map}
 use Rattle.blaze_int.proofs.Comparisons.{lt_holds, lt_fails}
@@ -6,7 +6,9 @@ use Rattle.blaze_entries.specs.Counted.{CountedEntries}
 use Rattle.blaze_entries.specs.Found.{shown_ends}
 use Rattle.blaze_entries.specs.Starts.{IsFrontReplaced}
 use Rattle.blaze_entries.proofs.Moves.{length-with_end_value}
-use Rattle.blaze_table.specs.Planned.{IsRest}
+use Rattle.blaze_table.specs.Planned.{inner, moved, IsRest}
+use Rattle.blaze_table.specs.Edited.{IsRestPut}
+use Rattle.blaze_table.proofs.Paints.Inner.{rest_under, over_gone, front_gone}
 use Rattle.blaze_table.proofs.Paints.Placing.{rest_over, over_kept, over_front}
 use Rattle.blaze_table.proofs.Walks.Worked.{worked_none, worked_edited}
 use Rattle.blaze_table.proofs.edit.place.put_over.Goals as goal
@@ -18,9 +20,17 @@ returns-in-None-clause-ok g c =
     let lo = rank c.args.lo in
     let end = rank c.args.plan.end in
     let es = c.args.entries.now.entries in
-    let rest = subst (λ o. IsRest end es (option_map (shown_ends rank) o)) c.in-None.is c.requires.rest in
-    over_kept eq g.met.V.Eq.laws lo end c.args.value c.requires.order es c.requires.present es c.replace.new.self.entries
-    (rest_over eq g.met.V.Eq.laws lo end c.requires.order es es None rest tt refl) (ap (λ (s : CountedEntries g.row.V.Denot). s.entries) c.replace.ensures)
+    let rest = subst (λ o. IsRest end es (option_map (shown_ends rank) o)) c.in-None.is c.requires.place.rest in
+    over_kept eq g.met.V.Eq.laws lo end c.args.value c.requires.place.order es c.requires.present es c.replace.new.self.entries
+    (rest_over eq g.met.V.Eq.laws lo end c.requires.place.order es es None rest tt refl) (ap (λ (s : CountedEntries g.row.V.Denot). s.entries) c.replace.ensures)
+
+pub returns-in-None-clause-gone : goal.returns-in-None-clause-gone
+returns-in-None-clause-gone g c =
+    let rank = g.T.Integer.rank in
+    over_gone (rank c.args.lo) (rank c.args.plan.end) c.args.value c.args.plan.gone (option_map (shown_ends rank) c.args.plan.rest) None c.args.entries.now.entries c.args.entries.now.entries c.replace.new.self.entries
+    c.requires.place.gone (rest_under (rank c.args.plan.end) c.args.entries.now.entries (option_map (shown_ends rank) c.args.plan.rest) c.requires.place.rest)
+    (subst (λ o. IsRestPut (rank c.args.lo) (rank c.args.plan.end) (option_map (shown_ends rank) o) None c.args.entries.now.entries c.args.entries.now.entries) (sym c.in-None.is) refl)
+    (ap (λ (s : CountedEntries g.row.V.Denot). s.entries) c.replace.ensures)
 
 pub returns-in-None-clause-worked : goal.returns-in-None-clause-worked
 returns-in-None-clause-worked g c =
@@ -34,10 +44,18 @@ returns-in_ok-put_rest-in-Some-clause-ok g c =
     let lo = rank c.args.lo in
     let end = rank c.args.plan.end in
     let es = c.args.entries.now.entries in
-    let over = lt_holds lo (rank c.in-Some.ends.0) (sym c.is_below.ensures ∙ c.if-is_below.true) in
-    let rest = subst (λ o. IsRest end es (option_map (shown_ends rank) o)) c.in-Some.is c.requires.rest in
-    over_kept eq g.met.V.Eq.laws lo end c.args.value c.requires.order es c.requires.present c.put_rest.new.entries.entries c.replace-then-is_below.new.self.entries
-    (rest_over eq g.met.V.Eq.laws lo end c.requires.order es c.put_rest.new.entries.entries (Some (shown_ends rank c.in-Some.ends)) rest over c.in_ok-put_rest-in-Some.ensures.put)
+    let over = lt_holds lo (rank c.in-Some.ends.start) (sym c.is_below.ensures ∙ c.if-is_below.true) in
+    let rest = subst (λ o. IsRest end es (option_map (shown_ends rank) o)) c.in-Some.is c.requires.place.rest in
+    over_kept eq g.met.V.Eq.laws lo end c.args.value c.requires.place.order es c.requires.present c.put_rest.new.entries.entries c.replace-then-is_below.new.self.entries
+    (rest_over eq g.met.V.Eq.laws lo end c.requires.place.order es c.put_rest.new.entries.entries (Some (shown_ends rank c.in-Some.ends)) rest over c.in_ok-put_rest-in-Some.ensures.put)
+    (ap (λ (s : CountedEntries g.row.V.Denot). s.entries) c.replace-then-is_below.ensures)
+
+pub returns-in_ok-put_rest-in-Some-clause-gone : goal.returns-in_ok-put_rest-in-Some-clause-gone
+returns-in_ok-put_rest-in-Some-clause-gone g c =
+    let rank = g.T.Integer.rank in
+    over_gone (rank c.args.lo) (rank c.args.plan.end) c.args.value c.args.plan.gone (option_map (shown_ends rank) c.args.plan.rest) None c.args.entries.now.entries c.put_rest.new.entries.entries c.replace-then-is_below.new.self.entries
+    c.requires.place.gone (rest_under (rank c.args.plan.end) c.args.entries.now.entries (option_map (shown_ends rank) c.args.plan.rest) c.requires.place.rest)
+    (subst (λ o. IsRestPut (rank c.args.lo) (rank c.args.plan.end) (option_map (shown_ends rank) o) None c.args.entries.now.entries c.put_rest.new.entries.entries) (sym c.in-Some.is) c.in_ok-put_rest-in-Some.ensures.put)
     (ap (λ (s : CountedEntries g.row.V.Denot). s.entries) c.replace-then-is_below.ensures)
 
 pub returns-in_ok-put_rest-in-Some-clause-worked : goal.returns-in_ok-put_rest-in-Some-clause-worked
@@ -55,7 +73,17 @@ returns-else-is_below-clause-ok g c =
     let end = rank c.args.plan.end in
     let es = c.args.entries.now.entries in
     let ends = c.in-Some.ends in
-    let rest = subst (λ o. IsRest end es (option_map (shown_ends rank) o)) c.in-Some.is c.requires.rest in
-    let under = lt_fails lo (rank ends.0) (sym c.is_below.ensures ∙ c.if-is_below.false) in
-    on_ok_weaker c.replace_front.result (λ w. over_front eq g.met.V.Eq.laws lo end c.args.value c.requires.order es c.requires.present (rank ends.0) (rank ends.1) c.replace_front.new.self.entries c.requires.canonical
+    let rest = subst (λ o. IsRest end es (option_map (shown_ends rank) o)) c.in-Some.is c.requires.place.rest in
+    let under = lt_fails lo (rank ends.start) (sym c.is_below.ensures ∙ c.if-is_below.false) in
+    on_ok_weaker c.replace_front.result (λ w. over_front eq g.met.V.Eq.laws lo end c.args.value c.requires.place.order es c.requires.present (rank ends.start) (rank ends.end) c.replace_front.new.self.entries c.requires.canonical
     under rest (subst (λ n. IsFrontReplaced lo end c.args.value n es c.replace_front.new.self.entries) c.add_one-next.ensures w)) c.replace_front.ensures.ok
+
+pub returns-else-is_below-clause-gone : goal.returns-else-is_below-clause-gone
+returns-else-is_below-clause-gone g c =
+    let rank = g.T.Integer.rank in
+    let lo = rank c.args.lo in
+    let ends = c.in-Some.ends in
+    let under = lt_fails lo (rank ends.start) (sym c.is_below.ensures ∙ c.if-is_below.false) in
+    let gone = subst (λ o. c.args.plan.gone + moved lo (option_map (shown_ends rank) o) ≡ length (inner lo (rank c.args.plan.end) c.args.entries.now.entries)) c.in-Some.is c.requires.place.gone in
+    on_ok_weaker c.replace_front.result (λ w. front_gone lo (rank c.args.plan.end) (rank ends.start) (rank ends.end) c.args.value c.args.plan.gone c.args.entries.now.entries c.replace_front.new.self.entries under gone
+    (subst (λ n. IsFrontReplaced lo (rank c.args.plan.end) c.args.value n c.args.entries.now.entries c.replace_front.new.self.entries) c.add_one-next.ensures w)) c.replace_front.ensures.ok

@@ -1,4 +1,5 @@
 use Rattle.std.proofs.Common.{◌≡◌, ◌≤ℤ◌, ◌<ℤ◌, ◌+ℤ◌, pos, ◌∙◌, sym, subst, arith}
+use Rattle.std.specs.Prelude.{◌∷◌, IfSome, IsPermutation}
 use Rattle.std.specs.BinaryHeap.{heap_items}
 use Rattle.std.proofs.lemmas.Int.{ints}
 use Rattle.blaze_int.proofs.Comparisons.{le_holds, le_fails, lt_holds, lt_fails}
@@ -43,7 +44,7 @@ loop-top-preserved-then-is_below g c =
     record {
       order = i.order;
       heap = c.drop_top.ensures.heap;
-      waits = waiting_less rank placed at to waits i.waits c.in-Some.top pair (heap_items c.drop_top.new.waiting) is (lt_holds _ _ (sym c.is_below.ensures ∙ c.if-is_below.true)) c.drop_top.ensures.permutation;
+      waits = waiting_less rank placed at to waits i.waits c.in-Some.top pair (heap_items c.drop_top.new.waiting) is (lt_holds _ _ (sym c.is_below.ensures ∙ c.if-is_below.true)) (subst (λ o. IfSome o (λ t. IsPermutation waits (t ∷ heap_items c.drop_top.new.waiting))) top.top c.drop_top.ensures.permutation);
       made = i.made;
     }
 
@@ -67,7 +68,7 @@ loop-top-preserved g c =
     record {
       order = step_to e to next u step;
       heap = c.drop_top.ensures.heap;
-      waits = waiting_less rank placed next to waits (waiting_from rank placed at to waits i.waits next l) c.in-Some.top pair (heap_items c.drop_top.new.waiting) is (step_past e next step) c.drop_top.ensures.permutation;
+      waits = waiting_less rank placed next to waits (waiting_from rank placed at to waits i.waits next l) c.in-Some.top pair (heap_items c.drop_top.new.waiting) is (step_past e next step) (subst (λ o. IfSome o (λ t. IsPermutation waits (t ∷ heap_items c.drop_top.new.waiting))) top.top c.drop_top.ensures.permutation);
       made = subst (λ k. ArePieces rank placed g.T.Integer.low k (shown_list rank c.push_entry-in-Some.new.out.items)) (sym step)
           (pieces_to rank placed g.T.Integer.low at to i.order waits i.waits (shown_list rank c.loop-top.pieces.items) i.made c.in-Some.top pair top.top top.greatest is
           e h (weaker e to u) (omega (arith, ints)) (shown_list rank c.push_entry-in-Some.new.out.items) c.in_ok-push_entry-2.ensures.ok);

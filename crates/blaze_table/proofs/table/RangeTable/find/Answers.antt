@@ -14,8 +14,8 @@ returns-clause-value g c =
     let k = g.T.Integer.rank c.args.key in
     value_shown g.T.Integer.rank (λ (v : Bor g.row.V.Denot). v.now) c.entry_holding.result
     ∙ ap (option_map (λ (e : Entry g.row.V.Denot). e.value)) c.entry_holding.ensures
-    ∙ value-entry_at c.self.inside.entries.entries k
+    ∙ value-entry_at c.self.inside.entries.counted.entries k
     ∙ ap (λ (s : CountedEntries g.row.V.Denot). at s.entries k) c.self.view_is
 
 pub entry_holding-requires : goal.entry_holding-requires
-entry_holding-requires g c = ordered_of g.V.PartialEq.eq c.self.inside.entries.entries c.self.invariant.canonical
+entry_holding-requires g c = ordered_of g.V.PartialEq.eq c.self.inside.entries.counted.entries c.self.invariant.canonical

@@ -2,13 +2,39 @@ use Rattle.std.proofs.Common.{subst}
 use Rattle.blaze_table.specs.Counted.{CountedEntries}
 use Rattle.blaze_table.specs.Cut.{IsSplit}
 use Rattle.blaze_table.proofs.Canonical.RangeMaps.{split_maps}
+use Rattle.blaze_table.proofs.Cuts.Splitting.{is_split, split_counted, split_tables}
 use Rattle.blaze_table.proofs.table.RangeTable.split_at.Goals as goal
+
+pub count_parts-below_len-requires-clause-below : goal.count_parts-below_len-requires-clause-below
+count_parts-below_len-requires-clause-below g c =
+    (is_split g.V.PartialEq.eq g.met.V.Eq.laws _ _ _ _ c.self.invariant.canonical c.in_ok-entries.ensures.split).below_canonical
+
+pub count_parts-below_len-requires-clause-from : goal.count_parts-below_len-requires-clause-from
+count_parts-below_len-requires-clause-from g c =
+    (is_split g.V.PartialEq.eq g.met.V.Eq.laws _ _ _ _ c.self.invariant.canonical c.in_ok-entries.ensures.split).from_canonical
+
+pub count_parts-below_len-requires-clause-counted : goal.count_parts-below_len-requires-clause-counted
+count_parts-below_len-requires-clause-counted g c =
+    split_counted g.V.PartialEq.eq g.met.V.Eq.laws _ _ _ _ c.self.invariant.canonical c.in_ok-entries.ensures.split g.T.Integer.low g.T.Integer.high _ c.self.invariant
+
+pub invariant_of-result : goal.invariant_of-result
+invariant_of-result g c =
+    (split_tables g.V.PartialEq.eq g.met.V.Eq.laws _ _ _ _ c.self.invariant.canonical c.in_ok-entries.ensures.split g.T.Integer.low g.T.Integer.high _ c.self.invariant
+    _ _ c.count_parts-below_len.ensures.below c.count_parts-below_len.ensures.from).1
+
+pub invariant_of-self-2 : goal.invariant_of-self-2
+invariant_of-self-2 g c =
+    (split_tables g.V.PartialEq.eq g.met.V.Eq.laws _ _ _ _ c.self.invariant.canonical c.in_ok-entries.ensures.split g.T.Integer.low g.T.Integer.high _ c.self.invariant
+    _ _ c.count_parts-below_len.ensures.below c.count_parts-below_len.ensures.from).0
 
 pub returns-clause-ok : goal.returns-clause-ok
 returns-clause-ok g c =
     let rank = g.T.Integer.rank in
     let eq = g.V.PartialEq.eq in
-    let below = c.split.new.entries.entries in
-    let from = c.in_ok-entries.entries.entries in
-    subst (λ (s : CountedEntries g.row.V.Denot). IsSplit eq g.T.Integer.low g.T.Integer.high (rank c.args.key) s.entries below from) c.self.view_is
-    (split_maps eq g.met.V.Eq.laws g.T.Integer.low g.T.Integer.high _ _ (rank c.args.key) _ below from c.in_ok-entries.ensures.below c.in_ok-entries.ensures.from c.in_ok-entries.ensures.split)
+    let low = g.T.Integer.low in
+    let high = g.T.Integer.high in
+    let below = c.split_at.new.entries.counted.entries in
+    let from = c.in_ok-entries.entries.counted.entries in
+    subst (λ (s : CountedEntries g.row.V.Denot). IsSplit eq low high (rank c.args.key) s.entries below from) c.self.view_is
+    (split_maps eq g.met.V.Eq.laws low high _ _ (rank c.args.key) _ below from (invariant_of-self-2 g c) (invariant_of-result g c)
+    (is_split eq g.met.V.Eq.laws _ _ _ _ c.self.invariant.canonical c.in_ok-entries.ensures.split))

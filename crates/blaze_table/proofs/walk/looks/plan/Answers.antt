@@ -4,12 +4,12 @@ use Rattle.std.specs.Option.{option_map}
 use Rattle.std.proofs.lemmas.Int.{ints}
 use Rattle.blaze_entries.specs.Counted.{CountedEntries}
 use Rattle.blaze_entries.specs.Found.{found_in, shown_found}
-use Rattle.blaze_entries.specs.Scanned.{shown_plan, unseen, walked, answers, walked_keys}
+use Rattle.blaze_entries.specs.Scanned.{Seen, shown_plan, unseen, walked, answers, walked_keys}
 use Rattle.blaze_entries.specs.Starts.{below, last_below}
 use Rattle.blaze_entries.proofs.Halves.{below_next}
 use Rattle.blaze_entries.proofs.Scans.{step_fits, last_walked, last_answers, last_keys, next_walked, next_answers, next_keys}
 use Rattle.blaze_table.specs.Entries.{Entry}
-use Rattle.blaze_table.proofs.Walks.Descents.{down_to, at_bottom, rounds_fall}
+use Rattle.blaze_table.proofs.Walks.Descents.{down_to, at_bottom, rounds_fit, rounds_fall}
 use Rattle.blaze_table.proofs.walk.looks.plan.Goals as goal
 
 pub loop-last-init : goal.loop-last-init
@@ -29,6 +29,9 @@ loop-last-init g c =
       found = c.found_at_or_below-last.ensures.found;
       plan = ap (λ s. walked test l h s (reverse (below (rank c.next_or_last.result +ℤ pos 1) es))) c.new-plan.ensures
           ∙ ap (λ (xs : List (Entry g.row.V.Denot)). walked test l h (unseen h) (reverse xs)) up;
+      fits =
+          let none = ap (λ (s : Seen). s.gone) c.new-plan.ensures in
+          omega (arith, none, rounds_fit test g.T.Integer.low g.T.Integer.high es c.in_hand.ensures (rank c.next_or_last.result +ℤ pos 1) (option_map (shown_found rank) c.found_at_or_below-last.result) c.found_at_or_below-last.ensures.found);
       looks = omega (arith, looks, more);
       room = omega (arith, ints, keys, c.requires);
       left = omega (arith, ints, keys);
@@ -48,7 +51,7 @@ returns-then-is_below-clause-plan g c =
     let test = λ (w : g.row.V.Denot). g.V.PartialEq.eq w c.args.value.now in
     let i = c.loop-last.invariant in
     let d = down_to test g.T.Integer.low g.T.Integer.high c.args.entries.now.entries c.in_hand.ensures i.key (shown_found rank c.in-Some.found) (sym (ap (option_map (shown_found rank)) c.in-Some.is) ∙ i.found) in
-    c.see.ensures ∙ sym (last_walked (rank c.args.lo) (rank c.args.hi) test _ d.found d.is _ _ d.down (sym c.is_below.ensures ∙ c.if-is_below.true) (shown_plan rank c.loop-last.plan)) ∙ i.plan
+    c.see.ensures.seen ∙ sym (last_walked (rank c.args.lo) (rank c.args.hi) test _ d.found d.is _ _ d.down (sym c.is_below.ensures ∙ c.if-is_below.true) (shown_plan rank c.loop-last.plan)) ∙ i.plan
 
 pub returns-then-is_below-clause-len : goal.returns-then-is_below-clause-len
 returns-then-is_below-clause-len g c =
@@ -94,8 +97,15 @@ loop-last-preserved g c =
       key = rank c.in-Some.found.start;
       same = c.found_below-last.ensures.looked ∙ ap (λ (s : CountedEntries g.row.V.Denot). record s { looks = c.loop-last.entries.looks + 1 }) i.same ∙ ap (λ (n : ℕ). record c.args.entries.now { looks = n }) (sym looks);
       found = c.found_below-last.ensures.found ∙ ap (λ (xs : List (Entry g.row.V.Denot)). option_map (found_in test) (last_below (rank c.in-Some.found.start) xs)) same;
-      plan = ap (λ s. walked test l h s (reverse (below (rank c.in-Some.found.start) es))) c.see.ensures
+      plan = ap (λ s. walked test l h s (reverse (below (rank c.in-Some.found.start) es))) c.see.ensures.seen
           ∙ sym (next_walked l h test _ d.found d.is _ _ d.down over (shown_plan rank c.loop-last.plan)) ∙ i.plan;
+      fits = omega (
+        arith,
+        c.see.ensures.gone,
+        i.fits,
+        rounds_fall test g.T.Integer.low g.T.Integer.high es c.in_hand.ensures i.key (shown_found rank c.in-Some.found) (option_map (shown_found rank) c.found_below-last.result) (option_map (shown_found rank) c.loop-last.last)
+            (ap (option_map (shown_found rank)) c.in-Some.is) (c.found_below-last.ensures.found ∙ ap (λ (xs : List (Entry g.row.V.Denot)). option_map (found_in test) (last_below (rank c.in-Some.found.start) xs)) same),
+      );
       looks = omega (arith, looks, more, i.looks);
       room = omega (arith, ints, keys, c.length_outside-left.ensures, i.room);
       left = omega (arith, ints, keys, c.length_outside-left.ensures, i.left);

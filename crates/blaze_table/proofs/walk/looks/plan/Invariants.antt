@@ -1,4 +1,4 @@
-use Rattle.std.proofs.Common.{◌≡◌, ◌+◌, ℤ, pos, ◌+ℤ◌, ◌≤ℤ◌}
+use Rattle.std.proofs.Common.{◌≡◌, ◌+◌, ◌≤◌, length, ℤ, pos, ◌+ℤ◌, ◌≤ℤ◌}
 use Rattle.std.specs.Prelude.{reverse}
 use Rattle.std.specs.Option.{option_map}
 use Rattle.blaze_entries.specs.Found.{found_in, shown_found}
@@ -15,6 +15,7 @@ invariant-loop-last g l = record {
   found : option_map (shown_found g.T.Integer.rank) l.last ≡ option_map (found_in (λ w. g.V.PartialEq.eq w l.value)) (last_below key l.fn.entries.entries);
   plan : walked (λ w. g.V.PartialEq.eq w l.value) (g.T.Integer.rank l.lo) (g.T.Integer.rank l.hi) (shown_plan g.T.Integer.rank l.plan) (reverse (below key l.fn.entries.entries))
       ≡ walked (λ w. g.V.PartialEq.eq w l.value) (g.T.Integer.rank l.lo) (g.T.Integer.rank l.hi) (unseen (g.T.Integer.rank l.hi)) (reverse (below (g.T.Integer.rank l.hi +ℤ pos 2) l.fn.entries.entries));
+  fits : l.plan.gone + rounds l.fn.entries.entries (option_map (shown_found g.T.Integer.rank) l.last) ≤ length l.fn.entries.entries;
   looks : l.entries.looks + answers (g.T.Integer.rank l.lo) (reverse (below key l.fn.entries.entries))
       ≡ l.fn.entries.looks + answers (g.T.Integer.rank l.lo) (reverse (below (g.T.Integer.rank l.hi +ℤ pos 2) l.fn.entries.entries)) + 1;
   room : walked_keys (g.T.Integer.rank l.lo) (g.T.Integer.rank l.hi) (reverse (below key l.fn.entries.entries)) ≤ℤ pos (g.T.SafeLen.SafeLength.number l.left);

@@ -1,0 +1,24 @@
+use Rattle.std.proofs.Common.{◌≡◌, pos, ◌+ℤ◌, ◌∙◌, subst}
+use Rattle.std.specs.Option.{option_map}
+use Rattle.blaze_entries.specs.Counted.{CountedEntries}
+use Rattle.blaze_entries.specs.Found.{found_in, shown_found}
+use Rattle.blaze_entries.specs.Nodes.{shown_nodes, full}
+use Rattle.blaze_entries.specs.Starts.{last_below}
+use Rattle.blaze_entries.proofs.Held.{nodes_ascend}
+use Rattle.blaze_entries.proofs.Lent.{full_lent, found_below}
+use Rattle.blaze_entries.proofs.counted.Counted.found_at_or_below.Goals as goal
+
+pub node_at_or_below-requires : goal.node_at_or_below-requires
+node_at_or_below-requires g c = nodes_ascend g.T.Integer.low g.T.Integer.high _ c.self.invariant
+
+pub found-requires : goal.found-requires
+found-requires g c =
+    let ps = shown_nodes g.T.Integer.rank c.self.inside.tree.entries in
+    full_lent g.T.Integer.rank c.node_at_or_below.result (last_below (g.T.Integer.rank c.args.key +ℤ pos 1) (full ps))
+    (c.node_at_or_below.ensures ∙ found_below g.T.Integer.low g.T.Integer.high (g.T.Integer.rank c.args.key +ℤ pos 1) ps c.self.invariant)
+
+pub returns-clause-found : goal.returns-clause-found
+returns-clause-found g c =
+    let ps = shown_nodes g.T.Integer.rank c.self.inside.tree.entries in
+    subst (λ (s : CountedEntries g.row.V.Denot). option_map (shown_found g.T.Integer.rank) c.found.result ≡ option_map (found_in (λ w. g.V.PartialEq.eq w c.args.value.now)) (last_below (g.T.Integer.rank c.args.key +ℤ pos 1) s.entries)) c.self.view_is
+    (c.found.ensures (last_below (g.T.Integer.rank c.args.key +ℤ pos 1) (full ps)) (c.node_at_or_below.ensures ∙ found_below g.T.Integer.low g.T.Integer.high (g.T.Integer.rank c.args.key +ℤ pos 1) ps c.self.invariant))

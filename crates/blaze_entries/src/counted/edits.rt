@@ -1,0 +1,193 @@
+//! Edits of counted entries. Each entry that they put in or take out is counted.
+ghost use Rattle.std.specs.Prelude.{◌≡◌, ◌+◌, ◌-◌, length, Some, None, IsSome, OnOk, OnErr, slice_get};
+ghost use Rattle.std.specs.Option.{option_map};
+ghost use Rattle.blaze_entries.specs.Entries.{entry};
+ghost use Rattle.blaze_entries.specs.Starts.{start_at, with_entry, without, with_end, with_end_value};
+ghost use Rattle.blaze_entries.specs.Starts.{with_last_end, IsLastRemoved};
+ghost use Rattle.blaze_entries.specs.Starts.{IsStartMoved, IsFrontReplaced, IsFirstRemoved};
+
+use super::Counted;
+use crate::full_nodes::{given, value_of};
+use crate::nodes::{
+    EndValue, insert, move_node, remove, replace, replace_front, set_end, set_last_end,
+};
+use blaze_int::Integer;
+use std::alloc::AllocError;
+
+impl<T: Integer, V> Counted<T, V> {
+    /// Moves the end of the entry at a start.
+    pub fn set_end(&mut self, start: T, end: T)
+        ensures { self.new
+            ≡ record self.old { entries = with_end (T.rank start) (T.rank end) self.old.entries } }
+    {
+        set_end(&mut self.tree, start, end);
+    }
+
+    /// Moves the end of the last entry. No search is made.
+    pub fn set_last_end(&mut self, end: T)
+        ensures { self.new
+            ≡ record self.old { entries = with_last_end (T.rank end) self.old.entries } }
+    {
+        set_last_end(&mut self.tree, end);
+    }
+}
+
+impl<T: Integer, V: Drop> Counted<T, V> {
+    /// Gives the entry at a start another end and value.
+    pub fn replace(&mut self, start: T, end: T, value: V)
+        ensures { self.new
+            ≡ record self.old {
+              entries = with_end_value (T.rank start)
+                  (T.rank end) value self.old.entries;
+            } }
+    {
+        let value = Some(value);
+        replace(&mut self.tree, start, EndValue { end, value });
+    }
+
+    /// Puts an entry in, at a start where none is. Refused memory leaves the entries.
+    pub fn insert(&mut self, start: T, end: T, value: V) -> Result<(), AllocError>
+        requires { start_at (T.rank start) self.old.entries ≡ None }
+        ensures ok { OnOk result (self.new
+            ≡ record self.old {
+              entries = with_entry
+                  (entry (T.rank start) (T.rank end) value) self.old.entries;
+              put_in = self.old.put_in + 1;
+            }) }
+        ensures longer { OnOk result (length self.new.entries ≡ length self.old.entries + 1) }
+        ensures err { OnErr result (self.new ≡ self.old) }
+    {
+        self.insert_uncounted(start, end, value)?;
+        self.put_in = self.put_in.one_more();
+        Ok(())
+    }
+
+    /// The same as `insert`, and nothing is counted.
+    pub(crate) fn insert_uncounted(&mut self, start: T, end: T, value: V) -> Result<(), AllocError>
+        requires { start_at (T.rank start) self.old.entries ≡ None }
+        ensures ok { OnOk result (self.new
+            ≡ record self.old {
+              entries = with_entry
+                  (entry (T.rank start) (T.rank end) value) self.old.entries;
+            }) }
+        ensures longer { OnOk result (length self.new.entries ≡ length self.old.entries + 1) }
+        ensures err { OnErr result (self.new ≡ self.old) }
+    {
+        start.in_hand();
+        let value = Some(value);
+        insert(&mut self.tree, start, EndValue { end, value })?;
+        Ok(())
+    }
+
+    /// Takes the entry at a start out, and answers its value.
+    pub fn remove(&mut self, start: T) -> V
+        requires { IsSome (start_at (T.rank start) self.old.entries) }
+        ensures entries { self.new
+            ≡ record self.old {
+              entries = without (T.rank start) self.old.entries;
+              taken_out = self.old.taken_out + 1;
+            } }
+        ensures value { option_map (λ e. e.value) (start_at (T.rank start) self.old.entries)
+            ≡ Some result }
+        ensures shorter { length self.new.entries + 1 ≡ length self.old.entries }
+    {
+        self.taken_out = self.taken_out.one_more();
+        self.remove_uncounted(start)
+    }
+
+    /// The same as `remove`, and nothing is counted.
+    pub(crate) fn remove_uncounted(&mut self, start: T) -> V
+        requires { IsSome (start_at (T.rank start) self.old.entries) }
+        ensures entries { self.new
+            ≡ record self.old { entries = without (T.rank start) self.old.entries } }
+        ensures value { option_map (λ e. e.value) (start_at (T.rank start) self.old.entries)
+            ≡ Some result }
+        ensures shorter { length self.new.entries + 1 ≡ length self.old.entries }
+    {
+        value_of(remove(&mut self.tree, start))
+    }
+
+    /// Takes the first entry out, and answers its value. No search is made.
+    pub fn remove_first(&mut self) -> V
+        requires { IsSome (slice_get self.old.entries 0) }
+        ensures removed { IsFirstRemoved result self.old.entries self.new.entries }
+        ensures counted { self.new
+            ≡ record self.old {
+              entries = self.new.entries;
+              taken_out = self.old.taken_out + 1;
+            } }
+    {
+        self.taken_out = self.taken_out.one_more();
+        match given(self.tree.pop_first()) {
+            Some((_, _, value)) => value,
+            None => unreachable!(),
+        }
+    }
+
+    /// Takes the last entry out, and answers its value. No search is made.
+    pub fn remove_last(&mut self) -> V
+        requires { IsSome (slice_get self.old.entries (length self.old.entries - 1)) }
+        ensures removed { IsLastRemoved result self.old.entries self.new.entries }
+        ensures counted { self.new
+            ≡ record self.old {
+              entries = self.new.entries;
+              taken_out = self.old.taken_out + 1;
+            } }
+    {
+        self.taken_out = self.taken_out.one_more();
+        match given(self.tree.pop_last()) {
+            Some((_, _, value)) => value,
+            None => unreachable!(),
+        }
+    }
+
+    /// Moves the entry at a start to another start, where none is, with its end and value. Refused memory leaves it.
+    pub fn move_start(&mut self, from: T, to: T) -> Result<(), AllocError>
+        requires present { IsSome (start_at (T.rank from) self.old.entries) }
+        requires absent { start_at (T.rank to) self.old.entries ≡ None }
+        ensures ok { OnOk result
+            (IsStartMoved (T.rank from) (T.rank to) self.old.entries self.new.entries) }
+        ensures counted { OnOk result (self.new
+            ≡ record self.old {
+              entries = self.new.entries;
+              put_in = self.old.put_in + 1;
+              taken_out = self.old.taken_out + 1;
+            }) }
+        ensures length { OnOk result (length self.new.entries ≡ length self.old.entries) }
+        ensures err { OnErr result (self.new ≡ self.old) }
+    {
+        to.in_hand();
+        let place = EndValue {
+            end: to,
+            value: None,
+        };
+        move_node(&mut self.tree, from, to, place)?;
+        self.put_in = self.put_in.one_more();
+        self.taken_out = self.taken_out.one_more();
+        Ok(())
+    }
+
+    /// Replaces the front of the entry at a start: it has another end and value, and what it had is an entry from another
+    /// start on, where none is. Refused memory leaves the entries.
+    pub fn replace_front(&mut self, start: T, end: T, value: V, to: T) -> Result<(), AllocError>
+        requires present { IsSome (start_at (T.rank start) self.old.entries) }
+        requires absent { start_at (T.rank to) self.old.entries ≡ None }
+        ensures ok { OnOk result
+            (IsFrontReplaced (T.rank start) (T.rank end) value
+            (T.rank to) self.old.entries self.new.entries) }
+        ensures counted { OnOk result (self.new
+            ≡ record self.old { entries = self.new.entries; put_in = self.old.put_in + 1 }) }
+        ensures longer { OnOk result (length self.new.entries ≡ length self.old.entries + 1) }
+        ensures err { OnErr result (self.new ≡ self.old) }
+    {
+        to.in_hand();
+        let value = Some(value);
+        let place = EndValue {
+            end: to,
+            value: None,
+        };
+        replace_front(&mut self.tree, start, EndValue { end, value }, to, place)?;
+        self.put_in = self.put_in.one_more();
+        Ok(())
+    }
+}

@@ -1,0 +1,231 @@
+-- The entries that start above a range's first key, up to its end: how many of them go, and what an edit's steps make of them.
+use Rattle.std.proofs.Common.{◌≡◌, ℕ, ◌+◌, ◌≤◌, ℤ, pos, ◌+ℤ◌, ◌≤ℤ◌, ◌<ℤ◌, Bool, true, false, cond, List, [], ◌∷◌, ◌++◌, length, drop, Option, Some, None, refl, ◌∙◌, sym, subst, ap, arith, ⊎_elim}
+use Rattle.std.specs.Prelude.{IsSome, IfSome, IsSomeAnd, is_some, int_lt, int_le, ◌||◌}
+use Rattle.std.specs.Option.{option_map}
+use Rattle.std.specs.Ordering.{int_eq}
+use Rattle.std.proofs.lemmas.Int.{ints, by_lt_z}
+use Rattle.std.proofs.lemmas.List.Elements.{filter-append}
+use Rattle.blaze_int.proofs.Comparisons.{lt_true, lt_false}
+use Rattle.blaze_entries.specs.Starts.{StartsAscend, below, from, last_below, start_at, with_entry, without, with_end_value, IsStartMoved, IsFrontReplaced}
+use Rattle.blaze_entries.proofs.Ascending.{by_order, start_none}
+use Rattle.blaze_entries.proofs.Halves.{StartsBelow, below_takes, below_skips, below_none, from_takes, from_skips, from_all, from_none, more_below, starts_from}
+use Rattle.blaze_entries.proofs.Scans.{length-below}
+use Rattle.blaze_entries.specs.declared.scan.Plan.{Plan}
+use Rattle.blaze_table.specs.Canonical.{IsCanonical}
+use Rattle.blaze_table.specs.Edited.{IsPlace, IsRestPut, goes}
+use Rattle.blaze_table.specs.Entries.{Entry, entry}
+use Rattle.blaze_table.specs.Planned.{inner, moved, IsRest}
+use Rattle.blaze_table.proofs.Cuts.Splits.{last_at}
+use Rattle.blaze_table.proofs.Neighbours.Growing.{last_there}
+use Rattle.blaze_table.proofs.Paints.Clearing.{from_from}
+use Rattle.blaze_table.proofs.Paints.Placing.{ends_before}
+use Rattle.blaze_table.proofs.Paints.EditLists.{below_with, from_with_under, from_without, from_replaced, start_skips, start_beside, start_beside_without}
+
+-- both are there, or neither is
+pub both_some : {A B C : Type 0} (f : A → C) (g : B → C) (a : Option A) (b : Option B) → option_map f a ≡ option_map g b → is_some a ≡ is_some b
+both_some f g None None q = refl
+both_some f g None (Some b) q = cc
+both_some f g (Some a) None q = cc
+both_some f g (Some a) (Some b) q = refl
+
+module _ {V : Type 0} where
+  -- the same, cut the other way round
+  pub inner_parts : (l z : ℤ) (es : List (Entry V)) → inner l z es ≡ below (z +ℤ pos 1) (from (l +ℤ pos 1) es)
+  inner_parts l z [] = refl
+  inner_parts l z (e ∷ es) = by_lt_z e.lo (z +ℤ pos 1)
+      (λ u. by_lt_z e.lo (l +ℤ pos 1)
+      (λ m. ap (from (l +ℤ pos 1)) (below_takes (z +ℤ pos 1) e es u) ∙ from_skips (l +ℤ pos 1) e (below (z +ℤ pos 1) es) m ∙ inner_parts l z es ∙ sym (ap (below (z +ℤ pos 1)) (from_skips (l +ℤ pos 1) e es m)))
+      (λ m.
+      ap (from (l +ℤ pos 1)) (below_takes (z +ℤ pos 1) e es u) ∙ from_takes (l +ℤ pos 1) e (below (z +ℤ pos 1) es) m ∙ ap (λ t. e ∷ t) (inner_parts l z es)
+      ∙ sym (ap (below (z +ℤ pos 1)) (from_takes (l +ℤ pos 1) e es m) ∙ below_takes (z +ℤ pos 1) e (from (l +ℤ pos 1) es) u)))
+      (λ u. by_lt_z e.lo (l +ℤ pos 1)
+      (λ m. ap (from (l +ℤ pos 1)) (below_skips (z +ℤ pos 1) e es u) ∙ inner_parts l z es ∙ sym (ap (below (z +ℤ pos 1)) (from_skips (l +ℤ pos 1) e es m)))
+      (λ m.
+      ap (from (l +ℤ pos 1)) (below_skips (z +ℤ pos 1) e es u) ∙ inner_parts l z es
+      ∙ sym (ap (below (z +ℤ pos 1)) (from_takes (l +ℤ pos 1) e es m) ∙ below_skips (z +ℤ pos 1) e (from (l +ℤ pos 1) es) u)))
+
+  -- there are no more than start above l
+  pub inner_fits : (l z : ℤ) (es : List (Entry V)) (n : ℕ) → length (inner l z es) ≡ n → n ≤ length (from (l +ℤ pos 1) es)
+  inner_fits l z es n q =
+      let parts = ap length (inner_parts l z es) in
+      omega (arith, q, parts, length-below (z +ℤ pos 1) (from (l +ℤ pos 1) es))
+
+  drop_below : (k b high : ℤ) (es : List (Entry V)) → StartsAscend b high es → drop (length (below k es)) es ≡ from k es
+  drop_below k b high [] s = refl
+  drop_below k b high (e ∷ es) s = by_lt_z e.lo k
+      (λ u. ap (λ xs. drop (length xs) (e ∷ es)) (below_takes k e es u) ∙ drop_below k (e.lo +ℤ pos 1) high es s.2 ∙ sym (from_skips k e es u))
+      (λ u.
+      let up : StartsAscend e.lo high (e ∷ es) = (omega (arith, ints), s.1, s.2) in
+      ap (λ xs. drop (length xs) (e ∷ es)) (below_none k e.lo high (e ∷ es) u up) ∙ sym (from_all k e.lo high (e ∷ es) u up))
+
+  -- once they are taken out, what starts above z is left of what started above l
+  pub cleared : (l z low high : ℤ) (es : List (Entry V)) → StartsAscend low high es → l ≤ℤ z → (n : ℕ) → length (inner l z es) ≡ n → drop n (from (l +ℤ pos 1) es) ≡ from (z +ℤ pos 1) es
+  cleared l z low high es s w n q =
+      let up = from (l +ℤ pos 1) es in
+      ap (λ k. drop k up) (sym q ∙ ap length (inner_parts l z es)) ∙ drop_below (z +ℤ pos 1) (l +ℤ pos 1) high up (starts_from (l +ℤ pos 1) low high es s)
+      ∙ from_from (l +ℤ pos 1) (z +ℤ pos 1) es (omega (arith, ints))
+
+  -- as many where the same starts above l
+  pub inner_same : (l z : ℤ) (new old : List (Entry V)) → from (l +ℤ pos 1) new ≡ from (l +ℤ pos 1) old → length (inner l z new) ≡ length (inner l z old)
+  inner_same l z new old q = ap length (inner_parts l z new ∙ ap (below (z +ℤ pos 1)) q ∙ sym (inner_parts l z old))
+
+  -- one less, where one of them is taken out
+  inner_without : (l z s : ℤ) (es : List (Entry V)) → l <ℤ s → s ≤ℤ z → IsSome (start_at s es) → length (inner l z (without s es)) + 1 ≡ length (inner l z es)
+  inner_without l z s [] a u i = cc
+  inner_without l z s (f ∷ fs) a u i = by_order s f.lo
+      (λ o q r. kept r (inner_without l z s fs a u (still r)))
+      (λ o q r. rw (r, below_takes (z +ℤ pos 1) f fs (omega (arith, ints)), from_takes (l +ℤ pos 1) f (below (z +ℤ pos 1) fs) (omega (arith, ints))) (omega arith))
+      (λ o q r. kept r (inner_without l z s fs a u (still r)))
+    where
+      still : int_eq s f.lo ≡ false → IsSome (start_at s fs)
+      still r = subst (λ b. IsSome (cond b (Some f) (start_at s fs))) r i
+
+      kept : int_eq s f.lo ≡ false → length (inner l z (without s fs)) + 1 ≡ length (inner l z fs) → length (inner l z (without s (f ∷ fs))) + 1 ≡ length (inner l z (f ∷ fs))
+      kept r later =
+          let now = ap (λ b. length (inner l z (cond b fs (f ∷ without s fs)))) r in
+          omega (arith, later, first fs, first (without s fs), now)
+        where
+          first : (xs : List (Entry V)) → length (inner l z (f ∷ xs)) ≡ length (inner l z (f ∷ [])) + length (inner l z xs)
+          first xs = by_lt_z f.lo (z +ℤ pos 1)
+              (λ u. by_lt_z f.lo (l +ℤ pos 1)
+              (λ m. rw (below_takes (z +ℤ pos 1) f xs u, below_takes (z +ℤ pos 1) f [] u, from_skips (l +ℤ pos 1) f (below (z +ℤ pos 1) xs) m, from_skips (l +ℤ pos 1) f [] m) (omega arith))
+              (λ m. rw (below_takes (z +ℤ pos 1) f xs u, below_takes (z +ℤ pos 1) f [] u, from_takes (l +ℤ pos 1) f (below (z +ℤ pos 1) xs) m, from_takes (l +ℤ pos 1) f [] m) (omega arith)))
+              (λ u. rw (below_skips (z +ℤ pos 1) f xs u, below_skips (z +ℤ pos 1) f [] u) (omega arith))
+
+  -- an entry is there
+  some_is : {a : Entry V} (o : Option (Entry V)) → o ≡ Some a → IsSome o
+  some_is o p = subst (λ x. IsSome x) (sym p) refl
+
+  -- the entry that keeps a rest starts up to z
+  pub rest_under : (z : ℤ) (es : List (Entry V)) (rest : Option (ℤ × ℤ)) → IsRest z es rest → IfSome rest (λ r. r.0 ≤ℤ z)
+  rest_under z es None r = tt
+  rest_under z es (Some e) r = r.starts
+
+  -- what lies above z got a start of its own, which moved where it started above l
+  pub rest_inner : (l m z : ℤ) (rest : Option (ℤ × ℤ)) (above : Option V) (old new : List (Entry V)) → m ≤ℤ l → IfSome rest (λ r. r.0 ≤ℤ z) → IsRestPut m z rest above old new
+      → length (inner l z new) + moved l rest ≡ length (inner l z old)
+  rest_inner l m z None above old new w u q = let same = ap (λ xs. length (inner l z xs)) q in omega (arith, same)
+  rest_inner l m z (Some r) above old new w u q = ⊎_elim (λ p. put above p.0 p.1) (λ p. shifted p.1) q
+    where
+      put : (o : Option V) → r.0 <ℤ m → IsSomeAnd o (λ v. new ≡ with_entry (entry (z +ℤ pos 1) r.1 v) old) → length (inner l z new) + moved l (Some r) ≡ length (inner l z old)
+      put None a n = absurd n
+      put (Some v) a n =
+          let same = ap length (ap (inner l z) n ∙ ap (from (l +ℤ pos 1)) (below_with (z +ℤ pos 1) (entry (z +ℤ pos 1) r.1 v) old (omega (arith, ints)))) in
+          rw (lt_false l r.0 (omega (arith, ints))) (omega (arith, same))
+
+      shifted : IsStartMoved r.0 (z +ℤ pos 1) old new → length (inner l z new) + moved l (Some r) ≡ length (inner l z old)
+      shifted i =
+          let same = ap length (ap (inner l z) i.moved ∙ ap (from (l +ℤ pos 1)) (below_with (z +ℤ pos 1) (entry (z +ℤ pos 1) i.of.hi i.of.value) (without r.0 old) (omega (arith, ints)))) in
+          by_lt_z l r.0
+          (λ a. rw (lt_true l r.0 a) (omega (arith, same, inner_without l z r.0 old a u (some_is (start_at r.0 old) i.found))))
+          (λ a. rw (lt_false l r.0 a) (omega (arith, same, inner_same l z (without r.0 old) old (from_without (l +ℤ pos 1) r.0 old (omega (arith, ints))))))
+
+  pub rest_gone : (l z : ℤ) (rest : Option (ℤ × ℤ)) (above : Option V) (n : ℕ) (old new : List (Entry V)) → n + moved l rest ≡ length (inner l z old) → IfSome rest (λ r. r.0 ≤ℤ z) → IsRestPut l z rest above old new → length (inner l z new) ≡ n
+  rest_gone l z rest above n old new g u q = let moves = rest_inner l l z rest above old new (omega (arith, ints)) u q in omega (arith, g, moves)
+
+  -- an entry put in at p, and then a start for what lies above it
+  pub new_gone : (p : Entry V) (n : ℕ) (rest : Option (ℤ × ℤ)) (above : Option V) (old c new : List (Entry V)) → n + moved p.lo rest ≡ length (inner p.lo p.hi old) → IfSome rest (λ r. r.0 ≤ℤ p.hi)
+      → c ≡ with_entry p old → IsRestPut p.lo p.hi rest above c new → length (inner p.lo p.hi new) ≡ n
+  new_gone p n rest above old c new g u e q =
+      let put = inner_same p.lo p.hi c old (ap (from (p.lo +ℤ pos 1)) e ∙ from_with_under (p.lo +ℤ pos 1) p old (omega (arith, ints))) in
+      let moves = rest_inner p.lo p.lo p.hi rest above c new (omega (arith, ints)) u q in
+      omega (arith, g, put, moves)
+
+  -- a start for what lies above z, and then an entry in place of that at l
+  pub over_gone : (l z : ℤ) (v : V) (n : ℕ) (rest : Option (ℤ × ℤ)) (above : Option V) (old c new : List (Entry V)) → n + moved l rest ≡ length (inner l z old) → IfSome rest (λ r. r.0 ≤ℤ z)
+      → IsRestPut l z rest above old c → new ≡ with_end_value l z v c → length (inner l z new) ≡ n
+  over_gone l z v n rest above old c new g u q e =
+      let put = inner_same l z new c (ap (from (l +ℤ pos 1)) e ∙ from_replaced (l +ℤ pos 1) l z v c (omega (arith, ints))) in
+      let moves = rest_inner l l z rest above old c (omega (arith, ints)) u q in
+      omega (arith, g, put, moves)
+
+  -- the front of the entry at l replaced
+  pub front_gone : (l z s t : ℤ) (v : V) (n : ℕ) (old new : List (Entry V)) → s ≤ℤ l → n + moved l (Some (s, t)) ≡ length (inner l z old) → IsFrontReplaced l z v (z +ℤ pos 1) old new → length (inner l z new) ≡ n
+  front_gone l z s t v n old new u g i =
+      let put = ap length (ap (inner l z) i.replaced ∙ ap (from (l +ℤ pos 1)) (below_with (z +ℤ pos 1) (entry (z +ℤ pos 1) i.of.hi i.of.value) (with_end_value l z v old) (omega (arith, ints)))) in
+      let same = inner_same l z (with_end_value l z v old) old (from_replaced (l +ℤ pos 1) l z v old (omega (arith, ints))) in
+      let stays : moved l (Some (s, t)) ≡ 0 = rw (lt_false l s u) refl in
+      omega (arith, g, put, same, stays)
+
+  -- nothing starts where an entry was taken out
+  start_gone : (k b high : ℤ) (es : List (Entry V)) → StartsAscend b high es → start_at k (without k es) ≡ None
+  start_gone k b high [] s = refl
+  start_gone k b high (e ∷ es) s = by_order k e.lo
+      (λ o q r. rw (r, r) (start_gone k (e.lo +ℤ pos 1) high es s.2))
+      (λ o q r. rw r (start_none k (e.lo +ℤ pos 1) high es (omega (arith, ints)) s.2))
+      (λ o q r. rw (r, r) (start_gone k (e.lo +ℤ pos 1) high es s.2))
+
+  -- what starts at l then
+  pub rest_start : {X : Type 0} (l m z low high : ℤ) (first : Option X) (rest : Option (ℤ × ℤ)) (above : Option V) (old new : List (Entry V)) → m ≤ℤ l → l ≤ℤ z → StartsAscend low high old
+      → is_some first ≡ is_some (start_at l old) → IsRestPut m z rest above old new → goes l first rest ≡ is_some (start_at l new)
+  rest_start l m z low high None None above old new w u s f q = f ∙ ap (λ xs. is_some (start_at l xs)) (sym q)
+  rest_start l m z low high (Some x) None above old new w u s f q = f ∙ ap (λ xs. is_some (start_at l xs)) (sym q)
+  rest_start {X} l m z low high first (Some r) above old new w u s f q = ⊎_elim (λ p. put above p.0 p.1) (λ p. shifted p.1) q
+    where
+      -- it is not the entry that keeps the rest
+      other : (first : Option X) → (int_lt l r.0 || int_lt r.0 l) ≡ true → goes l first (Some r) ≡ is_some first
+      other None t = refl
+      other (Some x) t = t
+
+      same_one : (first : Option X) → (int_lt l r.0 || int_lt r.0 l) ≡ false → goes l first (Some r) ≡ false
+      same_one None t = refl
+      same_one (Some x) t = t
+
+      put : (o : Option V) → r.0 <ℤ m → IsSomeAnd o (λ v. new ≡ with_entry (entry (z +ℤ pos 1) r.1 v) old) → goes l first (Some r) ≡ is_some (start_at l new)
+      put None a n = absurd n
+      put (Some v) a n =
+          other first (rw (lt_false l r.0 (omega (arith, ints)), lt_true r.0 l (omega (arith, ints))) refl) ∙ f
+          ∙ sym (ap (λ o. is_some o) (ap (start_at l) n ∙ start_beside l (entry (z +ℤ pos 1) r.1 v) old (λ t. absurd (omega (arith, ints)))))
+
+      shifted : IsStartMoved r.0 (z +ℤ pos 1) old new → goes l first (Some r) ≡ is_some (start_at l new)
+      shifted i =
+          let at_l : start_at l new ≡ start_at l (without r.0 old) = ap (start_at l) i.moved ∙ start_beside l (entry (z +ℤ pos 1) i.of.hi i.of.value) (without r.0 old) (λ t. absurd (omega (arith, ints))) in
+          by_order l r.0
+          (λ o p t. other first (rw (lt_true l r.0 o) refl) ∙ f ∙ sym (ap (λ y. is_some y) (at_l ∙ start_beside_without l r.0 old (λ t. absurd (omega (arith, ints))))))
+          (λ o p t. same_one first (rw (lt_false l r.0 (omega (arith, ints)), lt_false r.0 l (omega (arith, ints))) refl) ∙ sym (ap (λ y. is_some y) (at_l ∙ ap (λ k. start_at l (without k old)) (sym o) ∙ start_gone l low high old s)))
+          (λ o p t. other first (rw (lt_false l r.0 (omega (arith, ints)), lt_true r.0 l o) refl) ∙ f ∙ sym (ap (λ y. is_some y) (at_l ∙ start_beside_without l r.0 old (λ t. absurd (omega (arith, ints))))))
+
+  -- what starts up to a key, without the one that starts at it
+  pub below_gone : (k b high : ℤ) (es : List (Entry V)) → StartsAscend b high es → below (k +ℤ pos 1) (without k es) ≡ below k es
+  below_gone k b high [] s = refl
+  below_gone k b high (e ∷ es) s = by_order k e.lo
+      (λ o q r. rw r (below_skips (k +ℤ pos 1) e (without k es) (omega (arith, ints)) ∙ below_gone k (e.lo +ℤ pos 1) high es s.2 ∙ sym (below_skips k e es (omega (arith, ints)))))
+      (λ o q r. rw r (below_none (k +ℤ pos 1) (e.lo +ℤ pos 1) high es (omega (arith, ints)) s.2 ∙ sym (below_none k e.lo high (e ∷ es) (omega (arith, ints)) (omega (arith, ints), s.1, s.2))))
+      (λ o q r. rw r (below_takes (k +ℤ pos 1) e (without k es) (omega (arith, ints)) ∙ ap (λ t. e ∷ t) (below_gone k (e.lo +ℤ pos 1) high es s.2) ∙ sym (below_takes k e es (omega (arith, ints)))))
+
+  -- the entry below a range shortened
+  module _ (l : ℤ) (front old new : List (Entry V)) (under : StartsBelow l front) (q : new ≡ front ++ from l old) where
+    pub from_trimmed : from (l +ℤ pos 1) new ≡ from (l +ℤ pos 1) old
+    from_trimmed =
+        ap (from (l +ℤ pos 1)) q ∙ filter-append (λ x. int_le (l +ℤ pos 1) x.lo) front (from l old)
+        ∙ ap (λ x. x ++ from (l +ℤ pos 1) (from l old)) (from_none (l +ℤ pos 1) front (more_below l (l +ℤ pos 1) front (omega (arith, ints)) under)) ∙ from_from l (l +ℤ pos 1) old (omega (arith, ints))
+
+    pub start_trimmed : start_at l new ≡ start_at l old
+    start_trimmed = ap (start_at l) q ∙ behind front under ∙ start_from old
+      where
+        behind : (xs : List (Entry V)) → StartsBelow l xs → start_at l (xs ++ from l old) ≡ start_at l (from l old)
+        behind [] h = refl
+        behind (x ∷ xs) h = start_skips l x (xs ++ from l old) (λ t. absurd (omega (arith, ints, h.0))) ∙ behind xs h.1
+
+        start_from : (es : List (Entry V)) → start_at l (from l es) ≡ start_at l es
+        start_from [] = refl
+        start_from (e ∷ es) = by_lt_z e.lo l
+            (λ m. ap (start_at l) (from_skips l e es m) ∙ start_from es ∙ sym (start_skips l e es (λ t. absurd (omega (arith, ints)))))
+            (λ m. ap (start_at l) (from_takes l e es m) ∙ ap (λ o. cond (int_eq l e.lo) (Some e) o) (start_from es))
+
+-- where an entry starts at l, the one below it does not go on above z
+pub place_over : {T V : Type 0} (eq : V → V → Bool) (rank : T → ℤ) (l low high : ℤ) (es : List (Entry V)) (plan : Plan T) (above : Option V) → StartsAscend low high es → IsCanonical eq es → IsSome (start_at l es)
+    → IsPlace rank eq l es plan above → IsPlace rank eq l es plan None
+place_over {T} {V} eq rank l low high es plan above s c here p = record { order = p.order; rest = p.rest; left = p.left; first = p.first; gone = p.gone; above = by_last (last_below l es) refl }
+  where
+    by_start : (e : Entry V) → last_below l es ≡ Some e → (o : Option (Entry V)) → start_at l es ≡ o → IsSome o → rank plan.end <ℤ e.hi → ⊥
+    by_start e q None r i u = cc
+    by_start e q (Some g) r i u =
+        let at_e = last_at l low high e es s q in
+        let ends = ends_before eq e.lo l e g es c (last_there l high e es at_e) r at_e.starts in
+        let order = p.order in
+        omega (arith, ints)
+
+    by_last : (o : Option (Entry V)) → last_below l es ≡ o → IfSome o (λ e. rank plan.end <ℤ e.hi → IsSomeAnd None (λ u. eq e.value u ≡ true))
+    by_last None q = tt
+    by_last (Some e) q = λ u. absurd (by_start e q (start_at l es) refl here u)

@@ -1,0 +1,14 @@
+use Rattle.std.proofs.Common.{ap, sym, ◌∙◌}
+use Rattle.std.specs.Prelude.{is_some}
+use Rattle.blaze_entries.specs.Found.{range_in, shown_ends}
+use Rattle.blaze_entries.specs.Starts.{start_at}
+use Rattle.blaze_table.proofs.Paints.Inner.{both_some, place_over}
+use Rattle.blaze_table.proofs.edit.place.put.Goals as goal
+
+pub put_over-requires-clause-place : goal.put_over-requires-clause-place
+put_over-requires-clause-place g c =
+    let rank = g.T.Integer.rank in
+    let lo = rank c.args.lo in
+    let es = c.args.entries.now.entries in
+    let here = sym (both_some (shown_ends rank) range_in c.args.plan.first (start_at lo es) c.requires.place.first) ∙ ap (λ o. is_some o) c.in-Some.is in
+    place_over g.V.PartialEq.eq rank lo g.T.Integer.low g.T.Integer.high es c.args.plan c.args.above c.in_hand.ensures c.requires.canonical here c.requires.place

@@ -1,0 +1,12 @@
+use Rattle.std.proofs.Common.{◌≡◌, drop}
+use Rattle.blaze_entries.specs.Starts.{below, from}
+use Rattle.blaze_table.specs.Planned.{IsWorked}
+use Rattle.blaze_table.proofs.edit.room.clear_above.Given as goal
+
+-- so many are taken out
+abbrev pub invariant-loop-turn : goal.invariant-loop-turn
+invariant-loop-turn g l = record {
+  below : below (g.T.Integer.rank l.next) l.entries.entries ≡ below (g.T.Integer.rank l.next) l.fn.entries.entries;
+  from : from (g.T.Integer.rank l.next) l.entries.entries ≡ drop l._turn (from (g.T.Integer.rank l.next) l.fn.entries.entries);
+  worked : IsWorked 0 0 l.fn.entries l.entries;
+}

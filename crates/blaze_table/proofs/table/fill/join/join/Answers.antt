@@ -1,0 +1,94 @@
+use Rattle.std.proofs.Common.{◌≤ℤ◌, ◌<ℤ◌, length, ap, sym, subst, refl, ◌∙◌, arith}
+use Rattle.std.specs.Prelude.{IsSome}
+use Rattle.std.specs.Option.{option_map}
+use Rattle.std.proofs.lemmas.Int.{ints}
+use Rattle.blaze_entries.specs.Counted.{CountedEntries}
+use Rattle.blaze_entries.specs.Found.{range_in}
+use Rattle.blaze_entries.specs.Starts.{last_below, start_at, with_end, without}
+use Rattle.blaze_table.specs.LastBelow.{IsLastBelow}
+use Rattle.blaze_table.proofs.Fills.Joins.{joint_above, entry_before, none_last, none_starts, starts_here, joined, not_joined}
+use Rattle.blaze_table.proofs.Paints.EditLists.{length-with_end}
+use Rattle.blaze_table.proofs.table.fill.join.join.Goals as goal
+
+pub sub_one-requires : goal.sub_one-requires
+sub_one-requires g c = joint_above g.V.PartialEq.eq g.met.V.Eq.laws g.T.Integer.low g.T.Integer.high (g.T.Integer.rank c.args.key) c.args.entries.now.entries c.requires.ordered c.requires.keys c.in_hand.ensures c.requires.joint
+
+pub remove-requires : goal.remove-requires
+remove-requires g c =
+    let rank = g.T.Integer.rank in
+    let es = c.args.entries.now.entries in
+    let seen = ap (λ (s : CountedEntries g.row.V.Denot). s.entries) c.in-Some.ensures.looked in
+    let seen2 = ap (λ (s : CountedEntries g.row.V.Denot). s.entries) c.in-Some-range_at_or_below.ensures.looked ∙ seen in
+    let up : rank c.args.key ≤ℤ rank c.in-Some.here.start = grind (arith, ints, c.is_at_most.ensures, c.if-is_at_most.true) in
+    let two : IsLastBelow (rank c.args.key) (rank c.in-Some-range_at_or_below.below.start) (rank c.in-Some-range_at_or_below.below.end) es =
+    subst (λ x. IsLastBelow (rank c.args.key) (rank c.in-Some-range_at_or_below.below.start) (rank c.in-Some-range_at_or_below.below.end) x) seen
+    (subst (λ k. IsLastBelow k (rank c.in-Some-range_at_or_below.below.start) (rank c.in-Some-range_at_or_below.below.end) c.range_at_or_below.new.self.entries) c.sub_one.ensures c.in-Some-range_at_or_below.ensures.found) in
+    let here = starts_here g.V.PartialEq.eq g.met.V.Eq.laws g.T.Integer.low g.T.Integer.high (rank c.args.key) es c.requires.ordered c.requires.keys c.in_hand.ensures c.requires.joint
+    (rank c.in-Some.here.start) (rank c.in-Some.here.end) (rank c.in-Some-range_at_or_below.below.start) (rank c.in-Some-range_at_or_below.below.end) c.in-Some.ensures.found up two in
+    subst (λ x. IsSome (start_at (rank c.args.key) x)) (sym seen2) (subst IsSome (sym here) refl)
+
+pub returns-in-Some-range_at_or_below-clause-joined : goal.returns-in-Some-range_at_or_below-clause-joined
+returns-in-Some-range_at_or_below-clause-joined g c =
+    let rank = g.T.Integer.rank in
+    let es = c.args.entries.now.entries in
+    let seen = ap (λ (s : CountedEntries g.row.V.Denot). s.entries) c.in-Some.ensures.looked in
+    let seen2 = ap (λ (s : CountedEntries g.row.V.Denot). s.entries) c.in-Some-range_at_or_below.ensures.looked ∙ seen in
+    let out = ap (λ (s : CountedEntries g.row.V.Denot). s.entries) c.remove.ensures.entries in
+    let moved = ap (λ (s : CountedEntries g.row.V.Denot). s.entries) c.set_end.ensures in
+    let up : rank c.args.key ≤ℤ rank c.in-Some.here.start = grind (arith, ints, c.is_at_most.ensures, c.if-is_at_most.true) in
+    let two : IsLastBelow (rank c.args.key) (rank c.in-Some-range_at_or_below.below.start) (rank c.in-Some-range_at_or_below.below.end) es =
+    subst (λ x. IsLastBelow (rank c.args.key) (rank c.in-Some-range_at_or_below.below.start) (rank c.in-Some-range_at_or_below.below.end) x) seen
+    (subst (λ k. IsLastBelow k (rank c.in-Some-range_at_or_below.below.start) (rank c.in-Some-range_at_or_below.below.end) c.range_at_or_below.new.self.entries) c.sub_one.ensures c.in-Some-range_at_or_below.ensures.found) in
+    joined g.V.PartialEq.eq g.met.V.Eq.laws g.T.Integer.low g.T.Integer.high (rank c.args.key) es c.requires.ordered c.requires.keys c.in_hand.ensures c.requires.joint
+    (rank c.in-Some.here.start) (rank c.in-Some.here.end) (rank c.in-Some-range_at_or_below.below.start) (rank c.in-Some-range_at_or_below.below.end) c.in-Some.ensures.found up two c.set_end.new.self.entries
+    (moved ∙ ap (with_end (rank c.in-Some-range_at_or_below.below.start) (rank c.in-Some.here.end)) (out ∙ ap (without (rank c.args.key)) seen2))
+
+pub returns-in_default-range_at_or_below-clause-joined : goal.returns-in_default-range_at_or_below-clause-joined
+returns-in_default-range_at_or_below-clause-joined g c =
+    let rank = g.T.Integer.rank in
+    let seen = ap (λ (s : CountedEntries g.row.V.Denot). s.entries) c.in-Some.ensures.looked in
+    absurd (entry_before g.V.PartialEq.eq g.met.V.Eq.laws g.T.Integer.low g.T.Integer.high (rank c.args.key) c.args.entries.now.entries c.requires.ordered c.requires.keys c.in_hand.ensures c.requires.joint
+    (c.in_default-range_at_or_below.ensures.found ∙ ap (λ k. option_map range_in (last_below k c.range_at_or_below.new.self.entries)) c.sub_one.ensures ∙ ap (λ x. option_map range_in (last_below (rank c.args.key) x)) seen))
+
+pub returns-else-is_at_most-clause-joined : goal.returns-else-is_at_most-clause-joined
+returns-else-is_at_most-clause-joined g c =
+    let rank = g.T.Integer.rank in
+    let es = c.args.entries.now.entries in
+    let under : rank c.in-Some.here.start <ℤ rank c.args.key = grind (arith, ints, c.is_at_most.ensures, c.if-is_at_most.false) in
+    not_joined g.V.PartialEq.eq g.met.V.Eq.laws g.T.Integer.low g.T.Integer.high (rank c.args.key) es c.range_at_or_below.new.self.entries (ap (λ (s : CountedEntries g.row.V.Denot). s.entries) c.in-Some.ensures.looked) c.requires.ordered c.requires.keys
+    (none_starts (rank c.args.key) g.T.Integer.low g.T.Integer.high (rank c.in-Some.here.start) (rank c.in-Some.here.end) es c.in_hand.ensures c.requires.ordered c.in-Some.ensures.found under)
+
+pub returns-in_default-clause-joined : goal.returns-in_default-clause-joined
+returns-in_default-clause-joined g c =
+    let rank = g.T.Integer.rank in
+    let es = c.args.entries.now.entries in
+    not_joined g.V.PartialEq.eq g.met.V.Eq.laws g.T.Integer.low g.T.Integer.high (rank c.args.key) es c.range_at_or_below.new.self.entries (ap (λ (s : CountedEntries g.row.V.Denot). s.entries) c.in_default.ensures.looked) c.requires.ordered c.requires.keys
+    (none_last (rank c.args.key) g.T.Integer.low g.T.Integer.high es c.in_hand.ensures c.in_default.ensures.found)
+
+pub returns-in-Some-range_at_or_below-clause-counted : goal.returns-in-Some-range_at_or_below-clause-counted
+returns-in-Some-range_at_or_below-clause-counted g c =
+    let one = c.in-Some.ensures.looked in
+    let two = c.in-Some-range_at_or_below.ensures.looked in
+    let out = c.remove.ensures.entries in
+    let moved = c.set_end.ensures in
+    record {
+      looks = omega (arith, ap (λ (s : CountedEntries g.row.V.Denot). s.looks) one, ap (λ (s : CountedEntries g.row.V.Denot). s.looks) two, ap (λ (s : CountedEntries g.row.V.Denot). s.looks) out, ap (λ (s : CountedEntries g.row.V.Denot). s.looks) moved);
+      puts = omega (arith, ap (λ (s : CountedEntries g.row.V.Denot). s.put_in) one, ap (λ (s : CountedEntries g.row.V.Denot). s.put_in) two, ap (λ (s : CountedEntries g.row.V.Denot). s.put_in) out, ap (λ (s : CountedEntries g.row.V.Denot). s.put_in) moved);
+      taken = omega (arith, ap (λ (s : CountedEntries g.row.V.Denot). s.taken_out) one, ap (λ (s : CountedEntries g.row.V.Denot). s.taken_out) two, ap (λ (s : CountedEntries g.row.V.Denot). s.taken_out) out, ap (λ (s : CountedEntries g.row.V.Denot). s.taken_out) moved);
+      balance = omega (
+        arith,
+        ap (λ (s : CountedEntries g.row.V.Denot). s.put_in) one,
+        ap (λ (s : CountedEntries g.row.V.Denot). s.put_in) two,
+        ap (λ (s : CountedEntries g.row.V.Denot). s.put_in) out,
+        ap (λ (s : CountedEntries g.row.V.Denot). s.put_in) moved,
+        ap (λ (s : CountedEntries g.row.V.Denot). s.taken_out) one,
+        ap (λ (s : CountedEntries g.row.V.Denot). s.taken_out) two,
+        ap (λ (s : CountedEntries g.row.V.Denot). s.taken_out) out,
+        ap (λ (s : CountedEntries g.row.V.Denot). s.taken_out) moved,
+        ap (λ (s : CountedEntries g.row.V.Denot). length s.entries) one,
+        ap (λ (s : CountedEntries g.row.V.Denot). length s.entries) two,
+        ap (λ (s : CountedEntries g.row.V.Denot). length s.entries) moved,
+        length-with_end (g.T.Integer.rank c.in-Some-range_at_or_below.below.start) (g.T.Integer.rank c.in-Some.here.end) c.remove.new.self.entries,
+        c.remove.ensures.shorter,
+      );
+    }

@@ -1,0 +1,35 @@
+use Rattle.std.proofs.Common.{refl, ◌∙◌, arith}
+use Rattle.blaze_table.proofs.Fills.Joints.{joint_next, joined_next, joined_all, same_then, same_content}
+use Rattle.blaze_table.proofs.Walks.Worked.{counted_none, counted_then}
+use Rattle.blaze_table.proofs.table.fill.join.join_all.Goals as goal
+
+pub join-requires-clause-joint : goal.join-requires-clause-joint
+join-requires-clause-joint g c =
+    joint_next g.V.PartialEq.eq g.met.V.Eq.laws g.T.Integer.rank c.loop-key.joints.items c.pop.new.self.items c.in-Some.key c.in-Some.ensures.items c.loop-key.entries.entries c.loop-key.invariant.joined
+
+pub loop-key-init : goal.loop-key-init
+loop-key-init g c = record {
+  ordered = c.requires.ordered;
+  are_keys = c.requires.keys;
+  joined = c.requires.joined;
+  count = refl;
+  same = same_content g.V.PartialEq.eq g.met.V.Eq.laws c.args.entries.now.entries;
+  counted = counted_none c.args.entries.now;
+}
+
+pub loop-key-preserved : goal.loop-key-preserved
+loop-key-preserved g c =
+    let i = c.loop-key.invariant in
+    let j = c.join.ensures.joined in
+    record {
+      ordered = j.ordered;
+      are_keys = j.are_keys;
+      joined = joined_next g.V.PartialEq.eq g.met.V.Eq.laws g.T.Integer.rank c.loop-key.joints.items c.pop.new.self.items c.in-Some.key c.in-Some.ensures.items c.loop-key.entries.entries i.joined g.T.Integer.low g.T.Integer.high c.join.new.entries.entries j;
+      count = j.count ∙ i.count;
+      same = same_then g.V.PartialEq.eq g.met.V.Eq.laws c.join.new.entries.entries c.loop-key.entries.entries c.args.entries.now.entries j.same i.same;
+      counted = counted_then c.args.entries.now c.loop-key.entries c.join.new.entries i.counted c.join.ensures.counted;
+    }
+
+pub returns-clause-canonical : goal.returns-clause-canonical
+returns-clause-canonical g c =
+    joined_all g.V.PartialEq.eq g.met.V.Eq.laws g.T.Integer.rank c.loop-key.joints.items c.loop-key.entries.entries (omega (arith, c.in_default.ensures.cases)) c.loop-key.invariant.ordered c.loop-key.invariant.joined

@@ -1,0 +1,21 @@
+use Rattle.std.proofs.Common.{◌≡◌, length, map}
+use Rattle.blaze_table.specs.Canonical.{AreKeys}
+use Rattle.blaze_table.specs.Count.{keys_in}
+use Rattle.blaze_table.specs.Entries.{SameContent}
+use Rattle.blaze_table.specs.Filling.{IsJoinedBut, IsOrdered}
+use Rattle.blaze_table.specs.Work.{IsCounted}
+use Rattle.blaze_table.proofs.table.fill.join.join_all.Given as goal
+
+-- what is at the joints left is still to be joined
+abbrev pub invariant-loop-key : goal.invariant-loop-key
+invariant-loop-key g l = record {
+  ordered : IsOrdered l.entries.entries;
+  are_keys : AreKeys g.T.Integer.low g.T.Integer.high l.entries.entries;
+  joined : IsJoinedBut g.V.PartialEq.eq (map g.T.Integer.rank l.joints.items) l.entries.entries;
+  count : keys_in l.entries.entries ≡ keys_in l.fn.entries.entries;
+  same : SameContent g.V.PartialEq.eq l.entries.entries l.fn.entries.entries;
+  counted : IsCounted l.fn.entries l.entries;
+}
+
+abbrev pub decreases-loop-key : goal.decreases-loop-key
+decreases-loop-key g l = length l.joints.items

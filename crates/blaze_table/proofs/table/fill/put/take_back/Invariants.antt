@@ -1,0 +1,17 @@
+use Rattle.std.proofs.Common.{◌≡◌, length, map}
+use Rattle.blaze_table.specs.Filling.{AreThere, taken}
+use Rattle.blaze_table.specs.Work.{IsCounted}
+use Rattle.blaze_table.proofs.table.fill.put.take_back.Given as goal
+
+-- the entries that start at the keys left are still to be taken
+abbrev pub invariant-loop-start : goal.invariant-loop-start
+invariant-loop-start g l =
+    let rank = g.T.Integer.rank in
+    record {
+      there : AreThere (map rank l.starts.items) l.entries.entries;
+      taken : taken (map rank l.starts.items) l.entries.entries ≡ taken (map rank l.fn.starts.items) l.fn.entries.entries;
+      counted : IsCounted l.fn.entries l.entries;
+    }
+
+abbrev pub decreases-loop-start : goal.decreases-loop-start
+decreases-loop-start g l = length l.starts.items

@@ -1,0 +1,164 @@
+//! A value put on the keys of a range, in place: the entries beside the range are found, then edited.
+ghost use Rattle.std.specs.Option.{option_map, option_or};
+ghost use Rattle.std.specs.Prelude.{◌≡◌, ◌≤ℤ◌, Ok, IfOk, OnOk, OnErr};
+ghost use Rattle.blaze_entries.specs.Found.{shown_found};
+ghost use Rattle.blaze_entries.specs.Scanned.{shown_plan};
+ghost use Rattle.blaze_table.specs.Work.{IsCountedPaint, IsCounted};
+ghost use Rattle.blaze_table.specs.Entries.{entry, at, SameOption};
+ghost use Rattle.blaze_table.specs.Painted.{IsInside, ClonesAreAlike};
+ghost use Rattle.blaze_table.specs.Planned.{joined_start, reaches, IsWalkOf, IsWorked};
+ghost use Rattle.blaze_table.specs.Splice.{IsTablePainted};
+ghost use Rattle.blaze_table.specs.Table.{IsTable};
+
+use crate::edit::{extend, put_at};
+use crate::walk::{Walk, walk_by_looks, walk_down, walk_with_value};
+use blaze_entries::{Counted, Plan, RangeEntry};
+use blaze_int::compare::{is_at_most, is_next, length};
+use blaze_int::{Integer, SafeLength};
+use std::alloc::AllocError;
+
+// Whether one entry has all keys of a range that ends at `hi`, with an equal value.
+fn is_inside<T: Integer>(plan: Plan<T>, hi: T) -> bool
+    ensures { result
+        ≡ reaches (T.rank hi) (option_or (shown_plan T.rank plan).first (shown_plan T.rank plan).left) }
+{
+    match plan.first.or(plan.left) {
+        Some(found) => found.value && is_at_most(hi, found.end),
+        None => false,
+    }
+}
+
+// The start of an entry that a painted range is joined with below it.
+fn joined_below<T: Integer>(left: Option<RangeEntry<T, bool>>, lo: T) -> Option<T>
+    ensures { option_map T.rank result
+        ≡ joined_start (T.rank lo) (option_map (shown_found T.rank) left) }
+{
+    match left {
+        Some(found) if found.value && (is_at_most(lo, found.end) || is_next(found.end, lo)) => {
+            Some(found.start)
+        }
+        _ => None,
+    }
+}
+
+// Puts a value on the keys from lo up to hi, by what a walk has found. Inside an entry with an equal value nothing changes.
+// Refused memory leaves the entries as they are. It is inlined, so that a plan is not copied on its way here.
+#[inline(always)]
+fn paint_planned<T: Integer, V: Eq + Drop>(
+    entries: &mut Counted<T, V>,
+    len: T::SafeLen,
+    lo: T,
+    hi: T,
+    value: V,
+    walk: Walk<T, V>,
+) -> Result<T::SafeLen, AllocError>
+    requires order { T.rank lo ≤ℤ T.rank hi }
+    requires table { IsTable V.eq T.low T.high (T.SafeLen.number len) entries.old.entries }
+    requires walk { IsWalkOf V.eq (λ w. V.eq w value)
+        (T.rank lo) (T.rank hi) entries.old.entries
+        (shown_plan T.rank walk.plan) (T.SafeLen.number walk.outside) walk.above }
+    ensures painted { IfOk result (λ len. IsTablePainted V.eq T.low T.high (T.SafeLen.number len)
+        (entry (T.rank lo) (T.rank hi) value) entries.old.entries entries.new.entries) }
+    ensures inside { IsInside V.eq (T.rank lo) (T.rank hi) value entries.old.entries
+        → (result ≡ Ok len) × (entries.new.entries ≡ entries.old.entries) }
+    ensures worked { OnOk result (IsWorked 2 0 entries.old entries.new) }
+    ensures err { OnErr result (entries.new.entries ≡ entries.old.entries) }
+    ensures err_counted { OnErr result (IsCounted entries.old entries.new) }
+{
+    entries.in_hand();
+    lo.in_hand();
+    hi.in_hand();
+    let Walk {
+        plan,
+        outside,
+        above,
+    } = walk;
+    if is_inside(plan, hi) {
+        return Ok(len);
+    }
+    let painted = outside.plus(length(lo, hi));
+    match joined_below(plan.left, lo) {
+        Some(first) => {
+            extend(entries, first, lo, plan)?;
+            Ok(painted)
+        }
+        None => {
+            put_at(entries, lo, value, plan, above)?;
+            Ok(painted)
+        }
+    }
+}
+
+/// Puts a value on the keys from lo up to hi, and answers how many keys there are then: the entries that the range touches
+/// are found by single looks, what is to be put in is put in, and only then is anything edited that can't be taken back.
+/// Inside an entry with an equal value nothing changes. Refused memory leaves the entries as they are.
+pub fn paint_by_splice<T: Integer, V: Eq + Clone>(
+    entries: &mut Counted<T, V>,
+    len: T::SafeLen,
+    lo: T,
+    hi: T,
+    value: V,
+) -> Result<T::SafeLen, AllocError>
+    requires order { T.rank lo ≤ℤ T.rank hi }
+    requires clones { ClonesAreAlike V.is_clone V.eq }
+    requires table { IsTable V.eq T.low T.high (T.SafeLen.number len) entries.old.entries }
+    ensures painted { IfOk result (λ len. IsTablePainted V.eq T.low T.high (T.SafeLen.number len)
+        (entry (T.rank lo) (T.rank hi) value) entries.old.entries entries.new.entries) }
+    ensures inside { IsInside V.eq (T.rank lo) (T.rank hi) value entries.old.entries
+        → (result ≡ Ok len) × (entries.new.entries ≡ entries.old.entries) }
+    ensures counted { OnOk result (IsCountedPaint entries.old entries.new) }
+    ensures err { OnErr result (entries.new.entries ≡ entries.old.entries) }
+    ensures err_counted { OnErr result (IsCounted entries.old entries.new) }
+{
+    let found = walk_by_looks(entries, len, lo, hi, &value)?;
+    paint_planned(entries, len, lo, hi, value, found)
+}
+
+/// Puts a value on the keys from lo up to hi, and answers how many keys there are then: the entries that the range touches
+/// are seen in one walk, what is to be put in is put in, and only then is anything edited that can't be taken back. Inside an
+/// entry with an equal value nothing changes. Refused memory leaves the entries as they are.
+pub fn paint<T: Integer, V: Eq + Clone>(
+    entries: &mut Counted<T, V>,
+    len: T::SafeLen,
+    lo: T,
+    hi: T,
+    value: V,
+) -> Result<T::SafeLen, AllocError>
+    requires order { T.rank lo ≤ℤ T.rank hi }
+    requires clones { ClonesAreAlike V.is_clone V.eq }
+    requires table { IsTable V.eq T.low T.high (T.SafeLen.number len) entries.old.entries }
+    ensures painted { IfOk result (λ len. IsTablePainted V.eq T.low T.high (T.SafeLen.number len)
+        (entry (T.rank lo) (T.rank hi) value) entries.old.entries entries.new.entries) }
+    ensures inside { IsInside V.eq (T.rank lo) (T.rank hi) value entries.old.entries
+        → (result ≡ Ok len) × (entries.new.entries ≡ entries.old.entries) }
+    ensures counted { OnOk result (IsCountedPaint entries.old entries.new) }
+    ensures err { OnErr result (entries.new.entries ≡ entries.old.entries) }
+    ensures err_counted { OnErr result (IsCounted entries.old entries.new) }
+{
+    let found = walk_down(entries, len, lo, hi, Some(&value))?;
+    paint_planned(entries, len, lo, hi, value, found)
+}
+
+/// Puts a value on a key, as `paint` does on a range, and answers the value that was there, which the walk finds, and how many
+/// keys there are then. Refused memory leaves the entries as they are.
+pub fn insert<T: Integer, V: Eq + Clone>(
+    entries: &mut Counted<T, V>,
+    len: T::SafeLen,
+    key: T,
+    value: V,
+) -> Result<(Option<V>, T::SafeLen), AllocError>
+    requires clones { ClonesAreAlike V.is_clone V.eq }
+    requires table { IsTable V.eq T.low T.high (T.SafeLen.number len) entries.old.entries }
+    ensures painted { IfOk result (λ r. IsTablePainted V.eq T.low T.high (T.SafeLen.number r.1)
+        (entry (T.rank key) (T.rank key) value) entries.old.entries entries.new.entries) }
+    ensures value { IfOk result (λ r. SameOption V.eq (at entries.old.entries (T.rank key)) r.0) }
+    ensures inside { IsInside V.eq (T.rank key) (T.rank key) value entries.old.entries
+        → entries.new.entries ≡ entries.old.entries }
+    ensures counted { OnOk result (IsCountedPaint entries.old entries.new) }
+    ensures err { OnErr result (entries.new.entries ≡ entries.old.entries) }
+    ensures err_counted { OnErr result (IsCounted entries.old entries.new) }
+{
+    let (found, old) = walk_with_value(entries, len, key, &value)?;
+    let rest = paint_planned(entries, len, key, key, value, found)?;
+    Ok((old, rest))
+}

@@ -1,0 +1,47 @@
+//! Entries that touch with equal values, made one.
+ghost use Rattle.std.specs.Prelude.{◌≡◌, map};
+ghost use Rattle.blaze_table.specs.Canonical.{AreKeys, IsCanonical};
+ghost use Rattle.blaze_table.specs.Count.{keys_in};
+ghost use Rattle.blaze_table.specs.Entries.{at, SameContent};
+ghost use Rattle.blaze_table.specs.Filling.{IsJoinedAt, IsJoinedBut, IsJoint, IsOrdered};
+ghost use Rattle.blaze_table.specs.Work.{IsCounted};
+
+use blaze_entries::Counted;
+use blaze_int::Integer;
+use blaze_int::compare::is_at_most;
+
+// Makes the entry that starts at a joint, if one does, one with that before it.
+fn join<T: Integer, V: Eq + Drop>(entries: &mut Counted<T, V>, key: T)
+    requires ordered { IsOrdered entries.old.entries }
+    requires keys { AreKeys T.low T.high entries.old.entries }
+    requires joint { IsJoint V.eq (at entries.old.entries) (T.rank key) }
+    ensures joined { IsJoinedAt V.eq T.low T.high (T.rank key) entries.old.entries entries.new.entries }
+    ensures counted { IsCounted entries.old entries.new }
+{
+    entries.in_hand();
+    if let Some(here) = entries.range_at_or_below(key) {
+        if is_at_most(key, here.start) {
+            if let Some(below) = entries.range_at_or_below(key.sub_one()) {
+                entries.remove(key);
+                entries.set_end(below.start, here.end);
+            }
+        }
+    }
+}
+
+/// Makes the entries at all joints one each with that before it: then the entries are canonical. No memory is taken.
+pub fn join_all<T: Integer, V: Eq + Drop>(entries: &mut Counted<T, V>, joints: Vec<T>)
+    requires ordered { IsOrdered entries.old.entries }
+    requires keys { AreKeys T.low T.high entries.old.entries }
+    requires joined { IsJoinedBut V.eq (map T.rank joints.items) entries.old.entries }
+    ensures canonical { IsCanonical V.eq entries.new.entries }
+    ensures keys { AreKeys T.low T.high entries.new.entries }
+    ensures count { keys_in entries.new.entries ≡ keys_in entries.old.entries }
+    ensures same { SameContent V.eq entries.new.entries entries.old.entries }
+    ensures counted { IsCounted entries.old entries.new }
+{
+    let mut joints = joints;
+    while let Some(key) = joints.pop() {
+        join(entries, key);
+    }
+}

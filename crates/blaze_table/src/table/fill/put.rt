@@ -1,0 +1,153 @@
+//! Entries put into gaps, one after another, and taken back where memory is refused.
+ghost use Rattle.std.specs.Prelude.{◌≡◌, [], ◌∷◌, ◌++◌, map, pos, ◌+ℤ◌, ◌<ℤ◌, None, IsTrue, OnOk, OnErr, IfOk};
+ghost use Rattle.blaze_entries.specs.Starts.{start_at, with_entry};
+ghost use Rattle.blaze_table.specs.Entries.{entry, at};
+ghost use Rattle.blaze_table.specs.Filling.{AreThere, GoesBack, IsFilledBut, IsGapFilled};
+ghost use Rattle.blaze_table.specs.Filling.{IsNextGap, IsNoted, IsNothingMade, IsOrderedTable, taken};
+ghost use Rattle.blaze_table.specs.Painted.{ClonesAreAlike};
+ghost use Rattle.blaze_table.specs.Table.{IsTable};
+ghost use Rattle.blaze_table.specs.Work.{IsCounted};
+
+use super::gap::{Gap, gap_above};
+use blaze_entries::{Counted, Entries};
+use blaze_int::compare::length;
+use blaze_int::{Integer, SafeLength};
+use std::alloc::{AllocError, Global};
+
+/// What a fill has put in: the starts of its entries, and the keys at which entries are to be joined with the one before.
+#[derive(Drop)]
+pub struct Made<T> {
+    pub starts: Vec<T>,
+    pub joints: Vec<T>,
+}
+
+impl<T> Made<T> {
+    /// Nothing. No memory is taken.
+    pub fn new(alloc: Global) -> Self
+        ensures { IsNothingMade result.starts.items result.joints.items }
+    {
+        Made {
+            starts: Vec::new(alloc),
+            joints: Vec::new(alloc),
+        }
+    }
+}
+
+// Adds a key to the joints where it is one.
+fn note<T: Integer>(joints: &mut Vec<T>, key: T, is_joint: bool) -> Result<(), AllocError>
+    ensures { OnOk result (IsNoted is_joint (T.rank key) (map T.rank joints.old.items)
+        (map T.rank joints.new.items)) }
+{
+    if is_joint {
+        joints.push(key)?;
+    }
+    Ok(())
+}
+
+// Adds the key after one to the joints where it is one.
+fn note_after<T: Integer>(joints: &mut Vec<T>, key: T, is_joint: bool) -> Result<(), AllocError>
+    requires { IsTrue is_joint → T.rank key <ℤ T.high }
+    ensures { OnOk result (IsNoted is_joint (T.rank key +ℤ pos 1) (map T.rank joints.old.items)
+        (map T.rank joints.new.items)) }
+{
+    if is_joint {
+        joints.push(key.add_one())?;
+    }
+    Ok(())
+}
+
+// Puts an entry in, at a start where none is, and remembers the start. Refused memory leaves both.
+fn put<T: Integer, V: Drop>(
+    entries: &mut Counted<T, V>,
+    starts: &mut Vec<T>,
+    gap: Gap<T>,
+    value: V,
+) -> Result<(), AllocError>
+    requires absent { start_at (T.rank gap.start) entries.old.entries ≡ None }
+    ensures ok { OnOk result
+        (entries.new.entries ≡ with_entry (entry (T.rank gap.start) (T.rank gap.end) value) entries.old.entries) }
+    ensures starts { OnOk result (starts.new.items ≡ starts.old.items ++ gap.start ∷ []) }
+    ensures counted { IsCounted entries.old entries.new }
+    ensures err { OnErr result (entries.new.entries ≡ entries.old.entries) }
+    ensures err_starts { OnErr result (starts.new.items ≡ starts.old.items) }
+{
+    entries.in_hand();
+    entries.insert(gap.start, gap.end, value)?;
+    if starts.push(gap.start).is_err() {
+        entries.remove(gap.start);
+        return Err(AllocError);
+    }
+    Ok(())
+}
+
+// Gives a gap an entry of its own.
+fn fill_gap<T: Integer, V: Drop>(
+    entries: &mut Counted<T, V>,
+    made: &mut Made<T>,
+    gap: Gap<T>,
+    value: V,
+) -> Result<(), AllocError>
+    requires absent { start_at (T.rank gap.start) entries.old.entries ≡ None }
+    requires above { IsTrue gap.equal_above → T.rank gap.end <ℤ T.high }
+    ensures ok { OnOk result (IsGapFilled (T.rank gap.start) (T.rank gap.end) value
+        gap.equal_below gap.equal_above entries.old.entries entries.new.entries
+        (map T.rank made.old.starts.items) (map T.rank made.new.starts.items)
+        (map T.rank made.old.joints.items) (map T.rank made.new.joints.items)) }
+    ensures counted { IsCounted entries.old entries.new }
+    ensures err { OnErr result (entries.new.entries ≡ entries.old.entries) }
+    ensures err_starts { OnErr result (made.new.starts.items ≡ made.old.starts.items) }
+{
+    note(&mut made.joints, gap.start, gap.equal_below)?;
+    note_after(&mut made.joints, gap.end, gap.equal_above)?;
+    put(entries, &mut made.starts, gap, value)?;
+    Ok(())
+}
+
+/// Gives each gap from a first one up to `hi` an entry of its own, the last one with the value, the others with clones,
+/// and answers the count of keys, where `len` is that before. Refused memory leaves what can be taken back.
+pub fn put_all<T: Integer, V: Eq + Clone>(
+    entries: &mut Entries<T, V>,
+    made: &mut Made<T>,
+    len: T::SafeLen,
+    hi: T,
+    first: Gap<T>,
+    value: V,
+) -> Result<T::SafeLen, AllocError>
+    requires clones { ClonesAreAlike V.is_clone V.eq }
+    requires table { IsTable V.eq T.low T.high (T.SafeLen.number len) entries.old.counted.entries }
+    requires first { IsNextGap V.eq (at entries.old.counted.entries) value (T.rank first.start) (T.rank hi)
+        (T.rank first.start) (T.rank first.end) first.equal_below first.equal_above }
+    requires made { IsNothingMade made.old.starts.items made.old.joints.items }
+    ensures table { IfOk result (λ new. IsOrderedTable T.low T.high (T.SafeLen.number new) entries.new.counted.entries) }
+    ensures filled { OnOk result (IsFilledBut V.eq (T.rank first.start) (T.rank hi) value
+        (map T.rank made.new.starts.items) (map T.rank made.new.joints.items)
+        entries.old.counted.entries entries.new.counted.entries) }
+    ensures counted { IsCounted entries.old.counted entries.new.counted }
+    ensures back { OnErr result (GoesBack (map T.rank made.new.starts.items)
+        entries.new.counted.entries entries.old.counted.entries) }
+{
+    first.start.in_hand();
+    hi.in_hand();
+    let mut gap = first;
+    let mut sum = len;
+    while let Some(next) = gap_above(entries, gap.end, hi, &value) {
+        let clone = value.clone()?;
+        fill_gap(&mut entries.counted, made, gap, clone)?;
+        sum = sum.plus(length(gap.start, gap.end));
+        gap = next;
+    }
+    fill_gap(&mut entries.counted, made, gap, value)?;
+    Ok(sum.plus(length(gap.start, gap.end)))
+}
+
+/// Takes the entries that start at some keys out, the last first.
+pub fn take_back<T: Integer, V: Drop>(entries: &mut Counted<T, V>, starts: Vec<T>)
+    requires { AreThere (map T.rank starts.items) entries.old.entries }
+    ensures entries { entries.new.entries ≡ taken (map T.rank starts.items) entries.old.entries }
+    ensures counted { IsCounted entries.old entries.new }
+{
+    let mut starts = starts;
+    while let Some(start) = starts.pop() {
+        entries.remove(start);
+    }
+}
