@@ -75,6 +75,8 @@ const Work works[] = {
     {"split_off in the middle", 5, 100'000, 16, 1, "call"},
     {"append", 6, 100'000, 4, 1, "call"},
     {"pop_first", 7, 100'000, 400'000, 1, "key"},
+    {"pop_last", 26, 100'000, 400'000, 1, "key"},
+    {"ranges_retain, all kept", 27, 100'000, 1'000, 1e5, "entry"},
     {"`a \\| b`, equal sizes", 8, 1'000, 100'000, 2 * thousand, "entry"},
     {"`a \\| b`, equal sizes", 8, 100'000, 1'000, 200 * thousand, "entry"},
     {"`a \\| b`, b of a tenth", 9, 100'000, 1'000, 110 * thousand, "entry"},

@@ -178,6 +178,26 @@ fn pop_first(check: bool, size: u64, count: u64) -> u64 {
     checksum(check, sum, &map)
 }
 
+fn pop_last(check: bool, size: u64, count: u64) -> u64 {
+    let mut map = prepared(1, size, 16, 0);
+    let mut sum = 0;
+    for _ in 0..count {
+        if let Some((key, value)) = map.pop_last() {
+            sum = mix(mix(sum, key as u64), value);
+        }
+    }
+    checksum(check, sum, &map)
+}
+
+/// All entries kept, again and again.
+fn retain(check: bool, size: u64, count: u64) -> u64 {
+    let mut map = prepared(1, size, 16, 0);
+    for _ in 0..count {
+        map.ranges_retain(|range, value| 0 <= *range.start() || *value == 0);
+    }
+    checksum(check, 0, &map)
+}
+
 /// An operation on two lent maps, again and again.
 fn combine(check: bool, size: u64, other: u64, count: u64, operation: fn(&Map, &Map) -> Map) -> u64 {
     let map = prepared(1, size, 16, 0);
@@ -289,7 +309,7 @@ fn union_of_many(check: bool, maps: u64, count: u64) -> u64 {
 pub extern "C" fn plain_run(work: u32, size: u64, count: u64) -> u64 {
     let check = work >= CHECKED;
     // (only what the Rust crate's way differs in)
-    if cfg!(as_crate) && !matches!(work % CHECKED, 0..=3 | 6..=11 | 19) {
+    if cfg!(as_crate) && !matches!(work % CHECKED, 0..=3 | 6..=11 | 19 | 26 | 27) {
         return 0;
     }
     let sum = match work % CHECKED {
@@ -318,6 +338,8 @@ pub extern "C" fn plain_run(work: u32, size: u64, count: u64) -> u64 {
         23 => combine_by_value(check, size, count, |map, other| map.difference_by_value(&other)),
         24 => within(size, count),
         25 => fill(check, size, count),
+        26 => pop_last(check, size, count),
+        27 => retain(check, size, count),
         _ => return 0,
     };
     sum | 1

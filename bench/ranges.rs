@@ -11,6 +11,7 @@ use splice::{Held, give, held, hold};
 use std::collections::BTreeMap;
 use std::mem::{replace, take};
 use std::ops::Bound::{Excluded, Unbounded};
+use std::ops::RangeInclusive;
 
 /// The entries by their first keys: the last key and the value.
 #[derive(Clone)]
@@ -55,6 +56,31 @@ impl<V: Eq + Clone> RangeMap<V> {
         let old = self.get(key).cloned();
         self.paint(key, key, value);
         old
+    }
+
+    /// Takes the greatest key out, and answers it with the value that was there.
+    pub fn pop_last(&mut self) -> Option<(i64, V)> {
+        let mut last = self.tree.last_entry()?;
+        let (start, end) = (*last.key(), last.get().0);
+        self.len -= 1;
+        if start < end {
+            last.get_mut().0 = end - 1;
+            return Some((end, held(&last.get().1).clone()));
+        }
+        Some((end, give(last.remove().1)))
+    }
+
+    /// Keeps the entries at which a closure answers true.
+    pub fn ranges_retain(&mut self, mut keeps: impl FnMut(&RangeInclusive<i64>, &V) -> bool) {
+        let mut len = 0;
+        self.tree.retain(|start, (end, value)| {
+            let keeps = keeps(&(*start..=*end), held(value));
+            if keeps {
+                len += length(*start, *end);
+            }
+            keeps
+        });
+        self.len = len;
     }
 
     /// The value at a key.

@@ -16,26 +16,8 @@
 # (Debian: libboost-dev) it leaves Boost out. It is no part of the merge gate, and no test rests on a time.
 set -euo pipefail
 cd "$(dirname "$(readlink -f "${BASH_SOURCE[0]}")")"
-root="$(cd .. && pwd)"
-kit="$(dirname "$(rt doc)")"
-mkdir -p out
-
-echo "bench: proving and building the library and the program" >&2
-for crate in blaze_int blaze_entries blaze_table blaze_streams blaze_iters range_map_blaze range_map_multi bench_library; do
-    if ! (cd "$root/crates/$crate" && rt lib) >out/log 2>&1; then
-        cat out/log >&2
-        exit 1
-    fi
-done
+source ./sides.sh
 "$root/prove" rangemap
-
-echo "bench: building the other sides" >&2
-rust=(rustc --edition 2024 -O -C target-cpu=x86-64-v2 -C panic=abort -A dead_code)
-for way in one_pass planned as_crate; do
-    rustc --edition 2024 -O -C debug-assertions -A dead_code --cfg "$way" --test -o out/plain_test plain.rs
-    out/plain_test --quiet >&2
-    "${rust[@]}" --cfg "$way" --crate-name "$way" --crate-type staticlib -o "out/lib$way.a" plain.rs
-done
 "${rust[@]}" -o out/plain_lines plain_lines.rs
 if echo '#include <boost/icl/interval_map.hpp>' | g++ -E -x c++ - >/dev/null 2>&1; then
     g++ -std=c++17 -O2 -Wall -Wextra -c -o out/boost.o boost.cpp
@@ -44,9 +26,7 @@ else
     echo 'extern "C" unsigned long long boost_run(unsigned, unsigned long long, unsigned long long) { return 0; }' \
         | g++ -O2 -c -o out/boost.o -x c++ -
 fi
-# (each side in Rust brings std)
-g++ -std=c++17 -O2 -Wall -Wextra -Wl,--allow-multiple-definition -o out/driver driver.cpp out/boost.o out/libone_pass.a \
-    out/libplanned.a out/libas_crate.a "$root/crates/bench_library/out/libbench_library.a" "$kit/c/liblibc_c.a"
+link driver driver.cpp out/boost.o
 
 folder="$(mktemp -d)"
 trap 'rm -rf "$folder"' EXIT

@@ -1,18 +1,17 @@
 #!/usr/bin/env bash
 # Runs each line of tests/bad_lines.txt alone after a few good ones. It must be bad: `bad line N` is all that is printed of it,
 # and the status is 2. Then it is run with arguments that are not understood: the usage on standard error, status 2. The last
-# line is 'N passed, M failed'. SCRIPT_PROGRAM names the program; without it `./prove script` builds one where
-# that is needed.
+# line is 'N passed, M failed'. SCRIPT_PROGRAM names the program; without it `./prove script` builds one where that is needed.
+#
+#     tests/bad_lines.sh --cases FOLDER    runs nothing: the lines and what is to be printed, as cases for `rt try --cases`
 set -euo pipefail
 here="$(cd "$(dirname "${BASH_SOURCE[0]}")" && pwd)"
+cases=''
+if [ "${1:-}" = --cases ]; then cases="$2"; fi
+source "$here/judge.sh"
 program="${SCRIPT_PROGRAM:-$here/../crates/script/out/script}"
-[ -n "${SCRIPT_PROGRAM:-}" ] || "$here/../prove" script
+[ -n "$cases${SCRIPT_PROGRAM:-}" ] || "$here/../prove" script
 
-work="$(mktemp -d)"
-trap 'rm -rf "$work"' EXIT
-
-passed=0
-failed=0
 before=()
 while IFS= read -r line; do
     case "$line" in
@@ -24,7 +23,14 @@ while IFS= read -r line; do
     # (each line but that of the key type is answered)
     wanted=''
     for _ in "${before[@]:1}"; do wanted+=$'()\n'; done
-    wanted+="bad line $((${#before[@]} + 1)), status 2"
+    wanted+="bad line $((${#before[@]} + 1))"
+    if [ -n "$cases" ]; then
+        passed=$((passed + 1))
+        printf '%s\n' "${before[@]}" "$line" "a len" >"$cases/bad_line_$passed"
+        printf '%s\n' "$wanted" >"$cases/bad_line_$passed.stdout"
+        continue
+    fi
+    wanted+=", status 2"
     # (from a file: the program reads nothing after a bad line, and a pipe would break)
     printf '%s\n' "${before[@]}" "$line" "a len" >"$work/script"
     got="$("$program" <"$work/script" && echo ", status 0" || echo ", status $?")"
@@ -35,6 +41,7 @@ while IFS= read -r line; do
         echo "'$line': wanted '$wanted', got '$got'"
     fi
 done <"$here/bad_lines.txt"
+if [ -n "$cases" ]; then exit; fi
 
 for arguments in mark 'mark x' 'mark +4' 'mark -4' 'mark 4 5' 'run 4' $'\xff' $'mark \xff'; do
     read -ra words <<<"$arguments"
@@ -47,5 +54,4 @@ for arguments in mark 'mark x' 'mark +4' 'mark -4' 'mark 4 5' 'run 4' $'\xff' $'
         echo "arguments '$arguments': wanted '$wanted', got '$got'"
     fi
 done
-echo "$passed passed, $failed failed"
-[ "$failed" = 0 ]
+tell

@@ -5,18 +5,11 @@
 # line is 'N passed, M failed'. RANGEMAP_PROGRAM names the program; without it `./prove rangemap` builds one where that is needed.
 set -euo pipefail
 here="$(cd "$(dirname "${BASH_SOURCE[0]}")" && pwd)"
+source "$here/judge.sh"
 program="${RANGEMAP_PROGRAM:-$here/../crates/rangemap/out/rangemap}"
 [ -n "${RANGEMAP_PROGRAM:-}" ] || "$here/../prove" rangemap
 
-work="$(mktemp -d)"
-trap 'rm -rf "$work"' EXIT
-cc -shared -fPIC -O1 -o "$work/refuse.so" "$here/refuse.c"
-
-passed=0
-failed=0
-judge() { # what is wanted, what was got, what was run
-    if [ "$1" = "$2" ]; then passed=$((passed + 1)); else failed=$((failed + 1)) && echo "$3: wanted '$1', got '$2'"; fi
-}
+make_refuse
 
 # What the program prints of a file, and its status. (A command's output loses its last LFs, so the status stands behind it.)
 run() { # a file
@@ -72,5 +65,4 @@ printf '\n\n' >"$text"
 for nth in 1 2 3; do
     judge 'status 0' "$(REFUSE_ALL=1 REFUSE_NTH=$nth LD_PRELOAD="$work/refuse.so" run "$text")" "empty lines, request $nth refused"
 done
-echo "$passed passed, $failed failed"
-[ "$failed" = 0 ]
+tell

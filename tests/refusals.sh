@@ -20,22 +20,15 @@
 # SCRIPT_PROGRAM names a program to sweep; without it `./prove script` builds one where that is needed.
 set -euo pipefail
 here="$(cd "$(dirname "${BASH_SOURCE[0]}")" && pwd)"
+source "$here/judge.sh"
 only="${1:-}"
 program="${SCRIPT_PROGRAM:-$here/../crates/script/out/script}"
-work="$(mktemp -d)"
-trap 'rm -rf "$work"' EXIT
 [ -n "${SCRIPT_PROGRAM:-}" ] || "$here/../prove" script
-cc -shared -fPIC -O1 -o "$work/refuse.so" "$here/refuse.c"
+make_refuse
 
 # What is printed after each call.
 after=("a list" "a len" "b list" "b len" "c list" "c len" "d list" "s list" "t list")
 printed=${#after[@]}
-
-passed=0
-failed=0
-judge() { # what is wanted, what was got, what was run
-    if [ "$1" = "$2" ]; then passed=$((passed + 1)); else failed=$((failed + 1)) && echo "$3: wanted '$1', got '$2'"; fi
-}
 
 # Runs the program on the lines before the call, those given, and the lines after it. `answer` is then the answer of the last
 # line given, `left` what the lines after it print, `status` the exit status.
@@ -235,5 +228,4 @@ while IFS= read -r line; do
             ;;
     esac
 done < <(cat "$here/refusals.txt" && echo)
-echo "$passed passed, $failed failed"
-[ "$failed" = 0 ]
+tell

@@ -10,19 +10,12 @@
 # REFUSED_CALLS_PROGRAM names the program; without it the one that the gate built is taken.
 set -euo pipefail
 here="$(cd "$(dirname "${BASH_SOURCE[0]}")" && pwd)"
+source "$here/judge.sh"
 program="${REFUSED_CALLS_PROGRAM:-$here/../crates/refused_calls/out/refused_calls}"
-work="$(mktemp -d)"
-trap 'rm -rf "$work"' EXIT
-cc -shared -fPIC -O1 -o "$work/refuse.so" "$here/refuse.c"
+make_refuse
 
 mapfile -t made <"$here/../crates/refused_calls/stdout"
 mapfile -t kept <"$here/refused_calls.txt"
-
-passed=0
-failed=0
-judge() { # what is wanted, what was got, what was run
-    if [ "$1" = "$2" ]; then passed=$((passed + 1)); else failed=$((failed + 1)) && echo "$3: wanted '$1', got '$2'"; fi
-}
 
 # Runs the program with one request refused, 0 for none: `got` is what it prints and its status, `told` what the preloaded code
 # says: how many requests there were, and in which call one was refused.
@@ -63,5 +56,4 @@ for place in "${!kept[@]}"; do
     if [ "${kept[place]}" = - ]; then continue; fi
     judge yes "$([ "${refusals[place]}" -gt 0 ] && echo yes || echo no)" "a request that '${made[place]}' needs"
 done
-echo "$passed passed, $failed failed"
-[ "$failed" = 0 ]
+tell

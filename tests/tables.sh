@@ -7,24 +7,20 @@
 # 'N passed, M failed'.
 set -euo pipefail
 cd "$(dirname "${BASH_SOURCE[0]}")/.."
+source tests/judge.sh
 names=(scripts regions ports calendar routes picture)
-work="$(mktemp -d)"
-trap 'rm -rf "$work"' EXIT
 
-passed=0
-failed=0
-judge() { # what is wanted, what was got, what was run
-    if [ "$1" = "$2" ]; then passed=$((passed + 1)); else failed=$((failed + 1)) && echo "$3: wanted '$1', got '$2'"; fi
-}
 expected() { python3 "tests/tables/$1.py"; } # of the table on standard input
 program_of() { echo "crates/$1/out/$1"; }
 
 # ---- Excerpts
 for name in "${names[@]}" tasks; do judge "$(cat "crates/$name/stdout")" "$(expected "$name" <"crates/$name/stdin")" "the excerpt of $name"; done
 
-# ---- Lines of docs/TASKS.md
+# ---- Lines of docs/TASKS.md, which `rt fmt` may have broken
+unbroken() { tr -d ' \n' | sed 's/,)/)/g'; }
+tasks="$(cat crates/tasks/src/*.rt | unbroken)"
 while IFS= read -r line; do
-    judge yes "$(grep -q -F -- "$line" crates/tasks/src/*.rt && echo yes || echo no)" "'$line' of docs/TASKS.md"
+    judge yes "$(grep -q -F -- "$(unbroken <<<"$line")" <<<"$tasks" && echo yes || echo no)" "'$line' of docs/TASKS.md"
 done < <(sed -n '/^| [^|]/{s/\\|/\x01/g; s/^|[^|]*|[^|]*|//p}' docs/TASKS.md | grep -o '`[^`]*`' | tr -d '`' | tr '\001' '|')
 
 built=()
@@ -75,6 +71,7 @@ for name in "${built[@]}"; do
     done
 done
 if [ -x "$(program_of picture)" ]; then
+    judge 0 "$(printf 'svg\n1 9 a\n99 99 b\n' | "$(program_of picture)" | grep -c '></text>')" "a gap in a picture has no text"
     judge "$(cat docs/example.svg)" "$(printf 'svg\n2 5 a\n3 4 b\n' | "$(program_of picture)")" "docs/example.svg"
 fi
 
@@ -84,6 +81,10 @@ status_of() { # the program, its standard input; its standard error goes to $wor
     "$(program_of "$1")" <"$2" >"$work/printed" 2>"$work/told" || status=$?
     echo "$status"
 }
+for name in "${built[@]}"; do
+    { sed 's/$/\r/' "crates/$name/stdin" && printf '\r\n'; } >"$work/ended"
+    judge "0 $(cat "crates/$name/stdout")" "$(status_of "$name" "$work/ended") $(cat "$work/printed")" "$name: lines that end with CRLF, and an empty one"
+done
 while IFS='|' read -r name line; do
     if [ ! -x "$(program_of "$name")" ]; then continue; fi
     { head -n 2 "crates/$name/stdin" && echo "$line" && tail -n 2 "crates/$name/stdin"; } >"$work/faulty"
@@ -95,7 +96,7 @@ if [ -x "$(program_of scripts)" ]; then
     printf '0041 ; Latin\n\xff\n' >"$work/faulty"
     judge "2 line 2: �" "$(status_of scripts "$work/faulty") $(cat "$work/told")" "scripts: a line that is no text"
 fi
-cc -shared -fPIC -O1 -o "$work/refuse.so" tests/refuse.c
+make_refuse
 for name in "${built[@]}"; do
     judge 1 "$(status_of "$name" "$work")" "$name: a folder as input"
     status=0
@@ -116,5 +117,4 @@ for name in "${built[@]}"; do
     done
     judge yes "$([ "$refusals" -gt 0 ] && echo yes || echo no)" "$name: requests are made that are needed"
 done
-echo "$passed passed, $failed failed"
-[ "$failed" = 0 ]
+tell

@@ -4,16 +4,9 @@
 # programs are to be proved before; where ./rangemap is not, it is proved first. The last line is 'N passed, M failed'.
 set -euo pipefail
 here="$(cd "$(dirname "${BASH_SOURCE[0]}")" && pwd)"
+source "$here/judge.sh"
 top="$(cd "$here/.." && pwd)"
 "$top/prove" rangemap
-work="$(mktemp -d)"
-trap 'rm -rf "$work"' EXIT
-
-passed=0
-failed=0
-judge() { # what is wanted, what was got, what was run
-    if [ "$1" = "$2" ]; then passed=$((passed + 1)); else failed=$((failed + 1)) && echo "$3: wanted '$1', got '$2'"; fi
-}
 
 # Runs a command and compares its status and its standard output; `told` is then its standard error.
 run() { # what it is called here, the status and the output that are wanted, the command
@@ -47,7 +40,7 @@ for program in rangemap script prove; do
     run "$program with a word after --help" 2 '' "$top/$program" --help me
 done
 run "script's help" 0 "$(cat "$top/tools/script.help")" "$top/script" --help
-run "prove's help" 0 'usage: ./prove [rangemap|script]' "$top/prove" --help
+run "prove's help" 0 'usage: ./prove [NAME], NAME one of rangemap script scripts regions ports calendar routes picture; without it rangemap and script' "$top/prove" --help
 
 # ---- Answers of the proved program
 run "an answer" 0 "$answers" "$top/rangemap" <"$work/lines"
@@ -72,7 +65,8 @@ case "$1" in
     version) echo "a stand-in" ;;
     lib) echo "${PWD##*/}" >>"$STAND_IN/proved" ;;
     run) mkdir -p out && cp "$STAND_IN/program" "out/${PWD##*/}" ;;
-    try) cat "$STAND_IN/answers" && cat "$STAND_IN/said" >&2 && exit "$(cat "$STAND_IN/status")" ;;
+    try) echo "$*" >"$STAND_IN/tried" && if [ -f "$STAND_IN/sleeps" ]; then exec sleep 60; fi
+        cat "$STAND_IN/answers" && cat "$STAND_IN/said" >&2 && exit "$(cat "$STAND_IN/status")" ;;
 esac
 END
 printf '#!/bin/sh\nexec cat\n' >"$work/program"
@@ -91,6 +85,7 @@ tells "a try that ends" "not proved yet" "not proved: built without a proof and 
 tried "a try without memory" 3 "run=ended status=3 runners=1 proved=no" 3 "error line 2"
 tried "a try with a bad line" 2 "run=ended status=2 runners=2 proved=no" 2 "error line 2"
 tells "a try with a bad line" "line 2 is bad: 'get 4 '"
+judge "try --seconds 60 --" "$(cat "$work/tried")" "the seconds of a try with a short input"
 for end in "1 none" "2 none" "3 none" "4 fault" "5 differ" "6 no-answer"; do
     tried "a try with status $end" "${end% *}" "run=${end#* } proved=no" 70 ''
     tells "a try with status $end" "checked: so it went" "\`./prove rangemap\` proves it"
@@ -98,6 +93,22 @@ done
 head -c $((64 << 20)) /dev/zero >"$work/zeros"
 echo >>"$work/zeros"
 run "a try with too much input" 70 '' stand_in "$work/tree/rangemap" <"$work/zeros"
+head -c 3000000 "$work/zeros" >"$work/long"
+run "a try with a longer input" 70 '' stand_in "$work/tree/rangemap" <"$work/long"
+judge "try --seconds 360 --" "$(cat "$work/tried")" "the seconds of a try with a longer input"
+run "no toolchain" 70 '' env PATH=/usr/bin:/bin "$work/tree/rangemap" <"$work/bad"
+judge "rangemap: no answer: not proved yet, and there is no toolchain (\`rt\`) here" "$told" "no toolchain: standard error"
+# (what a key Ctrl-C sends to all of a terminal's programs)
+interrupt='
+import os, signal, subprocess, sys, time
+process = subprocess.Popen(sys.argv[1:], start_new_session=True)
+time.sleep(2)
+os.killpg(process.pid, signal.SIGINT)
+sys.exit(process.wait())'
+touch "$work/sleeps"
+run "a try that is interrupted" 130 '' stand_in python3 -c "$interrupt" "$work/tree/rangemap" <"$work/bad"
+judge "rangemap: stopped" "$(tail -n 1 "$work/told")" "a try that is interrupted: standard error"
+rm "$work/sleeps"
 # (a terminal's output and errors are one)
 terminal='import pty, sys; sys.exit(pty.spawn(sys.argv[1:]) >> 8)'
 status=0
@@ -129,5 +140,4 @@ sed -i '$d' "$work/tree/crates/blaze_int/src/lib.rt"
 run "an answer without a proof" 2 "$bad_answers" "$work/tree/rangemap" <"$work/bad"
 tells "an answer without a proof" "not proved yet" "line 2 is bad: 'get 4 '" "not proved: built without a proof"
 
-echo "$passed passed, $failed failed"
-[ "$failed" = 0 ]
+tell

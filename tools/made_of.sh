@@ -8,6 +8,8 @@ declare -A proof_takes=([rangemap]="25 to 40 minutes on four processors" [script
 proof_time() { echo "${proof_takes[$1]:-${proof_takes[rangemap]}}"; }
 is_program() { case " ${programs[*]} " in *" $1 "*) return 0 ;; *) return 1 ;; esac }
 
+clock() { printf '%d:%02d' $(($1 / 60)) $(($1 % 60)); } # minutes:seconds
+
 program_of() { echo "$root/crates/$1/out/$1"; }
 note_of() { echo "$root/crates/$1/out/made_of"; }
 

@@ -127,3 +127,24 @@ pub fn pop_first(work: Work) -> Result<u64, AllocError> {
     }
     Ok(checksum(work.check, sum, &map))
 }
+
+/// The greatest keys, one by one.
+pub fn pop_last(work: Work) -> Result<u64, AllocError> {
+    let mut map = even(work, 1)?;
+    let mut sum = 0;
+    for _ in 0..work.count {
+        if let Some((key, value)) = map.pop_last()? {
+            sum = mix(mix(sum, key.cast_unsigned()), value);
+        }
+    }
+    Ok(checksum(work.check, sum, &map))
+}
+
+/// All entries kept, again and again.
+pub fn retain(work: Work) -> Result<u64, AllocError> {
+    let mut map = even(work, 1)?;
+    for _ in 0..work.count {
+        map.ranges_retain(|range, value| 0 <= *range.start() || *value == 0);
+    }
+    Ok(checksum(work.check, 0, &map))
+}

@@ -8,7 +8,7 @@ mod many;
 mod prepared;
 mod whole;
 
-use crate::changes::{Change, change_maps, clumps, fill, get, pop_first};
+use crate::changes::{Change, change_maps, clumps, fill, get, pop_first, pop_last, retain};
 use crate::makes::{make, paint_one_by_one};
 use crate::many::union_of_many;
 use crate::prepared::Work;
@@ -48,6 +48,8 @@ fn on_keys(work: Work, number: u32) -> Option<Result<u64, AllocError>> {
         16 => Some(walk(work, 1)),
         24 => Some(within(work)),
         25 => Some(fill(work)),
+        26 => Some(pop_last(work)),
+        27 => Some(retain(work)),
         _ => on_maps(work, number),
     }
 }

@@ -1,55 +1,64 @@
 //! A picture in the form SVG.
 use crate::{Shown, place};
 use std::alloc::{AllocError, Global};
+use std::collections::BTreeMap;
 use table_lines::Fault;
 
 /// How many pixels the bars take side by side.
 const WIDTH: usize = 600;
 
-/// How many pixels a bar takes that its range is written into.
-const ROOM: usize = 80;
+/// How many pixels a character of a label takes at most.
+const CHARACTER: usize = 9;
 
 /// The colours of words, in the order in which these first come; then from the first again.
 const COLOURS: [&str; 6] = [
     "#4e79a7", "#f28e2b", "#59a14f", "#e15759", "#b07aa1", "#9c755f",
 ];
 
-/// The words, in the order in which they first come.
-fn legend_of(alloc: Global, shown: &Shown) -> Result<Vec<&String>, AllocError> {
-    let mut legend = Vec::new(alloc);
+/// The words in the order in which they first come, and the place of each in it.
+#[derive(Drop)]
+struct Legend<'a> {
+    words: Vec<&'a str>,
+    places: BTreeMap<&'a str, usize>,
+}
+
+/// The legend of a map's words. A search for each entry.
+fn legend_of(alloc: Global, shown: &Shown) -> Result<Legend<'_>, AllocError> {
+    let mut words = Vec::new(alloc);
+    let mut places = BTreeMap::new(alloc);
     for (_, word) in shown.range_values() {
         if let Some(word) = word
-            && !legend.contains(&word)
+            && !places.contains_key(word.as_str())
         {
-            legend.push(word)?;
+            places.insert(word.as_str(), words.len())?;
+            words.push(word.as_str())?;
         }
     }
-    Ok(legend)
+    Ok(Legend { words, places })
 }
 
 /// The colour of a word; a gap has none.
-fn fill_of(legend: &[&String], word: Option<&String>) -> &'static str {
-    match word.and_then(|word| legend.iter().position(|other| *other == word)) {
-        Some(place) => COLOURS[place % COLOURS.len()],
+fn fill_of(legend: &Legend<'_>, word: Option<&String>) -> &'static str {
+    match word.and_then(|word| legend.places.get(word.as_str())) {
+        Some(place) => COLOURS[*place % COLOURS.len()],
         None => "none",
     }
 }
 
-/// Prints the bars, and the ranges of entries in those that have room.
-fn print_bars(rt: &HostRuntime, shown: &Shown, legend: &[&String]) -> Result<(), Fault> {
+/// Prints the bars, and in those of entries their ranges, where these have room.
+fn print_bars(rt: &HostRuntime, shown: &Shown, legend: &Legend<'_>) -> Result<(), Fault> {
     for (keys, word) in shown.range_values() {
         let (left, width) = place(shown, &keys, WIDTH);
         let (x, fill) = (left.saturating_add(20), fill_of(legend, word.as_ref()));
         println!(rt;
             "<rect x=\"{x}\" y=\"20\" width=\"{width}\" height=\"40\" fill=\"{fill}\" stroke=\"#888\"/>"
         )?;
-        if ROOM <= width {
+        let label = format!(in rt.alloc(); "{keys:?}")?;
+        if word.is_some() && label.len().saturating_mul(CHARACTER) <= width {
             let middle = x.saturating_add(width / 2);
-            print!(rt; "<text x=\"{middle}\" y=\"45\" text-anchor=\"middle\" fill=\"#fff\">")?;
-            if word.is_some() {
-                print!(rt; "{keys:?}")?;
-            }
-            println!(rt; "</text>")?;
+            println!(rt;
+                "<text x=\"{middle}\" y=\"45\" text-anchor=\"middle\" fill=\"#fff\">{label}</text>"
+            )?;
         }
     }
     Ok(())
@@ -58,12 +67,12 @@ fn print_bars(rt: &HostRuntime, shown: &Shown, legend: &[&String]) -> Result<(),
 /// Prints the picture: a bar for each entry and each gap, and below them the words with their colours.
 pub fn print(rt: &HostRuntime, shown: &Shown) -> Result<(), Fault> {
     let legend = legend_of(rt.alloc(), shown)?;
-    let height = legend.len().saturating_mul(22).saturating_add(90);
+    let height = legend.words.len().saturating_mul(22).saturating_add(90);
     println!(rt;
         "<svg xmlns=\"http://www.w3.org/2000/svg\" width=\"640\" height=\"{height}\" font-family=\"sans-serif\" font-size=\"14\">"
     )?;
-    print_bars(rt, shown, legend.as_slice())?;
-    for (place, word) in legend.iter().enumerate() {
+    print_bars(rt, shown, &legend)?;
+    for (place, word) in legend.words.iter().enumerate() {
         let y = place.saturating_mul(22).saturating_add(80);
         let (base, fill) = (y.saturating_add(12), COLOURS[place % COLOURS.len()]);
         println!(rt; "<rect x=\"20\" y=\"{y}\" width=\"14\" height=\"14\" fill=\"{fill}\"/>")?;

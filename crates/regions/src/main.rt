@@ -3,17 +3,21 @@
 #![tactic(auto)]
 
 use range_map_blaze::RangeMapBlaze;
+use std::alloc::{AllocError, Global};
+use std::collections::BTreeMap;
 use std::ops::RangeInclusive;
 use std::process::ExitCode;
 use table_lines::{Fault, Table, hexadecimal, length, run};
 
 type Map = RangeMapBlaze<u64, String>;
 
-/// The regions of a process, at first and later. A region has its permissions and its name, or `-`, as its value.
+/// The regions of a process, at first and later, and whether the last line was empty. A region has its permissions and its name, or
+/// `-`, as its value.
 #[derive(Drop)]
 struct Regions {
     first: Map,
     later: Option<Map>,
+    is_parted: bool,
 }
 
 /// The bytes, the permissions and the name of a line `START-END PERMISSIONS OFFSET DEVICE INODE NAME`; END is the byte after.
@@ -27,11 +31,19 @@ fn read(line: &str) -> Option<(RangeInclusive<u64>, &str, &str)> {
     Some((range, permissions, if name.is_empty() { "-" } else { name }))
 }
 
-/// The bytes of the first region that has the same value and length as another.
-fn place_of(map: &Map, bytes: &RangeInclusive<u64>, value: &String) -> Option<RangeInclusive<u64>> {
-    map.range_values()
-        .find(|(other, name)| *name == value && length(other) == length(bytes))
-        .map(|(other, _)| other)
+/// The bytes of the first region of each length and value.
+type Places<'a> = BTreeMap<(u128, &'a str), RangeInclusive<u64>>;
+
+/// The places of a map's regions. A search for each.
+fn places_of(alloc: Global, map: &Map) -> Result<Places<'_>, AllocError> {
+    let mut places = BTreeMap::new(alloc);
+    for (bytes, value) in map.range_values() {
+        let key = (length(&bytes), value.as_str());
+        if !places.contains_key(&key) {
+            places.insert(key, bytes)?;
+        }
+    }
+    Ok(places)
 }
 
 /// Prints how many regions and bytes there are, and the gaps between them.
@@ -48,14 +60,15 @@ fn print_regions(rt: &HostRuntime, map: &Map) -> Result<(), Fault> {
 
 /// Prints what is gone, what moved (it is gone and new), and what is new.
 fn print_moves(rt: &HostRuntime, gone: &Map, new: &Map) -> Result<(), Fault> {
+    let (old_places, new_places) = (places_of(rt.alloc(), gone)?, places_of(rt.alloc(), new)?);
     for (bytes, name) in gone.range_values() {
-        match place_of(new, &bytes, name) {
+        match new_places.get(&(length(&bytes), name.as_str())) {
             Some(to) => println!(rt; "moved {:x} to {:x} {name}", bytes.start(), to.start())?,
             None => println!(rt; "gone {:x}..={:x} {name}", bytes.start(), bytes.end())?,
         }
     }
     for (bytes, name) in new.range_values() {
-        if place_of(gone, &bytes, name).is_none() {
+        if !old_places.contains_key(&(length(&bytes), name.as_str())) {
             println!(rt; "new {:x}..={:x} {name}", bytes.start(), bytes.end())?;
         }
     }
@@ -72,11 +85,18 @@ fn print_changes(rt: &HostRuntime, first: &Map, later: &Map) -> Result<(), Fault
 
 impl Table for Regions {
     fn add(&mut self, rt: &HostRuntime, line: &str) -> Result<(), Fault> {
-        if line.is_empty() && self.later.is_none() {
-            self.later = Some(RangeMapBlaze::new(rt.alloc()));
+        if line.is_empty() {
+            self.is_parted = true;
             return Ok(());
         }
         let (range, permissions, name) = read(line).ok_or(Fault::Line)?;
+        if self.is_parted {
+            if self.later.is_some() {
+                return Err(Fault::Line);
+            }
+            self.later = Some(RangeMapBlaze::new(rt.alloc()));
+            self.is_parted = false;
+        }
         let value = format!(in rt.alloc(); "{permissions} {name}")?;
         let map = self.later.as_mut().unwrap_or(&mut self.first);
         let _ = map.ranges_insert(range, value)?;
@@ -95,5 +115,10 @@ impl Table for Regions {
 
 fn main(rt: HostRuntime) -> ExitCode {
     let first = RangeMapBlaze::new(rt.alloc());
-    run(&rt, Regions { first, later: None })
+    let regions = Regions {
+        first,
+        later: None,
+        is_parted: false,
+    };
+    run(&rt, regions)
 }

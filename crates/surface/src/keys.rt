@@ -49,3 +49,8 @@ pub fn gap(table: &RangeTable<u8, char>) -> Option<(u8, u8)> {
         None => Some(table.gap_round(5)),
     }
 }
+
+/// The least entry of a table that starts above a key.
+pub fn entry_above(table: &RangeTable<u8, char>) -> Option<(u8, u8, &char)> {
+    table.next_above(5)
+}

@@ -7,7 +7,7 @@ use std::process::ExitCode;
 
 /// A table that is read line by line.
 pub trait Table {
-    /// Takes a line in, which comes without its line feed. `Fault::Line` says that it is no line of the table.
+    /// Takes a line in, which comes without its end, LF or CRLF. `Fault::Line` says that it is no line of the table.
     fn add(&mut self, rt: &HostRuntime, line: &str) -> Result<(), Fault>;
 
     /// Prints what the table answers, once all lines are in.
@@ -44,7 +44,8 @@ fn answer<T: Table>(rt: &HostRuntime, table: &mut T) -> Result<(), Fault> {
             break;
         }
         let line = bytes.as_slice();
-        add(rt, table, number, line.strip_suffix(b"\n").unwrap_or(line))?;
+        let line = line.strip_suffix(b"\n").unwrap_or(line);
+        add(rt, table, number, line.strip_suffix(b"\r").unwrap_or(line))?;
     }
     table.print(rt)
 }

@@ -1,0 +1,83 @@
+#!/usr/bin/env bash
+# How the instructions of a call grow with the map: on maps of n, 4n and 16n entries, n = 1,000, of the library, of plain Rust and
+# of plain Rust the Rust crate's way, as a table in Markdown. They are counted by callgrind, with the work done and not done; the
+# difference, for one call, is what is printed. They do not change with what else the machine does.
+#
+#     bench/growth.sh             every work: some minutes
+#     bench/growth.sh WORD..      the works whose names have one of the words, as paint, append or `-`
+#
+# It needs what bench/run.sh needs, and valgrind. `bench/out/count SIDE WORK SIZE COUNT` is what callgrind runs: a WORK by the
+# number that driver.cpp and `library_run` give it, COUNT times on maps of SIZE entries.
+set -euo pipefail
+cd "$(dirname "$(readlink -f "${BASH_SOURCE[0]}")")"
+source ./sides.sh
+link count count.cpp
+
+counted() {
+    valgrind --tool=callgrind --callgrind-out-file=/dev/null out/count "$@" 2>&1 | sed -n 's/.*Collected : //p'
+}
+
+# The instructions of one call.
+of_one() { # side, work, entries, calls
+    local none all
+    none="$(counted "$1" "$2" "$3" 0)"
+    all="$(counted "$1" "$2" "$3" "$4")"
+    echo $(((all - none) / $4))
+}
+
+# The row of a work.
+row() { # name, work, calls, sides
+    local side size cells=""
+    for side in library plain crate; do
+        for size in 1000 4000 16000; do
+            if [[ " $4 " == *" $side "* ]]; then
+                cells+=" | $(of_one "$side" "$2" "$size" "$3" | sed ':a; s/\B[0-9]\{3\}\>/,&/; ta')"
+            else
+                cells+=" | -"
+            fi
+        done
+    done
+    echo "| $1$cells |"
+}
+
+folder="$(mktemp -d)"
+trap 'rm -rf "$folder"' EXIT
+words=("$@")
+number=100
+
+# Counts a work beside others, where its name has one of the words.
+work() { # name, work, calls, sides
+    local word is_picked=$((${#words[@]} == 0))
+    for word in "${words[@]}"; do if [[ "$1" == *"$word"* ]]; then is_picked=1; fi; done
+    if [ "$is_picked" = 0 ]; then return 0; fi
+    number=$((number + 1))
+    while [ "$(jobs -rp | wc -l)" -ge "$(nproc)" ]; do wait -n; done
+    row "$@" >"$folder/$number" &
+}
+
+work 'paint' 0 500 'library plain crate'
+work 'insert' 1 500 'library plain crate'
+work 'remove' 2 500 'library plain crate'
+work 'get' 4 500 'library plain'
+work 'pop_first' 7 500 'library plain crate'
+work 'pop_last' 26 500 'library plain crate'
+work 'split_off in the middle' 5 4 'library plain'
+work 'append of as many entries' 6 4 'library plain crate'
+work 'ranges_retain, all kept' 27 4 'library plain'
+work 'a range of the lower half' 24 4 'library plain'
+work 'a pass over the keys of entries of one key' 16 4 'library plain'
+work '`a \| b`, equal sizes' 8 4 'library plain crate'
+work '`a \| b`, b of 100, lent' 10 4 'library plain crate'
+work '`a \| b`, b of 100, by value' 11 4 'library plain crate'
+work '`a & b`, equal sizes' 12 4 'library plain'
+work '`a & b`, a of 100, lent' 21 4 'library plain'
+work '`a - b`, equal sizes' 13 4 'library plain'
+work '`a - b`, b of 100, lent' 22 4 'library plain'
+work '`a - b`, b of 100, by value' 23 4 'library plain'
+work '`a ^ b`, equal sizes' 14 4 'library plain'
+work 'a map of unsorted ranges; plain Rust paints them' 17 4 'library plain'
+work 'a map of sorted ranges; plain Rust copies them' 18 4 'library plain'
+wait
+echo "| instructions of a call | library, n | 4n | 16n | plain Rust, n | 4n | 16n | the crate's way, n | 4n | 16n |"
+echo "|---|---|---|---|---|---|---|---|---|---|"
+cat "$folder"/*
