@@ -98,9 +98,10 @@ run "a try with a longer input" 70 '' stand_in "$work/tree/rangemap" <"$work/lon
 judge "try --seconds 360 --" "$(cat "$work/tried")" "the seconds of a try with a longer input"
 run "no toolchain" 70 '' env PATH=/usr/bin:/bin "$work/tree/rangemap" <"$work/bad"
 judge "rangemap: no answer: not proved yet, and there is no toolchain (\`rt\`) here" "$told" "no toolchain: standard error"
-# (what a key Ctrl-C sends to all of a terminal's programs)
+# (what a key Ctrl-C sends to all of a terminal's programs, which a shell in the background has its own ignore)
 interrupt='
 import os, signal, subprocess, sys, time
+signal.signal(signal.SIGINT, signal.SIG_DFL)
 process = subprocess.Popen(sys.argv[1:], start_new_session=True)
 time.sleep(2)
 os.killpg(process.pid, signal.SIGINT)
