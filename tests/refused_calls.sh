@@ -1,5 +1,5 @@
 #!/usr/bin/env bash
-# Each request for memory of each call of the program `refused_calls` refused in turn, and at last none. The program makes calls
+# Each request for memory of each call of the program `check_refused_calls` refused in turn, and at last none. The program makes calls
 # that no line of a script makes, each between lines `begin` and `end` of its standard error, and prints for each a line: what it
 # answered, and what it left. Without a refusal these are the lines of its `stdout`. Where a request is refused, the line of the
 # call that made it is to be that of tests/refused_calls.txt, and all others stay. The file has as many lines as there are calls,
@@ -11,10 +11,10 @@
 set -euo pipefail
 here="$(cd "$(dirname "${BASH_SOURCE[0]}")" && pwd)"
 source "$here/judge.sh"
-program="${REFUSED_CALLS_PROGRAM:-$here/../crates/refused_calls/out/refused_calls}"
+program="${REFUSED_CALLS_PROGRAM:-$here/../crates/check_refused_calls/out/check_refused_calls}"
 make_refuse
 
-mapfile -t made <"$here/../crates/refused_calls/stdout"
+mapfile -t made <"$here/../crates/check_refused_calls/stdout"
 mapfile -t kept <"$here/refused_calls.txt"
 
 # Runs the program with one request refused, 0 for none: `got` is what it prints and its status, `told` what the preloaded code

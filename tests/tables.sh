@@ -1,6 +1,6 @@
 #!/usr/bin/env bash
 # The programs over tables that people know. What `rt ci` compares with their excerpts is compared with what tests/tables/NAME.py
-# prints of these: it goes key by key, without ranges. So is what `tasks` is to print, in which each line of code of docs/TASKS.md
+# prints of these: it goes key by key, without ranges. So is what `check_tasks` is to print, in which each line of code of docs/TASKS.md
 # stands. So are the programs with whole tables, where these are there: Scripts.txt of Debian's package unicode-data,
 # /etc/services, the memory of a process, and lists that are made here. Then faulty lines, a folder as input, an output that is
 # full, and each request for memory refused in turn. Programs that are not built are left out, and named. The last line is
@@ -11,14 +11,16 @@ source tests/judge.sh
 names=(scripts regions ports calendar routes picture)
 
 expected() { python3 "tests/tables/$1.py"; } # of the table on standard input
-program_of() { echo "crates/$1/out/$1"; }
+program_of() { echo "crates/demo_$1/out/demo_$1"; }
+from() { echo "crates/demo_$1/stdin"; }
 
 # ---- Excerpts
-for name in "${names[@]}" tasks; do judge "$(cat "crates/$name/stdout")" "$(expected "$name" <"crates/$name/stdin")" "the excerpt of $name"; done
+for name in "${names[@]}"; do judge "$(cat "crates/demo_$name/stdout")" "$(expected "$name" <"$(from "$name")")" "the excerpt of $name"; done
+judge "$(cat crates/check_tasks/stdout)" "$(expected tasks </dev/null)" "the answers of docs/TASKS.md"
 
 # ---- Lines of docs/TASKS.md, which `rt fmt` may have broken
 unbroken() { tr -d ' \n' | sed 's/,)/)/g'; }
-tasks="$(cat crates/tasks/src/*.rt | unbroken)"
+tasks="$(cat crates/check_tasks/src/*.rt | unbroken)"
 while IFS= read -r line; do
     judge yes "$(grep -q -F -- "$(unbroken <<<"$line")" <<<"$tasks" && echo yes || echo no)" "'$line' of docs/TASKS.md"
 done < <(sed -n '/^| [^|]/{s/\\|/\x01/g; s/^|[^|]*|[^|]*|//p}' docs/TASKS.md | grep -o '`[^`]*`' | tr -d '`' | tr '\001' '|')
@@ -82,12 +84,12 @@ status_of() { # the program, its standard input; its standard error goes to $wor
     echo "$status"
 }
 for name in "${built[@]}"; do
-    { sed 's/$/\r/' "crates/$name/stdin" && printf '\r\n'; } >"$work/ended"
-    judge "0 $(cat "crates/$name/stdout")" "$(status_of "$name" "$work/ended") $(cat "$work/printed")" "$name: lines that end with CRLF, and an empty one"
+    { sed 's/$/\r/' "$(from "$name")" && printf '\r\n'; } >"$work/ended"
+    judge "0 $(cat "crates/demo_$name/stdout")" "$(status_of "$name" "$work/ended") $(cat "$work/printed")" "$name: lines that end with CRLF, and an empty one"
 done
 while IFS='|' read -r name line; do
     if [ ! -x "$(program_of "$name")" ]; then continue; fi
-    { head -n 2 "crates/$name/stdin" && echo "$line" && tail -n 2 "crates/$name/stdin"; } >"$work/faulty"
+    { head -n 2 "$(from "$name")" && echo "$line" && tail -n 2 "$(from "$name")"; } >"$work/faulty"
     judge 2 "$(status_of "$name" "$work/faulty")" "$name: '$line': status"
     judge "line 3: $line" "$(cat "$work/told")" "$name: '$line': standard error"
     judge '' "$(grep -v ' meets ' "$work/printed" || true)" "$name: '$line': standard output"
@@ -100,9 +102,9 @@ make_refuse
 for name in "${built[@]}"; do
     judge 1 "$(status_of "$name" "$work")" "$name: a folder as input"
     status=0
-    "$(program_of "$name")" <"crates/$name/stdin" >/dev/full || status=$?
+    "$(program_of "$name")" <"$(from "$name")" >/dev/full || status=$?
     judge 1 "$status" "$name: an output that is full"
-    { head -n 4 "crates/$name/stdin" && grep '^?' "crates/$name/stdin" || true; } >"$work/short"
+    { head -n 4 "$(from "$name")" && grep '^?' "$(from "$name")" || true; } >"$work/short"
     judge 0 "$(status_of "$name" "$work/short")" "$name: a short table"
     cp "$work/printed" "$work/wanted"
     requests="$(REFUSE_ALL=1 REFUSE_TELL=1 LD_PRELOAD="$work/refuse.so" "$(program_of "$name")" <"$work/short" 2>&1 >/dev/null | sed -n 's/^requests=//p')"

@@ -1,17 +1,19 @@
 # What the programs of this repository are made of. tools/run, tools/prove and tools/noted read this file.
 #
-# Beside a proved program, crates/NAME/out/NAME, the file made_of keeps what it was made of: the toolchain, the crates with what
+# Beside a proved program, crates/CRATE/out/CRATE, the file made_of keeps what it was made of: the toolchain, the crates with what
 # they stand on, and the sum of each source file. The program fits as long as that is what stands there.
 root="$(cd "$(dirname "${BASH_SOURCE[0]}")/.." && pwd)"
 programs=(rangemap script scripts regions ports calendar routes picture)
+# The crate of a program: those over tables have names that begin with demo_.
+crate_of() { case "$1" in rangemap | script) echo "$1" ;; *) echo "demo_$1" ;; esac }
 declare -A proof_takes=([rangemap]="25 to 40 minutes on four processors" [script]="40 to 60 minutes on four processors")
 proof_time() { echo "${proof_takes[$1]:-${proof_takes[rangemap]}}"; }
 is_program() { case " ${programs[*]} " in *" $1 "*) return 0 ;; *) return 1 ;; esac }
 
 clock() { printf '%d:%02d' $(($1 / 60)) $(($1 % 60)); } # minutes:seconds
 
-program_of() { echo "$root/crates/$1/out/$1"; }
-note_of() { echo "$root/crates/$1/out/made_of"; }
+program_of() { local crate && crate="$(crate_of "$1")" && echo "$root/crates/$crate/out/$crate"; }
+note_of() { echo "$root/crates/$(crate_of "$1")/out/made_of"; }
 
 declare -A stands_on
 while IFS= read -r line; do
@@ -37,7 +39,7 @@ place() {
 
 # What a program would be made of now. Without a toolchain the one that was noted is taken.
 made_of() (
-    mapfile -t crates < <(crates_of "$1")
+    mapfile -t crates < <(crates_of "$(crate_of "$1")")
     if command -v rt >/dev/null; then rt version </dev/null; else head -n 1 "$(note_of "$1")" 2>/dev/null || echo "no toolchain"; fi
     for crate in "${crates[@]}"; do echo "$crate:${stands_on[$crate]}"; done
     cd "$root/crates" || exit

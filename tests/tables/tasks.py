@@ -1,4 +1,4 @@
-"""What `tasks` is to print, which reads nothing: a dictionary has the value of each key that is walked over."""
+"""What `check_tasks` is to print, which reads nothing: a dictionary has the value of each key that is walked over."""
 MIN, MAX = -(2**31), 2**31 - 1
 # All keys between -9 and 99, and the two ends. The keys that are left out have what is on both sides of them.
 KEYS = [MIN, *range(-9, 100), MAX]

@@ -7,7 +7,7 @@ mod svg;
 use range_map_blaze::RangeMapBlaze;
 use std::ops::RangeInclusive;
 use std::process::ExitCode;
-use table_lines::{Fault, Table, content, length, run};
+use demo_lines::{Fault, Table, content, length, run};
 
 /// How many characters a picture of text is wide.
 const WIDTH: usize = 50;

@@ -2,7 +2,7 @@
 use crate::{Shown, place};
 use std::alloc::{AllocError, Global};
 use std::collections::BTreeMap;
-use table_lines::Fault;
+use demo_lines::Fault;
 
 /// How many pixels the bars take side by side.
 const WIDTH: usize = 600;

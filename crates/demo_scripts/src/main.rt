@@ -5,7 +5,7 @@
 use range_map_blaze::RangeMapBlaze;
 use std::collections::BTreeMap;
 use std::process::ExitCode;
-use table_lines::{Fault, Table, content, hexadecimal, length, run};
+use demo_lines::{Fault, Table, content, hexadecimal, length, run};
 
 /// The scripts of characters, and the words that were asked.
 #[derive(Drop)]

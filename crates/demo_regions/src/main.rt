@@ -7,7 +7,7 @@ use std::alloc::{AllocError, Global};
 use std::collections::BTreeMap;
 use std::ops::RangeInclusive;
 use std::process::ExitCode;
-use table_lines::{Fault, Table, hexadecimal, length, run};
+use demo_lines::{Fault, Table, hexadecimal, length, run};
 
 type Map = RangeMapBlaze<u64, String>;
 

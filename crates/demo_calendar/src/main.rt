@@ -6,7 +6,7 @@ use jiff_core::civil::Date;
 use range_map_blaze::RangeMapBlaze;
 use std::ops::RangeInclusive;
 use std::process::ExitCode;
-use table_lines::{Fault, Table, content, decimal, length, run};
+use demo_lines::{Fault, Table, content, decimal, length, run};
 
 /// The names of days, by their numbers (1970-01-01 has 0), and the days of the years that were asked.
 #[derive(Drop)]

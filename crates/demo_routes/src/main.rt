@@ -6,7 +6,7 @@ use range_map_blaze::RangeMapBlaze;
 use std::net::Ipv4Addr;
 use std::ops::RangeInclusive;
 use std::process::ExitCode;
-use table_lines::{Fault, Table, content, decimal, run};
+use demo_lines::{Fault, Table, content, decimal, run};
 
 /// A block of addresses, the number of the bits that they share, and its owner.
 #[derive(Drop)]

@@ -4,7 +4,7 @@
 
 use range_map_blaze::RangeMapBlaze;
 use std::process::ExitCode;
-use table_lines::{Fault, Table, content, decimal, length, run};
+use demo_lines::{Fault, Table, content, decimal, length, run};
 
 type Names = RangeMapBlaze<u16, String>;
 
