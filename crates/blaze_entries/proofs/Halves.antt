@@ -1,5 +1,5 @@
 -- Lists in the order of their starts, in two parts: below a key and from it on.
-use Rattle.std.proofs.Common.{◌≡◌, ℤ, pos, ◌+ℤ◌, ◌≤ℤ◌, ◌<ℤ◌, cond, ◌⊎◌, inl, inr, List, [], ◌∷◌, refl, ◌∙◌, sym, ap, arith}
+use Rattle.std.proofs.Common.{◌≡◌, ℤ, pos, ◌+ℤ◌, ◌≤ℤ◌, ◌<ℤ◌, cond, ◌⊎◌, inl, inr, List, [], ◌∷◌, ◌++◌, refl, ◌∙◌, sym, ap, arith}
 use Rattle.std.proofs.lemmas.Int.{ints, by_lt_z}
 use Rattle.blaze_int.proofs.Comparisons.{lt_true, lt_false, le_true, le_false}
 use Rattle.blaze_entries.specs.Entries.{Entry}
@@ -71,3 +71,16 @@ module _ {V : Type 0} where
       let at_top = q.0 in
       let last = q.1 in
       below_every low high (t +ℤ pos 1) es (omega (arith, ints)) h ∙ sym (below_every low high (k +ℤ pos 2) es (omega (arith, ints)) h)
+
+  -- the two parts of a list in order are the whole
+  pub halves : (k b high : ℤ) (es : List (Entry V)) → StartsAscend b high es → es ≡ below k es ++ from k es
+  halves k b high [] h = refl
+  halves k b high (e ∷ es) h = by_lt_z e.lo k
+      (λ l. rw (below_takes k e es l, from_skips k e es l) (ap (λ t. e ∷ t) (halves k (e.lo +ℤ pos 1) high es h.2)))
+      (λ l. rw (below_none k e.lo high (e ∷ es) l (omega (arith, ints), h.1, h.2)) (sym (from_all k e.lo high (e ∷ es) l (omega (arith, ints), h.1, h.2))))
+
+  pub starts_below : (k : ℤ) (es : List (Entry V)) → StartsBelow k (below k es)
+  starts_below k [] = tt
+  starts_below k (e ∷ es) = by_lt_z e.lo k
+      (λ l. rw (below_takes k e es l) (l, starts_below k es))
+      (λ l. rw (below_skips k e es l) (starts_below k es))

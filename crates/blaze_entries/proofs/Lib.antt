@@ -10,6 +10,8 @@ pub mod Views
 pub mod Steps
 pub mod Clones
 pub mod Collected
+pub mod Seen
+pub mod Underway
 pub mod Scans
 pub mod InTurn
 pub mod Asked

@@ -6,5 +6,5 @@ pub mod Found
 pub mod Changed
 pub mod Cloned
 pub mod Overlap
-pub mod Scanned
+pub mod Walked
 pub mod Answers

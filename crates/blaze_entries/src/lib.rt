@@ -24,4 +24,4 @@ pub use iter::Iter;
 pub use overlap::length_outside;
 pub use range::Range;
 pub use range_entry::RangeEntry;
-pub use scan::{Plan, next_or_last};
+pub use scan::{Plan, Walk, next_or_last};

@@ -1,14 +1,14 @@
 //! A walk down the tree from above a range, in one search.
-ghost use Rattle.std.specs.Prelude.{◌≡◌, ◌⊎◌, ◌+◌, ◌++◌, ◌∷◌, [], pos, ◌+ℤ◌, ◌≤ℤ◌, ◌<◌, ◌≤◌, ◌^◌, length};
-ghost use Rattle.std.specs.Prelude.{reverse, None, MatchOption, OnSome, IfOk, OnErr};
+ghost use Rattle.std.specs.Prelude.{◌≡◌, ◌⊎◌, ◌+◌, ◌++◌, ◌∷◌, [], pos, ◌+ℤ◌, ◌≤ℤ◌, ◌<ℤ◌, ◌<◌, ◌≤◌, ◌^◌};
+ghost use Rattle.std.specs.Prelude.{length, MatchOption, OnSome, IfOk, OnErr, IsSome, IfSome, IsSomeAnd, true, false};
 ghost use Rattle.std.specs.Option.{option_map, option_copied};
 ghost use Rattle.blaze_entries.specs.Entries.{Entry, entry};
 ghost use Rattle.blaze_entries.specs.Found.{shown_found, is_sought, IsFoundAt};
 ghost use Rattle.blaze_entries.specs.Nodes.{shown_nodes, entries_of, AreFull, AreHeld};
-ghost use Rattle.blaze_entries.specs.Scanned.{shown_plan, unseen, seen_end, seen_start, seen, walked};
-ghost use Rattle.blaze_entries.specs.Scanned.{answers, walked_keys, seen_value, walked_value};
-ghost use Rattle.blaze_entries.specs.Scanned.{IsAboveCloned, GoesOnUnlike};
-ghost use Rattle.blaze_entries.specs.Starts.{below};
+ghost use Rattle.blaze_entries.specs.Overlap.{covered};
+ghost use Rattle.blaze_entries.specs.Starts.{below, from, holder_of};
+ghost use Rattle.blaze_entries.specs.Walked.{RangesAscend, shown_plan, IsSeenIn, unseen, seen_end};
+ghost use Rattle.blaze_entries.specs.Walked.{seen_start, seen, seen_value, IsValueAbove, IsClonedIf};
 
 use crate::count::Count;
 use crate::full_nodes::shown;
@@ -167,11 +167,22 @@ pub fn next_or_last<T: Integer>(key: T) -> T
     }
 }
 
+/// What a walk down the entries has found for an edit of the keys of a range: a plan, a length less how many keys the range
+/// shares with the entries, and clones of two values, where they were made: that of the entry that goes on both below and above
+/// the range, and that of the range's first key.
+#[derive(Drop)]
+pub struct Walk<T: Integer, V> {
+    pub plan: Plan<T>,
+    pub outside: T::SafeLen,
+    pub above: Option<V>,
+    pub value: Option<V>,
+}
+
 /// Walks down the entries, from the one that may start right above a range to the first that starts below it, and answers what
 /// it has seen, beside a value if one is asked for, and the value that the range's first key has. A length loses how many of their
 /// keys lie in the range. It is inlined, so that where that value isn't asked for the compiler leaves it out.
 #[inline(always)]
-pub fn walk<'a, T: Integer, V: Eq>(
+pub fn walk_tree<'a, T: Integer, V: Eq>(
     tree: &'a Tree<T, Option<V>>,
     len: T::SafeLen,
     lo: T,
@@ -179,23 +190,23 @@ pub fn walk<'a, T: Integer, V: Eq>(
     value: Option<&V>,
     looks: &mut Count,
 ) -> (Plan<T>, T::SafeLen, Option<&'a V>)
+    requires order { T.rank lo ≤ℤ T.rank hi }
     requires held { AreHeld T.low T.high (shown_nodes T.rank tree.now.entries) }
-    requires len { walked_keys (T.rank lo) (T.rank hi)
-        (reverse (below (T.rank hi +ℤ pos 2) (entries_of T.rank tree.now.entries)))
+    requires ranges { RangesAscend T.low T.high (entries_of T.rank tree.now.entries) }
+    requires len { covered (T.rank lo) (T.rank hi) (entries_of T.rank tree.now.entries)
         ≤ℤ pos (T.SafeLen.number len) }
-    ensures plan { shown_plan T.rank result.0
-        ≡ walked (is_sought V.eq (option_copied value.entry))
-        (T.rank lo) (T.rank hi) (unseen (T.rank hi))
-        (reverse (below (T.rank hi +ℤ pos 2) (entries_of T.rank tree.now.entries))) }
+    ensures plan { IsSeenIn (is_sought V.eq (option_copied value.entry)) (T.rank lo) (T.rank hi)
+        (entries_of T.rank tree.now.entries) (shown_plan T.rank result.0) }
     ensures len { pos (T.SafeLen.number result.1)
-        +ℤ walked_keys (T.rank lo) (T.rank hi)
-        (reverse (below (T.rank hi +ℤ pos 2) (entries_of T.rank tree.now.entries)))
+        +ℤ covered (T.rank lo) (T.rank hi) (entries_of T.rank tree.now.entries)
         ≡ pos (T.SafeLen.number len) }
-    ensures value { option_copied result.2 ≡ walked_value (T.rank lo) None
-        (reverse (below (T.rank hi +ℤ pos 2) (entries_of T.rank tree.now.entries))) }
-    ensures looked { looks.new.number
-        ≡ looks.old.number + answers (T.rank lo)
-        (reverse (below (T.rank hi +ℤ pos 2) (entries_of T.rank tree.now.entries))) }
+    ensures above { IsValueAbove (T.rank lo) (T.rank hi)
+        (entries_of T.rank tree.now.entries) (option_copied result.2) }
+    ensures value { option_copied result.2 ≡ option_map (λ e. e.value)
+        (holder_of (T.rank lo) (entries_of T.rank tree.now.entries)) }
+    ensures risen { looks.old.number ≤ looks.new.number }
+    ensures few { looks.new.number ≤ looks.old.number + length (from (T.rank lo)
+        (below (T.rank hi +ℤ pos 2) (entries_of T.rank tree.now.entries))) + 1 }
 {
     let most = tree.len();
     let mut plan = Plan::new(hi);
@@ -222,10 +233,10 @@ pub fn above_cloned<T: Integer, V: Clone>(
     hi: T,
     held: Option<&V>,
 ) -> Result<Option<V>, AllocError>
-    ensures clone { IfOk result (λ r. IsAboveCloned V.is_clone (T.rank hi)
-        (option_map (shown_found T.rank) left) (option_copied held.entry) r) }
+    ensures clone { IfOk result (λ r. IfSome left (λ f. T.rank hi <ℤ T.rank f.end → f.value ≡ false
+        → IsClonedIf V.is_clone true (option_copied held.entry) r)) }
     ensures refused { OnErr result
-        (GoesOnUnlike (T.rank hi) (option_map (shown_found T.rank) left)) }
+        (IsSomeAnd left (λ f. (T.rank hi <ℤ T.rank f.end) × (f.value ≡ false))) }
 {
     match left {
         Some(found) if !found.value && is_below(hi, found.end) => {
@@ -233,5 +244,19 @@ pub fn above_cloned<T: Integer, V: Clone>(
             Ok(above)
         }
         _ => Ok(None),
+    }
+}
+
+/// A clone of a value, if it is wanted. It is inlined, so that none is looked at where none is.
+#[inline(always)]
+pub fn cloned_if<V: Clone>(wanted: bool, held: Option<&V>) -> Result<Option<V>, AllocError>
+    ensures clone { IfOk result (λ r. IsClonedIf V.is_clone wanted (option_copied held.entry) r) }
+    ensures refused { OnErr result ((wanted ≡ true) × IsSome (option_copied held.entry)) }
+{
+    if wanted {
+        let value = held.cloned()?;
+        Ok(value)
+    } else {
+        Ok(None)
     }
 }

@@ -1,11 +1,11 @@
 -- A paint planned by what lies beside its range, and the steps that make it or a cut, in the words of the list.
-use Rattle.std.specs.Prelude.{◌≡◌, ℕ, ◌+◌, ◌≤◌, length, ◌⊎◌, ◌++◌, ◌&&◌, ◌||◌, ℤ, pos, ◌+ℤ◌, ◌≤ℤ◌, ◌<ℤ◌, int_lt, int_le, if◌then◌else◌, Bool, true, false, List, [], ◌∷◌, Option, Some, None, IfSome, IsSomeAnd}
+use Rattle.std.specs.Prelude.{◌≡◌, ℕ, ◌+◌, ◌≤◌, length, ◌⊎◌, ◌++◌, ◌&&◌, ◌||◌, ℤ, pos, ◌+ℤ◌, ◌≤ℤ◌, ◌<ℤ◌, int_le, if◌then◌else◌, Bool, true, false, List, [], ◌∷◌, Option, Some, None, IfSome, IsSomeAnd}
 use Rattle.std.specs.Option.{option_map}
 use Rattle.std.specs.Ordering.{int_eq}
 use Rattle.blaze_entries.specs.Counted.{CountedEntries}
 use Rattle.blaze_entries.specs.Found.{found_in}
-use Rattle.blaze_entries.specs.Scanned.{Seen}
 use Rattle.blaze_entries.specs.Starts.{below, from, last_below, start_at}
+pub use Rattle.blaze_entries.specs.Walked.{Seen, rest_of, inner, moved}
 use Rattle.blaze_table.specs.Count.{keys_in}
 use Rattle.blaze_table.specs.Cut.{GoesOnAbove}
 use Rattle.blaze_table.specs.Entries.{Entry, entry}
@@ -38,11 +38,6 @@ IsEndAfter test h es z = ((z ≡ h) × IsUnjoined test h es) ⊎ IsJoinedTo test
 abbrev pub IsEnd : {V : Type 0} → (V → Bool) → ℤ → List (Entry V) → ℤ → Type 0
 IsEnd test h es z = IsEndAfter test h (after h es) z
 
--- the ends of an entry that was looked at, if it goes on above h with an unequal value
-abbrev pub rest_of : ℤ → Option (ℤ × ℤ × Bool) → Option (ℤ × ℤ)
-rest_of h None = None
-rest_of h (Some t) = if int_lt h t.1 then (if t.2 then None else Some (t.0, t.1)) else None
-
 -- whether an entry that was looked at has an equal value and ends at h or above
 abbrev pub reaches : ℤ → Option (ℤ × ℤ × Bool) → Bool
 reaches h None = false
@@ -52,15 +47,6 @@ reaches h (Some t) = t.2 && int_le h t.1
 abbrev pub joined_start : ℤ → Option (ℤ × ℤ × Bool) → Option ℤ
 joined_start l None = None
 joined_start l (Some n) = if n.2 && (int_le l n.1 || int_eq l (n.1 +ℤ pos 1)) then Some n.0 else None
-
--- the entries that start above l, up to z
-abbrev pub inner : {V : Type 0} → ℤ → ℤ → List (Entry V) → List (Entry V)
-inner l z es = from (l +ℤ pos 1) (below (z +ℤ pos 1) es)
-
--- whether the entry that keeps a rest starts above l: it does not go then, its start moves
-abbrev pub moved : ℤ → Option (ℤ × ℤ) → ℕ
-moved l None = 0
-moved l (Some r) = if int_lt l r.0 then 1 else 0
 
 -- what was seen of the entries is what an edit of the keys from l up to h has to know
 pub record IsPlanOf {V : Type 0} (test : V → Bool) (l h : ℤ) (es : List (Entry V)) (s : Seen) : Type 0 where

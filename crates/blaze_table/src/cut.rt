@@ -14,8 +14,8 @@ ghost use Rattle.blaze_table.specs.Table.{IsTable};
 ghost use Rattle.blaze_table.specs.Work.{IsCountedCut, IsCounted};
 
 use crate::edit::take_out;
-use crate::walk::{Walk, walk_down};
-use blaze_entries::{Counted, RangeEntry};
+use crate::walk::walk_down;
+use blaze_entries::{Counted, RangeEntry, Walk};
 use blaze_int::compare::is_below;
 use blaze_int::{Integer, SafeLength};
 use std::alloc::AllocError;
@@ -270,11 +270,12 @@ pub fn cut_range<T: Integer, V: Eq + Clone>(
 {
     entries.in_hand();
     let sought: Option<V> = None;
-    let found = walk_down(entries, len, lo, hi, sought.as_ref())?;
+    let found = walk_down(entries, len, lo, hi, sought.as_ref(), false)?;
     let Walk {
         plan,
         outside,
         above,
+        ..
     } = found;
     take_out(entries, lo, plan, above)?;
     Ok(outside)

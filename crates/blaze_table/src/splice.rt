@@ -2,7 +2,7 @@
 ghost use Rattle.std.specs.Option.{option_map, option_or};
 ghost use Rattle.std.specs.Prelude.{◌≡◌, ◌≤ℤ◌, Ok, IfOk, OnOk, OnErr};
 ghost use Rattle.blaze_entries.specs.Found.{shown_found};
-ghost use Rattle.blaze_entries.specs.Scanned.{shown_plan};
+ghost use Rattle.blaze_entries.specs.Walked.{shown_plan};
 ghost use Rattle.blaze_table.specs.Work.{IsCountedPaint, IsCounted};
 ghost use Rattle.blaze_table.specs.Entries.{entry, at, SameOption};
 ghost use Rattle.blaze_table.specs.Painted.{IsInside, ClonesAreAlike};
@@ -11,8 +11,8 @@ ghost use Rattle.blaze_table.specs.Splice.{IsTablePainted};
 ghost use Rattle.blaze_table.specs.Table.{IsTable};
 
 use crate::edit::{extend, put_at};
-use crate::walk::{Walk, walk_by_looks, walk_down, walk_with_value};
-use blaze_entries::{Counted, Plan, RangeEntry};
+use crate::walk::{walk_by_looks, walk_down};
+use blaze_entries::{Counted, Plan, RangeEntry, Walk};
 use blaze_int::compare::{is_at_most, is_next, length};
 use blaze_int::{Integer, SafeLength};
 use std::alloc::AllocError;
@@ -72,6 +72,7 @@ fn paint_planned<T: Integer, V: Eq + Drop>(
         plan,
         outside,
         above,
+        ..
     } = walk;
     if is_inside(plan, hi) {
         return Ok(len);
@@ -135,7 +136,7 @@ pub fn paint<T: Integer, V: Eq + Clone>(
     ensures err { OnErr result (entries.new.entries ≡ entries.old.entries) }
     ensures err_counted { OnErr result (IsCounted entries.old entries.new) }
 {
-    let found = walk_down(entries, len, lo, hi, Some(&value))?;
+    let found = walk_down(entries, len, lo, hi, Some(&value), false)?;
     paint_planned(entries, len, lo, hi, value, found)
 }
 
@@ -158,7 +159,8 @@ pub fn insert<T: Integer, V: Eq + Clone>(
     ensures err { OnErr result (entries.new.entries ≡ entries.old.entries) }
     ensures err_counted { OnErr result (IsCounted entries.old entries.new) }
 {
-    let (found, old) = walk_with_value(entries, len, key, &value)?;
+    let mut found = walk_down(entries, len, key, key, Some(&value), true)?;
+    let old = found.value.take();
     let rest = paint_planned(entries, len, key, key, value, found)?;
     Ok((old, rest))
 }

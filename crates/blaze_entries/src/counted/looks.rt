@@ -1,18 +1,19 @@
-//! Looks at entries beside keys, and the walk down a range: each is counted.
-ghost use Rattle.std.specs.Prelude.{◌≡◌, ◌+◌, ◌-◌, pos, ◌+ℤ◌, ◌≤ℤ◌, ◌<ℤ◌, length, slice_get, reverse};
-ghost use Rattle.std.specs.Prelude.{None, MatchOption, IfOk, OnErr, IsSome, IfSome, IsSomeAnd};
+//! Looks at entries beside keys, and the walk down to a range: each is counted.
+ghost use Rattle.std.specs.Prelude.{◌≡◌, ◌⊎◌, ◌+◌, ◌-◌, ◌≤◌, pos, ◌+ℤ◌, ◌≤ℤ◌, ◌<ℤ◌, length, slice_get};
+ghost use Rattle.std.specs.Prelude.{IfOk, OnErr, IsSome, IfSome, IsSomeAnd, true};
 ghost use Rattle.std.specs.Option.{option_map, option_copied};
 ghost use Rattle.blaze_entries.specs.Cloned.{IsRangeCloned};
 ghost use Rattle.blaze_entries.specs.Found.{found_in, shown_found, is_sought, range_in, shown_ends};
-ghost use Rattle.blaze_entries.specs.Scanned.{shown_plan, unseen, walked, walked_value};
-ghost use Rattle.blaze_entries.specs.Scanned.{answers, walked_keys, IsAboveCloned, GoesOnUnlike};
-ghost use Rattle.blaze_entries.specs.Starts.{below, last_below, first_from, holder_of, start_at};
+ghost use Rattle.blaze_entries.specs.Overlap.{covered};
+ghost use Rattle.blaze_entries.specs.Starts.{below, from, last_below, first_from, holder_of, start_at};
+ghost use Rattle.blaze_entries.specs.Walked.{RangesAscend, shown_plan, IsSeenIn};
+ghost use Rattle.blaze_entries.specs.Walked.{IsAboveCloned, IsClonedIf, GoesOnUnlike};
 
 use super::Counted;
 use crate::full_nodes::{cloned, found, range_cloned, range_of, reaching};
 use crate::nodes::{node_at, node_at_or_above, node_at_or_below, node_below};
 use crate::range_entry::RangeEntry;
-use crate::scan::{Plan, above_cloned, walk};
+use crate::scan::{Walk, above_cloned, cloned_if, walk_tree};
 use blaze_int::Integer;
 use std::alloc::AllocError;
 
@@ -119,80 +120,48 @@ impl<T: Integer, V: Eq> Counted<T, V> {
 
 impl<T: Integer, V: Eq + Clone> Counted<T, V> {
     /// Walks down the entries, in one search, from the one that may start right above a range to the first that starts
-    /// below it. A length loses how many of their keys lie in the range. No value is equal where none is asked for. Where
-    /// that one goes on above the range with an unequal value, a clone of it is answered too. A refused clone leaves the entries.
-    /// It is inlined, so that what it answers is not copied.
+    /// below it, and answers what an edit of the range's keys has to know. No value is equal where none is asked for. The length
+    /// loses how many keys the range shares with the entries. Where the entry that starts below the range goes on above it with
+    /// an unequal value, a clone of that value is made, and one of the value of the range's first key, if it is wanted. A refused
+    /// clone leaves the entries. It is inlined, so that what it answers is not copied.
     #[inline(always)]
-    pub fn scan(
+    pub fn walk(
         &mut self,
         len: T::SafeLen,
         lo: T,
         hi: T,
         value: Option<&V>,
-    ) -> Result<(Plan<T>, T::SafeLen, Option<V>), AllocError>
-        requires { walked_keys (T.rank lo) (T.rank hi)
-            (reverse (below (T.rank hi +ℤ pos 2) self.old.entries))
+        wanted: bool,
+    ) -> Result<Walk<T, V>, AllocError>
+        requires order { T.rank lo ≤ℤ T.rank hi }
+        requires ranges { RangesAscend T.low T.high self.old.entries }
+        requires len { covered (T.rank lo) (T.rank hi) self.old.entries
             ≤ℤ pos (T.SafeLen.number len) }
-        ensures plan { IfOk result (λ r. shown_plan T.rank r.0
-            ≡ walked (is_sought V.eq (option_copied value.entry))
-            (T.rank lo) (T.rank hi) (unseen (T.rank hi))
-            (reverse (below (T.rank hi +ℤ pos 2) self.old.entries))) }
-        ensures len { IfOk result (λ r. pos (T.SafeLen.number r.1)
-            +ℤ walked_keys (T.rank lo) (T.rank hi)
-            (reverse (below (T.rank hi +ℤ pos 2) self.old.entries))
-            ≡ pos (T.SafeLen.number len)) }
-        ensures above { IfOk result (λ r. IsAboveCloned V.is_clone (T.rank hi)
-            (option_map (shown_found T.rank) r.0.left) (walked_value (T.rank lo) None
-            (reverse (below (T.rank hi +ℤ pos 2) self.old.entries))) r.2) }
-        ensures refused { OnErr result (GoesOnUnlike (T.rank hi)
-            (walked (is_sought V.eq (option_copied value.entry))
-            (T.rank lo) (T.rank hi) (unseen (T.rank hi))
-            (reverse (below (T.rank hi +ℤ pos 2) self.old.entries))).left) }
-        ensures looked { self.new
-            ≡ record self.old {
-              looks = self.old.looks + answers (T.rank lo)
-                  (reverse (below (T.rank hi +ℤ pos 2) self.old.entries));
-            } }
+        ensures plan { IfOk result (λ w. IsSeenIn (is_sought V.eq (option_copied value.entry))
+            (T.rank lo) (T.rank hi) self.old.entries (shown_plan T.rank w.plan)) }
+        ensures outside { IfOk result (λ w. pos (T.SafeLen.number w.outside)
+            +ℤ covered (T.rank lo) (T.rank hi) self.old.entries ≡ pos (T.SafeLen.number len)) }
+        ensures above { IfOk result (λ w. IsAboveCloned V.is_clone
+            (is_sought V.eq (option_copied value.entry))
+            (T.rank lo) (T.rank hi) self.old.entries w.above) }
+        ensures value { IfOk result (λ w. IsClonedIf V.is_clone wanted
+            (option_map (λ e. e.value) (holder_of (T.rank lo) self.old.entries)) w.value) }
+        ensures refused { OnErr result (GoesOnUnlike (is_sought V.eq (option_copied value.entry))
+            (T.rank lo) (T.rank hi) self.old.entries
+            ⊎ ((wanted ≡ true) × IsSome (holder_of (T.rank lo) self.old.entries))) }
+        ensures looked { self.new ≡ record self.old { looks = self.new.looks } }
+        ensures risen { self.old.looks ≤ self.new.looks }
+        ensures few { self.new.looks ≤ self.old.looks + length (from (T.rank lo)
+            (below (T.rank hi +ℤ pos 2) self.old.entries)) + 1 }
     {
-        let (plan, outside, held) = walk(&self.tree, len, lo, hi, value, &mut self.looks);
+        let (plan, outside, held) = walk_tree(&self.tree, len, lo, hi, value, &mut self.looks);
         let above = above_cloned(plan.left, hi, held)?;
-        Ok((plan, outside, above))
-    }
-
-    /// Walks as `scan` does, and answers also a clone of the value that the range's first key has. A refused clone leaves the
-    /// entries.
-    pub fn scan_with_value(
-        &mut self,
-        len: T::SafeLen,
-        lo: T,
-        hi: T,
-        value: &V,
-    ) -> Result<(Plan<T>, T::SafeLen, Option<V>, Option<V>), AllocError>
-        requires { walked_keys (T.rank lo) (T.rank hi)
-            (reverse (below (T.rank hi +ℤ pos 2) self.old.entries))
-            ≤ℤ pos (T.SafeLen.number len) }
-        ensures plan { IfOk result (λ r. shown_plan T.rank r.0
-            ≡ walked (λ w. V.eq w value.now) (T.rank lo) (T.rank hi) (unseen (T.rank hi))
-            (reverse (below (T.rank hi +ℤ pos 2) self.old.entries))) }
-        ensures len { IfOk result (λ r. pos (T.SafeLen.number r.1)
-            +ℤ walked_keys (T.rank lo) (T.rank hi)
-            (reverse (below (T.rank hi +ℤ pos 2) self.old.entries))
-            ≡ pos (T.SafeLen.number len)) }
-        ensures above { IfOk result (λ r. IsAboveCloned V.is_clone (T.rank hi)
-            (option_map (shown_found T.rank) r.0.left) (walked_value (T.rank lo) None
-            (reverse (below (T.rank hi +ℤ pos 2) self.old.entries))) r.2) }
-        ensures value { IfOk result (λ r. MatchOption (walked_value (T.rank lo) None
-            (reverse (below (T.rank hi +ℤ pos 2) self.old.entries)))
-            (r.3 ≡ None) (λ v. IsSomeAnd r.3 (V.is_clone v))) }
-        ensures looked { self.new
-            ≡ record self.old {
-              looks = self.old.looks + answers (T.rank lo)
-                  (reverse (below (T.rank hi +ℤ pos 2) self.old.entries));
-            } }
-    {
-        let (plan, outside, held) = walk(&self.tree, len, lo, hi, Some(value), &mut self.looks);
-        let above = above_cloned(plan.left, hi, held)?;
-        let old = held.cloned()?;
-        Ok((plan, outside, above, old))
+        let value = cloned_if(wanted, held)?;
+        Ok(Walk {
+            plan,
+            outside,
+            above,
+            value,
+        })
     }
 }

@@ -1,7 +1,8 @@
 -- How many keys the pieces of a list have.
-use Rattle.std.proofs.Common.{◌≡◌, ℕ, ℤ, pos, ◌+ℤ◌, ◌-ℤ◌, ◌≤ℤ◌, ◌<ℤ◌, Bool, List, [], ◌∷◌, refl, ◌∙◌, sym, ap, subst, arith}
+use Rattle.std.proofs.Common.{◌≡◌, ℕ, ℤ, pos, ◌+ℤ◌, ◌-ℤ◌, ◌≤ℤ◌, Bool, List, [], ◌∷◌, refl, ◌∙◌, sym, ap, subst, arith}
 use Rattle.std.specs.Cmp.{IsEquivalence}
 use Rattle.std.proofs.lemmas.Int.{ints}
+use Rattle.blaze_entries.proofs.Underway.{overlap_none, overlap_over}
 use Rattle.blaze_table.specs.Entries.{Entry, SameEntries, entry}
 use Rattle.blaze_table.specs.Canonical.{IsApart, IsCanonical, AreKeys}
 use Rattle.blaze_table.specs.Count.{keys_in}
@@ -11,12 +12,6 @@ use Rattle.blaze_table.proofs.Canonical.Lookup.{IsAbove, IsAbove-from_apart, abo
 use Rattle.blaze_table.proofs.Paints.Splices.{by_before, by_after, by_join, canonical_paint}
 
 module _ {V : Type 0} where
-  pub overlap_none : (l h : ℤ) (e : Entry V) → e.lo ≤ℤ e.hi → e.hi <ℤ l → overlap l h e ≡ pos 0
-  overlap_none l h e w u = grind (arith, ints)
-
-  pub overlap_over : (l h : ℤ) (e : Entry V) → e.lo ≤ℤ e.hi → h <ℤ e.lo → overlap l h e ≡ pos 0
-  overlap_over l h e w u = grind (arith, ints)
-
   pub overlap_left : (l h : ℤ) (e : Entry V) → e.lo ≤ℤ l → l ≤ℤ e.hi → e.hi ≤ℤ h → overlap l h e ≡ (e.hi -ℤ l) +ℤ pos 1
   overlap_left l h e a b d = grind (arith, ints)
 

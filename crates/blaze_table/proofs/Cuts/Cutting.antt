@@ -18,7 +18,8 @@ use Rattle.blaze_table.proofs.Canonical.RangeMaps.{range_map}
 use Rattle.blaze_table.proofs.Canonical.Unique.{back}
 use Rattle.blaze_table.proofs.Paints.Splices.{by_before, after_skips, by_after, canonical_glue, canonical_before, canonical_after, at_glue, above_after, below_before, at-before_under, at-before_over, at-after_over, below_more}
 use Rattle.blaze_table.proofs.Paints.Painted.{entries_themselves, canonical_as, above_as, content_as}
-use Rattle.blaze_table.proofs.Canonical.Counted.{keys_apart, covered_none, overlap_none, overlap_most, keys_glue, are_keys_glue, are_keys_before, are_keys_after, are_keys_as, same_keys_in}
+use Rattle.blaze_entries.proofs.Underway.{overlap_none}
+use Rattle.blaze_table.proofs.Canonical.Counted.{keys_apart, covered_none, overlap_most, keys_glue, are_keys_glue, are_keys_before, are_keys_after, are_keys_as, same_keys_in}
 
 module _ {V : Type 0} (eq : V → V → Bool) where
   pub after_all : (k : ℤ) (es : List (Entry V)) → IsCanonical eq es → IsAbove k es → after k es ≡ es

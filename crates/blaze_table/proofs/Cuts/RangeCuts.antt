@@ -7,7 +7,7 @@ use Rattle.std.proofs.lemmas.Int.{ints}
 use Rattle.blaze_int.proofs.Comparisons.{lt_holds, not_both}
 use Rattle.blaze_entries.specs.Counted.{CountedEntries}
 use Rattle.blaze_entries.specs.Found.{found_in, is_sought, range_in, shown_ends}
-use Rattle.blaze_entries.specs.Scanned.{shown_plan}
+use Rattle.blaze_entries.specs.Walked.{shown_plan}
 use Rattle.blaze_entries.specs.Starts.{StartsAscend, last_below}
 use Rattle.blaze_entries.specs.declared.scan.Plan.{Plan}
 use Rattle.blaze_entries.specs.declared.range_entry.RangeEntry.{RangeEntry}

@@ -6,7 +6,7 @@ use Rattle.std.proofs.lemmas.Int.{ints, by_lt_z}
 use Rattle.std.proofs.lemmas.List.Elements.{filter-append}
 use Rattle.blaze_entries.specs.Starts.{StartsAscend, below, from, first_entry, last_below, first_from, start_at}
 use Rattle.blaze_entries.proofs.Ascending.{by_order, start_none}
-use Rattle.blaze_entries.proofs.Halves.{StartsBelow, below_takes, below_skips, from_takes, from_skips, below_none, from_all, from_none, more_below}
+use Rattle.blaze_entries.proofs.Halves.{StartsBelow, below_takes, from_takes, from_skips, below_none, from_all, from_none, more_below}
 use Rattle.blaze_table.specs.Entries.{Entry, entry}
 use Rattle.blaze_table.specs.Canonical.{IsApart, IsCanonical}
 use Rattle.blaze_table.specs.Splice.{after, IsBelow}
@@ -18,19 +18,6 @@ some_of None h = cc
 some_of (Some x) h = (x, refl)
 
 module _ {V : Type 0} where
-  pub starts_below : (k : ℤ) (es : List (Entry V)) → StartsBelow k (below k es)
-  starts_below k [] = tt
-  starts_below k (e ∷ es) = by_lt_z e.lo k
-      (λ l. rw (below_takes k e es l) (l, starts_below k es))
-      (λ l. rw (below_skips k e es l) (starts_below k es))
-
-  -- the two parts are the whole
-  pub halves : (k b high : ℤ) (es : List (Entry V)) → StartsAscend b high es → es ≡ below k es ++ from k es
-  halves k b high [] h = refl
-  halves k b high (e ∷ es) h = by_lt_z e.lo k
-      (λ l. rw (below_takes k e es l, from_skips k e es l) (ap (λ t. e ∷ t) (halves k (e.lo +ℤ pos 1) high es h.2)))
-      (λ l. rw (below_none k e.lo high (e ∷ es) l (omega (arith, ints), h.1, h.2)) (sym (from_all k e.lo high (e ∷ es) l (omega (arith, ints), h.1, h.2))))
-
   -- the last entry that starts below k, and what stands before and behind it
   pub record LastAt (k high : ℤ) (e : Entry V) (es : List (Entry V)) : Type 0 where
     pub front : List (Entry V)

@@ -10,14 +10,14 @@ use Rattle.blaze_entries.specs.Found.{shown_found, range_in, shown_ends}
 use Rattle.blaze_entries.specs.declared.range_entry.RangeEntry.{RangeEntry}
 use Rattle.blaze_entries.specs.Starts.{StartsAscend, below, from, last_below, start_at, with_end}
 use Rattle.blaze_entries.proofs.Ascending.{by_order}
-use Rattle.blaze_entries.proofs.Halves.{StartsBelow, below_takes, below_skips, below_all, below_none, from_skips, from_none, from_all, more_below}
+use Rattle.blaze_entries.proofs.Halves.{StartsBelow, below_takes, below_skips, below_all, below_none, from_skips, from_none, from_all, more_below, halves}
 use Rattle.blaze_table.specs.Entries.{Entry, entry}
 use Rattle.blaze_table.specs.Canonical.{IsCanonical}
 use Rattle.blaze_table.specs.Edited.{IsLeft}
 use Rattle.blaze_table.specs.Splice.{before, IsBelow}
 use Rattle.blaze_table.proofs.Paints.Splices.{before_cuts, before_keeps, below_more}
 use Rattle.blaze_table.proofs.Paints.Painted.{before_past}
-use Rattle.blaze_table.proofs.Cuts.Splits.{LastAt, last_at, no_last, halves, ends_below}
+use Rattle.blaze_table.proofs.Cuts.Splits.{LastAt, last_at, no_last, ends_below}
 use Rattle.blaze_table.proofs.Paints.EditLists.{end_put}
 
 module _ {V : Type 0} where

@@ -7,7 +7,7 @@ use Rattle.std.proofs.lemmas.Int.{ints}
 use Rattle.std.proofs.lemmas.Bool.{and_parts, and_from}
 use Rattle.blaze_int.proofs.Comparisons.{le_true, le_holds, not_both}
 use Rattle.blaze_entries.specs.Found.{found_in}
-use Rattle.blaze_entries.specs.Scanned.{Seen}
+use Rattle.blaze_entries.specs.Walked.{Seen}
 use Rattle.blaze_entries.specs.Starts.{StartsAscend, below, last_below, start_at}
 use Rattle.blaze_entries.proofs.Ascending.{by_order, start_none}
 use Rattle.blaze_entries.proofs.Halves.{below_none, below_takes}

@@ -6,7 +6,7 @@ use Rattle.std.proofs.lemmas.Int.{ints, by_lt_z}
 use Rattle.std.proofs.lemmas.List.{append_assoc, append-nil}
 use Rattle.std.proofs.lemmas.List.Elements.{filter-append}
 use Rattle.blaze_entries.specs.Starts.{StartsAscend, below, from, last_below, start_at, with_end}
-use Rattle.blaze_entries.proofs.Halves.{StartsBelow, below_takes, from_skips, below_all, below_none, from_none, more_below}
+use Rattle.blaze_entries.proofs.Halves.{StartsBelow, below_takes, from_skips, below_all, below_none, from_none, more_below, starts_below, halves}
 use Rattle.blaze_entries.specs.Found.{range_in, shown_ends}
 use Rattle.blaze_entries.specs.declared.range_entry.RangeEntry.{RangeEntry}
 use Rattle.blaze_table.specs.Edited.{IsLeft}
@@ -15,7 +15,7 @@ use Rattle.blaze_table.specs.Canonical.{IsCanonical}
 use Rattle.blaze_table.specs.Planned.{inner, IsRestKept, IsStartPut, IsPutAt, IsExtended}
 use Rattle.blaze_table.specs.Splice.{before, IsRangeCutOf}
 use Rattle.blaze_table.proofs.Paints.Splices.{by_before, before_ends, before_keeps, before_cuts}
-use Rattle.blaze_table.proofs.Cuts.Splits.{last_at, starts_below, halves, from_at}
+use Rattle.blaze_table.proofs.Cuts.Splits.{last_at, from_at}
 use Rattle.blaze_table.proofs.Neighbours.Growing.{last_there, below_last, front_last}
 use Rattle.blaze_table.proofs.Paints.EditLists.{end_put}
 use Rattle.blaze_table.proofs.Paints.Clearing.{below_from, from_from}

@@ -1,8 +1,6 @@
 -- A walk down the entries by single looks, each below the start of the entry before.
 use Rattle.std.proofs.Common.{◌≡◌, ℕ, ◌+◌, ◌<◌, ◌≤◌, ℤ, Bool, List, [], ◌∷◌, ◌++◌, length, Option, Some, None, refl, ◌∙◌, sym, ap, arith, length-append}
-use Rattle.std.specs.Prelude.{reverse}
 use Rattle.std.specs.Option.{option_map}
-use Rattle.std.proofs.lemmas.List.{reverse-append}
 use Rattle.blaze_entries.specs.Found.{found_in}
 use Rattle.blaze_entries.specs.Starts.{StartsAscend, below, last_below}
 use Rattle.blaze_entries.proofs.Scans.{length-below}
@@ -20,7 +18,7 @@ module _ {V : Type 0} (test : V → Bool) (low high : ℤ) (es : List (Entry V))
   pub record Down (k : ℤ) (t : ℤ × ℤ × Bool) : Type 0 where
     pub found : Entry V
     pub is : t ≡ found_in test found
-    pub down : reverse (below k es) ≡ found ∷ reverse (below t.0 es)
+    pub down : below k es ≡ below t.0 es ++ found ∷ []
     pub fewer : length (below t.0 es) + 1 ≡ length (below k es)
 
   pub down_to : (k : ℤ) (t : ℤ × ℤ × Bool) → Some t ≡ option_map (found_in test) (last_below k es) → Down k t
@@ -36,16 +34,16 @@ module _ {V : Type 0} (test : V → Bool) (low high : ℤ) (es : List (Entry V))
           record {
             found = e;
             is = is;
-            down = ap reverse step ∙ reverse-append (below t.0 es) (e ∷ []);
+            down = step;
             fewer = sym (ap length step ∙ length-append (below t.0 es) (e ∷ []));
           }
 
   -- no entry is left
-  pub at_bottom : (k : ℤ) → None ≡ option_map (found_in test) (last_below k es) → reverse (below k es) ≡ []
+  pub at_bottom : (k : ℤ) → None ≡ option_map (found_in test) (last_below k es) → below k es ≡ []
   at_bottom k q = by_last (last_below k es) refl q
     where
-      by_last : (o : Option (Entry V)) → last_below k es ≡ o → None ≡ option_map (found_in test) o → reverse (below k es) ≡ []
-      by_last None p q = ap reverse (no_last k low high es s p)
+      by_last : (o : Option (Entry V)) → last_below k es ≡ o → None ≡ option_map (found_in test) o → below k es ≡ []
+      by_last None p q = no_last k low high es s p
       by_last (Some e) p q = cc
 
   -- there are no more rounds than entries

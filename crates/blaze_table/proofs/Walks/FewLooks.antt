@@ -1,12 +1,8 @@
 -- A walk down to a range looks at no more entries than a paint of the range takes out, but for a few.
-use Rattle.std.proofs.Common.{◌≡◌, ℕ, ◌+◌, ◌≤◌, ℤ, pos, ◌+ℤ◌, ◌≤ℤ◌, Bool, List, [], ◌∷◌, length, refl, ◌∙◌, ap, arith, length-append}
-use Rattle.std.specs.Prelude.{reverse, Result, Ok, Err, OnOk, IfOk}
+use Rattle.std.proofs.Common.{◌≡◌, ℕ, ◌+◌, ◌≤◌, ℤ, pos, ◌+ℤ◌, ◌≤ℤ◌, Bool, List, [], ◌∷◌, length, ◌∙◌, ap, arith}
+use Rattle.std.specs.Prelude.{Result, Ok, Err, OnOk, IfOk}
 use Rattle.std.proofs.lemmas.Int.{ints, by_lt_z}
-use Rattle.std.proofs.lemmas.List.{reverse-append}
-use Rattle.std.proofs.lemmas.List.Elements.{filter-append}
-use Rattle.blaze_int.proofs.Comparisons.{lt_true, lt_false}
 use Rattle.blaze_entries.specs.Counted.{CountedEntries}
-use Rattle.blaze_entries.specs.Scanned.{answers}
 use Rattle.blaze_entries.specs.Starts.{StartsAscend, below, from}
 use Rattle.blaze_entries.proofs.Halves.{below_takes, below_skips, below_none, from_takes, from_skips, from_all}
 use Rattle.blaze_table.specs.Entries.{Entry, entry}
@@ -20,29 +16,6 @@ use Rattle.blaze_table.proofs.Walks.Worked.{counted_then, counted_looked}
 use Rattle.blaze_table.proofs.Paints.Splices.{by_before, by_after}
 
 module _ {V : Type 0} where
-  -- what a walk looks at: the entries that start in the range or right above it, and one more
-  answers_few : (l : ℤ) (es : List (Entry V)) → answers l es ≤ length (from l es) + 1
-  answers_few l [] = omega arith
-  answers_few l (e ∷ es) = by_lt_z e.lo l
-      (λ u. rw (lt_true e.lo l u) (omega arith))
-      (λ u. rw (lt_false e.lo l u, from_takes l e es u) (omega (arith, answers_few l es)))
-
-  from_reverse : (l : ℤ) (es : List (Entry V)) → length (from l (reverse es)) ≡ length (from l es)
-  from_reverse l [] = refl
-  from_reverse l (e ∷ es) =
-      let turned : length (from l (reverse (e ∷ es))) ≡ length (from l (reverse es)) + length (from l (e ∷ [])) =
-      ap (λ xs. length (from l xs)) (reverse-append (e ∷ []) es) ∙ ap length (filter-append _ (reverse es) (e ∷ [])) ∙ length-append (from l (reverse es)) (from l (e ∷ [])) in
-      let later = from_reverse l es in
-      by_lt_z e.lo l
-      (λ u.
-      let one = ap length (from_skips l e [] u) in
-      let all = ap length (from_skips l e es u) in
-      omega arith)
-      (λ u.
-      let one = ap length (from_takes l e [] u) in
-      let all = ap length (from_takes l e es u) in
-      omega arith)
-
   -- one entry at most is both right above the range and from there on
   few_starts : (l h b high : ℤ) (es : List (Entry V)) → l ≤ℤ h → StartsAscend b high es
       → length (from l (below (h +ℤ pos 2) es)) + length (below l es) + length (from (h +ℤ pos 1) es) ≤ length es + 1
@@ -72,22 +45,19 @@ module _ {V : Type 0} (eq : V → V → Bool) where
       (λ u m p. rw (p, from_skips (h +ℤ pos 1) e es (omega (arith, ints)), over (omega (arith, ints))) (omega arith))
       (λ u m p. rw (p, from_takes (h +ℤ pos 1) e es (omega (arith, ints)), over (omega (arith, ints))) (omega arith))
 
-  module _ (l h low high : ℤ) (old : CountedEntries V) (w : l ≤ℤ h) (s : StartsAscend low high old.entries) (c : IsCanonical eq old.entries) where
-    abbrev es : List (Entry V)
-    es = old.entries
+  -- the looks of a walk, and one look more at most
+  pub looked : (l h low high : ℤ) (old new : CountedEntries V) → l ≤ℤ h → StartsAscend low high old.entries → IsCanonical eq old.entries → new ≡ record old { looks = new.looks } → old.looks ≤ new.looks
+      → new.looks ≤ old.looks + length (from l (below (h +ℤ pos 2) old.entries)) + 2 → IsLooked l h old new
+  looked l h low high old new w s c alone risen few = record {
+    alone = alone;
+    risen = risen;
+    few = omega (arith, few, few_starts l h low high old.entries w s, before_starts l old.entries c, after_starts h old.entries c);
+  }
 
-    -- the looks of a walk, and one look more at most
-    pub looked_again : (mid new : CountedEntries V) → mid ≡ record old { looks = old.looks + answers l (reverse (below (h +ℤ pos 2) es)) } → new ≡ record mid { looks = new.looks } → mid.looks ≤ new.looks → new.looks ≤ mid.looks + 1 → IsLooked l h old new
-    looked_again mid new walked looked risen once =
-        let looks = ap (λ (x : CountedEntries V). x.looks) walked in
-        record {
-          alone = looked ∙ ap (λ (x : CountedEntries V). record x { looks = new.looks }) walked;
-          risen = omega (arith, looks, risen);
-          few = omega (arith, looks, once, answers_few l (reverse (below (h +ℤ pos 2) es)), from_reverse l (below (h +ℤ pos 2) es), few_starts l h low high es w s, before_starts l es c, after_starts h es c);
-        }
-
-    pub looked : (new : CountedEntries V) → new ≡ record old { looks = old.looks + answers l (reverse (below (h +ℤ pos 2) es)) } → IsLooked l h old new
-    looked new walked = looked_again new new walked refl (omega arith) (omega arith)
+  pub looked_again : (l h low high : ℤ) (old mid new : CountedEntries V) → l ≤ℤ h → StartsAscend low high old.entries → IsCanonical eq old.entries → mid ≡ record old { looks = mid.looks } → old.looks ≤ mid.looks
+      → mid.looks ≤ old.looks + length (from l (below (h +ℤ pos 2) old.entries)) + 1 → new ≡ record mid { looks = new.looks } → mid.looks ≤ new.looks → new.looks ≤ mid.looks + 1 → IsLooked l h old new
+  looked_again l h low high old mid new w s c walked up few again risen once =
+      looked l h low high old new w s c (again ∙ ap (λ (x : CountedEntries V). record x { looks = new.looks }) walked) (omega (arith, up, risen)) (omega (arith, few, once))
 
 -- few looks, and the work behind them, of which what is left below and above the range is one entry short at most
 module _ {V : Type 0} (l h : ℤ) (old mid new : CountedEntries V) (looked : IsLooked l h old mid) where

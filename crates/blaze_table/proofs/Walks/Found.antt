@@ -1,35 +1,69 @@
--- What the steps of a walk down to a range tell an edit of the range: the plan, and a value equal to that of an entry that goes on
--- above the range with another value, a clone of it that the walk or a look has made.
-use Rattle.std.proofs.Common.{◌≡◌, ℤ, pos, ◌+ℤ◌, ◌-ℤ◌, ◌≤ℤ◌, ◌<ℤ◌, Bool, true, false, cond, List, Option, Some, None, refl, ◌∙◌, sym, subst, ap, arith, ℕ}
+-- What a walk down to a range, which speaks of the list, tells an edit of the range.
+use Rattle.std.proofs.Common.{◌≡◌, ℤ, pos, ◌+ℤ◌, ◌-ℤ◌, ◌≤ℤ◌, ◌<ℤ◌, Bool, true, false, cond, List, [], ◌∷◌, Option, Some, None, refl, ◌∙◌, sym, subst, ap, arith, ℕ, inl, inr}
+use Rattle.std.specs.List.{last_or}
 use Rattle.std.specs.Option.{option_map}
 use Rattle.std.specs.Ordering.{int_eq}
-use Rattle.std.specs.Prelude.{reverse, int_le, ◌&&◌, ◌||◌, IsSome, IfSome, IsSomeAnd, MatchOption}
-use Rattle.std.proofs.lemmas.Int.{ints}
-use Rattle.blaze_int.proofs.Comparisons.{le_true, not_both}
+use Rattle.std.specs.Prelude.{int_le, ◌&&◌, ◌||◌, IsSome, IfSome, IsSomeAnd}
+use Rattle.std.proofs.lemmas.Int.{ints, by_lt_z}
+use Rattle.blaze_int.proofs.Comparisons.{lt_true, lt_false, le_true, not_both}
 use Rattle.blaze_entries.specs.Counted.{CountedEntries}
 use Rattle.blaze_entries.specs.declared.range_entry.RangeEntry.{RangeEntry}
 use Rattle.blaze_entries.specs.Found.{found_in, shown_found}
-use Rattle.blaze_entries.specs.Scanned.{walked_value, IsAboveCloned, GoesOnUnlike, Seen, unseen, walked, walked_keys}
-use Rattle.blaze_entries.specs.Starts.{StartsAscend, below, last_below, start_at}
-use Rattle.blaze_table.specs.Canonical.{IsCanonical}
-use Rattle.blaze_table.specs.Entries.{Entry, at, entry_at, SameOption}
+use Rattle.blaze_entries.specs.Overlap.{covered}
+use Rattle.blaze_entries.specs.Walked.{RangesAscend, end_of, IsSeenIn, seen_value, IsAboveCloned, GoesOnUnlike, IsClonedIf}
+use Rattle.blaze_entries.specs.Starts.{StartsAscend, below, last_below, holder_of, start_at}
+use Rattle.blaze_entries.proofs.Halves.{below_none, below_takes}
+use Rattle.blaze_entries.proofs.Underway.{value_seen}
+use Rattle.blaze_table.specs.Canonical.{IsCanonical, AreKeys}
+use Rattle.blaze_table.specs.Entries.{Entry, entry, at, entry_at, SameOption}
 use Rattle.blaze_table.specs.Painted.{ClonesAreAlike, IsInside}
-use Rattle.blaze_table.specs.Planned.{joined_start, IsLikeAbove, IsUnlikeAbove, GoesOnUnequal, IsPlanOf, IsLooked, IsWalkOf}
+use Rattle.blaze_table.specs.Planned.{Seen, joined_start, IsUnjoined, IsEndAfter, IsEnd, IsLikeAbove, IsUnlikeAbove, GoesOnUnequal, IsLooked, IsWalkOf}
+use Rattle.blaze_table.specs.Splice.{after}
 use Rattle.blaze_table.specs.Table.{IsTable}
+use Rattle.blaze_table.proofs.Canonical.Counted.{keys_apart}
 use Rattle.blaze_table.proofs.Canonical.Lookup.{value-entry_at}
 use Rattle.blaze_table.proofs.Cuts.CutEdits.{entry_held}
+use Rattle.blaze_table.proofs.Cuts.Cutting.{covered_fits}
 use Rattle.blaze_table.proofs.Cuts.Splits.{last_at}
 use Rattle.blaze_table.proofs.Neighbours.Growing.{last_there}
+use Rattle.blaze_table.proofs.Neighbours.Holders.{starts_over}
 use Rattle.blaze_table.proofs.Paints.Inside.{inside_at}
-use Rattle.blaze_table.proofs.Walks.Outside.{walked_outside}
-use Rattle.blaze_table.proofs.Walks.WalkedPlans.{planned}
-use Rattle.blaze_table.proofs.Walks.WalkedValues.{walked_value-at}
+use Rattle.blaze_table.proofs.Paints.Splices.{by_after}
 
 -- a range does not lie inside an entry with an equal value, where one with another value goes on above it
 pub not_inside : {V : Type 0} (eq : V → V → Bool) (v : V) (l h : ℤ) → l ≤ℤ h → (es : List (Entry V)) → IsCanonical eq es → GoesOnUnequal (λ x. eq x v) h es → IsInside eq l h v es → ⊥
 not_inside {V} eq v l h w es c g i =
     let here : Some g.over.entry.value ≡ at es h = ap (option_map (λ (e : Entry V). e.value)) (sym g.over.here) ∙ value-entry_at es h in
     not_both (eq g.over.entry.value v) (subst (λ o. SameOption eq o (Some v)) (sym here) (inside_at eq l h v es h c i w (omega (arith, ints)))) g.unequal
+
+module _ {V : Type 0} (eq : V → V → Bool) where
+  -- its ranges are in order
+  pub ranges_of : (b high : ℤ) (es : List (Entry V)) → StartsAscend b high es → IsCanonical eq es → (low : ℤ) → AreKeys low high es → RangesAscend b high es
+  ranges_of b high [] s c low k = tt
+  ranges_of b high (e ∷ es) s c low k = (s.0, c.0, k.1, ranges_of (e.hi +ℤ pos 1) high es (starts_over eq (e.lo +ℤ pos 1) high e es c.1 s.2) c.2 low k.2)
+
+  module _ (test : V → Bool) (h high : ℤ) where
+    -- one more entry in front, which goes on above the range, and starts right above it or below
+    end_long : (e : Entry V) (es : List (Entry V)) (x : Entry V) → after h (e ∷ es) ≡ x ∷ es → x.lo ≡ h +ℤ pos 1 → x.hi ≡ e.hi → x.value ≡ e.value → (b : Bool) → test e.value ≡ b → IsEnd test h (e ∷ es) (cond b e.hi h)
+    end_long e es x p start finish same true t = inr (record { next = x; others = es; first = p; touches = start; ends = finish; like = ap test same ∙ t })
+    end_long e es x p start finish same false t = inl (refl, subst (IsUnjoined test h) (sym p) (λ _. ap test same ∙ t))
+
+    -- where the range ends, by the last entry that starts up to the key above it
+    pub end_is : (b : ℤ) (es : List (Entry V)) → StartsAscend b high es → IsCanonical eq es → IsEnd test h es (end_of h (option_map (found_in test) (last_below (h +ℤ pos 2) es)))
+    end_is b [] s c = inl (refl, tt)
+    end_is b (e ∷ es) s c = by_after h e es
+        (λ u p. rw (below_takes (h +ℤ pos 2) e es (omega (arith, ints, c.0))) (subst (IsEndAfter test h (after h (e ∷ es))) (short u (below (h +ℤ pos 2) es)) (subst (λ x. IsEndAfter test h x (end_of h (option_map (found_in test) (last_below (h +ℤ pos 2) es)))) (sym p) (end_is (e.lo +ℤ pos 1) es s.2 c.2))))
+        (λ u v p. rw (last u (omega (arith, ints)), lt_true h e.hi u) (end_long e es (entry (h +ℤ pos 1) e.hi e.value) p refl refl refl (test e.value) refl))
+        (λ u v p. by_lt_z e.lo (h +ℤ pos 2)
+        (λ m. rw (last u m, lt_true h e.hi u) (end_long e es e p (omega (arith, ints)) refl refl (test e.value) refl))
+        (λ m. rw (below_none (h +ℤ pos 2) e.lo high (e ∷ es) m (omega (arith, ints), s.1, s.2)) (inl (refl, subst (IsUnjoined test h) (sym p) (λ t. absurd (omega (arith, ints)))))))
+      where
+        short : e.hi ≤ℤ h → (xs : List (Entry V)) → end_of h (option_map (found_in test) (last_or None xs)) ≡ end_of h (option_map (found_in test) (last_or (Some e) xs))
+        short u [] = rw (lt_false h e.hi u) refl
+        short u (x ∷ xs) = refl
+
+        last : h <ℤ e.hi → e.lo <ℤ (h +ℤ pos 2) → last_below (h +ℤ pos 2) (e ∷ es) ≡ Some e
+        last u m = ap (last_or None) (below_takes (h +ℤ pos 2) e es m ∙ ap (λ x. e ∷ x) (below_none (h +ℤ pos 2) (e.hi +ℤ pos 1) high es (omega (arith, ints)) (starts_over eq (e.lo +ℤ pos 1) high e es c.1 s.2)))
 
 module _ {V : Type 0} (eq : V → V → Bool) (l h low high : ℤ) (w : l ≤ℤ h) (es : List (Entry V)) (s : StartsAscend low high es) (c : IsCanonical eq es) where
   -- the last entry that starts up to a key has the keys up to its end
@@ -42,85 +76,70 @@ module _ {V : Type 0} (eq : V → V → Bool) (l h low high : ℤ) (w : l ≤ℤ
   start_last : (e : Entry V) → last_below l es ≡ Some e → start_at e.lo es ≡ Some e
   start_last e q = last_there l high e es (last_at l low high e es s q)
 
+  -- the value of the last entry that starts below the range, by its start
+  pub left_value : IfSome (last_below l es) (λ e. h <ℤ e.hi → option_map (λ (x : Entry V). x.value) (start_at e.lo es) ≡ Some e.value)
+  left_value = by_last (last_below l es) refl
+    where
+      by_last : (o : Option (Entry V)) → last_below l es ≡ o → IfSome o (λ e. h <ℤ e.hi → option_map (λ (x : Entry V). x.value) (start_at e.lo es) ≡ Some e.value)
+      by_last None q = tt
+      by_last (Some e) q = λ u. ap (option_map (λ (x : Entry V). x.value)) (start_last e q)
+
+  -- that entry is there
+  pub left_there : {T : Type 0} (test : V → Bool) (rank : T → ℤ) (left : Option (RangeEntry T Bool)) → option_map (shown_found rank) left ≡ option_map (found_in test) (last_below l es) → IfSome left (λ f. IsSome (start_at (rank f.start) es))
+  left_there {T} test rank left q = by_both left (last_below l es) refl q
+    where
+      by_both : (left : Option (RangeEntry T Bool)) (x : Option (Entry V)) → last_below l es ≡ x → option_map (shown_found rank) left ≡ option_map (found_in test) x → IfSome left (λ f. IsSome (start_at (rank f.start) es))
+      by_both None x r q = tt
+      by_both (Some f) None r q = cc
+      by_both (Some f) (Some e) r q =
+          let found : shown_found rank f ≡ found_in test e = cc in
+          let start : rank f.start ≡ e.lo = ap (λ (t : ℤ × ℤ × Bool). t.0) found in
+          subst (λ o. IsSome o) (sym (ap (λ k. start_at k es) start ∙ start_last e r)) refl
+
+-- what a key has is what its holder has
+at_holder : {V : Type 0} (l b high : ℤ) (es : List (Entry V)) → RangesAscend b high es → option_map (λ (e : Entry V). e.value) (holder_of l es) ≡ at es l
+at_holder l b high [] r = refl
+at_holder l b high (e ∷ es) r = sym (value_seen l b high e es r) ∙ ap (λ o. seen_value l o e) (at_holder l (e.hi +ℤ pos 1) high es r.3)
+
+-- a clone of what there is is equal to it
+cloned_option : {V : Type 0} (eq : V → V → Bool) (is_clone : V → V → Type 0) → ClonesAreAlike is_clone eq → (o r : Option V) → IsClonedIf is_clone true o r → SameOption eq o r
+cloned_option eq is_clone k None None h = tt
+cloned_option eq is_clone k None (Some y) h = cc
+cloned_option eq is_clone k (Some x) None h = h
+cloned_option eq is_clone k (Some x) (Some y) h = k x y h
+
+-- a clone of the value above the range is equal to it
+like_cloned : {V : Type 0} (eq : V → V → Bool) (is_clone : V → V → Type 0) → ClonesAreAlike is_clone eq → (test : V → Bool) (h : ℤ) (x : Option (Entry V)) (o : Option V) → IfSome x (λ e. h <ℤ e.hi → test e.value ≡ false → IsSomeAnd o (is_clone e.value))
+    → IfSome x (λ e. h <ℤ e.hi → test e.value ≡ false → IsSomeAnd o (λ u. eq e.value u ≡ true))
+like_cloned eq is_clone k test h None o i = tt
+like_cloned eq is_clone k test h (Some e) None i = i
+like_cloned eq is_clone k test h (Some e) (Some v) i = λ u n. k e.value v (i u n)
+
+module _ {V : Type 0} (eq : V → V → Bool) (l h low high : ℤ) (w : l ≤ℤ h) (len : ℕ) (es : List (Entry V)) (s : StartsAscend low high es) (t : IsTable eq low high len es) where
+  -- what a walk asks for
+  pub has_ranges : RangesAscend low high es
+  has_ranges = ranges_of eq low high es s t.canonical low t.are_keys
+
+  pub has_keys : covered l h es ≤ℤ pos len
+  has_keys = omega (arith, ints, t.counted, covered_fits eq l h es t.canonical)
+
+  -- what it says
+  pub found_value : (is_clone : V → V → Type 0) → ClonesAreAlike is_clone eq → (r : Option V) → IsClonedIf is_clone true (option_map (λ (e : Entry V). e.value) (holder_of l es)) r → SameOption eq (at es l) r
+  found_value is_clone k r i = cloned_option eq is_clone k (at es l) r (subst (λ o. IsClonedIf is_clone true o r) (at_holder l low high es has_ranges) i)
+
   module _ (test : V → Bool) where
-    -- what a look at the last entry that starts below the range says, where it goes on above the range
-    goes_on : GoesOnUnlike h (option_map (found_in test) (last_below l es)) → GoesOnUnequal test h es
-    goes_on g = by_last (last_below l es) refl g
+    pub found_above : GoesOnUnlike test l h es → GoesOnUnequal test h es
+    found_above g = by_last (last_below l es) refl g
       where
-        by_last : (x : Option (Entry V)) → last_below l es ≡ x → GoesOnUnlike h (option_map (found_in test) x) → GoesOnUnequal test h es
+        by_last : (x : Option (Entry V)) → last_below l es ≡ x → IsSomeAnd x (λ e. (h <ℤ e.hi) × (test e.value ≡ false)) → GoesOnUnequal test h es
         by_last None q g = absurd g
-        by_last (Some e) q g = record { over = record { entry = e; here = last_held l e q h (omega (arith, ints)) (omega (arith, ints, g.0)); above = g.0 }; unequal = g.1 }
+        by_last (Some e) q g = record { over = record { entry = e; here = last_held eq l h low high w es s t.canonical l e q h (omega (arith, ints)) (omega (arith, ints, g.0)); above = g.0 }; unequal = g.1 }
 
-    -- that entry is there
-    pub left_there : {T : Type 0} (rank : T → ℤ) (left : Option (RangeEntry T Bool)) → option_map (shown_found rank) left ≡ option_map (found_in test) (last_below l es) → IfSome left (λ f. IsSome (start_at (rank f.start) es))
-    left_there {T} rank left q = by_both left (last_below l es) refl q
-      where
-        by_both : (left : Option (RangeEntry T Bool)) (x : Option (Entry V)) → last_below l es ≡ x → option_map (shown_found rank) left ≡ option_map (found_in test) x → IfSome left (λ f. IsSome (start_at (rank f.start) es))
-        by_both None x r q = tt
-        by_both (Some f) None r q = cc
-        by_both (Some f) (Some e) r q =
-            let found : shown_found rank f ≡ found_in test e = cc in
-            let start : rank f.start ≡ e.lo = ap (λ (t : ℤ × ℤ × Bool). t.0) found in
-            subst (λ o. IsSome o) (sym (ap (λ k. start_at k es) start ∙ start_last e r)) refl
-
-    module _ (is_clone : V → V → Type 0) (alike : ClonesAreAlike is_clone eq) (o : Option V) where
-      like : (x : V) (o : Option V) → IsSomeAnd o (is_clone x) → IsSomeAnd o (λ u. eq x u ≡ true)
-      like x None i = i
-      like x (Some u) i = alike x u i
-
-      above_like : (held : Option V) (x : Option (Entry V)) → ((e : Entry V) → x ≡ Some e → h <ℤ e.hi → held ≡ Some e.value) → IsAboveCloned is_clone h (option_map (found_in test) x) held o
-          → IfSome x (λ e. h <ℤ e.hi → test e.value ≡ false → IsSomeAnd o (λ u. eq e.value u ≡ true))
-      above_like held None f i = tt
-      above_like held (Some e) f i = λ u n. like e.value o (subst (λ x. MatchOption x (o ≡ None) (λ y. IsSomeAnd o (is_clone y))) (f e refl u) (i u n))
-
-      -- by a walk
-      walked_above : IsAboveCloned is_clone h (option_map (found_in test) (last_below l es)) (walked_value l None (reverse (below (h +ℤ pos 2) es))) o → IsUnlikeAbove eq test l h es o
-      walked_above i =
-          above_like (walked_value l None (reverse (below (h +ℤ pos 2) es))) (last_below l es) (λ e q u.
-          walked_value-at l eq h low high es w s c ∙ sym (value-entry_at es l) ∙ ap (option_map (λ (x : Entry V). x.value)) (last_held l e q l (omega (arith, ints)) (omega (arith, ints)))) i
-
-      -- by a look
-      looked_above : {T : Type 0} (rank : T → ℤ) (left : Option (RangeEntry T Bool)) → option_map (shown_found rank) left ≡ option_map (found_in test) (last_below l es)
-          → IfSome left (λ f. IsAboveCloned is_clone h (Some (shown_found rank f)) (option_map (λ e. e.value) (start_at (rank f.start) es)) o) → IsUnlikeAbove eq test l h es o
-      looked_above {T} rank left q i = by_both left (last_below l es) refl q i
-        where
-          by_both : (left : Option (RangeEntry T Bool)) (x : Option (Entry V)) → last_below l es ≡ x → option_map (shown_found rank) left ≡ option_map (found_in test) x
-              → IfSome left (λ f. IsAboveCloned is_clone h (Some (shown_found rank f)) (option_map (λ e. e.value) (start_at (rank f.start) es)) o)
-              → IfSome x (λ e. h <ℤ e.hi → test e.value ≡ false → IsSomeAnd o (λ u. eq e.value u ≡ true))
-          by_both left None r q i = tt
-          by_both None (Some e) r q i = cc
-          by_both (Some f) (Some e) r q i =
-              let found : shown_found rank f ≡ found_in test e = cc in
-              let start : rank f.start ≡ e.lo = ap (λ (t : ℤ × ℤ × Bool). t.0) found in
-              above_like (Some e.value) (Some e) (λ g p u. ap (λ (y : Option (Entry V)). option_map (λ (z : Entry V). z.value) y) p)
-              (subst (λ (y : ℤ × ℤ × Bool). IsAboveCloned is_clone h (Some y) (Some e.value) o) found
-              (subst (λ x. IsAboveCloned is_clone h (Some (shown_found rank f)) x o) (ap (option_map (λ (z : Entry V). z.value)) (ap (λ k. start_at k es) start ∙ start_last e r)) i))
-
-module _ {V : Type 0} (eq : V → V → Bool) (test : V → Bool) (l h low high : ℤ) (w : l ≤ℤ h) (len : ℕ) (es : List (Entry V)) (s : StartsAscend low high es) (t : IsTable eq low high len es)
-    (p : Seen) (saw : p ≡ walked test l h (unseen h) (reverse (below (h +ℤ pos 2) es))) where
-  pub found_plan : IsPlanOf test l h es p
-  found_plan = subst (IsPlanOf test l h es) (sym saw) (planned eq test l h high w low es s t.canonical)
-
-  -- where the clone of the value above the range was refused
-  pub found_above : GoesOnUnlike h p.left → GoesOnUnequal test h es
-  found_above g = goes_on eq l h low high w es s t.canonical test (subst (GoesOnUnlike h) found_plan.left g)
-
-  module _ (n : ℕ) (q : pos n +ℤ walked_keys l h (reverse (below (h +ℤ pos 2) es)) ≡ pos len) (is_clone : V → V → Type 0) (alike : ClonesAreAlike is_clone eq) (o : Option V) where
-    -- with a clone that the walk has made
-    pub found_by_walk : IsAboveCloned is_clone h p.left (walked_value l None (reverse (below (h +ℤ pos 2) es))) o → IsWalkOf eq test l h es p n o
-    found_by_walk i = record {
-      plan = found_plan;
-      outside = walked_outside eq l h low high len es w s t n q;
-      above = walked_above eq l h low high w es s t.canonical test is_clone alike o (subst (λ x. IsAboveCloned is_clone h x (walked_value l None (reverse (below (h +ℤ pos 2) es))) o) found_plan.left i);
-    }
-
-    -- with one that a look has made
-    pub found_by_look : {T : Type 0} (rank : T → ℤ) (left : Option (RangeEntry T Bool)) → option_map (shown_found rank) left ≡ p.left
-        → IfSome left (λ f. IsAboveCloned is_clone h (Some (shown_found rank f)) (option_map (λ e. e.value) (start_at (rank f.start) es)) o) → IsWalkOf eq test l h es p n o
-    found_by_look rank left d i = record {
-      plan = found_plan;
-      outside = walked_outside eq l h low high len es w s t n q;
-      above = looked_above eq l h low high w es s t.canonical test is_clone alike o rank left (d ∙ found_plan.left) i;
+    pub found_by_walk : (p : Seen) → IsSeenIn test l h es p → (n : ℕ) → pos n +ℤ covered l h es ≡ pos len → (is_clone : V → V → Type 0) → ClonesAreAlike is_clone eq → (o : Option V) → IsAboveCloned is_clone test l h es o → IsWalkOf eq test l h es p n o
+    found_by_walk p i n q is_clone k o a = record {
+      plan = record { end = subst (IsEnd test h es) (sym i.end) (end_is eq test h high low es s t.canonical); rest = i.rest; first = i.first; left = i.left; gone = i.gone };
+      outside = omega (arith, ints, q, t.counted, keys_apart eq l h es w t.canonical);
+      above = like_cloned eq is_clone k test h (last_below l es) o a;
     }
 
 -- what was found still holds behind the looks

@@ -6,7 +6,7 @@ use Rattle.std.proofs.lemmas.Int.{ints, by_lt_z}
 use Rattle.blaze_int.proofs.Comparisons.{by_bool, lt_true, lt_false, not_both}
 use Rattle.std.specs.Ordering.{int_eq}
 use Rattle.blaze_entries.specs.Found.{found_in, range_in, shown_found, shown_ends}
-use Rattle.blaze_entries.specs.Scanned.{Seen, shown_plan}
+use Rattle.blaze_entries.specs.Walked.{Seen, shown_plan}
 use Rattle.blaze_entries.specs.Starts.{StartsAscend, from, last_below, start_at}
 use Rattle.blaze_entries.specs.declared.range_entry.RangeEntry.{RangeEntry}
 use Rattle.blaze_entries.specs.declared.scan.Plan.{Plan}

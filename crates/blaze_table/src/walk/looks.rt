@@ -1,11 +1,10 @@
 //! What a paint has to know of the entries beside its range, found by single looks.
-ghost use Rattle.std.specs.Prelude.{◌≡◌, ◌+◌, ◌≤◌, pos, ◌+ℤ◌, ◌≤ℤ◌, reverse, Some, None};
-ghost use Rattle.std.specs.Prelude.{IsSome, IfSome, IfOk, OnErr};
+ghost use Rattle.std.specs.Prelude.{◌≡◌, ◌+◌, ◌≤◌, pos, ◌+ℤ◌, ◌≤ℤ◌, ◌<ℤ◌, length, true, false};
+ghost use Rattle.std.specs.Prelude.{IsSome, IsSomeAnd, IfSome, IfOk, OnErr};
 ghost use Rattle.std.specs.Option.{option_map};
-ghost use Rattle.blaze_entries.specs.Found.{shown_found};
-ghost use Rattle.blaze_entries.specs.Scanned.{shown_plan, unseen, walked, answers};
-ghost use Rattle.blaze_entries.specs.Scanned.{walked_keys, IsAboveCloned, GoesOnUnlike};
-ghost use Rattle.blaze_entries.specs.Starts.{below, start_at};
+ghost use Rattle.blaze_entries.specs.Overlap.{covered};
+ghost use Rattle.blaze_entries.specs.Starts.{below, from, start_at};
+ghost use Rattle.blaze_entries.specs.Walked.{RangesAscend, shown_plan, IsSeenIn, IsClonedIf};
 
 use blaze_entries::{Counted, Plan, RangeEntry, length_outside, next_or_last};
 use blaze_int::Integer;
@@ -21,19 +20,18 @@ pub fn plan<T: Integer, V: Eq>(
     hi: T,
     value: &V,
 ) -> (Plan<T>, T::SafeLen)
-    requires { walked_keys (T.rank lo) (T.rank hi)
-        (reverse (below (T.rank hi +ℤ pos 2) entries.old.entries)) ≤ℤ pos (T.SafeLen.number len) }
-    ensures plan { shown_plan T.rank result.0
-        ≡ walked (λ w. V.eq w value.now) (T.rank lo) (T.rank hi) (unseen (T.rank hi))
-        (reverse (below (T.rank hi +ℤ pos 2) entries.old.entries)) }
+    requires order { T.rank lo ≤ℤ T.rank hi }
+    requires ranges { RangesAscend T.low T.high entries.old.entries }
+    requires len { covered (T.rank lo) (T.rank hi) entries.old.entries
+        ≤ℤ pos (T.SafeLen.number len) }
+    ensures plan { IsSeenIn (λ w. V.eq w value.now) (T.rank lo) (T.rank hi) entries.old.entries
+        (shown_plan T.rank result.0) }
     ensures len { pos (T.SafeLen.number result.1)
-        +ℤ walked_keys (T.rank lo) (T.rank hi)
-        (reverse (below (T.rank hi +ℤ pos 2) entries.old.entries)) ≡ pos (T.SafeLen.number len) }
-    ensures looked { entries.new
-        ≡ record entries.old {
-          looks = entries.old.looks + answers (T.rank lo)
-              (reverse (below (T.rank hi +ℤ pos 2) entries.old.entries));
-        } }
+        +ℤ covered (T.rank lo) (T.rank hi) entries.old.entries ≡ pos (T.SafeLen.number len) }
+    ensures looked { entries.new ≡ record entries.old { looks = entries.new.looks } }
+    ensures risen { entries.old.looks ≤ entries.new.looks }
+    ensures few { entries.new.looks ≤ entries.old.looks
+        + length (from (T.rank lo) (below (T.rank hi +ℤ pos 2) entries.old.entries)) + 1 }
 {
     entries.in_hand();
     entries.length_in_hand();
@@ -59,11 +57,11 @@ pub fn value_above<T: Integer, V: Eq + Clone>(
     left: Option<RangeEntry<T, bool>>,
 ) -> Result<Option<V>, AllocError>
     requires { IfSome left (λ f. IsSome (start_at (T.rank f.start) entries.old.entries)) }
-    ensures above { IfOk result (λ r. IfSome left (λ f. IsAboveCloned V.is_clone (T.rank hi)
-        (Some (shown_found T.rank f))
+    ensures above { IfOk result (λ r. IfSome left (λ f. T.rank hi <ℤ T.rank f.end → f.value ≡ false
+        → IsClonedIf V.is_clone true
         (option_map (λ e. e.value) (start_at (T.rank f.start) entries.old.entries)) r)) }
     ensures refused { OnErr result
-        (GoesOnUnlike (T.rank hi) (option_map (shown_found T.rank) left)) }
+        (IsSomeAnd left (λ f. (T.rank hi <ℤ T.rank f.end) × (f.value ≡ false))) }
     ensures looked { entries.new ≡ record entries.old { looks = entries.new.looks } }
     ensures risen { entries.old.looks ≤ entries.new.looks }
     ensures few { entries.new.looks ≤ entries.old.looks + 1 }

@@ -1,4 +1,4 @@
-use Rattle.std.proofs.Common.{ap, sym, subst}
+use Rattle.std.proofs.Common.{refl, ap, sym, subst}
 use Rattle.blaze_entries.specs.Counted.{CountedEntries}
 use Rattle.blaze_table.specs.Edited.{IsPlace}
 use Rattle.blaze_table.specs.Splice.{IsRangeCutOf}
@@ -7,7 +7,7 @@ use Rattle.blaze_table.proofs.Cuts.RangeCuts.{end_is, range_place, range_cut, re
 use Rattle.blaze_table.proofs.cut.cut_range.Goals as goal
 
 pub returns-in_err-found-clause-refused : goal.returns-in_err-found-clause-refused
-returns-in_err-found-clause-refused g c = on_err c.from_residual.result c.in_err-found.ensures.refused.over
+returns-in_err-found-clause-refused g c = on_err c.from_residual.result (c.in_err-found.ensures.refused refl).over
 
 pub take_out-requires-clause-place : goal.take_out-requires-clause-place
 take_out-requires-clause-place g c =

@@ -1,3 +1,4 @@
+use Rattle.std.proofs.Common.{refl}
 use Rattle.blaze_table.proofs.Walks.FewLooks.{counted_paint}
 use Rattle.blaze_table.proofs.Walks.Found.{found_still, not_inside}
 use Rattle.blaze_table.proofs.splice.paint.Goals as goal
@@ -6,7 +7,7 @@ pub paint_planned-requires-clause-walk : goal.paint_planned-requires-clause-walk
 paint_planned-requires-clause-walk g c = found_still c.walk_down.ensures.looked c.in_ok-found.ensures.found
 
 pub returns-in_err-found-clause-inside : goal.returns-in_err-found-clause-inside
-returns-in_err-found-clause-inside g c = λ i. absurd (not_inside g.V.PartialEq.eq c.args.value _ _ c.requires.order c.args.entries.now.entries c.requires.table.canonical c.in_err-found.ensures.refused i)
+returns-in_err-found-clause-inside g c = λ i. absurd (not_inside g.V.PartialEq.eq c.args.value _ _ c.requires.order c.args.entries.now.entries c.requires.table.canonical (c.in_err-found.ensures.refused refl) i)
 
 pub returns-clause-counted : goal.returns-clause-counted
 returns-clause-counted g c =

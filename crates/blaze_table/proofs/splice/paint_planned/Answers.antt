@@ -1,7 +1,7 @@
 use Rattle.std.proofs.Common.{◌≡◌, ℕ, ℤ, pos, ◌+ℤ◌, ◌-ℤ◌, ◌≤ℤ◌, Bool, List, None, ap, arith, sym, ◌∙◌}
 use Rattle.std.specs.Cmp.{IsEquivalence}
 use Rattle.std.proofs.lemmas.Int.{ints}
-use Rattle.blaze_entries.specs.Scanned.{shown_plan}
+use Rattle.blaze_entries.specs.Walked.{shown_plan}
 use Rattle.blaze_table.specs.Canonical.{AreKeys, IsCanonical}
 use Rattle.blaze_table.specs.Count.{keys_in}
 use Rattle.blaze_table.specs.Entries.{Entry, entry}

@@ -5,8 +5,8 @@ use Rattle.blaze_int.proofs.Comparisons.{le_holds, le_fails}
 use Rattle.blaze_entries.specs.Counted.{CountedEntries}
 use Rattle.blaze_entries.specs.Starts.{below, from}
 use Rattle.blaze_entries.specs.Found.{shown_ends}
+use Rattle.blaze_entries.proofs.Halves.{halves}
 use Rattle.blaze_table.specs.Edited.{IsLeft}
-use Rattle.blaze_table.proofs.Cuts.Splits.{halves}
 use Rattle.blaze_table.proofs.Paints.EditLists.{length-with_end}
 use Rattle.blaze_table.proofs.Neighbours.Growing.{trim_short, trim_long, trim_starts}
 use Rattle.blaze_table.proofs.Walks.Worked.{worked_none, worked_edited}

@@ -1,0 +1,274 @@
+-- A walk down the entries to a range, underway: what it has found of the entries that it has seen.
+use Rattle.std.proofs.Common.{◌≡◌, ℕ, ◌+◌, ◌≤◌, length, ℤ, pos, ◌+ℤ◌, ◌-ℤ◌, ◌≤ℤ◌, ◌<ℤ◌, Bool, true, false, cond, List, [], ◌∷◌, ◌++◌, Option, Some, None, refl, ◌∙◌, sym, subst, ap, arith, append_assoc, length-append}
+use Rattle.std.specs.Prelude.{int_lt, int_le, ◌&&◌, IfSome, IsSomeAnd}
+use Rattle.std.specs.Int.{int_max, int_min}
+use Rattle.std.specs.List.{last_or}
+use Rattle.std.specs.Option.{option_map}
+use Rattle.std.proofs.lemmas.Int.{ints, by_lt_z}
+use Rattle.std.proofs.lemmas.List.Elements.{filter-append}
+use Rattle.blaze_int.proofs.Comparisons.{lt_true, lt_false, le_true, le_false, lt_holds, lt_fails}
+use Rattle.blaze_entries.specs.Entries.{Entry}
+use Rattle.blaze_entries.specs.Found.{found_in, shown_found}
+use Rattle.blaze_entries.specs.Overlap.{shared, overlap, covered}
+use Rattle.blaze_entries.specs.Starts.{StartsAscend, below, from, last_below, reaching, holder_of}
+use Rattle.blaze_entries.specs.Walked.{RangesAscend, Seen, IsSeenIn, unseen, seen, seen_value, IsValueAbove, IsClonedIf}
+use Rattle.blaze_entries.specs.declared.range_entry.RangeEntry.{RangeEntry}
+use Rattle.blaze_entries.proofs.Ascending.{start_lower}
+use Rattle.blaze_entries.proofs.Halves.{StartsBelow, below_none, below_takes, below_skips, from_takes, from_skips, from_all, starts_from, starts_below, halves}
+use Rattle.blaze_entries.proofs.Seen.{starts_of, last_past, none_seen, next_seen, past_seen}
+
+some_shared : (l h a b : ℤ) → pos 0 ≤ℤ shared l h a b
+some_shared l h a b = up_to_keys (int_max l a) (int_min h b)
+  where
+    up_to_keys : (a b : ℤ) → pos 0 ≤ℤ cond (int_le a b) ((b -ℤ a) +ℤ pos 1) (pos 0)
+    up_to_keys a b = grind (arith, ints)
+
+module _ {V : Type 0} where
+  -- a part of a list in order
+  ranges_part : (b high : ℤ) (xs ys : List (Entry V)) → RangesAscend b high (xs ++ ys) → (c : ℤ) × (b ≤ℤ c) × RangesAscend c high ys
+  ranges_part b high [] ys r = (b, omega (arith, ints), r)
+  ranges_part b high (x ∷ xs) ys r = let i = ranges_part (x.hi +ℤ pos 1) high xs ys r.3 in (i.0, omega (arith, ints, r.0, r.1, i.1), i.2)
+
+  below_part : (k : ℤ) (xs ys : List (Entry V)) → StartsBelow k (xs ++ ys) → StartsBelow k xs × StartsBelow k ys
+  below_part k [] ys s = (tt, s)
+  below_part k (x ∷ xs) ys s = let i = below_part k xs ys s.1 in ((s.0, i.0), i.1)
+
+  module _ (l h : ℤ) where
+    pub covered-append : (xs ys : List (Entry V)) → covered l h (xs ++ ys) ≡ covered l h xs +ℤ covered l h ys
+    covered-append [] ys = omega (arith, ints)
+    covered-append (x ∷ xs) ys = omega (arith, ints, covered-append xs ys)
+
+    pub some_covered : (es : List (Entry V)) → pos 0 ≤ℤ covered l h es
+    some_covered [] = omega (arith, ints)
+    some_covered (e ∷ es) = omega (arith, ints, some_shared l h e.lo e.hi, some_covered es)
+
+    pub overlap_none : (e : Entry V) → e.lo ≤ℤ e.hi → e.hi <ℤ l → overlap l h e ≡ pos 0
+    overlap_none e w u = grind (arith, ints)
+
+    pub overlap_over : (e : Entry V) → e.lo ≤ℤ e.hi → h <ℤ e.lo → overlap l h e ≡ pos 0
+    overlap_over e w u = grind (arith, ints)
+
+    -- nothing of what starts above the range
+    covered_over : (b high : ℤ) (es : List (Entry V)) → h <ℤ b → RangesAscend b high es → covered l h es ≡ pos 0
+    covered_over b high [] u r = refl
+    covered_over b high (e ∷ es) u r = omega (arith, ints, overlap_over e r.1 (omega (arith, ints, r.0)), covered_over (e.hi +ℤ pos 1) high es (omega (arith, ints, r.0, r.1)) r.3)
+
+    -- nothing of what stands before an entry that starts below the range, and all of it starts below the range
+    record IsPast (xs : List (Entry V)) : Type 0 where
+      starts : StartsBelow l xs
+      free : covered l h xs ≡ pos 0
+
+    past : (b high : ℤ) (xs : List (Entry V)) (e : Entry V) (ys : List (Entry V)) → RangesAscend b high (xs ++ e ∷ ys) → e.lo <ℤ l → IsPast xs
+    past b high [] e ys r u = record { starts = tt; free = refl }
+    past b high (x ∷ xs) e ys r u =
+        let i = past (x.hi +ℤ pos 1) high xs e ys r.3 u in
+        let p = ranges_part (x.hi +ℤ pos 1) high xs (e ∷ ys) r.3 in
+        record {
+          starts = (omega (arith, ints, r.1, p.1, p.2.0), i.starts);
+          free = omega (arith, ints, i.free, overlap_none x r.1 (omega (arith, ints, p.1, p.2.0)));
+        }
+
+  -- the value of the key l, with one more entry in front
+  pub value_seen : (l b high : ℤ) (e : Entry V) (es : List (Entry V)) → RangesAscend b high (e ∷ es) → seen_value l (option_map (λ (x : Entry V). x.value) (holder_of l es)) e ≡ option_map (λ (x : Entry V). x.value) (holder_of l (e ∷ es))
+  value_seen l b high e es r = by_lt_z l e.lo
+      (λ u. rw (le_false e.lo l u, below_skips (l +ℤ pos 1) e es (omega (arith, ints))) refl)
+      (λ u. by_lt_z e.hi l
+      (λ v. rw (le_true e.lo l u, le_false l e.hi v, below_takes (l +ℤ pos 1) e es (omega (arith, ints))) (ap (option_map (λ (x : Entry V). x.value)) (unheld v (below (l +ℤ pos 1) es))))
+      (λ v. rw (le_true e.lo l u, le_true l e.hi v, below_takes (l +ℤ pos 1) e es (omega (arith, ints)), below_none (l +ℤ pos 1) (e.hi +ℤ pos 1) high es (omega (arith, ints)) (starts_of (e.hi +ℤ pos 1) high es r.3), lt_false e.hi l v) refl))
+    where
+      unheld : e.hi <ℤ l → (xs : List (Entry V)) → reaching l (last_or None xs) ≡ reaching l (last_or (Some e) xs)
+      unheld v [] = rw (lt_true e.hi l v) refl
+      unheld v (x ∷ xs) = refl
+
+module _ {V : Type 0} (test : V → Bool) (l h high : ℤ) (es : List (Entry V)) (len : ℤ) (n : ℕ) where
+  -- Before it stand the entries `others`, and it has seen `tail`, which all start at l or above: how many keys lie outside of those
+  -- that the range shares with them, and how many looks there were.
+  pub record IsUnderway (others tail : List (Entry V)) (s : Seen) (left : ℤ) (looks : ℕ) : Type 0 where
+    pub parts : es ≡ others ++ tail
+    pub near : StartsBelow (h +ℤ pos 2) others
+    pub starts : StartsAscend l high tail
+    pub seen : IsSeenIn test l h tail s
+    pub kept : left +ℤ covered l h tail ≡ len
+    pub few : looks ≤ n + length (from l (below (h +ℤ pos 2) tail))
+    pub risen : n ≤ looks
+
+-- it has seen what there is to see
+module _ {V : Type 0} (test : V → Bool) (l h : ℤ) (es : List (Entry V)) (len : ℤ) (n : ℕ) where
+  pub record IsDone (s : Seen) (left : ℤ) (looks : ℕ) : Type 0 where
+    pub seen : IsSeenIn test l h es s
+    pub kept : left +ℤ covered l h es ≡ len
+    pub few : looks ≤ n + length (from l (below (h +ℤ pos 2) es))
+    pub risen : n ≤ looks
+
+module _ {V : Type 0} (test : V → Bool) (l h low high : ℤ) (w : l ≤ℤ h) (es : List (Entry V)) (r : RangesAscend low high es) where
+  -- what starts above the key above the range
+  abbrev over : List (Entry V)
+  over = from (h +ℤ pos 2) es
+
+  over_starts : StartsAscend (h +ℤ pos 2) high over
+  over_starts = starts_from (h +ℤ pos 2) low high es (starts_of low high es r)
+
+  pub begins : (len : ℤ) {n looks : ℕ} (others : List (Entry V)) (s : Seen) → others ≡ below (h +ℤ pos 2) es → s ≡ unseen h → looks ≡ n → IsUnderway test l h high es len n others over s len looks
+  begins len others s up none q = record {
+    parts = halves (h +ℤ pos 2) low high es (starts_of low high es r) ∙ ap (λ xs. xs ++ over) (sym up);
+    near = subst (StartsBelow (h +ℤ pos 2)) (sym up) (starts_below (h +ℤ pos 2) es);
+    starts = start_lower (h +ℤ pos 2) l high over (omega (arith, ints)) over_starts;
+    seen = subst (IsSeenIn test l h over) (sym none) (none_seen test l h high w (h +ℤ pos 2) over (omega (arith, ints)) over_starts);
+    kept = let none = covered_from low es r in omega (arith, ints, none);
+    few = omega (arith, q);
+    risen = omega (arith, q);
+  }
+    where
+      covered_from : (b : ℤ) (xs : List (Entry V)) → RangesAscend b high xs → covered l h (from (h +ℤ pos 2) xs) ≡ pos 0
+      covered_from b [] r = refl
+      covered_from b (x ∷ xs) r = by_lt_z x.lo (h +ℤ pos 2)
+          (λ u. rw (from_skips (h +ℤ pos 2) x xs u) (covered_from (x.hi +ℤ pos 1) xs r.3))
+          (λ u. rw (from_all (h +ℤ pos 2) x.lo high (x ∷ xs) u (let s = starts_of b high (x ∷ xs) r in (omega (arith, ints), s.1, s.2))) (covered_over l h x.lo high (x ∷ xs) (omega (arith, ints)) (omega (arith, ints), r.1, r.2, r.3)))
+
+  pub value_begins : None ≡ option_map (λ (x : Entry V). x.value) (holder_of l over)
+  value_begins = sym (ap (λ xs. option_map (λ (x : Entry V). x.value) (reaching l (last_or None xs))) (below_none (l +ℤ pos 1) (h +ℤ pos 2) high over (omega (arith, ints)) over_starts))
+
+module _ {V : Type 0} {test : V → Bool} {l h high : ℤ} {es : List (Entry V)} {len : ℤ} {n : ℕ} {others tail : List (Entry V)} {s : Seen} {left : ℤ} {looks : ℕ} (i : IsUnderway test l h high es len n others tail s left looks) where
+  -- no entry is left
+  module _ (none : others ≡ []) where
+    all_seen : tail ≡ es
+    all_seen = sym (i.parts ∙ ap (λ xs. xs ++ tail) none)
+
+    pub ends : IsDone test l h es len n s left looks
+    ends = record {
+      seen = subst (λ xs. IsSeenIn test l h xs s) all_seen i.seen;
+      kept = ap (λ xs. left +ℤ covered l h xs) (sym all_seen) ∙ i.kept;
+      few = subst (λ xs. looks ≤ n + length (from l (below (h +ℤ pos 2) xs))) all_seen i.few;
+      risen = i.risen;
+    }
+
+    pub value_ends : {o : Option V} → o ≡ option_map (λ (x : Entry V). x.value) (holder_of l tail) → o ≡ option_map (λ (x : Entry V). x.value) (holder_of l es)
+    value_ends v = v ∙ ap (λ xs. option_map (λ (x : Entry V). x.value) (holder_of l xs)) all_seen
+
+    pub above_ends : (w : l ≤ℤ h) (o : Option V) → IsValueAbove l h es o
+    above_ends w o = subst (λ (x : Option (Entry V)). IfSome x (λ e. h <ℤ e.hi → o ≡ Some e.value)) (sym (ap (last_below l) (sym all_seen) ∙ ap (last_or None) (below_none l l high tail (omega (arith, ints)) i.starts))) tt
+
+  -- the entry e is next, and what a look at it answers is f
+  module _ (low : ℤ) (w : l ≤ℤ h) (r : RangesAscend low high es) (xs : List (Entry V)) (e : Entry V) (next : others ≡ xs ++ e ∷ []) {f : ℤ × ℤ × Bool} (is : f ≡ found_in test e) where
+    abbrev whole : es ≡ xs ++ e ∷ tail
+    whole = i.parts ∙ ap (λ ys. ys ++ tail) next ∙ append_assoc xs (e ∷ []) tail
+
+    abbrev ranges : (c : ℤ) × (low ≤ℤ c) × RangesAscend c high (e ∷ tail)
+    ranges = ranges_part low high xs (e ∷ tail) (subst (RangesAscend low high) whole r)
+
+    abbrev near_parts : StartsBelow (h +ℤ pos 2) xs × StartsBelow (h +ℤ pos 2) (e ∷ [])
+    near_parts = below_part (h +ℤ pos 2) xs (e ∷ []) (subst (StartsBelow (h +ℤ pos 2)) next i.near)
+
+    abbrev start : f.0 ≡ e.lo
+    start = ap (λ (t : ℤ × ℤ × Bool). t.0) is
+
+    abbrev keys : shared l h f.0 f.1 ≡ overlap l h e
+    keys = ap (λ (t : ℤ × ℤ × Bool). shared l h t.0 t.1) is
+
+    -- there are no more to go than entries
+    pub fits : s.gone + 1 ≤ length es
+    fits =
+        let gone = i.seen.gone in
+        let all = ap length whole ∙ length-append xs (e ∷ tail) in
+        omega (arith, gone, all, fewer (s.end +ℤ pos 1) tail)
+      where
+        fewer : (k : ℤ) (xs : List (Entry V)) → length (from (l +ℤ pos 1) (below k xs)) ≤ length xs
+        fewer k [] = omega arith
+        fewer k (x ∷ xs) = by_lt_z x.lo k
+            (λ u. by_lt_z x.lo (l +ℤ pos 1)
+            (λ v. rw (below_takes k x xs u, from_skips (l +ℤ pos 1) x (below k xs) v) (omega (arith, fewer k xs)))
+            (λ v. rw (below_takes k x xs u, from_takes (l +ℤ pos 1) x (below k xs) v) (omega (arith, fewer k xs))))
+            (λ u. rw (below_skips k x xs u) (omega (arith, fewer k xs)))
+
+    pub has_room : covered l h es ≤ℤ len → shared l h f.0 f.1 ≤ℤ left
+    has_room room =
+        let all = ap (covered l h) whole ∙ covered-append l h xs (e ∷ tail) in
+        let kept = i.kept in
+        omega (arith, ints, keys, room, all, kept, some_covered l h xs)
+
+    module _ {q : Seen} (saw : q ≡ seen l h s f) where
+      seen_next : IsSeenIn test l h (e ∷ tail) q
+      seen_next = subst (IsSeenIn test l h (e ∷ tail)) (sym (saw ∙ ap (seen l h s) is)) (next_seen test l h high w ranges.0 e tail ranges.2 near_parts.1.0 i.starts s i.seen)
+
+      module _ (rest : ℤ) (taken : rest +ℤ shared l h f.0 f.1 ≡ left) where
+        -- it starts at l or above, and the walk goes on
+        pub goes_on : {more : ℕ} → more ≡ looks + 1 → int_lt f.0 l ≡ false → IsUnderway test l h high es len n xs (e ∷ tail) q rest more
+        goes_on one u =
+            let up = lt_fails f.0 l u in
+            let here = start in
+            let length_more = ap length (ap (from l) (below_takes (h +ℤ pos 2) e tail near_parts.1.0) ∙ from_takes l e (below (h +ℤ pos 2) tail) (omega (arith, ints))) in
+            let kept = i.kept in
+            record {
+              parts = whole;
+              near = near_parts.0;
+              starts = let s = starts_of ranges.0 high (e ∷ tail) ranges.2 in (omega (arith, ints), s.1, s.2);
+              seen = seen_next;
+              kept = omega (arith, ints, taken, kept, keys);
+              few = omega (arith, one, length_more, i.few);
+              risen = omega (arith, one, i.risen);
+            }
+
+        -- it starts below l, and the walk ends
+        pub stops : int_lt f.0 l ≡ true → IsDone test l h es len n q rest looks
+        stops u =
+            let down = lt_holds f.0 l u in
+            let here = start in
+            let under : e.lo <ℤ l = omega (arith, ints) in
+            let p = past l h low high xs e tail (subst (RangesAscend low high) whole r) under in
+            let all = ap (covered l h) whole ∙ covered-append l h xs (e ∷ tail) in
+            let free = p.free in
+            let kept = i.kept in
+            let more = ap (λ ys. length (from l (below (h +ℤ pos 2) ys))) whole in
+            record {
+              seen = subst (λ ys. IsSeenIn test l h ys q) (sym whole) (past_seen test l h high w xs e tail p.starts under q seen_next);
+              kept = omega (arith, ints, taken, kept, all, free, keys);
+              few = omega (arith, i.few, more, longer (e ∷ tail) xs, longer tail (e ∷ []));
+              risen = i.risen;
+            }
+          where
+            longer : (ys zs : List (Entry V)) → length (from l (below (h +ℤ pos 2) ys)) ≤ length (from l (below (h +ℤ pos 2) (zs ++ ys)))
+            longer ys zs =
+                let parts = ap length (ap (from l) (filter-append (λ x. int_lt x.lo (h +ℤ pos 2)) zs ys) ∙ filter-append (λ x. int_le l x.lo) (below (h +ℤ pos 2) zs) (below (h +ℤ pos 2) ys))
+                ∙ length-append (from l (below (h +ℤ pos 2) zs)) (from l (below (h +ℤ pos 2) ys)) in
+                omega (arith, parts)
+
+    -- the value of the key l
+    module _ {o p : Option V} (v : o ≡ option_map (λ (x : Entry V). x.value) (holder_of l tail)) (saw : p ≡ seen_value l o e) where
+      pub value_goes_on : p ≡ option_map (λ (x : Entry V). x.value) (holder_of l (e ∷ tail))
+      value_goes_on = saw ∙ ap (λ x. seen_value l x e) v ∙ value_seen l ranges.0 high e tail ranges.2
+
+      pub value_stops : int_lt f.0 l ≡ true → p ≡ option_map (λ (x : Entry V). x.value) (holder_of l es)
+      value_stops u =
+          let down = lt_holds f.0 l u in
+          let here = start in
+          value_goes_on ∙ sym (ap (λ x. option_map (λ (y : Entry V). y.value) (reaching l x)) (ap (last_below (l +ℤ pos 1)) whole ∙ last_past (l +ℤ pos 1) xs e tail (omega (arith, ints))))
+
+      -- that of the last entry that starts below l, where that one goes on above the range
+      pub above_stops : int_lt f.0 l ≡ true → IsValueAbove l h es p
+      above_stops u =
+          let down = lt_holds f.0 l u in
+          let here = start in
+          let under : e.lo <ℤ l = omega (arith, ints) in
+          let last : last_below l es ≡ Some e =
+          ap (last_below l) whole ∙ last_past l xs e tail under ∙ ap (last_or None) (below_takes l e tail under ∙ ap (λ ys. e ∷ ys) (below_none l l high tail (omega (arith, ints)) i.starts)) in
+          subst (λ (x : Option (Entry V)). IfSome x (λ y. h <ℤ y.hi → p ≡ Some y.value)) (sym last)
+          (λ long. saw ∙ ap (λ b. cond b (Some e.value) o) (ap (λ b. b && int_le l e.hi) (le_true e.lo l (omega (arith, ints))) ∙ le_true l e.hi (omega (arith, ints))))
+
+-- a clone that is made by what a look has answered, of a value that is the entry's where it is asked for
+pub cloned_above : {T V : Type 0} (rank : T → ℤ) (is_clone : V → V → Type 0) (test : V → Bool) (h : ℤ) (left : Option (RangeEntry T Bool)) (o : Option (Entry V)) (v : ℤ → Option V) (r : Option V) → option_map (shown_found rank) left ≡ option_map (found_in test) o
+    → IfSome o (λ e. h <ℤ e.hi → v e.lo ≡ Some e.value) → IfSome left (λ f. h <ℤ rank f.end → f.value ≡ false → IsClonedIf is_clone true (v (rank f.start)) r) → IfSome o (λ e. h <ℤ e.hi → test e.value ≡ false → IsSomeAnd r (is_clone e.value))
+cloned_above rank is_clone test h left None v r q held i = tt
+cloned_above rank is_clone test h None (Some e) v r q held i = cc
+cloned_above rank is_clone test h (Some f) (Some e) v r q held i = λ u n.
+    let s : shown_found rank f ≡ found_in test e = cc in
+    subst (λ x. IsClonedIf is_clone true x r) (ap (λ (t : ℤ × ℤ × Bool). v t.0) s ∙ held u)
+    (i (subst (λ z. h <ℤ z) (sym (ap (λ (t : ℤ × ℤ × Bool). t.1) s)) u) (ap (λ (t : ℤ × ℤ × Bool). t.2) s ∙ n))
+
+-- where it was to be made, the last entry that starts below the range goes on above it, with an unequal value
+pub refused_above : {T V : Type 0} (rank : T → ℤ) (test : V → Bool) (h : ℤ) (left : Option (RangeEntry T Bool)) (o : Option (Entry V)) → option_map (shown_found rank) left ≡ option_map (found_in test) o
+    → IsSomeAnd left (λ f. (h <ℤ rank f.end) × (f.value ≡ false)) → IsSomeAnd o (λ e. (h <ℤ e.hi) × (test e.value ≡ false))
+refused_above rank test h None o q i = absurd i
+refused_above rank test h (Some f) None q i = cc
+refused_above rank test h (Some f) (Some e) q i =
+    let s : shown_found rank f ≡ found_in test e = cc in
+    (subst (λ z. h <ℤ z) (ap (λ (t : ℤ × ℤ × Bool). t.1) s) i.0, sym (ap (λ (t : ℤ × ℤ × Bool). t.2) s) ∙ i.1)

@@ -1,0 +1,95 @@
+use Rattle.std.proofs.Common.{◌≡◌, pos, ◌+ℤ◌, ◌∷◌, refl, arith, ap, sym, ◌∙◌}
+use Rattle.std.specs.Prelude.{map}
+use Rattle.std.specs.Option.{option_copied}
+use Rattle.blaze_entries.specs.Found.{is_sought}
+use Rattle.blaze_entries.specs.Nodes.{shown_nodes, full, held}
+use Rattle.blaze_entries.specs.Starts.{below, from}
+use Rattle.blaze_entries.specs.Walked.{seen_value}
+use Rattle.blaze_entries.proofs.Halves.{below_next}
+use Rattle.blaze_entries.proofs.Held.{nodes_ascend, full_of, full_held, below-held}
+use Rattle.blaze_entries.proofs.Scans.{found_entry, length-nodes}
+use Rattle.blaze_entries.proofs.Underway.{begins, value_begins, fits, has_room, goes_on, stops, value_goes_on, value_stops, above_stops, above_ends}
+use Rattle.blaze_entries.proofs.scan.walk_tree.Goals as goal
+
+pub nodes_up_to-nodes-requires : goal.nodes_up_to-nodes-requires
+nodes_up_to-nodes-requires g c = nodes_ascend g.T.Integer.low g.T.Integer.high _ c.requires.held
+
+pub loop-next-init : goal.loop-next-init
+loop-next-init g c =
+    let rank = g.T.Integer.rank in
+    let h = rank c.args.hi in
+    let k = rank c.next_or_last-top.result +ℤ pos 1 in
+    let ps = shown_nodes rank c.args.tree.now.entries in
+    let q : shown_nodes rank c.nodes_up_to-nodes.result ≡ map held (below k (full ps)) =
+    c.nodes_up_to-nodes.ensures
+    ∙ ap (below k) c.requires.held.full.held ∙ below-held k (full ps) in
+    let e = full_of (shown_nodes rank c.nodes_up_to-nodes.result) (below k (full ps)) q
+    ∙ below_next g.T.Integer.low g.T.Integer.high h (rank c.next_or_last-top.result) (full ps) c.requires.held.ascend c.next_or_last-top.ensures in
+    let test = is_sought g.V.PartialEq.eq (option_copied c.args.value) in
+    let low = g.T.Integer.low in
+    let high = g.T.Integer.high in
+    record {
+      full = full_held (shown_nodes rank c.nodes_up_to-nodes.result) (below k (full ps)) q;
+      seen = from (h +ℤ pos 2) (full ps);
+      walk = begins test (rank c.args.lo) h low high c.requires.order (full ps) c.requires.ranges _ _ _ e c.new-plan.ensures refl;
+      value = value_begins test (rank c.args.lo) h low high c.requires.order (full ps) c.requires.ranges;
+    }
+
+pub length_outside-left-requires : goal.length_outside-left-requires
+length_outside-left-requires g c =
+    let seen = c.in-Some.ensures.found in
+    has_room c.loop-next.invariant.walk g.T.Integer.low c.requires.order c.requires.ranges _ seen.0 seen.2 seen.1.found c.requires.len
+
+pub see-requires : goal.see-requires
+see-requires g c =
+    let seen = c.in-Some.ensures.found in
+    let nodes = length-nodes g.T.Integer.rank c.args.tree.now.entries c.requires.held.full in
+    omega (arith, nodes, fits c.loop-next.invariant.walk g.T.Integer.low c.requires.order c.requires.ranges _ seen.0 seen.2 seen.1.found, c.len-most.ensures.len, c.len-most.ensures.small)
+
+pub returns-then-is_below-clause-plan : goal.returns-then-is_below-clause-plan
+returns-then-is_below-clause-plan g c =
+    let seen = c.in-Some.ensures.found in
+    let i = stops c.loop-next.invariant.walk g.T.Integer.low c.requires.order c.requires.ranges _ seen.0 seen.2 seen.1.found c.see.ensures.seen (pos (g.T.SafeLen.SafeLength.number c.length_outside-left.result)) c.length_outside-left.ensures (sym c.is_below.ensures ∙ c.if-is_below.true) in
+    i.seen
+
+pub returns-then-is_below-clause-len : goal.returns-then-is_below-clause-len
+returns-then-is_below-clause-len g c =
+    let seen = c.in-Some.ensures.found in
+    let i = stops c.loop-next.invariant.walk g.T.Integer.low c.requires.order c.requires.ranges _ seen.0 seen.2 seen.1.found c.see.ensures.seen (pos (g.T.SafeLen.SafeLength.number c.length_outside-left.result)) c.length_outside-left.ensures (sym c.is_below.ensures ∙ c.if-is_below.true) in
+    i.kept
+
+pub returns-then-is_below-clause-few : goal.returns-then-is_below-clause-few
+returns-then-is_below-clause-few g c =
+    let seen = c.in-Some.ensures.found in
+    let i = stops c.loop-next.invariant.walk g.T.Integer.low c.requires.order c.requires.ranges _ seen.0 seen.2 seen.1.found c.see.ensures.seen (pos (g.T.SafeLen.SafeLength.number c.length_outside-left.result)) c.length_outside-left.ensures (sym c.is_below.ensures ∙ c.if-is_below.true) in
+    omega (arith, i.few, c.in-Some.ensures.looked)
+
+pub returns-then-is_below-clause-risen : goal.returns-then-is_below-clause-risen
+returns-then-is_below-clause-risen g c = omega (arith, c.loop-next.invariant.walk.risen, c.in-Some.ensures.looked)
+
+pub returns-then-is_below-clause-above : goal.returns-then-is_below-clause-above
+returns-then-is_below-clause-above g c =
+    let seen = c.in-Some.ensures.found in
+    above_stops c.loop-next.invariant.walk g.T.Integer.low c.requires.order c.requires.ranges _ seen.0 seen.2 seen.1.found c.loop-next.invariant.value
+    (c.seen_value-held.ensures ∙ ap (seen_value (g.T.Integer.rank c.args.lo) (option_copied c.loop-next.held)) (found_entry seen.1)) (sym c.is_below.ensures ∙ c.if-is_below.true)
+
+pub returns-then-is_below-clause-value : goal.returns-then-is_below-clause-value
+returns-then-is_below-clause-value g c =
+    let seen = c.in-Some.ensures.found in
+    value_stops c.loop-next.invariant.walk g.T.Integer.low c.requires.order c.requires.ranges _ seen.0 seen.2 seen.1.found c.loop-next.invariant.value
+    (c.seen_value-held.ensures ∙ ap (seen_value (g.T.Integer.rank c.args.lo) (option_copied c.loop-next.held)) (found_entry seen.1)) (sym c.is_below.ensures ∙ c.if-is_below.true)
+
+pub loop-next-preserved : goal.loop-next-preserved
+loop-next-preserved g c =
+    let seen = c.in-Some.ensures.found in
+    record {
+      full = c.in-Some.ensures.full;
+      seen = seen.0 ∷ c.loop-next.invariant.seen;
+      walk =
+          goes_on c.loop-next.invariant.walk g.T.Integer.low c.requires.order c.requires.ranges _ seen.0 seen.2 seen.1.found c.see.ensures.seen (pos (g.T.SafeLen.SafeLength.number c.length_outside-left.result)) c.length_outside-left.ensures c.in-Some.ensures.looked (sym c.is_below.ensures ∙ c.if-is_below.false);
+      value = value_goes_on c.loop-next.invariant.walk g.T.Integer.low c.requires.order c.requires.ranges _ seen.0 seen.2 seen.1.found c.loop-next.invariant.value
+          (c.seen_value-held.ensures ∙ ap (seen_value (g.T.Integer.rank c.args.lo) (option_copied c.loop-next.held)) (found_entry seen.1));
+    }
+
+pub returns-clause-above : goal.returns-clause-above
+returns-clause-above g c = above_ends c.loop-next.invariant.walk c.in_default.ensures.found c.requires.order _
