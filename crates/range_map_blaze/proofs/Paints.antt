@@ -3,6 +3,7 @@ pub mod PaintedOver
 pub mod Insides
 pub mod LeftAlone
 pub mod Paintings
+pub mod InTurn
 pub mod Joinings
 pub mod FilledFrom
 pub mod Following

@@ -3,7 +3,7 @@ use Rattle.std.specs.List.{Contains}
 use Rattle.std.specs.Prelude.{◌≡◌, ℤ, ◌<ℤ◌, ◌+◌, ◌-◌, ◌*◌, ◌≤◌, ◌⊎◌, length, Bool, List, [], ◌∷◌, ◌++◌}
 use Rattle.blaze_table.specs.Entries.{Entry, at, SameOption}
 use Rattle.blaze_table.specs.Canonical.{IsRangeMap}
-use Rattle.blaze_table.specs.Painted.{IsInside, LeavesAlone, painted_in_order}
+use Rattle.blaze_table.specs.Painted.{IsInside, IsPainted, LeavesAlone, painted_in_order}
 
 -- a key and what shows its value, as the entry of that key alone
 abbrev pub shown_point : {T R V : Type 0} → (T → ℤ) → (R → V) → T × R → Entry V
@@ -19,6 +19,24 @@ abbrev pub AreLeftAlone : {V : Type 0} → (V → V → Bool) → List (Entry V)
 AreLeftAlone eq [] e = Unit {0}
 AreLeftAlone eq (p ∷ ps) e = LeavesAlone eq p e × AreLeftAlone eq ps e
 
+-- a pair is painted: one that has no key, or lies inside an entry with an equal value, changes nothing, the stored value neither
+pub record IsPairPainted {V : Type 0} (eq : V → V → Bool) (low high : ℤ) (p : Entry V) (old new : List (Entry V)) : Type 0 where
+  pub painted : IsPainted eq low high p old new
+  pub nowhere : p.hi <ℤ p.lo → new ≡ old
+  pub inside : IsInside eq p.lo p.hi p.value old → new ≡ old
+
+-- the pairs are painted one by one, each on the list that the one before left
+abbrev pub ArePaintedInTurn : {V : Type 0} → (V → V → Bool) → ℤ → ℤ → List (Entry V) → List (Entry V) → List (Entry V) → Type 0
+ArePaintedInTurn eq low high [] old new = new ≡ old
+ArePaintedInTurn {V} eq low high (p ∷ ps) old new = (next : List (Entry V)) × IsPairPainted eq low high p old next × ArePaintedInTurn eq low high ps next new
+
+-- a first part of the pairs, perhaps none of them, is painted one by one
+pub record IsPartPaintedInTurn {V : Type 0} (eq : V → V → Bool) (low high : ℤ) (pairs old new : List (Entry V)) : Type 0 where
+  pub done : List (Entry V)
+  pub rest : List (Entry V)
+  pub parts : pairs ≡ done ++ rest
+  pub painted : ArePaintedInTurn eq low high done old new
+
 -- what painting pairs in order does to a range map: its content is the painted one, each pair adds two entries at most, the
 -- first pair of all one; pairs that all lie inside entries with equal values change nothing, the stored values neither; and an
 -- entry that every pair leaves alone is still there, with its very value
@@ -29,10 +47,3 @@ pub record IsExtended {V : Type 0} (eq : V → V → Bool) (low high : ℤ) (pai
   pub alone : old ≡ [] → length new ≤ 2 * length pairs - 1
   pub inside : AreInside eq pairs old → new ≡ old
   pub kept : (e : Entry V) → Contains old e → AreLeftAlone eq pairs e → Contains new e
-
--- a first part of the pairs, perhaps none of them, is painted
-pub record IsPartlyExtended {V : Type 0} (eq : V → V → Bool) (low high : ℤ) (pairs old new : List (Entry V)) : Type 0 where
-  pub done : List (Entry V)
-  pub rest : List (Entry V)
-  pub parts : pairs ≡ done ++ rest
-  pub extended : IsExtended eq low high done old new

@@ -1,4 +1,4 @@
--- The laws of filling one map from another, of joins of maps, and of maps with what a closure answers at their values.
+-- The laws of pairs painted one by one, of filling one map from another, of joins of maps, and of maps with what a closure answers at their values.
 use Rattle.std.specs.Prelude.{◌≡◌, ℤ, ◌≤ℤ◌, Bool, List, Option, IsSome}
 use Rattle.std.specs.Option.{is_some}
 use Rattle.std.specs.Fn.{Mut}
@@ -8,8 +8,13 @@ use Rattle.blaze_table.specs.Count.{mapped_keys}
 use Rattle.blaze_streams.specs.declared.segmenting.joins.JoinKind.TheVariants.{Inner, Left, Full}
 use Rattle.blaze_streams.specs.Answers.{IsTransformed}
 use Rattle.blaze_streams.specs.JoinAnswers.{IsJoined}
+use Rattle.range_map_blaze.specs.Extended.{ArePaintedInTurn, IsExtended}
 use Rattle.range_map_blaze.specs.FilledFrom.{IsFilledFrom}
 use Rattle.range_map_blaze.specs.Union.{IsUnion}
+
+-- pairs painted one by one give what painting them in order gives
+abbrev pub PaintingInTurnExtends : {V : Type 0} → (V → V → Bool) → ℤ → ℤ → Type 0
+PaintingInTurnExtends {V} eq low high = (pairs old new : List (Entry V)) → IsRangeMap eq low high old → ArePaintedInTurn eq low high pairs old new → IsExtended eq low high pairs old new
 
 -- a map whose gaps are filled from another is the other with it painted over: the ranges are the same, and values equal
 abbrev pub FillingIsUnion : {V : Type 0} → (V → V → Bool) → ℤ → ℤ → Type 0

@@ -1,9 +1,16 @@
-//! The laws of filling one map from another, of joins of maps, and of maps with what a closure answers at their values.
+//! The laws of pairs painted one by one, of filling one map from another, of joins of maps, and of maps with what a closure
+//! answers at their values.
 ghost use Rattle.blaze_streams.specs.JoinAnswers.{either, both, with_left};
 ghost use Rattle.range_map_blaze.specs.MapLaws.{AnswersAreOnItsKeys, FillingIsUnion, FullJoinIsInnerJoin};
-ghost use Rattle.range_map_blaze.specs.MapLaws.{LeftJoinIsOnTheLeftKeys};
+ghost use Rattle.range_map_blaze.specs.MapLaws.{LeftJoinIsOnTheLeftKeys, PaintingInTurnExtends};
 
 use blaze_int::Integer;
+
+/// Pairs that are painted one by one, as `extend_from` and `extend_simple` do, leave what painting them in order gives: its
+/// content, at most two entries more for each pair, and what no pair touches.
+pub fn painting_in_turn_extends<T: Integer, V: Eq>()
+    ensures { PaintingInTurnExtends V.eq T.low T.high }
+{}
 
 /// `a.extend_absent(&b)` leaves the entries of `b | a`: the same ranges, with equal values.
 pub fn extend_absent_is_or<T: Integer, V: Eq>()

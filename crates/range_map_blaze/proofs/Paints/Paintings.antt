@@ -1,19 +1,18 @@
 -- Pairs painted in parts, one part after another.
 use Rattle.std.specs.Option.{option_or}
-use Rattle.std.proofs.Common.{◌≡◌, ◌-◌, ◌*◌, ◌≤◌, ℤ, ◌≤ℤ◌, ◌<ℤ◌, Bool, true, false, ◌&&◌, cond, List, [], ◌∷◌, ◌++◌, length, map, Some, None, refl, ◌∙◌, sym, ap, subst, arith, inl, inr}
-use Rattle.std.specs.Prelude.{int_le}
+use Rattle.std.proofs.Common.{◌≡◌, ◌-◌, ◌*◌, ◌≤◌, ℤ, ◌≤ℤ◌, ◌<ℤ◌, Bool, false, cond, List, [], ◌∷◌, ◌++◌, length, Some, None, refl, ◌∙◌, sym, ap, subst, arith, inl, inr, Result, Ok, Err, OnOk}
 use Rattle.std.specs.Cmp.{IsEquivalence}
-use Rattle.std.proofs.lemmas.Int.{ints}
-use Rattle.std.proofs.lemmas.List.{length-append, map-append}
+use Rattle.std.proofs.lemmas.Int.{ints, by_lt_z}
+use Rattle.std.proofs.lemmas.List.{length-append}
 use Rattle.blaze_entries.proofs.Alike.{same_itself, same_trans, same_or, or_none, or_assoc}
 use Rattle.blaze_table.specs.Entries.{Entry, at, holds, SameOption}
 use Rattle.blaze_table.specs.Painted.{IsInside, IsPainted, last_at, painted_in_order}
 use Rattle.blaze_table.proofs.Pairs.Lasts.{painted_one}
 use Rattle.blaze_table.specs.Canonical.{IsCanonical, IsRangeMap}
 use Rattle.blaze_table.proofs.Canonical.Runs.{canonical}
-use Rattle.range_map_blaze.specs.Extended.{AreInside, AreLeftAlone, IsExtended}
-use Rattle.range_map_blaze.proofs.Paints.Insides.{inside_equal, inside_parts}
-use Rattle.range_map_blaze.proofs.Paints.LeftAlone.{alone_parts, alone_equal, has_key}
+use Rattle.range_map_blaze.specs.Extended.{AreInside, AreLeftAlone, ArePaintedInTurn, IsExtended, IsPairPainted}
+use Rattle.range_map_blaze.proofs.Paints.Insides.{inside_parts}
+use Rattle.range_map_blaze.proofs.Paints.LeftAlone.{alone_parts, has_key}
 
 module _ {V : Type 0} where
   -- the last of two lists is that of the second, where it has one
@@ -76,37 +75,23 @@ module _ {V : Type 0} (eq : V → V → Bool) (laws : IsEquivalence eq) where
           p.kept e here (g e (has_key eq cur e (canonical eq laws cur d.range_map.runs) here) b.1);
     }
 
-    -- a part, and then one pair, of which an equal one is painted
-    pub extended_by : (p q : Entry V) (done old cur new : List (Entry V)) → IsExtended eq low high done old cur → IsExtended eq low high (q ∷ []) cur new
-        → q.lo ≡ p.lo → q.hi ≡ p.hi → eq q.value p.value ≡ true → IsExtended eq low high (done ++ p ∷ []) old new
-    extended_by p q done old cur new d e lo hi v = extended_more done (p ∷ []) (q ∷ []) old cur new d e alike (omega arith) inside (λ f w a. (alone_equal eq laws f p q lo hi v a.0, tt))
-      where
-        either : (b : Bool) → SameOption eq (cond b (Some q.value) None) (cond b (Some p.value) None)
-        either true = v
-        either false = tt
-
-        alike : (k : ℤ) → SameOption eq (last_at (q ∷ []) k) (last_at (p ∷ []) k)
-        alike k =
-            let same : holds q k ≡ holds p k = λ i. int_le (lo i) k && int_le k (hi i) in
-            subst (λ b. SameOption eq (cond b (Some q.value) None) (cond (holds p k) (Some p.value) None)) (sym same) (either (holds p k))
-
-        inside : (es : List (Entry V)) → IsCanonical eq es → AreInside eq (p ∷ []) es → AreInside eq (q ∷ []) es
-        inside es c a = (
-          elim a.0 [
-            | inl h ↦ inl (omega (arith, ints, lo, hi))
-            | inr h ↦ inr (subst (λ z. IsInside eq z q.hi q.value es) (sym lo) (subst (λ z. IsInside eq p.lo z q.value es) (sym hi) (inside_equal eq laws p.lo p.hi p.value q.value es (laws.symm p.value q.value ∙ v) h)))
-          ],
-          tt,
-        )
-
-    -- the same of items that show the pairs
-    pub extended_item : {A : Type 0} (shown : A → Entry V) (items : List A) (x : A) (q : Entry V) (old cur new : List (Entry V)) → IsExtended eq low high (map shown items) old cur
-        → IsExtended eq low high (q ∷ []) cur new → q.lo ≡ (shown x).lo → q.hi ≡ (shown x).hi → q.value ≡ (shown x).value → IsExtended eq low high (map shown (items ++ x ∷ [])) old new
-    extended_item shown items x q old cur new d e lo hi v =
-        subst (λ ps. IsExtended eq low high ps old new) (sym (map-append shown items (x ∷ [])))
-        (extended_by (shown x) q (map shown items) old cur new d e lo hi (subst (λ w. eq q.value w ≡ true) v (laws.refl q.value)))
-
     -- a pair without a key
     pub extended_nowhere : (p : Entry V) (done old new : List (Entry V)) → IsExtended eq low high done old new → p.hi <ℤ p.lo → IsExtended eq low high (done ++ p ∷ []) old new
     extended_nowhere p done old new d w = extended_more done (p ∷ []) [] old new new d (extended_none new d.range_map)
         (λ k. subst (SameOption eq None) (sym (last_nowhere p k w)) tt) (omega arith) (λ es c a. tt) (λ e o a. tt)
+
+    -- one pair that is painted
+    pub extended_pair : (p : Entry V) (old new : List (Entry V)) → IsRangeMap eq low high old → IsPairPainted eq low high p old new → IsExtended eq low high (p ∷ []) old new
+    extended_pair p old new r i = by_lt_z p.hi p.lo
+        (λ w. subst (IsExtended eq low high (p ∷ []) old) (sym (i.nowhere w)) (extended_nowhere p [] old old (extended_none old r) w))
+        (λ w. extended_one p old new i.painted w i.inside)
+
+    -- pairs that are painted one by one
+    pub in_turn : (ps old new : List (Entry V)) → IsRangeMap eq low high old → ArePaintedInTurn eq low high ps old new → IsExtended eq low high ps old new
+    in_turn [] old new r i = subst (IsExtended eq low high [] old) (sym i) (extended_none old r)
+    in_turn (p ∷ ps) old new r i = extended_more (p ∷ []) ps ps old i.0 new (extended_pair p old i.0 r i.1) (in_turn ps i.0 new i.1.painted.range_map i.2)
+        (λ k. same_itself eq laws (last_at ps k)) (omega arith) (λ es c a. a) (λ e o a. a)
+
+    pub pair_extended : {A E : Type 0} (r : Result A E) (p : Entry V) (old new : List (Entry V)) → IsRangeMap eq low high old → OnOk r (IsPairPainted eq low high p old new) → OnOk r (IsExtended eq low high (p ∷ []) old new)
+    pair_extended (Ok x) p old new r i = extended_pair p old new r i
+    pair_extended (Err e) p old new r i = tt

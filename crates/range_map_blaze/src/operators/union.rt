@@ -135,6 +135,7 @@ fn painted_over<
         (λ map. IsUnion V.eq T.low T.high left.entries (S.left right) map.entries) }
 {
     let mut map = left;
+    map.in_hand();
     right.in_hand();
     map.paint_ranges(right)?;
     Ok(map)

@@ -1,7 +1,8 @@
 //! The entries of another map, painted over this one's.
 ghost use Rattle.std.specs.Prelude.{◌≡◌, [], Ok, OnOk, OnErr};
 ghost use Rattle.blaze_table.specs.Painted.{ClonesAreAlike};
-ghost use Rattle.range_map_blaze.specs.Extended.{IsExtended, IsPartlyExtended};
+ghost use Rattle.blaze_table.specs.Work.{IsCounted};
+ghost use Rattle.range_map_blaze.specs.Extended.{ArePaintedInTurn, IsPartPaintedInTurn};
 
 use crate::map::RangeMapBlaze;
 use blaze_int::Integer;
@@ -16,11 +17,12 @@ impl<T: Integer, V: Eq + Clone> RangeMapBlaze<T, V> {
     /// none, and drops the others. An empty other map takes no memory.
     pub fn extend_from(&mut self, other: Self) -> Result<(), AllocError>
         requires { ClonesAreAlike V.is_clone V.eq }
-        ensures ok { OnOk result (IsExtended V.eq T.low T.high other.entries self.old.entries
+        ensures ok { OnOk result (ArePaintedInTurn V.eq T.low T.high other.entries self.old.entries
             self.new.entries) }
         ensures empty { other.entries ≡ [] → (result ≡ Ok tt) × (self.new ≡ self.old) }
         ensures err { OnErr result
-            (IsPartlyExtended V.eq T.low T.high other.entries self.old.entries self.new.entries) }
+            (IsPartPaintedInTurn V.eq T.low T.high other.entries self.old.entries self.new.entries) }
+        ensures counted { IsCounted self.old self.new }
     {
         self.in_hand();
         if other.is_empty() {
@@ -34,12 +36,13 @@ impl<T: Integer, V: Eq + Clone> RangeMapBlaze<T, V> {
     /// other map takes no memory.
     pub fn extend_with(&mut self, other: &Self) -> Result<(), AllocError>
         requires { ClonesAreAlike V.is_clone V.eq }
-        ensures ok { OnOk result (IsExtended V.eq T.low T.high other.now.entries self.old.entries
+        ensures ok { OnOk result (ArePaintedInTurn V.eq T.low T.high other.now.entries self.old.entries
             self.new.entries) }
         ensures empty { other.now.entries ≡ [] → (result ≡ Ok tt) × (self.new ≡ self.old) }
         ensures err { OnErr result
-            (IsPartlyExtended V.eq T.low T.high other.now.entries self.old.entries
+            (IsPartPaintedInTurn V.eq T.low T.high other.now.entries self.old.entries
             self.new.entries) }
+        ensures counted { IsCounted self.old self.new }
     {
         self.in_hand();
         if other.is_empty() {
@@ -55,10 +58,11 @@ impl<T: Integer, V: Eq + Clone> RangeMapBlaze<T, V> {
     ) -> Result<(), AllocError>
         requires can { VC.can_carry }
         requires clones { ClonesAreAlike V.is_clone V.eq }
-        ensures ok { OnOk result (IsExtended V.eq T.low T.high (S.left ranges) self.old.entries
+        ensures ok { OnOk result (ArePaintedInTurn V.eq T.low T.high (S.left ranges) self.old.entries
             self.new.entries) }
-        ensures err { OnErr result (IsPartlyExtended V.eq T.low T.high (S.left ranges)
+        ensures err { OnErr result (IsPartPaintedInTurn V.eq T.low T.high (S.left ranges)
             self.old.entries self.new.entries) }
+        ensures counted { IsCounted self.old self.new }
     {
         self.in_hand();
         for (range, carrier) in ranges {
@@ -75,11 +79,12 @@ impl<T: Integer, V: Eq + Clone> RangeMapBlaze<T, V> {
     /// The union of two maps, in the place of the first, as `extend_from` makes it, also where memory is refused.
     pub fn bitor_assign(&mut self, other: Self) -> Result<(), AllocError>
         requires { ClonesAreAlike V.is_clone V.eq }
-        ensures ok { OnOk result (IsExtended V.eq T.low T.high other.entries self.old.entries
+        ensures ok { OnOk result (ArePaintedInTurn V.eq T.low T.high other.entries self.old.entries
             self.new.entries) }
         ensures empty { other.entries ≡ [] → (result ≡ Ok tt) × (self.new ≡ self.old) }
         ensures err { OnErr result
-            (IsPartlyExtended V.eq T.low T.high other.entries self.old.entries self.new.entries) }
+            (IsPartPaintedInTurn V.eq T.low T.high other.entries self.old.entries self.new.entries) }
+        ensures counted { IsCounted self.old self.new }
     {
         self.extend_from(other)
     }
@@ -87,12 +92,13 @@ impl<T: Integer, V: Eq + Clone> RangeMapBlaze<T, V> {
     /// The union of two maps, in the place of the first, as `extend_with` makes it, also where memory is refused.
     pub fn bitor_assign_ref(&mut self, other: &Self) -> Result<(), AllocError>
         requires { ClonesAreAlike V.is_clone V.eq }
-        ensures ok { OnOk result (IsExtended V.eq T.low T.high other.now.entries self.old.entries
+        ensures ok { OnOk result (ArePaintedInTurn V.eq T.low T.high other.now.entries self.old.entries
             self.new.entries) }
         ensures empty { other.now.entries ≡ [] → (result ≡ Ok tt) × (self.new ≡ self.old) }
         ensures err { OnErr result
-            (IsPartlyExtended V.eq T.low T.high other.now.entries self.old.entries
+            (IsPartPaintedInTurn V.eq T.low T.high other.now.entries self.old.entries
             self.new.entries) }
+        ensures counted { IsCounted self.old self.new }
     {
         self.extend_with(other)
     }
@@ -101,14 +107,15 @@ impl<T: Integer, V: Eq + Clone> RangeMapBlaze<T, V> {
     /// map unchanged, and a first part of its entries painted, perhaps none. An empty other map takes no memory.
     pub fn append(&mut self, other: &mut Self) -> Result<(), AllocError>
         requires { ClonesAreAlike V.is_clone V.eq }
-        ensures ok { OnOk result (IsExtended V.eq T.low T.high other.old.entries self.old.entries
+        ensures ok { OnOk result (ArePaintedInTurn V.eq T.low T.high other.old.entries self.old.entries
             self.new.entries) }
         ensures emptied { OnOk result (other.new.entries ≡ []) }
         ensures empty { other.old.entries ≡ [] → (result ≡ Ok tt) × (self.new ≡ self.old) }
         ensures err { OnErr result
-            (IsPartlyExtended V.eq T.low T.high other.old.entries self.old.entries
+            (IsPartPaintedInTurn V.eq T.low T.high other.old.entries self.old.entries
             self.new.entries) }
         ensures kept { OnErr result (other.new ≡ other.old) }
+        ensures counted { IsCounted self.old self.new }
     {
         self.extend_with(other)?;
         other.clear();

@@ -3,7 +3,8 @@ ghost use Rattle.std.specs.Prelude.{map};
 ghost use Rattle.std.specs.Iterator.{ExtendsWithItems, IsFinite};
 ghost use Rattle.blaze_streams.specs.Ranges.{shown_range};
 ghost use Rattle.blaze_table.specs.Painted.{ClonesAreAlike};
-ghost use Rattle.range_map_blaze.specs.Extended.{shown_point, IsExtended};
+ghost use Rattle.blaze_table.specs.Work.{IsCounted};
+ghost use Rattle.range_map_blaze.specs.Extended.{shown_point, ArePaintedInTurn, IsExtended};
 
 use crate::make::pairs::Pair;
 use crate::map::RangeMapBlaze;
@@ -23,9 +24,10 @@ impl<T: Integer, V: Eq + Clone> RangeMapBlaze<T, V> {
         requires ends { (it : I.IntoIter) → I.into_iter_gives iter it → I.IntoIter.can_next it
             × IsFinite (I.IntoIter.remaining it) }
         requires clones { ClonesAreAlike V.is_clone V.eq }
-        ensures { ExtendsWithItems I.into_iter_gives I.IntoIter.next_gives
+        ensures extended { ExtendsWithItems I.into_iter_gives I.IntoIter.next_gives
             (λ old items new. IsExtended V.eq T.low T.high (map (shown_point T.rank (λ v. v)) items)
             old new) iter self.old.entries self.new.entries result }
+        ensures counted { IsCounted self.old self.new }
     {
         self.extend_pairs(iter)
     }
@@ -40,9 +42,10 @@ impl<T: Integer, V: Eq + Clone> RangeMapBlaze<T, V> {
         requires ends { (it : I.IntoIter) → I.into_iter_gives iter it → I.IntoIter.can_next it
             × IsFinite (I.IntoIter.remaining it) }
         requires clones { ClonesAreAlike V.is_clone V.eq }
-        ensures { ExtendsWithItems I.into_iter_gives I.IntoIter.next_gives
+        ensures extended { ExtendsWithItems I.into_iter_gives I.IntoIter.next_gives
             (λ old items new. IsExtended V.eq T.low T.high (map (shown_range T.rank (λ v. v)) items)
             old new) iter self.old.entries self.new.entries result }
+        ensures counted { IsCounted self.old self.new }
     {
         self.extend_pairs(iter)
     }
@@ -55,9 +58,10 @@ impl<T: Integer, V: Eq + Clone> RangeMapBlaze<T, V> {
         requires ends { (it : I.IntoIter) → I.into_iter_gives iter it → I.IntoIter.can_next it
             × IsFinite (I.IntoIter.remaining it) }
         requires clones { ClonesAreAlike V.is_clone V.eq }
-        ensures { ExtendsWithItems I.into_iter_gives I.IntoIter.next_gives
+        ensures extended { ExtendsWithItems I.into_iter_gives I.IntoIter.next_gives
             (λ old items new. IsExtended V.eq T.low T.high (map P.pair items) old new) iter
             self.old.entries self.new.entries result }
+        ensures counted { IsCounted self.old self.new }
     {
         self.in_hand();
         let mut pending = None;
@@ -78,9 +82,10 @@ impl<T: Integer, V: Eq + Clone> RangeMapBlaze<T, V> {
         requires ends { (it : I.IntoIter) → I.into_iter_gives iter it → I.IntoIter.can_next it
             × IsFinite (I.IntoIter.remaining it) }
         requires clones { ClonesAreAlike V.is_clone V.eq }
-        ensures { ExtendsWithItems I.into_iter_gives I.IntoIter.next_gives
-            (λ old items new. IsExtended V.eq T.low T.high (map (shown_range T.rank (λ v. v)) items)
+        ensures extended { ExtendsWithItems I.into_iter_gives I.IntoIter.next_gives
+            (λ old items new. ArePaintedInTurn V.eq T.low T.high (map (shown_range T.rank (λ v. v)) items)
             old new) iter self.old.entries self.new.entries result }
+        ensures counted { IsCounted self.old self.new }
     {
         self.in_hand();
         for (range, value) in iter {

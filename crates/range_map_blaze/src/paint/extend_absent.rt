@@ -3,6 +3,7 @@ ghost use Rattle.std.specs.Prelude.{◌≡◌, ◌≤ℤ◌, [], Ok, OnOk, OnErr
 ghost use Rattle.blaze_table.specs.Entries.{entry};
 ghost use Rattle.blaze_table.specs.Filled.{IsFilled};
 ghost use Rattle.blaze_table.specs.Painted.{ClonesAreAlike};
+ghost use Rattle.blaze_table.specs.Work.{IsCounted};
 ghost use Rattle.range_map_blaze.specs.FilledFrom.{IsFilledFrom, IsPartlyFilledFrom};
 
 use crate::map::RangeMapBlaze;
@@ -22,6 +23,7 @@ impl<T: Integer, V: Eq + Clone> RangeMapBlaze<T, V> {
         ensures err { OnErr result
             (IsPartlyFilledFrom V.eq T.low T.high other.now.entries self.old.entries
             self.new.entries) }
+        ensures counted { IsCounted self.old self.new }
     {
         self.in_hand();
         if other.is_empty() {
@@ -37,6 +39,7 @@ impl<T: Integer, V: Eq + Clone> RangeMapBlaze<T, V> {
         ensures ok { OnOk result (IsFilled V.eq T.low T.high
             (entry (T.rank start) (T.rank end) value) self.old.entries self.new.entries) }
         ensures err { OnErr result (self.new.entries ≡ self.old.entries) }
+        ensures counted { IsCounted self.old self.new }
     {
         let _ = self.table.fill_absent(start, end, value)?;
         Ok(())
@@ -53,6 +56,7 @@ impl<T: Integer, V: Eq + Clone> RangeMapBlaze<T, V> {
             self.new.entries) }
         ensures err { OnErr result (IsPartlyFilledFrom V.eq T.low T.high (S.left ranges)
             self.old.entries self.new.entries) }
+        ensures counted { IsCounted self.old self.new }
     {
         self.in_hand();
         ranges.in_hand();

@@ -4,7 +4,8 @@ ghost use Rattle.std.specs.Prelude.{IfOk, OnOk, OnErr, option_map};
 ghost use Rattle.std.specs.Option.{option_to_list};
 ghost use Rattle.blaze_table.specs.Entries.{Entry, shown_range_entry};
 ghost use Rattle.blaze_table.specs.Painted.{ClonesAreAlike};
-ghost use Rattle.range_map_blaze.specs.Extended.{IsExtended};
+ghost use Rattle.blaze_table.specs.Work.{IsCounted};
+ghost use Rattle.range_map_blaze.specs.Extended.{IsExtended, IsPairPainted};
 ghost use Rattle.range_map_blaze.specs.Underway.{are_one_pair, joined_pair, IsUnderway};
 
 use crate::map::RangeMapBlaze;
@@ -51,9 +52,10 @@ impl<T: Integer, V: Eq + Clone> RangeMapBlaze<T, V> {
     /// Paints a pair; one without a key paints nothing. Refused memory leaves the map unchanged.
     pub(crate) fn paint_pair(&mut self, pair: RangeEntry<T, V>) -> Result<(), AllocError>
         requires { ClonesAreAlike V.is_clone V.eq }
-        ensures ok { OnOk result (IsExtended V.eq T.low T.high
-            (shown_range_entry T.rank (λ v. v) pair ∷ []) self.old.entries self.new.entries) }
+        ensures ok { OnOk result (IsPairPainted V.eq T.low T.high
+            (shown_range_entry T.rank (λ v. v) pair) self.old.entries self.new.entries) }
         ensures err { OnErr result (self.new.entries ≡ self.old.entries) }
+        ensures counted { IsCounted self.old self.new }
     {
         self.in_hand();
         let RangeEntry { start, end, value } = pair;
@@ -74,6 +76,7 @@ impl<T: Integer, V: Eq + Clone> RangeMapBlaze<T, V> {
             (option_to_list (option_map (shown_range_entry T.rank (λ v. v)) pending))
             self.old.entries self.new.entries) }
         ensures err { OnErr result (self.new.entries ≡ self.old.entries) }
+        ensures counted { IsCounted self.old self.new }
     {
         self.in_hand();
         match pending {
@@ -97,7 +100,9 @@ impl<T: Integer, V: Eq + Clone> RangeMapBlaze<T, V> {
             self.new.entries (option_map (shown_range_entry T.rank (λ v. v)) left)) }
         ensures ended { T.rank next.end <ℤ T.rank next.start → IfOk result (λ left. left ≡ None) }
         ensures err { OnErr result (self.new.entries ≡ self.old.entries) }
+        ensures counted { IsCounted self.old self.new }
     {
+        self.in_hand();
         if is_below(next.end, next.start) {
             self.paint_pending(pending)?;
             return Ok(None);

@@ -1,9 +1,8 @@
-use Rattle.std.proofs.Common.{sym, subst}
-use Rattle.range_map_blaze.specs.Extended.{IsExtended}
-use Rattle.range_map_blaze.proofs.Paints.Paintings.{extended_none}
+use Rattle.std.proofs.Common.{refl, sym, subst}
+use Rattle.range_map_blaze.specs.Extended.{ArePaintedInTurn}
 use Rattle.range_map_blaze.proofs.map.RangeMapBlaze.extend_from.Goals as goal
 
 pub returns-then-is_empty-clause-ok : goal.returns-then-is_empty-clause-ok
 returns-then-is_empty-clause-ok g c =
-    subst (λ ps. IsExtended g.V.PartialEq.eq g.T.Integer.low g.T.Integer.high ps c.args.self.now.entries c.args.self.now.entries) (sym (c.is_empty.ensures.0 c.if-is_empty.true))
-    (extended_none g.V.PartialEq.eq g.met.V.Eq.laws g.T.Integer.low g.T.Integer.high _ c.in_hand.ensures)
+    subst (λ ps. ArePaintedInTurn g.V.PartialEq.eq g.T.Integer.low g.T.Integer.high ps c.args.self.now.entries c.args.self.now.entries) (sym (c.is_empty.ensures.0 c.if-is_empty.true))
+    refl

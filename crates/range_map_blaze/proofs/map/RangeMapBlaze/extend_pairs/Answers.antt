@@ -1,32 +1,35 @@
+use Rattle.blaze_table.proofs.Walks.Worked.{counted_none, counted_then}
 use Rattle.range_map_blaze.proofs.Paints.Joinings.{underway_begun, underway_painted, underway_item, front_painted}
 use Rattle.range_map_blaze.proofs.map.RangeMapBlaze.extend_pairs.Goals as goal
 
 pub loop-item-init : goal.loop-item-init
-loop-item-init g c = underway_begun g.V.PartialEq.eq g.met.V.Eq.laws g.T.Integer.low g.T.Integer.high c.args.self.now.entries c.in_hand.ensures
+loop-item-init g c = (underway_begun g.V.PartialEq.eq g.met.V.Eq.laws g.T.Integer.low g.T.Integer.high c.args.self.now.entries c.in_hand.ensures, counted_none _)
 
 pub loop-item-preserved : goal.loop-item-preserved
-loop-item-preserved g c =
-    underway_item g.V.PartialEq.eq g.met.V.Eq.laws g.T.Integer.low g.T.Integer.high g.P.Pair.pair c.loop-item.yielded c.in-Some.item _ _ _ _
-    (c.in_ok-pending.ensures.ok _ _ c.loop-item.invariant) c.parts-start.ensures
+loop-item-preserved g c = (
+  underway_item g.V.PartialEq.eq g.met.V.Eq.laws g.T.Integer.low g.T.Integer.high g.P.Pair.pair c.loop-item.yielded c.in-Some.item _ _ _ _
+      (c.in_ok-pending.ensures.ok _ _ c.loop-item.invariant.0) c.parts-start.ensures,
+  counted_then _ _ _ c.loop-item.invariant.1 c.take_pair.ensures.counted,
+)
 
-pub returns-in_err-pending : goal.returns-in_err-pending
-returns-in_err-pending g c =
+pub returns-in_err-pending-clause-extended : goal.returns-in_err-pending-clause-extended
+returns-in_err-pending-clause-extended g c =
     let it = c.into_iter-item-iterator in
     front_painted g.I.IntoIterator.into_iter_gives g.I.IntoIter.Iterator.next_gives g.P.Pair.pair g.V.PartialEq.eq g.T.Integer.low g.T.Integer.high c.args.iter it.result _ c.loop-item.yielded _ _ _ _ c.from_residual.result
-    it.ensures.into_iter_gives c.loop-item.yielded_by c.loop-item.invariant c.in_err-pending.ensures.err c.from_residual.ensures.0
+    it.ensures.into_iter_gives c.loop-item.yielded_by c.loop-item.invariant.0 c.in_err-pending.ensures.err c.from_residual.ensures.0
 
-pub returns-in_err-paint_pending : goal.returns-in_err-paint_pending
-returns-in_err-paint_pending g c =
+pub returns-in_err-paint_pending-clause-extended : goal.returns-in_err-paint_pending-clause-extended
+returns-in_err-paint_pending-clause-extended g c =
     let it = c.into_iter-item-iterator in
     front_painted g.I.IntoIterator.into_iter_gives g.I.IntoIter.Iterator.next_gives g.P.Pair.pair g.V.PartialEq.eq g.T.Integer.low g.T.Integer.high c.args.iter it.result _ c.loop-item.yielded _ _ _ _ c.from_residual-in_err-paint_pending.result
-    it.ensures.into_iter_gives c.loop-item.yielded_by c.loop-item.invariant c.in_err-paint_pending.ensures.err c.from_residual-in_err-paint_pending.ensures.0
+    it.ensures.into_iter_gives c.loop-item.yielded_by c.loop-item.invariant.0 c.in_err-paint_pending.ensures.err c.from_residual-in_err-paint_pending.ensures.0
 
-pub returns : goal.returns
-returns g c =
+pub returns-clause-extended : goal.returns-clause-extended
+returns-clause-extended g c =
     let it = c.into_iter-item-iterator in (
       it.result,
       c.loop-item.yielded,
       it.ensures.into_iter_gives,
-      underway_painted g.V.PartialEq.eq g.met.V.Eq.laws g.T.Integer.low g.T.Integer.high _ _ _ _ _ c.loop-item.invariant c.in_ok-paint_pending.ensures.ok,
+      underway_painted g.V.PartialEq.eq g.met.V.Eq.laws g.T.Integer.low g.T.Integer.high _ _ _ _ _ c.loop-item.invariant.0 c.in_ok-paint_pending.ensures.ok,
       (_, (_, c.loop-item.yielded_by, c.in-None.ensures.steps)),
     )

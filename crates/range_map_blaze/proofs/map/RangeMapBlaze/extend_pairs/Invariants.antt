@@ -1,9 +1,11 @@
 use Rattle.std.proofs.Common.{map}
 use Rattle.std.specs.Prelude.{option_map}
 use Rattle.blaze_table.specs.Entries.{shown_range_entry}
+use Rattle.blaze_table.specs.Work.{IsCounted}
 use Rattle.range_map_blaze.specs.Underway.{IsUnderway}
 use Rattle.range_map_blaze.proofs.map.RangeMapBlaze.extend_pairs.Given as goal
 
 abbrev pub invariant-loop-item : goal.invariant-loop-item
 invariant-loop-item g l =
     IsUnderway g.V.PartialEq.eq g.T.Integer.low g.T.Integer.high (map g.P.Pair.pair l.yielded) l.fn.self.entries l.self.entries (option_map (shown_range_entry g.T.Integer.rank (λ v. v)) l.pending)
+    × IsCounted l.fn.self l.self

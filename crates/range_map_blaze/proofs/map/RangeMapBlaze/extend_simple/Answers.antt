@@ -1,12 +1,15 @@
 use Rattle.std.proofs.Common.{ap, refl}
 use Rattle.blaze_streams.specs.Ranges.{shown_range}
-use Rattle.range_map_blaze.proofs.Paints.Paintings.{extended_none, extended_item}
+use Rattle.blaze_table.proofs.Walks.Worked.{counted_none, counted_then}
+use Rattle.range_map_blaze.proofs.Paints.InTurn.{in_turn_item}
 use Rattle.range_map_blaze.proofs.map.RangeMapBlaze.extend_simple.Goals as goal
 
 pub loop-range-init : goal.loop-range-init
-loop-range-init g c = extended_none g.V.PartialEq.eq g.met.V.Eq.laws g.T.Integer.low g.T.Integer.high c.args.self.now.entries c.in_hand.ensures
+loop-range-init g c = (refl, counted_none _)
 
 pub loop-range-preserved : goal.loop-range-preserved
-loop-range-preserved g c =
-    extended_item g.V.PartialEq.eq g.met.V.Eq.laws g.T.Integer.low g.T.Integer.high (shown_range g.T.Integer.rank (λ v. v)) c.loop-range.yielded (c.in-Some.range, c.in-Some.value) _ _ _ _
-    c.loop-range.invariant c.in_ok-paint_pair.ensures.ok (ap g.T.Integer.rank c.into_inner-start.ensures.start) (ap g.T.Integer.rank c.into_inner-start.ensures.end) refl
+loop-range-preserved g c = (
+  in_turn_item g.V.PartialEq.eq g.met.V.Eq.laws g.T.Integer.low g.T.Integer.high (shown_range g.T.Integer.rank (λ v. v)) c.loop-range.yielded (c.in-Some.range, c.in-Some.value) _ _ _ _
+      c.loop-range.invariant.0 c.in_ok-paint_pair.ensures.ok (ap g.T.Integer.rank c.into_inner-start.ensures.start) (ap g.T.Integer.rank c.into_inner-start.ensures.end) refl,
+  counted_then _ _ _ c.loop-range.invariant.1 c.paint_pair.ensures.counted,
+)

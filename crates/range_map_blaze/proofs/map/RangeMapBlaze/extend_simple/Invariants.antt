@@ -1,7 +1,10 @@
 use Rattle.std.proofs.Common.{map}
+use Rattle.blaze_table.specs.Work.{IsCounted}
 use Rattle.blaze_streams.specs.Ranges.{shown_range}
-use Rattle.range_map_blaze.specs.Extended.{IsExtended}
+use Rattle.range_map_blaze.specs.Extended.{ArePaintedInTurn}
 use Rattle.range_map_blaze.proofs.map.RangeMapBlaze.extend_simple.Given as goal
 
 abbrev pub invariant-loop-range : goal.invariant-loop-range
-invariant-loop-range g l = IsExtended g.V.PartialEq.eq g.T.Integer.low g.T.Integer.high (map (shown_range g.T.Integer.rank (λ v. v)) l.yielded) l.fn.self.entries l.self.entries
+invariant-loop-range g l =
+    ArePaintedInTurn g.V.PartialEq.eq g.T.Integer.low g.T.Integer.high (map (shown_range g.T.Integer.rank (λ v. v)) l.yielded) l.fn.self.entries l.self.entries
+    × IsCounted l.fn.self l.self

@@ -1,6 +1,7 @@
 use Rattle.std.proofs.Common.{[], ◌++◌, ◌∷◌, ◌∙◌, sym, ap, append-nil, append_assoc, subst}
 use Rattle.std.specs.Iterator.{IsFinite}
 use Rattle.blaze_streams.specs.Ranges.{shown_range}
+use Rattle.blaze_table.proofs.Walks.Worked.{counted_none, counted_then}
 use Rattle.range_map_blaze.specs.FilledFrom.{IsFilledFrom}
 use Rattle.range_map_blaze.proofs.Paints.FilledFrom.{filled_from_none, filled_from_more}
 use Rattle.range_map_blaze.proofs.Paints.Insides.{with_key}
@@ -14,6 +15,7 @@ loop-range-init g c = (
   [],
   ap g.S.SortedDisjointMap.left (sym c.into_iter-range-iterator.ensures.into_iter_gives),
   filled_from_none g.V.PartialEq.eq g.met.V.Eq.laws g.T.Integer.low g.T.Integer.high _ c.in_hand.ensures,
+  counted_none _,
 )
 
 pub fill-requires-clause-order : goal.fill-requires-clause-order
@@ -33,6 +35,7 @@ loop-range-preserved g c =
       i.1 ∙ ap (λ es. i.0 ++ es) took ∙ sym (append_assoc i.0 (e ∷ []) _),
       filled_from_more g.V.PartialEq.eq g.met.V.Eq.laws g.T.Integer.low g.T.Integer.high c.args.self.now.entries e c.in_ok-into_value.field-0 i.0 c.loop-range.self.entries c.fill.new.self.entries i.2
           (rw (c.into_inner-start.ensures.start, c.into_inner-start.ensures.end) at c.in_ok-fill.ensures.ok) c.in_ok-into_value.ensures,
+      counted_then _ _ _ i.3 c.fill.ensures.counted,
     )
 
 pub returns-clause-ok : goal.returns-clause-ok

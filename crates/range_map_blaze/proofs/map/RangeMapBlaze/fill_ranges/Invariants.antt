@@ -1,5 +1,6 @@
 use Rattle.std.proofs.Common.{◌≡◌, ◌++◌, List}
 use Rattle.blaze_table.specs.Entries.{Entry}
+use Rattle.blaze_table.specs.Work.{IsCounted}
 use Rattle.range_map_blaze.specs.FilledFrom.{IsFilledFrom}
 use Rattle.range_map_blaze.proofs.map.RangeMapBlaze.fill_ranges.Given as goal
 
@@ -9,3 +10,4 @@ invariant-loop-range g l =
     (done : List (Entry g.row.V.Denot))
     × (g.S.SortedDisjointMap.left l.fn.ranges ≡ done ++ g.S.SortedDisjointMap.left l.range-iterator)
     × IsFilledFrom g.V.PartialEq.eq g.T.Integer.low g.T.Integer.high done l.fn.self.entries l.self.entries
+    × IsCounted l.fn.self l.self

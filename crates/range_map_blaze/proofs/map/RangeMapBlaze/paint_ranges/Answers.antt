@@ -1,8 +1,10 @@
-use Rattle.std.proofs.Common.{[], ◌++◌, ◌∷◌, ◌∙◌, sym, ap, append_assoc, subst}
+use Rattle.std.proofs.Common.{[], ◌++◌, ◌∷◌, ◌∙◌, refl, sym, ap, append-nil, append_assoc, subst}
 use Rattle.std.specs.Iterator.{IsFinite}
 use Rattle.blaze_streams.specs.Ranges.{shown_range}
 use Rattle.blaze_table.specs.Entries.{entry}
-use Rattle.range_map_blaze.proofs.Paints.Paintings.{extended_none, extended_by}
+use Rattle.blaze_table.proofs.Walks.Worked.{counted_none, counted_then}
+use Rattle.range_map_blaze.specs.Extended.{ArePaintedInTurn}
+use Rattle.range_map_blaze.proofs.Paints.InTurn.{in_turn_by}
 use Rattle.range_map_blaze.proofs.map.RangeMapBlaze.paint_ranges.Goals as goal
 
 pub loop-range-init-derived : goal.loop-range-init-derived
@@ -12,7 +14,8 @@ pub loop-range-init : goal.loop-range-init
 loop-range-init g c = (
   [],
   ap g.S.SortedDisjointMap.left (sym c.into_iter-range-iterator.ensures.into_iter_gives),
-  extended_none g.V.PartialEq.eq g.met.V.Eq.laws g.T.Integer.low g.T.Integer.high _ c.in_hand.ensures,
+  refl,
+  counted_none _,
 )
 
 pub loop-range-preserved : goal.loop-range-preserved
@@ -23,6 +26,13 @@ loop-range-preserved g c =
     let took = g.met.S.SortedDisjointMap.gives _ _ _ c.in-Some.ensures.steps in (
       i.0 ++ e ∷ [],
       i.1 ∙ ap (λ es. i.0 ++ es) took ∙ sym (append_assoc i.0 (e ∷ []) _),
-      extended_by g.V.PartialEq.eq g.met.V.Eq.laws g.T.Integer.low g.T.Integer.high e painted i.0 c.args.self.now.entries c.loop-range.self.entries c.paint_pair.new.self.entries i.2 c.in_ok-paint_pair.ensures.ok
+      in_turn_by g.V.PartialEq.eq g.met.V.Eq.laws g.T.Integer.low g.T.Integer.high e painted i.0 c.args.self.now.entries c.loop-range.self.entries c.paint_pair.new.self.entries i.2 c.in_ok-paint_pair.ensures.ok
           (ap g.T.Integer.rank c.into_inner-start.ensures.start) (ap g.T.Integer.rank c.into_inner-start.ensures.end) (g.met.V.Eq.laws.symm _ _ ∙ c.in_ok-into_value.ensures),
+      counted_then _ _ _ i.3 c.paint_pair.ensures.counted,
     )
+
+pub returns-clause-ok : goal.returns-clause-ok
+returns-clause-ok g c =
+    let i = c.loop-range.invariant in
+    let all = i.1 ∙ ap (λ es. i.0 ++ es) (g.met.S.SortedDisjointMap.gives _ _ _ c.in-None.ensures.steps).0 ∙ append-nil i.0 in
+    subst (λ es. ArePaintedInTurn g.V.PartialEq.eq g.T.Integer.low g.T.Integer.high es c.args.self.now.entries c.loop-range.self.entries) (sym all) i.2

@@ -1,6 +1,7 @@
 use Rattle.std.proofs.Common.{◌≡◌, ◌++◌, List}
 use Rattle.blaze_table.specs.Entries.{Entry}
-use Rattle.range_map_blaze.specs.Extended.{IsExtended}
+use Rattle.blaze_table.specs.Work.{IsCounted}
+use Rattle.range_map_blaze.specs.Extended.{ArePaintedInTurn}
 use Rattle.range_map_blaze.proofs.map.RangeMapBlaze.paint_ranges.Given as goal
 
 -- the ranges that were taken are painted
@@ -8,4 +9,5 @@ abbrev pub invariant-loop-range : goal.invariant-loop-range
 invariant-loop-range g l =
     (done : List (Entry g.row.V.Denot))
     × (g.S.SortedDisjointMap.left l.fn.ranges ≡ done ++ g.S.SortedDisjointMap.left l.range-iterator)
-    × IsExtended g.V.PartialEq.eq g.T.Integer.low g.T.Integer.high done l.fn.self.entries l.self.entries
+    × ArePaintedInTurn g.V.PartialEq.eq g.T.Integer.low g.T.Integer.high done l.fn.self.entries l.self.entries
+    × IsCounted l.fn.self l.self

@@ -2,7 +2,7 @@ use Rattle.std.proofs.Common.{Some, [], ◌++◌, ◌∷◌, ◌∙◌, sym, sub
 use Rattle.std.specs.Prelude.{option_map}
 use Rattle.blaze_table.specs.Entries.{shown_range_entry}
 use Rattle.range_map_blaze.specs.Underway.{IsUnderway}
-use Rattle.range_map_blaze.proofs.Paints.Paintings.{extended_nowhere}
+use Rattle.range_map_blaze.proofs.Paints.Paintings.{extended_nowhere, extended_pair}
 use Rattle.range_map_blaze.proofs.Paints.Joinings.{reversed, ordered, underway_none, underway_one, underway_joined, underway_painted, underway_ended}
 use Rattle.range_map_blaze.proofs.map.RangeMapBlaze.take_pair.Goals as goal
 
@@ -49,4 +49,4 @@ returns-clause-ok g c = λ pairs old u.
     let rank = g.T.Integer.rank in
     let next = shown_range_entry rank (λ v. v) c.args.next in
     let begun = subst (λ o. IsUnderway eq low high pairs old c.args.self.now.entries (option_map (shown_range_entry rank (λ v. v)) o)) c.in-Some.is u in
-    underway_one eq g.met.V.Eq.laws low high next pairs old _ (underway_painted eq g.met.V.Eq.laws low high _ pairs old _ _ begun c.in_ok-paint_pair.ensures.ok) (ordered next.hi next.lo c.is_below.result c.is_below.ensures c.if-is_below.false)
+    underway_one eq g.met.V.Eq.laws low high next pairs old _ (underway_painted eq g.met.V.Eq.laws low high _ pairs old _ _ begun (extended_pair eq g.met.V.Eq.laws low high _ _ _ c.in_hand.ensures c.in_ok-paint_pair.ensures.ok)) (ordered next.hi next.lo c.is_below.result c.is_below.ensures c.if-is_below.false)
