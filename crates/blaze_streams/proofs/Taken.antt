@@ -13,7 +13,7 @@ use Rattle.blaze_table.specs.Splice.{after}
 use Rattle.blaze_table.proofs.Canonical.Lookup.{at_in}
 use Rattle.blaze_table.proofs.Paints.Splices.{after_keeps}
 use Rattle.blaze_streams.specs.Choosing.{IsTaken, IsTakenAlone}
-use Rattle.blaze_streams.specs.Cursors.{first_key, FirstHas, lesser}
+use Rattle.blaze_streams.specs.Cursors.{first_key, FirstHas, Reaches, lesser}
 use Rattle.blaze_streams.proofs.ChosenSoFar.{chosen_at, none_there}
 use Rattle.blaze_streams.proofs.Lesser.{at_most_less, lesser_exchanged, lesser_first, not_less}
 use Rattle.blaze_streams.proofs.Steady.{AtMost, at_below_from, from_first}
@@ -24,7 +24,7 @@ ends e l x p =
     let same : range_in e ≡ (l, x) = cc in
     (ap (λ (r : ℤ × ℤ). r.0) same, ap (λ (r : ℤ × ℤ). r.1) same)
 
-at_most_min : (a b t : ℤ) → t ≡ int_min b a → (t ≤ℤ a) × (t ≤ℤ b)
+pub at_most_min : (a b t : ℤ) → t ≡ int_min b a → (t ≤ℤ a) × (t ≤ℤ b)
 at_most_min a b t p = (grind (arith, ints, p), grind (arith, ints, p))
 
 over_min : (a b t s : ℤ) → t ≡ int_min b a → s ≤ℤ a → s ≤ℤ b → s ≤ℤ t
@@ -57,6 +57,20 @@ module _ {A B : Type 0} (eq : A → A → Bool) (L L' : List (Entry A)) (R : Lis
       taken_to eq choose L L' R R s t (Some value) taken.starts taken.order
       (λ k l h. here k h ∙ taken.same k l h ∙ sym (here s taken.order))
       (same_along eq (sym (here s taken.order)) refl taken.alike) taken.list_is taken.other_is
+
+  -- the same, where it is the right list
+  pub right_taken : (choose : Option B → Option A → Option A) → ((x : Option A) → choose None x ≡ x) → (R' : List (Entry B)) → R ≡ R' → IsTaken eq choose R' R L L' s t (Some value)
+  right_taken choose is R' p =
+      let here : (k : ℤ) → k ≤ℤ t → chosen_at choose R L k ≡ at L k = λ k h. ap (λ o. choose o (at L k)) (taken.alone k h) ∙ is (at L k) in
+      subst (λ l. IsTaken eq choose l R L L' s t (Some value)) p
+      (taken_to eq choose R R L L' s t (Some value) (lesser_exchanged (first_key R) (first_key L) ∙ taken.starts) taken.order
+      (λ k l h. here k h ∙ taken.same k l h ∙ sym (here s taken.order))
+      (same_along eq (sym (here s taken.order)) refl taken.alike) taken.other_is taken.list_is)
+
+-- a range reaches as far as its end
+pub reaches_end : {A : Type 0} (l x : ℤ) (L : List (Entry A)) (t : ℤ) → Some (l, x) ≡ option_map range_in (first_entry L) → t ≤ℤ x → Reaches t L
+reaches_end l x [] t p h = tt
+reaches_end l x (e ∷ es) t p h = omega (arith, ints, (ends e l x p).1, h)
 
 module _ {A B : Type 0} (eqa : A → A → Bool) (eqb : B → B → Bool) (l x : ℤ) where
   -- what the first range of a list has below the first key of another
@@ -145,6 +159,10 @@ none_alone (Some v) = refl
 pub nothing_alone : {A B : Type 0} (L : List (Entry A)) (R : List (Entry B)) → None ≡ option_map range_in (first_entry L) → (k : ℤ) → chosen_at left_alone L R k ≡ None
 nothing_alone [] R p k = none_alone (at R k)
 nothing_alone (e ∷ es) R p k = cc
+
+pub none_xor : {A : Type 0} (x : Option A) → option_xor None x ≡ x
+none_xor None = refl
+none_xor (Some v) = refl
 
 pub xor_none : {A : Type 0} (x : Option A) → option_xor x None ≡ x
 xor_none None = refl

@@ -51,7 +51,8 @@ impl<VC: ValueCarrier> Choice<VC, VC> for RightFirst {
         left: &mut Cursor<T, VC, L>,
         right: &mut Cursor<T, VC, R>,
     ) -> Result<Option<RangeEntry<T, Option<VC>>>, AllocError> {
-        if let Some(RangeEntry { start, end, value }) = take_before(left, right)? {
+        if let Some(piece) = take_before(left, right)? {
+            let RangeEntry { start, end, value } = piece;
             let value = Some(value);
             return Ok(Some(RangeEntry { start, end, value }));
         }
@@ -86,7 +87,8 @@ impl<VC: ValueCarrier> Choice<VC, VC> for ExactlyOne {
             let value = Some(value);
             return Ok(Some(RangeEntry { start, end, value }));
         }
-        if let Some(RangeEntry { start, end, value }) = take_before(right, left)? {
+        if let Some(other) = take_before(right, left)? {
+            let RangeEntry { start, end, value } = other;
             let value = Some(value);
             return Ok(Some(RangeEntry { start, end, value }));
         }
@@ -134,7 +136,8 @@ impl<VCL: ValueCarrier, VCR: ValueCarrier> Choice<VCL, VCR> for LeftAlone {
         left: &mut Cursor<T, VCL, L>,
         right: &mut Cursor<T, VCR, R>,
     ) -> Result<Option<RangeEntry<T, Option<VCL>>>, AllocError> {
-        if let Some(RangeEntry { start, end, value }) = take_before(left, right)? {
+        if let Some(piece) = take_before(left, right)? {
+            let RangeEntry { start, end, value } = piece;
             let value = Some(value);
             return Ok(Some(RangeEntry { start, end, value }));
         }

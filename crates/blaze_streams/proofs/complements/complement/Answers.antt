@@ -1,4 +1,4 @@
-use Rattle.std.proofs.Common.{sym, ap, subst}
+use Rattle.std.proofs.Common.{refl, sym, ap, subst}
 use Rattle.blaze_table.specs.RangeSets.{shown_bare_range, unit_eq}
 use Rattle.blaze_table.specs.Complement.{IsComplement}
 use Rattle.blaze_table.proofs.Pairs.UnitLaws.{unit_laws}
@@ -21,3 +21,9 @@ pub returns : goal.returns
 returns g c =
     subst (IsComplement unit_eq g.T.Integer.low g.T.Integer.high tt (g.S.SortedDisjoint.left c.args.set)) (sym c.new.ensures)
     (complement_made unit_eq unit_laws g.T.Integer.low g.T.Integer.high _ c.in_hand.ensures _ _ _ _ c.loop-range.invariant (g.met.S.SortedDisjoint.gives _ _ _ c.in-None.ensures.steps).0 c.in_ok-push_rest.ensures)
+
+pub loop-range-init : goal.loop-range-init
+loop-range-init g c = rw (c.new-gaps.ensures.items, c.min_value.ensures, c.into_iter-range-iterator.ensures.into_iter_gives) refl
+
+pub loop-range-smaller : goal.loop-range-smaller
+loop-range-smaller g c = (c.in-Some.ensures.goes.on c.loop-range.iterator.1).2

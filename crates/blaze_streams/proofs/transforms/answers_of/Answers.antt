@@ -37,3 +37,6 @@ returns g c =
     subst (IsTransformed g.C.Asks.shows g.C.Asks.calls g.W.PartialEq.eq g.T.Integer.low g.T.Integer.high c.args.f (g.S.SortedDisjointMap.left c.args.stream)) (sym c.new.ensures)
     (answered_all g.C.Asks.shows g.C.Asks.calls g.VC.Value.PartialEq.eq g.W.PartialEq.eq g.T.Integer.low g.T.Integer.high c.args.f _ g.met.W.Eq.laws _ _ _ c.loop-item.invariant
     (g.met.S.SortedDisjointMap.gives _ _ _ c.in-None.ensures.steps).0)
+
+pub loop-item-smaller : goal.loop-item-smaller
+loop-item-smaller g c = (c.in-Some.ensures.goes.on c.loop-item.iterator.1).2

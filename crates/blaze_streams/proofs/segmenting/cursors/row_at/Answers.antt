@@ -1,4 +1,4 @@
-use Rattle.std.proofs.Common.{◌≡◌, ◌∙◌, ◌++◌, ◌+◌, [], ◌∷◌, ap, drop, sym, subst, append_assoc}
+use Rattle.std.proofs.Common.{◌≡◌, ◌∙◌, ◌++◌, ◌+◌, [], ◌∷◌, ap, drop, refl, sym, subst, append_assoc}
 use Rattle.blaze_table.specs.Entries.{at}
 use Rattle.blaze_table.proofs.Pairs.Indexed.{from_index}
 use Rattle.blaze_streams.specs.Cursors.{AllReach}
@@ -23,3 +23,10 @@ loop-list-preserved g c =
           ∙ c.loop-list.invariant.found;
       reach = (subst (AllReach key) there c.loop-list.invariant.reach).1;
     }
+
+pub loop-list-init : goal.loop-list-init
+loop-list-init g c = record { found = rw c.new-found.ensures.items refl; reach = c.requires }
+
+pub here-requires : goal.here-requires
+here-requires g c =
+    (subst (AllReach (g.T.Integer.rank c.args.key)) (from_index c.args.lists.now c.loop-list.list-index c.list-item.result c.loop-list-test.true c.list-item.is) c.loop-list.invariant.reach).0
