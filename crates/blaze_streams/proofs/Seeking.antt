@@ -3,6 +3,7 @@ use Rattle.std.specs.Int.{int_max}
 use Rattle.std.proofs.Common.{◌≡◌, ◌≤◌, ℤ, ◌≤ℤ◌, Bool, List, [], ◌∷◌, ◌++◌, length, refl, ◌∙◌, sym, ap, subst, append_assoc, arith}
 use Rattle.std.specs.Cmp.{IsEquivalence}
 use Rattle.std.proofs.lemmas.Int.{ints, by_lt_z}
+use Rattle.std.proofs.lemmas.List.{length-append}
 use Rattle.blaze_table.specs.Canonical.{AreKeys, IsCanonical, IsRangeMap}
 use Rattle.blaze_table.specs.Ending.{ending_from}
 use Rattle.blaze_table.specs.Entries.{Entry}
@@ -11,7 +12,7 @@ use Rattle.blaze_table.proofs.Canonical.Lookup.{IsAbove-from_apart}
 use Rattle.blaze_table.proofs.Canonical.Parts.{IsRangeMap-rest}
 use Rattle.blaze_table.proofs.Neighbours.Ending.{ending_all, ending_skips, ending_takes}
 use Rattle.blaze_table.proofs.Paints.Splices.{after_skips, below_more}
-use Rattle.blaze_streams.specs.LastParts.{IsLastPart}
+use Rattle.blaze_streams.specs.LastParts.{IsLastPart, IsSought}
 
 -- a last part without its first one is a last part
 pub part_rest : {A : Type 0} (list rest : List A) (x : A) → IsLastPart list (x ∷ rest) → IsLastPart list rest
@@ -21,14 +22,19 @@ part_rest list rest x p = record { gone = p.gone ++ x ∷ []; parts = p.parts �
 part_part : {A : Type 0} (list rest found : List A) → IsLastPart list rest → IsLastPart rest found → IsLastPart list found
 part_part list rest found p q = record { gone = p.gone ++ q.gone; parts = p.parts ∙ ap (λ l. p.gone ++ l) q.parts ∙ sym (append_assoc p.gone q.gone found) }
 
--- what a search finds of what is left, for the ranges that do not end below a key
-pub record IsSought {V : Type 0} (k : ℤ) (rest found : List (Entry V)) : Type 0 where
-  pub same : after k found ≡ after k rest
-  pub part : IsLastPart rest found
-  pub fewer : length found ≤ length rest
+pub all_sought : {V : Type 0} (k : ℤ) (rest : List (Entry V)) → IsSought k rest rest
+all_sought k rest = record { gone = []; parts = refl; below = tt }
 
-all_sought : {V : Type 0} (k : ℤ) (rest : List (Entry V)) → IsSought k rest rest
-all_sought k rest = record { same = refl; part = record { gone = []; parts = refl }; fewer = omega arith }
+-- the same lies above the key, in no more ranges
+pub sought_same : {V : Type 0} (k : ℤ) (old new : List (Entry V)) → IsSought k old new → after k new ≡ after k old
+sought_same {V} k old new s = sym (ap (after k) s.parts ∙ passed s.gone s.below)
+  where
+    passed : (gone : List (Entry V)) → IsBelow k gone → after k (gone ++ new) ≡ after k new
+    passed [] b = refl
+    passed (e ∷ es) b = let l = b.0 in after_skips k e (es ++ new) (omega (arith, ints, l)) ∙ passed es b.1
+
+pub sought_fewer : {V : Type 0} (k : ℤ) (old new : List (Entry V)) → IsSought k old new → length new ≤ length old
+sought_fewer k old new s = omega (arith, ap length s.parts ∙ length-append s.gone new)
 
 module _ {V : Type 0} (eq : V → V → Bool) where
   ending_first : (t : ℤ) (e : Entry V) (es : List (Entry V)) → IsCanonical eq (e ∷ es) → t ≤ℤ e.hi → ending_from t (e ∷ es) ≡ e ∷ es
@@ -38,11 +44,7 @@ module _ {V : Type 0} (eq : V → V → Bool) where
   ending_sought t [] c = all_sought t []
   ending_sought t (e ∷ es) c = by_lt_z e.hi t
       (λ l. let found = ending_sought t es c.2 in
-      rw (ending_skips t e es l) (record {
-        same = found.same ∙ sym (after_skips t e es (omega (arith, ints, l)));
-        part = record { gone = e ∷ found.part.gone; parts = ap (λ xs. e ∷ xs) found.part.parts };
-        fewer = omega (arith, found.fewer);
-      }))
+      rw (ending_skips t e es l) (record { gone = e ∷ found.gone; parts = ap (λ xs. e ∷ xs) found.parts; below = (l, found.below) }))
       (λ l. rw (ending_first t e es c l) (all_sought t (e ∷ es)))
 
   -- the ranges before one end below it
@@ -69,7 +71,7 @@ module _ {V : Type 0} (eq : V → V → Bool) where
       (λ l. let same : k ≡ t = grind (arith, ints, is, l) in subst (λ z. IsSought z (e ∷ rest) (ending_from t (e ∷ rest))) (sym same) (ending_sought t (e ∷ rest) below.1)))
 
   pub sought_part : (k : ℤ) (list rest found : List (Entry V)) → IsLastPart list rest → IsSought k rest found → IsLastPart list found
-  sought_part k list rest found p s = part_part list rest found p s.part
+  sought_part k list rest found p s = part_part list rest found p (record { gone = s.gone; parts = s.parts })
 
   -- the entries of a range map from the least key on are all
   pub ending_from_low : (low high : ℤ) (es : List (Entry V)) → IsCanonical eq es → AreKeys low high es → ending_from low es ≡ es

@@ -1,5 +1,5 @@
 //! What is left of a stream that is gone through from its start.
-ghost use Rattle.std.specs.Prelude.{◌≡◌, pos, ◌+ℤ◌, ◌<ℤ◌, [], Some, IfNone, IfOk};
+ghost use Rattle.std.specs.Prelude.{◌≡◌, pos, ◌+ℤ◌, ◌<ℤ◌, ◌≤◌, length, [], Some, IfNone, IfOk};
 ghost use Rattle.std.specs.Int.{int_max};
 ghost use Rattle.std.specs.Option.{option_map};
 ghost use Rattle.blaze_entries.specs.Found.{range_in, shown_ends};
@@ -65,6 +65,14 @@ fn start_above<T: Integer>(lo: T, hi: T, end: T) -> T
     greater(lo, end.add_one())
 }
 
+// Lets ranges that end below a key go: the same lies above it.
+fn let_go<T: Integer, VC: ValueCarrier, I: SortedDisjointMap<T, VC>>(stream: &mut I, key: T)
+    ensures same { after (T.rank key) (I.left stream.new) ≡ after (T.rank key) (I.left stream.old) }
+    ensures fewer { length (I.left stream.new) ≤ length (I.left stream.old) }
+{
+    stream.seek(key);
+}
+
 /// How many ranges are passed one by one, behind the first, before a stream seeks.
 const STEPS: usize = 3;
 
@@ -88,7 +96,7 @@ fn take_above<T: Integer, VC: ValueCarrier, I: SortedDisjointMap<T, VC>>(
         if steps > 0 {
             steps -= 1;
         } else if is_below(first.end, end) {
-            stream.seek(end);
+            let_go(stream, end);
         }
     }
     None

@@ -4,7 +4,7 @@ ghost use Rattle.std.specs.Iterator.{YieldsFirstBy, YieldsLastBy, item_count};
 ghost use Rattle.std.specs.declared.ops.RangeInclusive.{RangeInclusive};
 ghost use Rattle.blaze_table.specs.Entries.{Entry};
 ghost use Rattle.blaze_table.specs.Canonical.{IsRangeMap};
-ghost use Rattle.blaze_table.specs.Splice.{after};
+ghost use Rattle.blaze_streams.specs.LastParts.{IsSought};
 ghost use Rattle.blaze_streams.specs.Ranges.{shown_range};
 
 use crate::carrier::ValueCarrier;
@@ -34,8 +34,7 @@ pub trait SortedDisjointMap<T: Integer, VC: ValueCarrier>: Iterator<
     /// Lets ranges that end below a key go, where the stream finds the key sooner than range by range. It may do nothing, as this
     /// body does.
     fn seek(&mut self, key: T)
-        ensures same { after (T.rank key) (left self.new) ≡ after (T.rank key) (left self.old) }
-        ensures fewer { length (left self.new) ≤ length (left self.old) }
+        ensures { IsSought (T.rank key) (left self.old) (left self.new) }
     {
         let _ = key;
     }
