@@ -1,11 +1,13 @@
 -- What a look at the last of the nodes that are left says, and what a walk has after it.
-use Rattle.std.proofs.Common.{◌≡◌, ℕ, ◌+◌, ◌<◌, ◌≤◌, length, ℤ, Bool, true, false, cond, List, [], ◌∷◌, ◌++◌, Option, Some, None, ◌∙◌, sym, ap, arith, length-append}
-use Rattle.std.specs.Prelude.{MatchOption, int_lt}
+use Rattle.std.proofs.Common.{◌≡◌, ℕ, ◌+◌, ◌<◌, ◌≤◌, length, ℤ, Bool, true, false, cond, List, [], ◌∷◌, ◌++◌, Option, Some, None, refl, ◌∙◌, sym, ap, arith, length-append}
+use Rattle.std.specs.Prelude.{MatchOption, int_lt, int_le, not}
+use Rattle.std.specs.List.{filter}
 use Rattle.std.proofs.lemmas.List.{length-map}
+use Rattle.std.proofs.lemmas.List.Filters.{length-filter_both}
 use Rattle.blaze_entries.specs.Entries.{Entry, entry}
 use Rattle.blaze_entries.specs.Found.{IsFoundAt}
 use Rattle.blaze_entries.specs.Nodes.{held, full, shown_nodes, shown_node, AreFull}
-use Rattle.blaze_entries.specs.Starts.{below}
+use Rattle.blaze_entries.specs.Starts.{below, from}
 use Rattle.blaze_entries.specs.declared.range_entry.RangeEntry.{RangeEntry}
 use Rattle.blaze_entries.specs.declared.nodes.EndValue.{EndValue}
 
@@ -24,12 +26,14 @@ pub found_entry : {T V : Type 0} {rank : T → ℤ} {test : V → Bool} {f : Ran
 found_entry {w = w} {e = e} i = ap (λ (t : ℤ × ℤ × Bool). entry t.0 t.1 w) i.found ∙ ap (entry e.lo e.hi) i.value
 
 -- a part is no longer than the whole
+length-part : {X : Type 0} (p : X → Bool) (xs : List X) → length (filter p xs) ≤ length xs
+length-part p xs = omega (arith, length-filter_both p (λ x. not (p x)) (λ x. refl) xs)
+
 pub length-below : {V : Type 0} (k : ℤ) (es : List (Entry V)) → length (below k es) ≤ length es
-length-below k [] = omega arith
-length-below k (e ∷ es) = elim (int_lt e.lo k) as (λ b. length (cond b (e ∷ below k es) (below k es)) ≤ length (e ∷ es)) [
-  | true ↦ omega (arith, length-below k es)
-  | false ↦ omega (arith, length-below k es)
-]
+length-below k es = length-part (λ e. int_lt e.lo k) es
+
+pub length-from : {V : Type 0} (k : ℤ) (es : List (Entry V)) → length (from k es) ≤ length es
+length-from k es = length-part (λ e. int_le k e.lo) es
 
 -- as many nodes as entries
 pub length-nodes : {T V : Type 0} (rank : T → ℤ) (m : List (T × EndValue T (Option V))) → AreFull (shown_nodes rank m) → length m ≡ length (full (shown_nodes rank m))

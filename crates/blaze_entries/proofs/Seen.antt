@@ -51,14 +51,10 @@ module _ {V : Type 0} (test : V → Bool) (l h high : ℤ) (w : l ≤ℤ h) wher
       let rest = i.rest ∙ sym n.rest in
       let gone = i.gone ∙ ap (λ z. length (inner l z es)) end ∙ sym n.gone in
       let none = ap (moved l) rest in
-      same end rest (i.first ∙ sym n.first) (i.left ∙ sym n.left) (omega (arith, gone, none))
+      sym (same end rest (i.first ∙ sym n.first) (i.left ∙ sym n.left) (omega (arith, gone, none)))
     where
-      made : ℤ → Option (ℤ × ℤ) → Option (ℤ × ℤ × Bool) → Option (ℤ × ℤ × Bool) → ℕ → Seen
-      made a b c d e = record { end = a; rest = b; first = c; left = d; gone = e }
-
-      same : q.end ≡ h → q.rest ≡ None → q.first ≡ None → q.left ≡ None → q.gone ≡ 0 → q ≡ unseen h
-      same a b c d e =
-          ap (λ x. made x q.rest q.first q.left q.gone) a ∙ ap (λ x. made h x q.first q.left q.gone) b ∙ ap (λ x. made h None x q.left q.gone) c ∙ ap (λ x. made h None None x q.gone) d ∙ ap (made h None None None) e
+      same : {a : ℤ} {b : Option (ℤ × ℤ)} {c d : Option (ℤ × ℤ × Bool)} {e : ℕ} → a ≡ h → b ≡ None → c ≡ None → d ≡ None → e ≡ 0 → unseen h ≡ record { end = a; rest = b; first = c; left = d; gone = e }
+      same p q r s t = cc
 
   abbrev gone_of : Bool → Seen → Seen
   gone_of b s = cond b (record s { gone = s.gone + 1 }) s

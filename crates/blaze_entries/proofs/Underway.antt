@@ -7,14 +7,15 @@ use Rattle.std.specs.Option.{option_map}
 use Rattle.std.proofs.lemmas.Int.{ints, by_lt_z}
 use Rattle.std.proofs.lemmas.List.Elements.{filter-append}
 use Rattle.blaze_int.proofs.Comparisons.{lt_true, lt_false, le_true, le_false, lt_holds, lt_fails}
-use Rattle.blaze_entries.specs.Entries.{Entry}
+use Rattle.blaze_entries.specs.Entries.{Entry, at}
 use Rattle.blaze_entries.specs.Found.{found_in, shown_found}
 use Rattle.blaze_entries.specs.Overlap.{shared, overlap, covered}
-use Rattle.blaze_entries.specs.Starts.{StartsAscend, below, from, last_below, reaching, holder_of}
+use Rattle.blaze_entries.specs.Starts.{StartsAscend, below, from, last_below}
 use Rattle.blaze_entries.specs.Walked.{RangesAscend, Seen, IsSeenIn, unseen, seen, seen_value, IsValueAbove, IsClonedIf}
 use Rattle.blaze_entries.specs.declared.range_entry.RangeEntry.{RangeEntry}
 use Rattle.blaze_entries.proofs.Ascending.{start_lower}
 use Rattle.blaze_entries.proofs.Halves.{StartsBelow, below_none, below_takes, below_skips, from_takes, from_skips, from_all, starts_from, starts_below, halves}
+use Rattle.blaze_entries.proofs.Scans.{length-below, length-from}
 use Rattle.blaze_entries.proofs.Seen.{starts_of, last_past, none_seen, next_seen, past_seen}
 
 some_shared : (l h a b : ℤ) → pos 0 ≤ℤ shared l h a b
@@ -45,60 +46,42 @@ module _ {V : Type 0} where
     pub overlap_none : (e : Entry V) → e.lo ≤ℤ e.hi → e.hi <ℤ l → overlap l h e ≡ pos 0
     overlap_none e w u = grind (arith, ints)
 
-    pub overlap_over : (e : Entry V) → e.lo ≤ℤ e.hi → h <ℤ e.lo → overlap l h e ≡ pos 0
-    overlap_over e w u = grind (arith, ints)
+    pub overlap_over : (e : Entry V) → h <ℤ e.lo → overlap l h e ≡ pos 0
+    overlap_over e u = grind (arith, ints)
 
     -- nothing of what starts above the range
-    covered_over : (b high : ℤ) (es : List (Entry V)) → h <ℤ b → RangesAscend b high es → covered l h es ≡ pos 0
-    covered_over b high [] u r = refl
-    covered_over b high (e ∷ es) u r = omega (arith, ints, overlap_over e r.1 (omega (arith, ints, r.0)), covered_over (e.hi +ℤ pos 1) high es (omega (arith, ints, r.0, r.1)) r.3)
+    covered_over : (b high : ℤ) (es : List (Entry V)) → h <ℤ b → StartsAscend b high es → covered l h es ≡ pos 0
+    covered_over b high [] u s = refl
+    covered_over b high (e ∷ es) u s = omega (arith, ints, overlap_over e (omega (arith, ints, s.0)), covered_over (e.lo +ℤ pos 1) high es (omega (arith, ints, s.0)) s.2)
+
+    at_over : (b high : ℤ) (es : List (Entry V)) → l <ℤ b → StartsAscend b high es → at es l ≡ None
+    at_over b high [] u s = refl
+    at_over b high (e ∷ es) u s = rw (le_false e.lo l (omega (arith, ints, s.0))) (at_over (e.lo +ℤ pos 1) high es (omega (arith, ints, s.0)) s.2)
 
     -- nothing of what stands before an entry that starts below the range, and all of it starts below the range
-    record IsPast (xs : List (Entry V)) : Type 0 where
-      starts : StartsBelow l xs
-      free : covered l h xs ≡ pos 0
-
-    past : (b high : ℤ) (xs : List (Entry V)) (e : Entry V) (ys : List (Entry V)) → RangesAscend b high (xs ++ e ∷ ys) → e.lo <ℤ l → IsPast xs
-    past b high [] e ys r u = record { starts = tt; free = refl }
+    past : (b high : ℤ) (xs : List (Entry V)) (e : Entry V) (ys : List (Entry V)) → RangesAscend b high (xs ++ e ∷ ys) → e.lo <ℤ l → StartsBelow l xs × (covered l h xs ≡ pos 0) × (at (xs ++ e ∷ ys) l ≡ at (e ∷ ys) l)
+    past b high [] e ys r u = (tt, refl, refl)
     past b high (x ∷ xs) e ys r u =
         let i = past (x.hi +ℤ pos 1) high xs e ys r.3 u in
         let p = ranges_part (x.hi +ℤ pos 1) high xs (e ∷ ys) r.3 in
-        record {
-          starts = (omega (arith, ints, r.1, p.1, p.2.0), i.starts);
-          free = omega (arith, ints, i.free, overlap_none x r.1 (omega (arith, ints, p.1, p.2.0)));
-        }
+        let under : x.hi <ℤ l = omega (arith, ints, p.1, p.2.0) in
+        ((omega (arith, ints, r.1), i.0), omega (arith, ints, i.1, overlap_none x r.1 under), rw (le_true x.lo l (omega (arith, ints, r.1)), le_false l x.hi under) i.2)
 
-  -- the value of the key l, with one more entry in front
-  pub value_seen : (l b high : ℤ) (e : Entry V) (es : List (Entry V)) → RangesAscend b high (e ∷ es) → seen_value l (option_map (λ (x : Entry V). x.value) (holder_of l es)) e ≡ option_map (λ (x : Entry V). x.value) (holder_of l (e ∷ es))
-  value_seen l b high e es r = by_lt_z l e.lo
-      (λ u. rw (le_false e.lo l u, below_skips (l +ℤ pos 1) e es (omega (arith, ints))) refl)
-      (λ u. by_lt_z e.hi l
-      (λ v. rw (le_true e.lo l u, le_false l e.hi v, below_takes (l +ℤ pos 1) e es (omega (arith, ints))) (ap (option_map (λ (x : Entry V). x.value)) (unheld v (below (l +ℤ pos 1) es))))
-      (λ v. rw (le_true e.lo l u, le_true l e.hi v, below_takes (l +ℤ pos 1) e es (omega (arith, ints)), below_none (l +ℤ pos 1) (e.hi +ℤ pos 1) high es (omega (arith, ints)) (starts_of (e.hi +ℤ pos 1) high es r.3), lt_false e.hi l v) refl))
-    where
-      unheld : e.hi <ℤ l → (xs : List (Entry V)) → reaching l (last_or None xs) ≡ reaching l (last_or (Some e) xs)
-      unheld v [] = rw (lt_true e.hi l v) refl
-      unheld v (x ∷ xs) = refl
-
-module _ {V : Type 0} (test : V → Bool) (l h high : ℤ) (es : List (Entry V)) (len : ℤ) (n : ℕ) where
-  -- Before it stand the entries `others`, and it has seen `tail`, which all start at l or above: how many keys lie outside of those
-  -- that the range shares with them, and how many looks there were.
-  pub record IsUnderway (others tail : List (Entry V)) (s : Seen) (left : ℤ) (looks : ℕ) : Type 0 where
-    pub parts : es ≡ others ++ tail
-    pub near : StartsBelow (h +ℤ pos 2) others
-    pub starts : StartsAscend l high tail
-    pub seen : IsSeenIn test l h tail s
-    pub kept : left +ℤ covered l h tail ≡ len
-    pub few : looks ≤ n + length (from l (below (h +ℤ pos 2) tail))
-    pub risen : n ≤ looks
-
--- it has seen what there is to see
-module _ {V : Type 0} (test : V → Bool) (l h : ℤ) (es : List (Entry V)) (len : ℤ) (n : ℕ) where
-  pub record IsDone (s : Seen) (left : ℤ) (looks : ℕ) : Type 0 where
+module _ {V : Type 0} (test : V → Bool) (l h : ℤ) (len : ℤ) (n : ℕ) where
+  -- what was found of entries: what was seen, how many keys are left outside of those that the range shares with them, and how many
+  -- looks there were, after the first n
+  pub record IsFound (es : List (Entry V)) (s : Seen) (left : ℤ) (looks : ℕ) : Type 0 where
     pub seen : IsSeenIn test l h es s
     pub kept : left +ℤ covered l h es ≡ len
     pub few : looks ≤ n + length (from l (below (h +ℤ pos 2) es))
     pub risen : n ≤ looks
+
+  -- it is found of the last entries of a list, which all start at l or above; the others stand before them
+  pub record IsUnderway (high : ℤ) (es others tail : List (Entry V)) (s : Seen) (left : ℤ) (looks : ℕ) : Type 0 where
+    pub parts : es ≡ others ++ tail
+    pub near : StartsBelow (h +ℤ pos 2) others
+    pub starts : StartsAscend l high tail
+    pub found : IsFound tail s left looks
 
 module _ {V : Type 0} (test : V → Bool) (l h low high : ℤ) (w : l ≤ℤ h) (es : List (Entry V)) (r : RangesAscend low high es) where
   -- what starts above the key above the range
@@ -108,42 +91,30 @@ module _ {V : Type 0} (test : V → Bool) (l h low high : ℤ) (w : l ≤ℤ h) 
   over_starts : StartsAscend (h +ℤ pos 2) high over
   over_starts = starts_from (h +ℤ pos 2) low high es (starts_of low high es r)
 
-  pub begins : (len : ℤ) {n looks : ℕ} (others : List (Entry V)) (s : Seen) → others ≡ below (h +ℤ pos 2) es → s ≡ unseen h → looks ≡ n → IsUnderway test l h high es len n others over s len looks
+  pub begins : (len : ℤ) {n looks : ℕ} (others : List (Entry V)) (s : Seen) → others ≡ below (h +ℤ pos 2) es → s ≡ unseen h → looks ≡ n → IsUnderway test l h len n high es others over s len looks
   begins len others s up none q = record {
     parts = halves (h +ℤ pos 2) low high es (starts_of low high es r) ∙ ap (λ xs. xs ++ over) (sym up);
     near = subst (StartsBelow (h +ℤ pos 2)) (sym up) (starts_below (h +ℤ pos 2) es);
     starts = start_lower (h +ℤ pos 2) l high over (omega (arith, ints)) over_starts;
-    seen = subst (IsSeenIn test l h over) (sym none) (none_seen test l h high w (h +ℤ pos 2) over (omega (arith, ints)) over_starts);
-    kept = let none = covered_from low es r in omega (arith, ints, none);
-    few = omega (arith, q);
-    risen = omega (arith, q);
+    found = record {
+      seen = subst (IsSeenIn test l h over) (sym none) (none_seen test l h high w (h +ℤ pos 2) over (omega (arith, ints)) over_starts);
+      kept = omega (arith, ints, covered_over l h (h +ℤ pos 2) high over (omega (arith, ints)) over_starts);
+      few = omega (arith, q);
+      risen = omega (arith, q);
+    };
   }
-    where
-      covered_from : (b : ℤ) (xs : List (Entry V)) → RangesAscend b high xs → covered l h (from (h +ℤ pos 2) xs) ≡ pos 0
-      covered_from b [] r = refl
-      covered_from b (x ∷ xs) r = by_lt_z x.lo (h +ℤ pos 2)
-          (λ u. rw (from_skips (h +ℤ pos 2) x xs u) (covered_from (x.hi +ℤ pos 1) xs r.3))
-          (λ u. rw (from_all (h +ℤ pos 2) x.lo high (x ∷ xs) u (let s = starts_of b high (x ∷ xs) r in (omega (arith, ints), s.1, s.2))) (covered_over l h x.lo high (x ∷ xs) (omega (arith, ints)) (omega (arith, ints), r.1, r.2, r.3)))
 
-  pub value_begins : None ≡ option_map (λ (x : Entry V). x.value) (holder_of l over)
-  value_begins = sym (ap (λ xs. option_map (λ (x : Entry V). x.value) (reaching l (last_or None xs))) (below_none (l +ℤ pos 1) (h +ℤ pos 2) high over (omega (arith, ints)) over_starts))
+  pub value_begins : None ≡ at over l
+  value_begins = sym (at_over l h (h +ℤ pos 2) high over (omega (arith, ints)) over_starts)
 
-module _ {V : Type 0} {test : V → Bool} {l h high : ℤ} {es : List (Entry V)} {len : ℤ} {n : ℕ} {others tail : List (Entry V)} {s : Seen} {left : ℤ} {looks : ℕ} (i : IsUnderway test l h high es len n others tail s left looks) where
+module _ {V : Type 0} {test : V → Bool} {l h high : ℤ} {es : List (Entry V)} {len : ℤ} {n : ℕ} {others tail : List (Entry V)} {s : Seen} {left : ℤ} {looks : ℕ} (i : IsUnderway test l h len n high es others tail s left looks) where
   -- no entry is left
   module _ (none : others ≡ []) where
     all_seen : tail ≡ es
     all_seen = sym (i.parts ∙ ap (λ xs. xs ++ tail) none)
 
-    pub ends : IsDone test l h es len n s left looks
-    ends = record {
-      seen = subst (λ xs. IsSeenIn test l h xs s) all_seen i.seen;
-      kept = ap (λ xs. left +ℤ covered l h xs) (sym all_seen) ∙ i.kept;
-      few = subst (λ xs. looks ≤ n + length (from l (below (h +ℤ pos 2) xs))) all_seen i.few;
-      risen = i.risen;
-    }
-
-    pub value_ends : {o : Option V} → o ≡ option_map (λ (x : Entry V). x.value) (holder_of l tail) → o ≡ option_map (λ (x : Entry V). x.value) (holder_of l es)
-    value_ends v = v ∙ ap (λ xs. option_map (λ (x : Entry V). x.value) (holder_of l xs)) all_seen
+    pub ends : IsFound test l h len n es s left looks
+    ends = subst (λ xs. IsFound test l h len n xs s left looks) all_seen i.found
 
     pub above_ends : (w : l ≤ℤ h) (o : Option V) → IsValueAbove l h es o
     above_ends w o = subst (λ (x : Option (Entry V)). IfSome x (λ e. h <ℤ e.hi → o ≡ Some e.value)) (sym (ap (last_below l) (sym all_seen) ∙ ap (last_or None) (below_none l l high tail (omega (arith, ints)) i.starts))) tt
@@ -168,62 +139,55 @@ module _ {V : Type 0} {test : V → Bool} {l h high : ℤ} {es : List (Entry V)}
     -- there are no more to go than entries
     pub fits : s.gone + 1 ≤ length es
     fits =
-        let gone = i.seen.gone in
+        let gone = i.found.seen.gone in
         let all = ap length whole ∙ length-append xs (e ∷ tail) in
-        omega (arith, gone, all, fewer (s.end +ℤ pos 1) tail)
-      where
-        fewer : (k : ℤ) (xs : List (Entry V)) → length (from (l +ℤ pos 1) (below k xs)) ≤ length xs
-        fewer k [] = omega arith
-        fewer k (x ∷ xs) = by_lt_z x.lo k
-            (λ u. by_lt_z x.lo (l +ℤ pos 1)
-            (λ v. rw (below_takes k x xs u, from_skips (l +ℤ pos 1) x (below k xs) v) (omega (arith, fewer k xs)))
-            (λ v. rw (below_takes k x xs u, from_takes (l +ℤ pos 1) x (below k xs) v) (omega (arith, fewer k xs))))
-            (λ u. rw (below_skips k x xs u) (omega (arith, fewer k xs)))
+        omega (arith, gone, all, length-from (l +ℤ pos 1) (below (s.end +ℤ pos 1) tail), length-below (s.end +ℤ pos 1) tail)
 
     pub has_room : covered l h es ≤ℤ len → shared l h f.0 f.1 ≤ℤ left
     has_room room =
         let all = ap (covered l h) whole ∙ covered-append l h xs (e ∷ tail) in
-        let kept = i.kept in
+        let kept = i.found.kept in
         omega (arith, ints, keys, room, all, kept, some_covered l h xs)
 
     module _ {q : Seen} (saw : q ≡ seen l h s f) where
       seen_next : IsSeenIn test l h (e ∷ tail) q
-      seen_next = subst (IsSeenIn test l h (e ∷ tail)) (sym (saw ∙ ap (seen l h s) is)) (next_seen test l h high w ranges.0 e tail ranges.2 near_parts.1.0 i.starts s i.seen)
+      seen_next = subst (IsSeenIn test l h (e ∷ tail)) (sym (saw ∙ ap (seen l h s) is)) (next_seen test l h high w ranges.0 e tail ranges.2 near_parts.1.0 i.starts s i.found.seen)
 
       module _ (rest : ℤ) (taken : rest +ℤ shared l h f.0 f.1 ≡ left) where
         -- it starts at l or above, and the walk goes on
-        pub goes_on : {more : ℕ} → more ≡ looks + 1 → int_lt f.0 l ≡ false → IsUnderway test l h high es len n xs (e ∷ tail) q rest more
+        pub goes_on : {more : ℕ} → more ≡ looks + 1 → int_lt f.0 l ≡ false → IsUnderway test l h len n high es xs (e ∷ tail) q rest more
         goes_on one u =
             let up = lt_fails f.0 l u in
             let here = start in
             let length_more = ap length (ap (from l) (below_takes (h +ℤ pos 2) e tail near_parts.1.0) ∙ from_takes l e (below (h +ℤ pos 2) tail) (omega (arith, ints))) in
-            let kept = i.kept in
+            let kept = i.found.kept in
             record {
               parts = whole;
               near = near_parts.0;
               starts = let s = starts_of ranges.0 high (e ∷ tail) ranges.2 in (omega (arith, ints), s.1, s.2);
-              seen = seen_next;
-              kept = omega (arith, ints, taken, kept, keys);
-              few = omega (arith, one, length_more, i.few);
-              risen = omega (arith, one, i.risen);
+              found = record {
+                seen = seen_next;
+                kept = omega (arith, ints, taken, kept, keys);
+                few = omega (arith, one, length_more, i.found.few);
+                risen = omega (arith, one, i.found.risen);
+              };
             }
 
         -- it starts below l, and the walk ends
-        pub stops : int_lt f.0 l ≡ true → IsDone test l h es len n q rest looks
+        pub stops : int_lt f.0 l ≡ true → IsFound test l h len n es q rest looks
         stops u =
             let down = lt_holds f.0 l u in
             let here = start in
             let under : e.lo <ℤ l = omega (arith, ints) in
             let p = past l h low high xs e tail (subst (RangesAscend low high) whole r) under in
             let all = ap (covered l h) whole ∙ covered-append l h xs (e ∷ tail) in
-            let free = p.free in
-            let kept = i.kept in
+            let kept = i.found.kept in
             let more = ap (λ ys. length (from l (below (h +ℤ pos 2) ys))) whole in
             record {
-              seen = subst (λ ys. IsSeenIn test l h ys q) (sym whole) (past_seen test l h high w xs e tail p.starts under q seen_next);
-              kept = omega (arith, ints, taken, kept, all, free, keys);
-              few = omega (arith, i.few, more, longer (e ∷ tail) xs, longer tail (e ∷ []));
-              risen = i.risen;
+              seen = subst (λ ys. IsSeenIn test l h ys q) (sym whole) (past_seen test l h high w xs e tail p.0 under q seen_next);
+              kept = omega (arith, ints, taken, kept, all, p.1, keys);
+              few = omega (arith, i.found.few, more, longer (e ∷ tail) xs, longer tail (e ∷ []));
+              risen = i.found.risen;
             }
           where
             longer : (ys zs : List (Entry V)) → length (from l (below (h +ℤ pos 2) ys)) ≤ length (from l (below (h +ℤ pos 2) (zs ++ ys)))
@@ -233,15 +197,16 @@ module _ {V : Type 0} {test : V → Bool} {l h high : ℤ} {es : List (Entry V)}
                 omega (arith, parts)
 
     -- the value of the key l
-    module _ {o p : Option V} (v : o ≡ option_map (λ (x : Entry V). x.value) (holder_of l tail)) (saw : p ≡ seen_value l o e) where
-      pub value_goes_on : p ≡ option_map (λ (x : Entry V). x.value) (holder_of l (e ∷ tail))
-      value_goes_on = saw ∙ ap (λ x. seen_value l x e) v ∙ value_seen l ranges.0 high e tail ranges.2
+    module _ {o p : Option V} (v : o ≡ at tail l) (saw : p ≡ seen_value l o e) where
+      pub value_goes_on : p ≡ at (e ∷ tail) l
+      value_goes_on = saw ∙ ap (λ x. seen_value l x e) v
 
-      pub value_stops : int_lt f.0 l ≡ true → p ≡ option_map (λ (x : Entry V). x.value) (holder_of l es)
+      pub value_stops : int_lt f.0 l ≡ true → p ≡ at es l
       value_stops u =
           let down = lt_holds f.0 l u in
           let here = start in
-          value_goes_on ∙ sym (ap (λ x. option_map (λ (y : Entry V). y.value) (reaching l x)) (ap (last_below (l +ℤ pos 1)) whole ∙ last_past (l +ℤ pos 1) xs e tail (omega (arith, ints))))
+          let p = past l h low high xs e tail (subst (RangesAscend low high) whole r) (omega (arith, ints)) in
+          value_goes_on ∙ sym (ap (λ ys. at ys l) whole ∙ p.2)
 
       -- that of the last entry that starts below l, where that one goes on above the range
       pub above_stops : int_lt f.0 l ≡ true → IsValueAbove l h es p

@@ -1,12 +1,12 @@
 //! A walk down the tree from above a range, in one search.
 ghost use Rattle.std.specs.Prelude.{◌≡◌, ◌⊎◌, ◌+◌, ◌++◌, ◌∷◌, [], pos, ◌+ℤ◌, ◌≤ℤ◌, ◌<ℤ◌, ◌<◌, ◌≤◌, ◌^◌};
 ghost use Rattle.std.specs.Prelude.{length, MatchOption, OnSome, IfOk, OnErr, IsSome, IfSome, IsSomeAnd, true, false};
-ghost use Rattle.std.specs.Option.{option_map, option_copied};
-ghost use Rattle.blaze_entries.specs.Entries.{Entry, entry};
+ghost use Rattle.std.specs.Option.{option_copied};
+ghost use Rattle.blaze_entries.specs.Entries.{Entry, entry, at};
 ghost use Rattle.blaze_entries.specs.Found.{shown_found, is_sought, IsFoundAt};
 ghost use Rattle.blaze_entries.specs.Nodes.{shown_nodes, entries_of, AreFull, AreHeld};
 ghost use Rattle.blaze_entries.specs.Overlap.{covered};
-ghost use Rattle.blaze_entries.specs.Starts.{below, from, holder_of};
+ghost use Rattle.blaze_entries.specs.Starts.{below, from};
 ghost use Rattle.blaze_entries.specs.Walked.{RangesAscend, shown_plan, IsSeenIn, unseen, seen_end};
 ghost use Rattle.blaze_entries.specs.Walked.{seen_start, seen, seen_value, IsValueAbove, IsClonedIf};
 
@@ -202,8 +202,8 @@ pub fn walk_tree<'a, T: Integer, V: Eq>(
         ≡ pos (T.SafeLen.number len) }
     ensures above { IsValueAbove (T.rank lo) (T.rank hi)
         (entries_of T.rank tree.now.entries) (option_copied result.2) }
-    ensures value { option_copied result.2 ≡ option_map (λ e. e.value)
-        (holder_of (T.rank lo) (entries_of T.rank tree.now.entries)) }
+    ensures value { option_copied result.2
+        ≡ at (entries_of T.rank tree.now.entries) (T.rank lo) }
     ensures risen { looks.old.number ≤ looks.new.number }
     ensures few { looks.new.number ≤ looks.old.number + length (from (T.rank lo)
         (below (T.rank hi +ℤ pos 2) (entries_of T.rank tree.now.entries))) + 1 }

@@ -3,6 +3,7 @@ ghost use Rattle.std.specs.Prelude.{◌≡◌, ◌⊎◌, ◌+◌, ◌-◌, ◌�
 ghost use Rattle.std.specs.Prelude.{IfOk, OnErr, IsSome, IfSome, IsSomeAnd, true};
 ghost use Rattle.std.specs.Option.{option_map, option_copied};
 ghost use Rattle.blaze_entries.specs.Cloned.{IsRangeCloned};
+ghost use Rattle.blaze_entries.specs.Entries.{at};
 ghost use Rattle.blaze_entries.specs.Found.{found_in, shown_found, is_sought, range_in, shown_ends};
 ghost use Rattle.blaze_entries.specs.Overlap.{covered};
 ghost use Rattle.blaze_entries.specs.Starts.{below, from, last_below, first_from, holder_of, start_at};
@@ -145,10 +146,10 @@ impl<T: Integer, V: Eq + Clone> Counted<T, V> {
             (is_sought V.eq (option_copied value.entry))
             (T.rank lo) (T.rank hi) self.old.entries w.above) }
         ensures value { IfOk result (λ w. IsClonedIf V.is_clone wanted
-            (option_map (λ e. e.value) (holder_of (T.rank lo) self.old.entries)) w.value) }
+            (at self.old.entries (T.rank lo)) w.value) }
         ensures refused { OnErr result (GoesOnUnlike (is_sought V.eq (option_copied value.entry))
             (T.rank lo) (T.rank hi) self.old.entries
-            ⊎ ((wanted ≡ true) × IsSome (holder_of (T.rank lo) self.old.entries))) }
+            ⊎ ((wanted ≡ true) × IsSome (at self.old.entries (T.rank lo)))) }
         ensures looked { self.new ≡ record self.old { looks = self.new.looks } }
         ensures risen { self.old.looks ≤ self.new.looks }
         ensures few { self.new.looks ≤ self.old.looks + length (from (T.rank lo)

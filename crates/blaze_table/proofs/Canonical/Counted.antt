@@ -40,7 +40,7 @@ module _ {V : Type 0} (eq : V → V → Bool) where
 
   pub covered_none : (l h : ℤ) (es : List (Entry V)) → IsCanonical eq es → IsAbove h es → covered l h es ≡ pos 0
   covered_none l h [] c a = refl
-  covered_none l h (e ∷ es) c a = omega (arith, ints, overlap_over l h e c.0 a, covered_none l h es c.2 (above_more e es c.1 (omega (arith, ints, c.0))))
+  covered_none l h (e ∷ es) c a = omega (arith, ints, overlap_over l h e a, covered_none l h es c.2 (above_more e es c.1 (omega (arith, ints, c.0))))
     where
       above_more : (e : Entry V) (es : List (Entry V)) → IsApart eq e es → h ≤ℤ e.hi → IsAbove h es
       above_more e [] p q = tt
@@ -79,7 +79,7 @@ module _ {V : Type 0} (eq : V → V → Bool) where
       by_after h e es
       (λ m q. rw (p, q) (omega (arith, ints, i, none, overlap_all l h e c.0 v m)))
       (λ m n q. rw (p, q) (omega (arith, ints, overlap_right l h e v n (omega (arith, ints)), covered_none l h es c.2 (above_by e.hi h es (omega (arith, ints)) a))))
-      (λ m n q. rw (p, q) (omega (arith, ints, overlap_over l h e c.0 n, covered_none l h es c.2 (above_by e.hi h es (omega (arith, ints)) a)))))
+      (λ m n q. rw (p, q) (omega (arith, ints, overlap_over l h e n, covered_none l h es c.2 (above_by e.hi h es (omega (arith, ints)) a)))))
 
   -- the keys from a on are no fewer than those of a list among them
   pub keys_bound : (a high : ℤ) (es : List (Entry V)) → a ≤ℤ (high +ℤ pos 1) → IsCanonical eq es → IsAbove (a -ℤ pos 1) es → (low : ℤ) → AreKeys low high es → keys_in es ≤ℤ ((high -ℤ a) +ℤ pos 1)

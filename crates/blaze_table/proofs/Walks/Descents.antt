@@ -46,11 +46,6 @@ module _ {V : Type 0} (test : V → Bool) (low high : ℤ) (es : List (Entry V))
       by_last None p q = no_last k low high es s p
       by_last (Some e) p q = cc
 
-  -- there are no more rounds than entries
-  pub rounds_fit : (k : ℤ) (r : Option (ℤ × ℤ × Bool)) → r ≡ option_map (found_in test) (last_below k es) → rounds es r ≤ length es
-  rounds_fit k None q = omega arith
-  rounds_fit k (Some t) q = let d = down_to k t q in omega (arith, d.fewer, length-below k es)
-
   -- the next look is below the entry
   pub rounds_fall : (k : ℤ) (t : ℤ × ℤ × Bool) (r o : Option (ℤ × ℤ × Bool)) → o ≡ Some t → r ≡ option_map (found_in test) (last_below t.0 es) → rounds es r < rounds es o
   rounds_fall k t r o p q = rw p (below_it r q)

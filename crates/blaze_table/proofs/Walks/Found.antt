@@ -10,10 +10,9 @@ use Rattle.blaze_entries.specs.Counted.{CountedEntries}
 use Rattle.blaze_entries.specs.declared.range_entry.RangeEntry.{RangeEntry}
 use Rattle.blaze_entries.specs.Found.{found_in, shown_found}
 use Rattle.blaze_entries.specs.Overlap.{covered}
-use Rattle.blaze_entries.specs.Walked.{RangesAscend, end_of, IsSeenIn, seen_value, IsAboveCloned, GoesOnUnlike, IsClonedIf}
-use Rattle.blaze_entries.specs.Starts.{StartsAscend, below, last_below, holder_of, start_at}
+use Rattle.blaze_entries.specs.Walked.{RangesAscend, end_of, IsSeenIn, IsAboveCloned, GoesOnUnlike, IsClonedIf}
+use Rattle.blaze_entries.specs.Starts.{StartsAscend, below, last_below, start_at}
 use Rattle.blaze_entries.proofs.Halves.{below_none, below_takes}
-use Rattle.blaze_entries.proofs.Underway.{value_seen}
 use Rattle.blaze_table.specs.Canonical.{IsCanonical, AreKeys}
 use Rattle.blaze_table.specs.Entries.{Entry, entry, at, entry_at, SameOption}
 use Rattle.blaze_table.specs.Painted.{ClonesAreAlike, IsInside}
@@ -96,13 +95,8 @@ module _ {V : Type 0} (eq : V → V → Bool) (l h low high : ℤ) (w : l ≤ℤ
           let start : rank f.start ≡ e.lo = ap (λ (t : ℤ × ℤ × Bool). t.0) found in
           subst (λ o. IsSome o) (sym (ap (λ k. start_at k es) start ∙ start_last e r)) refl
 
--- what a key has is what its holder has
-at_holder : {V : Type 0} (l b high : ℤ) (es : List (Entry V)) → RangesAscend b high es → option_map (λ (e : Entry V). e.value) (holder_of l es) ≡ at es l
-at_holder l b high [] r = refl
-at_holder l b high (e ∷ es) r = sym (value_seen l b high e es r) ∙ ap (λ o. seen_value l o e) (at_holder l (e.hi +ℤ pos 1) high es r.3)
-
 -- a clone of what there is is equal to it
-cloned_option : {V : Type 0} (eq : V → V → Bool) (is_clone : V → V → Type 0) → ClonesAreAlike is_clone eq → (o r : Option V) → IsClonedIf is_clone true o r → SameOption eq o r
+pub cloned_option : {V : Type 0} (eq : V → V → Bool) (is_clone : V → V → Type 0) → ClonesAreAlike is_clone eq → (o r : Option V) → IsClonedIf is_clone true o r → SameOption eq o r
 cloned_option eq is_clone k None None h = tt
 cloned_option eq is_clone k None (Some y) h = cc
 cloned_option eq is_clone k (Some x) None h = h
@@ -124,9 +118,6 @@ module _ {V : Type 0} (eq : V → V → Bool) (l h low high : ℤ) (w : l ≤ℤ
   has_keys = omega (arith, ints, t.counted, covered_fits eq l h es t.canonical)
 
   -- what it says
-  pub found_value : (is_clone : V → V → Type 0) → ClonesAreAlike is_clone eq → (r : Option V) → IsClonedIf is_clone true (option_map (λ (e : Entry V). e.value) (holder_of l es)) r → SameOption eq (at es l) r
-  found_value is_clone k r i = cloned_option eq is_clone k (at es l) r (subst (λ o. IsClonedIf is_clone true o r) (at_holder l low high es has_ranges) i)
-
   module _ (test : V → Bool) where
     pub found_above : GoesOnUnlike test l h es → GoesOnUnequal test h es
     found_above g = by_last (last_below l es) refl g

@@ -46,38 +46,22 @@ see-requires g c =
     let nodes = length-nodes g.T.Integer.rank c.args.tree.now.entries c.requires.held.full in
     omega (arith, nodes, fits c.loop-next.invariant.walk g.T.Integer.low c.requires.order c.requires.ranges _ seen.0 seen.2 seen.1.found, c.len-most.ensures.len, c.len-most.ensures.small)
 
-pub returns-then-is_below-clause-plan : goal.returns-then-is_below-clause-plan
-returns-then-is_below-clause-plan g c =
+pub returns-then-is_below : goal.returns-then-is_below
+returns-then-is_below g c =
+    let low = g.T.Integer.low in
+    let i = c.loop-next.invariant in
     let seen = c.in-Some.ensures.found in
-    let i = stops c.loop-next.invariant.walk g.T.Integer.low c.requires.order c.requires.ranges _ seen.0 seen.2 seen.1.found c.see.ensures.seen (pos (g.T.SafeLen.SafeLength.number c.length_outside-left.result)) c.length_outside-left.ensures (sym c.is_below.ensures ∙ c.if-is_below.true) in
-    i.seen
-
-pub returns-then-is_below-clause-len : goal.returns-then-is_below-clause-len
-returns-then-is_below-clause-len g c =
-    let seen = c.in-Some.ensures.found in
-    let i = stops c.loop-next.invariant.walk g.T.Integer.low c.requires.order c.requires.ranges _ seen.0 seen.2 seen.1.found c.see.ensures.seen (pos (g.T.SafeLen.SafeLength.number c.length_outside-left.result)) c.length_outside-left.ensures (sym c.is_below.ensures ∙ c.if-is_below.true) in
-    i.kept
-
-pub returns-then-is_below-clause-few : goal.returns-then-is_below-clause-few
-returns-then-is_below-clause-few g c =
-    let seen = c.in-Some.ensures.found in
-    let i = stops c.loop-next.invariant.walk g.T.Integer.low c.requires.order c.requires.ranges _ seen.0 seen.2 seen.1.found c.see.ensures.seen (pos (g.T.SafeLen.SafeLength.number c.length_outside-left.result)) c.length_outside-left.ensures (sym c.is_below.ensures ∙ c.if-is_below.true) in
-    omega (arith, i.few, c.in-Some.ensures.looked)
-
-pub returns-then-is_below-clause-risen : goal.returns-then-is_below-clause-risen
-returns-then-is_below-clause-risen g c = omega (arith, c.loop-next.invariant.walk.risen, c.in-Some.ensures.looked)
-
-pub returns-then-is_below-clause-above : goal.returns-then-is_below-clause-above
-returns-then-is_below-clause-above g c =
-    let seen = c.in-Some.ensures.found in
-    above_stops c.loop-next.invariant.walk g.T.Integer.low c.requires.order c.requires.ranges _ seen.0 seen.2 seen.1.found c.loop-next.invariant.value
-    (c.seen_value-held.ensures ∙ ap (seen_value (g.T.Integer.rank c.args.lo) (option_copied c.loop-next.held)) (found_entry seen.1)) (sym c.is_below.ensures ∙ c.if-is_below.true)
-
-pub returns-then-is_below-clause-value : goal.returns-then-is_below-clause-value
-returns-then-is_below-clause-value g c =
-    let seen = c.in-Some.ensures.found in
-    value_stops c.loop-next.invariant.walk g.T.Integer.low c.requires.order c.requires.ranges _ seen.0 seen.2 seen.1.found c.loop-next.invariant.value
-    (c.seen_value-held.ensures ∙ ap (seen_value (g.T.Integer.rank c.args.lo) (option_copied c.loop-next.held)) (found_entry seen.1)) (sym c.is_below.ensures ∙ c.if-is_below.true)
+    let last = sym c.is_below.ensures ∙ c.if-is_below.true in
+    let value = c.seen_value-held.ensures ∙ ap (seen_value (g.T.Integer.rank c.args.lo) (option_copied c.loop-next.held)) (found_entry seen.1) in
+    let all = stops i.walk low c.requires.order c.requires.ranges _ seen.0 seen.2 seen.1.found c.see.ensures.seen (pos (g.T.SafeLen.SafeLength.number c.length_outside-left.result)) c.length_outside-left.ensures last in
+    record {
+      plan = all.seen;
+      len = all.kept;
+      above = above_stops i.walk low c.requires.order c.requires.ranges _ seen.0 seen.2 seen.1.found i.value value last;
+      value = value_stops i.walk low c.requires.order c.requires.ranges _ seen.0 seen.2 seen.1.found i.value value last;
+      risen = omega (arith, all.risen, c.in-Some.ensures.looked);
+      few = omega (arith, all.few, c.in-Some.ensures.looked);
+    }
 
 pub loop-next-preserved : goal.loop-next-preserved
 loop-next-preserved g c =

@@ -1,13 +1,12 @@
 use Rattle.std.proofs.Common.{arith, subst, inl, inr}
 use Rattle.blaze_int.proofs.Comparisons.{not_both}
-use Rattle.std.specs.Option.{option_map, option_copied}
+use Rattle.std.specs.Option.{option_copied}
 use Rattle.blaze_entries.specs.Found.{is_sought}
-use Rattle.blaze_entries.specs.Starts.{holder_of}
 use Rattle.blaze_entries.specs.Walked.{IsClonedIf}
-use Rattle.blaze_table.specs.Entries.{Entry}
+use Rattle.blaze_table.specs.Entries.{at}
 use Rattle.blaze_table.proofs.Cuts.CutEdits.{on_err}
 use Rattle.blaze_table.proofs.Walks.FewLooks.{looked}
-use Rattle.blaze_table.proofs.Walks.Found.{has_ranges, has_keys, found_value, found_above, found_by_walk}
+use Rattle.blaze_table.proofs.Walks.Found.{has_ranges, has_keys, cloned_option, found_above, found_by_walk}
 use Rattle.blaze_table.proofs.walk.walk_down.Goals as goal
 
 pub walk-requires-clause-ranges : goal.walk-requires-clause-ranges
@@ -34,9 +33,9 @@ returns-clause-found g c =
 
 pub returns-clause-value : goal.returns-clause-value
 returns-clause-value g c = λ yes.
-    let es = c.args.entries.now.entries in
-    found_value g.V.PartialEq.eq (g.T.Integer.rank c.args.lo) (g.T.Integer.rank c.args.hi) g.T.Integer.low g.T.Integer.high c.requires.order _ es c.in_hand.ensures c.requires.table g.V.Clone.is_clone c.requires.clones c.in_ok-found.found.value
-    (subst (λ b. IsClonedIf g.V.Clone.is_clone b (option_map (λ (e : Entry g.row.V.Denot). e.value) (holder_of (g.T.Integer.rank c.args.lo) es)) c.in_ok-found.found.value) yes c.in_ok-found.ensures.value)
+    let old = at c.args.entries.now.entries (g.T.Integer.rank c.args.lo) in
+    let new = c.in_ok-found.found.value in
+    cloned_option g.V.PartialEq.eq g.V.Clone.is_clone c.requires.clones old new (subst (λ b. IsClonedIf g.V.Clone.is_clone b old new) yes c.in_ok-found.ensures.value)
 
 pub returns-clause-looked : goal.returns-clause-looked
 returns-clause-looked g c =
