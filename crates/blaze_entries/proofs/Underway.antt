@@ -1,22 +1,22 @@
 -- A walk down the entries to a range, underway: what it has found of the entries that it has seen.
 use Rattle.std.proofs.Common.{◌≡◌, ℕ, ◌+◌, ◌≤◌, length, ℤ, pos, ◌+ℤ◌, ◌-ℤ◌, ◌≤ℤ◌, ◌<ℤ◌, Bool, true, false, cond, List, [], ◌∷◌, ◌++◌, Option, Some, None, refl, ◌∙◌, sym, subst, ap, arith, append_assoc, length-append}
-use Rattle.std.specs.Prelude.{int_lt, int_le, ◌&&◌, IfSome, IsSomeAnd}
+use Rattle.std.specs.Prelude.{int_lt, int_le, IfSome, IsSomeAnd}
 use Rattle.std.specs.Int.{int_max, int_min}
 use Rattle.std.specs.List.{last_or}
 use Rattle.std.specs.Option.{option_map}
 use Rattle.std.proofs.lemmas.Int.{ints, by_lt_z}
 use Rattle.std.proofs.lemmas.List.Elements.{filter-append}
-use Rattle.blaze_int.proofs.Comparisons.{lt_true, lt_false, le_true, le_false, lt_holds, lt_fails}
+use Rattle.blaze_int.proofs.Comparisons.{le_true, le_false, lt_holds, lt_fails}
 use Rattle.blaze_entries.specs.Entries.{Entry, at}
 use Rattle.blaze_entries.specs.Found.{found_in, shown_found}
 use Rattle.blaze_entries.specs.Overlap.{shared, overlap, covered}
 use Rattle.blaze_entries.specs.Starts.{StartsAscend, below, from, last_below}
-use Rattle.blaze_entries.specs.Walked.{RangesAscend, Seen, IsSeenIn, unseen, seen, seen_value, IsValueAbove, IsClonedIf}
+use Rattle.blaze_entries.specs.Walked.{RangesAscend, Seen, IsSeenIn, unseen, seen, seen_value, IsClonedIf}
 use Rattle.blaze_entries.specs.declared.range_entry.RangeEntry.{RangeEntry}
 use Rattle.blaze_entries.proofs.Ascending.{start_lower}
-use Rattle.blaze_entries.proofs.Halves.{StartsBelow, below_none, below_takes, below_skips, from_takes, from_skips, from_all, starts_from, starts_below, halves}
+use Rattle.blaze_entries.proofs.Halves.{StartsBelow, below_none, below_takes, from_takes, starts_from, starts_below, halves}
 use Rattle.blaze_entries.proofs.Scans.{length-below, length-from}
-use Rattle.blaze_entries.proofs.Seen.{starts_of, last_past, none_seen, next_seen, past_seen}
+use Rattle.blaze_entries.proofs.Seen.{starts_of, none_seen, next_seen, past_seen}
 
 some_shared : (l h a b : ℤ) → pos 0 ≤ℤ shared l h a b
 some_shared l h a b = up_to_keys (int_max l a) (int_min h b)
@@ -109,15 +109,8 @@ module _ {V : Type 0} (test : V → Bool) (l h low high : ℤ) (w : l ≤ℤ h) 
 
 module _ {V : Type 0} {test : V → Bool} {l h high : ℤ} {es : List (Entry V)} {len : ℤ} {n : ℕ} {others tail : List (Entry V)} {s : Seen} {left : ℤ} {looks : ℕ} (i : IsUnderway test l h len n high es others tail s left looks) where
   -- no entry is left
-  module _ (none : others ≡ []) where
-    all_seen : tail ≡ es
-    all_seen = sym (i.parts ∙ ap (λ xs. xs ++ tail) none)
-
-    pub ends : IsFound test l h len n es s left looks
-    ends = subst (λ xs. IsFound test l h len n xs s left looks) all_seen i.found
-
-    pub above_ends : (w : l ≤ℤ h) (o : Option V) → IsValueAbove l h es o
-    above_ends w o = subst (λ (x : Option (Entry V)). IfSome x (λ e. h <ℤ e.hi → o ≡ Some e.value)) (sym (ap (last_below l) (sym all_seen) ∙ ap (last_or None) (below_none l l high tail (omega (arith, ints)) i.starts))) tt
+  pub ends : others ≡ [] → IsFound test l h len n es s left looks
+  ends none = subst (λ xs. IsFound test l h len n xs s left looks) (sym (i.parts ∙ ap (λ xs. xs ++ tail) none)) i.found
 
   -- the entry e is next, and what a look at it answers is f
   module _ (low : ℤ) (w : l ≤ℤ h) (r : RangesAscend low high es) (xs : List (Entry V)) (e : Entry V) (next : others ≡ xs ++ e ∷ []) {f : ℤ × ℤ × Bool} (is : f ≡ found_in test e) where
@@ -208,16 +201,18 @@ module _ {V : Type 0} {test : V → Bool} {l h high : ℤ} {es : List (Entry V)}
           let p = past l h low high xs e tail (subst (RangesAscend low high) whole r) (omega (arith, ints)) in
           value_goes_on ∙ sym (ap (λ ys. at ys l) whole ∙ p.2)
 
-      -- that of the last entry that starts below l, where that one goes on above the range
-      pub above_stops : int_lt f.0 l ≡ true → IsValueAbove l h es p
-      above_stops u =
-          let down = lt_holds f.0 l u in
-          let here = start in
-          let under : e.lo <ℤ l = omega (arith, ints) in
-          let last : last_below l es ≡ Some e =
-          ap (last_below l) whole ∙ last_past l xs e tail under ∙ ap (last_or None) (below_takes l e tail under ∙ ap (λ ys. e ∷ ys) (below_none l l high tail (omega (arith, ints)) i.starts)) in
-          subst (λ (x : Option (Entry V)). IfSome x (λ y. h <ℤ y.hi → p ≡ Some y.value)) (sym last)
-          (λ long. saw ∙ ap (λ b. cond b (Some e.value) o) (ap (λ b. b && int_le l e.hi) (le_true e.lo l (omega (arith, ints))) ∙ le_true l e.hi (omega (arith, ints))))
+-- it is that of the last entry that starts below l, where that one goes on above h
+pub above_at : {V : Type 0} (l h : ℤ) → l ≤ℤ h → (b high : ℤ) (es : List (Entry V)) → RangesAscend b high es → IfSome (last_below l es) (λ e. h <ℤ e.hi → at es l ≡ Some e.value)
+above_at l h w b high [] r = tt
+above_at {V} l h w b high (x ∷ xs) r = by_lt_z x.lo l
+    (λ u. rw (below_takes l x xs u) (by_others u (below l xs) refl (above_at l h w (x.hi +ℤ pos 1) high xs r.3)))
+    (λ u. rw (below_none l l high (x ∷ xs) (omega (arith, ints)) (let s = starts_of b high (x ∷ xs) r in (u, s.1, s.2))) tt)
+  where
+    by_others : x.lo <ℤ l → (ys : List (Entry V)) → below l xs ≡ ys → IfSome (last_or None ys) (λ e. h <ℤ e.hi → at xs l ≡ Some e.value) → IfSome (last_or (Some x) ys) (λ e. h <ℤ e.hi → at (x ∷ xs) l ≡ Some e.value)
+    by_others u [] q i = λ long. rw (le_true x.lo l (omega (arith, ints)), le_true l x.hi (omega (arith, ints))) refl
+    by_others u (y ∷ ys) q i = by_lt_z x.hi l
+        (λ v. rw (le_true x.lo l (omega (arith, ints)), le_false l x.hi v) i)
+        (λ v. let none : y ∷ ys ≡ [] = sym q ∙ below_none l (x.hi +ℤ pos 1) high xs (omega (arith, ints)) (starts_of (x.hi +ℤ pos 1) high xs r.3) in cc)
 
 -- a clone that is made by what a look has answered, of a value that is the entry's where it is asked for
 pub cloned_above : {T V : Type 0} (rank : T → ℤ) (is_clone : V → V → Type 0) (test : V → Bool) (h : ℤ) (left : Option (RangeEntry T Bool)) (o : Option (Entry V)) (v : ℤ → Option V) (r : Option V) → option_map (shown_found rank) left ≡ option_map (found_in test) o

@@ -81,11 +81,7 @@ seen_value l o e = if holds e l then Some e.value else o
 
 -- ---- the values
 
--- the value of the last entry that starts below l, where that one goes on above h
-abbrev pub IsValueAbove : {V : Type 0} → ℤ → ℤ → List (Entry V) → Option V → Type 0
-IsValueAbove l h es o = IfSome (last_below l es) (λ e. h <ℤ e.hi → o ≡ Some e.value)
-
--- a clone of that value, where it is unequal
+-- a clone of the value of the last entry that starts below l, where that one goes on above h with an unequal value
 abbrev pub IsAboveCloned : {V : Type 0} → (V → V → Type 0) → (V → Bool) → ℤ → ℤ → List (Entry V) → Option V → Type 0
 IsAboveCloned is_clone test l h es r = IfSome (last_below l es) (λ e. h <ℤ e.hi → test e.value ≡ false → IsSomeAnd r (is_clone e.value))
 

@@ -8,7 +8,7 @@ ghost use Rattle.blaze_entries.specs.Nodes.{shown_nodes, entries_of, AreFull, Ar
 ghost use Rattle.blaze_entries.specs.Overlap.{covered};
 ghost use Rattle.blaze_entries.specs.Starts.{below, from};
 ghost use Rattle.blaze_entries.specs.Walked.{RangesAscend, shown_plan, IsSeenIn, unseen, seen_end};
-ghost use Rattle.blaze_entries.specs.Walked.{seen_start, seen, seen_value, IsValueAbove, IsClonedIf};
+ghost use Rattle.blaze_entries.specs.Walked.{seen_start, seen, seen_value, IsClonedIf};
 
 use crate::count::Count;
 use crate::full_nodes::shown;
@@ -200,8 +200,6 @@ pub fn walk_tree<'a, T: Integer, V: Eq>(
     ensures len { pos (T.SafeLen.number result.1)
         +ℤ covered (T.rank lo) (T.rank hi) (entries_of T.rank tree.now.entries)
         ≡ pos (T.SafeLen.number len) }
-    ensures above { IsValueAbove (T.rank lo) (T.rank hi)
-        (entries_of T.rank tree.now.entries) (option_copied result.2) }
     ensures value { option_copied result.2
         ≡ at (entries_of T.rank tree.now.entries) (T.rank lo) }
     ensures risen { looks.old.number ≤ looks.new.number }

@@ -8,7 +8,7 @@ use Rattle.blaze_entries.specs.Walked.{seen_value}
 use Rattle.blaze_entries.proofs.Halves.{below_next}
 use Rattle.blaze_entries.proofs.Held.{nodes_ascend, full_of, full_held, below-held}
 use Rattle.blaze_entries.proofs.Scans.{found_entry, length-nodes}
-use Rattle.blaze_entries.proofs.Underway.{begins, value_begins, fits, has_room, goes_on, stops, value_goes_on, value_stops, above_stops, above_ends}
+use Rattle.blaze_entries.proofs.Underway.{begins, value_begins, fits, has_room, goes_on, stops, value_goes_on, value_stops}
 use Rattle.blaze_entries.proofs.scan.walk_tree.Goals as goal
 
 pub nodes_up_to-nodes-requires : goal.nodes_up_to-nodes-requires
@@ -57,7 +57,6 @@ returns-then-is_below g c =
     record {
       plan = all.seen;
       len = all.kept;
-      above = above_stops i.walk low c.requires.order c.requires.ranges _ seen.0 seen.2 seen.1.found i.value value last;
       value = value_stops i.walk low c.requires.order c.requires.ranges _ seen.0 seen.2 seen.1.found i.value value last;
       risen = omega (arith, all.risen, c.in-Some.ensures.looked);
       few = omega (arith, all.few, c.in-Some.ensures.looked);
@@ -74,6 +73,3 @@ loop-next-preserved g c =
       value = value_goes_on c.loop-next.invariant.walk g.T.Integer.low c.requires.order c.requires.ranges _ seen.0 seen.2 seen.1.found c.loop-next.invariant.value
           (c.seen_value-held.ensures ∙ ap (seen_value (g.T.Integer.rank c.args.lo) (option_copied c.loop-next.held)) (found_entry seen.1));
     }
-
-pub returns-clause-above : goal.returns-clause-above
-returns-clause-above g c = above_ends c.loop-next.invariant.walk c.in_default.ensures.found c.requires.order _
