@@ -3,6 +3,12 @@ use Rattle.std.proofs.lemmas.List.{map-append}
 use Rattle.blaze_table.specs.Entries.{shown_entry}
 use Rattle.range_map_blaze.proofs.make.lent_pairs.lent_pairs_of.Goals as goal
 
+pub loop-item-init-derived : goal.loop-item-init-derived
+loop-item-init-derived g c = c.requires _ c.into_iter-item-iterator.ensures.into_iter_gives
+
+pub loop-item-smaller : goal.loop-item-smaller
+loop-item-smaller g c = (c.in-Some.ensures.goes.on c.loop-item.iterator.1).2
+
 pub loop-item-preserved : goal.loop-item-preserved
 loop-item-preserved g c =
     let shown = shown_entry g.T.Integer.rank (λ v. v.now) in

@@ -2,6 +2,12 @@ use Rattle.blaze_table.proofs.Walks.Worked.{counted_none, counted_then}
 use Rattle.range_map_blaze.proofs.Paints.Joinings.{underway_begun, underway_painted, underway_item, front_painted}
 use Rattle.range_map_blaze.proofs.map.RangeMapBlaze.extend_pairs.Goals as goal
 
+pub loop-item-init-derived : goal.loop-item-init-derived
+loop-item-init-derived g c = c.requires.ends _ c.into_iter-item-iterator.ensures.into_iter_gives
+
+pub loop-item-smaller : goal.loop-item-smaller
+loop-item-smaller g c = (c.in-Some.ensures.goes.on c.loop-item.iterator.1).2
+
 pub loop-item-init : goal.loop-item-init
 loop-item-init g c = (underway_begun g.V.PartialEq.eq g.met.V.Eq.laws g.T.Integer.low g.T.Integer.high c.args.self.now.entries c.in_hand.ensures, counted_none _)
 

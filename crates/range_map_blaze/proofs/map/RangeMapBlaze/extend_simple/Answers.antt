@@ -4,6 +4,12 @@ use Rattle.blaze_table.proofs.Walks.Worked.{counted_none, counted_then}
 use Rattle.range_map_blaze.proofs.Paints.InTurn.{in_turn_item}
 use Rattle.range_map_blaze.proofs.map.RangeMapBlaze.extend_simple.Goals as goal
 
+pub loop-range-init-derived : goal.loop-range-init-derived
+loop-range-init-derived g c = c.requires.ends _ c.into_iter-range-iterator.ensures.into_iter_gives
+
+pub loop-range-smaller : goal.loop-range-smaller
+loop-range-smaller g c = (c.in-Some.ensures.goes.on c.loop-range.iterator.1).2
+
 pub loop-range-init : goal.loop-range-init
 loop-range-init g c = (refl, counted_none _)
 

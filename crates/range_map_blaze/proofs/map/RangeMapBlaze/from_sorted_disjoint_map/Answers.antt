@@ -1,9 +1,16 @@
 use Rattle.std.proofs.Common.{[], ◌++◌, ◌∷◌, ◌∙◌, sym, ap, subst, map, append-nil}
+use Rattle.std.specs.Iterator.{IsFinite}
 use Rattle.blaze_table.specs.Entries.{SameEntries, shown_entry}
 use Rattle.blaze_streams.specs.Ranges.{shown_range}
 use Rattle.range_map_blaze.proofs.Made.{made_of}
 use Rattle.range_map_blaze.proofs.Streams.{range_map_as, taken_more}
 use Rattle.range_map_blaze.proofs.map.RangeMapBlaze.from_sorted_disjoint_map.Goals as goal
+
+pub loop-range-init-derived : goal.loop-range-init-derived
+loop-range-init-derived g c = (g.met.I.SortedDisjointMap.ready _, subst IsFinite (sym (g.met.I.SortedDisjointMap.counted _)) tt)
+
+pub loop-range-smaller : goal.loop-range-smaller
+loop-range-smaller g c = (c.in-Some.ensures.goes.on c.loop-range.iterator.1).2
 
 pub loop-range-init : goal.loop-range-init
 loop-range-init g c = (

@@ -7,6 +7,9 @@ use Rattle.range_map_blaze.specs.Extended.{ArePaintedInTurn}
 use Rattle.range_map_blaze.proofs.Paints.InTurn.{in_turn_by}
 use Rattle.range_map_blaze.proofs.map.RangeMapBlaze.paint_ranges.Goals as goal
 
+pub loop-range-smaller : goal.loop-range-smaller
+loop-range-smaller g c = (c.in-Some.ensures.goes.on c.loop-range.iterator.1).2
+
 pub loop-range-init-derived : goal.loop-range-init-derived
 loop-range-init-derived g c = (g.met.S.SortedDisjointMap.ready _, subst IsFinite (sym (g.met.S.SortedDisjointMap.counted _)) tt)
 

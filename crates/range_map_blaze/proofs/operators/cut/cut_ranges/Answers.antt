@@ -7,6 +7,9 @@ use Rattle.range_map_blaze.proofs.Paints.CutRanges.{cut_none, cut_more}
 use Rattle.range_map_blaze.proofs.Paints.Insides.{with_key}
 use Rattle.range_map_blaze.proofs.operators.cut.cut_ranges.Goals as goal
 
+pub loop-range-smaller : goal.loop-range-smaller
+loop-range-smaller g c = (c.in-Some.ensures.goes.on c.loop-range.iterator.1).2
+
 pub loop-range-init-derived : goal.loop-range-init-derived
 loop-range-init-derived g c = (g.met.S.SortedDisjoint.ready _, subst IsFinite (sym (g.met.S.SortedDisjoint.counted _)) tt)
 
