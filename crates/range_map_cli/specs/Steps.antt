@@ -11,6 +11,7 @@ use Rattle.blaze_table.specs.Count.{mapped_keys}
 use Rattle.blaze_table.specs.Cut.{cut_at, below_at, from_at}
 use Rattle.blaze_table.specs.Filled.{filled}
 use Rattle.blaze_table.specs.Painted.{painted}
+use Rattle.blaze_table.specs.Work.{IsCounted}
 use Rattle.range_map_cli.specs.declared.step.Step.{Step}
 use Rattle.range_map_cli.specs.declared.step.Step.TheVariants.{Paint, Fill, Insert, Remove, PopFirst, PopLast, Clear, KeepBelow, KeepFrom, Or, And, Minus, Xor, AndSet, MinusSet, ComplementWith}
 use Rattle.range_map_cli.specs.declared.step.Answer.{Answer}
@@ -165,8 +166,10 @@ IsEdit PopFirst = Unit {0}
 IsEdit PopLast = Unit {0}
 IsEdit _ = ⊥
 
--- n edits put in at most two entries each, take out at most those and the ones that were there, and look at most so often
+-- all is counted; n edits put in at most two entries each, take out at most those and the ones that were there, and look at most
+-- so often
 pub record IsCountedRun {V : Type 0} (n : ℕ) (old new : CountedEntries V) : Type 0 where
+  pub counted : IsCounted old new
   pub puts : new.put_in ≤ old.put_in + 2 * n
   pub takes : new.taken_out ≤ old.taken_out + 2 * n + length old.entries
   pub looks : new.looks ≤ old.looks + 10 * n + 2 * length old.entries

@@ -6,7 +6,7 @@ ghost use Rattle.blaze_table.specs.Entries.{entry, at};
 ghost use Rattle.blaze_table.specs.Filled.{filled, IsFilled};
 ghost use Rattle.blaze_table.specs.Laws.{IsShortest};
 ghost use Rattle.blaze_table.specs.Painted.{painted, IsPainted, ClonesAreAlike};
-ghost use Rattle.blaze_table.specs.Work.{IsCountedCut, IsCountedPaint, PutsAtMost};
+ghost use Rattle.blaze_table.specs.Work.{IsCounted, IsCountedCut, IsCountedPaint, PutsAtMost};
 ghost use Rattle.range_map_cli.specs.Fills.{ranges_in, IsPaintOrFill};
 ghost use Rattle.range_map_cli.specs.Steps.{answer, first_key, last_key, with_value, answers};
 ghost use Rattle.range_map_cli.specs.Steps.{IsCountedRun, IsEdit, IsRefusedAt, IsStepped};
@@ -35,6 +35,7 @@ fn paint<T: Integer, V: Eq + Clone>(
         == mapped_keys T.low T.high (at map.old.entries))) }
     ensures counted { OnOk result (IsCountedPaint map.old map.new) }
     ensures err { OnErr result (map.new.entries ≡ map.old.entries) }
+    ensures err_counted { OnErr result (IsCounted map.old map.new) }
 {
     lengths_are_mapped::<V>();
     map.in_hand();
@@ -76,6 +77,7 @@ fn pop_first<T: Integer, V: Eq + Clone>(
         (with_value (at map.old.entries) (first_key T.low T.high (at map.old.entries)))) }
     ensures counted { OnOk result (IsCountedCut map.old map.new) }
     ensures err { OnErr result (map.new.entries ≡ map.old.entries) }
+    ensures err_counted { OnErr result (IsCounted map.old map.new) }
 {
     map.in_hand();
     let popped = map.pop_first()?;
@@ -94,6 +96,7 @@ fn pop_last<T: Integer, V: Eq + Clone>(
         (with_value (at map.old.entries) (last_key T.low T.high (at map.old.entries)))) }
     ensures counted { OnOk result (IsCountedCut map.old map.new) }
     ensures err { OnErr result (map.new.entries ≡ map.old.entries) }
+    ensures err_counted { OnErr result (IsCounted map.old map.new) }
 {
     map.in_hand();
     let popped = map.pop_last()?;
@@ -113,6 +116,7 @@ fn take_step<T: Integer, V: Eq + Clone>(
     ensures counted { IsEdit step → OnOk result (PutsAtMost 2 map.old map.new) }
     ensures alone { IsEdit step → map.old.entries ≡ [] → OnOk result (length map.new.entries ≤ 1) }
     ensures err { OnErr result (map.new.entries ≡ map.old.entries) }
+    ensures err_counted { IsEdit step → OnErr result (IsCounted map.old map.new) }
 {
     match step {
         Step::Paint(start, end, value) => {
@@ -212,6 +216,7 @@ pub fn run<T: Integer, V: Eq + Clone>(
     ensures shortest { IsShortest V.eq map.new.entries }
     ensures counted { All IsEdit steps.items
         → OnOk result (IsCountedRun (length steps.items) map.old map.new) }
+    ensures err_counted { All IsEdit steps.items → OnErr result (IsCounted map.old map.new) }
     ensures few { All IsEdit steps.items → map.old.entries ≡ []
         → OnOk result (length map.new.entries ≤ 2 * length steps.items - 1) }
     ensures few_filled { All IsPaintOrFill steps.items → map.old.entries ≡ []

@@ -1,5 +1,5 @@
 -- A run of steps under way.
-use Rattle.std.proofs.Common.{◌≡◌, ℕ, zero, suc, ◌+◌, ◌-◌, ◌*◌, ◌≤◌, ℤ, Bool, List, [], ◌∷◌, ◌++◌, length, take, append-nil, refl, ⊎_elim, inl, inr, ◌<◌, ◌⊎◌, ◌∙◌, sym, ap, subst, arith}
+use Rattle.std.proofs.Common.{◌≡◌, ℕ, zero, suc, ◌+◌, ◌-◌, ◌*◌, ◌≤◌, ℤ, Bool, List, [], ◌∷◌, ◌++◌, length, take, append-nil, append_assoc, refl, ⊎_elim, inl, inr, ◌<◌, ◌⊎◌, ◌∙◌, sym, ap, subst, arith}
 use Rattle.std.specs.List.{All}
 use Rattle.std.specs.Cmp.{IsEquivalence}
 use Rattle.std.proofs.lemmas.List.Elements.{All-cons, All-head, All-tail, All-nil}
@@ -9,7 +9,8 @@ use Rattle.blaze_entries.proofs.Alike.{same_itself, same_trans}
 use Rattle.blaze_table.specs.Entries.{at, SameOption}
 use Rattle.blaze_table.specs.Counted.{CountedEntries}
 use Rattle.blaze_table.specs.Canonical.{IsRangeMap}
-use Rattle.blaze_table.specs.Work.{PutsAtMost}
+use Rattle.blaze_table.specs.Work.{IsCounted, PutsAtMost}
+use Rattle.blaze_table.proofs.Walks.Worked.{counted_none, counted_then}
 use Rattle.range_map_cli.specs.Steps.{content_after, after_all, answer, answers, IsCountedRun, IsEdit, IsRefusedAt, IsStepped, IsSteppedAll, SameAnswer, SameAnswers}
 use Rattle.range_map_cli.specs.declared.step.Step.{Step}
 use Rattle.range_map_cli.specs.declared.step.Answer.{Answer}
@@ -17,9 +18,8 @@ use Rattle.range_map_cli.proofs.Stepping.Alike.{after_alike, after_more, answer_
 
 -- the work of n edits
 pub record CountsEdits {V : Type 0} (n : ℕ) (old now : CountedEntries V) : Type 0 where
+  pub counted : IsCounted old now
   pub puts : now.put_in ≤ old.put_in + 2 * n
-  pub balance : length now.entries + now.taken_out + old.put_in ≡ length old.entries + old.taken_out + now.put_in
-  pub taken : old.taken_out ≤ now.taken_out
   pub looks : now.looks + 2 * old.taken_out ≤ old.looks + 2 * now.taken_out + 6 * n
 
 -- these steps are done, and this was answered
@@ -30,9 +30,9 @@ pub record IsRunning {T V L : Type 0} (eq : V → V → Bool) (rank : T → ℤ)
   pub few : All IsEdit done → old.entries ≡ [] → length now.entries ≤ 2 * length done - 1
 
 module _ {T V L : Type 0} where
-  edits_front : (done : List (Step T V L)) (s : Step T V L) → All IsEdit (done ++ s ∷ []) → All IsEdit done
-  edits_front [] s a = All-nil IsEdit
-  edits_front (t ∷ done) s a = All-cons IsEdit t done (All-head IsEdit t (done ++ s ∷ []) a) (edits_front done s (All-tail IsEdit t (done ++ s ∷ []) a))
+  edits_front : (done rest : List (Step T V L)) → All IsEdit (done ++ rest) → All IsEdit done
+  edits_front [] rest a = All-nil IsEdit
+  edits_front (t ∷ done) rest a = All-cons IsEdit t done (All-head IsEdit t (done ++ rest) a) (edits_front done rest (All-tail IsEdit t (done ++ rest) a))
 
   edits_last : (done : List (Step T V L)) (s : Step T V L) → All IsEdit (done ++ s ∷ []) → IsEdit s
   edits_last [] s a = All-head IsEdit s [] a
@@ -47,7 +47,7 @@ module _ {T V L : Type 0} (eq : V → V → Bool) (laws : IsEquivalence eq) (ran
   running_none old map = record {
     stepped = record { range_map = map; content = λ k. same_itself eq laws (at old.entries k) };
     answered = tt;
-    counted = λ a. record { puts = omega arith; balance = omega arith; taken = omega arith; looks = omega arith };
+    counted = λ a. record { counted = counted_none old; puts = omega arith; looks = omega arith };
     few = λ a e. omega (arith, ap length e);
   }
 
@@ -66,18 +66,17 @@ module _ {T V L : Type 0} (eq : V → V → Bool) (laws : IsEquivalence eq) (ran
         (answer_trans eq laws rank a (answer rank low high s (at now.entries)) (answer rank low high s (after_all rank low high done (at old.entries))) q
         (answer_alike eq laws rank low high (at now.entries) (after_all rank low high done (at old.entries)) r.stepped.content s));
     counted = λ e.
-        let before = r.counted (edits_front done s e) in
+        let before = r.counted (edits_front done (s ∷ []) e) in
         let step = counts (edits_last done s e) in
         let n = length_more done s in
         record {
+          counted = counted_then old now new before.counted step.counted;
           puts = omega (arith, before.puts, step.puts, n);
-          balance = omega (arith, before.balance, step.counted.balance);
-          taken = omega (arith, before.taken, step.counted.taken);
           looks = omega (arith, before.looks, step.looks, n);
         };
     few = λ e none.
         let step = counts (edits_last done s e) in
-        few_more (length done) (r.few (edits_front done s e) none) (λ i. alone (edits_last done s e) (nil_from_length now.entries i))
+        few_more (length done) (r.few (edits_front done (s ∷ []) e) none) (λ i. alone (edits_last done s e) (nil_from_length now.entries i))
         (omega (arith, step.puts, step.counted.balance, step.counted.taken)) (length_more done s);
   }
     where
@@ -89,10 +88,18 @@ module _ {T V L : Type 0} (eq : V → V → Bool) (laws : IsEquivalence eq) (ran
 -- what is counted of edits
 pub counted_run : {V : Type 0} (n : ℕ) (old now : CountedEntries V) → CountsEdits n old now → IsCountedRun n old now
 counted_run n old now c = record {
+  counted = c.counted;
   puts = c.puts;
-  takes = omega (arith, c.puts, c.balance);
-  looks = omega (arith, c.puts, c.balance, c.looks);
+  takes = omega (arith, c.puts, c.counted.balance);
+  looks = omega (arith, c.puts, c.counted.balance, c.looks);
 }
+
+-- a refused edit behind edits
+pub refused_counted : {T V L : Type 0} (eq : V → V → Bool) (rank : T → ℤ) (low high : ℤ) (done rest steps : List (Step T V L)) (s : Step T V L) (old now new : CountedEntries V) (given : List (Answer T V)) → steps ≡ done ++ s ∷ rest
+    → IsRunning eq rank low high done old now given → (IsEdit s → IsCounted now new) → All IsEdit steps → IsCounted old new
+refused_counted eq rank low high done rest steps s old now new given parts r counts all =
+    let front : All IsEdit (done ++ s ∷ []) = edits_front (done ++ s ∷ []) rest (subst (All IsEdit) (parts ∙ sym (append_assoc done (s ∷ []) rest)) all) in
+    counted_then old now new (r.counted (edits_front done (s ∷ []) front)).counted (counts (edits_last done s front))
 
 -- a run that ends at a refused step
 pub refused_at : {T V L : Type 0} (eq : V → V → Bool) (rank : T → ℤ) (low high : ℤ) (done rest steps : List (Step T V L)) (n : ℕ) (old now : CountedEntries V) (given : List (Answer T V)) → steps ≡ done ++ rest → n ≡ length done

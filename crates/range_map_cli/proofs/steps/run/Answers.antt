@@ -2,13 +2,17 @@ use Rattle.std.proofs.Common.{rules, ◌≡◌, ◌++◌, ◌∷◌, ◌∙◌, 
 use Rattle.std.proofs.lemmas.List.{length-append, nil_from_length}
 use Rattle.std.specs.Vec.Iter.{into_iter_items}
 use Rattle.range_map_cli.proofs.Stepping.Filling.{few_filled}
-use Rattle.range_map_cli.proofs.Stepping.Running.{IsRunning, all_done, counted_run, refused_at, running_more, running_none}
+use Rattle.blaze_table.proofs.Walks.Worked.{counted_none}
+use Rattle.range_map_cli.proofs.Stepping.Running.{IsRunning, all_done, counted_run, refused_at, refused_counted, running_more, running_none}
 use Rattle.range_map_cli.proofs.steps.run.Goals as goal
 
 pub returns-in_default-clause-refused : goal.returns-in_default-clause-refused
 returns-in_default-clause-refused g c =
     refused_at g.V.PartialEq.eq g.T.Integer.rank _ _ [] c.args.steps.items c.args.steps.items 0 _ _ _ refl refl (inr refl)
     (running_none g.V.PartialEq.eq g.met.V.Eq.laws g.T.Integer.rank _ _ c.args.map.now c.in_hand.ensures)
+
+pub returns-in_default-clause-err_counted : goal.returns-in_default-clause-err_counted
+returns-in_default-clause-err_counted g c = λ edits. counted_none c.args.map.now
 
 pub loop-step-init : goal.loop-step-init
 loop-step-init g c = (
@@ -25,6 +29,13 @@ returns-in_default-take_step-clause-refused g c =
     let split : into_iter_items c.loop-step.step-iterator ≡ c.in-Some.step ∷ into_iter_items c.next.new.self = search rules in
     rw c.in_default-take_step.ensures.err (refused_at g.V.PartialEq.eq g.T.Integer.rank _ _ i.0 (c.in-Some.step ∷ into_iter_items c.next.new.self) c.args.steps.items c.len-in_default-take_step.result c.args.map.now c.loop-step.map
     c.loop-step.answers.items (i.1 ∙ ap (λ ss. i.0 ++ ss) split) (c.len-in_default-take_step.ensures ∙ i.3) (inl (omega arith)) i.2)
+
+pub returns-in_default-take_step-clause-err_counted : goal.returns-in_default-take_step-clause-err_counted
+returns-in_default-take_step-clause-err_counted g c =
+    let i = c.loop-step.invariant in
+    let split : into_iter_items c.loop-step.step-iterator ≡ c.in-Some.step ∷ into_iter_items c.next.new.self = search rules in
+    refused_counted g.V.PartialEq.eq g.T.Integer.rank _ _ i.0 (into_iter_items c.next.new.self) c.args.steps.items c.in-Some.step c.args.map.now c.loop-step.map c.take_step.new.map c.loop-step.answers.items
+    (i.1 ∙ ap (λ ss. i.0 ++ ss) split) i.2 c.in_default-take_step.ensures.err_counted
 
 pub push_reserved-requires : goal.push_reserved-requires
 push_reserved-requires g c =
