@@ -2,11 +2,11 @@
 //! was booked before. Then what is booked, and for each line `? YEAR` the free spans of that year.
 #![tactic(auto)]
 
+use demo_lines::{Fault, Table, content, decimal, length, run};
 use jiff_core::civil::Date;
 use range_map_blaze::RangeMapBlaze;
 use std::ops::RangeInclusive;
 use std::process::ExitCode;
-use demo_lines::{Fault, Table, content, decimal, length, run};
 
 /// The names of days, by their numbers (1970-01-01 has 0), and the days of the years that were asked.
 #[derive(Drop)]

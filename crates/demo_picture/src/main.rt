@@ -4,10 +4,10 @@
 
 mod svg;
 
+use demo_lines::{Fault, Table, content, length, run};
 use range_map_blaze::RangeMapBlaze;
 use std::ops::RangeInclusive;
 use std::process::ExitCode;
-use demo_lines::{Fault, Table, content, length, run};
 
 /// How many characters a picture of text is wide.
 const WIDTH: usize = 50;

@@ -1,8 +1,8 @@
 //! A picture in the form SVG.
 use crate::{Shown, place};
+use demo_lines::Fault;
 use std::alloc::{AllocError, Global};
 use std::collections::BTreeMap;
-use demo_lines::Fault;
 
 /// How many pixels the bars take side by side.
 const WIDTH: usize = 600;

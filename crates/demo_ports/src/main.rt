@@ -2,9 +2,9 @@
 //! `? COUNT` the first free range of so many ports from 1024 on.
 #![tactic(auto)]
 
+use demo_lines::{Fault, Table, content, decimal, length, run};
 use range_map_blaze::RangeMapBlaze;
 use std::process::ExitCode;
-use demo_lines::{Fault, Table, content, decimal, length, run};
 
 type Names = RangeMapBlaze<u16, String>;
 

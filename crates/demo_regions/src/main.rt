@@ -2,12 +2,12 @@
 //! Of two such tables with an empty line between: which regions are gone, which are new, which moved, how many bytes both have.
 #![tactic(auto)]
 
+use demo_lines::{Fault, Table, hexadecimal, length, run};
 use range_map_blaze::RangeMapBlaze;
 use std::alloc::{AllocError, Global};
 use std::collections::BTreeMap;
 use std::ops::RangeInclusive;
 use std::process::ExitCode;
-use demo_lines::{Fault, Table, hexadecimal, length, run};
 
 type Map = RangeMapBlaze<u64, String>;
 

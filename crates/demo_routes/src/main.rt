@@ -2,11 +2,11 @@
 //! the order of the lines. The shortest list of ranges, and for each line `? ADDRESS` the owner.
 #![tactic(auto)]
 
+use demo_lines::{Fault, Table, content, decimal, run};
 use range_map_blaze::RangeMapBlaze;
 use std::net::Ipv4Addr;
 use std::ops::RangeInclusive;
 use std::process::ExitCode;
-use demo_lines::{Fault, Table, content, decimal, run};
 
 /// A block of addresses, the number of the bits that they share, and its owner.
 #[derive(Drop)]

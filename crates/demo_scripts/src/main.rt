@@ -2,10 +2,10 @@
 //! entries and gaps the map has, and for each line `? WORD` the script of each character of the word.
 #![tactic(auto)]
 
+use demo_lines::{Fault, Table, content, hexadecimal, length, run};
 use range_map_blaze::RangeMapBlaze;
 use std::collections::BTreeMap;
 use std::process::ExitCode;
-use demo_lines::{Fault, Table, content, hexadecimal, length, run};
 
 /// The scripts of characters, and the words that were asked.
 #[derive(Drop)]
