@@ -93,11 +93,28 @@ fn extended_by_lent(rt: &HostRuntime, map: &mut Map, other: &Map) -> Result<(), 
     Ok(())
 }
 
-/// Fills round the entry 3..=5 with an equal value: all are one entry.
+/// A range with the value (1, x), and one inside it with an equal value.
+fn equal_pairs(alloc: Global) -> Result<Pairs, AllocError> {
+    Ok(vec![in alloc; (1..=9, Labelled(1, 'x')), (1..=4, Labelled(1, 'y'))]?)
+}
+
+/// These onto no key: painted one by one, the first value stays.
+fn extended_from_none(rt: &HostRuntime) -> Result<(), AllocError> {
+    let alloc = rt.alloc();
+    let mut map = Map::new(alloc);
+    map.extend_simple(equal_pairs(alloc)?)?;
+    let mut joined = Map::new(alloc);
+    joined.extend_ranges(equal_pairs(alloc)?)?;
+    let is_equal = joined == map;
+    let _ = println!(rt; "from none: {map}, {} entry, {is_equal}", joined.ranges_len());
+    Ok(())
+}
+
+/// Fills round the entry 2..=3 with an equal value: all are one entry.
 fn filled(rt: &HostRuntime) -> Result<(), AllocError> {
     let mut map = Map::new(rt.alloc());
-    let _ = map.ranges_insert(3..=5, Labelled(1, 'x'))?;
-    let grown = map.ranges_insert_absent(1..=9, Labelled(1, 'y'))?;
+    let _ = map.ranges_insert(2..=3, Labelled(1, 'x'))?;
+    let grown = map.ranges_insert_absent(1..=5, Labelled(1, 'y'))?;
     let is_equal = match map.get(4) {
         Some(value) => *value == Labelled(1, 'y'),
         None => false,
@@ -127,6 +144,7 @@ pub fn all(rt: &HostRuntime) -> Result<(), AllocError> {
     extended_by_pairs(rt, &mut map)?;
     extended_by_value(rt, &mut map)?;
     extended_by_lent(rt, &mut map, &map_of_pairs(rt.alloc())?)?;
+    extended_from_none(rt)?;
     filled(rt)?;
     filled_table(rt)
 }
