@@ -1,0 +1,352 @@
+/* Every function of bindings/range_map.h, with each request for memory that it makes refused in turn: it is to return
+ * RANGE_MAP_NO_MEMORY and leave the maps as they were, or do without that request, once a call at most. Then a map that is passed
+ * twice, empty arrays, the ends of the keys, and that all memory is given back. It is linked with --wrap of malloc, realloc and
+ * free. The last line is 'N passed, M failed'. C99 and C++. */
+#include <stdio.h>
+#include <stdlib.h>
+#include <string.h>
+
+#include "range_map.h"
+
+/* ---- Memory */
+
+#ifdef __cplusplus
+extern "C" {
+#endif
+void *__real_malloc(size_t size);
+void *__real_realloc(void *old, size_t size);
+void __real_free(void *block);
+void *__wrap_malloc(size_t size);
+void *__wrap_realloc(void *old, size_t size);
+void __wrap_free(void *block);
+
+static long requests, refused_request, blocks;
+
+static bool refuses(void) { return ++requests == refused_request; }
+
+void *__wrap_malloc(size_t size) {
+    void *block = refuses() ? NULL : __real_malloc(size);
+    if (block) blocks++;
+    return block;
+}
+
+void *__wrap_realloc(void *old, size_t size) {
+    void *block = refuses() ? NULL : __real_realloc(old, size);
+    if (block && !old) blocks++;
+    return block;
+}
+
+void __wrap_free(void *block) {
+    if (block) blocks--;
+    __real_free(block);
+}
+#ifdef __cplusplus
+}
+#endif
+
+/* ---- Judgements */
+
+static long passed, failed;
+
+static void judge(bool good, const char *what, long size, long request) {
+    if (good) {
+        passed++;
+    } else {
+        failed++;
+        printf("%s, %ld entries, request %ld\n", what, size, request);
+    }
+}
+
+/* ---- Two maps, and one that a call makes anew */
+
+struct maps {
+    struct range_map a, b, out;
+};
+
+struct entry {
+    int64_t lo, hi;
+    uint64_t value;
+};
+
+enum { MOST_ENTRIES = 700 };
+
+struct content {
+    size_t count;
+    struct entry entries[MOST_ENTRIES];
+};
+
+struct contents {
+    struct content a, b, out;
+};
+
+static void read_content(struct range_map *map, struct content *into) {
+    int64_t at = INT64_MIN, lo, hi;
+    uint64_t value;
+    into->count = 0;
+    while (range_map_next(map, at, &lo, &hi, &value)) {
+        struct entry entry = {lo, hi, value};
+        if (into->count == MOST_ENTRIES) abort();
+        into->entries[into->count++] = entry;
+        if (hi == INT64_MAX) break;
+        at = hi + 1;
+    }
+}
+
+static void read_contents(struct maps *maps, struct contents *into) {
+    read_content(&maps->a, &into->a);
+    read_content(&maps->b, &into->b);
+    read_content(&maps->out, &into->out);
+}
+
+static bool is_equal_content(const struct content *one, const struct content *other) {
+    return one->count == other->count && memcmp(one->entries, other->entries, one->count * sizeof one->entries[0]) == 0;
+}
+
+static bool is_equal(const struct contents *one, const struct contents *other) {
+    return is_equal_content(&one->a, &other->a) && is_equal_content(&one->b, &other->b) && is_equal_content(&one->out, &other->out);
+}
+
+/* Maps of so many entries: those of a of 6 keys in 10, those of b of 4 keys in 10, over ends of them. */
+static void start(struct maps *maps, long size) {
+    bool changed;
+    memset(maps, 0, sizeof *maps);
+    range_map_new(&maps->a);
+    range_map_new(&maps->b);
+    range_map_new(&maps->out);
+    for (long at = 0; at < size; at++) {
+        if (range_map_paint(&maps->a, 10 * at, 10 * at + 5, (uint64_t)at, &changed)) abort();
+        if (range_map_paint(&maps->b, 10 * at + 4, 10 * at + 7, (uint64_t)at % 3, &changed)) abort();
+    }
+    if (range_map_paint(&maps->out, -3, 3, 99, &changed)) abort();
+}
+
+static void end(struct maps *maps) {
+    range_map_free(&maps->a);
+    range_map_free(&maps->b);
+    range_map_free(&maps->out);
+}
+
+/* ---- The calls that take memory */
+
+enum { MANY = 5 };
+static const int64_t many_lo[MANY] = {3, 14, 60, 7, -9}, many_hi[MANY] = {9, 33, 20, 15, -7};
+static const uint64_t many_values[MANY] = {70, 71, 72, 73, 71};
+
+static bool told;
+static int64_t told_key;
+static uint64_t told_value;
+
+static int32_t paint_between(struct maps *m) { return range_map_paint(&m->a, 7, 8, 50, &told); }
+static int32_t paint_within(struct maps *m) { return range_map_paint(&m->a, 2, 3, 50, &told); }
+static int32_t paint_over(struct maps *m) { return range_map_paint(&m->a, 3, 72, 50, &told); }
+static int32_t fill(struct maps *m) { return range_map_fill(&m->a, -5, 500, 50, &told); }
+static int32_t insert(struct maps *m) { return range_map_insert(&m->a, 3, 50, &told, &told_value); }
+static int32_t remove_range(struct maps *m) { return range_map_remove_range(&m->a, 2, 3, &told); }
+static int32_t remove_key(struct maps *m) { return range_map_remove(&m->a, 3, &told, &told_value); }
+static int32_t pop_first(struct maps *m) { return range_map_pop_first(&m->a, &told, &told_key, &told_value); }
+static int32_t pop_last(struct maps *m) { return range_map_pop_last(&m->a, &told, &told_key, &told_value); }
+static int32_t copy(struct maps *m) { return range_map_copy(&m->a, &m->out); }
+static int32_t unite(struct maps *m) { return range_map_union(&m->a, &m->b, &m->out); }
+static int32_t intersect(struct maps *m) { return range_map_intersection(&m->a, &m->b, &m->out); }
+static int32_t subtract(struct maps *m) { return range_map_difference(&m->a, &m->b, &m->out); }
+static int32_t differ(struct maps *m) { return range_map_symmetric_difference(&m->a, &m->b, &m->out); }
+static int32_t complement(struct maps *m) { return range_map_complement(&m->a, 7, &m->out); }
+static int32_t extend(struct maps *m) { return range_map_extend(&m->a, &m->b); }
+static int32_t split_low(struct maps *m) { return range_map_split_off(&m->a, 3, &m->out); }
+static int32_t split_middle(struct maps *m) { return range_map_split_off(&m->a, 203, &m->out); }
+static int32_t paint_many(struct maps *m) { return range_map_paint_many(&m->a, many_lo, many_hi, many_values, MANY); }
+
+struct call {
+    const char *name;
+    int32_t (*run)(struct maps *maps);
+};
+
+static const struct call calls[] = {
+    {"paint between entries", paint_between},
+    {"paint within an entry", paint_within},
+    {"paint over entries", paint_over},
+    {"fill", fill},
+    {"insert", insert},
+    {"remove_range", remove_range},
+    {"remove", remove_key},
+    {"pop_first", pop_first},
+    {"pop_last", pop_last},
+    {"copy", copy},
+    {"union", unite},
+    {"intersection", intersect},
+    {"difference", subtract},
+    {"symmetric_difference", differ},
+    {"complement", complement},
+    {"extend", extend},
+    {"split_off low", split_low},
+    {"split_off in the middle", split_middle},
+    {"paint_many", paint_many},
+};
+
+static void refuse_each(const struct call *call, long size) {
+    static struct contents before, after, now;
+    struct maps maps;
+    long all, spared = 0;
+    start(&maps, size);
+    read_contents(&maps, &before);
+    requests = refused_request = 0;
+    judge(call->run(&maps) == RANGE_MAP_DONE, call->name, size, 0);
+    all = requests;
+    read_contents(&maps, &after);
+    end(&maps);
+    for (long request = 1; request <= all; request++) {
+        int32_t status;
+        start(&maps, size);
+        requests = 0;
+        refused_request = request;
+        status = call->run(&maps);
+        refused_request = 0;
+        read_contents(&maps, &now);
+        if (status == RANGE_MAP_DONE) {
+            spared++;
+            judge(is_equal(&now, &after), call->name, size, request);
+        } else {
+            judge(status == RANGE_MAP_NO_MEMORY && is_equal(&now, &before), call->name, size, request);
+            /* what it does with memory is the same as if it had not been refused any */
+            status = call->run(&maps);
+            read_contents(&maps, &now);
+            judge(status == RANGE_MAP_DONE && is_equal(&now, &after), call->name, size, request);
+        }
+        end(&maps);
+    }
+    judge(spared <= 1, call->name, size, -spared);
+    judge(blocks == 0, "memory that is not given back", size, blocks);
+}
+
+/* ---- The calls that take none, and what they answer of a: 0 to 5, 10 to 15 and so on */
+
+static void look_up(long size) {
+    struct maps maps;
+    int64_t lo, hi, lows[3], highs[3];
+    uint64_t value, low, high, values[3];
+    long last = 10 * size - 5;
+    start(&maps, size);
+    requests = 0;
+    judge(range_map_is_empty(&maps.a) == (size == 0), "is_empty", size, 0);
+    judge(range_map_entries(&maps.a) == (uint64_t)size, "entries", size, 0);
+    range_map_count(&maps.a, &low, &high);
+    judge(low == 6 * (uint64_t)size && high == 0, "count", size, 0);
+    judge(range_map_first(&maps.a, &lo, &value) == (size > 0) && (!size || (lo == 0 && value == 0)), "first", size, 0);
+    judge(range_map_last(&maps.a, &hi, &value) == (size > 0) && (!size || (hi == last && value == (uint64_t)size - 1)), "last",
+          size, 0);
+    for (long key = -1; key <= last + 1; key++) {
+        bool has = key >= 0 && key <= last && key % 10 <= 5;
+        long tens = key < 0 ? 0 : key / 10;
+        judge(range_map_get(&maps.a, key, &value) == has && (!has || value == (uint64_t)tens), "get", size, key);
+        judge(range_map_entry_or_gap_at(&maps.a, key, &lo, &hi, &value) == has, "entry_or_gap_at", size, key);
+        if (has) {
+            judge(lo == 10 * tens && hi == lo + 5 && value == (uint64_t)tens, "the entry at", size, key);
+        } else {
+            judge(lo == (key < 0 ? INT64_MIN : 10 * tens + 6) && hi == (key < 0 ? -1 : key > last ? INT64_MAX : 10 * tens + 9),
+                  "the gap at", size, key);
+        }
+        if (range_map_next(&maps.a, key, &lo, &hi, &value)) {
+            judge(key <= last && hi >= key && hi - key < 11 && lo == hi - 5, "next", size, key);
+        } else {
+            judge(key > last, "no next", size, key);
+        }
+        if (range_map_previous(&maps.a, key, &lo, &hi, &value)) {
+            judge(lo <= key && key - lo < 10 && hi == lo + 5, "previous", size, key);
+        } else {
+            judge(key < 0, "no previous", size, key);
+        }
+    }
+    judge(range_map_entries_into(&maps.a, 5, lows, highs, values, 3) == (uint64_t)(size < 3 ? size : 3), "entries_into", size, 0);
+    if (size >= 3) judge(lows[0] == 0 && highs[1] == 15 && values[2] == 2, "what entries_into wrote", size, 0);
+    judge(range_map_entries_into(&maps.a, 16, lows, highs, values, 3) == (uint64_t)(size < 2 ? 0 : size < 5 ? size - 2 : 3),
+          "entries_into from a gap", size, 0);
+    judge(range_map_equal(&maps.a, &maps.b) == (size == 0), "equal", size, 0);
+    judge(range_map_compare(&maps.a, &maps.b) == (size ? -1 : 0), "compare", size, 0);
+    judge(range_map_compare(&maps.b, &maps.a) == (size ? 1 : 0), "compare turned round", size, 0);
+    range_map_clear(&maps.a);
+    judge(range_map_is_empty(&maps.a), "clear", size, 0);
+    judge(requests == 0, "look-ups that take memory", size, requests);
+    end(&maps);
+    judge(blocks == 0, "memory that is not given back", size, blocks);
+}
+
+/* ---- A map that is passed twice, empty arrays, ends */
+
+static void misuse(void) {
+    static struct contents before, now;
+    struct maps maps;
+    struct range_map copied;
+    start(&maps, 5);
+    read_contents(&maps, &before);
+    copied = maps.a;
+#define IS_SAME(call) judge((call) == RANGE_MAP_SAME_MAP, #call, 5, 0)
+    IS_SAME(range_map_copy(&maps.a, &maps.a));
+    IS_SAME(range_map_union(&maps.a, &maps.a, &maps.out));
+    IS_SAME(range_map_union(&maps.a, &maps.b, &maps.a));
+    IS_SAME(range_map_union(&maps.a, &maps.b, &maps.b));
+    IS_SAME(range_map_union(&maps.a, &copied, &maps.out));
+    IS_SAME(range_map_intersection(&maps.a, &maps.a, &maps.out));
+    IS_SAME(range_map_intersection(&maps.a, &maps.b, &maps.b));
+    IS_SAME(range_map_difference(&maps.a, &maps.a, &maps.out));
+    IS_SAME(range_map_difference(&maps.a, &maps.b, &maps.a));
+    IS_SAME(range_map_symmetric_difference(&maps.a, &maps.a, &maps.out));
+    IS_SAME(range_map_symmetric_difference(&maps.a, &maps.b, &maps.b));
+    IS_SAME(range_map_complement(&maps.a, 1, &maps.a));
+    IS_SAME(range_map_extend(&maps.a, &maps.a));
+    IS_SAME(range_map_extend(&maps.a, &copied));
+    IS_SAME(range_map_split_off(&maps.a, 3, &maps.a));
+    judge(range_map_equal(&maps.a, &maps.a), "equal to itself", 5, 0);
+    judge(range_map_compare(&maps.a, &maps.a) == 0, "compared with itself", 5, 0);
+    judge(range_map_paint_many(&maps.a, NULL, NULL, NULL, 0) == RANGE_MAP_DONE, "paint_many of none", 5, 0);
+    judge(range_map_entries_into(&maps.a, 0, NULL, NULL, NULL, 0) == 0, "entries_into no room", 5, 0);
+    judge(range_map_paint(&maps.a, 9, 2, 5, &told) == RANGE_MAP_DONE && !told, "paint of an empty range", 5, 0);
+    judge(range_map_fill(&maps.a, 9, 2, 5, &told) == RANGE_MAP_DONE && !told, "fill of an empty range", 5, 0);
+    judge(range_map_remove_range(&maps.a, 9, 2, &told) == RANGE_MAP_DONE && !told, "remove_range of an empty range", 5, 0);
+    read_contents(&maps, &now);
+    judge(is_equal(&now, &before), "the maps after these", 5, 0);
+    end(&maps);
+    judge(maps.a.at == NULL, "zero after free", 5, 0);
+    end(&maps);
+    judge(blocks == 0, "a second free", 5, blocks);
+}
+
+static void whole(void) {
+    struct range_map map = {0}, other = {0};
+    int64_t lo, hi;
+    uint64_t value, low, high;
+    range_map_new(&map);
+    judge(range_map_paint(&map, INT64_MIN, INT64_MAX, UINT64_MAX, &told) == RANGE_MAP_DONE && told, "paint of all keys", 1, 0);
+    range_map_count(&map, &low, &high);
+    judge(low == 0 && high == 1, "count of all keys", 1, 0);
+    judge(range_map_previous(&map, INT64_MIN, &lo, &hi, &value) && hi == INT64_MAX && value == UINT64_MAX, "previous", 1, 0);
+    judge(range_map_next(&map, INT64_MAX, &lo, &hi, &value) && lo == INT64_MIN, "next", 1, 0);
+    judge(range_map_remove(&map, 0, &told, &value) == RANGE_MAP_DONE && told && value == UINT64_MAX, "remove", 1, 0);
+    judge(range_map_pop_last(&map, &told, &hi, &value) == RANGE_MAP_DONE && told && hi == INT64_MAX, "pop_last", 2, 0);
+    judge(range_map_pop_first(&map, &told, &lo, &value) == RANGE_MAP_DONE && told && lo == INT64_MIN, "pop_first", 2, 0);
+    range_map_count(&map, &low, &high);
+    judge(low == UINT64_MAX - 2 && high == 0, "count of all keys but 3", 2, 0);
+    /* (what a call makes may be put into a struct that is zero) */
+    judge(range_map_complement(&map, 4, &other) == RANGE_MAP_DONE && range_map_entries(&other) == 3, "complement", 2, 0);
+    judge(range_map_entry_or_gap_at(&other, 1, &lo, &hi, &value) == false && lo == 1 && hi == INT64_MAX - 1, "gap", 3, 0);
+    range_map_free(&map);
+    range_map_new(&map);
+    judge(range_map_is_empty(&map), "new after free", 0, 0);
+    judge(range_map_pop_first(&map, &told, &lo, &value) == RANGE_MAP_DONE && !told, "pop_first of none", 0, 0);
+    range_map_free(&map);
+    range_map_free(&other);
+    judge(blocks == 0, "memory that is not given back", 0, blocks);
+}
+
+int main(int argc, char **argv) {
+    static const long sizes[] = {0, 1, 2, 12, 40, 200};
+    long most = argc > 1 ? atol(argv[1]) : 200;
+    blocks = 0;
+    for (size_t at = 0; at < sizeof sizes / sizeof sizes[0] && sizes[at] <= most; at++) {
+        for (size_t call = 0; call < sizeof calls / sizeof calls[0]; call++) refuse_each(&calls[call], sizes[at]);
+        look_up(sizes[at]);
+    }
+    misuse();
+    whole();
+    printf("%ld passed, %ld failed\n", passed, failed);
+    return failed != 0;
+}
