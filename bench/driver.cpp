@@ -31,6 +31,7 @@ std::uint64_t library_run(std::uint32_t work, std::uint64_t size, std::uint64_t 
 std::uint64_t boost_run(std::uint32_t work, std::uint64_t size, std::uint64_t count);
 std::uint64_t planned_run(std::uint32_t work, std::uint64_t size, std::uint64_t count);
 std::uint64_t as_crate_run(std::uint32_t work, std::uint64_t size, std::uint64_t count);
+std::uint64_t through_c_run(std::uint32_t work, std::uint64_t size, std::uint64_t count);
 }
 
 namespace {
@@ -45,6 +46,16 @@ constexpr std::size_t sides = 5;
 constexpr std::size_t plain = 0;
 constexpr std::size_t library = 1;
 constexpr std::size_t as_crate = 2;
+
+// Added to a work's number where the library is to do it through its calls for C.
+constexpr std::uint32_t by_c = 50;
+
+std::uint64_t run(std::size_t side, std::uint32_t work, std::uint64_t size, std::uint64_t count) {
+    if (work % checked < by_c) {
+        return runs[side](work, size, count);
+    }
+    return (side == library ? through_c_run : runs[side])(work - by_c, size, count);
+}
 
 struct Work {
     const char* name;
@@ -104,6 +115,8 @@ const Work works[] = {
     {"the union of so many maps of 10^5 entries in all", 20, 16, 1'000, 1e5, "entry"},
     {"the union of so many maps of 10^5 entries in all", 20, 256, 1'000, 1e5, "entry"},
     {"the union of so many maps of 10^5 entries in all", 20, 4'096, 1'000, 1e5, "entry"},
+    {"paint; the library from C", by_c + 0, 10'000, 100'000, 1, "paint"},
+    {"get; the library from C", by_c + 4, 100'000, 10'000'000, 1, "key"},
 };
 
 // A text for the program on lines.
@@ -149,7 +162,7 @@ std::uint64_t sink;
 
 double timed(std::size_t side, const Work& work, std::uint64_t count) {
     double start = now();
-    sink += runs[side](work.number, work.size, count);
+    sink += run(side, work.number, work.size, count);
     return now() - start;
 }
 
@@ -186,7 +199,7 @@ void compare(const Work& work, const Measured (&measured)[sides]) {
         if (measured[side].count == 0) {
             continue;
         }
-        std::uint64_t sum = runs[side](checked + work.number, work.size, count);
+        std::uint64_t sum = run(side, checked + work.number, work.size, count);
         if (first != 0 && sum != first) {
             fail(string(work.name) + ": " + side_names[side] + " leaves something else");
         }
@@ -269,7 +282,7 @@ void measure_works(const Settings& settings, Times& times) {
         }
         Measured measured[sides];
         for (std::size_t side = 0; side < sides; ++side) {
-            if (runs[side](work.number, work.size, 0) != 0) {
+            if (run(side, work.number, work.size, 0) != 0) {
                 measured[side].count = enough_operations(side, work, settings.enough);
             }
         }
@@ -312,6 +325,8 @@ void print_growths(const Times& times) {
     print_growth(times, "`a \\| b`, b of 100, by value at 10^6, of that at 10^5", 11, 1'000'000, 1, 11, 100'000);
     print_growth(times, "`a - b`, b of 100, by value at 10^6, of that at 10^5", 23, 1'000'000, 1, 23, 100'000);
     print_growth(times, "the union of 4,096 maps, of that of 16", 20, 4'096, 1, 20, 16);
+    print_growth(times, "paint from C, of a direct one at 10^4", by_c + 0, 10'000, 1, 0, 10'000);
+    print_growth(times, "get from C, of a direct one", by_c + 4, 100'000, 1, 4, 100'000);
 }
 
 void write_text(const Settings& settings, const Text& text, const string& path) {

@@ -26,7 +26,9 @@ else
     echo 'extern "C" unsigned long long boost_run(unsigned, unsigned long long, unsigned long long) { return 0; }' \
         | g++ -O2 -c -o out/boost.o -x c++ -
 fi
-link driver driver.cpp out/boost.o
+"$root/bindings/build.sh"
+g++ -std=c++17 -O2 -Wall -Wextra -I "$root/bindings" -c -o out/through_c.o through_c.cpp
+link driver driver.cpp out/boost.o out/through_c.o "$root/bindings/out/librange_map.a"
 
 folder="$(mktemp -d)"
 trap 'rm -rf "$folder"' EXIT

@@ -25,8 +25,7 @@
  * pass" with that number.
  *
  * What no proof can see is for the caller to keep:
- * - a struct range_map is zero before its first use, starts with range_map_new, and is not used after range_map_free, unless
- *   range_map_new starts it again;
+ * - a struct range_map is zero before range_map_new, and its map is ended by range_map_free, after which the struct is zero;
  * - it is not copied by assignment or memcpy, which would make two owners of one map: range_map_copy copies;
  * - no pointer is null, nothing that is passed to a call overlaps another thing that is passed to it, and an array has as many
  *   elements as is said;
@@ -185,7 +184,7 @@ static inline int32_t range_map_split_off(struct range_map *a, int64_t key, stru
 
 /* ---- Two maps ---- */
 
-/* Paints the entries of b into a; b stays. A pass through a, and a search for each entry of b. */
+/* Paints the entries of b into a; b stays. A pass through both. */
 static inline int32_t range_map_extend(struct range_map *a, struct range_map *b) {
     return range_map_is_same(a, b) ? RANGE_MAP_SAME_MAP : range_map_extend_unchecked(a, b);
 }
@@ -203,7 +202,8 @@ static inline int32_t range_map_compare(struct range_map *a, struct range_map *b
 
 /* ---- Many entries in one call ---- */
 
-/* Paints n ranges in order, lo[i] to hi[i] with value[i]: the later wins. A pass, and a search for each range. */
+/* Paints n ranges in order, lo[i] to hi[i] with value[i]: the later wins. A pass through the map and the ranges, which are sorted
+ * where they do not ascend. */
 static inline int32_t range_map_paint_many(struct range_map *map, const int64_t *lo, const int64_t *hi, const uint64_t *value,
                                            size_t n) {
     return n ? range_map_paint_many_unchecked(map, lo, n, hi, n, value, n) : RANGE_MAP_DONE;

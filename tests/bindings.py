@@ -157,7 +157,8 @@ class Round:
 
     def on_range(self):
         lo, hi = self.ends()
-        same(list(self.map.overlapping(lo, hi)), runs_of(self.plain, lambda start, end: start <= hi and lo <= end), "overlapping")
+        shared = runs_of(self.plain, lambda start, end: start <= hi and lo <= end)
+        same(list(self.map.overlapping(lo, hi)), shared, "overlapping")
         same(list(self.map.gaps(lo, hi)), gaps_of(self.plain, lo, hi), "gaps")
         part = {key: value for key, value in self.plain.items() if lo <= key <= hi}
         same(list(self.map[lo : hi + 1]), runs_of(part), "a slice")
@@ -215,7 +216,8 @@ class Round:
         same(list(self.other), runs_of(self.other_plain), "split_off")
 
     def copied(self):
-        made = self.choose.choice([lambda: self.map.copy(), lambda: copy.copy(self.map), lambda: pickle.loads(pickle.dumps(self.map))])()
+        copies = [RangeMap.copy, copy.copy, copy.deepcopy, lambda m: pickle.loads(pickle.dumps(m)), RangeMap]
+        made = self.choose.choice(copies)(self.map)
         same(made == self.map and made is not self.map, True, "a copy")
         self.other, self.other_plain = made, dict(self.plain)
 
@@ -224,7 +226,8 @@ class Round:
         same(self.map != self.other, self.plain != self.other_plain, "!=")
 
     def counted(self):
-        same((len(self.map), self.map.key_count(), bool(self.map)), (len(runs_of(self.plain)), len(self.plain), bool(self.plain)), "counts")
+        counts = (len(self.map), self.map.key_count(), bool(self.map))
+        same(counts, (len(runs_of(self.plain)), len(self.plain), bool(self.plain)), "counts")
         same(eval(repr(self.map)) == self.map, True, "repr")
 
     def swap(self):
@@ -257,7 +260,8 @@ class Round:
 
 def rounds(count, seed):
     choose = random.Random(seed)
-    calls = [name for name, call in vars(Round).items() if callable(call) and name not in ("__init__", "key", "ends", "value", "changes_count")]
+    no_calls = {"__init__", "key", "ends", "value", "changes_count"}
+    calls = [name for name, call in vars(Round).items() if callable(call) and name not in no_calls]
     failures = 0
     for number in range(count):
         one, made = Round(choose), []
@@ -401,7 +405,16 @@ def main():
     count = int(sys.argv[1]) if len(sys.argv) > 1 else 1000
     seed = int(sys.argv[2]) if len(sys.argv) > 2 else 64
     failed = rounds(count, seed)
-    cases = [values_of_all_kinds, values_go, many_entries, changed_while_iterated, refused_memory, threads, no_shared_object, loaded_twice]
+    cases = [
+        values_of_all_kinds,
+        values_go,
+        many_entries,
+        changed_while_iterated,
+        refused_memory,
+        threads,
+        no_shared_object,
+        loaded_twice,
+    ]
     for case in cases:
         try:
             case()

@@ -3,7 +3,8 @@
 # has what the library exports; each function with each of its requests for memory refused in turn (tests/bindings.c), the same
 # under valgrind, or clang's or gcc's sanitizers where there is no valgrind; random calls from Python (tests/bindings.py) and Rust
 # (tests/bindings.rs) against plain maps; the examples of docstrings and doc comments; the three programs of bindings/examples
-# against their expected output. What needs a tool that is not here is left out, and named. The last line is 'N passed, M failed'.
+# against their expected output; the lines of README.md. What needs a tool that is not here is left out, and named. The last line
+# is 'N passed, M failed'.
 #
 # RANGE_MAP_OUT names a folder with librange_map.a and librange_map.so to test; without it bindings/build.sh makes them.
 set -euo pipefail
@@ -107,5 +108,12 @@ judge "$expected" "$(python3 bindings/examples/owners.py "${tables[@]}")" "the e
 if command -v rustc >/dev/null; then
     builds "the example in Rust" "${rust[@]}" -o "$work/owners.rust" bindings/examples/owners.rs
     judge "$expected" "$("$work/owners.rust" "${tables[@]}")" "the example in Rust"
+fi
+
+# ---- The lines of README.md
+if [ "$RANGE_MAP_OUT" = bindings/out ] && has rustc; then
+    sed -n '/^## From C, Python and Rust$/,/^## /s/^    //p' README.md >"$work/lines"
+    judge "$(printf '%s\n' "$expected" "$expected" "$expected" "RangeMap([(2, 3, 'a'), (4, 9, 'b')])")" \
+        "$(env -u RANGE_MAP_LIBRARY bash -e "$work/lines" 2>/dev/null)" "the lines of README.md"
 fi
 tell

@@ -21,7 +21,8 @@ any more.
 
 What takes memory raises MemoryError where it is refused, and leaves the maps as they were. A map is for one thread at a time.
 
-This loads `librange_map.so` from `bindings/out`, from the folder of this file, or from where RANGE_MAP_LIBRARY says.
+This loads `librange_map.so` from `bindings/out`, from the folder of this file, or from where RANGE_MAP_LIBRARY says. It needs
+Python 3.9 or later.
 """
 from __future__ import annotations
 
