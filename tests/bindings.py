@@ -334,14 +334,20 @@ def threads():
     def work(number):
         try:
             m = RangeMap()
-            for at in range(2000):
+            for at in range(1000):
                 m[at] = (number, at)
                 same(m.pop(at), (number, at), "a value in a thread")
                 m[at] = (number, "stays")
-            same(list(m), [(0, 1999, (number, "stays"))], "the map of a thread")
+                # (the map's values go from one map to another, and stay)
+                rest, m = m.split_off(0), RangeMap()
+                m |= rest
+                rest.clear()
+                m = m.copy()
+            same(list(m), [(0, 999, (number, "stays"))], "the map of a thread")
         except Exception as failure:
             wrong.append(failure)
 
+    sys.setswitchinterval(1e-6)
     workers = [threading.Thread(target=work, args=(number,)) for number in range(4)]
     for worker in workers:
         worker.start()

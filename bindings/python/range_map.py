@@ -118,7 +118,7 @@ def _declare() -> None:
 _declare()
 
 # ---- The values of all maps, each with the number (token) that stands for it in the library. The lock is held from where a
-# value gets its token to where a map has it, and from where a map loses it to where it is answered.
+# value gets its token to where a map has it, where a map gets another's, and from where a map loses it to where it is answered.
 
 _lock = threading.RLock()
 _tokens: dict[Hashable, int] = {}
@@ -292,8 +292,9 @@ class RangeMap(Generic[V]):
         """
         if isinstance(entries, RangeMap):
             if entries is not self:
-                self._changes += 1
-                _check(_lib.range_map_extend_unchecked(self._struct, entries._struct))
+                with _lock:
+                    self._changes += 1
+                    _check(_lib.range_map_extend_unchecked(self._struct, entries._struct))
             return
         checked = [(*_range(lo, hi), value) for lo, hi, value in entries]
         if not checked:
@@ -379,10 +380,8 @@ class RangeMap(Generic[V]):
         (RangeMap([(4, 5, 'a')]), RangeMap([(1, 3, 'a')]))
         """
         key = _key(key)
-        out: RangeMap[V] = RangeMap()
         self._changes += 1
-        _check(_lib.range_map_split_off_unchecked(self._struct, key, out._struct))
-        return out
+        return self._made(_lib.range_map_split_off_unchecked, key)
 
     # ---- Look up
 
@@ -528,11 +527,15 @@ class RangeMap(Generic[V]):
 
     # ---- New maps
 
+    def _made(self, call: Callable[..., int], *arguments: Any) -> RangeMap[V]:
+        out: RangeMap[V] = RangeMap()
+        with _lock:
+            _check(call(self._struct, *arguments, out._struct))
+        return out
+
     def copy(self) -> RangeMap[V]:
         """A map with the same entries."""
-        out: RangeMap[V] = RangeMap()
-        _check(_lib.range_map_copy_unchecked(self._struct, out._struct))
-        return out
+        return self._made(_lib.range_map_copy_unchecked)
 
     __copy__ = copy
 
@@ -546,19 +549,15 @@ class RangeMap(Generic[V]):
         >>> m == RangeMap([(LEAST, -1, "b")])
         True
         """
-        out: RangeMap[V] = RangeMap()
         with _lock:
-            _check(_lib.range_map_complement_unchecked(self._struct, _token(value), out._struct))
-        return out
+            return self._made(_lib.range_map_complement_unchecked, _token(value))
 
     def _combined(self, other: Any, call: Callable[..., int]) -> Any:
         if not isinstance(other, RangeMap):
             return NotImplemented
         if other is self:
             other = self.copy()
-        out: RangeMap[V] = RangeMap()
-        _check(call(self._struct, other._struct, out._struct))
-        return out
+        return self._made(call, other._struct)
 
     def __or__(self, other: RangeMap[V]) -> RangeMap[V]:
         return self._combined(other, _lib.range_map_union_unchecked)
