@@ -47,7 +47,7 @@ counts "refused memory from C" "$work/c99"
 if has c++; then
     builds "C++" c++ -std=c++11 "${strict[@]}" -x c++ -c -o "$work/c++.o" tests/bindings.c
     builds "C++, linked" c++ -o "$work/c++" "$work/c++.o" "$library" "${wrap[@]}"
-    counts "refused memory from C++" "$work/c++" 12
+    counts "refused memory from C++" "$work/c++" 40
 fi
 if has clang; then builds "clang" clang -std=c99 "${strict[@]}" -c -o "$work/clang.o" tests/bindings.c; fi
 declared="$(grep -v '^static inline' bindings/range_map.h | grep -oE '^[a-z0-9_]+ +range_map_[a-z_]+\(' | grep -o 'range_map_[a-z_]*' | sort)"
