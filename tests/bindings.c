@@ -275,6 +275,105 @@ static void look_up(long size) {
     judge(blocks == 0, "memory that is not given back", size, blocks);
 }
 
+/* ---- What each call leaves and answers, of a: 0 to 5 with 1, 10 to 15 with 2, and b: 4 to 11 with 3 */
+
+static void begin(struct maps *maps) {
+    static const int64_t lo[] = {0, 10, 4}, hi[] = {5, 15, 11};
+    static const uint64_t value[] = {1, 2, 3};
+    end(maps);
+    if (range_map_paint_many(&maps->a, lo, hi, value, 2)) abort();
+    if (range_map_paint_many(&maps->b, lo + 2, hi + 2, value + 2, 1)) abort();
+}
+
+/* The entries of a map, as `lo hi value` in turn. */
+static void judge_map(const char *what, struct range_map *map, size_t count, const int64_t *wanted) {
+    static struct content got;
+    bool good;
+    read_content(map, &got);
+    good = got.count == count;
+    for (size_t at = 0; good && at < count; at++) {
+        const struct entry *entry = &got.entries[at];
+        good = entry->lo == wanted[3 * at] && entry->hi == wanted[3 * at + 1] && entry->value == (uint64_t)wanted[3 * at + 2];
+    }
+    judge(good, what, (long)count, 0);
+}
+
+static void judge_answer(const char *what, int32_t status, bool had, int64_t key, uint64_t value) {
+    judge(status == RANGE_MAP_DONE && told == had && told_key == key && told_value == value, what, 2, 0);
+    told_key = 0;
+    told_value = 0;
+}
+
+static void contents(void) {
+    static const int64_t a[] = {0, 5, 1, 10, 15, 2}, b[] = {4, 11, 3};
+    static const int64_t united[] = {0, 3, 1, 4, 11, 3, 12, 15, 2}, both[] = {4, 5, 3, 10, 11, 3};
+    static const int64_t less[] = {0, 3, 1, 12, 15, 2}, either[] = {0, 3, 1, 6, 9, 3, 12, 15, 2};
+    static const int64_t rest[] = {INT64_MIN, -1, 9, 6, 9, 9, 16, INT64_MAX, 9};
+    static const int64_t low[] = {0, 5, 1, 10, 11, 2}, high[] = {12, 15, 2};
+    static const int64_t painted[] = {0, 3, 1, 4, 12, 7, 13, 15, 2}, filled[] = {0, 5, 1, 6, 9, 7, 10, 15, 2, 16, 16, 7};
+    static const int64_t inserted[] = {0, 2, 1, 3, 3, 7, 4, 5, 1, 10, 15, 2}, cut[] = {0, 1, 1, 14, 15, 2};
+    static const int64_t without[] = {0, 2, 1, 4, 5, 1, 10, 15, 2}, popped[] = {1, 5, 1, 10, 14, 2};
+    static const int64_t many_lo_now[] = {3, 9, 20}, many_hi_now[] = {12, 2, 20}, many[] = {0, 2, 1, 3, 12, 7, 13, 15, 2, 20, 20, 8};
+    static const uint64_t many_values_now[] = {7, 5, 8};
+    struct maps m;
+    memset(&m, 0, sizeof m);
+    begin(&m);
+    judge(range_map_union(&m.a, &m.b, &m.out) == RANGE_MAP_DONE, "union", 2, 0);
+    judge_map("union", &m.out, 3, united);
+    judge(range_map_intersection(&m.a, &m.b, &m.out) == RANGE_MAP_DONE, "intersection", 2, 0);
+    judge_map("intersection", &m.out, 2, both);
+    judge(range_map_difference(&m.a, &m.b, &m.out) == RANGE_MAP_DONE, "difference", 2, 0);
+    judge_map("difference", &m.out, 2, less);
+    judge(range_map_symmetric_difference(&m.a, &m.b, &m.out) == RANGE_MAP_DONE, "symmetric_difference", 2, 0);
+    judge_map("symmetric_difference", &m.out, 3, either);
+    judge(range_map_complement(&m.a, 9, &m.out) == RANGE_MAP_DONE, "complement", 2, 0);
+    judge_map("complement", &m.out, 3, rest);
+    judge(range_map_copy(&m.a, &m.out) == RANGE_MAP_DONE && range_map_equal(&m.a, &m.out), "copy", 2, 0);
+    judge_map("copy", &m.out, 2, a);
+    judge(!range_map_equal(&m.a, &m.b) && range_map_compare(&m.a, &m.b) == -1, "compare", 2, 0);
+    judge(range_map_compare(&m.b, &m.a) == 1 && range_map_compare(&m.a, &m.out) == 0, "compare turned round", 2, 0);
+    judge_map("a, after these", &m.a, 2, a);
+    judge(range_map_extend(&m.a, &m.b) == RANGE_MAP_DONE, "extend", 2, 0);
+    judge_map("extend", &m.a, 3, united);
+    judge_map("b, after these", &m.b, 1, b);
+    begin(&m);
+    judge(range_map_split_off(&m.a, 12, &m.out) == RANGE_MAP_DONE, "split_off", 2, 0);
+    judge_map("split_off, what stays", &m.a, 2, low);
+    judge_map("split_off, what goes", &m.out, 1, high);
+    begin(&m);
+    judge(range_map_paint_many(&m.a, many_lo_now, many_hi_now, many_values_now, 3) == RANGE_MAP_DONE, "paint_many", 2, 0);
+    judge_map("paint_many", &m.a, 4, many);
+
+    told_key = 0;
+    told_value = 0;
+    begin(&m);
+    judge_answer("paint", range_map_paint(&m.a, 4, 12, 7, &told), true, 0, 0);
+    judge_map("paint", &m.a, 3, painted);
+    judge_answer("paint again", range_map_paint(&m.a, 5, 6, 8, &told), false, 0, 0);
+    begin(&m);
+    judge_answer("fill", range_map_fill(&m.a, 3, 16, 7, &told), true, 0, 0);
+    judge_map("fill", &m.a, 4, filled);
+    judge_answer("fill again", range_map_fill(&m.a, 3, 16, 8, &told), false, 0, 0);
+    begin(&m);
+    judge_answer("insert", range_map_insert(&m.a, 3, 7, &told, &told_value), true, 0, 1);
+    judge_map("insert", &m.a, 4, inserted);
+    judge(range_map_insert(&m.a, 7, 7, &told, &told_value) == RANGE_MAP_DONE && !told, "insert in a gap", 2, 0);
+    begin(&m);
+    judge_answer("remove_range", (told_value = 0, range_map_remove_range(&m.a, 2, 13, &told)), true, 0, 0);
+    judge_map("remove_range", &m.a, 2, cut);
+    judge_answer("remove_range again", range_map_remove_range(&m.a, 2, 13, &told), false, 0, 0);
+    begin(&m);
+    judge_answer("remove", range_map_remove(&m.a, 3, &told, &told_value), true, 0, 1);
+    judge_map("remove", &m.a, 3, without);
+    judge(range_map_remove(&m.a, 3, &told, &told_value) == RANGE_MAP_DONE && !told, "remove again", 2, 0);
+    begin(&m);
+    judge_answer("pop_first", range_map_pop_first(&m.a, &told, &told_key, &told_value), true, 0, 1);
+    judge_answer("pop_last", range_map_pop_last(&m.a, &told, &told_key, &told_value), true, 15, 2);
+    judge_map("pops", &m.a, 2, popped);
+    end(&m);
+    judge(blocks == 0, "memory that is not given back", 2, blocks);
+}
+
 /* ---- A map that is passed twice, empty arrays, ends */
 
 static void misuse(void) {
@@ -355,6 +454,7 @@ int main(int argc, char **argv) {
         judge(of_some > 0 || !calls[at].needs_entry, "a request that is needed, of a map with entries", most, (long)at);
     }
     for (size_t size = 0; size < SIZES && sizes[size] <= most; size++) look_up(sizes[size]);
+    contents();
     misuse();
     whole();
     printf("%ld passed, %ld failed\n", passed, failed);
