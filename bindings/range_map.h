@@ -9,7 +9,7 @@
  *     ./program
  *
  * A range lo, hi has both its ends; where lo is above hi it has no key, which is no error. The later value wins, and ranges that
- * touch with equal values are one entry. A map has no entries after range_map_new.
+ * touch with equal values are one entry.
  *
  *     struct range_map map = {0};
  *     bool changed;
@@ -25,7 +25,7 @@
  * pass" with that number.
  *
  * What no proof can see is for the caller to keep:
- * - a struct range_map is zero before range_map_new, and its map is ended by range_map_free, after which the struct is zero;
+ * - a struct range_map is zero before its first use, which is an empty map, and range_map_free ends its map and leaves it zero;
  * - it is not copied by assignment or memcpy, which would make two owners of one map: range_map_copy copies;
  * - no pointer is null, nothing that is passed to a call overlaps another thing that is passed to it, and an array has as many
  *   elements as is said;
@@ -53,7 +53,7 @@ enum { RANGE_MAP_DONE = 0, RANGE_MAP_NO_MEMORY = 1, RANGE_MAP_SAME_MAP = 2 };
 
 /* ---- Make and end ---- */
 
-/* Makes an empty map of a zeroed struct. What stood there is not ended. A step. */
+/* Makes the struct an empty map, which takes no memory. What stood there is not ended. A step. */
 void range_map_new(struct range_map *map);
 
 /* Ends a map and gives its memory back; of a zeroed struct, nothing is done. A pass. */
@@ -97,11 +97,11 @@ bool range_map_get(struct range_map *map, int64_t key, uint64_t *value);
  * search. */
 bool range_map_entry_or_gap_at(struct range_map *map, int64_t key, int64_t *lo, int64_t *hi, uint64_t *value);
 
-/* Whether an entry ends at the key or above it; the first of those. A search. A walk through all entries starts at INT64_MIN and
- * goes on at *hi + 1, until *hi is INT64_MAX or the answer is false. */
+/* Whether an entry ends at the key or above it; the first of those. Three searches. A walk through all entries starts at INT64_MIN
+ * and goes on at *hi + 1, until *hi is INT64_MAX or the answer is false. */
 bool range_map_next(struct range_map *map, int64_t key, int64_t *lo, int64_t *hi, uint64_t *value);
 
-/* Whether an entry starts at the key or below it; the last of those. A search. */
+/* Whether an entry starts at the key or below it; the last of those. Three searches. */
 bool range_map_previous(struct range_map *map, int64_t key, int64_t *lo, int64_t *hi, uint64_t *value);
 
 /* Whether a key has a value; the least, the greatest of those. A search. */
@@ -184,7 +184,7 @@ static inline int32_t range_map_split_off(struct range_map *a, int64_t key, stru
 
 /* ---- Two maps ---- */
 
-/* Paints the entries of b into a; b stays. A pass through both. */
+/* Paints the entries of b into a; b stays. A pass through both: few entries are sooner painted one by one. */
 static inline int32_t range_map_extend(struct range_map *a, struct range_map *b) {
     return range_map_is_same(a, b) ? RANGE_MAP_SAME_MAP : range_map_extend_unchecked(a, b);
 }
@@ -203,7 +203,7 @@ static inline int32_t range_map_compare(struct range_map *a, struct range_map *b
 /* ---- Many entries in one call ---- */
 
 /* Paints n ranges in order, lo[i] to hi[i] with value[i]: the later wins. A pass through the map and the ranges, which are sorted
- * where they do not ascend. */
+ * where they do not ascend: few ranges are sooner painted one by one. */
 static inline int32_t range_map_paint_many(struct range_map *map, const int64_t *lo, const int64_t *hi, const uint64_t *value,
                                            size_t n) {
     return n ? range_map_paint_many_unchecked(map, lo, n, hi, n, value, n) : RANGE_MAP_DONE;
