@@ -25,7 +25,8 @@
  * pass" with that number.
  *
  * What no proof can see is for the caller to keep:
- * - a struct range_map is zero before its first use, which is an empty map, and range_map_free ends its map and leaves it zero;
+ * - a struct range_map is zero before its first use, and each is passed to range_map_free in the end, which leaves it zero; a zeroed
+ *   one is an empty map;
  * - it is not copied by assignment or memcpy, which would make two owners of one map: range_map_copy copies;
  * - no pointer is null, nothing that is passed to a call overlaps another thing that is passed to it, and an array has as many
  *   elements as is said;
