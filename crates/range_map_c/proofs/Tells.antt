@@ -1,0 +1,39 @@
+-- What a call tells by what a call of the map gave.
+use Rattle.std.specs.Prelude.{◌≡◌, ℕ, ℤ, Bool, true, List, [], ◌∷◌, ◌++◌, Option, Some, None, MatchOption, nat_eq}
+use Rattle.std.proofs.Common.{refl, ap, sym, subst, ◌∙◌}
+use Rattle.std.proofs.lemmas.Bool.{eqb-true}
+use Rattle.blaze_entries.specs.Entries.{Entry, entry, at, SameOption}
+use Rattle.blaze_table.specs.Gap.{IsGap}
+use Rattle.range_map_c.specs.Handle.{least_key, greatest_key}
+use Rattle.range_map_c.specs.Told.{told, last_of}
+
+last_of-end : {A : Type 0} (xs : List A) (x : A) → last_of (xs ++ x ∷ []) ≡ Some x
+last_of-end [] x = refl
+last_of-end (y ∷ []) x = refl
+last_of-end (y ∷ z ∷ zs) x = last_of-end (z ∷ zs) x
+
+-- an iterator over the list gave the entry from its back
+pub last_told : (list es front : List (Entry ℕ)) (e : Entry ℕ) (lo hi : ℤ) (v : ℕ) → es ≡ list → es ≡ front ++ e ∷ [] → e.lo ≡ lo → e.hi ≡ hi → e.value ≡ v
+    → Some (entry lo hi v) ≡ last_of list
+last_told list es front e lo hi v is ends low high value =
+    ap (λ l. Some (entry l hi v)) (sym low) ∙ ap (λ h. Some (entry e.lo h v)) (sym high) ∙ ap (λ w. Some (entry e.lo e.hi w)) (sym value)
+    ∙ sym (last_of-end front e) ∙ ap last_of (sym ends ∙ is)
+
+pub same_is : (a b : Option ℕ) → SameOption nat_eq a b → b ≡ a
+same_is None None s = refl
+same_is None (Some y) s = absurd s
+same_is (Some x) None s = absurd s
+same_is (Some x) (Some y) s = ap (λ n. Some n) (sym (eqb-true x y s))
+
+-- a value is told that equals the one that was there
+pub told_same : (there : Bool) (v : ℕ) (answer was : Option ℕ) → told there v ≡ answer → SameOption nat_eq was answer → told there v ≡ was
+told_same there v answer was is same = is ∙ same_is was answer same
+
+-- the gap round a key, where a call gave no value
+abbrev Gap : List (Entry ℕ) → ℤ → ℤ → ℤ → Type 0
+Gap es k a b = (at es k ≡ None) × IsGap least_key greatest_key (at es) k a b
+
+pub gap_told : {X : Type 0} (r : Option X) (B : X → Type 0) (es : List (Entry ℕ)) (k k' a a' b b' : ℤ) → r ≡ None → MatchOption r (Gap es k' a' b') B → k' ≡ k → a' ≡ a → b' ≡ b
+    → Gap es k a b
+gap_told None B es k k' a a' b b' none gap ke ae be = subst (λ h. Gap es k a h) be (subst (λ l. Gap es k l b') ae (subst (λ j. Gap es j a' b') ke gap))
+gap_told (Some x) B es k k' a a' b b' none gap ke ae be = absurd (subst (λ o. MatchOption o ⊥ (λ _. Unit {0})) none tt)

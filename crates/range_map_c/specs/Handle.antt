@@ -1,0 +1,41 @@
+-- What a `RangeMap` owns, and the numbers that its contracts speak of.
+use base.Fml.{Fml, feq, fex, fsep}
+use base.Stored.{Coded}
+use denote.RawPtr.{Ptr, null_ptr, block_ptr}
+use Rattle.std.specs.Prelude.{ℕ, ℤ, pos, negsuc, ◌-◌, ◌^◌, List, [], Option, Some, None, Box}
+use Rattle.std.specs.Coded.{coded_list, coded_ℕ}
+use Rattle.std.specs.Global.{Global}
+use Rattle.std.specs.Box.Ownership.{box_owns}
+use Rattle.std_heap.specs.contracts.GlobalAllocator.TheImpl.{ghosts}
+use Rattle.blaze_entries.specs.Entries.{Entry, entry_code}
+use Rattle.range_map_c.specs.contracts.handle.Map.{the_row}
+
+-- what contracts see of a map: its entries, ascending
+abbrev pub Entries : Type 0
+Entries = List (Entry ℕ)
+
+abbrev pub entries_code : Coded Entries
+entries_code = coded_list (entry_code coded_ℕ)
+
+abbrev pub entries_of : the_row.Denot → Entries
+entries_of x = x.map.entries
+
+-- the entries of the map in a box, and none where there is no box
+abbrev pub entries_in : Option (Box the_row.Denot Global) → Entries
+entries_in None = []
+entries_in (Some boxed) = entries_of boxed.value
+
+-- what a box of a map at the pointer owns
+abbrev pub box_of_map : Global → Ptr → the_row.Denot → Fml
+box_of_map alloc = box_owns (ghosts.dealloc_token alloc) the_row
+
+-- nothing at null, where there are no entries, and else what a box owns of a map with the entries
+abbrev pub handle_owns : Global → Ptr → Entries → Fml
+handle_owns alloc null_ptr es = feq Entries es []
+handle_owns alloc (block_ptr b o) es = fex the_row.Denot (λ x. fsep (feq Entries es (entries_of x)) (box_of_map alloc (block_ptr b o) x))
+
+abbrev pub least_key : ℤ
+least_key = negsuc (2 ^ 63 - 1)
+
+abbrev pub greatest_key : ℤ
+greatest_key = pos (2 ^ 63 - 1)

@@ -1,0 +1,4 @@
+pub mod Handle
+pub mod Status
+pub mod Tables
+pub mod Told

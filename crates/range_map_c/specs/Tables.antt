@@ -1,0 +1,18 @@
+-- Tables: first keys, last keys and values, each in a list of its own.
+use Rattle.std.specs.Prelude.{ℕ, ℤ, List, [], ◌∷◌, Option, None}
+use Rattle.std.specs.Prelude.{nat_eq}
+use Rattle.blaze_entries.specs.Entries.{Entry, entry, at, SameOption}
+use Rattle.blaze_table.specs.Canonical.{IsRangeMap}
+use Rattle.blaze_table.specs.Painted.{painted_in_order}
+
+-- the rows of a table, as entries
+abbrev pub rows : {V : Type 0} → List ℤ → List ℤ → List V → List (Entry V)
+rows [] his vs = []
+rows (lo ∷ los) [] vs = []
+rows (lo ∷ los) (hi ∷ his) [] = []
+rows (lo ∷ los) (hi ∷ his) (v ∷ vs) = entry lo hi v ∷ rows los his vs
+
+-- what painting the rows of a table in order does to a range map
+pub record AreRowsPainted (low high : ℤ) (table old new : List (Entry ℕ)) : Type 0 where
+  pub range_map : IsRangeMap nat_eq low high new
+  pub content : (k : ℤ) → SameOption nat_eq (at new k) (painted_in_order table (at old) k)

@@ -1,0 +1,63 @@
+//! Maps made, ended, emptied and copied.
+ghost use Rattle.std.specs.Prelude.{◌≡◌, ◌↔◌, [], IsTrue};
+ghost use Rattle.std.specs.Prelude.{nat_eq};
+ghost use Rattle.blaze_entries.specs.Entries.{SameEntries};
+ghost use Rattle.range_map_c.specs.Status.{IsStatus, OnDone, OnRefused};
+
+use crate::handle::{RangeMap, hand_out};
+use std::alloc::Global;
+use std::mem;
+
+/// Makes an empty map, which takes no memory. What was there is not ended.
+#[unsafe(no_mangle)]
+pub extern "C" fn range_map_new(alloc: Global, map: &mut RangeMap)
+    ensures { map.new.entries ≡ [] }
+{
+    mem::forget(mem::replace(map, RangeMap::none(alloc)));
+}
+
+/// Ends a map and frees its memory. What is left is an empty map.
+#[unsafe(no_mangle)]
+pub extern "C" fn range_map_free(alloc: Global, map: &mut RangeMap)
+    ensures { map.new.entries ≡ [] }
+{
+    *map = RangeMap::none(alloc);
+}
+
+/// Takes all keys out.
+#[unsafe(no_mangle)]
+pub extern "C" fn range_map_clear(alloc: Global, map: &mut RangeMap)
+    ensures { map.new.entries ≡ [] }
+{
+    *map = RangeMap::none(alloc);
+}
+
+/// Returns whether no key has a value.
+#[unsafe(no_mangle)]
+pub extern "C" fn range_map_is_empty(alloc: Global, map: &mut RangeMap) -> bool
+    ensures empty { IsTrue result ↔ (map.old.entries ≡ []) }
+    ensures kept { map.new.entries ≡ map.old.entries }
+{
+    let taken = map.take(alloc);
+    let empty = taken.map().is_empty();
+    map.put_back(taken);
+    empty
+}
+
+/// Puts a copy of a map in the place of another.
+#[unsafe(no_mangle)]
+pub extern "C" fn range_map_copy_unchecked(
+    alloc: Global,
+    map: &mut RangeMap,
+    out: &mut RangeMap,
+) -> i32
+    ensures status { IsStatus result }
+    ensures ok { OnDone result (SameEntries nat_eq map.old.entries out.new.entries) }
+    ensures err { OnRefused result (out.new.entries ≡ out.old.entries) }
+    ensures kept { map.new.entries ≡ map.old.entries }
+{
+    let taken = map.take(alloc);
+    let copied = taken.map().clone();
+    map.put_back(taken);
+    hand_out(copied, out, alloc)
+}

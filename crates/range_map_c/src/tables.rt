@@ -1,0 +1,77 @@
+//! Whole tables in one call: first keys, last keys and values, each in an array of its own.
+ghost use Rattle.std.specs.Prelude.{◌≡◌, length, map, IfOk, nat_eq};
+ghost use Rattle.blaze_streams.specs.Ranges.{shown_range};
+ghost use Rattle.blaze_table.specs.CanonicalOf.{IsCanonicalOf};
+ghost use Rattle.range_map_c.specs.Handle.{least_key, greatest_key};
+ghost use Rattle.range_map_c.specs.Status.{IsStatus, OnDone, OnRefused};
+ghost use Rattle.range_map_c.specs.Tables.{rows, AreRowsPainted};
+
+use crate::REFUSED;
+use crate::handle::{RangeMap, hand_out};
+use range_map_blaze::RangeMapBlaze;
+use std::alloc::{AllocError, Global};
+use std::ops::RangeInclusive;
+
+/// Puts the values of a table on its ranges, in order: the later row wins, and a row whose first key is above its last paints
+/// nothing. Refused memory leaves the map unchanged. Condition: the arrays are equally long.
+#[tactic(auto, using(crate::proofs::Rows::rows_painted))]
+#[unsafe(no_mangle)]
+pub extern "C" fn range_map_paint_many_unchecked(
+    alloc: Global,
+    map: &mut RangeMap,
+    lo: &[i64],
+    hi: &[i64],
+    value: &[u64],
+) -> i32
+    requires his { length hi.now ≡ length lo.now }
+    requires values { length value.now ≡ length lo.now }
+    ensures status { IsStatus result }
+    ensures ok { OnDone result (AreRowsPainted least_key greatest_key (rows lo.now hi.now value.now)
+        map.old.entries map.new.entries) }
+    ensures err { OnRefused result (map.new.entries ≡ map.old.entries) }
+{
+    let over = match rows_map(alloc, lo, hi, value) {
+        Ok(over) => over,
+        Err(_) => return REFUSED,
+    };
+    let taken = map.take(alloc);
+    let made = taken.map() | &over;
+    map.put_back(taken);
+    hand_out(made, map, alloc)
+}
+
+// The map of the rows of a table, painted in order.
+fn rows_map(
+    alloc: Global,
+    lo: &[i64],
+    hi: &[i64],
+    value: &[u64],
+) -> Result<RangeMapBlaze<i64, u64>, AllocError>
+    requires his { length hi.now ≡ length lo.now }
+    requires values { length value.now ≡ length lo.now }
+    ensures { IfOk result (λ over. IsCanonicalOf nat_eq least_key greatest_key
+        (rows lo.now hi.now value.now) over.entries) }
+{
+    let table = pairs_of(alloc, lo, hi, value)?;
+    let over = RangeMapBlaze::from_ranges(alloc, table)?;
+    Ok(over)
+}
+
+// The rows of a table.
+fn pairs_of(
+    alloc: Global,
+    lo: &[i64],
+    hi: &[i64],
+    value: &[u64],
+) -> Result<Vec<(RangeInclusive<i64>, u64)>, AllocError>
+    requires his { length hi.now ≡ length lo.now }
+    requires values { length value.now ≡ length lo.now }
+    ensures { IfOk result (λ table. map (shown_range (λ k. k) (λ v. v)) table.items
+        ≡ rows lo.now hi.now value.now) }
+{
+    let mut table = Vec::new(alloc);
+    for i in 0..lo.len() {
+        table.push((lo[i]..=hi[i], value[i]))?;
+    }
+    Ok(table)
+}
