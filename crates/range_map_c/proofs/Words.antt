@@ -23,7 +23,6 @@ use denote.Steps.{nothing}
 use denote.Struct.Struct.{within}
 use denote.Struct.Owning.{shape, to}
 use Rattle.core.proofs.alloc.Calls.{Al, Fits, handle_tells}
-use Rattle.core.proofs.cell.Inside.{Good}
 use Rattle.std.specs.Box.Ownership.{box_owns}
 use Rattle.std_heap.proofs.GlobalToken.{dealloc_token-Testable}
 use Rattle.range_map_c.specs.contracts.handle.Map.{the_row as R}

@@ -1,5 +1,5 @@
 -- Tables: first keys, last keys and values, each in a list of its own.
-use Rattle.std.specs.Prelude.{ℕ, ℤ, List, [], ◌∷◌, Option, None}
+use Rattle.std.specs.Prelude.{ℕ, ℤ, List, [], ◌∷◌}
 use Rattle.std.specs.Prelude.{nat_eq}
 use Rattle.blaze_entries.specs.Entries.{Entry, entry, at, SameOption}
 use Rattle.blaze_table.specs.Canonical.{IsRangeMap}

@@ -14,8 +14,8 @@ use crate::handle::RangeMap;
 use crate::{DONE, REFUSED};
 use std::alloc::Global;
 
-/// Puts a value on the keys from `lo` to `hi`, over what was there, and tells whether the number of keys changed. Refused
-/// memory leaves the map unchanged.
+/// Puts a value on the keys from `lo` to `hi`, over what was there, and tells whether the number of keys changed. Where `lo` is
+/// above `hi` nothing changes. Refused memory leaves the map unchanged. It takes O(log n) steps for each entry that it touches.
 #[unsafe(no_mangle)]
 pub extern "C" fn range_map_paint(
     alloc: Global,
@@ -47,8 +47,9 @@ pub extern "C" fn range_map_paint(
     }
 }
 
-/// Puts a value on those keys from `lo` to `hi` that have none, and tells whether the number of keys changed. Refused memory
-/// leaves the map unchanged.
+/// Puts a value on those keys from `lo` to `hi` that have none, and tells whether the number of keys changed. Where `lo` is
+/// above `hi` nothing changes. Refused memory leaves the map unchanged. It takes O(log n) steps for each gap, and one for each
+/// entry of the range.
 #[unsafe(no_mangle)]
 pub extern "C" fn range_map_fill(
     alloc: Global,
@@ -81,7 +82,7 @@ pub extern "C" fn range_map_fill(
 }
 
 /// Puts a value on a key, over what was there, and tells whether the key had a value, and which. Refused memory leaves the map
-/// unchanged.
+/// unchanged. It takes O(log n) steps.
 #[unsafe(no_mangle)]
 pub extern "C" fn range_map_insert(
     alloc: Global,
@@ -112,7 +113,8 @@ pub extern "C" fn range_map_insert(
     }
 }
 
-/// Takes the keys from `lo` to `hi` out, and tells whether the number of keys changed. Refused memory leaves the map unchanged.
+/// Takes the keys from `lo` to `hi` out, and tells whether the number of keys changed. Where `lo` is above `hi` nothing
+/// changes. Refused memory leaves the map unchanged. It takes O(log n) steps, and as many for each entry that goes.
 #[unsafe(no_mangle)]
 pub extern "C" fn range_map_remove_range(
     alloc: Global,
@@ -145,7 +147,8 @@ pub extern "C" fn range_map_remove_range(
     }
 }
 
-/// Takes a key out, and tells whether it had a value, and which. Refused memory leaves the map unchanged.
+/// Takes a key out, and tells whether it had a value, and which. Refused memory leaves the map unchanged. It takes O(log n)
+/// steps.
 #[unsafe(no_mangle)]
 pub extern "C" fn range_map_remove(
     alloc: Global,

@@ -1,4 +1,5 @@
-//! The least and the greatest key that has a value, and how many keys and entries there are.
+//! The least and the greatest key that has a value, in O(log n) steps each, and how many keys and entries there are, in one
+//! step.
 ghost use Rattle.std.specs.Prelude.{◌≡◌, ◌+◌, ◌*◌, ◌^◌, [], length, pos, MatchBool, MatchOption, nat_eq};
 ghost use Rattle.blaze_entries.specs.Entries.{at};
 ghost use Rattle.blaze_table.specs.Count.{keys_in};
@@ -83,7 +84,8 @@ fn last_pair(map: &RangeMapBlaze<i64, u64>) -> Option<(i64, u64)>
     }
 }
 
-/// Takes the least key out, and tells whether there was one, and which, with its value. Refused memory leaves the map unchanged.
+/// Takes the least key out, and tells whether there was one, and which, with its value. Refused memory leaves the map
+/// unchanged.
 #[unsafe(no_mangle)]
 pub extern "C" fn range_map_pop_first(
     alloc: Global,

@@ -1,5 +1,5 @@
-//! The struct that C holds, and the only unsafe code: a box of the map behind a pointer, which is null where no key has a
-//! value yet.
+//! The struct that C holds, and the only unsafe code: a box of the map behind a pointer, which is null where no key has a value
+//! yet.
 ghost use Rattle.std.specs.Prelude.{◌≡◌, ℕ, List, [], MatchOption, IfOk, IsOkAnd, OnErr};
 ghost use Rattle.std.specs.Box.Ownership.{box_owns};
 ghost use Rattle.std_heap.specs.contracts.GlobalAllocator.TheImpl.{ghosts};

@@ -1,4 +1,4 @@
-//! Look-ups by key. None takes memory.
+//! Look-ups by key. None takes memory; each takes O(log n) steps for n entries.
 ghost use Rattle.std.specs.Prelude.{◌≡◌, Some, None, MatchBool, MatchOption, option_map};
 ghost use Rattle.blaze_entries.specs.Entries.{entry, at, entry_at};
 ghost use Rattle.blaze_table.specs.Ending.{overlapping};

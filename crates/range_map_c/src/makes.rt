@@ -8,7 +8,7 @@ use crate::handle::{RangeMap, hand_out};
 use std::alloc::Global;
 use std::mem;
 
-/// Makes an empty map, which takes no memory. What was there is not ended.
+/// Makes an empty map. What was there is not looked at and not ended. It takes no memory, and one step.
 #[unsafe(no_mangle)]
 pub extern "C" fn range_map_new(alloc: Global, map: &mut RangeMap)
     ensures { map.new.entries ≡ [] }
@@ -16,7 +16,7 @@ pub extern "C" fn range_map_new(alloc: Global, map: &mut RangeMap)
     mem::forget(mem::replace(map, RangeMap::none(alloc)));
 }
 
-/// Ends a map and frees its memory. What is left is an empty map.
+/// Ends a map and frees its memory. What is left is an empty map, which may be ended again. It takes O(n) steps for n entries.
 #[unsafe(no_mangle)]
 pub extern "C" fn range_map_free(alloc: Global, map: &mut RangeMap)
     ensures { map.new.entries ≡ [] }
@@ -24,7 +24,7 @@ pub extern "C" fn range_map_free(alloc: Global, map: &mut RangeMap)
     *map = RangeMap::none(alloc);
 }
 
-/// Takes all keys out.
+/// Takes all keys out, and frees the map's memory. It takes O(n) steps for n entries.
 #[unsafe(no_mangle)]
 pub extern "C" fn range_map_clear(alloc: Global, map: &mut RangeMap)
     ensures { map.new.entries ≡ [] }
@@ -32,7 +32,7 @@ pub extern "C" fn range_map_clear(alloc: Global, map: &mut RangeMap)
     *map = RangeMap::none(alloc);
 }
 
-/// Returns whether no key has a value.
+/// Returns whether no key has a value. It takes no memory, and one step.
 #[unsafe(no_mangle)]
 pub extern "C" fn range_map_is_empty(alloc: Global, map: &mut RangeMap) -> bool
     ensures empty { IsTrue result ↔ (map.old.entries ≡ []) }
@@ -44,7 +44,7 @@ pub extern "C" fn range_map_is_empty(alloc: Global, map: &mut RangeMap) -> bool
     empty
 }
 
-/// Puts a copy of a map in the place of another.
+/// Puts a copy of a map in the place of `out`. Refused memory leaves `out` unchanged. It takes O(n) steps for n entries.
 #[unsafe(no_mangle)]
 pub extern "C" fn range_map_copy_unchecked(
     alloc: Global,

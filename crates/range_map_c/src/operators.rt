@@ -1,4 +1,4 @@
-//! Maps made of one or two others.
+//! Maps made of one or two others. Each call takes O(n + m) steps for n and m entries, or fewer.
 ghost use Rattle.std.specs.Prelude.{◌≡◌, nat_eq};
 ghost use Rattle.std.specs.Option.{option_xor};
 ghost use Rattle.blaze_table.specs.Chosen.{left_with_right, left_alone, IsChosen};
@@ -10,7 +10,8 @@ ghost use Rattle.range_map_c.specs.Status.{IsStatus, OnDone, OnRefused};
 use crate::handle::{RangeMap, hand_out};
 use std::alloc::Global;
 
-/// Puts the values of `b` where it has one, and else those of `a`, in the place of `out`. Refused memory leaves `out` unchanged.
+/// Puts the values of `b` where it has one, and else those of `a`, in the place of `out`. Refused memory leaves `out`
+/// unchanged.
 #[unsafe(no_mangle)]
 pub extern "C" fn range_map_union_unchecked(
     alloc: Global,

@@ -14,7 +14,8 @@ use range_map_blaze::RangeMapBlaze;
 use std::alloc::Global;
 use std::cmp::Ordering;
 
-/// Keeps the keys of `a` below a key, and puts the others in the place of `out`. Refused memory leaves both unchanged.
+/// Keeps the keys of `a` below a key, and puts the others in the place of `out`. Refused memory leaves both unchanged. It takes
+/// O(log n) steps, and one for each entry of the lesser part.
 #[unsafe(no_mangle)]
 pub extern "C" fn range_map_split_off_unchecked(
     alloc: Global,
@@ -48,7 +49,7 @@ pub extern "C" fn range_map_split_off_unchecked(
     }
 }
 
-/// Returns whether two maps have the same content.
+/// Returns whether two maps have the same content. It takes no memory, and O(n) steps.
 #[unsafe(no_mangle)]
 pub extern "C" fn range_map_equal_unchecked(
     alloc: Global,
@@ -67,7 +68,7 @@ pub extern "C" fn range_map_equal_unchecked(
 }
 
 /// Returns how the lists of (key, value) pairs of two maps compare: -1 where the first is less, 0 where they are equal, else 1.
-/// A list that another begins with is less.
+/// A list that another begins with is less. It takes no memory, and O(n + m) steps.
 #[unsafe(no_mangle)]
 pub extern "C" fn range_map_compare_unchecked(
     alloc: Global,

@@ -15,7 +15,8 @@ use std::alloc::{AllocError, Global};
 use std::ops::RangeInclusive;
 
 /// Puts the values of a table on its ranges, in order: the later row wins, and a row whose first key is above its last paints
-/// nothing. Refused memory leaves the map unchanged. Condition: the arrays are equally long.
+/// nothing. Refused memory leaves the map unchanged. It takes O(p log p) steps for p rows, O(p) where they ascend, and O(n + p)
+/// to put them over the map. Condition: the arrays are equally long.
 #[tactic(auto, using(crate::proofs::Rows::rows_painted))]
 #[unsafe(no_mangle)]
 pub extern "C" fn range_map_paint_many_unchecked(
@@ -78,8 +79,8 @@ fn pairs_of(
     Ok(table)
 }
 
-/// Writes the entries that end at a key or above, ascending, until the arrays are full, and returns how many were written.
-/// Condition: the arrays are equally long.
+/// Writes the entries that end at a key or above, ascending, until the arrays are full, and returns how many were written. It
+/// takes no memory, and O(log n) steps with one for each entry. Condition: the arrays are equally long.
 #[unsafe(no_mangle)]
 pub extern "C" fn range_map_entries_into_unchecked(
     alloc: Global,

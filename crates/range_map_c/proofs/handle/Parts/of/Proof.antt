@@ -1,49 +1,14 @@
 -- `of` takes the box apart, and the parts own what it owned.
-use mathlib.Core.Path.{refl, sym, ap, subst, ◌≡◌, ◌∙◌}
-use mathlib.Core.List.{List, [], ◌∷◌, ◌++◌}
-use mir.MapTy.{inst_fn}
+use Rattle.range_map_c.proofs.Steps.{refl, sym, ap, subst, ◌≡◌, ◌∙◌, List, [], ◌∷◌, ◌++◌, inst_fn, Args, Fn, a_type, dnil, dcons, Val, vstruct, of_list, full_share, ftrue, fsep, flft, SProp, ent, emp, never, id⊢, fst∗, WpFn, ◌⊑◌, ⊑_static, fact, fact_i, tables, sem, ‵, raw, ◌⊛◌, some, later, ◌$◌, ◌∵◌, !, qed, by, keep, move, drop, split, split3, join, fsplit, fjoin, fpick, pick, suffices, use0, use1, await, rewrite, feq_l, stop, fld, of_opd, no_more, and_then, returns, enter, alloc_all, pass_all, free_all, look_at, get, get_in, sets, lands_as, agg, sub, whole, no, owns, RattleType, RawPtr, param, layout, bounded, Ptr, block_ptr, null_ptr, ptr_val, in_a_block, types_at, plain, nothing, only, heard, Tuple, triple_of, calls_at, Stays, stay_dropped, walk_of, Goes-blank, handle_tells, fm, proved_at, leaves, box_owns, box_out, box_in, ghosts, dict, Global}
 use mir.Raw.{raw as bare}
-use mir.Syntax.{Args, Fn, a_type, impl, tnil, tcons, dnil, dcons}
-use mir.Val.{Val, vptr, vstruct, of_list}
-use base.Fraction.{full_share}
-use base.Fml.{ftrue, fsep, flft}
-use base.Logic.{SProp, ent, emp, never, id⊢, fst∗}
-use prog.Wp.{WpFn}
-use contract.BorrowLft.{◌⊑◌, ⊑_static}
-use contract.Monad.{fact, fact_i}
-use contract.Running.{tables}
-use types.Logic.{sem}
-use types.Kit.{‵, raw, ◌⊛◌, some, later, ◌$◌, ◌∵◌, !, qed, by, keep, move, drop, split, split3, join, fsplit, fjoin, fpick, pick, suffices, use0, use1, await, rewrite, feq_l}
-use types.Run.{stop, fld, of_opd, no_more, and_then, returns, enter}
-use types.ByLocal.{alloc_all, pass_all, free_all, look_at, get, get_in, sets, lands_as}
-use types.Part.{agg, sub, whole}
-use denote.Exit.{no}
-use denote.RattleType.{owns, RattleType}
-use denote.Builtin.{RawPtr}
-use denote.Param.{param, layout, bounded}
 use denote.Param.NoDrop as no_drop
-use denote.RawPtr.{Ptr, block_ptr, null_ptr, ptr_val, in_a_block}
-use denote.Signature.{types_at, plain}
-use denote.Steps.{nothing, only, heard}
-use denote.Struct.Tuple.{Tuple}
-use denote.Triple.Spec.{triple_of}
-use denote.Triple.Call.{calls_at}
-use denote.Triple.Walked.{Stays, stay_dropped, walk_of}
-use Rattle.core.proofs.alloc.Calls.{Goes-blank, handle_tells}
-use Rattle.core.proofs.atomic.Steps.{fm}
-use Rattle.std.proofs.raw_atomic.Walks.{proved_at, leaves}
-use Rattle.std.specs.Box.Ownership.{box_owns}
 use Rattle.std_alloc.proofs.BoxSteps.Form as box
-use Rattle.std_alloc.proofs.BoxSteps.Steps.{box_out, box_in}
-use Rattle.std_alloc.proofs.ResultValues.{and_tt}
 use Rattle.std_alloc.specs.contracts.boxed.Box as boxed
 use Rattle.std_alloc.specs.contracts.boxed.Box.into_raw_with_allocator as callee
 use Rattle.std_alloc.proofs.boxed.Box.into_raw_with_allocator.Met.{met}
 use Rattle.std_heap.proofs.GlobalAllocator.TheImpl.Met as allocator
-use Rattle.std_heap.specs.contracts.GlobalAllocator.TheImpl.{ghosts, dict}
-use Rattle.std_heap.specs.declared.Global.{Global}
 use Rattle.range_map_c.proofs.Destruct++none.drop.Code as no_drop_code
-use Rattle.range_map_c.proofs.Words.{Z, A, heap, Parts, word, parts_in}
+use Rattle.range_map_c.proofs.Words.{Z, A, heap, word, parts_in}
 use Rattle.range_map_c.specs.contracts.handle.Parts.of.{ended, clauses}
 use Rattle.range_map_c.specs.contracts.handle.Parts.of.Key.{name as #self}
 use Rattle.range_map_c.proofs.handle.Parts.of.Statement.{statement}

@@ -1,50 +1,13 @@
 -- `into_box` gives nothing at null, and else the box of the pointer.
-use mathlib.Core.Path.{refl, sym, ap, subst, ◌≡◌, ◌∙◌}
-use mathlib.Core.List.{List, [], ◌∷◌, ◌++◌}
-use lib.Dec.{lit<, T}
-use mir.Syntax.{impl, tnil, tcons, dnil}
-use mir.Val.{Val, vptr, vcons, vnil, has_ty, WT}
-use base.Logic.{SProp, ent, emp, id⊢}
-use base.Fraction.{full_share}
-use base.Fml.{ftrue, fsep, flft}
-use contract.BorrowLft.{◌⊑◌, ⊑_static}
-use prog.Wp.{WpFn}
-use types.Kit.{‵, raw, ◌⊛◌, some, later, at_ret, ◌$◌, ◌∵◌, !, qed, by, keep, move, drop, split, split3, join, fsplit, fjoin, pick, suffices, use0, use1, await, rewrite, feq_i}
-use types.Run.{lit, bin, stop, fld, of_opd, no_more, and_then, first, blocks, branches, skips, exec, returns, returns_within, enter}
-use types.ByLocal.{alloc_all, pass_all, free_all, look_at, get, get_in, sets, is, lands_last, env}
-use types.Part.{agg, sub, whole}
-use types.Match.{live}
-use contract.Monad.{fact, fact_i}
-use contract.Running.{tables}
-use denote.Exit.{yes, no}
-use denote.RattleType.{owns, RattleType}
-use denote.Param.{layout, arg}
-use denote.Param.Laws.{arg_laws}
+use Rattle.range_map_c.proofs.Steps.{refl, sym, ap, subst, ◌≡◌, ◌∙◌, List, [], ◌∷◌, ◌++◌, lit<, Val, vptr, vcons, vnil, SProp, ent, emp, id⊢, full_share, ftrue, fsep, flft, ◌⊑◌, ⊑_static, WpFn, ‵, raw, ◌⊛◌, some, later, at_ret, ◌$◌, ◌∵◌, !, qed, by, keep, move, drop, split, split3, join, fsplit, fjoin, pick, suffices, use0, use1, await, rewrite, feq_i, lit, bin, stop, fld, of_opd, no_more, and_then, first, blocks, branches, skips, exec, returns, returns_within, enter, alloc_all, pass_all, free_all, look_at, get, get_in, sets, lands_last, env, agg, sub, whole, live, fact, fact_i, tables, yes, no, owns, RattleType, layout, arg, arg_laws, Ptr, null_ptr, block_ptr, tests_null, types_at, type_at, plain, nothing, only, heard, triple_of, calls_at_last, Stays, stay_dropped, walk_of, Goes-dropped, after, fm, Good, Some-of, none_of, box_out, box_in, and_tt, ghosts, dict, None, Some, proved_at, leaves}
 use mir.Raw.{raw as bare}
 use denote.Param.NoDrop as no_drop
-use denote.RawPtr.{Ptr, null_ptr, block_ptr, ptr_val, tests_null}
-use denote.Signature.{types_at, type_at, plain}
-use denote.Steps.{nothing, only, heard}
-use denote.Triple.Clauses.{Lasts, lasts}
-use denote.Triple.Spec.{triple_of}
-use denote.Triple.Call.{calls_at_last}
-use denote.Triple.Walked.{Stays, stay_dropped, walk_of, Goes-dropped}
-use Rattle.core.proofs.alloc.Shapes.{after, head}
-use Rattle.core.proofs.atomic.Steps.{fm}
-use Rattle.core.proofs.cell.Inside.{Good}
-use Rattle.core.proofs.option.Made.{Some-of, none_of}
 use Rattle.std_alloc.proofs.BoxSteps.Form as box
-use Rattle.std_alloc.proofs.BoxSteps.Steps.{box_out, box_in}
-use Rattle.std_alloc.proofs.ResultValues.{and_tt}
 use Rattle.std_alloc.specs.contracts.boxed.Box as boxed
 use Rattle.std_alloc.specs.contracts.boxed.Box.from_raw as callee
 use Rattle.std_alloc.proofs.boxed.Box.from_raw.Met.{met}
 use Rattle.std_heap.proofs.GlobalAllocator.TheImpl.Met as allocator
-use Rattle.std_heap.specs.contracts.GlobalAllocator.TheImpl.{ghosts, dict}
-use Rattle.std_heap.proofs.Global.TheLaws as heap_laws
-use Rattle.std.specs.Prelude.{None, Some}
-use Rattle.std.proofs.raw_atomic.Walks.{proved_at, leaves}
-use Rattle.range_map_c.specs.Handle.{Entries, entries_of}
+use Rattle.range_map_c.specs.Handle.{entries_of}
 use Rattle.range_map_c.specs.contracts.handle.Map.{the_row as R}
 use Rattle.range_map_c.proofs.handle.Map.TheLaws as map_laws
 use Rattle.range_map_c.proofs.Destruct++none.drop.Code as no_drop_code

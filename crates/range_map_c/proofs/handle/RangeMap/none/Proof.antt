@@ -1,28 +1,7 @@
 -- `none` makes the struct of the null pointer, which owns nothing.
-use mathlib.Core.Path.{refl, sym, subst, ◌≡◌}
-use mathlib.Core.List.{List, [], ◌∷◌, ◌++◌}
-use lib.Dec.{lit<}
-use mir.Val.{Val}
-use base.Logic.{SProp, ent, emp, id⊢}
-use base.Fml.{ftrue}
-use prog.Wp.{WpFn}
-use types.Kit.{‵, raw, ◌⊛◌, ◌$◌, ◌∵◌, !, qed, by, keep, move, drop, split, fsplit, fjoin, suffices, use0, feq_i}
-use types.Run.{lit, no_more, and_then, returns, enter}
-use types.ByLocal.{alloc_all, pass_all, free_all, look_at, get, sets}
-use types.Part.{agg}
-use contract.Monad.{fact, fact_i}
-use contract.Running.{tables}
-use denote.Exit.{yes}
-use denote.RattleType.{owns}
-use denote.RawPtr.{Ptr, null_ptr}
-use denote.Signature.{types_at, plain}
-use denote.Steps.{nothing}
-use denote.Triple.Walked.{Stays, stay_dropped, walk_of, Goes-dropped}
-use Rattle.core.proofs.alloc.Calls.{handle_tells}
-use Rattle.std_alloc.proofs.ResultValues.{and_tt}
-use Rattle.std.proofs.raw_atomic.Walks.{proved_at, leaves}
+use Rattle.range_map_c.proofs.Steps.{refl, sym, subst, ◌≡◌, List, [], ◌∷◌, ◌++◌, lit<, Val, SProp, ent, emp, id⊢, ftrue, WpFn, ‵, raw, ◌⊛◌, ◌$◌, ◌∵◌, !, qed, by, keep, drop, split, fsplit, fjoin, suffices, use0, feq_i, lit, no_more, and_then, returns, enter, alloc_all, pass_all, free_all, look_at, get, sets, agg, fact, fact_i, tables, yes, owns, null_ptr, types_at, plain, nothing, Stays, stay_dropped, walk_of, Goes-dropped, handle_tells, and_tt, proved_at, leaves}
 use Rattle.range_map_c.specs.Handle.{Entries}
-use Rattle.range_map_c.proofs.Words.{Z, al, B, word, map_in}
+use Rattle.range_map_c.proofs.Words.{Z, al, word, map_in}
 use Rattle.range_map_c.specs.contracts.handle.RangeMap.none.{ended, clauses}
 use Rattle.range_map_c.specs.contracts.handle.RangeMap.none.Key.{name as #self}
 use Rattle.range_map_c.proofs.handle.RangeMap.none.Statement.{statement}

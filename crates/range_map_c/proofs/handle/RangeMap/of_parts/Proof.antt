@@ -1,27 +1,8 @@
 -- `of_parts` moves the two fields, and what they own goes with them.
-use mathlib.Core.Path.{refl, sym, subst, ◌≡◌}
-use mathlib.Core.List.{List, [], ◌∷◌, ◌++◌}
-use mir.Val.{Val}
-use base.Logic.{SProp, ent, emp, id⊢}
-use base.Fml.{ftrue}
-use prog.Wp.{WpFn}
-use types.Kit.{‵, raw, ◌⊛◌, ◌$◌, ◌∵◌, !, qed, by, keep, move, drop, split, fsplit, fjoin, suffices, use0, use1}
-use types.Run.{stop, fld, of_opd, no_more, and_then, returns, enter}
-use types.ByLocal.{alloc_all, pass_all, free_all, look_at, get, get_in, sets}
-use types.Part.{agg, sub, whole}
-use contract.Monad.{fact, fact_i}
-use contract.Running.{tables}
-use denote.Exit.{yes}
-use denote.RattleType.{owns}
-use denote.RawPtr.{block_ptr}
-use denote.Signature.{types_at, plain}
-use denote.Steps.{nothing}
-use denote.Triple.Walked.{Stays, stay_dropped, walk_of, Goes-dropped}
-use Rattle.std.proofs.raw_atomic.Walks.{proved_at, leaves}
-use Rattle.std_alloc.proofs.ResultValues.{and_tt}
+use Rattle.range_map_c.proofs.Steps.{refl, sym, subst, ◌≡◌, List, [], ◌∷◌, ◌++◌, Val, SProp, ent, emp, id⊢, ftrue, WpFn, ‵, raw, ◌⊛◌, ◌$◌, ◌∵◌, !, qed, by, keep, drop, split, fsplit, fjoin, suffices, use0, stop, fld, of_opd, no_more, and_then, returns, enter, alloc_all, pass_all, free_all, look_at, get, get_in, sets, agg, sub, whole, fact, fact_i, tables, yes, owns, block_ptr, types_at, plain, nothing, Stays, stay_dropped, walk_of, Goes-dropped, proved_at, leaves, and_tt}
 use Rattle.range_map_c.specs.Handle.{Entries, entries_of}
 use Rattle.range_map_c.specs.contracts.handle.Map.{the_row as R}
-use Rattle.range_map_c.proofs.Words.{Z, B, Parts, word, map_in, boxed_in, parts_out}
+use Rattle.range_map_c.proofs.Words.{Parts, word, map_in, boxed_in, parts_out}
 use Rattle.range_map_c.specs.contracts.handle.RangeMap.of_parts.{ended, clauses}
 use Rattle.range_map_c.specs.contracts.handle.RangeMap.of_parts.Key.{name as #self}
 use Rattle.range_map_c.proofs.handle.RangeMap.of_parts.Statement.{statement}
