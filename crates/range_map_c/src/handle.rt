@@ -1,5 +1,6 @@
 //! The struct that C holds, and the only unsafe code: a box of the map behind a pointer, which is null where no key has a value
 //! yet.
+ghost use denote.RawPtr.{null_ptr};
 ghost use Rattle.std.specs.Prelude.{◌≡◌, ℕ, List, [], MatchOption, IfOk, IsOkAnd, OnErr};
 ghost use Rattle.std.specs.Box.Ownership.{box_owns};
 ghost use Rattle.std_heap.specs.contracts.GlobalAllocator.TheImpl.{ghosts};
@@ -74,7 +75,7 @@ impl<T: Drop> Parts<T> {
 /// A map as C holds it. Contracts see its entries, ascending.
 #[repr(C)]
 pub struct RangeMap {
-    at: *mut (),
+    pub(crate) at: *mut (),
     alloc: Global,
     pub ghost entries: { List (Entry ℕ) } by { entries_code },
 }
@@ -92,7 +93,8 @@ impl Drop for RangeMap {
 impl RangeMap {
     /// Makes an empty map, which has no memory.
     pub fn none(alloc: Global) -> RangeMap
-        ensures { result.entries ≡ [] }
+        ensures empty { result.entries ≡ [] }
+        ensures nothing { result.at ≡ null_ptr }
     {
         RangeMap {
             at: null_mut(),

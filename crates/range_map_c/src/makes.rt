@@ -1,4 +1,5 @@
 //! Maps made, ended, emptied and copied.
+ghost use denote.RawPtr.{null_ptr};
 ghost use Rattle.std.specs.Prelude.{◌≡◌, ◌↔◌, [], IsTrue};
 ghost use Rattle.std.specs.Prelude.{nat_eq};
 ghost use Rattle.blaze_entries.specs.Entries.{SameEntries};
@@ -11,7 +12,8 @@ use std::mem;
 /// Makes an empty map. What was there is not looked at and not ended. It takes no memory, and one step.
 #[unsafe(no_mangle)]
 pub extern "C" fn range_map_new(alloc: Global, map: &mut RangeMap)
-    ensures { map.new.entries ≡ [] }
+    ensures empty { map.new.entries ≡ [] }
+    ensures nothing { map.new.at ≡ null_ptr }
 {
     mem::forget(mem::replace(map, RangeMap::none(alloc)));
 }
@@ -19,7 +21,8 @@ pub extern "C" fn range_map_new(alloc: Global, map: &mut RangeMap)
 /// Ends a map and frees its memory. What is left is an empty map, which may be ended again. It takes O(n) steps for n entries.
 #[unsafe(no_mangle)]
 pub extern "C" fn range_map_free(alloc: Global, map: &mut RangeMap)
-    ensures { map.new.entries ≡ [] }
+    ensures empty { map.new.entries ≡ [] }
+    ensures nothing { map.new.at ≡ null_ptr }
 {
     *map = RangeMap::none(alloc);
 }
@@ -27,7 +30,8 @@ pub extern "C" fn range_map_free(alloc: Global, map: &mut RangeMap)
 /// Takes all keys out, and frees the map's memory. It takes O(n) steps for n entries.
 #[unsafe(no_mangle)]
 pub extern "C" fn range_map_clear(alloc: Global, map: &mut RangeMap)
-    ensures { map.new.entries ≡ [] }
+    ensures empty { map.new.entries ≡ [] }
+    ensures nothing { map.new.at ≡ null_ptr }
 {
     *map = RangeMap::none(alloc);
 }

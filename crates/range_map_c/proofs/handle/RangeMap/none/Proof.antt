@@ -1,5 +1,5 @@
 -- `none` makes the struct of the null pointer, which owns nothing.
-use Rattle.range_map_c.proofs.Steps.{refl, sym, subst, ◌≡◌, List, [], ◌∷◌, ◌++◌, lit<, Val, SProp, ent, emp, id⊢, ftrue, WpFn, ‵, raw, ◌⊛◌, ◌$◌, ◌∵◌, !, qed, by, keep, drop, split, fsplit, fjoin, suffices, use0, feq_i, lit, no_more, and_then, returns, enter, alloc_all, pass_all, free_all, look_at, get, sets, agg, fact, fact_i, tables, yes, owns, null_ptr, types_at, plain, nothing, Stays, stay_dropped, walk_of, Goes-dropped, handle_tells, and_tt, proved_at, leaves}
+use Rattle.range_map_c.proofs.Steps.{refl, sym, subst, ◌≡◌, List, [], ◌∷◌, ◌++◌, lit<, Val, SProp, ent, emp, id⊢, ftrue, WpFn, ‵, raw, ◌⊛◌, ◌$◌, ◌∵◌, !, qed, by, keep, drop, split, join, fsplit, fjoin, suffices, use0, feq_i, lit, no_more, and_then, returns, enter, alloc_all, pass_all, free_all, look_at, get, sets, agg, fact, fact_i, tables, yes, owns, null_ptr, types_at, plain, nothing, Stays, stay_dropped, walk_of, Goes-dropped, handle_tells, and_tt, proved_at, leaves}
 use Rattle.range_map_c.specs.Handle.{Entries}
 use Rattle.range_map_c.proofs.Words.{Z, al, word, map_in}
 use Rattle.range_map_c.specs.contracts.handle.RangeMap.none.{ended, clauses}
@@ -20,5 +20,6 @@ none_spec 𝓤 𝓛 𝓜 𝓡 wired =
     enter ! 𝓣.C 𝓣.Λ fn (h ∷ []) Post $ alloc_all ! (λ l. pass_all ! refl (fits, tt) $
     sets ! (agg ! (and_then ! (lit ! tt) (and_then ! (get ! refl) (no_more !)))) refl (and_tt _ fits.0, (record { fits = lit< tt }, (fits.1, tt))) $
     returns ! (look_at ! 0 refl) $ free_all ! refl $
-    feq_i ! Entries none none refl $ map_in ! null_ptr a none h $ use0 𝓛 (raw (fact 𝓤 (none ≡ []))) (fact_i 𝓤 (none ≡ []) (emp 𝓤) refl) $
+    feq_i ! Entries none none refl $ map_in ! null_ptr a none h $ use0 𝓛 (raw (fact 𝓤 (null_ptr ≡ null_ptr))) (fact_i 𝓤 (null_ptr ≡ null_ptr) (emp 𝓤) refl) $
+    use0 𝓛 (raw (fact 𝓤 (none ≡ []))) (fact_i 𝓤 (none ≡ []) (emp 𝓤) refl) $ join ! $
     nothing ! $ nothing ! $ fjoin ! $ nothing ! $ keep ! (0 ∷ 1 ∷ 3 ∷ 2 ∷ []) $ by ! (leaves 𝓛 ended hs c z (word null_ptr h) (record { at = null_ptr; alloc = a; entries = none }) (tt, tt) (tt, tt)))))
