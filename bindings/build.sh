@@ -10,24 +10,24 @@ out="$root/bindings/out"
 say() { echo "build: $1" >&2; }
 
 # Runs a command in the crate's folder, and says each half minute that it is at work. On failure it prints what the command said.
+log='' ticks=''
+ended() {
+    if [ -n "$ticks" ]; then kill "$ticks" 2>/dev/null || true; fi
+    rm -f "$log" "$out/names"
+}
+trap ended EXIT
 prove() { # the command
-    local log begun=$SECONDS
-    log="$(mktemp)"
-    (cd "$root/crates/$crate" && "$@") </dev/null >"$log" 2>&1 &
-    local work=$!
-    (while sleep 30; do say "proving, $(clock $((SECONDS - begun)))"; done) &
-    local ticks=$!
     local status=0
-    wait "$work" || status=$?
+    log="$(mktemp)"
+    (while sleep 30 >/dev/null 2>&1; do say "proving, $(clock "$SECONDS")"; done) &
+    ticks=$!
+    (cd "$root/crates/$crate" && "$@") </dev/null >"$log" 2>&1 || status=$?
     kill "$ticks" 2>/dev/null || true
-    wait "$ticks" 2>/dev/null || true
     if [ "$status" != 0 ]; then
-        grep -v ': proved$' "$log" >&2 || true
+        grep -Ev ': proved$|^(statements|library|checked|so far|ahead)' "$log" >&2 || true
         say "$crate was not built: what \`$1\` said stands above"
-        rm -f "$log"
         exit 70
     fi
-    rm -f "$log"
 }
 
 # The archive over the libraries that stand in the crates' out/rlib.
@@ -87,6 +87,5 @@ SAVE
 END
 printf '{ global: range_map_*; local: *; };\n' >"$out/names"
 cc -shared -Wl,--version-script="$out/names" -Wl,--whole-archive "$out/librange_map.a" -Wl,--no-whole-archive -o "$out/librange_map.so"
-rm -f "$out/names"
 printf '%s\n' "$made" >"$out/made_of"
 say "$out/librange_map.a and librange_map.so are built, in $(clock "$SECONDS")"
