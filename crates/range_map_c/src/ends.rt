@@ -1,8 +1,6 @@
-//! The least and the greatest key that has a value, in O(log n) steps each, and how many keys and entries there are, in one
-//! step.
-ghost use Rattle.std.specs.Prelude.{◌≡◌, ◌+◌, ◌*◌, ◌^◌, [], length, pos, MatchBool, MatchOption, nat_eq};
+//! The least and the greatest key that has a value: told, and taken out. Each call takes O(log n) steps for n entries.
+ghost use Rattle.std.specs.Prelude.{◌≡◌, [], MatchBool, MatchOption, nat_eq};
 ghost use Rattle.blaze_entries.specs.Entries.{at};
-ghost use Rattle.blaze_table.specs.Count.{keys_in};
 ghost use Rattle.range_map_blaze.specs.Pairs.{IsFirstPair, IsLastPair, PopsFirst, PopsLast};
 ghost use Rattle.range_map_c.specs.Handle.{least_key, greatest_key};
 ghost use Rattle.range_map_c.specs.Status.{IsStatus, OnDone, OnRefused};
@@ -156,31 +154,4 @@ pub extern "C" fn range_map_pop_last(
         }
         Err(_) => REFUSED,
     }
-}
-
-/// Tells how many keys have a value, up to 2^64: `low`, and 2^64 times `high`.
-#[unsafe(no_mangle)]
-pub extern "C" fn range_map_count(alloc: Global, map: &mut RangeMap, low: &mut u64, high: &mut u64)
-    ensures count { pos (low.new + 2 ^ 64 * high.new) ≡ keys_in map.old.entries }
-    ensures kept { map.new.entries ≡ map.old.entries }
-{
-    let taken = map.take(alloc);
-    let count = taken.map().len();
-    map.put_back(taken);
-    *low = (count % WORD) as u64;
-    *high = (count / WORD) as u64;
-}
-
-const WORD: u128 = 1 << 64;
-
-/// Returns how many entries there are.
-#[unsafe(no_mangle)]
-pub extern "C" fn range_map_entries(alloc: Global, map: &mut RangeMap) -> u64
-    ensures count { result ≡ length map.old.entries }
-    ensures kept { map.new.entries ≡ map.old.entries }
-{
-    let taken = map.take(alloc);
-    let count = taken.map().ranges_len();
-    map.put_back(taken);
-    count as u64
 }

@@ -2,12 +2,13 @@
 #![tactic(auto)]
 
 mod changes;
+mod compare;
+mod counts;
 mod ends;
 mod handle;
 mod look_ups;
 mod makes;
 mod operators;
-mod pairs;
 mod tables;
 
 pub use handle::RangeMap;

@@ -1,6 +1,6 @@
 //! Maps made, ended, emptied and copied.
 ghost use denote.RawPtr.{null_ptr};
-ghost use Rattle.std.specs.Prelude.{◌≡◌, ◌↔◌, [], IsTrue};
+ghost use Rattle.std.specs.Prelude.{◌≡◌, []};
 ghost use Rattle.std.specs.Prelude.{nat_eq};
 ghost use Rattle.blaze_entries.specs.Entries.{SameEntries};
 ghost use Rattle.range_map_c.specs.Status.{IsStatus, OnDone, OnRefused};
@@ -34,18 +34,6 @@ pub extern "C" fn range_map_clear(alloc: Global, map: &mut RangeMap)
     ensures nothing { map.new.at ≡ null_ptr }
 {
     *map = RangeMap::none(alloc);
-}
-
-/// Returns whether no key has a value. It takes no memory, and one step.
-#[unsafe(no_mangle)]
-pub extern "C" fn range_map_is_empty(alloc: Global, map: &mut RangeMap) -> bool
-    ensures empty { IsTrue result ↔ (map.old.entries ≡ []) }
-    ensures kept { map.new.entries ≡ map.old.entries }
-{
-    let taken = map.take(alloc);
-    let empty = taken.map().is_empty();
-    map.put_back(taken);
-    empty
 }
 
 /// Puts a copy of a map in the place of `out`. Refused memory leaves `out` unchanged. It takes O(n) steps for n entries.
