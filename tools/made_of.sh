@@ -4,8 +4,8 @@
 # they stand on, and the sum of each source file. The program fits as long as that is what stands there.
 root="$(cd "$(dirname "${BASH_SOURCE[0]}")/.." && pwd)"
 programs=(rangemap script scripts regions ports calendar routes picture)
-# The crate of a program: those over tables have names that begin with demo_.
-crate_of() { case "$1" in rangemap | script) echo "$1" ;; *) echo "demo_$1" ;; esac }
+# The crate of a program: the names of those over tables begin with demo_.
+crate_of() { case "$1" in scripts | regions | ports | calendar | routes | picture) echo "demo_$1" ;; *) echo "$1" ;; esac }
 declare -A proof_takes=([rangemap]="25 to 40 minutes on four processors" [script]="40 to 60 minutes on four processors")
 proof_time() { echo "${proof_takes[$1]:-${proof_takes[rangemap]}}"; }
 is_program() { case " ${programs[*]} " in *" $1 "*) return 0 ;; *) return 1 ;; esac }
