@@ -106,7 +106,10 @@ fn extended_from_none(rt: &HostRuntime) -> Result<(), AllocError> {
     let mut joined = Map::new(alloc);
     joined.extend_ranges(equal_pairs(alloc)?)?;
     let is_equal = joined == map;
-    let _ = println!(rt; "from none: {map}, {} entry, {is_equal}", joined.ranges_len());
+    let _ = println!(rt;
+        "from none: {map}, {} entry, {is_equal}",
+        joined.ranges_len()
+    );
     Ok(())
 }
 
