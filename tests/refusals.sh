@@ -228,4 +228,16 @@ while IFS= read -r line; do
             ;;
     esac
 done < <(cat "$here/refusals.txt" && echo)
+
+# Each request for memory of a script without a call, which reading it makes: where it is refused, the status is 3.
+if [ -z "$only" ]; then
+    printf 'keys u8\n' >"$work/script"
+    requests="$(REFUSE_ALL=1 REFUSE_TELL=1 LD_PRELOAD="$work/refuse.so" "$program" <"$work/script" 2>&1 | sed -n 's/^requests=//p')"
+    judge yes "$([ "$requests" -gt 0 ] && echo yes)" "reading makes requests"
+    for ((nth = 1; nth <= requests; nth++)); do
+        status=0
+        REFUSE_ALL=1 REFUSE_NTH=$nth LD_PRELOAD="$work/refuse.so" "$program" <"$work/script" >"$work/told" 2>&1 || status=$?
+        judge "3 " "$status $(cat "$work/told")" "reading: request $nth of $requests refused"
+    done
+fi
 tell

@@ -20,6 +20,9 @@ const USAGE: u8 = 2;
 /// The status of a fault of reading or writing.
 const FAULT: u8 = 1;
 
+/// The status of memory that was refused to reading the script.
+const REFUSED: u8 = 3;
+
 /// What the arguments ask.
 enum Asked {
     /// To make each call of the script.
@@ -63,5 +66,9 @@ fn main(rt: HostRuntime) -> ExitCode {
         }
         Err(fault) => Err(fault),
     };
-    ExitCode::from(status.unwrap_or(FAULT))
+    ExitCode::from(match status {
+        Ok(status) => status,
+        Err(fault) if fault.kind() == io::ErrorKind::OutOfMemory => REFUSED,
+        Err(_) => FAULT,
+    })
 }
