@@ -34,7 +34,7 @@ pub fn change_maps(work: Work, change: Change) -> Result<u64, AllocError> {
 }
 
 impl Change {
-    /// Makes so many changes below a key, and answers a sum of the old values.
+    /// Makes so many changes below a key, and returns a sum of the old values.
     fn make(
         self,
         map: &mut Map,

@@ -18,7 +18,7 @@ use std::alloc::{AllocError, Global};
 /// Added to a work's number where the entries that are left are to be in the checksum.
 const CHECKED: u32 = 100;
 
-/// Does a work and answers a checksum, which is not 0; 0 where memory was refused or there is no such work.
+/// Does a work and returns a checksum, which is not 0; 0 where memory was refused or there is no such work.
 #[unsafe(no_mangle)]
 pub extern "C" fn library_run(alloc: Global, work: u32, size: u64, count: u64) -> u64 {
     let check = work >= CHECKED;

@@ -47,7 +47,7 @@ fn change_end<T: Integer, V>(tree: &mut Tree<T, V>, start: T, end: T)
     }
 }
 
-// Puts a node in place of that at a start, and answers the old one.
+// Puts a node in place of that at a start, and returns the old one.
 fn exchange<T: Integer, V: Drop>(
     tree: &mut Tree<T, V>,
     start: T,
@@ -182,7 +182,7 @@ pub fn set_last_end<T: Integer, V>(tree: &mut Tree<T, V>, end: T)
     }
 }
 
-/// Puts a node in place of that at a start, and answers the old one.
+/// Puts a node in place of that at a start, and returns the old one.
 pub fn replace<T: Integer, V: Drop>(
     tree: &mut Tree<T, V>,
     start: T,
@@ -197,7 +197,7 @@ pub fn replace<T: Integer, V: Drop>(
     exchange(tree, start, node)
 }
 
-/// Keeps the nodes that start below a key, and answers the others.
+/// Keeps the nodes that start below a key, and returns the others.
 pub fn split_off<T: Integer, V>(tree: &mut Tree<T, V>, key: T) -> Result<Tree<T, V>, AllocError>
     ensures below { OnOk result (shown_nodes T.rank tree.new.entries
         ≡ below (T.rank key) (shown_nodes T.rank tree.old.entries)) }

@@ -11,7 +11,7 @@ use crate::range::Range;
 use blaze_int::Integer;
 use std::ops::RangeInclusive;
 
-// Returns the start of the first entry from a key on at which a closure answers false. It is called once at each entry up to that
+// Returns the start of the first entry from a key on at which a closure returns false. It is called once at each entry up to that
 // one, ascending, and the tree is searched once.
 fn first_to_drop<T: Integer, V, F: FnMut(&RangeInclusive<T>, &V) -> bool>(
     tree: &Tree<T, Option<V>>,
@@ -43,7 +43,7 @@ fn drop_entry<T: Integer, V: Drop>(tree: &mut Tree<T, Option<V>>, start: T)
     remove(tree, start);
 }
 
-/// Keeps the entries that a closure answers true at: one call for each, ascending, at its range and value. It takes a search of
+/// Keeps the entries that a closure returns true at: one call for each, ascending, at its range and value. It takes a search of
 /// the tree, and two for each entry that goes.
 pub fn retain<T: Integer, V: Drop, F: FnMut(&RangeInclusive<T>, &V) -> bool>(
     tree: &mut Tree<T, Option<V>>,

@@ -178,7 +178,7 @@ pub struct Walk<T: Integer, V> {
     pub value: Option<V>,
 }
 
-/// Walks down the entries, from the one that may start right above a range to the first that starts below it, and answers what
+/// Walks down the entries, from the one that may start right above a range to the first that starts below it, and returns what
 /// it has seen, beside a value if one is asked for, and the value that the range's first key has. A length loses how many of their
 /// keys lie in the range. It is inlined, so that where that value isn't asked for the compiler leaves it out.
 #[inline(always)]

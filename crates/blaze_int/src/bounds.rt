@@ -26,7 +26,7 @@ pub fn bounds_of<T: Integer, R: RangeBounds<T>>(r: &R) -> Option<(T, T)>
     ends_of(copied(r.start_bound()), copied(r.end_bound()))
 }
 
-/// Whether the bounds of a range name a key, which is where `bounds_of` answers `Some`.
+/// Whether the bounds of a range name a key, which is where `bounds_of` returns `Some`.
 pub fn names_a_key<T: Integer, R: RangeBounds<T>>(r: &R) -> bool
     ensures named { R.has_bounds r.now
         → IsTrue result

@@ -24,7 +24,7 @@ pub trait Asks<F, VC: ValueCarrier, W> {
     // There are arguments that stand for the value.
     ghost has_arguments: { VC.Value → Type 0 };
 
-    /// What the closure answers at the carrier, by one call.
+    /// What the closure returns at the carrier, by one call.
     fn ask(f: &mut F, carrier: VC) -> W
         requires has { has_arguments (VC.shown carrier) }
         requires callable { TakesValue shows calls f.old (VC.shown carrier) }

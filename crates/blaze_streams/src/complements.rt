@@ -12,7 +12,7 @@ use std::alloc::{AllocError, Global};
 use std::ops::RangeInclusive;
 
 // Adds the keys from `next` on that lie below a range's start, as one range. Where `next` is none there are no more keys.
-fn push_gap<T: Integer>(
+fn push_none<T: Integer>(
     gaps: &mut Vec<RangeInclusive<T>>,
     next: Option<T>,
     start: T,
@@ -32,7 +32,7 @@ fn push_gap<T: Integer>(
 }
 
 // Adds the keys from `next` on, as one range. Where `next` is none there are no more keys.
-fn push_rest<T: Integer>(
+fn push_last<T: Integer>(
     gaps: &mut Vec<RangeInclusive<T>>,
     next: Option<T>,
 ) -> Result<(), AllocError>
@@ -59,9 +59,9 @@ pub fn complement<T: Integer, S: SortedDisjoint<T>>(
     let mut next = Some(T::min_value());
     for range in set {
         let (start, end) = range.into_inner();
-        push_gap(&mut gaps, next, start)?;
+        push_none(&mut gaps, next, start)?;
         next = end.checked_add_one();
     }
-    push_rest(&mut gaps, next)?;
+    push_last(&mut gaps, next)?;
     Ok(CanonIter::new(gaps))
 }

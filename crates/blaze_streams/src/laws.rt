@@ -4,7 +4,7 @@ ghost use Rattle.blaze_streams.specs.JoinLaws.{FullJoinIsOfListOfTwo, FullJoinIs
 
 use blaze_int::Integer;
 
-/// What a closure answers at the ranges of a stream has the stream's keys.
+/// What a closure returns at the ranges of a stream has the stream's keys.
 pub fn answers_keep_keys<V: Eq, W: Eq>()
     ensures { AnswersKeepKeys V W.eq }
 {}

@@ -32,7 +32,7 @@ pub trait SortedDisjoint<T: Integer>: Iterator<Item = RangeInclusive<T>> {
     // No more ranges come than are left.
     ghost counted: { (s : Self) → Self.remaining s ≡ item_count left s };
 
-    // `next` takes the first of what is left, and answers `None` where nothing is left.
+    // `next` takes the first of what is left, and returns `None` where nothing is left.
     ghost gives: { (s : Self) (r : Option (RangeInclusive T)) (t : Self) → Self.next_gives s r t
         → YieldsFirstBy (shown_bare_range T.rank) left s r t };
 }

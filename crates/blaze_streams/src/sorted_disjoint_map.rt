@@ -45,7 +45,7 @@ pub trait SortedDisjointMap<T: Integer, VC: ValueCarrier>: Iterator<
     // No more ranges come than are left.
     ghost counted: { (s : Self) → Self.remaining s ≡ item_count left s };
 
-    // `next` takes the first of what is left, and answers `None` where nothing is left.
+    // `next` takes the first of what is left, and returns `None` where nothing is left.
     ghost gives: { (s : Self) (r : Option (RangeInclusive T × VC)) (t : Self)
         → Self.next_gives s r t
         → YieldsFirstBy (shown_range T.rank VC.shown) left s r t };
@@ -56,7 +56,7 @@ pub trait BothEnds<T: Integer, VC: ValueCarrier>: SortedDisjointMap<T, VC> + Dou
     // `next_back` may always be called.
     ghost ready_back: { (s : Self) → Self.can_next_back s };
 
-    // `next_back` takes the last of what is left, and answers `None` where nothing is left.
+    // `next_back` takes the last of what is left, and returns `None` where nothing is left.
     ghost gives_back: { (s : Self) (r : Option (RangeInclusive T × VC)) (t : Self)
         → Self.next_back_gives s r t
         → YieldsLastBy (shown_range T.rank VC.shown) Self.left s r t };

@@ -1,4 +1,4 @@
-//! A stream with what a closure answers at its values.
+//! A stream with what a closure returns at its values.
 ghost use Rattle.std.specs.Prelude.{IfOk};
 ghost use Rattle.blaze_streams.specs.Answers.{values, EachValue, IsCallableAtEach, IsTransformed};
 
@@ -11,7 +11,7 @@ use crate::sorted_disjoint_map::SortedDisjointMap;
 use blaze_int::Integer;
 use std::alloc::{AllocError, Global};
 
-/// The ranges of a stream, each with what a closure answers at its value, with the arguments that `C` gives it: one call for each
+/// The ranges of a stream, each with what a closure returns at its value, with the arguments that `C` gives it: one call for each
 /// range, ascending, and no other. Touching ranges with equal answers are one. Refused memory drops the stream and the answers.
 pub fn answers_of<
     T: Integer,
@@ -37,7 +37,7 @@ pub fn answers_of<
     Ok(CanonMapIter::new(out))
 }
 
-/// The ranges of a stream, each with what a closure answers at its value: one call for each range, ascending, and no other.
+/// The ranges of a stream, each with what a closure returns at its value: one call for each range, ascending, and no other.
 /// Touching ranges with equal answers are one. Refused memory drops the stream and the answers.
 pub fn transform<
     T: Integer,

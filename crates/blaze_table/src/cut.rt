@@ -21,7 +21,7 @@ use blaze_int::{Integer, SafeLength};
 use std::alloc::AllocError;
 
 // Takes a key out of an entry that has others too, from `start` up to `end`, where `value` is a clone of that entry's, and
-// answers it. Only what the entry has above the key may take memory: it gets a start of its own.
+// returns it. Only what the entry has above the key may take memory: it gets a start of its own.
 fn cut_shared<T: Integer, V: Eq + Clone>(
     entries: &mut Counted<T, V>,
     key: T,
@@ -57,7 +57,7 @@ fn cut_shared<T: Integer, V: Eq + Clone>(
     Ok(value)
 }
 
-// Takes a key out of the entry that has it, as a look at that entry has answered it, and answers the value that was there.
+// Takes a key out of the entry that has it, as a look at that entry has answered it, and returns the value that was there.
 fn cut_key<T: Integer, V: Eq + Clone>(
     entries: &mut Counted<T, V>,
     key: T,
@@ -105,7 +105,7 @@ fn cut_held<T: Integer, V: Eq + Clone>(
     Ok((value, rest))
 }
 
-/// Takes a key out, and answers the value that was there and the new count of keys, where `len` is the old. Refused memory
+/// Takes a key out, and returns the value that was there and the new count of keys, where `len` is the old. Refused memory
 /// leaves the entries as they are.
 pub fn cut<T: Integer, V: Eq + Clone>(
     entries: &mut Counted<T, V>,
@@ -134,7 +134,7 @@ pub fn cut<T: Integer, V: Eq + Clone>(
     }
 }
 
-// Takes the first key out of the first entry, as a look has answered that entry, and answers the value that was there. What the
+// Takes the first key out of the first entry, as a look has answered that entry, and returns the value that was there. What the
 // entry has above the key gets an entry with the clone that the look made; the first entry goes without a search.
 fn cut_front<T: Integer, V: Eq + Clone>(
     entries: &mut Counted<T, V>,
@@ -163,7 +163,7 @@ fn cut_front<T: Integer, V: Eq + Clone>(
     }
 }
 
-/// Takes the first key out, and answers it with the value that was there and the new count of keys, where `len` is the old.
+/// Takes the first key out, and returns it with the value that was there and the new count of keys, where `len` is the old.
 /// Refused memory leaves the entries as they are.
 pub fn cut_first<T: Integer, V: Eq + Clone>(
     entries: &mut Counted<T, V>,
@@ -193,7 +193,7 @@ pub fn cut_first<T: Integer, V: Eq + Clone>(
     }
 }
 
-// Takes the last key out of the last entry, as a look has answered that entry, and answers the value that was there. No memory is
+// Takes the last key out of the last entry, as a look has answered that entry, and returns the value that was there. No memory is
 // taken, and no search is made.
 fn cut_back<T: Integer, V: Eq + Clone>(
     entries: &mut Counted<T, V>,
@@ -219,7 +219,7 @@ fn cut_back<T: Integer, V: Eq + Clone>(
     }
 }
 
-/// Takes the last key out, and answers it with the value that was there and the new count of keys, where `len` is the old.
+/// Takes the last key out, and returns it with the value that was there and the new count of keys, where `len` is the old.
 /// Refused memory leaves the entries as they are.
 pub fn cut_last<T: Integer, V: Eq + Clone>(
     entries: &mut Counted<T, V>,
@@ -250,7 +250,7 @@ pub fn cut_last<T: Integer, V: Eq + Clone>(
     }
 }
 
-/// Takes the keys from lo up to hi out, and answers the new count of keys, where `len` is the old. Refused memory leaves the
+/// Takes the keys from lo up to hi out, and returns the new count of keys, where `len` is the old. Refused memory leaves the
 /// entries as they are.
 pub fn cut_range<T: Integer, V: Eq + Clone>(
     entries: &mut Counted<T, V>,

@@ -90,7 +90,7 @@ fn paint_planned<T: Integer, V: Eq + Drop>(
     }
 }
 
-/// Puts a value on the keys from lo up to hi, and answers how many keys there are then: the entries that the range touches
+/// Puts a value on the keys from lo up to hi, and returns how many keys there are then: the entries that the range touches
 /// are found by single looks, what is to be put in is put in, and only then is anything edited that can't be taken back.
 /// Inside an entry with an equal value nothing changes. Refused memory leaves the entries as they are.
 pub fn paint_by_splice<T: Integer, V: Eq + Clone>(
@@ -115,7 +115,7 @@ pub fn paint_by_splice<T: Integer, V: Eq + Clone>(
     paint_planned(entries, len, lo, hi, value, found)
 }
 
-/// Puts a value on the keys from lo up to hi, and answers how many keys there are then: the entries that the range touches
+/// Puts a value on the keys from lo up to hi, and returns how many keys there are then: the entries that the range touches
 /// are seen in one walk, what is to be put in is put in, and only then is anything edited that can't be taken back. Inside an
 /// entry with an equal value nothing changes. Refused memory leaves the entries as they are.
 pub fn paint<T: Integer, V: Eq + Clone>(
@@ -140,7 +140,7 @@ pub fn paint<T: Integer, V: Eq + Clone>(
     paint_planned(entries, len, lo, hi, value, found)
 }
 
-/// Puts a value on a key, as `paint` does on a range, and answers the value that was there, which the walk finds, and how many
+/// Puts a value on a key, as `paint` does on a range, and returns the value that was there, which the walk finds, and how many
 /// keys there are then. Refused memory leaves the entries as they are.
 pub fn insert<T: Integer, V: Eq + Clone>(
     entries: &mut Counted<T, V>,

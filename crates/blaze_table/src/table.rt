@@ -205,7 +205,7 @@ impl<T: Integer, V: Eq + Clone> RangeTable<T, V> {
         })
     }
 
-    /// Puts a value on the keys from lo up to hi, and answers whether the number of keys changed. The entries that the range
+    /// Puts a value on the keys from lo up to hi, and returns whether the number of keys changed. The entries that the range
     /// touches are seen in one walk, and edited in place.
     /// Refused memory leaves the entries unchanged. Inside one entry with an equal value nothing changes, the stored value
     /// neither, and no memory is taken.
@@ -249,7 +249,7 @@ impl<T: Integer, V: Eq + Clone> RangeTable<T, V> {
         Ok(differ(new_len, old_len))
     }
 
-    /// Puts a value on a key, as `paint` does on a range, and answers the value that was there. Refused memory leaves the entries
+    /// Puts a value on a key, as `paint` does on a range, and returns the value that was there. Refused memory leaves the entries
     /// unchanged.
     pub fn insert(&mut self, key: T, value: V) -> Result<Option<V>, AllocError>
         requires { ClonesAreAlike V.is_clone V.eq }

@@ -1,4 +1,4 @@
-//! The beginning and the end of a call, and what it answers.
+//! The beginning and the end of a call, and what it returns.
 use std::alloc::AllocError;
 use std::fmt::Debug;
 

@@ -37,7 +37,7 @@ fn capitals_of(rt: &HostRuntime, map: &Map) -> Result<Map, AllocError> {
     Ok(capitals)
 }
 
-/// Answers where two maps meet.
+/// What a closure returns where two maps meet.
 fn joined(rt: &HostRuntime, map: &Map, other: &Map) -> Result<(), AllocError> {
     let pairs = map.inner_join(other, |value, new| (*value, *new))?;
     let _ = println!(rt; "{pairs}");

@@ -24,7 +24,7 @@ fn painted(alloc: Global) -> Result<Map, AllocError> {
     Ok(map)
 }
 
-/// Makes all calls of this file, and answers a map.
+/// Makes all calls of this file, and returns a map.
 pub fn all(rt: &HostRuntime) -> Result<Map, AllocError> {
     of_pairs(rt)?;
     let map = painted(rt.alloc())?;

@@ -1,4 +1,4 @@
-//! Joins of two maps, and a map with other values: what a closure answers, once for each segment or entry.
+//! Joins of two maps, and a map with other values: what a closure returns, once for each segment or entry.
 ghost use Rattle.std.specs.Prelude.{◌≡◌, true, IfOk};
 ghost use Rattle.blaze_streams.specs.Answers.{values, IsCallableAtEach, IsTransformed};
 ghost use Rattle.blaze_streams.specs.JoinAnswers.{either, both, with_left, IsCallableAtSegments};
@@ -35,7 +35,7 @@ pub fn map_of<T: Integer, W: Eq + Clone>(
     Ok(RangeMapBlaze { table })
 }
 
-/// A closure's answers at the values of a table, as a stream.
+/// What a closure returns at the values of a table, as a stream.
 fn transformed<T: Integer, V: Eq + Clone, W: Eq + Clone, F: FnMut(&V) -> W>(
     alloc: Global,
     table: &RangeTable<T, V>,
@@ -48,7 +48,8 @@ fn transformed<T: Integer, V: Eq + Clone, W: Eq + Clone, F: FnMut(&V) -> W>(
     transform(alloc, RangeValuesIter::new(table), f)
 }
 
-/// A closure's answers at the segments of two tables that a join is asked for, with the arguments that `C` gives it, as a stream.
+/// What a closure returns at the segments of two tables that a join is asked for, with the arguments that `C` gives it, as a
+/// stream.
 fn joined<
     'a,
     T: Integer,
@@ -77,8 +78,8 @@ fn joined<
 }
 
 impl<T: Integer, V: Eq + Clone> RangeMapBlaze<T, V> {
-    /// The keys of the map, each with what a closure answers at its entry's value: one call for each entry, ascending. Touching
-    /// entries with equal answers are one. Refused memory leaves the map unchanged and drops the answers.
+    /// The keys of the map, each with what a closure returns at its entry's value: one call for each entry, ascending. Touching
+    /// entries with equal results are one. Refused memory leaves the map unchanged and drops what it returned.
     pub fn transform_values<W: Eq + Clone, F: FnMut(&V) -> W>(
         &self,
         f: F,
@@ -93,8 +94,8 @@ impl<T: Integer, V: Eq + Clone> RangeMapBlaze<T, V> {
         Ok(map)
     }
 
-    /// What a closure answers where both maps have a value: one call for each of the greatest ranges on which neither changes
-    /// and both are there, ascending. Touching equal answers are one entry. Refused memory leaves both maps unchanged and drops
+    /// What a closure returns where both maps have a value: one call for each of the greatest ranges on which neither changes
+    /// and both are there, ascending. Touching equal results are one entry. Refused memory leaves both maps unchanged and drops
     /// the answers.
     pub fn inner_join<V2: Eq + Clone, W: Eq + Clone, F: FnMut(&V, &V2) -> W>(
         &self,
@@ -119,7 +120,7 @@ impl<T: Integer, V: Eq + Clone> RangeMapBlaze<T, V> {
     }
 
     /// The same where this map has a value, with the other's where it has one. Refused memory leaves both maps unchanged and
-    /// drops the answers.
+    /// drops what it returned.
     pub fn left_join<V2: Eq + Clone, W: Eq + Clone, F: FnMut(&V, Option<&V2>) -> W>(
         &self,
         other: &RangeMapBlaze<T, V2>,
@@ -142,7 +143,7 @@ impl<T: Integer, V: Eq + Clone> RangeMapBlaze<T, V> {
         Ok(map)
     }
 
-    /// The same where at least one map has a value. Refused memory leaves both maps unchanged and drops the answers.
+    /// The same where at least one map has a value. Refused memory leaves both maps unchanged and drops what it returned.
     pub fn full_join<V2: Eq + Clone, W: Eq + Clone, F: FnMut(Option<&V>, Option<&V2>) -> W>(
         &self,
         other: &RangeMapBlaze<T, V2>,

@@ -1,5 +1,5 @@
 //! The laws of pairs painted one by one, of filling one map from another, of joins of maps, and of maps with what a closure
-//! answers at their values.
+//! returns at their values.
 ghost use Rattle.blaze_streams.specs.JoinAnswers.{either, both, with_left};
 ghost use Rattle.range_map_blaze.specs.MapLaws.{AnswersAreOnItsKeys, FillingIsUnion, FullJoinIsInnerJoin};
 ghost use Rattle.range_map_blaze.specs.MapLaws.{LeftJoinIsOnTheLeftKeys, PaintingInTurnExtends};

@@ -15,7 +15,7 @@ use std::alloc::AllocError;
 use std::ops::RangeBounds;
 
 impl<T: Integer, V: Eq + Clone> RangeMapBlaze<T, V> {
-    /// Takes a key out, and answers the value that was there. Refused memory leaves the map unchanged. No memory is taken
+    /// Takes a key out, and returns the value that was there. Refused memory leaves the map unchanged. No memory is taken
     /// where the key has no value or is an entry of its own.
     pub fn remove(&mut self, key: T) -> Result<Option<V>, AllocError>
         requires { ClonesAreAlike V.is_clone V.eq }
@@ -60,7 +60,7 @@ impl<T: Integer, V: Eq + Clone> RangeMapBlaze<T, V> {
         }
     }
 
-    /// Takes the least key out, and answers it with the value that was there; `None` on the empty map. Refused memory leaves
+    /// Takes the least key out, and returns it with the value that was there; `None` on the empty map. Refused memory leaves
     /// the map unchanged. No memory is taken on the empty map and where the key is an entry of its own.
     pub fn pop_first(&mut self) -> Result<Option<(T, V)>, AllocError>
         requires { ClonesAreAlike V.is_clone V.eq }
@@ -79,7 +79,7 @@ impl<T: Integer, V: Eq + Clone> RangeMapBlaze<T, V> {
         Ok(popped)
     }
 
-    /// Takes the greatest key out, and answers it with the value that was there; `None` on the empty map. Refused memory
+    /// Takes the greatest key out, and returns it with the value that was there; `None` on the empty map. Refused memory
     /// leaves the map unchanged. No memory is taken on the empty map and where the key is an entry of its own.
     pub fn pop_last(&mut self) -> Result<Option<(T, V)>, AllocError>
         requires { ClonesAreAlike V.is_clone V.eq }
@@ -98,7 +98,7 @@ impl<T: Integer, V: Eq + Clone> RangeMapBlaze<T, V> {
         Ok(popped)
     }
 
-    /// Keeps the keys below one, and answers the map of the keys from it on. Refused memory leaves the map unchanged.
+    /// Keeps the keys below one, and returns the map of the keys from it on. Refused memory leaves the map unchanged.
     pub fn split_off(&mut self, key: T) -> Result<Self, AllocError>
         requires { ClonesAreAlike V.is_clone V.eq }
         ensures uncounted { IfOk result (λ from. (self.new

@@ -12,7 +12,7 @@ use std::alloc::AllocError;
 use std::ops::RangeInclusive;
 
 impl<T: Integer, V: Eq + Drop> RangeMapBlaze<T, V> {
-    /// Keeps the entries that a closure answers true at: one call for each, ascending, and no other. No memory is taken.
+    /// Keeps the entries that a closure returns true at: one call for each, ascending, and no other. No memory is taken.
     pub fn ranges_retain<F: FnMut(&RangeInclusive<T>, &V) -> bool>(&mut self, f: F)
         requires { IsCallableAtEach T.rank F.FnMut f self.old.entries }
         ensures range_map { IsRangeMap V.eq T.low T.high self.new.entries }
@@ -24,7 +24,7 @@ impl<T: Integer, V: Eq + Drop> RangeMapBlaze<T, V> {
 }
 
 impl<T: Integer, V: Eq + Clone> RangeMapBlaze<T, V> {
-    /// Keeps the keys that a closure answers true at: one call for each key that has a value, ascending, with the stored
+    /// Keeps the keys that a closure returns true at: one call for each key that has a value, ascending, with the stored
     /// value. Refused memory leaves the map unchanged.
     pub fn retain<F: Fn(&T, &V) -> bool>(&mut self, f: F) -> Result<(), AllocError>
         requires callable { IsCallableAtPairs F.Fn f T.of_rank self.old.entries }

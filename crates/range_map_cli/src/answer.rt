@@ -17,7 +17,7 @@ use range_map_blaze::RangeMapBlaze;
 use std::alloc::{AllocError, Global};
 use std::fmt::Write;
 
-/// Puts a word on the keys from one to another, and answers whether the number of keys changed.
+/// Puts a word on the keys from one to another, and returns whether the number of keys changed.
 fn paint(
     map: &mut RangeMapBlaze<i64, String>,
     alloc: Global,
@@ -37,7 +37,7 @@ fn paint(
     map.ranges_insert(lo..=hi, String::from_str(alloc, word)?)
 }
 
-/// Puts a word on those keys from one to another that have none, and answers whether the number of keys changed.
+/// Puts a word on those keys from one to another that have none, and returns whether the number of keys changed.
 fn fill(
     map: &mut RangeMapBlaze<i64, String>,
     alloc: Global,
@@ -57,7 +57,7 @@ fn fill(
     map.ranges_insert_absent(lo..=hi, String::from_str(alloc, word)?)
 }
 
-/// Puts a word on a key, and answers the word that was there.
+/// Puts a word on a key, and returns the word that was there.
 fn insert(
     map: &mut RangeMapBlaze<i64, String>,
     alloc: Global,
@@ -72,7 +72,7 @@ fn insert(
     map.insert(key, String::from_str(alloc, word)?)
 }
 
-/// Takes a key out, and answers the word that was there.
+/// Takes a key out, and returns the word that was there.
 fn remove(map: &mut RangeMapBlaze<i64, String>, key: i64) -> Result<Option<String>, AllocError>
     ensures content { OnOk result ((j : ℤ) → content_of map.new.entries j
         ≡ cut_at key (content_of map.old.entries) j) }

@@ -12,12 +12,12 @@ ghost use Rattle.range_map_cli.specs.Laws.{PartsHaveItsKeys, SetKeeps, XorWithIt
 use blaze_int::Integer;
 use range_map_blaze::{BothEnds, ValueCarrier};
 
-/// Two maps are `==` exactly if `get` answers equal values, or none, at every key.
+/// Two maps are `==` exactly if `get` returns equal values, or none, at every key.
 pub fn equal_where_gets_are<T: Integer, V: Eq>()
     ensures { EqualWhereGetsAre T.rank V.eq T.low T.high }
 {}
 
-/// `cmp` is a total order, and answers `Equal` exactly on equal maps.
+/// `cmp` is a total order, and returns `Equal` exactly on equal maps.
 pub fn cmp_is_total_order<T: Integer, V: Ord>()
     ensures { IsOrderOfMaps V.eq V.cmp T.low T.high }
 {}

@@ -44,7 +44,7 @@ pub enum Step<T: Integer, V: Eq> {
     ComplementWith(V),
 }
 
-/// What a step answers.
+/// What a step returns.
 #[derive(Clone, Copy, Debug, Drop, PartialEq, Eq)]
 pub enum Answer<T, V> {
     /// Of a paint or a fill: whether the number of keys changed.

@@ -19,7 +19,7 @@ use blaze_table::laws::{canonical_is_shortest, lengths_are_mapped};
 use range_map_blaze::RangeMapBlaze;
 use std::alloc::{AllocError, Global};
 
-/// Puts a value on the keys from `start` up to `end`, and answers whether the number of keys changed.
+/// Puts a value on the keys from `start` up to `end`, and returns whether the number of keys changed.
 fn paint<T: Integer, V: Eq + Clone>(
     map: &mut RangeMapBlaze<T, V>,
     start: T,
@@ -43,7 +43,7 @@ fn paint<T: Integer, V: Eq + Clone>(
     Ok(changed)
 }
 
-/// Puts a value on those keys from `start` up to `end` that have none, and answers whether the number of keys changed.
+/// Puts a value on those keys from `start` up to `end` that have none, and returns whether the number of keys changed.
 fn fill<T: Integer, V: Eq + Clone>(
     map: &mut RangeMapBlaze<T, V>,
     start: T,
@@ -195,11 +195,11 @@ fn take_step<T: Integer, V: Eq + Clone>(
     }
 }
 
-/// Does steps, one after another, and answers what each answers.
+/// Does steps, one after another, and returns what each returns.
 ///
 /// The map has then the content that the steps mean, and its list of entries is the only shortest with it. Room for all answers
 /// is asked first. Refused memory leaves the map as the steps before the refused one leave it, and drops the others and the
-/// answers.
+/// results.
 pub fn run<T: Integer, V: Eq + Clone>(
     alloc: Global,
     map: &mut RangeMapBlaze<T, V>,

@@ -22,7 +22,7 @@ impl<'a, V: Eq> Shows<&'a V> for ByReference {
     ghost shown = { λ v. v.now };
 }
 
-/// What a closure answers where all maps have a value.
+/// What a closure returns where all maps have a value.
 pub fn lent_inner_join<
     'a,
     T: Integer,
@@ -41,7 +41,7 @@ pub fn lent_inner_join<
     map_of(alloc, answers)
 }
 
-/// What a closure answers where at least one map has a value.
+/// What a closure returns where at least one map has a value.
 pub fn lent_full_join<
     'a,
     T: Integer,

@@ -38,7 +38,7 @@ pub trait MultiwayRangeMapBlazeRef<T: Integer, V: Eq + Clone>: Sized {
         requires { ClonesAreAlike V.is_clone V.eq }
         ensures { IfOk result (IsMade (IsChosenOfMany V.eq T.low T.high last_of_odd (lists self))) };
 
-    /// What a closure answers where all maps have a value: one call for each of the greatest ranges on which no map changes and
+    /// What a closure returns where all maps have a value: one call for each of the greatest ranges on which no map changes and
     /// all have a value, ascending. A call gets the row of the maps' values, first to last. Touching equal answers are one
     /// entry. Of no maps the closure is called once, with an empty row, and its answer is at every key. With n entries in k maps
     /// it takes O(n k) steps and O(n + k) memory beside the answer. No value is cloned. Refused memory drops the answers.

@@ -1,4 +1,4 @@
-//! What a closure answers at the segments of many lists, by their ranges with places and the items at these places. One segment
+//! What a closure returns at the segments of many lists, by their ranges with places and the items at these places. One segment
 //! is found at a time: with n ranges in k lists and s segments it takes O(n + s k) steps, and O(k) memory beside the answer.
 ghost use Rattle.std.specs.Prelude.{[], ◌<◌, length, map, is_some, IfOk};
 ghost use Rattle.std.specs.List.{list_all, list_any};
@@ -11,7 +11,7 @@ use blaze_int::Integer;
 use blaze_streams::{CanonMapIter, Owned, PlaceCursor, next_segment, push_joined};
 use std::alloc::{AllocError, Global};
 
-/// What a closure answers where at least one list has something: one call for each segment, ascending. Refused memory drops
+/// What a closure returns where at least one list has something: one call for each segment, ascending. Refused memory drops
 /// the answers.
 pub fn full_answers<T: Integer, A: Copy, S: Shows<A>, W: Eq + Clone, F: FnMut(&[Option<A>]) -> W>(
     alloc: Global,
@@ -40,7 +40,7 @@ pub fn full_answers<T: Integer, A: Copy, S: Shows<A>, W: Eq + Clone, F: FnMut(&[
     Ok(CanonMapIter::new(out))
 }
 
-/// What a closure answers where all lists have something, of which there is at least one: one call for each such segment,
+/// What a closure returns where all lists have something, of which there is at least one: one call for each such segment,
 /// ascending. Refused memory drops the answers.
 fn inner_answers_of_some<T: Integer, A: Copy, S: Shows<A>, W: Eq + Clone, F: FnMut(&[A]) -> W>(
     alloc: Global,
@@ -74,7 +74,7 @@ fn inner_answers_of_some<T: Integer, A: Copy, S: Shows<A>, W: Eq + Clone, F: FnM
     Ok(CanonMapIter::new(out))
 }
 
-/// What a closure answers at the row of no lists, at every key: one call.
+/// What a closure returns at the row of no lists, at every key: one call.
 fn inner_answers_of_none<T: Integer, A: Copy, S: Shows<A>, W: Eq + Clone, F: FnMut(&[A]) -> W>(
     alloc: Global,
     mut f: F,
@@ -94,7 +94,7 @@ fn inner_answers_of_none<T: Integer, A: Copy, S: Shows<A>, W: Eq + Clone, F: FnM
     Ok(CanonMapIter::new(out))
 }
 
-/// What a closure answers where all lists have something: one call for each such segment, ascending. Of no lists the closure
+/// What a closure returns where all lists have something: one call for each such segment, ascending. Of no lists the closure
 /// is called once, and its answer is at every key. Refused memory drops the answers.
 pub fn inner_answers<T: Integer, A: Copy, S: Shows<A>, W: Eq + Clone, F: FnMut(&[A]) -> W>(
     alloc: Global,

@@ -42,7 +42,7 @@ pub fn fill_row<A: Copy>(
     Ok(())
 }
 
-/// Makes the row of the items that are there, and answers whether all are.
+/// Makes the row of the items that are there, and returns whether all are.
 pub fn fill_full_row<A: Copy>(row: &mut Vec<A>, found: &[Option<A>]) -> Result<bool, AllocError>
     ensures { IfOk result (λ all. MatchBool all (map Some row.new.items
         ≡ found.now) (list_all is_some found.now ≡ false)) }

@@ -30,7 +30,7 @@ struct Script<R: Read + Drop> {
     marked: Option<u64>,
 }
 
-/// Reads a script from standard input to its end or to a bad line, prints its answers, and answers the exit status.
+/// Reads a script from standard input to its end or to a bad line, prints its answers, and returns the exit status.
 pub fn run(rt: &HostRuntime, marked: Option<u64>) -> io::Result<u8> {
     let alloc = rt.alloc();
     let mut script = Script {

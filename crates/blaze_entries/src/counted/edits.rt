@@ -79,7 +79,7 @@ impl<T: Integer, V: Drop> Counted<T, V> {
         Ok(())
     }
 
-    /// Takes the entry at a start out, and answers its value.
+    /// Takes the entry at a start out, and returns its value.
     pub fn remove(&mut self, start: T) -> V
         requires { IsSome (start_at (T.rank start) self.old.entries) }
         ensures entries { self.new
@@ -107,7 +107,7 @@ impl<T: Integer, V: Drop> Counted<T, V> {
         value_of(remove(&mut self.tree, start))
     }
 
-    /// Takes the first entry out, and answers its value. No search is made.
+    /// Takes the first entry out, and returns its value. No search is made.
     pub fn remove_first(&mut self) -> V
         requires { IsSome (slice_get self.old.entries 0) }
         ensures removed { IsFirstRemoved result self.old.entries self.new.entries }
@@ -124,7 +124,7 @@ impl<T: Integer, V: Drop> Counted<T, V> {
         }
     }
 
-    /// Takes the last entry out, and answers its value. No search is made.
+    /// Takes the last entry out, and returns its value. No search is made.
     pub fn remove_last(&mut self) -> V
         requires { IsSome (slice_get self.old.entries (length self.old.entries - 1)) }
         ensures removed { IsLastRemoved result self.old.entries self.new.entries }

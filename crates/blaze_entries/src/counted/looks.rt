@@ -121,10 +121,10 @@ impl<T: Integer, V: Eq> Counted<T, V> {
 
 impl<T: Integer, V: Eq + Clone> Counted<T, V> {
     /// Walks down the entries, in one search, from the one that may start right above a range to the first that starts
-    /// below it, and answers what an edit of the range's keys has to know. No value is equal where none is asked for. The length
+    /// below it, and returns what an edit of the range's keys has to know. No value is equal where none is asked for. The length
     /// loses how many keys the range shares with the entries. Where the entry that starts below the range goes on above it with
     /// an unequal value, a clone of that value is made, and one of the value of the range's first key, if it is wanted. A refused
-    /// clone leaves the entries. It is inlined, so that what it answers is not copied.
+    /// clone leaves the entries. It is inlined, so that what it returns is not copied.
     #[inline(always)]
     pub fn walk(
         &mut self,

@@ -18,7 +18,7 @@ use std::alloc::AllocError;
 use std::ops::RangeInclusive;
 
 impl<T: Integer, V> Entries<T, V> {
-    /// Keeps the entries that start below a key, and answers the others. Refused memory leaves the entries.
+    /// Keeps the entries that start below a key, and returns the others. Refused memory leaves the entries.
     pub fn split_off(&mut self, key: T) -> Result<Self, AllocError>
         ensures below { OnOk result (self.new.counted
             ≡ record self.old.counted { entries = below (T.rank key) self.old.counted.entries }) }
@@ -51,7 +51,7 @@ impl<T: Integer, V: Drop> Entries<T, V> {
         Ok(())
     }
 
-    /// Keeps the entries that a closure answers true at: one call for each, ascending. No memory is taken, and no entry is
+    /// Keeps the entries that a closure returns true at: one call for each, ascending. No memory is taken, and no entry is
     /// counted.
     pub fn retain<F: FnMut(&RangeInclusive<T>, &V) -> bool>(&mut self, f: F)
         requires { IsCallableAtEach T.rank F.FnMut f self.old.counted.entries }
@@ -71,7 +71,7 @@ impl<T: Integer, V: Drop> Entries<T, V> {
         counted.tree.clear();
     }
 
-    /// Takes the entry at a start out, and answers its value.
+    /// Takes the entry at a start out, and returns its value.
     pub fn remove(&mut self, start: T) -> V
         requires { IsSome (start_at (T.rank start) self.old.counted.entries) }
         ensures entries { self.new.counted

@@ -11,7 +11,7 @@ use blaze_int::compare::is_next;
 use std::alloc::AllocError;
 use std::ops::RangeInclusive;
 
-/// Lets the last range go on up to `end` where it ends right below `start` and has an equal value, and answers whether it does.
+/// Lets the last range go on up to `end` where it ends right below `start` and has an equal value, and returns whether it does.
 fn lengthen_last<T: Integer, VC: ValueCarrier>(
     out: &mut Vec<(RangeInclusive<T>, VC)>,
     start: T,
@@ -51,7 +51,7 @@ pub fn push_joined<T: Integer, VC: ValueCarrier>(
     Ok(())
 }
 
-/// Lets the last entry go on up to `end` where it ends right below `start` and has a value equal to the carrier's, and answers
+/// Lets the last entry go on up to `end` where it ends right below `start` and has a value equal to the carrier's, and returns
 /// whether it does. Where it does not, no value equal to the carrier's is joined with it there.
 fn lengthen_entry<T: Integer, VC: HasValue>(
     out: &mut Vec<(T, T, VC::Value)>,

@@ -90,7 +90,7 @@ fn segments_left<T: Integer>(
     Ok(found)
 }
 
-/// Takes the first segment off the lists, or answers `None` where nothing is left. Refused memory leaves the lists unchanged.
+/// Takes the first segment off the lists, or returns `None` where nothing is left. Refused memory leaves the lists unchanged.
 pub fn next_segment<T: Integer>(
     alloc: Global,
     lists: &mut [PlaceCursor<T>],

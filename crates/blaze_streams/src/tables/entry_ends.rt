@@ -14,7 +14,7 @@ pub trait EntryEnds<T: Integer>: Drop {
     // The entries that are left.
     ghost left: { Self → List (Entry Self.Value) };
 
-    /// Takes the first entry out, and answers its first and last key.
+    /// Takes the first entry out, and returns its first and last key.
     fn next_ends(&mut self) -> Option<(T, T)>
         ensures { TakesEnds T.rank result (left self.old) (left self.new) };
 }

@@ -7,7 +7,7 @@ use blaze_int::Integer;
 use blaze_int::compare::is_next;
 use std::alloc::AllocError;
 
-/// Lets the last entry go on up to `end` where it ends right below `start` and has an equal value, and answers whether it does.
+/// Lets the last entry go on up to `end` where it ends right below `start` and has an equal value, and returns whether it does.
 pub(crate) fn lengthen_entry<T: Integer, V: Eq + Clone>(
     out: &mut Vec<(T, T, V)>,
     start: T,

@@ -13,7 +13,7 @@ use blaze_int::Integer;
 use std::alloc::AllocError;
 
 impl<T: Integer, V: Eq + Clone> RangeTable<T, V> {
-    /// Takes a key out, and answers the value that was there. Refused memory leaves the entries unchanged. No memory is taken
+    /// Takes a key out, and returns the value that was there. Refused memory leaves the entries unchanged. No memory is taken
     /// where the key has no value or is an entry of its own.
     pub fn cut_key(&mut self, key: T) -> Result<Option<V>, AllocError>
         requires { ClonesAreAlike V.is_clone V.eq }
@@ -34,7 +34,7 @@ impl<T: Integer, V: Eq + Clone> RangeTable<T, V> {
         Ok(value)
     }
 
-    /// Takes the first key out, and answers it with the value that was there; `None` on the empty table. The key is found without
+    /// Takes the first key out, and returns it with the value that was there; `None` on the empty table. The key is found without
     /// a search; what is left of its entry is put in by one. Refused memory leaves the entries unchanged. No memory is taken on
     /// the empty table and where the key is an entry of its own.
     pub fn pop_first(&mut self) -> Result<Option<(T, V)>, AllocError>
@@ -58,7 +58,7 @@ impl<T: Integer, V: Eq + Clone> RangeTable<T, V> {
         Ok(Some((key, value)))
     }
 
-    /// Takes the last key out, and answers it with the value that was there; `None` on the empty table. No search is made. Refused
+    /// Takes the last key out, and returns it with the value that was there; `None` on the empty table. No search is made. Refused
     /// memory leaves the entries unchanged. Memory is taken only by the clone that is answered, where the key's entry has others
     /// too.
     pub fn pop_last(&mut self) -> Result<Option<(T, V)>, AllocError>

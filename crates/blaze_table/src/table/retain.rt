@@ -36,7 +36,7 @@ fn put_key<T: Integer, V: Eq + Clone>(
     Ok(())
 }
 
-// Adds a key where the closure keeps it, and answers the count without it where the closure does not.
+// Adds a key where the closure keeps it, and returns the count without it where the closure does not.
 fn keep_key<T: Integer, V: Eq + Clone, F: Fn(&T, &V) -> bool>(
     out: &mut Vec<(T, T, V)>,
     key: T,
@@ -65,7 +65,7 @@ fn keep_key<T: Integer, V: Eq + Clone, F: Fn(&T, &V) -> bool>(
     Ok(len)
 }
 
-// Adds the keys of an entry that the closure keeps, one call for each, ascending, and answers the count without the others.
+// Adds the keys of an entry that the closure keeps, one call for each, ascending, and returns the count without the others.
 fn keep_keys<T: Integer, V: Eq + Clone, F: Fn(&T, &V) -> bool>(
     out: &mut Vec<(T, T, V)>,
     start: T,
@@ -98,7 +98,7 @@ fn keep_keys<T: Integer, V: Eq + Clone, F: Fn(&T, &V) -> bool>(
 }
 
 impl<T: Integer, V: Eq + Drop> RangeTable<T, V> {
-    /// Keeps the entries that a closure answers true at: one call for each, ascending. No memory is taken, and no entry is
+    /// Keeps the entries that a closure returns true at: one call for each, ascending. No memory is taken, and no entry is
     /// counted.
     pub fn retain_entries<F: FnMut(&RangeInclusive<T>, &V) -> bool>(&mut self, f: F)
         requires { IsCallableAtEach T.rank F.FnMut f self.old.entries }
@@ -113,7 +113,7 @@ impl<T: Integer, V: Eq + Drop> RangeTable<T, V> {
 }
 
 impl<T: Integer, V: Eq + Clone> RangeTable<T, V> {
-    /// Keeps the keys that a closure answers true at: one call for each key that has a value, ascending, with the stored
+    /// Keeps the keys that a closure returns true at: one call for each key that has a value, ascending, with the stored
     /// value. Refused memory leaves the table unchanged. No entry is counted.
     pub fn retain_keys<F: Fn(&T, &V) -> bool>(&mut self, f: F) -> Result<(), AllocError>
         requires callable { IsCallableAtPairs F.Fn f T.of_rank self.old.entries }

@@ -109,7 +109,7 @@ fn count_parts<T: Integer, V: Eq>(
 }
 
 impl<T: Integer, V: Eq + Clone> RangeTable<T, V> {
-    /// Keeps the keys below one, and answers the table of the keys from it on. Refused memory leaves the table unchanged.
+    /// Keeps the keys below one, and returns the table of the keys from it on. Refused memory leaves the table unchanged.
     pub fn split_at(&mut self, key: T) -> Result<Self, AllocError>
         requires { ClonesAreAlike V.is_clone V.eq }
         ensures ok { IfOk result (λ from. IsSplit V.eq T.low T.high (T.rank key) self.old.entries

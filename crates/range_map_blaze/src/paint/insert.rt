@@ -13,7 +13,7 @@ use std::alloc::AllocError;
 use std::ops::RangeBounds;
 
 impl<T: Integer, V: Eq + Clone> RangeMapBlaze<T, V> {
-    /// Puts a value on a key, over what was there, and answers the value that was there. Refused memory leaves the map
+    /// Puts a value on a key, over what was there, and returns the value that was there. Refused memory leaves the map
     /// unchanged.
     pub fn insert(&mut self, key: T, value: V) -> Result<Option<V>, AllocError>
         requires { ClonesAreAlike V.is_clone V.eq }
@@ -31,7 +31,7 @@ impl<T: Integer, V: Eq + Clone> RangeMapBlaze<T, V> {
         self.table.insert(key, value)
     }
 
-    /// Puts a value on the keys of a range, over what was there, and answers whether the number of keys changed.
+    /// Puts a value on the keys of a range, over what was there, and returns whether the number of keys changed.
     ///
     /// The bounds are those that the range tells: through `RangeBounds` a `RangeInclusive` that was iterated to its end
     /// has an excluded end and names no key. Bounds that name no key answer false and change nothing. Inside one entry with

@@ -14,7 +14,7 @@ use std::alloc::AllocError;
 use std::ops::RangeBounds;
 
 impl<T: Integer, V: Eq + Clone> RangeMapBlaze<T, V> {
-    /// Puts a value on those keys of a range that have none, and answers whether the number of keys changed. A key that has a
+    /// Puts a value on those keys of a range that have none, and returns whether the number of keys changed. A key that has a
     /// value keeps it. The last gap takes the value, and each gap before it a clone.
     ///
     /// The bounds are those that the range tells, as of `ranges_insert`. Bounds that name no key, and a range without a gap,

@@ -85,7 +85,7 @@ impl<T: Integer, V: Eq + Clone> RangeMapBlaze<T, V> {
         }
     }
 
-    /// Takes the next pair: it is joined with the pending one, or the pending one is painted. Answers the pair that is
+    /// Takes the next pair: it is joined with the pending one, or the pending one is painted. Returns the pair that is
     /// pending then, which is none after a reversed pair. Refused memory leaves the map unchanged.
     pub(crate) fn take_pair(
         &mut self,

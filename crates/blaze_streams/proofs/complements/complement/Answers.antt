@@ -11,16 +11,16 @@ loop-range-preserved g c =
     let high = g.T.Integer.high in
     gap_more high _ _ _ _ _ c.loop-range.invariant _ _ _ (shown_bare_range rank c.in-Some.range) _
     (g.met.S.SortedDisjoint.gives _ _ _ c.in-Some.ensures.steps) (ap rank c.into_inner-start.ensures.start) (ap rank c.into_inner-start.ensures.end)
-    c.in_ok-push_gap.ensures (rank_of_next rank high _ _ c.checked_add_one-next.ensures)
+    c.in_ok-push_none.ensures (rank_of_next rank high _ _ c.checked_add_one-next.ensures)
 
 pub new-requires : goal.new-requires
 new-requires g c =
-    (complement_made unit_eq unit_laws g.T.Integer.low g.T.Integer.high _ c.in_hand.ensures _ _ _ _ c.loop-range.invariant (g.met.S.SortedDisjoint.gives _ _ _ c.in-None.ensures.steps).0 c.in_ok-push_rest.ensures).range_map
+    (complement_made unit_eq unit_laws g.T.Integer.low g.T.Integer.high _ c.in_hand.ensures _ _ _ _ c.loop-range.invariant (g.met.S.SortedDisjoint.gives _ _ _ c.in-None.ensures.steps).0 c.in_ok-push_last.ensures).range_map
 
 pub returns : goal.returns
 returns g c =
     subst (IsComplement unit_eq g.T.Integer.low g.T.Integer.high tt (g.S.SortedDisjoint.left c.args.set)) (sym c.new.ensures)
-    (complement_made unit_eq unit_laws g.T.Integer.low g.T.Integer.high _ c.in_hand.ensures _ _ _ _ c.loop-range.invariant (g.met.S.SortedDisjoint.gives _ _ _ c.in-None.ensures.steps).0 c.in_ok-push_rest.ensures)
+    (complement_made unit_eq unit_laws g.T.Integer.low g.T.Integer.high _ c.in_hand.ensures _ _ _ _ c.loop-range.invariant (g.met.S.SortedDisjoint.gives _ _ _ c.in-None.ensures.steps).0 c.in_ok-push_last.ensures)
 
 pub loop-range-init : goal.loop-range-init
 loop-range-init g c = rw (c.new-gaps.ensures.items, c.min_value.ensures, c.into_iter-range-iterator.ensures.into_iter_gives) refl

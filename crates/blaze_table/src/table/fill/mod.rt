@@ -19,7 +19,7 @@ use put::{Made, put_all, take_back};
 use std::alloc::AllocError;
 
 impl<T: Integer, V: Eq + Clone> RangeTable<T, V> {
-    /// Puts a value on those keys from lo up to hi that have none, and answers whether the number of keys changed. The last gap
+    /// Puts a value on those keys from lo up to hi that have none, and returns whether the number of keys changed. The last gap
     /// takes the value, and each gap before it a clone. All clones and entries are made before touching equal entries are joined,
     /// and refused memory leaves the entries and the count of keys. Where each key of the range has a value nothing changes, and
     /// no memory is taken. It takes a step for each entry within the range; two searches to find each gap and one to fill it; and

@@ -104,7 +104,7 @@ fn fill_gap<T: Integer, V: Drop>(
 }
 
 /// Gives each gap from a first one up to `hi` an entry of its own, the last one with the value, the others with clones,
-/// and answers the count of keys, where `len` is that before. Refused memory leaves what can be taken back.
+/// and returns the count of keys, where `len` is that before. Refused memory leaves what can be taken back.
 pub fn put_all<T: Integer, V: Eq + Clone>(
     entries: &mut Entries<T, V>,
     made: &mut Made<T>,
