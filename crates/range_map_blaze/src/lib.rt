@@ -1,24 +1,19 @@
 //! A map from integers to values, kept as the shortest ascending list of disjoint ranges.
 #![tactic(auto)]
 
+mod changes;
 mod compare;
 mod display;
+mod extends;
 mod gaps;
-mod gaps_filled;
-mod iter;
+mod iterators;
+mod joining;
 mod joins;
 pub mod laws;
-mod lookup;
 mod make;
 mod map;
 mod operators;
-mod overlapping;
-mod paint;
-mod range;
-mod ranges;
-mod remove;
-mod retain;
-mod within;
+mod pairs;
 
 pub use blaze_int::{Integer, SafeLength, UIntPlusOne, bounds_of, names_a_key};
 pub use blaze_iters::{IntoIterMap, IntoKeys, IntoValues, IterMap, Keys, Values};
@@ -34,9 +29,9 @@ pub use blaze_streams::{
 pub use blaze_table::{IntoRangesIter, RangeSetBlaze, RangesIter};
 pub use compare::turns::Turns;
 pub use gaps::Gaps;
-pub use make::stream::IntoRangeMapBlaze;
+pub use iterators::Overlapping;
+pub use make::IntoRangeMapBlaze;
 pub use map::RangeMapBlaze;
-pub use overlapping::Overlapping;
 
 // For `range_map_multi` alone, whose joins give such streams.
 #[doc(hidden)]

@@ -1,12 +1,19 @@
-//! The map.
-ghost use Rattle.std.specs.Prelude.{◌≡◌, ◌↔◌, ℤ, ◌≤ℤ◌, pos, [], length, IsTrue, IsSome, IfOk};
-ghost use Rattle.blaze_table.specs.Counted.{uncounted};
-ghost use Rattle.blaze_table.specs.Entries.{at, SameEntries};
+//! The map, and its look-ups by key.
+ghost use Rattle.std.specs.Option.{option_copied};
+ghost use Rattle.std.specs.Prelude.{◌≡◌, ◌↔◌, ℤ, ◌≤ℤ◌, pos, [], length, IsTrue, IsSome, IfOk, Option, Some, None, MatchOption};
+ghost use Rattle.std.specs.Prelude.{IfSome, option_map};
+ghost use Rattle.std.specs.Range.{range_inclusive_start, range_inclusive_end};
+ghost use Rattle.blaze_streams.specs.Ranges.{shown_range};
 ghost use Rattle.blaze_table.specs.Canonical.{IsRangeMap};
 ghost use Rattle.blaze_table.specs.Count.{keys_in, mapped_keys};
+ghost use Rattle.blaze_table.specs.Counted.{uncounted};
+ghost use Rattle.blaze_table.specs.Entries.{at, SameEntries, entry, entry_at};
+ghost use Rattle.blaze_table.specs.Gap.{IsGap};
 ghost use Rattle.blaze_table.specs.Laws.{IsShortest};
 ghost use Rattle.blaze_table.specs.Painted.{ClonesAreAlike};
+ghost use Rattle.blaze_table.specs.Whole.{IsWhole};
 ghost use Rattle.range_map_blaze.specs.Made.{IsMade};
+ghost use Rattle.range_map_blaze.specs.Pairs.{IsFirstPair, IsLastPair};
 
 use blaze_int::compare::length;
 use blaze_int::{Integer, differ};
@@ -15,6 +22,7 @@ use blaze_table::RangeTable;
 use blaze_table::laws::canonical_is_shortest;
 use std::alloc::{AllocError, Global};
 use std::marker::Model;
+use std::ops::{Index, RangeInclusive};
 
 /// A map from integers to values, kept as ranges: ascending, disjoint, and as few as there can be. Touching ranges with
 /// equal values are one range. Contracts see the list of entries with the work on it: looks at entries, entries put in and
@@ -148,5 +156,112 @@ impl<T: Integer, V: Eq + Clone> RangeMapBlaze<T, V> {
     {
         let table = self.table.clone()?;
         Ok(RangeMapBlaze { table })
+    }
+}
+
+impl<T: Integer, V: Eq> RangeMapBlaze<T, V> {
+    /// The value at a key.
+    pub fn get(&self, key: T) -> Option<&V>
+        ensures { option_copied result ≡ at self.now.entries (T.rank key) }
+    {
+        match self.table.find(key) {
+            Some((_, _, value)) => Some(value),
+            None => None,
+        }
+    }
+
+    /// A key that has a value, with its value.
+    pub fn get_key_value(&self, key: T) -> Option<(T, &V)>
+        ensures { MatchOption result (at self.now.entries (T.rank key)
+            ≡ None) (λ pair. (pair.0 ≡ key)
+            × (at self.now.entries (T.rank key) ≡ Some pair.1.now)) }
+    {
+        match self.get(key) {
+            Some(value) => Some((key, value)),
+            None => None,
+        }
+    }
+
+    /// Whether a key has a value.
+    pub fn contains_key(&self, key: T) -> bool
+        ensures { IsTrue result ↔ IsSome (at self.now.entries (T.rank key)) }
+    {
+        self.get(key).is_some()
+    }
+
+    /// The entry that holds a key: its range and its value.
+    pub fn range_at(&self, key: T) -> Option<(RangeInclusive<T>, &V)>
+        ensures entry { option_map (shown_range T.rank (λ v. v.now)) result
+            ≡ entry_at self.now.entries (T.rank key) }
+        ensures whole { IfSome result (λ pair. IsWhole pair.0) }
+    {
+        match self.table.find(key) {
+            Some((start, end, value)) => Some((start..=end, value)),
+            None => None,
+        }
+    }
+
+    /// The entry that holds a key, or the greatest range of keys without a value that holds it, and `None`. On the empty map
+    /// that is the whole key type.
+    pub fn range_or_gap_at(&self, key: T) -> (RangeInclusive<T>, Option<&V>)
+        ensures entry { MatchOption result.1
+            ((at self.now.entries (T.rank key) ≡ None)
+            × IsGap T.low T.high (at self.now.entries) (T.rank key)
+            (T.rank (range_inclusive_start result.0)) (T.rank (range_inclusive_end result.0)))
+            (λ v. entry_at self.now.entries (T.rank key)
+            ≡ Some (entry (T.rank (range_inclusive_start result.0))
+            (T.rank (range_inclusive_end result.0)) v.now)) }
+        ensures whole { IsWhole result.0 }
+    {
+        match self.table.find(key) {
+            Some((start, end, value)) => (start..=end, Some(value)),
+            None => {
+                let (start, end) = self.table.gap_round(key);
+                (start..=end, None)
+            }
+        }
+    }
+
+    /// The least key that has a value, with its value.
+    pub fn first_key_value(&self) -> Option<(T, &V)>
+        ensures { MatchOption result (self.now.entries
+            ≡ []) (λ pair. IsFirstPair (at self.now.entries) (T.rank pair.0) pair.1.now) }
+    {
+        self.in_hand();
+        match self.table.first() {
+            Some(entry) => {
+                let (start, _, value) = entry;
+                Some((start, value))
+            }
+            None => None,
+        }
+    }
+
+    /// The greatest key that has a value, with its value.
+    pub fn last_key_value(&self) -> Option<(T, &V)>
+        ensures { MatchOption result (self.now.entries
+            ≡ []) (λ pair. IsLastPair (at self.now.entries) (T.rank pair.0) pair.1.now) }
+    {
+        self.in_hand();
+        match self.table.last() {
+            Some(entry) => {
+                let (_, end, value) = entry;
+                Some((end, value))
+            }
+            None => None,
+        }
+    }
+}
+
+/// The value at a key. Condition: the key has one.
+impl<T: Integer, V: Eq> Index<T> for RangeMapBlaze<T, V> {
+    type Output = V;
+
+    ghost can_index = { λ m k. IsSome (at m.entries (T.rank k)) };
+
+    ghost index_gives = { λ m k v. at m.entries (T.rank k) ≡ Some v };
+
+    fn index(&self, key: T) -> &V {
+        self.get(key).unwrap()
     }
 }

@@ -4,9 +4,8 @@ ghost use Rattle.blaze_table.specs.Chosen.{left_with_right, left_alone, IsChosen
 ghost use Rattle.blaze_table.specs.Painted.{ClonesAreAlike};
 
 use crate::map::RangeMapBlaze;
+use crate::operators::chosen::{lent_chosen, owned_chosen};
 use crate::operators::cut::{are_few, cut_ranges};
-use crate::operators::lent::lent_chosen;
-use crate::operators::owned::owned_chosen;
 use blaze_int::Integer;
 use blaze_streams::{LeftAlone, LeftWithRight, SeekingRangeValuesIter, ranges_of};
 use blaze_table::RangeTable;

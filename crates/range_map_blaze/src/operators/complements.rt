@@ -1,4 +1,5 @@
-//! The keys without a value.
+//! The keys without a value. `!map` is their set. Refused memory leaves what is borrowed unchanged
+//! and drops what is owned.
 ghost use Rattle.std.specs.Prelude.{[], IfOk};
 ghost use Rattle.blaze_table.specs.Complement.{IsComplement};
 ghost use Rattle.blaze_table.specs.Painted.{ClonesAreAlike};
@@ -10,6 +11,7 @@ use blaze_int::Integer;
 use blaze_streams::{SortedDisjoint, complement};
 use blaze_table::{RangeSetBlaze, RangeTable};
 use std::alloc::{AllocError, Global};
+use std::ops::Not;
 
 /// The set of the keys that have no value.
 pub fn unmapped_keys<T: Integer, V: Eq>(
@@ -54,5 +56,27 @@ impl<T: Integer, V: Eq + Clone> RangeMapBlaze<T, V> {
         }
         let table = RangeTable::from_canonical(alloc, entries)?;
         Ok(RangeMapBlaze { table })
+    }
+}
+
+impl<T: Integer, V: Eq + Drop> Not for RangeMapBlaze<T, V> {
+    type Output = Result<RangeSetBlaze<T>, AllocError>;
+
+    ghost not_gives = { λ map result. IfOk result
+        (λ set. IsComplement unit_eq T.low T.high tt map.entries set) };
+
+    fn not(self) -> Result<RangeSetBlaze<T>, AllocError> {
+        unmapped_keys(&self)
+    }
+}
+
+impl<'a, T: Integer, V: Eq> Not for &'a RangeMapBlaze<T, V> {
+    type Output = Result<RangeSetBlaze<T>, AllocError>;
+
+    ghost not_gives = { λ map result. IfOk result
+        (λ set. IsComplement unit_eq T.low T.high tt map.now.entries set) };
+
+    fn not(self) -> Result<RangeSetBlaze<T>, AllocError> {
+        unmapped_keys(self)
     }
 }

@@ -5,8 +5,7 @@ ghost use Rattle.blaze_table.specs.Chosen.{IsChosen};
 ghost use Rattle.blaze_table.specs.Painted.{ClonesAreAlike};
 
 use crate::map::RangeMapBlaze;
-use crate::operators::lent::lent_chosen;
-use crate::operators::owned::owned_chosen;
+use crate::operators::chosen::{lent_chosen, owned_chosen};
 use blaze_int::Integer;
 use blaze_streams::{ExactlyOne, OwnedRangeValuesIter};
 use std::alloc::AllocError;

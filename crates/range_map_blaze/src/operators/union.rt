@@ -4,9 +4,8 @@ ghost use Rattle.blaze_table.specs.Painted.{ClonesAreAlike};
 ghost use Rattle.range_map_blaze.specs.Union.{IsUnion};
 
 use crate::map::RangeMapBlaze;
+use crate::operators::chosen::{lent_chosen, owned_chosen};
 use crate::operators::cut::are_few;
-use crate::operators::lent::lent_chosen;
-use crate::operators::owned::owned_chosen;
 use blaze_int::Integer;
 use blaze_streams::{OwnedRangeValuesIter, RightFirst, SortedDisjointMap, ValueCarrier};
 use std::alloc::AllocError;

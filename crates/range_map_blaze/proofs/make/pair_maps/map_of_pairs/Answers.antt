@@ -1,8 +1,0 @@
-use Rattle.blaze_table.specs.CanonicalOf.{IsCanonicalOf}
-use Rattle.blaze_table.specs.Entries.{shown_list}
-use Rattle.range_map_blaze.proofs.Made.{made_of}
-use Rattle.range_map_blaze.proofs.make.pair_maps.map_of_pairs.Goals as goal
-
-pub returns : goal.returns
-returns g c =
-    made_of (IsCanonicalOf g.V.PartialEq.eq g.T.Integer.low g.T.Integer.high (shown_list g.T.Integer.rank c.args.pairs.items)) _ _ c.in_ok-table.ensures c.in_ok-entries.ensures

@@ -1,0 +1,6 @@
+use Rattle.std.proofs.Common.{◌≡◌, map}
+use Rattle.blaze_table.specs.Entries.{shown_entry}
+use Rattle.range_map_blaze.proofs.pairs.lent_pairs_of.Given as goal
+
+abbrev pub invariant-loop-item : goal.invariant-loop-item
+invariant-loop-item g l = map (shown_entry g.T.Integer.rank (λ v. v.now)) l.pairs.items ≡ map g.P.LentPair.pair l.yielded

@@ -1,0 +1,6 @@
+use Rattle.std.proofs.Common.{◌≡◌, map}
+use Rattle.blaze_table.specs.Entries.{shown_list}
+use Rattle.range_map_blaze.proofs.pairs.pairs_of.Given as goal
+
+abbrev pub invariant-loop-item : goal.invariant-loop-item
+invariant-loop-item g l = shown_list g.T.Integer.rank l.pairs.items ≡ map g.P.Pair.pair l.yielded
