@@ -21,7 +21,7 @@ use std::ops::{RangeBounds, RangeInclusive};
 
 impl<T: Integer, V: Eq + Clone> RangeMapBlaze<T, V> {
     /// Puts a value on a key, over what was there, and returns the value that was there. Refused memory leaves the map
-    /// unchanged.
+    /// unchanged. It takes O(log n) steps with n entries.
     pub fn insert(&mut self, key: T, value: V) -> Result<Option<V>, AllocError>
         requires { ClonesAreAlike V.is_clone V.eq }
         ensures ok { OnOk result
@@ -40,10 +40,11 @@ impl<T: Integer, V: Eq + Clone> RangeMapBlaze<T, V> {
 
     /// Puts a value on the keys of a range, over what was there, and returns whether the number of keys changed.
     ///
-    /// The bounds are those that the range tells: through `RangeBounds` a `RangeInclusive` that was iterated to its end
-    /// has an excluded end and names no key. Bounds that name no key answer false and change nothing. Inside one entry with
-    /// an equal value nothing changes, the stored value neither. Both take no memory. An entry that the range does not touch
-    /// stays, its stored value too. Refused memory leaves the map unchanged.
+    /// The bounds are those that the range tells: through `RangeBounds` a `RangeInclusive` that was iterated to its end has an
+    /// excluded end and names no key. Bounds that name no key answer false and change nothing. Inside one entry with an equal
+    /// value nothing changes, the stored value neither. Both take no memory. An entry that the range does not touch stays, its
+    /// stored value too. Refused memory leaves the map unchanged. It takes O(log n) steps for each of n entries that the range
+    /// touches.
     pub fn ranges_insert<R: RangeBounds<T> + Drop>(
         &mut self,
         range: R,
@@ -115,8 +116,8 @@ impl<T: Integer, V: Eq + Clone> RangeMapBlaze<T, V> {
         }
     }
 
-    /// Takes a key out, and returns the value that was there. Refused memory leaves the map unchanged. No memory is taken
-    /// where the key has no value or is an entry of its own.
+    /// Takes a key out, and returns the value that was there. Refused memory leaves the map unchanged. No memory is taken where
+    /// the key has no value or is an entry of its own. It takes O(log n) steps with n entries.
     pub fn remove(&mut self, key: T) -> Result<Option<V>, AllocError>
         requires { ClonesAreAlike V.is_clone V.eq }
         ensures counted { OnOk result (IsCountedCut self.old self.new) }
@@ -161,7 +162,8 @@ impl<T: Integer, V: Eq + Clone> RangeMapBlaze<T, V> {
     }
 
     /// Takes the least key out, and returns it with the value that was there; `None` on the empty map. Refused memory leaves
-    /// the map unchanged. No memory is taken on the empty map and where the key is an entry of its own.
+    /// the map unchanged. No memory is taken on the empty map and where the key is an entry of its own. It takes O(log n) steps
+    /// with n entries.
     pub fn pop_first(&mut self) -> Result<Option<(T, V)>, AllocError>
         requires { ClonesAreAlike V.is_clone V.eq }
         ensures ok { IfOk result (λ popped. MatchOption popped ((self.old.entries ≡ [])
@@ -179,8 +181,9 @@ impl<T: Integer, V: Eq + Clone> RangeMapBlaze<T, V> {
         Ok(popped)
     }
 
-    /// Takes the greatest key out, and returns it with the value that was there; `None` on the empty map. Refused memory
-    /// leaves the map unchanged. No memory is taken on the empty map and where the key is an entry of its own.
+    /// Takes the greatest key out, and returns it with the value that was there; `None` on the empty map. Refused memory leaves
+    /// the map unchanged. No memory is taken on the empty map and where the key is an entry of its own. It takes O(log n) steps
+    /// with n entries.
     pub fn pop_last(&mut self) -> Result<Option<(T, V)>, AllocError>
         requires { ClonesAreAlike V.is_clone V.eq }
         ensures ok { IfOk result (λ popped. MatchOption popped ((self.old.entries ≡ [])
@@ -198,7 +201,8 @@ impl<T: Integer, V: Eq + Clone> RangeMapBlaze<T, V> {
         Ok(popped)
     }
 
-    /// Keeps the keys below one, and returns the map of the keys from it on. Refused memory leaves the map unchanged.
+    /// Keeps the keys below one, and returns the map of the keys from it on. Refused memory leaves the map unchanged. It takes
+    /// O(log n) steps with n entries, and one for each entry of the lesser part.
     pub fn split_off(&mut self, key: T) -> Result<Self, AllocError>
         requires { ClonesAreAlike V.is_clone V.eq }
         ensures uncounted { IfOk result (λ from. (self.new
@@ -214,7 +218,8 @@ impl<T: Integer, V: Eq + Clone> RangeMapBlaze<T, V> {
 }
 
 impl<T: Integer, V: Eq + Drop> RangeMapBlaze<T, V> {
-    /// Keeps the entries that a closure returns true at: one call for each, ascending, and no other. No memory is taken.
+    /// Keeps the entries that a closure returns true at: one call for each, ascending, and no other. No memory is taken. It
+    /// takes a step for each entry, and a search for each that goes.
     pub fn ranges_retain<F: FnMut(&RangeInclusive<T>, &V) -> bool>(&mut self, f: F)
         requires { IsCallableAtEach T.rank F.FnMut f self.old.entries }
         ensures range_map { IsRangeMap V.eq T.low T.high self.new.entries }
@@ -226,8 +231,8 @@ impl<T: Integer, V: Eq + Drop> RangeMapBlaze<T, V> {
 }
 
 impl<T: Integer, V: Eq + Clone> RangeMapBlaze<T, V> {
-    /// Keeps the keys that a closure returns true at: one call for each key that has a value, ascending, with the stored
-    /// value. Refused memory leaves the map unchanged.
+    /// Keeps the keys that a closure returns true at: one call for each key that has a value, ascending, with the stored value.
+    /// Refused memory leaves the map unchanged. It takes a step for each key that has a value.
     pub fn retain<F: Fn(&T, &V) -> bool>(&mut self, f: F) -> Result<(), AllocError>
         requires callable { IsCallableAtPairs F.Fn f T.of_rank self.old.entries }
         requires clones { ClonesAreAlike V.is_clone V.eq }

@@ -19,9 +19,9 @@ use std::alloc::AllocError;
 use std::ops::RangeInclusive;
 
 impl<T: Integer, V: Eq + Clone> RangeMapBlaze<T, V> {
-    /// Puts values on keys, in order: the later pair wins. Successive pairs whose keys touch or are the same and whose
-    /// values are equal are painted as one. Refused memory leaves a first part of the pairs painted, perhaps none, and
-    /// drops the others.
+    /// Puts values on keys, in order: the later pair wins. Successive pairs whose keys touch or are the same and whose values
+    /// are equal are painted as one. Refused memory leaves a first part of the pairs painted, perhaps none, and drops the
+    /// others. It takes O(log n) steps for each pair, with n entries.
     pub fn extend_points<I: IntoIterator<Item = (T, V)>>(
         &mut self,
         iter: I,
@@ -38,8 +38,9 @@ impl<T: Integer, V: Eq + Clone> RangeMapBlaze<T, V> {
     }
 
     /// Puts values on ranges, in order: the later pair wins, and a pair whose range is reversed paints nothing. Successive
-    /// pairs whose ranges touch or overlap and whose values are equal are painted as one. Refused memory leaves a first
-    /// part of the pairs painted, perhaps none, and drops the others.
+    /// pairs whose ranges touch or overlap and whose values are equal are painted as one. Refused memory leaves a first part of
+    /// the pairs painted, perhaps none, and drops the others. It takes O(log n) steps for each pair and each entry that it
+    /// touches, with n entries.
     pub fn extend_ranges<I: IntoIterator<Item = (RangeInclusive<T>, V)>>(
         &mut self,
         iter: I,
@@ -79,7 +80,8 @@ impl<T: Integer, V: Eq + Clone> RangeMapBlaze<T, V> {
     }
 
     /// Puts values on ranges one by one, in order: the later pair wins, and a pair whose range is reversed paints nothing.
-    /// Refused memory leaves a first part of the pairs painted, perhaps none, and drops the others.
+    /// Refused memory leaves a first part of the pairs painted, perhaps none, and drops the others. It takes O(log n) steps for
+    /// each pair and each entry that it touches, with n entries.
     pub fn extend_simple<I: IntoIterator<Item = (RangeInclusive<T>, V)>>(
         &mut self,
         iter: I,

@@ -125,8 +125,8 @@ fn with_gaps<T: Integer, V: Eq + Clone>(
 }
 
 impl<T: Integer, V: Eq + Clone> RangeMapBlaze<T, V> {
-    /// Every key of the type: `Some` of a clone of its value where it has one, and `None`, a value too, elsewhere. Each
-    /// entry's value is cloned once. Refused memory leaves the map unchanged and drops the clones.
+    /// Every key of the type: `Some` of a clone of its value where it has one, and `None`, a value too, elsewhere. Each entry's
+    /// value is cloned once. Refused memory leaves the map unchanged and drops the clones. It takes O(n) steps with n entries.
     pub fn fill_gaps(&self) -> Result<RangeMapBlaze<T, Option<V>>, AllocError>
         requires { ClonesAreAlike V.is_clone V.eq }
         ensures filled { IfOk result

@@ -31,7 +31,8 @@ use std::marker::Model;
 use std::ops::{RangeBounds, RangeInclusive};
 
 impl<T: Integer, V: Eq + Clone> RangeMapBlaze<T, V> {
-    /// The keys that have a value, ascending, each with its value. No call of the iterator takes memory.
+    /// The keys that have a value, ascending, each with its value. No call of the iterator takes memory. It takes one step, and
+    /// one for each key.
     pub fn iter(&self) -> IterMap<T, &V, RangeValuesIter<'_, T, V>>
         ensures unopened { result ≡ unopened self.now.entries }
         ensures pairs { pairs_left T.of_rank (λ es. es) result
@@ -40,7 +41,7 @@ impl<T: Integer, V: Eq + Clone> RangeMapBlaze<T, V> {
         IterMap::of_table(&self.table)
     }
 
-    /// The keys that have a value, ascending. No call of the iterator takes memory.
+    /// The keys that have a value, ascending. No call of the iterator takes memory. It takes one step, and one for each key.
     pub fn keys(&self) -> Keys<T, &V, RangeValuesIter<'_, T, V>>
         ensures unopened { result ≡ unopened self.now.entries }
         ensures keys { keys_left T.of_rank (λ es. es) result
@@ -49,7 +50,8 @@ impl<T: Integer, V: Eq + Clone> RangeMapBlaze<T, V> {
         Keys::of_table(&self.table)
     }
 
-    /// The value of each key that has one, in the order of the keys. No call of the iterator takes memory.
+    /// The value of each key that has one, in the order of the keys. No call of the iterator takes memory. It takes one step,
+    /// and one for each key.
     pub fn values(&self) -> Values<T, &V, RangeValuesIter<'_, T, V>>
         ensures unopened { result ≡ unopened self.now.entries }
         ensures values { values_left T.of_rank (λ es. es) result
@@ -60,7 +62,8 @@ impl<T: Integer, V: Eq + Clone> RangeMapBlaze<T, V> {
 }
 
 impl<T: Integer, V: Eq + Drop> RangeMapBlaze<T, V> {
-    /// The keys that have a value, ascending, by value. No value is cloned, and no call of the iterator takes memory.
+    /// The keys that have a value, ascending, by value. No value is cloned, and no call of the iterator takes memory. It takes
+    /// one step, and one for each key.
     pub fn into_keys(self) -> IntoKeys<T, V>
         ensures unopened { result ≡ unopened self.entries }
         ensures keys { keys_left T.of_rank (λ es. es) result
@@ -69,8 +72,8 @@ impl<T: Integer, V: Eq + Drop> RangeMapBlaze<T, V> {
         IntoKeys::new(self.table)
     }
 
-    /// The value of each key that has one, in the order of the keys, by value. It is cloned for every key but the last of
-    /// a range. After a refused clone the iterator has ended.
+    /// The value of each key that has one, in the order of the keys, by value. It is cloned for every key but the last of a
+    /// range. After a refused clone the iterator has ended. It takes one step, and one for each key.
     pub fn into_values(self) -> IntoValues<T, V>
         ensures unopened { result ≡ unopened self.entries }
         ensures values { values_left T.of_rank (λ es. es) result
@@ -108,8 +111,8 @@ impl<T: Integer, V: Eq + Clone> IntoIterator for RangeMapBlaze<T, V> {
 }
 
 impl<T: Integer, V: Eq> RangeMapBlaze<T, V> {
-    /// The ranges of the keys that have a value, ascending. Touching ranges are one, whatever their values. No memory is
-    /// taken.
+    /// The ranges of the keys that have a value, ascending. Touching ranges are one, whatever their values. No memory is taken.
+    /// It takes one step, and one for each entry.
     pub fn ranges(&self) -> MapRangesIter<'_, T, V>
         ensures { AreKeyRanges T.low T.high self.now.entries result }
     {
@@ -118,8 +121,8 @@ impl<T: Integer, V: Eq> RangeMapBlaze<T, V> {
 }
 
 impl<T: Integer, V: Eq + Drop> RangeMapBlaze<T, V> {
-    /// The ranges of the keys that have a value, ascending, by value. Touching ranges are one, whatever their values. No
-    /// memory is taken.
+    /// The ranges of the keys that have a value, ascending, by value. Touching ranges are one, whatever their values. No memory
+    /// is taken. It takes one step, and one for each entry.
     pub fn into_ranges(self) -> MapIntoRangesIter<T, V>
         ensures { AreKeyRanges T.low T.high self.entries result }
     {
@@ -127,7 +130,7 @@ impl<T: Integer, V: Eq + Drop> RangeMapBlaze<T, V> {
     }
 
     /// The entries by value, ascending, from both ends: each range with its value, which an `Rc` shares. All memory is taken
-    /// here, and none by the iterator. Refused memory drops the map.
+    /// here, and none by the iterator. Refused memory drops the map. It takes O(n) steps with n entries.
     pub fn into_range_values(self) -> Result<IntoRangeValuesIter<T, V>, AllocError>
         ensures { IfOk result (λ iter. iter ≡ self.entries) }
     {

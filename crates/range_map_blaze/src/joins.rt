@@ -79,7 +79,8 @@ fn joined<
 
 impl<T: Integer, V: Eq + Clone> RangeMapBlaze<T, V> {
     /// The keys of the map, each with what a closure returns at its entry's value: one call for each entry, ascending. Touching
-    /// entries with equal results are one. Refused memory leaves the map unchanged and drops what it returned.
+    /// entries with equal results are one. Refused memory leaves the map unchanged and drops what it returned. It takes O(n)
+    /// steps with n entries.
     pub fn transform_values<W: Eq + Clone, F: FnMut(&V) -> W>(
         &self,
         f: F,
@@ -96,7 +97,7 @@ impl<T: Integer, V: Eq + Clone> RangeMapBlaze<T, V> {
 
     /// What a closure returns where both maps have a value: one call for each of the greatest ranges on which neither changes
     /// and both are there, ascending. Touching equal results are one entry. Refused memory leaves both maps unchanged and drops
-    /// the answers.
+    /// the answers. It takes O(n + m) steps with n and m entries.
     pub fn inner_join<V2: Eq + Clone, W: Eq + Clone, F: FnMut(&V, &V2) -> W>(
         &self,
         other: &RangeMapBlaze<T, V2>,

@@ -194,7 +194,8 @@ impl<T: Integer, V: Eq + Clone> RangeMapBlaze<T, V> {
         map_of_lent(alloc, iter)
     }
 
-    /// The map of an array of keys with values, in order: the later pair wins. Refused memory drops the pairs.
+    /// The map of an array of keys with values, in order: the later pair wins. Refused memory drops the pairs. It takes O(n log
+    /// n) steps for n pairs, and one pass where they ascend.
     pub fn from_array<const N: usize>(alloc: Global, items: [(T, V); N]) -> Result<Self, AllocError>
         requires { ClonesAreAlike V.is_clone V.eq }
         ensures { IfOk result (IsMade (IsCanonicalOf V.eq T.low T.high
@@ -205,7 +206,8 @@ impl<T: Integer, V: Eq + Clone> RangeMapBlaze<T, V> {
         Ok(new)
     }
 
-    /// The map of what is left of a stream, with a value of each carrier. Refused memory drops the stream.
+    /// The map of what is left of a stream, with a value of each carrier. Refused memory drops the stream. It takes O(n) steps
+    /// for n ranges.
     pub fn from_sorted_disjoint_map<VC: ValueCarrier<Value = V>, I: SortedDisjointMap<T, VC>>(
         alloc: Global,
         stream: I,

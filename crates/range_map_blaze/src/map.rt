@@ -43,7 +43,7 @@ impl<T: Integer, V: Eq> Model for RangeMapBlaze<T, V> {
 }
 
 impl<T: Integer, V: Eq> RangeMapBlaze<T, V> {
-    /// The empty map.
+    /// The empty map. It takes no memory.
     pub fn new(alloc: Global) -> Self
         ensures { result ≡ uncounted [] }
     {
@@ -52,14 +52,14 @@ impl<T: Integer, V: Eq> RangeMapBlaze<T, V> {
         }
     }
 
-    /// The empty map.
+    /// The empty map. It takes no memory.
     pub fn default(alloc: Global) -> Self
         ensures { result ≡ uncounted [] }
     {
         Self::new(alloc)
     }
 
-    /// The number of keys that have a value.
+    /// The number of keys that have a value. It takes one step.
     pub fn len(&self) -> T::SafeLen
         ensures lengths { pos (T.SafeLen.number result) ≡ keys_in self.now.entries }
         ensures mapped { T.SafeLen.number result ≡ mapped_keys T.low T.high (at self.now.entries) }
@@ -67,14 +67,14 @@ impl<T: Integer, V: Eq> RangeMapBlaze<T, V> {
         self.table.len()
     }
 
-    /// Whether no key has a value.
+    /// Whether no key has a value. It takes one step.
     pub fn is_empty(&self) -> bool
         ensures { IsTrue result ↔ (self.now.entries ≡ []) }
     {
         self.ranges_len() == 0
     }
 
-    /// Whether every key of the type has a value.
+    /// Whether every key of the type has a value. It takes one step.
     pub fn is_universal(&self) -> bool
         ensures { IsTrue result ↔ ((k : ℤ) → T.low ≤ℤ k → k ≤ℤ T.high
             → IsSome (at self.now.entries k)) }
@@ -84,7 +84,7 @@ impl<T: Integer, V: Eq> RangeMapBlaze<T, V> {
         !differ(self.len(), length(first, last))
     }
 
-    /// The number of entries. They are the only shortest list with the map's content.
+    /// The number of entries. They are the only shortest list with the map's content. It takes one step.
     pub fn ranges_len(&self) -> usize
         ensures count { result ≡ length self.now.entries }
         ensures shortest { IsShortest V.eq self.now.entries }
@@ -102,7 +102,7 @@ impl<T: Integer, V: Eq> RangeMapBlaze<T, V> {
         self.ranges_len()
     }
 
-    /// The entries, ascending: each range with its value, from both ends.
+    /// The entries, ascending: each range with its value, from both ends. It takes one step, and one for each entry.
     pub fn range_values(&self) -> RangeValuesIter<'_, T, V>
         ensures { result ≡ self.now.entries }
     {
@@ -140,7 +140,7 @@ impl<T: Integer, V: Eq> RangeMapBlaze<T, V> {
 }
 
 impl<T: Integer, V: Eq + Drop> RangeMapBlaze<T, V> {
-    /// Takes all entries out. No entry is counted.
+    /// Takes all entries out. No entry is counted. It takes O(n) steps with n entries.
     pub fn clear(&mut self)
         ensures { self.new ≡ record self.old { entries = [] } }
     {
@@ -149,7 +149,8 @@ impl<T: Integer, V: Eq + Drop> RangeMapBlaze<T, V> {
 }
 
 impl<T: Integer, V: Eq + Clone> RangeMapBlaze<T, V> {
-    /// A map of the same ranges, each with a clone of its value. Refused memory leaves this map unchanged.
+    /// A map of the same ranges, each with a clone of its value. Refused memory leaves this map unchanged. It takes O(n) steps
+    /// with n entries.
     pub fn clone(&self) -> Result<Self, AllocError>
         requires { ClonesAreAlike V.is_clone V.eq }
         ensures { IfOk result (IsMade (SameEntries V.eq self.now.entries)) }
@@ -160,7 +161,7 @@ impl<T: Integer, V: Eq + Clone> RangeMapBlaze<T, V> {
 }
 
 impl<T: Integer, V: Eq> RangeMapBlaze<T, V> {
-    /// The value at a key.
+    /// The value at a key. It takes O(log n) steps with n entries.
     pub fn get(&self, key: T) -> Option<&V>
         ensures { option_copied result ≡ at self.now.entries (T.rank key) }
     {
@@ -170,7 +171,7 @@ impl<T: Integer, V: Eq> RangeMapBlaze<T, V> {
         }
     }
 
-    /// A key that has a value, with its value.
+    /// A key that has a value, with its value. It takes O(log n) steps with n entries.
     pub fn get_key_value(&self, key: T) -> Option<(T, &V)>
         ensures { MatchOption result (at self.now.entries (T.rank key)
             ≡ None) (λ pair. (pair.0 ≡ key)
@@ -182,14 +183,14 @@ impl<T: Integer, V: Eq> RangeMapBlaze<T, V> {
         }
     }
 
-    /// Whether a key has a value.
+    /// Whether a key has a value. It takes O(log n) steps with n entries.
     pub fn contains_key(&self, key: T) -> bool
         ensures { IsTrue result ↔ IsSome (at self.now.entries (T.rank key)) }
     {
         self.get(key).is_some()
     }
 
-    /// The entry that holds a key: its range and its value.
+    /// The entry that holds a key: its range and its value. It takes O(log n) steps with n entries.
     pub fn range_at(&self, key: T) -> Option<(RangeInclusive<T>, &V)>
         ensures entry { option_map (shown_range T.rank (λ v. v.now)) result
             ≡ entry_at self.now.entries (T.rank key) }
@@ -202,7 +203,7 @@ impl<T: Integer, V: Eq> RangeMapBlaze<T, V> {
     }
 
     /// The entry that holds a key, or the greatest range of keys without a value that holds it, and `None`. On the empty map
-    /// that is the whole key type.
+    /// that is the whole key type. It takes O(log n) steps with n entries.
     pub fn range_or_gap_at(&self, key: T) -> (RangeInclusive<T>, Option<&V>)
         ensures entry { MatchOption result.1
             ((at self.now.entries (T.rank key) ≡ None)
@@ -222,7 +223,7 @@ impl<T: Integer, V: Eq> RangeMapBlaze<T, V> {
         }
     }
 
-    /// The least key that has a value, with its value.
+    /// The least key that has a value, with its value. It takes O(log n) steps with n entries.
     pub fn first_key_value(&self) -> Option<(T, &V)>
         ensures { MatchOption result (self.now.entries
             ≡ []) (λ pair. IsFirstPair (at self.now.entries) (T.rank pair.0) pair.1.now) }
@@ -237,7 +238,7 @@ impl<T: Integer, V: Eq> RangeMapBlaze<T, V> {
         }
     }
 
-    /// The greatest key that has a value, with its value.
+    /// The greatest key that has a value, with its value. It takes O(log n) steps with n entries.
     pub fn last_key_value(&self) -> Option<(T, &V)>
         ensures { MatchOption result (self.now.entries
             ≡ []) (λ pair. IsLastPair (at self.now.entries) (T.rank pair.0) pair.1.now) }

@@ -77,7 +77,8 @@ fn look<T: Integer, V: Ord>(
 
 impl<T: Integer, V: Ord> RangeMapBlaze<T, V> {
     /// How two maps compare, as `cmp` does. `turns` rises by the number of looks at two first entries, that which returns
-    /// included: at most the numbers of both maps' entries plus one, so no look is at a key. No memory is taken.
+    /// included: at most the numbers of both maps' entries plus one, so no look is at a key. No memory is taken. It takes O(n +
+    /// m) steps with n and m entries.
     pub fn cmp_counted(&self, other: &Self, turns: &mut Turns) -> Ordering
         ensures order { result ≡ pairs_cmp V.cmp self.now.entries other.now.entries }
         ensures few { turns.new ≤ turns.old +

@@ -13,7 +13,7 @@ use blaze_table::{RangeSetBlaze, RangeTable};
 use std::alloc::{AllocError, Global};
 use std::ops::Not;
 
-/// The set of the keys that have no value.
+/// The set of the keys that have no value. It takes O(n) steps with n entries.
 pub fn unmapped_keys<T: Integer, V: Eq>(
     map: &RangeMapBlaze<T, V>,
 ) -> Result<RangeSetBlaze<T>, AllocError>
@@ -31,7 +31,7 @@ pub fn unmapped_keys<T: Integer, V: Eq>(
 }
 
 impl<T: Integer, V: Eq + Clone> RangeMapBlaze<T, V> {
-    /// The map of a clone of a value on every key of the type. Where memory is refused nothing is made.
+    /// The map of a clone of a value on every key of the type. Where memory is refused nothing is made. It takes one clone.
     pub fn universe_with(alloc: Global, value: &V) -> Result<Self, AllocError>
         requires { ClonesAreAlike V.is_clone V.eq }
         ensures { IfOk result
@@ -40,7 +40,8 @@ impl<T: Integer, V: Eq + Clone> RangeMapBlaze<T, V> {
         Self::new(alloc).complement_with(value)
     }
 
-    /// The map of a value on every key that has none here, and nothing elsewhere. Refused memory leaves this map unchanged.
+    /// The map of a value on every key that has none here, and nothing elsewhere. Refused memory leaves this map unchanged. It
+    /// takes O(n) steps with n entries.
     pub fn complement_with(&self, value: &V) -> Result<Self, AllocError>
         requires { ClonesAreAlike V.is_clone V.eq }
         ensures { IfOk result
