@@ -13,6 +13,7 @@ ghost use Rattle.range_map_blaze.specs.Made.{IsMade};
 ghost use Rattle.range_map_blaze.specs.OneRange.{one_range};
 ghost use Rattle.range_map_blaze.specs.Somewhere.{AreGapsSomewhere};
 
+use crate::iterators::{Overlapping, entries_on, no_entries};
 use crate::map::RangeMapBlaze;
 use blaze_int::compare::is_below;
 use blaze_int::{Integer, bounds_of};
