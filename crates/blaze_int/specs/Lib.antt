@@ -5,3 +5,4 @@ pub mod Unsigned
 pub mod Signed
 pub mod Chars
 pub mod UIntPlusOne
+pub mod Newtypes
