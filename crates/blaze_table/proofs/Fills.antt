@@ -6,6 +6,7 @@ pub mod Upwards
 pub mod TakenBack
 pub mod Noted
 pub mod Joints
+pub mod KeptEntries
 pub mod Gaps
 pub mod Fillings
 pub mod Filled

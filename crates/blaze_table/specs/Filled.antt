@@ -1,18 +1,35 @@
 -- What filling gives: a value is put on those keys of a range that have none.
+use Rattle.std.specs.List.{Contains}
 use Rattle.std.specs.Option.{option_or}
 use Rattle.std.specs.Prelude.{◌≡◌, ◌⊎◌, ℤ, pos, ◌+ℤ◌, ◌≤ℤ◌, ◌<ℤ◌, int_le, Bool, ◌&&◌, if◌then◌else◌, List, Option, Some, None, IsSome}
-use Rattle.blaze_table.specs.Entries.{Entry, at, SameOption}
-use Rattle.blaze_table.specs.Canonical.{IsRangeMap}
+use Rattle.blaze_table.specs.Entries.{Entry, entry, at, SameOption}
+use Rattle.blaze_table.specs.Canonical.{IsRangeMap, IsRunStart, IsRunEnd}
 use Rattle.blaze_table.specs.Gap.{IsClearFrom}
 
 -- the content after those keys from l up to h that had no value are given v: what a key had stays
 abbrev pub filled : {V : Type 0} → ℤ → ℤ → V → (ℤ → Option V) → ℤ → Option V
 filled l h v content k = option_or (content k) (if int_le l k && int_le k h then Some v else None)
 
--- what filling with an entry does to a range map: its content is the filled one
+-- an entry of the list starts where e starts, ends where e ends or above, and has the very value of e
+abbrev pub IsKeptIn : {V : Type 0} → List (Entry V) → Entry V → Type 0
+IsKeptIn es e = (h : ℤ) × (e.hi ≤ℤ h) × Contains es (entry e.lo h e.value)
+
+-- each entry that starts where a run of the content starts is in the new list, perhaps with a later end, with its very value
+abbrev pub AreStartsKept : {V : Type 0} → (V → V → Bool) → (ℤ → Option V) → List (Entry V) → List (Entry V) → Type 0
+AreStartsKept {V} eq content old new = (e : Entry V) → Contains old e → IsRunStart eq content e.lo → IsKeptIn new e
+
+-- What is kept of an old list's values where the content becomes the given one. A run of that content that starts with an old
+-- entry has the very value of that entry: so what is joined has the stored value of its first entry. And an entry that is a whole
+-- run of that content, since no equal value is put right below or right above it, is there as it was.
+pub record AreKept {V : Type 0} (eq : V → V → Bool) (content : ℤ → Option V) (old new : List (Entry V)) : Type 0 where
+  pub starts : AreStartsKept eq content old new
+  pub whole : (e : Entry V) → Contains old e → IsRunStart eq content e.lo → IsRunEnd eq content e.hi → Contains new e
+
+-- what filling with an entry does to a range map: its content is the filled one, and the old values are kept
 pub record IsFilled {V : Type 0} (eq : V → V → Bool) (low high : ℤ) (p : Entry V) (old new : List (Entry V)) : Type 0 where
   pub range_map : IsRangeMap eq low high new
   pub content : (k : ℤ) → SameOption eq (at new k) (filled p.lo p.hi p.value (at old) k)
+  pub kept : AreKept eq (filled p.lo p.hi p.value (at old)) old new
 
 -- each key from a up to b has a value
 abbrev pub IsHeldFrom : {V : Type 0} → (ℤ → Option V) → ℤ → ℤ → Type 0

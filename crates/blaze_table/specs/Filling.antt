@@ -5,7 +5,7 @@ use Rattle.blaze_entries.specs.Starts.{start_at, with_entry, without}
 use Rattle.blaze_table.specs.Canonical.{AreKeys, IsCanonical, IsRunStart, HasStart}
 use Rattle.blaze_table.specs.Count.{keys_in}
 use Rattle.blaze_table.specs.Entries.{Entry, entry, at, SameOption, SameContent}
-use Rattle.blaze_table.specs.Filled.{filled, IsFirstGap}
+use Rattle.blaze_table.specs.Filled.{filled, IsFirstGap, IsKeptIn}
 use Rattle.blaze_table.specs.Gap.{IsClearFrom}
 use Rattle.blaze_table.specs.Table.{IsTable}
 
@@ -83,9 +83,10 @@ pub record GoesBack {V : Type 0} (starts : List ℤ) (es old : List (Entry V)) :
   pub there : AreThere starts es
   pub taken : taken starts es ≡ old
 
--- of the keys from l up to h all before a are filled with v, and the gap from a up to b is the next
+-- of the keys from l up to h all before a are filled with v, and the gap from a up to b is the next; each old entry is there
 pub record IsFilling {V : Type 0} (eq : V → V → Bool) (l h : ℤ) (v : V) (starts joints : List ℤ) (old cur : List (Entry V)) (a b : ℤ) : Type 0 where
   pub content : (k : ℤ) → SameOption eq (at cur k) (filled l (a -ℤ pos 1) v (at old) k)
+  pub kept : (e : Entry V) → Contains old e → Contains cur e
   pub from : l ≤ℤ a
   pub order : a ≤ℤ b
   pub to : b ≤ℤ h
@@ -94,16 +95,19 @@ pub record IsFilling {V : Type 0} (eq : V → V → Bool) (l h : ℤ) (v : V) (s
   pub joined : IsJoinedBut eq joints cur
   pub back : GoesBack starts cur old
 
--- the keys from l up to h are filled with v, but for joints
+-- the keys from l up to h are filled with v, but for joints; each old entry is there
 pub record IsFilledBut {V : Type 0} (eq : V → V → Bool) (l h : ℤ) (v : V) (starts joints : List ℤ) (old cur : List (Entry V)) : Type 0 where
   pub content : (k : ℤ) → SameOption eq (at cur k) (filled l h v (at old) k)
+  pub kept : (e : Entry V) → Contains old e → Contains cur e
   pub joined : IsJoinedBut eq joints cur
   pub back : GoesBack starts cur old
 
--- the entry that starts at s, if one does, is one with that before it: the same at each key, and as many keys
+-- the entry that starts at s, if one does, is one with that before it: the same at each key, and as many keys; every other entry
+-- has its very value
 pub record IsJoinedAt {V : Type 0} (eq : V → V → Bool) (low high : ℤ) (s : ℤ) (old new : List (Entry V)) : Type 0 where
   pub ordered : IsOrdered new
   pub are_keys : AreKeys low high new
   pub count : keys_in new ≡ keys_in old
   pub same : SameContent eq new old
   pub starts : (k : ℤ) → HasStart new k → HasStart old k × (k ≡ s → ⊥)
+  pub kept : (e : Entry V) → Contains old e → (e.lo ≡ s → ⊥) → IsKeptIn new e

@@ -8,6 +8,7 @@ use Rattle.blaze_table.specs.Entries.{Entry, entry, at}
 use Rattle.blaze_table.specs.Canonical.{IsRangeMap}
 use Rattle.blaze_table.specs.Filled.{filled, IsFilled, IsHeldFrom}
 use Rattle.blaze_table.proofs.Canonical.Lookup.{by_place, holds_in, holds_under, holds_over}
+use Rattle.blaze_table.proofs.Fills.KeptEntries.{all_kept}
 
 module _ {V : Type 0} where
   module _ (content : ℤ → Option V) (v : V) (l h k : ℤ) where
@@ -36,4 +37,5 @@ pub filled_none : {V : Type 0} (eq : V → V → Bool) (laws : IsEquivalence eq)
 filled_none eq laws low high l h v old r s = record {
   range_map = r;
   content = λ k. same_along eq {a = at old k} refl (sym (filled_held (at old) v l h s k)) (same_itself eq laws (at old k));
+  kept = all_kept eq (filled l h v (at old)) old;
 }

@@ -8,7 +8,7 @@ use Rattle.std.proofs.lemmas.Int.{ints, by_lt_z}
 use Rattle.blaze_entries.proofs.Alike.{same_along, same_itself, same_trans, some_of_same, none_of_same}
 use Rattle.blaze_table.specs.Canonical.{AreKeys, IsCanonical}
 use Rattle.blaze_table.specs.Entries.{Entry, entry, at, holds, SameOption, SameContent}
-use Rattle.blaze_table.specs.Filled.{filled, IsFilled, IsHeldFrom, IsFirstGap}
+use Rattle.blaze_table.specs.Filled.{filled, AreStartsKept, IsFilled, IsHeldFrom, IsFirstGap}
 use Rattle.blaze_table.specs.Filling.{never, IsBeside, IsFilledBut, IsFilling, IsGapFilled, IsJoinedBut, IsOrdered, IsOrderedTable}
 use Rattle.blaze_table.specs.Gap.{IsClearFrom}
 use Rattle.blaze_table.specs.Painted.{painted}
@@ -17,6 +17,8 @@ use Rattle.blaze_table.proofs.Canonical.Lookup.{by_place, holds_in, holds_under,
 use Rattle.blaze_table.proofs.Canonical.Runs.{one_per_run}
 use Rattle.blaze_table.proofs.Fills.Filled.{filled_in, filled_under, filled_over, filled_held, or_some}
 use Rattle.blaze_table.proofs.Fills.Gaps.{joined_more, new_over}
+use Rattle.blaze_table.proofs.Fills.Joints.{run_start_as}
+use Rattle.blaze_table.proofs.Fills.KeptEntries.{are_kept}
 use Rattle.blaze_table.proofs.Fills.Puts.{IsPut, put_in}
 use Rattle.blaze_table.proofs.Fills.TakenBack.{goes_back_more}
 
@@ -81,6 +83,7 @@ module _ {V : Type 0} (eq : V → V → Bool) (laws : IsEquivalence eq) where
   pub filling_first : (old : List (Entry V)) (a b h : ℤ) (v : V) (starts joints : List ℤ) → IsCanonical eq old → IsFirstGap (at old) a h a b → starts ≡ [] → joints ≡ [] → IsFilling eq a h v starts joints old old a b
   filling_first old a b h v starts joints c g q r = subst (λ ss. IsFilling eq a h v ss joints old old a b) (sym q) (subst (λ js. IsFilling eq a h v [] js old old a b) (sym r) (record {
     content = λ k. same_along eq {a = at old k} refl (sym (filled_held (at old) v a (a -ℤ pos 1) (λ j x y. absurd (omega (arith, ints))) k)) (same_itself eq laws (at old k));
+    kept = λ e x. x;
     from = omega (arith, ints);
     order = g.order;
     to = g.to;
@@ -119,6 +122,7 @@ module _ {V : Type 0} (eq : V → V → Bool) (laws : IsEquivalence eq) where
     pub filling_next : (c d : ℤ) → IsFirstGap (at cur) (b +ℤ pos 1) h c d → IsFilling eq l h v more all old new c d
     filling_next c e g = record {
       content = filled_more (at old) (at cur) (at new) v w l a b (c -ℤ pos 1) i.from i.order (omega (arith, ints, g.from)) i.content i.clear (λ k x y. g.held k x (omega (arith, ints))) one like;
+      kept = λ x y. is_put.kept x (i.kept x y);
       from = omega (arith, ints, i.from, i.order, g.from);
       order = g.order;
       to = g.to;
@@ -132,6 +136,7 @@ module _ {V : Type 0} (eq : V → V → Bool) (laws : IsEquivalence eq) where
     pub filling_last : IsHeldFrom (at cur) (b +ℤ pos 1) h → IsFilledBut eq l h v more all old new
     filling_last s = record {
       content = filled_more (at old) (at cur) (at new) v w l a b h i.from i.order i.to i.content i.clear s one like;
+      kept = λ x y. is_put.kept x (i.kept x y);
       joined = joined;
       back = goes_back_more starts more (entry a b w) cur new old d.remembered d.put is_put.absent i.back;
     }
@@ -157,14 +162,17 @@ module _ {V : Type 0} (eq : V → V → Bool) (laws : IsEquivalence eq) where
       (λ m. filled_in content v a h k u m ∙ sym (filled_in content v l h k (omega (arith, ints)) m)))
 
   -- what is filled, and then joined
-  pub filled_whole : (low high l h a b : ℤ) (v : V) (starts joints : List ℤ) (old put new : List (Entry V)) → IsFirstGap (at old) l h a b → IsFilledBut eq a h v starts joints old put
-      → SameContent eq new put → IsCanonical eq new → AreKeys low high new → IsFilled eq low high (entry l h v) old new
-  filled_whole low high l h a b v starts joints old put new g f s c k = record {
+  pub filled_whole : (low high l h a b : ℤ) (v : V) (starts joints : List ℤ) (old put new : List (Entry V)) → IsCanonical eq old → IsFirstGap (at old) l h a b → IsFilledBut eq a h v starts joints old put
+      → SameContent eq new put → AreStartsKept eq (at put) put new → IsCanonical eq new → AreKeys low high new → IsFilled eq low high (entry l h v) old new
+  filled_whole low high l h a b v starts joints old put new d g f s t c k = record {
     range_map = record { runs = one_per_run eq laws new c; keys = k };
-    content = λ j. same_along eq {a = at new j} refl
-        (filled_from (at old) v l a h g.from (omega (arith, ints, g.order, g.to)) g.held j)
-        (same_trans eq laws (at new j) (at put j) (filled a h v (at old) j) (s j) (f.content j));
+    content = λ j. same_trans eq laws (at new j) (at put j) (filled l h v (at old) j) (s j) (whole j);
+    kept = are_kept eq laws (filled l h v (at old)) old new d c (λ j. same_trans eq laws (at new j) (at put j) (filled l h v (at old) j) (s j) (whole j))
+        (λ e x r. t e (f.kept e x) (run_start_as eq laws (filled l h v (at old)) (at put) e.lo whole r));
   }
+    where
+      whole : (j : ℤ) → SameOption eq (at put j) (filled l h v (at old) j)
+      whole j = same_along eq {a = at put j} refl (filled_from (at old) v l a h g.from (omega (arith, ints, g.order, g.to)) g.held j) (f.content j)
 
   -- where there is a gap, not each key has a value
   pub gap_is_not_held : (old : List (Entry V)) (l h a b : ℤ) → IsFirstGap (at old) l h a b → IsHeldFrom (at old) l h → ⊥

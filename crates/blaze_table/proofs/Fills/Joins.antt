@@ -11,6 +11,7 @@ use Rattle.blaze_entries.proofs.Ascending.{by_order, start_none}
 use Rattle.blaze_entries.proofs.Halves.{StartsBelow, more_below}
 use Rattle.blaze_table.specs.Canonical.{AreKeys, HasStart}
 use Rattle.blaze_table.specs.Entries.{Entry, entry, at, entry_at, holds, SameOption, SameContent}
+use Rattle.blaze_table.specs.Filled.{IsKeptIn}
 use Rattle.blaze_table.specs.Filling.{never, IsJoint, IsJoinedAt, IsOrdered}
 use Rattle.blaze_table.specs.LastBelow.{IsLastBelow}
 use Rattle.blaze_table.proofs.Canonical.Lookup.{IsAbove, IsAbove-from_apart, at_in, at_under, at_over, by_place, value-entry_at}
@@ -18,6 +19,8 @@ use Rattle.blaze_table.proofs.Cuts.Splits.{no_last_from}
 use Rattle.blaze_table.proofs.Neighbours.Holders.{Holder, holder, there, end_moved, without-between, starts_behind}
 use Rattle.blaze_table.proofs.Neighbours.NextEntries.{holding_none, holding_some, holding_not}
 use Rattle.blaze_table.proofs.Paints.EditLists.{start_skips}
+use Rattle.blaze_table.proofs.Paints.Kept.{by_first, first_in, later_in}
+use Rattle.blaze_table.proofs.Fills.KeptEntries.{kept_first, kept_later, kept_same}
 use Rattle.blaze_table.proofs.Fills.Upwards.{none_under}
 use Rattle.blaze_table.proofs.Fills.Ordered.{apart_by, start_above}
 
@@ -40,6 +43,11 @@ module _ {V : Type 0} (eq : V → V → Bool) (laws : IsEquivalence eq) (low hig
         | inl p ↦ (inl p, λ q. omega (arith, ints, c.0))
         | inr p ↦ (inr (inr p), λ q. let a = start_above f.hi j fs c.2.2 (IsAbove-from_apart never f fs c.2.1) p in omega (arith, ints, c.2.0))
       ];
+      kept = λ x h n. by_first e (f ∷ fs) x h
+          (λ q. subst (IsKeptIn (entry e.lo f.hi e.value ∷ fs)) q (f.hi, omega (arith, ints, c.0, c.2.0), first_in (entry e.lo f.hi e.value) fs))
+          (λ l. by_first f fs x l
+          (λ q. absurd (n (ap (λ (y : Entry V). y.lo) (sym q))))
+          (λ m. kept_same (entry e.lo f.hi e.value ∷ fs) x (later_in (entry e.lo f.hi e.value) fs x m)));
     };
     above = λ b a. a;
   }
@@ -64,6 +72,9 @@ module _ {V : Type 0} (eq : V → V → Bool) (laws : IsEquivalence eq) (low hig
         | inl p ↦ (inl p, λ q. omega (arith, ints))
         | inr p ↦ let r = i.joined.starts j p in (inr r.0, r.1)
       ];
+      kept = λ x h n. by_first d old x h
+          (λ q. kept_first d new x q)
+          (λ m. kept_later d new x (i.joined.kept x m n));
     };
     above = λ b a. a;
   }
@@ -85,6 +96,7 @@ module _ {V : Type 0} (eq : V → V → Bool) (laws : IsEquivalence eq) (low hig
     count = refl;
     same = λ j. same_itself eq laws (at old j);
     starts = λ j h. (h, λ p. n (subst (HasStart old) p h));
+    kept = λ x h m. kept_same old x h;
   })
 
 module _ {V : Type 0} where

@@ -6,8 +6,10 @@ use Rattle.std.specs.List.{Contains}
 use Rattle.std.proofs.lemmas.List.Elements.{Contains-append_left, Contains-push, Contains-push_cases}
 use Rattle.blaze_entries.proofs.Alike.{same_back, same_itself, same_trans, some_of_same}
 use Rattle.blaze_table.specs.Canonical.{IsCanonical, IsRunStart}
-use Rattle.blaze_table.specs.Entries.{Entry, at, SameOption, SameContent}
+use Rattle.blaze_table.specs.Entries.{Entry, entry, at, SameOption, SameContent}
+use Rattle.blaze_table.specs.Filled.{AreStartsKept}
 use Rattle.blaze_table.specs.Filling.{IsJoint, IsJoinedAt, IsJoinedBut, IsOrdered}
+use Rattle.blaze_table.proofs.Fills.KeptEntries.{kept_further}
 use Rattle.blaze_table.proofs.Fills.Ordered.{canonical_by_starts}
 use Rattle.blaze_table.proofs.Fills.TakenBack.{map_last}
 
@@ -19,7 +21,7 @@ module _ {V : Type 0} (eq : V → V → Bool) (laws : IsEquivalence eq) where
     same_trans eq laws (new (k -ℤ pos 1)) (old (k -ℤ pos 1)) (new k) (s (k -ℤ pos 1)) (same_trans eq laws (old (k -ℤ pos 1)) (old k) (new k) h.1 (same_back eq laws (new k) (old k) (s k))),
   )
 
-  run_start_as : (old new : ℤ → Option V) (k : ℤ) → ((j : ℤ) → SameOption eq (new j) (old j)) → IsRunStart eq old k → IsRunStart eq new k
+  pub run_start_as : (old new : ℤ → Option V) (k : ℤ) → ((j : ℤ) → SameOption eq (new j) (old j)) → IsRunStart eq old k → IsRunStart eq new k
   run_start_as old new k s h = (
     some_of_same eq (old k) (new k) (same_back eq laws (new k) (old k) (s k)) h.0,
     λ q. h.1 (same_trans eq laws (old (k -ℤ pos 1)) (new (k -ℤ pos 1)) (old k) (same_back eq laws (new (k -ℤ pos 1)) (old (k -ℤ pos 1)) (s (k -ℤ pos 1)))
@@ -47,6 +49,13 @@ module _ {V : Type 0} (eq : V → V → Bool) (laws : IsEquivalence eq) where
           ];
       equal = λ k h. joint_as (at es) (at new) k j.same (i.equal k (subst (λ ks. Contains ks k) (sym parts) (Contains-append_left (map rank rest) (rank t ∷ []) k h)));
     }
+
+  -- one joint more: no run starts there
+  pub kept_next : (s low high : ℤ) (start es new : List (Entry V)) → SameContent eq es start → IsJoint eq (at es) s → IsJoinedAt eq low high s es new → AreStartsKept eq (at start) start es → AreStartsKept eq (at start) start new
+  kept_next s low high start es new same joint j kept e c r =
+      let k = kept e c r in
+      let was = joint_as (at es) (at start) s (λ i. same_back eq laws (at es i) (at start i) (same i)) joint in
+      kept_further new e k.0 k.1 (j.kept (entry e.lo k.0 e.value) k.2 (λ q. r.1 (subst (λ i. SameOption eq (at start (i -ℤ pos 1)) (at start i)) (sym q) was.1)))
 
   -- where no joint is left
   pub joined_all : {T : Type 0} (rank : T → ℤ) (joints : List T) (es : List (Entry V)) → length joints ≡ 0 → IsOrdered es → IsJoinedBut eq (map rank joints) es → IsCanonical eq es

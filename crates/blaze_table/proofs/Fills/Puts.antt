@@ -1,6 +1,7 @@
 -- An entry put into a gap of an ordered list.
 use Rattle.std.proofs.Common.{◌≡◌, ℤ, pos, ◌+ℤ◌, ◌-ℤ◌, ◌≤ℤ◌, ◌<ℤ◌, Bool, cond, true, false, List, [], ◌∷◌, Option, Some, None, refl, ◌∙◌, sym, ap, arith, inl, inr}
 use Rattle.std.specs.Prelude.{◌⊎◌}
+use Rattle.std.specs.List.{Contains}
 use Rattle.std.proofs.lemmas.Int.{ints, by_lt_z}
 use Rattle.blaze_entries.specs.Starts.{start_at, with_entry}
 use Rattle.blaze_entries.proofs.Ascending.{by_order}
@@ -11,6 +12,7 @@ use Rattle.blaze_table.specs.Filling.{never, IsOrdered}
 use Rattle.blaze_table.specs.Gap.{IsClearFrom}
 use Rattle.blaze_table.specs.Painted.{painted}
 use Rattle.blaze_table.proofs.Canonical.Lookup.{IsAbove, IsAbove-from_apart, at_in, at_under, at_over, holds_under, holds_over, above_by}
+use Rattle.blaze_table.proofs.Paints.Kept.{by_first, same_in, later_in}
 use Rattle.blaze_table.proofs.Fills.Ordered.{apart_by}
 
 module _ {V : Type 0} (low high : ℤ) (p : Entry V) where
@@ -23,6 +25,7 @@ module _ {V : Type 0} (low high : ℤ) (p : Entry V) where
     pub content : (k : ℤ) → at new k ≡ painted p.lo p.hi p.value (at es) k
     pub starts : (k : ℤ) → HasStart new k → (k ≡ p.lo) ⊎ HasStart es k
     pub absent : start_at p.lo es ≡ None
+    pub kept : (e : Entry V) → Contains es e → Contains new e
 
   some_not : (x : V) (o : Option V) → o ≡ Some x → o ≡ None → ⊥
   some_not x o q r = cc
@@ -51,6 +54,7 @@ module _ {V : Type 0} (low high : ℤ) (p : Entry V) where
       content = λ k. refl;
       starts = λ k h. h;
       absent = none_start es a c;
+      kept = later_in p es;
     }
 
     -- behind an entry that ends below it
@@ -63,6 +67,7 @@ module _ {V : Type 0} (low high : ℤ) (p : Entry V) where
       content = λ k. ap (cond (holds f k) (Some f.value)) (i.content k) ∙ swapped (holds f k) (holds p k) f.value p.value (at fs k) (λ q r. apart k q r);
       starts = λ k h. elim h [ inl q ↦ inr (inl q) | inr q ↦ elim (i.starts k q) [ inl r ↦ inl r | inr r ↦ inr (inr r) ] ];
       absent = skip (i.absent);
+      kept = λ e h. by_first f fs e h (same_in f new e) (λ l. later_in f new e (i.kept e l));
     }
       where
         skip : start_at p.lo fs ≡ None → start_at p.lo (f ∷ fs) ≡ None

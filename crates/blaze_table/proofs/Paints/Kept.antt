@@ -29,7 +29,7 @@ module _ {V : Type 0} where
       ⊎_elim (λ one. ⊎_elim (λ none. none_in e none) first (Contains-push_cases [] f e one)) later (Contains-append_cases (f ∷ []) es e c)
 
   -- the first is in a list that begins with it
-  same_in : (f : Entry V) (es : List (Entry V)) (e : Entry V) → f ≡ e → Contains (f ∷ es) e
+  pub same_in : (f : Entry V) (es : List (Entry V)) (e : Entry V) → f ≡ e → Contains (f ∷ es) e
   same_in f es e q = subst (Contains (f ∷ es)) q (first_in f es)
 
   pub in_from : (k : ℤ) (es : List (Entry V)) (e : Entry V) → Contains es e → k ≤ℤ e.lo → Contains (from k es) e

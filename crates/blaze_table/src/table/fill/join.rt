@@ -3,6 +3,7 @@ ghost use Rattle.std.specs.Prelude.{◌≡◌, map};
 ghost use Rattle.blaze_table.specs.Canonical.{AreKeys, IsCanonical};
 ghost use Rattle.blaze_table.specs.Count.{keys_in};
 ghost use Rattle.blaze_table.specs.Entries.{at, SameContent};
+ghost use Rattle.blaze_table.specs.Filled.{AreStartsKept};
 ghost use Rattle.blaze_table.specs.Filling.{IsJoinedAt, IsJoinedBut, IsJoint, IsOrdered};
 ghost use Rattle.blaze_table.specs.Work.{IsCounted};
 
@@ -38,6 +39,7 @@ pub fn join_all<T: Integer, V: Eq + Drop>(entries: &mut Counted<T, V>, joints: V
     ensures keys { AreKeys T.low T.high entries.new.entries }
     ensures count { keys_in entries.new.entries ≡ keys_in entries.old.entries }
     ensures same { SameContent V.eq entries.new.entries entries.old.entries }
+    ensures kept { AreStartsKept V.eq (at entries.old.entries) entries.old.entries entries.new.entries }
     ensures counted { IsCounted entries.old entries.new }
 {
     let mut joints = joints;

@@ -28,8 +28,8 @@ returns-in-Ok-clause-ok g c =
     subst (λ (s : CountedEntries g.row.V.Denot). IsFilled eq g.T.Integer.low g.T.Integer.high p s.entries new) c.self.view_is
     (filled_whole eq g.met.V.Eq.laws g.T.Integer.low g.T.Integer.high (rank c.args.lo) (rank c.args.hi) (rank c.in-Some.first.start) (rank c.in-Some.first.end) c.args.value
     (map rank c.put_all.new.made.starts.items) (map rank c.put_all.new.made.joints.items)
-    c.self.inside.entries.counted.entries c.put_all.new.entries.counted.entries new c.in-Some.ensures.gap c.in-Ok.ensures.filled
-    c.join_all.ensures.same c.join_all.ensures.canonical c.join_all.ensures.keys)
+    c.self.inside.entries.counted.entries c.put_all.new.entries.counted.entries new c.self.invariant.canonical c.in-Some.ensures.gap c.in-Ok.ensures.filled
+    c.join_all.ensures.same c.join_all.ensures.kept c.join_all.ensures.canonical c.join_all.ensures.keys)
 
 pub returns-in-Ok-clause-held : goal.returns-in-Ok-clause-held
 returns-in-Ok-clause-held g c s =

@@ -1,5 +1,7 @@
 use Rattle.std.proofs.Common.{refl, ◌∙◌, arith}
-use Rattle.blaze_table.proofs.Fills.Joints.{joint_next, joined_next, joined_all, same_then, same_content}
+use Rattle.blaze_table.specs.Entries.{at}
+use Rattle.blaze_table.proofs.Fills.Joints.{joint_next, joined_next, joined_all, kept_next, same_then, same_content}
+use Rattle.blaze_table.proofs.Fills.KeptEntries.{starts_same}
 use Rattle.blaze_table.proofs.Walks.Worked.{counted_none, counted_then}
 use Rattle.blaze_table.proofs.table.fill.join.join_all.Goals as goal
 
@@ -14,6 +16,7 @@ loop-key-init g c = record {
   joined = c.requires.joined;
   count = refl;
   same = same_content g.V.PartialEq.eq g.met.V.Eq.laws c.args.entries.now.entries;
+  kept = starts_same g.V.PartialEq.eq (at c.args.entries.now.entries) c.args.entries.now.entries;
   counted = counted_none c.args.entries.now;
 }
 
@@ -27,6 +30,8 @@ loop-key-preserved g c =
       joined = joined_next g.V.PartialEq.eq g.met.V.Eq.laws g.T.Integer.rank c.loop-key.joints.items c.pop.new.self.items c.in-Some.key c.in-Some.ensures.items c.loop-key.entries.entries i.joined g.T.Integer.low g.T.Integer.high c.join.new.entries.entries j;
       count = j.count ∙ i.count;
       same = same_then g.V.PartialEq.eq g.met.V.Eq.laws c.join.new.entries.entries c.loop-key.entries.entries c.args.entries.now.entries j.same i.same;
+      kept = kept_next g.V.PartialEq.eq g.met.V.Eq.laws (g.T.Integer.rank c.in-Some.key) g.T.Integer.low g.T.Integer.high c.args.entries.now.entries c.loop-key.entries.entries c.join.new.entries.entries i.same
+          (joint_next g.V.PartialEq.eq g.met.V.Eq.laws g.T.Integer.rank c.loop-key.joints.items c.pop.new.self.items c.in-Some.key c.in-Some.ensures.items c.loop-key.entries.entries i.joined) j i.kept;
       counted = counted_then c.args.entries.now c.loop-key.entries c.join.new.entries i.counted c.join.ensures.counted;
     }
 

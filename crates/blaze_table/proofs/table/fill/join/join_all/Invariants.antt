@@ -1,7 +1,8 @@
 use Rattle.std.proofs.Common.{◌≡◌, length, map}
 use Rattle.blaze_table.specs.Canonical.{AreKeys}
 use Rattle.blaze_table.specs.Count.{keys_in}
-use Rattle.blaze_table.specs.Entries.{SameContent}
+use Rattle.blaze_table.specs.Entries.{at, SameContent}
+use Rattle.blaze_table.specs.Filled.{AreStartsKept}
 use Rattle.blaze_table.specs.Filling.{IsJoinedBut, IsOrdered}
 use Rattle.blaze_table.specs.Work.{IsCounted}
 use Rattle.blaze_table.proofs.table.fill.join.join_all.Given as goal
@@ -14,6 +15,7 @@ invariant-loop-key g l = record {
   joined : IsJoinedBut g.V.PartialEq.eq (map g.T.Integer.rank l.joints.items) l.entries.entries;
   count : keys_in l.entries.entries ≡ keys_in l.fn.entries.entries;
   same : SameContent g.V.PartialEq.eq l.entries.entries l.fn.entries.entries;
+  kept : AreStartsKept g.V.PartialEq.eq (at l.fn.entries.entries) l.fn.entries.entries l.entries.entries;
   counted : IsCounted l.fn.entries l.entries;
 }
 

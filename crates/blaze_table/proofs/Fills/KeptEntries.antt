@@ -1,0 +1,69 @@
+-- Entries that a fill keeps, with their very values.
+use Rattle.std.proofs.Common.{◌≡◌, ℤ, pos, ◌+ℤ◌, ◌≤ℤ◌, ◌<ℤ◌, Bool, List, [], ◌∷◌, Option, Some, refl, ◌∙◌, sym, subst, arith}
+use Rattle.std.specs.Cmp.{IsEquivalence}
+use Rattle.std.specs.List.{Contains}
+use Rattle.std.proofs.lemmas.Int.{ints, by_lt_z}
+use Rattle.blaze_entries.proofs.Alike.{same_along, same_back, same_trans}
+use Rattle.blaze_table.specs.Canonical.{IsCanonical}
+use Rattle.blaze_table.specs.Entries.{Entry, entry, at, SameOption}
+use Rattle.blaze_table.specs.Filled.{IsKeptIn, AreStartsKept, AreKept}
+use Rattle.blaze_table.proofs.Canonical.Lookup.{IsAbove-from_apart, at_in, at_over}
+use Rattle.blaze_table.proofs.Paints.Kept.{by_first, same_in, later_in, over_in}
+
+module _ {V : Type 0} where
+  none_in : {P : Type 0} (e : Entry V) → Contains [] e → P
+  none_in e (k, u, q) = absurd (omega arith)
+
+  -- an entry of the list, as it is
+  pub kept_same : (es : List (Entry V)) (e : Entry V) → Contains es e → IsKeptIn es e
+  kept_same es e c = (e.hi, omega (arith, ints), c)
+
+  pub kept_first : (f : Entry V) (es : List (Entry V)) (e : Entry V) → f ≡ e → IsKeptIn (f ∷ es) e
+  kept_first f es e q = kept_same (f ∷ es) e (same_in f es e q)
+
+  pub kept_later : (f : Entry V) (es : List (Entry V)) (e : Entry V) → IsKeptIn es e → IsKeptIn (f ∷ es) e
+  kept_later f es e k = (k.0, k.1, later_in f es (entry e.lo k.0 e.value) k.2)
+
+  -- what is kept further, where it has a later end already
+  pub kept_further : (es : List (Entry V)) (e : Entry V) (h : ℤ) → e.hi ≤ℤ h → IsKeptIn es (entry e.lo h e.value) → IsKeptIn es e
+  kept_further es e h u k = (k.0, omega (arith, ints, u, k.1), k.2)
+
+module _ {V : Type 0} (eq : V → V → Bool) where
+  pub starts_same : (content : ℤ → Option V) (es : List (Entry V)) → AreStartsKept eq content es es
+  starts_same content es e c s = kept_same es e c
+
+  -- where nothing changes, all is kept
+  pub all_kept : (content : ℤ → Option V) (es : List (Entry V)) → AreKept eq content es es
+  all_kept content es = record { starts = starts_same content es; whole = λ e c s t. c }
+
+  -- what a canonical list has at the keys of an entry
+  pub value_in : (es : List (Entry V)) (e : Entry V) (k : ℤ) → IsCanonical eq es → Contains es e → e.lo ≤ℤ k → k ≤ℤ e.hi → at es k ≡ Some e.value
+  value_in [] e k d c l h = none_in e c
+  value_in (f ∷ fs) e k d c l h = by_first f fs e c
+      (λ q. subst (λ (x : Entry V). at (f ∷ fs) k ≡ Some x.value) q (at_in f fs k (subst (λ (x : Entry V). x.lo ≤ℤ k) (sym q) l) (subst (λ (x : Entry V). k ≤ℤ x.hi) (sym q) h)))
+      (λ m. let o = over_in eq f.hi fs e (IsAbove-from_apart eq f fs d.1) d.2 m in at_over f fs k (omega (arith, ints, o.0)) ∙ value_in fs e k d.2 m l h)
+
+  -- no range is empty
+  order_in : (es : List (Entry V)) (e : Entry V) → IsCanonical eq es → Contains es e → e.lo ≤ℤ e.hi
+  order_in [] e d c = none_in e c
+  order_in (f ∷ fs) e d c = by_first f fs e c
+      (λ q. subst (λ (x : Entry V). x.lo ≤ℤ x.hi) q d.0)
+      (λ m. order_in fs e d.2 m)
+
+  -- an entry at whose end a run of the content ends has no later end
+  pub are_kept : (laws : IsEquivalence eq) (content : ℤ → Option V) (old new : List (Entry V)) → IsCanonical eq old → IsCanonical eq new → ((k : ℤ) → SameOption eq (at new k) (content k))
+      → AreStartsKept eq content old new → AreKept eq content old new
+  are_kept laws content old new d f same starts = record {
+    starts = starts;
+    whole = λ e c s t.
+        let k = starts e c s in
+        let lo = order_in old e d c in
+        let further : e.hi <ℤ k.0 → ⊥ = λ l. t.1 (beside e.hi (e.hi +ℤ pos 1) e.value
+        (value_in new (entry e.lo k.0 e.value) e.hi f k.2 lo (omega (arith, ints)))
+        (value_in new (entry e.lo k.0 e.value) (e.hi +ℤ pos 1) f k.2 (omega (arith, ints)) (omega (arith, ints)))) in
+        subst (λ h. Contains new (entry e.lo h e.value)) (by_lt_z e.hi k.0 (λ l. absurd (further l)) (λ m. omega (arith, ints, k.1))) k.2;
+  }
+    where
+      beside : (a b : ℤ) (v : V) → at new a ≡ Some v → at new b ≡ Some v → SameOption eq (content a) (content b)
+      beside a b v p q = same_trans eq laws (content a) (at new a) (content b) (same_back eq laws (at new a) (content a) (same a))
+          (same_along eq {a = at new b} (q ∙ sym p) refl (same b))
