@@ -107,6 +107,13 @@ module _ {F T V : Type 0} (R : F → T × V → Bool → F → Type 0) (f : F) (
           content = λ j. same_along eq (ap (λ l. at l j) (sym a.glued)) (sym (value j)) (like j);
         }
 
+  -- of no keys
+  pub more_none : (of_rank : ℤ → T) (lo : ℤ) (v : V) (es : List (Entry V)) → KeepsMore R f rank eq low high (pairs_from of_rank lo (nat_of (lo -ℤ lo)) v) lo lo es es
+  more_none of_rank lo v es pairs h =
+      let none : lo -ℤ lo ≡ pos 0 = omega (arith, ints) in
+      subst (λ n. IsKept R f rank eq low high (pairs ++ pairs_from of_rank lo (nat_of n) v) lo es) (sym none)
+      (subst (λ ps. IsKept R f rank eq low high ps lo es) (sym (append-nil pairs)) h)
+
   -- the keys from lo up to before k, and then k
   pub more_next : (of_rank : ℤ → T) (lo k next : ℤ) (v : V) (old mid new : List (Entry V)) → lo ≤ℤ k → next ≡ k +ℤ pos 1
       → KeepsMore R f rank eq low high (pairs_from of_rank lo (nat_of (k -ℤ lo)) v) lo k old mid → KeepsMore R f rank eq low high (pairs_from of_rank k 1 v) k (k +ℤ pos 1) mid new

@@ -33,7 +33,7 @@ module _ {V : Type 0} where
   within_held es (w ∷ held) zero h = omega arith
   within_held es (w ∷ held) (suc place) h = let l = within_held es held place h in omega (arith, l)
 
-  within_entries : (es : List (Entry V)) (at : ℕ) → IsSome (option_map (λ (e : Entry V). e.value) (slice_get es at)) → at < length es
+  pub within_entries : (es : List (Entry V)) (at : ℕ) → IsSome (option_map (λ (e : Entry V). e.value) (slice_get es at)) → at < length es
   within_entries [] at h = cc
   within_entries (e ∷ es) zero h = omega arith
   within_entries (e ∷ es) (suc at) h = let l = within_entries es at h in omega (arith, l)

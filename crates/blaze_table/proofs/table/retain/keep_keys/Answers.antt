@@ -8,7 +8,7 @@ use Rattle.blaze_table.specs.Pairs.{pairs_from}
 use Rattle.blaze_table.specs.Retain.{AnswersAtPair, TakesPair}
 use Rattle.blaze_table.specs.Entries.{shown_list}
 use Rattle.blaze_table.proofs.Pairs.AtPairs.{all_at}
-use Rattle.blaze_table.proofs.Pairs.Keeping.{more_next}
+use Rattle.blaze_table.proofs.Pairs.Keeping.{more_none, more_next}
 use Rattle.blaze_table.proofs.table.retain.keep_keys.Goals as goal
 
 pub keep_key-requires-clause-callable : goal.keep_key-requires-clause-callable
@@ -58,3 +58,38 @@ returns-clause-counted g c =
     let i = c.loop-end.invariant in
     let end : rank c.loop-end.key ≡ rank c.args.end = omega (arith, ints, i.to, lt_fails (rank c.loop-end.key) (rank c.args.end) (sym c.is_below.ensures ∙ c.loop-end-test.false)) in
     omega (arith, ints, end, i.counted, c.in_ok-left-2.ensures.counted)
+
+pub loop-end-init : goal.loop-end-init
+loop-end-init g c =
+    let rank = g.T.Integer.rank in
+    record {
+      from = omega (arith, ints);
+      to = c.requires.order;
+      kept = more_none (AnswersAtPair g.F.Fn) c.args.f.now rank g.V.PartialEq.eq g.T.Integer.low g.T.Integer.high g.T.Integer.of_rank (rank c.args.start) c.args.value.now _;
+      room = c.requires.counted;
+      counted = omega (arith, ints);
+    }
+
+pub keep_key-requires-clause-counted : goal.keep_key-requires-clause-counted
+keep_key-requires-clause-counted g c =
+    let rank = g.T.Integer.rank in
+    let less = lt_holds (rank c.loop-end.key) (rank c.args.end) (sym c.is_below.ensures ∙ c.loop-end-test.true) in
+    omega (arith, ints, less, c.loop-end.invariant.room)
+
+pub add_one-key-requires : goal.add_one-key-requires
+add_one-key-requires g c =
+    let rank = g.T.Integer.rank in
+    let less = lt_holds (rank c.loop-end.key) (rank c.args.end) (sym c.is_below.ensures ∙ c.loop-end-test.true) in
+    omega (arith, ints, less, c.in_hand.ensures.to)
+
+pub loop-end-smaller : goal.loop-end-smaller
+loop-end-smaller g c =
+    let rank = g.T.Integer.rank in
+    let less = lt_holds (rank c.loop-end.key) (rank c.args.end) (sym c.is_below.ensures ∙ c.loop-end-test.true) in
+    let next = c.add_one-key.ensures in
+    let old = nat_of-pos (rank c.args.end -ℤ rank c.loop-end.key) (omega (arith, ints, less)) in
+    let new = nat_of-pos (rank c.args.end -ℤ rank c.add_one-key.result) (omega (arith, ints, less, next)) in
+    omega (arith, ints, next, old, new)
+
+pub keep_key-requires-2-clause-counted : goal.keep_key-requires-2-clause-counted
+keep_key-requires-2-clause-counted g c = omega (arith, ints, c.loop-end.invariant.to, c.loop-end.invariant.room)
