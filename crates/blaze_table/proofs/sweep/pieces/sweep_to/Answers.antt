@@ -1,5 +1,6 @@
-use Rattle.std.proofs.Common.{◌≡◌, ◌≤ℤ◌, ◌<ℤ◌, ◌+ℤ◌, pos, ◌∙◌, sym, subst, arith}
-use Rattle.std.specs.Prelude.{◌∷◌, IfSome, IsPermutation}
+use Rattle.std.proofs.Common.{◌≡◌, ◌≤ℤ◌, ◌<ℤ◌, ◌+ℤ◌, pos, ◌∙◌, refl, sym, subst, arith}
+use Rattle.std.specs.Prelude.{◌∷◌, IfSome, IsPermutation, IsSome}
+use Rattle.std.proofs.lemmas.Option.{slice_get_within}
 use Rattle.std.specs.BinaryHeap.{heap_items}
 use Rattle.std.proofs.lemmas.Int.{ints}
 use Rattle.blaze_int.proofs.Comparisons.{le_holds, le_fails, lt_holds, lt_fails}
@@ -7,7 +8,7 @@ use Rattle.blaze_table.specs.Entries.{shown_list}
 use Rattle.blaze_table.specs.Pieces.{ArePieces}
 use Rattle.blaze_table.proofs.Sweeping.Orders.{step_up, step_to, step_past, weaker}
 use Rattle.blaze_table.proofs.Sweeping.Pieces.{pieces_to, pieces_rest}
-use Rattle.blaze_table.proofs.Sweeping.Waitings.{top_read, waiting_from, waiting_less}
+use Rattle.blaze_table.proofs.Sweeping.Waitings.{top_pair, top_read, waiting_from, waiting_less}
 use Rattle.blaze_table.proofs.sweep.pieces.sweep_to.Goals as goal
 
 pub returns-then-is_at_most-clause-waits : goal.returns-then-is_at_most-clause-waits
@@ -85,3 +86,32 @@ returns-clause-made g c =
     let rank = g.T.Integer.rank in
     let i = c.loop-top.invariant in
     pieces_rest rank c.args.placed.now g.T.Integer.low (rank c.loop-top.at) (rank c.args.to) i.order (heap_items c.loop-top.waiting) i.waits (shown_list rank c.loop-top.pieces.items) i.made c.in_default.ensures.none
+
+pub loop-top-init : goal.loop-top-init
+loop-top-init g c = record { order = c.requires.order; heap = c.requires.heap; waits = c.requires.waits; made = c.requires.made }
+
+pub offset_bounds-placed-index : goal.offset_bounds-placed-index
+offset_bounds-placed-index g c =
+    let begun = top_pair g.T.Integer.rank c.args.placed.now (g.T.Integer.rank c.loop-top.at) (g.T.Integer.rank c.args.to) (heap_items c.loop-top.waiting) c.loop-top.invariant.waits c.in-Some.top c.in-Some.ensures.top in
+    let within = slice_get_within c.args.placed.now c.in-Some.top.1 begun.pair begun.is in
+    omega (arith, within)
+
+pub bounds-placed-index : goal.bounds-placed-index
+bounds-placed-index g c =
+    let begun = top_pair g.T.Integer.rank c.args.placed.now (g.T.Integer.rank c.loop-top.at) (g.T.Integer.rank c.args.to) (heap_items c.loop-top.waiting) c.loop-top.invariant.waits c.in-Some.top c.in-Some.ensures.top in
+    let within = slice_get_within c.args.placed.now c.in-Some.top.1 begun.pair begun.is in
+    within
+
+pub drop_top-requires-clause-some : goal.drop_top-requires-clause-some
+drop_top-requires-clause-some g c = subst IsSome (sym c.in-Some.ensures.top) refl
+
+pub loop-top-smaller-then-is_below : goal.loop-top-smaller-then-is_below
+loop-top-smaller-then-is_below g c = omega (arith, c.drop_top.ensures.len)
+
+pub add_one-at-requires : goal.add_one-at-requires
+add_one-at-requires g c =
+    let u = le_fails (g.T.Integer.rank c.args.to) (g.T.Integer.rank c.index-placed-index.result.end) (sym c.is_at_most.ensures ∙ c.if-is_at_most.false) in
+    omega (arith, ints, u, c.in_hand.ensures.to)
+
+pub loop-top-smaller : goal.loop-top-smaller
+loop-top-smaller g c = omega (arith, c.drop_top.ensures.len)
