@@ -336,6 +336,8 @@ pub extern "C" fn plain_run(work: u32, size: u64, count: u64) -> u64 {
         21 => combine(check, size, 100, count, |map, few| few.intersection(map)),
         22 => combine(check, size, 100, count, Map::difference),
         23 => combine_by_value(check, size, count, |map, other| map.difference_by_value(&other)),
+        28 => combine(check, size, 100, count, Map::symmetric_difference),
+        29 => combine_by_value(check, size, count, |map, other| map.symmetric_difference(&other)),
         24 => within(size, count),
         25 => fill(check, size, count),
         26 => pop_last(check, size, count),

@@ -12,7 +12,9 @@ use crate::changes::{Change, change_maps, clumps, fill, get, pop_first, pop_last
 use crate::makes::{make, paint_one_by_one};
 use crate::many::union_of_many;
 use crate::prepared::Work;
-use crate::whole::{append, combine, combine_by_value, combined, split_off, walk, within};
+use crate::whole::{
+    Combination, append, combine, combine_by_value, combined, split_off, walk, within,
+};
 use std::alloc::{AllocError, Global};
 
 /// Added to a work's number where the entries that are left are to be in the checksum.
@@ -59,12 +61,13 @@ fn on_maps(work: Work, number: u32) -> Option<Result<u64, AllocError>> {
     match number {
         5 => Some(split_off(work)),
         6 => Some(append(work)),
-        11 => Some(combine_by_value(work, true)),
+        11 => Some(combine_by_value(work, Combination::Union)),
         17 => Some(make(work, false)),
         18 => Some(make(work, true)),
         19 => Some(paint_one_by_one(work)),
         20 => Some(union_of_many(work)),
-        23 => Some(combine_by_value(work, false)),
+        23 => Some(combine_by_value(work, Combination::Difference)),
+        29 => Some(combine_by_value(work, Combination::SymmetricDifference)),
         _ => {
             let (combination, other) = combined(number, work.size)?;
             Some(combine(work, combination, other))

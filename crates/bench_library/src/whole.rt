@@ -25,6 +25,7 @@ pub fn combined(number: u32, size: u64) -> Option<(Combination, u64)> {
         14 => Some((Combination::SymmetricDifference, size)),
         21 => Some((Combination::Restriction, 100)),
         22 => Some((Combination::Difference, 100)),
+        28 => Some((Combination::SymmetricDifference, 100)),
         _ => None,
     }
 }
@@ -92,6 +93,17 @@ impl Combination {
             Combination::SymmetricDifference => map ^ other,
         }
     }
+
+    /// What is made of two maps by value.
+    fn of_values(self, map: Map, other: Map) -> Result<Map, AllocError> {
+        match self {
+            Combination::Union => map | other,
+            Combination::Intersection => map & other,
+            Combination::Restriction => other & map,
+            Combination::Difference => map - other,
+            Combination::SymmetricDifference => map ^ other,
+        }
+    }
 }
 
 /// A map made of two lent maps, again and again.
@@ -106,8 +118,8 @@ pub fn combine(work: Work, combination: Combination, other: u64) -> Result<u64, 
     Ok(sum)
 }
 
-/// A map that is united with small maps, of a thousand, or from which they are taken, one after another, all by value.
-pub fn combine_by_value(work: Work, is_union: bool) -> Result<u64, AllocError> {
+/// A map that is combined with small maps, of a thousand, one after another, all by value.
+pub fn combine_by_value(work: Work, combination: Combination) -> Result<u64, AllocError> {
     let mut map = even(work, 1)?;
     let gap = (work.size / 100).saturating_mul(16);
     let mut others = Vec::new(work.alloc);
@@ -120,8 +132,7 @@ pub fn combine_by_value(work: Work, is_union: bool) -> Result<u64, AllocError> {
             break;
         }
         left -= 1;
-        let made = if is_union { map | other } else { map - other };
-        map = made?;
+        map = combination.of_values(map, other)?;
     }
     Ok(checksum(work.check, 0, &map))
 }
