@@ -1,5 +1,6 @@
 -- What is chosen from two lists, carried along lists that are alike.
 use Rattle.std.proofs.Common.{◌≡◌, ℤ, Bool, List, Option, Some, None, is_some, refl, subst, ◌∙◌}
+use Rattle.std.specs.Option.{option_xor}
 use Rattle.std.specs.Cmp.{IsEquivalence}
 use Rattle.blaze_entries.proofs.Alike.{same_trans}
 use Rattle.blaze_table.specs.Entries.{Entry, at, SameOption, SameEntries}
@@ -86,4 +87,39 @@ module _ {V : Type 0} (eq : V → V → Bool) (laws : IsEquivalence eq) (low hig
   chosen_into left right old new s c = record {
     range_map = c.range_map;
     content = λ k. same_trans eq laws (at new k) (right_first (at left k) (at old k)) _ (c.content k) (right_like (at left k) (at right k) (at old k) (content_as eq laws right old s k));
+  }
+
+  -- what each of two maps has off the other's keys, the one beside the other
+  either_alone : (x y l r n : Option V) → SameOption eq l (left_alone x y) → SameOption eq r (left_alone y x) → SameOption eq n (right_first l r) → SameOption eq n (option_xor x y)
+  either_alone None None None None n s t u = u
+  either_alone None None l (Some r) n s t u = absurd t
+  either_alone None None (Some l) None n s t u = absurd s
+  either_alone None (Some y) l None n s t u = absurd t
+  either_alone None (Some y) None (Some r) None s t u = absurd u
+  either_alone None (Some y) (Some l) (Some r) n s t u = absurd s
+  either_alone None (Some y) None (Some r) (Some n) s t u = same_trans eq laws (Some n) (Some r) (Some y) u t
+  either_alone (Some x) None None r n s t u = absurd s
+  either_alone (Some x) None (Some l) (Some r) n s t u = absurd t
+  either_alone (Some x) None (Some l) None None s t u = absurd u
+  either_alone (Some x) None (Some l) None (Some n) s t u = same_trans eq laws (Some n) (Some l) (Some x) u s
+  either_alone (Some x) (Some y) None None n s t u = u
+  either_alone (Some x) (Some y) (Some l) r n s t u = absurd s
+  either_alone (Some x) (Some y) None (Some r) n s t u = absurd t
+
+  pub both_alone : (left right left_off right_off new : List (Entry V)) → IsChosen eq low high left_alone left right left_off → IsChosen eq low high left_alone right left right_off → IsChosen eq low high right_first left_off right_off new → IsChosen eq low high option_xor left right new
+  both_alone left right left_off right_off new l r u = record {
+    range_map = u.range_map;
+    content = λ k. either_alone (at left k) (at right k) (at left_off k) (at right_off k) (at new k) (l.content k) (r.content k) (u.content k);
+  }
+
+  xor_turned : (x y : Option V) → option_xor x y ≡ option_xor y x
+  xor_turned None None = refl
+  xor_turned None (Some y) = refl
+  xor_turned (Some x) None = refl
+  xor_turned (Some x) (Some y) = refl
+
+  pub turned_over : (left right new : List (Entry V)) → IsChosen eq low high option_xor left right new → IsChosen eq low high option_xor right left new
+  turned_over left right new c = record {
+    range_map = c.range_map;
+    content = λ k. subst (SameOption eq (at new k)) (xor_turned (at left k) (at right k)) (c.content k);
   }

@@ -7,7 +7,9 @@ ghost use Rattle.blaze_table.specs.Painted.{ClonesAreAlike};
 ghost use Rattle.range_map_blaze.specs.Made.{IsMade};
 
 use crate::map::RangeMapBlaze;
-use crate::operators::exactly_one::{symmetric_difference, symmetric_difference_by_value};
+use crate::operators::exactly_one::{
+    symmetric_difference, symmetric_difference_by_value, symmetric_difference_with,
+};
 use blaze_int::Integer;
 use std::alloc::AllocError;
 use std::ops::BitXor;
@@ -34,7 +36,7 @@ impl<'b, T: Integer, V: Eq + Clone> BitXor<&'b RangeMapBlaze<T, V>> for RangeMap
         (IsMade (IsChosen V.eq T.low T.high option_xor left.entries right.now.entries)) };
 
     fn bitxor(self, right: &'b RangeMapBlaze<T, V>) -> Result<RangeMapBlaze<T, V>, AllocError> {
-        Ok(symmetric_difference(&self, right)?.uncounted())
+        Ok(symmetric_difference_with(self, right)?.uncounted())
     }
 }
 
@@ -47,7 +49,7 @@ impl<'a, T: Integer, V: Eq + Clone> BitXor<RangeMapBlaze<T, V>> for &'a RangeMap
         (IsMade (IsChosen V.eq T.low T.high option_xor left.now.entries right.entries)) };
 
     fn bitxor(self, right: RangeMapBlaze<T, V>) -> Result<RangeMapBlaze<T, V>, AllocError> {
-        Ok(symmetric_difference(self, &right)?.uncounted())
+        Ok(symmetric_difference_with(right, self)?.uncounted())
     }
 }
 

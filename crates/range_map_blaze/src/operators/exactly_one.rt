@@ -5,12 +5,16 @@ ghost use Rattle.blaze_table.specs.Chosen.{IsChosen};
 ghost use Rattle.blaze_table.specs.Painted.{ClonesAreAlike};
 
 use crate::map::RangeMapBlaze;
+use crate::operators::by_keys::{outside_keys, outside_keys_by_value};
 use crate::operators::chosen::{lent_chosen, owned_chosen};
+use crate::operators::cut::are_few;
+use crate::operators::union::union_by_value;
 use blaze_int::Integer;
 use blaze_streams::{ExactlyOne, OwnedRangeValuesIter};
 use std::alloc::AllocError;
 
-/// The values on the keys that exactly one of the two maps has, in one pass over both.
+/// The values on the keys that exactly one of the two maps has, in one pass over both. Where one of them has few entries, they
+/// are cut out of a clone of the other, and what that one lacks is put in.
 pub fn symmetric_difference<T: Integer, V: Eq + Clone>(
     left: &RangeMapBlaze<T, V>,
     right: &RangeMapBlaze<T, V>,
@@ -19,7 +23,11 @@ pub fn symmetric_difference<T: Integer, V: Eq + Clone>(
     ensures { IfOk result (λ map. IsChosen V.eq T.low T.high option_xor left.now.entries
         right.now.entries map.entries) }
 {
-    let room = left.ranges_len().saturating_add(right.ranges_len());
+    let (left_len, right_len) = (left.ranges_len(), right.ranges_len());
+    if are_few(left_len, right_len) || are_few(right_len, left_len) {
+        return both_alone(left, right);
+    }
+    let room = left_len.saturating_add(right_len);
     lent_chosen(
         left,
         left.range_values(),
@@ -29,7 +37,7 @@ pub fn symmetric_difference<T: Integer, V: Eq + Clone>(
     )
 }
 
-/// The same, with both maps' own values.
+/// The same, with both maps' own values. Where one of them has few entries, the other is edited in place.
 pub fn symmetric_difference_by_value<T: Integer, V: Eq + Clone>(
     left: RangeMapBlaze<T, V>,
     right: RangeMapBlaze<T, V>,
@@ -38,11 +46,63 @@ pub fn symmetric_difference_by_value<T: Integer, V: Eq + Clone>(
     ensures { IfOk result (λ map. IsChosen V.eq T.low T.high option_xor left.entries
         right.entries map.entries) }
 {
-    let room = left.ranges_len().saturating_add(right.ranges_len());
+    let (left_len, right_len) = (left.ranges_len(), right.ranges_len());
+    if are_few(right_len, left_len) {
+        return both_alone_in(left, &right);
+    }
+    if are_few(left_len, right_len) {
+        return both_alone_in(right, &left);
+    }
+    let room = left_len.saturating_add(right_len);
     owned_chosen(
         left,
         OwnedRangeValuesIter::new(right.table),
         &ExactlyOne,
         room,
     )
+}
+
+/// The same, of a map by value and one that is lent. Where that has few entries, the other is edited in place.
+pub fn symmetric_difference_with<T: Integer, V: Eq + Clone>(
+    left: RangeMapBlaze<T, V>,
+    right: &RangeMapBlaze<T, V>,
+) -> Result<RangeMapBlaze<T, V>, AllocError>
+    requires { ClonesAreAlike V.is_clone V.eq }
+    ensures { IfOk result (λ map. IsChosen V.eq T.low T.high option_xor left.entries
+        right.now.entries map.entries) }
+{
+    if are_few(right.ranges_len(), left.ranges_len()) {
+        return both_alone_in(left, right);
+    }
+    symmetric_difference(&left, right)
+}
+
+/// What each map has off the other's keys, as one map.
+fn both_alone<T: Integer, V: Eq + Clone>(
+    left: &RangeMapBlaze<T, V>,
+    right: &RangeMapBlaze<T, V>,
+) -> Result<RangeMapBlaze<T, V>, AllocError>
+    requires { ClonesAreAlike V.is_clone V.eq }
+    ensures { IfOk result (λ map. IsChosen V.eq T.low T.high option_xor left.now.entries
+        right.now.entries map.entries) }
+{
+    let left_alone = outside_keys(left, &right.table)?;
+    let right_alone = outside_keys(right, &left.table)?;
+    let map = union_by_value(left_alone, right_alone)?;
+    Ok(map)
+}
+
+/// The same, with the left map's own values, which is cut in place where the right one has few entries.
+fn both_alone_in<T: Integer, V: Eq + Clone>(
+    left: RangeMapBlaze<T, V>,
+    right: &RangeMapBlaze<T, V>,
+) -> Result<RangeMapBlaze<T, V>, AllocError>
+    requires { ClonesAreAlike V.is_clone V.eq }
+    ensures { IfOk result (λ map. IsChosen V.eq T.low T.high option_xor left.entries
+        right.now.entries map.entries) }
+{
+    let right_alone = outside_keys(right, &left.table)?;
+    let left_alone = outside_keys_by_value(left, &right.table)?;
+    let map = union_by_value(left_alone, right_alone)?;
+    Ok(map)
 }
