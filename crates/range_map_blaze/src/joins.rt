@@ -3,7 +3,7 @@ ghost use Rattle.std.specs.Prelude.{◌≡◌, true, IfOk};
 ghost use Rattle.blaze_streams.specs.Answers.{values, IsCallableAtEach, IsTransformed};
 ghost use Rattle.blaze_streams.specs.JoinAnswers.{either, both, with_left, IsCallableAtSegments};
 ghost use Rattle.blaze_streams.specs.JoinAnswers.{IsJoined};
-ghost use Rattle.blaze_streams.specs.Joins.{is_joined};
+ghost use Rattle.blaze_streams.specs.Joins.{is_joined, IsJoinOf};
 ghost use Rattle.blaze_streams.specs.declared.segmenting.joins.JoinKind.TheVariants.{Inner, Left, Full};
 ghost use Rattle.blaze_table.specs.Counted.{uncounted};
 ghost use Rattle.range_map_blaze.specs.Made.{IsMade};
@@ -48,6 +48,21 @@ fn transformed<T: Integer, V: Eq + Clone, W: Eq + Clone, F: FnMut(&V) -> W>(
     transform(alloc, RangeValuesIter::new(table), f)
 }
 
+/// The segments of two tables that a join is asked for, each with what the two have there, as a stream.
+fn segments_of<'a, T: Integer, V: Eq + Clone, V2: Eq + Clone>(
+    alloc: Global,
+    table: &'a RangeTable<T, V>,
+    other: &'a RangeTable<T, V2>,
+    kind: JoinKind,
+) -> Result<CanonMapIter<T, (Option<&'a V>, Option<&'a V2>)>, AllocError>
+    ensures { IfOk result (λ segments. IsJoinOf V.eq V2.eq T.low T.high kind table.now.entries
+        other.now.entries segments) }
+{
+    let (left, right) = (RangeValuesIter::new(table), RangeValuesIter::new(other));
+    let segments = join_of(alloc, left, right, kind)?;
+    Ok(segments)
+}
+
 /// What a closure returns at the segments of two tables that a join is asked for, with the arguments that `C` gives it, as a
 /// stream.
 fn joined<
@@ -71,8 +86,7 @@ fn joined<
     ensures { IfOk result (λ new. IsJoined C.shows C.calls V.eq V2.eq T.low T.high kind W.eq f
         table.now.entries other.now.entries new) }
 {
-    let (left, right) = (RangeValuesIter::new(table), RangeValuesIter::new(other));
-    let segments = join_of(alloc, left, right, kind)?;
+    let segments = segments_of(alloc, table, other, kind)?;
     let answers = answers_of::<_, _, _, W, F, C>(alloc, segments, f)?;
     Ok(answers)
 }

@@ -1,29 +1,16 @@
 use Rattle.std.proofs.Common.{◌≡◌, true}
 use Rattle.blaze_streams.specs.Joins.{is_joined}
 use Rattle.blaze_streams.proofs.Answering.{each_then}
-use Rattle.blaze_streams.proofs.CarriedJoins.{itself_alike, exact_join}
 use Rattle.blaze_streams.proofs.Paired.{joined_all}
 use Rattle.range_map_blaze.proofs.joins.joined.Goals as goal
-
-pub join_of-requires-clause-left : goal.join_of-requires-clause-left
-join_of-requires-clause-left g c = itself_alike g.V.PartialEq.eq g.met.V.Eq.laws
-
-pub join_of-requires-clause-right : goal.join_of-requires-clause-right
-join_of-requires-clause-right g c = itself_alike g.V2.PartialEq.eq g.met.V2.Eq.laws
 
 pub answers_of-requires-clause-have : goal.answers_of-requires-clause-have
 answers_of-requires-clause-have g c =
     each_then (λ p. is_joined c.args.kind p.0 p.1 ≡ true) g.C.Asks.has_arguments c.requires.have _
-    (joined_all g.V.PartialEq.eq g.V2.PartialEq.eq c.args.kind g.T.Integer.low g.T.Integer.high _ _ _ g.met.V.Eq.laws g.met.V2.Eq.laws
-    (exact_join g.V.PartialEq.eq g.V2.PartialEq.eq g.T.Integer.low g.T.Integer.high c.args.kind _ _ _ c.in_ok-segments.ensures))
+    (joined_all g.V.PartialEq.eq g.V2.PartialEq.eq c.args.kind g.T.Integer.low g.T.Integer.high _ _ _ g.met.V.Eq.laws g.met.V2.Eq.laws c.in_ok-segments.ensures)
 
 pub answers_of-requires-clause-callable : goal.answers_of-requires-clause-callable
-answers_of-requires-clause-callable g c =
-    c.requires.callable.at _ (rw⁻¹ (c.new-left.ensures, c.new-right.ensures) (exact_join g.V.PartialEq.eq g.V2.PartialEq.eq g.T.Integer.low g.T.Integer.high c.args.kind _ _ _ c.in_ok-segments.ensures))
+answers_of-requires-clause-callable g c = c.requires.callable.at _ c.in_ok-segments.ensures
 
 pub returns : goal.returns
-returns g c = record {
-  segments = _;
-  are_segments = rw⁻¹ (c.new-left.ensures, c.new-right.ensures) (exact_join g.V.PartialEq.eq g.V2.PartialEq.eq g.T.Integer.low g.T.Integer.high c.args.kind _ _ _ c.in_ok-segments.ensures);
-  answered = c.in_ok-answers.ensures;
-}
+returns g c = record { segments = _; are_segments = c.in_ok-segments.ensures; answered = c.in_ok-answers.ensures }
