@@ -1,0 +1,53 @@
+//! IPv6 addresses as keys.
+ghost use Rattle.std.specs.Prelude.{◌-◌, ◌^◌, pos};
+ghost use Rattle.std.proofs.Common.{refl, lit≤};
+ghost use Rattle.blaze_int.specs.Newtypes.{ranked-along};
+ghost use Rattle.blaze_int.specs.Unsigned.{nat_of, unsigned-ranked, unsigned-room};
+
+use blaze_int::{Integer, UIntPlusOne};
+use std::ops::RangeInclusive;
+
+/// An IPv6 address, by the number that its bits make.
+#[derive(Clone, Copy, PartialEq, Eq, PartialOrd, Ord, Debug)]
+pub struct Ipv6(pub u128);
+
+impl Integer for Ipv6 {
+    type SafeLen = UIntPlusOne;
+
+    ghost rank = { λ k. pos k.0 };
+
+    ghost of_rank = { λ z. record { 0 = nat_of z } };
+
+    ghost low = { pos 0 };
+
+    ghost high = { pos (2 ^ 128 - 1) };
+
+    fn in_hand(self) {
+        self.0.in_hand();
+    }
+
+    fn min_value() -> Ipv6 {
+        Ipv6(u128::MIN)
+    }
+
+    fn max_value() -> Ipv6 {
+        Ipv6(u128::MAX)
+    }
+
+    fn add_one(self) -> Ipv6 {
+        Ipv6(self.0.add_one())
+    }
+
+    fn sub_one(self) -> Ipv6 {
+        Ipv6(self.0.sub_one())
+    }
+
+    fn safe_len(r: &RangeInclusive<Ipv6>) -> UIntPlusOne {
+        u128::safe_len(&(r.start().0..=r.end().0))
+    }
+
+    ghost ranked = { ranked-along (λ k. k.0) (λ n. record { 0 = n }) (unsigned-ranked (2 ^ 128 - 1))
+        (λ _. refl) (λ _ _ _. refl) (λ _ _. refl) (λ _ _. refl) };
+
+    ghost has_room = { unsigned-room (2 ^ 128 - 1) (2 ^ 128) (lit≤ tt) };
+}

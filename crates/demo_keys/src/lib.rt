@@ -1,0 +1,15 @@
+//! Key types of one's own.
+#![tactic(auto)]
+
+mod addresses;
+mod blocks;
+mod day;
+mod ipv4;
+mod ipv6;
+mod weekday;
+
+pub use blocks::{begins_block, greatest_block, last_of_block};
+pub use day::Day;
+pub use ipv4::Ipv4;
+pub use ipv6::Ipv6;
+pub use weekday::Weekday;
