@@ -1,7 +1,7 @@
 -- Blocks of numbers, and blocks within blocks.
 use Rattle.std.specs.Prelude.{◌≡◌, ◌↔◌, ℕ, ◌+◌, ◌-◌, ◌*◌, ◌/◌, ◌^◌, ◌%◌, ◌<◌, ◌≤◌, ◌==◌, IsTrue, bit_and}
 use Rattle.std.proofs.Common.{ap, sym, subst, ◌∙◌, arith, inl, inr}
-use Rattle.std.proofs.lemmas.Nat.{pow_pos, pow-add, shr_split, mul-le, and_mask}
+use Rattle.std.proofs.lemmas.Nat.{pow_pos, pow_below, pow-add, shr_split, mul-le, and_mask}
 use Rattle.std.proofs.Math.Nat.{zero-mod}
 use Rattle.std.proofs.Math.Pow.{mod-mod-pow}
 use Rattle.std.proofs.lemmas.Bool.{cases_lt}
@@ -29,13 +29,20 @@ ends_below n k j begins below =
           absurd (omega (arith, size, split, least, begins))
     ]
 
--- so its last number is one of 128 binary digits
-pub last_fits : (start mask free : ℕ) → free ≤ 128 → BeginsBlock start free → start < 2 ^ 128 → mask + 1 ≡ 2 ^ free → start + mask < 2 ^ 128
-last_fits start mask free few begins below e =
-    let digits : 128 ≡ (128 - free) + free = omega (arith, few) in
-    let ends : start + 2 ^ free ≤ 2 ^ ((128 - free) + free) = ends_below start free (128 - free) begins (subst (λ k. start < 2 ^ k) digits below) in
-    let whole : start + 2 ^ free ≤ 2 ^ 128 = subst (λ k. start + 2 ^ free ≤ 2 ^ k) (sym digits) ends in
+-- so its last number has as many binary digits
+pub last_below : (n k width last : ℕ) → k ≤ width → BeginsBlock n k → n < 2 ^ width → last + 1 ≡ n + 2 ^ k → last < 2 ^ width
+last_below n k width last few begins below e =
+    let digits : width ≡ (width - k) + k = omega (arith, few) in
+    let ends : n + 2 ^ k ≤ 2 ^ ((width - k) + k) = ends_below n k (width - k) begins (subst (λ d. n < 2 ^ d) digits below) in
+    let whole : n + 2 ^ k ≤ 2 ^ width = subst (λ d. n + 2 ^ k ≤ 2 ^ d) (sym digits) ends in
     omega (arith, whole, e)
+
+-- a block that ends below a power of two has no more free digits
+pub few_free : (first last k width : ℕ) → IsBlockWithin first last k → last < 2 ^ width → k ≤ width
+few_free first last k width within below = elim (cases_lt width k) [
+  | inl more ↦ let greater : 2 ^ width < 2 ^ k = pow_below width k more in absurd (omega (arith, greater, within.1, below))
+  | inr less ↦ omega arith
+]
 
 -- where a greater block begins and fits, so does a lesser one
 smaller : (first last j k : ℕ) → IsBlockWithin first last (j + k) → IsBlockWithin first last k
