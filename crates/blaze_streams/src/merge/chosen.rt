@@ -1,5 +1,5 @@
 //! Two streams gone through together, and what is chosen from them.
-ghost use Rattle.std.specs.Prelude.{◌≡◌, [], IfOk, OnOk};
+ghost use Rattle.std.specs.Prelude.{◌≡◌, ◌≤ℤ◌, [], IfOk, OnOk};
 ghost use Rattle.std.specs.Option.{option_map};
 ghost use Rattle.blaze_table.specs.Chosen.{IsChosen};
 ghost use Rattle.blaze_table.specs.Entries.{shown_list};
@@ -12,21 +12,25 @@ use crate::merge::choice::Choice;
 use crate::merge::piece_list::PieceList;
 use crate::sorted_disjoint_map::SortedDisjointMap;
 use blaze_int::Integer;
+use blaze_table::RangeEntry;
 use std::alloc::{AllocError, Global};
 use std::ops::RangeInclusive;
 
-/// Puts a value on the keys from `start` up to `end` behind a list, where there is one.
-fn put_value<T: Integer, VC: ValueCarrier, P: PieceList<T, VC>>(
+/// Puts a piece behind a list, where it has a value. The ends of its range are keys.
+fn put_piece<T: Integer, VC: ValueCarrier, P: PieceList<T, VC>>(
     out: &mut P,
-    start: T,
-    end: T,
-    carrier: Option<VC>,
+    piece: RangeEntry<T, Option<VC>>,
 ) -> Result<(), AllocError>
     requires { VC.can_carry }
-    ensures { OnOk result (PutsAlike VC.Value.eq (T.rank start) (T.rank end)
-        (option_map VC.shown carrier) (P.entries out.old) (P.entries out.new)) }
+    ensures from { T.low ≤ℤ T.rank piece.start }
+    ensures to { T.rank piece.end ≤ℤ T.high }
+    ensures put { OnOk result (PutsAlike VC.Value.eq (T.rank piece.start) (T.rank piece.end)
+        (option_map VC.shown piece.value) (P.entries out.old) (P.entries out.new)) }
 {
-    if let Some(carrier) = carrier {
+    let RangeEntry { start, end, value } = piece;
+    start.in_hand();
+    end.in_hand();
+    if let Some(carrier) = value {
         out.put(start, end, carrier)?;
     }
     Ok(())
@@ -50,9 +54,7 @@ fn put_chosen<
     let mut left = Cursor::new(left);
     let mut right = Cursor::new(right);
     while let Some(piece) = choice.take(&mut left, &mut right)? {
-        piece.start.in_hand();
-        piece.end.in_hand();
-        put_value(out, piece.start, piece.end, piece.value)?;
+        put_piece(out, piece)?;
     }
     Ok(())
 }

@@ -17,8 +17,8 @@ pub loop-right-preserved : goal.loop-right-preserved
 loop-right-preserved g c =
     chosen_more g.VCL.Value.PartialEq.eq g.met.VCL.Value.Eq.laws g.T.Integer.low g.T.Integer.high g.C.Choice.choice g.VCL.Value.PartialEq.eq g.VCR.Value.PartialEq.eq g.met.C.Choice.from_nothing
     (g.L.SortedDisjointMap.left c.args.left) c.loop-right.left c.take.new.left (g.R.SortedDisjointMap.left c.args.right) c.loop-right.right c.take.new.right
-    (g.P.PieceList.entries c.loop-right.out) (g.P.PieceList.entries c.put_value.new.out) _ _ _ c.take.ensures.left c.take.ensures.right
-    (MatchOption-at_some _ _ _ c.in-Some.is c.in_ok-piece.ensures.taken) c.in_hand.ensures.from c.in_hand-in-Some.ensures.to c.in_ok-put_value.ensures c.loop-right.invariant
+    (g.P.PieceList.entries c.loop-right.out) (g.P.PieceList.entries c.put_piece.new.out) _ _ _ c.take.ensures.left c.take.ensures.right
+    (MatchOption-at_some _ _ _ c.in-Some.is c.in_ok-piece.ensures.taken) c.put_piece.ensures.from c.put_piece.ensures.to c.in_ok-put_piece.ensures.put c.loop-right.invariant
 
 pub returns : goal.returns
 returns g c =
