@@ -8,10 +8,9 @@ ghost use Rattle.blaze_streams.specs.Choosing.{IsTaken};
 
 use crate::carrier::ValueCarrier;
 use crate::cursor::Cursor;
-use crate::merge::pieces::{take_before, take_both};
+use crate::merge::pieces::{skip_right, skip_shared, take_before, take_both, with_value};
 use crate::sorted_disjoint_map::SortedDisjointMap;
 use blaze_int::Integer;
-use blaze_int::compare::{is_below, lesser};
 use blaze_table::RangeEntry;
 use std::alloc::AllocError;
 
@@ -52,9 +51,7 @@ impl<VC: ValueCarrier> Choice<VC, VC> for RightFirst {
         right: &mut Cursor<T, VC, R>,
     ) -> Result<Option<RangeEntry<T, Option<VC>>>, AllocError> {
         if let Some(piece) = take_before(left, right)? {
-            let RangeEntry { start, end, value } = piece;
-            let value = Some(value);
-            return Ok(Some(RangeEntry { start, end, value }));
+            return Ok(Some(with_value(piece)));
         }
         let Some(RangeEntry { start, end, .. }) = right.range() else {
             return Ok(None);
@@ -83,26 +80,12 @@ impl<VC: ValueCarrier> Choice<VC, VC> for ExactlyOne {
         right: &mut Cursor<T, VC, R>,
     ) -> Result<Option<RangeEntry<T, Option<VC>>>, AllocError> {
         if let Some(piece) = take_before(left, right)? {
-            let RangeEntry { start, end, value } = piece;
-            let value = Some(value);
-            return Ok(Some(RangeEntry { start, end, value }));
+            return Ok(Some(with_value(piece)));
         }
         if let Some(other) = take_before(right, left)? {
-            let RangeEntry { start, end, value } = other;
-            let value = Some(value);
-            return Ok(Some(RangeEntry { start, end, value }));
+            return Ok(Some(with_value(other)));
         }
-        let (Some(ours), Some(theirs)) = (left.range(), right.range()) else {
-            return Ok(None);
-        };
-        let end = lesser(ours.end, theirs.end);
-        left.advance_in_first(end);
-        right.advance_in_first(end);
-        Ok(Some(RangeEntry {
-            start: ours.start,
-            end,
-            value: None,
-        }))
+        Ok(skip_shared(left, right))
     }
 
     ghost from_nothing = { refl };
@@ -137,30 +120,9 @@ impl<VCL: ValueCarrier, VCR: ValueCarrier> Choice<VCL, VCR> for LeftAlone {
         right: &mut Cursor<T, VCR, R>,
     ) -> Result<Option<RangeEntry<T, Option<VCL>>>, AllocError> {
         if let Some(piece) = take_before(left, right)? {
-            let RangeEntry { start, end, value } = piece;
-            let value = Some(value);
-            return Ok(Some(RangeEntry { start, end, value }));
+            return Ok(Some(with_value(piece)));
         }
-        let (Some(ours), Some(theirs)) = (left.range(), right.range()) else {
-            return Ok(None);
-        };
-        if is_below(theirs.end, ours.start) {
-            theirs.end.in_hand();
-            let end = ours.start.sub_one();
-            right.advance(end);
-            return Ok(Some(RangeEntry {
-                start: theirs.start,
-                end,
-                value: None,
-            }));
-        }
-        right.advance_in_first(theirs.end);
-        left.advance(theirs.end);
-        Ok(Some(RangeEntry {
-            start: theirs.start,
-            end: theirs.end,
-            value: None,
-        }))
+        Ok(skip_right(left, right))
     }
 
     ghost from_nothing = { refl };
