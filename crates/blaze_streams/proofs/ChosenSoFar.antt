@@ -53,9 +53,6 @@ module _ {V : Type 0} (eq : V → V → Bool) (laws : IsEquivalence eq) where
 pub lesser_is : (p q p' q' : Option ℤ) (s : ℤ) → Some s ≡ lesser p q → p ≡ p' → q ≡ q' → lesser p' q' ≡ Some s
 lesser_is p q p' q' s e f g = cc
 
-pub lesser_none : (p q p' q' : Option ℤ) → None ≡ lesser p q → p ≡ p' → q ≡ q' → lesser p' q' ≡ None
-lesser_none p q p' q' e f g = cc
-
 -- what is chosen at a key from what two lists have there
 abbrev pub chosen_at : {A B V : Type 0} → (Option A → Option B → Option V) → List (Entry A) → List (Entry B) → ℤ → Option V
 chosen_at choose L R k = choose (at L k) (at R k)

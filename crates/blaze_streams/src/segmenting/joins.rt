@@ -1,6 +1,8 @@
 //! The segments of two streams.
 ghost use Rattle.std.specs.Prelude.{◌≡◌, Some, IfOk, OnOk};
+ghost use Rattle.std.specs.Option.{option_map};
 ghost use Rattle.blaze_table.specs.Canonical.{IsCanonical};
+ghost use Rattle.blaze_table.specs.Entries.{at};
 ghost use Rattle.blaze_table.specs.Painted.{ClonesAreAlike};
 ghost use Rattle.blaze_streams.specs.Carried.{shown_pair};
 ghost use Rattle.blaze_streams.specs.Cursors.{first_key, steady_to, Reaches, lesser};
@@ -36,6 +38,36 @@ fn is_joined<A, B>(kind: JoinKind, left: Option<&A>, right: Option<&B>) -> bool
         JoinKind::Left => left.is_some(),
         JoinKind::Full => left.is_some() || right.is_some(),
     }
+}
+
+/// Whether a join of the kind is asked for what two streams have at a key, which is not above the end of a stream's first range.
+fn is_asked<
+    T: Integer,
+    VCL: ValueCarrier,
+    VCR: ValueCarrier,
+    L: SortedDisjointMap<T, VCL>,
+    R: SortedDisjointMap<T, VCR>,
+>(kind: JoinKind, left: &Cursor<T, VCL, L>, right: &Cursor<T, VCR, R>, key: T) -> bool
+    requires left { Reaches (T.rank key) left.now }
+    requires right { Reaches (T.rank key) right.now }
+    ensures { result ≡ is_joined kind (at left.now (T.rank key)) (at right.now (T.rank key)) }
+{
+    is_joined(kind, left.here(key), right.here(key))
+}
+
+/// The lesser of the first keys of two streams, where one has any.
+fn first_of<
+    T: Integer,
+    VCL: ValueCarrier,
+    VCR: ValueCarrier,
+    L: SortedDisjointMap<T, VCL>,
+    R: SortedDisjointMap<T, VCR>,
+>(left: &Cursor<T, VCL, L>, right: &Cursor<T, VCR, R>) -> Option<T>
+    ensures first { option_map T.rank result ≡ lesser (first_key left.now) (first_key right.now) }
+    ensures left { IsCanonical VCL.Value.eq left.now }
+    ensures right { IsCanonical VCR.Value.eq right.now }
+{
+    lesser_of(left.first(), right.first())
 }
 
 /// The last key up to which neither of two streams changes, from their first key on.
@@ -85,7 +117,7 @@ fn join_next<
     let end = steady_end(start, left, right);
     start.in_hand();
     end.in_hand();
-    if is_joined(kind, left.here(end), right.here(end)) {
+    if is_asked(kind, left, right, end) {
         let given = (left.give(end)?, right.give(end)?);
         out.push((start..=end, given))?;
     } else {
@@ -118,7 +150,7 @@ pub fn join_of<
     let mut out = Vec::new(alloc);
     let mut left = Cursor::new(left);
     let mut right = Cursor::new(right);
-    while let Some(start) = lesser_of(left.first(), right.first()) {
+    while let Some(start) = first_of(&left, &right) {
         join_next(start, &mut left, &mut right, &mut out, kind)?;
     }
     Ok(CanonMapIter::new(out))

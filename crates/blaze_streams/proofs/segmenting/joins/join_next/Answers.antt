@@ -5,7 +5,7 @@ use Rattle.blaze_streams.specs.Carried.{shown_option, shown_pair}
 use Rattle.blaze_streams.specs.Joins.{is_joined}
 use Rattle.blaze_streams.specs.Ranges.{shown_range}
 use Rattle.blaze_streams.specs.RangeLists.{shown_ranges}
-use Rattle.blaze_streams.proofs.CarriedJoins.{joined_as_shown, given_there, none_given}
+use Rattle.blaze_streams.proofs.CarriedJoins.{given_there, none_given}
 use Rattle.blaze_streams.proofs.segmenting.joins.join_next.Goals as goal
 
 pub returns-in_ok-push : goal.returns-in_ok-push
@@ -22,10 +22,10 @@ returns-in_ok-push g c =
       to = c.in_hand-2.ensures.to;
       ends = c.steady_end-end.ensures.ends;
       left_is = c.give.ensures.rest;
-      right_is = c.give-then-is_joined.ensures.rest;
+      right_is = c.give-then-is_asked.ensures.rest;
       given = Some given;
       carried = given_there g.VCL.ValueCarrier.is_carried g.VCR.ValueCarrier.is_carried (is_joined c.args.kind (at c.args.left.now t) (at c.args.right.now t)) (at c.args.left.now t, at c.args.right.now t) given
-          (sym (joined_as_shown (λ x. left x.now) (λ x. right x.now) c.args.kind _ _ _ _ c.here.ensures c.here-2.ensures) ∙ sym c.is_joined.ensures ∙ c.if-is_joined.true)
+          (sym c.is_asked.ensures ∙ c.if-is_asked.true)
           (c.in_ok-give.ensures.carried, c.in_ok-give-2.ensures.carried);
       put = ap (shown_ranges rank (shown_pair left right)) c.in_ok-push.ensures.items
           ∙ map-append (shown_range rank (shown_pair left right)) c.args.out.now.items _
@@ -33,8 +33,8 @@ returns-in_ok-push g c =
           ∙ ap (λ k. old ++ entry (rank c.args.start) (rank k) given ∷ []) c.new.ensures.end;
     }
 
-pub returns-else-is_joined : goal.returns-else-is_joined
-returns-else-is_joined g c =
+pub returns-else-is_asked : goal.returns-else-is_asked
+returns-else-is_asked g c =
     let t = g.T.Integer.rank c.steady_end-end.result in
     let left = g.VCL.ValueCarrier.shown in
     let right = g.VCR.ValueCarrier.shown in
@@ -44,9 +44,9 @@ returns-else-is_joined g c =
       to = c.in_hand-2.ensures.to;
       ends = c.steady_end-end.ensures.ends;
       left_is = c.advance_in_first.ensures;
-      right_is = c.advance_in_first-else-is_joined.ensures;
+      right_is = c.advance_in_first-else-is_asked.ensures;
       given = None;
       carried = none_given g.VCL.ValueCarrier.is_carried g.VCR.ValueCarrier.is_carried (is_joined c.args.kind (at c.args.left.now t) (at c.args.right.now t)) (at c.args.left.now t, at c.args.right.now t)
-          (sym (joined_as_shown (λ x. left x.now) (λ x. right x.now) c.args.kind _ _ _ _ c.here.ensures c.here-2.ensures) ∙ sym c.is_joined.ensures ∙ c.if-is_joined.false);
+          (sym c.is_asked.ensures ∙ c.if-is_asked.false);
       put = sym (append-nil _);
     }

@@ -1,7 +1,7 @@
+use Rattle.std.proofs.Common.{sym}
 use Rattle.blaze_streams.specs.Carried.{shown_pair}
 use Rattle.blaze_streams.specs.RangeLists.{shown_ranges}
 use Rattle.blaze_streams.proofs.CarriedJoins.{carried_none, carried_more, carried_all, carried_range_map}
-use Rattle.blaze_streams.proofs.ChosenSoFar.{lesser_is, lesser_none}
 use Rattle.blaze_streams.proofs.Paired.{paired_less}
 use Rattle.blaze_streams.proofs.segmenting.joins.join_of.Goals as goal
 
@@ -15,8 +15,8 @@ loop-start-smaller g c =
     let s = g.T.Integer.rank c.in-Some.start in
     paired_less g.VCL.Value.PartialEq.eq g.VCR.Value.PartialEq.eq g.T.Integer.low g.T.Integer.high c.args.kind g.VCL.ValueCarrier.is_carried g.VCR.ValueCarrier.is_carried
     (g.L.SortedDisjointMap.left c.args.left) c.loop-start.left c.join_next.new.left (g.R.SortedDisjointMap.left c.args.right) c.loop-start.right c.join_next.new.right _ _ s
-    c.first.ensures.canonical c.first-in-loop-start.ensures.canonical
-    (lesser_is _ _ _ _ s c.in-Some.ensures c.first.ensures.first c.first-in-loop-start.ensures.first) c.in_ok-join_next.ensures
+    c.first_of.ensures.left c.first_of.ensures.right
+    (sym c.in-Some.ensures.first) c.in_ok-join_next.ensures
 
 pub loop-start-preserved : goal.loop-start-preserved
 loop-start-preserved g c =
@@ -25,18 +25,18 @@ loop-start-preserved g c =
     carried_more g.VCL.ValueCarrier.is_carried g.VCR.ValueCarrier.is_carried g.VCL.Value.PartialEq.eq g.VCR.Value.PartialEq.eq g.T.Integer.low g.T.Integer.high c.args.kind
     (g.L.SortedDisjointMap.left c.args.left) c.loop-start.left c.join_next.new.left (g.R.SortedDisjointMap.left c.args.right) c.loop-start.right c.join_next.new.right
     (seen c.loop-start.out.items) (seen c.join_next.new.out.items) s
-    c.first.ensures.canonical c.first-in-loop-start.ensures.canonical
-    (lesser_is _ _ _ _ s c.in-Some.ensures c.first.ensures.first c.first-in-loop-start.ensures.first) c.in_ok-join_next.ensures
+    c.first_of.ensures.left c.first_of.ensures.right
+    (sym c.in-Some.ensures.first) c.in_ok-join_next.ensures
     g.met.VCL.Value.Eq.laws g.met.VCR.Value.Eq.laws c.loop-start.invariant
 
 pub new-requires : goal.new-requires
 new-requires g c =
     carried_range_map g.VCL.ValueCarrier.is_carried g.VCR.ValueCarrier.is_carried g.VCL.Value.PartialEq.eq g.VCR.Value.PartialEq.eq g.T.Integer.low g.T.Integer.high c.args.kind g.met.VCL.Value.Eq.laws g.met.VCR.Value.Eq.laws c.requires.left c.requires.right _ _ _
     (carried_all g.VCL.ValueCarrier.is_carried g.VCR.ValueCarrier.is_carried g.VCL.Value.PartialEq.eq g.VCR.Value.PartialEq.eq g.T.Integer.low g.T.Integer.high c.args.kind g.met.VCL.Value.Eq.laws g.met.VCR.Value.Eq.laws _ c.loop-start.left _ c.loop-start.right _ c.loop-start.invariant
-    (lesser_none _ _ _ _ c.in_default.ensures c.first.ensures.first c.first-in-loop-start.ensures.first))
+    (sym c.in_default.ensures.first))
 
 pub returns : goal.returns
 returns g c =
     rw c.new.ensures
     (carried_all g.VCL.ValueCarrier.is_carried g.VCR.ValueCarrier.is_carried g.VCL.Value.PartialEq.eq g.VCR.Value.PartialEq.eq g.T.Integer.low g.T.Integer.high c.args.kind g.met.VCL.Value.Eq.laws g.met.VCR.Value.Eq.laws _ c.loop-start.left _ c.loop-start.right _ c.loop-start.invariant
-    (lesser_none _ _ _ _ c.in_default.ensures c.first.ensures.first c.first-in-loop-start.ensures.first))
+    (sym c.in_default.ensures.first))
