@@ -41,6 +41,18 @@ impl<T: Integer, V: Eq + Drop> Model for IntoRangeValuesIter<T, V> {
         (map (shown_entry T.rank rc_value) (into_iter_items s.entries)) };
 }
 
+// The entry with its value in an `Rc`: first key, last key and value.
+fn shared<T: Integer, V: Eq + Drop>(
+    alloc: Global,
+    entry: (T, T, V),
+) -> Result<(T, T, Rc<V>), AllocError>
+    ensures { IfOk result (λ new. shown_entry T.rank rc_value new
+        ≡ shown_entry T.rank (λ v. v) entry) }
+{
+    let (start, end, value) = entry;
+    Ok((start, end, Rc::new(alloc, value)?))
+}
+
 // The entries of a table, each value in an `Rc`: first key, last key and value.
 fn shared_entries<T: Integer, V: Eq + Drop>(
     alloc: Global,
@@ -50,8 +62,8 @@ fn shared_entries<T: Integer, V: Eq + Drop>(
         ≡ table.entries) }
 {
     let mut entries = Vec::with_capacity(alloc, table.entries())?;
-    for (start, end, value) in table {
-        entries.push((start, end, Rc::new(alloc, value)?))?;
+    for entry in table {
+        entries.push(shared(alloc, entry)?)?;
     }
     Ok(entries)
 }

@@ -1,13 +1,13 @@
-use Rattle.std.proofs.Common.{ap, append-nil, append_assoc, arith, length, sym, ◌∙◌}
+use Rattle.std.proofs.Common.{append-nil, append_assoc, sym, ◌∙◌}
 use Rattle.std.proofs.lemmas.List.{map-append}
 use Rattle.blaze_streams.proofs.tables.into_range_values.shared_entries.Goals as goal
 
-pub loop-start-preserved : goal.loop-start-preserved
-loop-start-preserved g c =
-    rw (c.in_ok-push.ensures.items, map-append, append_assoc, c.in_ok-new.ensures.ok) (rw c.in-Some.ensures.steps at c.loop-start.invariant)
+pub loop-entry-preserved : goal.loop-entry-preserved
+loop-entry-preserved g c =
+    rw (c.in_ok-push.ensures.items, map-append, append_assoc, c.in_ok-shared.ensures) (rw c.in-Some.ensures.steps at c.loop-entry.invariant)
 
-pub loop-start-smaller : goal.loop-start-smaller
-loop-start-smaller g c = omega (arith, ap length c.in-Some.ensures.steps)
+pub loop-entry-smaller : goal.loop-entry-smaller
+loop-entry-smaller g c = (c.in-Some.ensures.goes.on c.loop-entry.iterator.1).2
 
 pub returns : goal.returns
-returns g c = sym (append-nil _) ∙ (rw c.in-None.ensures.steps.0 at c.loop-start.invariant)
+returns g c = sym (append-nil _) ∙ (rw c.in-None.ensures.steps.0 at c.loop-entry.invariant)

@@ -4,5 +4,5 @@ use Rattle.blaze_table.specs.Entries.{shown_entry}
 use Rattle.blaze_streams.proofs.tables.into_range_values.shared_entries.Given as goal
 
 -- the entries made, and those that are left, are all
-abbrev pub invariant-loop-start : goal.invariant-loop-start
-invariant-loop-start g l = map (shown_entry g.T.Integer.rank rc_value) l.entries.items ++ l.start-iterator ≡ l.fn.table.entries
+abbrev pub invariant-loop-entry : goal.invariant-loop-entry
+invariant-loop-entry g l = map (shown_entry g.T.Integer.rank rc_value) l.entries.items ++ l.entry-iterator ≡ l.fn.table.entries
