@@ -1,4 +1,5 @@
 use Rattle.std.proofs.Common.{refl, sym, ap, subst}
+use Rattle.std.specs.Iterator.{IsFinite}
 use Rattle.blaze_table.specs.RangeSets.{shown_bare_range, unit_eq}
 use Rattle.blaze_table.specs.Complement.{IsComplement}
 use Rattle.blaze_table.proofs.Pairs.UnitLaws.{unit_laws}
@@ -27,3 +28,6 @@ loop-range-init g c = rw (c.new-gaps.ensures.items, c.min_value.ensures, c.into_
 
 pub loop-range-smaller : goal.loop-range-smaller
 loop-range-smaller g c = (c.in-Some.ensures.goes.on c.loop-range.iterator.1).2
+
+pub loop-range-init-derived : goal.loop-range-init-derived
+loop-range-init-derived g c = (g.met.S.SortedDisjoint.ready _, subst IsFinite (sym (g.met.S.SortedDisjoint.counted _)) tt)

@@ -26,3 +26,6 @@ pub returns : goal.returns
 returns g c =
     subst (IsFilled g.VC.Value.PartialEq.eq g.T.Integer.low g.T.Integer.high (g.S.SortedDisjointMap.left c.args.stream)) (sym c.new-2.ensures)
     (fill_made g.VC.Value.PartialEq.eq g.met.VC.Value.Eq.laws g.T.Integer.low g.T.Integer.high _ c.in_hand.ensures _ _ _ _ c.loop-item.invariant (g.met.S.SortedDisjointMap.gives _ _ _ c.in-None.ensures.steps).0 c.in_ok-push_last.ensures)
+
+pub loop-item-smaller : goal.loop-item-smaller
+loop-item-smaller g c = (c.in-Some.ensures.goes.on c.loop-item.iterator.1).2

@@ -1,4 +1,5 @@
 use Rattle.std.proofs.Common.{sym, ap, subst}
+use Rattle.std.specs.Iterator.{IsFinite}
 use Rattle.blaze_streams.specs.Answers.{EachValue, IsTransformed}
 use Rattle.blaze_streams.specs.Ranges.{shown_range}
 use Rattle.blaze_streams.proofs.Answering.{asked, answered_none, takes_next, answered_more, answered_all, each_next}
@@ -8,6 +9,9 @@ pub loop-item-init : goal.loop-item-init
 loop-item-init g c =
     rw (c.new-out.ensures.items, c.into_iter-item-iterator.ensures.into_iter_gives)
     (answered_none g.C.Asks.shows g.C.Asks.calls g.VC.Value.PartialEq.eq g.W.PartialEq.eq g.T.Integer.low g.T.Integer.high c.args.f _ g.met.VC.Value.Eq.laws c.in_hand.ensures)
+
+pub loop-item-init-derived : goal.loop-item-init-derived
+loop-item-init-derived g c = (g.met.S.SortedDisjointMap.ready _, subst IsFinite (sym (g.met.S.SortedDisjointMap.counted _)) tt)
 
 pub ask-answer-requires-clause-has : goal.ask-answer-requires-clause-has
 ask-answer-requires-clause-has g c =
