@@ -41,7 +41,8 @@ fn is_block_within(first: u128, last: u128, free: u32) -> bool
     begins_block(first, free) && mask(free) <= last - first
 }
 
-/// The number of free binary digits of the greatest block that begins at `first` and ends at `last` or before.
+/// The number of free binary digits of the greatest block that begins at `first` and ends at `last` or before. At most 128
+/// steps.
 #[tactic(auto, using(crate::proofs::Powers::one))]
 pub fn greatest_block(first: u128, last: u128) -> u32
     requires { first ≤ last }

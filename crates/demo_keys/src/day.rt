@@ -1,21 +1,19 @@
 //! Days of the calendar as keys.
-ghost use Rattle.std.specs.Prelude.{◌≡◌, ℤ, ◌-◌, ◌^◌, pos, negsuc};
+ghost use Rattle.std.specs.Prelude.{ℤ, ◌-◌, ◌^◌, pos, negsuc};
 ghost use Rattle.std.proofs.Common.{rules};
 ghost use Rattle.jiff_core.specs.Calendar.{IsEpochDay};
-ghost use Rattle.jiff_core.specs.Date.{epoch_day};
 ghost use Rattle.blaze_int.specs.Newtypes.{ranked-within};
 ghost use Rattle.blaze_int.specs.Signed.{signed-ranked};
 
 use blaze_int::Integer;
 use jiff_core::civil::Date;
-use std::fmt::{self, Display, Formatter};
 use std::marker::Model;
 use std::ops::RangeInclusive;
 
 /// A day from -9999-01-01 to 9999-12-31, by its number. The day 1970-01-01 has the number 0.
 #[derive(Clone, Copy, PartialEq, Eq, PartialOrd, Ord, Debug)]
 pub struct Day {
-    number: i32,
+    pub(crate) number: i32,
 }
 
 /// Contracts see a day as its number.
@@ -71,32 +69,4 @@ impl Integer for Day {
     ghost ranked = { ranked-within (negsuc 4371586) (pos 2932896) (signed-ranked (2 ^ 31 - 1)) (Prim.search rules) (Prim.search rules) (Prim.search rules) };
 
     ghost has_room = { Prim.search rules };
-}
-
-impl From<Date> for Day {
-    ghost from_gives = { λ date day. day ≡ epoch_day date };
-
-    fn from(date: Date) -> Day {
-        Day {
-            number: date.to_unix_epoch_day(),
-        }
-    }
-}
-
-impl From<Day> for Date {
-    ghost from_gives = { λ day date. epoch_day date ≡ day };
-
-    fn from(day: Day) -> Date {
-        Date::from_unix_epoch_day(i64::from(day.number)).unwrap()
-    }
-}
-
-/// As `YYYY-MM-DD`, with `-` in front of a year before the year 0.
-impl Display for Day {
-    fn fmt<W: fmt::Write>(&self, f: &mut Formatter<W>) -> fmt::Result {
-        let Date { year, month, day } = Date::from(*self);
-        let sign = if year < 0 { "-" } else { "" };
-        let year = year.unsigned_abs();
-        write!(f, "{sign}{year:04}-{month:02}-{day:02}")
-    }
 }

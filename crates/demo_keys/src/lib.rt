@@ -3,6 +3,7 @@
 
 mod addresses;
 mod blocks;
+mod dates;
 mod day;
 mod ipv4;
 mod ipv6;

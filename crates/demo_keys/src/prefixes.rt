@@ -1,5 +1,5 @@
 //! Prefixes of addresses, as `10.0.0.0/8`: to ranges of keys, and from them.
-ghost use Rattle.std.specs.Prelude.{◌≡◌, ℕ, ◌-◌, ◌^◌, ◌<◌, ◌≤◌, ◌↔◌, pos, ◌+ℤ◌, ◌≤ℤ◌, ◌<ℤ◌, IsSome, IfSome, MatchOption};
+ghost use Rattle.std.specs.Prelude.{◌≡◌, ℕ, ◌-◌, ◌^◌, ◌<◌, ◌≤◌, ◌↔◌, pos, ◌+ℤ◌, ◌≤ℤ◌, IsSome, IfSome, MatchOption};
 ghost use Rattle.std.specs.Range.{range_inclusive_start, range_inclusive_end};
 ghost use Rattle.blaze_int.specs.Unsigned.{nat_of};
 ghost use Rattle.demo_keys.specs.Blocks.{BeginsBlock, IsGreatestWithin};
@@ -67,7 +67,7 @@ impl Address for Ipv6 {
 /// The addresses of the prefix `start/bits`: those that share the first bits with `start`. `None` where an address has
 /// fewer bits, or where `start` has one set among the others.
 pub fn prefix_range<A: Address>(start: A, bits: u32) -> Option<RangeInclusive<A>>
-    ensures refused { IsSome result
+    ensures accepted { IsSome result
         ↔ ((bits ≤ A.width) × BeginsBlock (nat_of (A.rank start)) (A.width - bits)) }
     ensures first { IfSome result (λ r. range_inclusive_start r ≡ start) }
     ensures last { IfSome result (λ r. A.rank (range_inclusive_end r) +ℤ pos 1
@@ -84,7 +84,8 @@ pub fn prefix_range<A: Address>(start: A, bits: u32) -> Option<RangeInclusive<A>
     }
 }
 
-/// The number of bits of the shortest prefix that begins at `first` and ends at `last` or before. So it has the most addresses.
+/// The number of bits of the shortest prefix that begins at `first` and ends at `last` or before: the one with the most
+/// addresses. At most 128 steps.
 pub fn shortest_prefix<A: Address>(first: A, last: A) -> u32
     requires { A.rank first ≤ℤ A.rank last }
     ensures bits { result ≤ A.width }
@@ -94,7 +95,8 @@ pub fn shortest_prefix<A: Address>(first: A, last: A) -> u32
 }
 
 /// The shortest prefix that begins at `first` and ends at `last` or before, as its number of bits, and the address after it,
-/// or `None` where it ends at `last`. Called again from that address on, it gives the fewest prefixes that make the range.
+/// or `None` where it ends at `last`. Called again from that address on, it gives the prefixes that make the range, each
+/// with the most addresses that it can have there. At most 128 steps.
 pub fn take_prefix<A: Address>(first: A, last: A) -> (u32, Option<A>)
     requires { A.rank first ≤ℤ A.rank last }
     ensures bits { result.0 ≤ A.width }

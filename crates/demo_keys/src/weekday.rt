@@ -1,7 +1,7 @@
 //! The days of the week as keys.
 ghost use Rattle.std.specs.Prelude.{◌≡◌, ◌≤◌, ◌-◌, ◌^◌, pos};
 ghost use Rattle.std.proofs.Common.{lit≤};
-ghost use Rattle.blaze_int.specs.Newtypes.{ranked-along, ranked-within};
+ghost use Rattle.blaze_int.specs.Newtypes.{ranked-along};
 ghost use Rattle.blaze_int.specs.Unsigned.{nat_of, unsigned-ranked, unsigned-room};
 
 use blaze_int::Integer;

@@ -1,0 +1,35 @@
+//! The dates of `jiff_core` from days and days from them, and days as texts.
+ghost use Rattle.std.specs.Prelude.{◌≡◌};
+ghost use Rattle.jiff_core.specs.Date.{epoch_day};
+
+use crate::day::Day;
+use jiff_core::civil::Date;
+use std::fmt::{self, Display, Formatter};
+
+impl From<Date> for Day {
+    ghost from_gives = { λ date day. day ≡ epoch_day date };
+
+    fn from(date: Date) -> Day {
+        Day {
+            number: date.to_unix_epoch_day(),
+        }
+    }
+}
+
+impl From<Day> for Date {
+    ghost from_gives = { λ day date. epoch_day date ≡ day };
+
+    fn from(day: Day) -> Date {
+        Date::from_unix_epoch_day(i64::from(day.number)).unwrap()
+    }
+}
+
+/// As `YYYY-MM-DD`, with `-` in front of a year before the year 0.
+impl Display for Day {
+    fn fmt<W: fmt::Write>(&self, f: &mut Formatter<W>) -> fmt::Result {
+        let Date { year, month, day } = Date::from(*self);
+        let sign = if year < 0 { "-" } else { "" };
+        let year = year.unsigned_abs();
+        write!(f, "{sign}{year:04}-{month:02}-{day:02}")
+    }
+}
