@@ -5,6 +5,7 @@ use Rattle.std.specs.Prelude.{option_map}
 use Rattle.std.specs.Option.{option_to_list}
 use Rattle.std.specs.Iterator.{MakesProgress, item_count}
 use Rattle.std.proofs.lemmas.Int.{ints}
+use Rattle.std.proofs.lemmas.List.{reverse-append}
 use Rattle.blaze_int.proofs.Naturals.{nat_of-pos}
 use Rattle.blaze_entries.specs.declared.range_entry.RangeEntry.{RangeEntry}
 use Rattle.blaze_table.specs.Entries.{Entry, entry, shown_range_entry}
@@ -107,10 +108,22 @@ module _ {V I : Type 0} (left : I → List (Entry V)) (s t : RangesLeft V I) (ne
   pub opened_last : OpensLast left s t → OpensLast left s (record t { back = near })
   opened_last o = record { between = o.between; far = o.far }
 
+-- where none is opened at an end, the next range there is
+module _ {V I : Type 0} (left : I → List (Entry V)) (s t : RangesLeft V I) where
+  pub opens_first : (e : Entry V) → s.front ≡ None → left s.inner ≡ e ∷ left t.inner → t.back ≡ s.back → OpensFirst left s t
+  opens_first e none taken far = record { between = rw (none, taken) refl; far = rw (none, taken) far }
+
+  pub opens_last : (e : Entry V) → s.back ≡ None → left s.inner ≡ left t.inner ++ e ∷ [] → t.front ≡ s.front → OpensLast left s t
+  opens_last e none taken far = record { between = rw (none, taken, reverse-append) refl; far = rw (none, taken, reverse-append) far }
+
 -- the last of entries that are not empty is not
 pub last_full : {V : Type 0} (es : List (Entry V)) (e : Entry V) → IsDisjoint (es ++ e ∷ []) → e.lo ≤ℤ e.hi
 last_full [] e d = d.0
 last_full (f ∷ es) e d = last_full es e d.2
+
+-- the first range is moved out of the list in the middle
+pub moved_first : {V : Type 0} (inner all back : List (Entry V)) (e : Entry V) → all ≡ e ∷ inner → all ++ back ≡ (e ∷ inner) ++ back
+moved_first inner all back e p = ap (λ l. l ++ back) p
 
 -- the last range is moved out of the list in the middle
 pub moved_last : {V : Type 0} (front inner all : List (Entry V)) (e : Entry V) → all ≡ inner ++ e ∷ [] → (front ++ all) ++ [] ≡ (front ++ inner) ++ e ∷ []

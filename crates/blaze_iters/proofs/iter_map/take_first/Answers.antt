@@ -1,3 +1,5 @@
+use Rattle.std.proofs.Common.{refl}
+use Rattle.blaze_iters.proofs.Steps.{moved_first, opens_first}
 use Rattle.blaze_iters.proofs.iter_map.take_first.Goals as goal
 
 pub returns-in-Some-next-clause-full : goal.returns-in-Some-next-clause-full
@@ -5,3 +7,16 @@ returns-in-Some-next-clause-full g c =
     let entries = g.met.I.SortedDisjointMap.gives _ _ _ c.in-Some-next.ensures.steps in
     let full = (rw entries at c.in_hand.ensures.runs.disjoint).0 in
     (rw (c.into_inner-start.ensures.start, c.into_inner-start.ensures.end) full, c.requires.1)
+
+pub next-requires : goal.next-requires
+next-requires g c = g.met.I.SortedDisjointMap.ready _
+
+pub returns-in-Some-next-clause-left : goal.returns-in-Some-next-clause-left
+returns-in-Some-next-clause-left g c =
+    let entries = g.met.I.SortedDisjointMap.gives _ _ _ c.in-Some-next.ensures.steps in
+    rw (← c.in_default.ensures.value, c.into_inner-start.ensures.start, c.into_inner-start.ensures.end) (moved_first _ _ _ _ entries)
+
+pub returns-in-Some-next-clause-opens : goal.returns-in-Some-next-clause-opens
+returns-in-Some-next-clause-opens g c =
+    let entries = g.met.I.SortedDisjointMap.gives _ _ _ c.in-Some-next.ensures.steps in
+    rw (← c.in_default.ensures.value) (opens_first _ _ _ _ refl entries refl)

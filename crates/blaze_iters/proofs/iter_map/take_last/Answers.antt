@@ -1,4 +1,5 @@
-use Rattle.blaze_iters.proofs.Steps.{last_full, moved_last}
+use Rattle.std.proofs.Common.{refl}
+use Rattle.blaze_iters.proofs.Steps.{last_full, moved_last, opens_last}
 use Rattle.blaze_iters.proofs.iter_map.take_last.Goals as goal
 
 pub returns-in-Some-next_back-clause-left : goal.returns-in-Some-next_back-clause-left
@@ -11,3 +12,11 @@ returns-in-Some-next_back-clause-full g c =
     let entries = g.met.I.BothEnds.gives_back _ _ _ c.in-Some-next_back.ensures.steps in
     let full = last_full _ _ (rw entries at c.in_hand.ensures.runs.disjoint) in
     (c.requires.0, rw (c.into_inner-start.ensures.start, c.into_inner-start.ensures.end) full)
+
+pub next_back-requires : goal.next_back-requires
+next_back-requires g c = g.met.I.BothEnds.ready_back _
+
+pub returns-in-Some-next_back-clause-opens : goal.returns-in-Some-next_back-clause-opens
+returns-in-Some-next_back-clause-opens g c =
+    let entries = g.met.I.BothEnds.gives_back _ _ _ c.in-Some-next_back.ensures.steps in
+    rw (← c.in_default.ensures.value) (opens_last _ _ _ _ refl entries refl)
