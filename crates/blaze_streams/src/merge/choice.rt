@@ -8,9 +8,10 @@ ghost use Rattle.blaze_streams.specs.Choosing.{IsTaken};
 
 use crate::carrier::ValueCarrier;
 use crate::cursor::Cursor;
-use crate::merge::pieces::{skip_right, skip_shared, take_before, take_both, with_value};
+use crate::merge::pieces::{take_before, take_both};
 use crate::sorted_disjoint_map::SortedDisjointMap;
 use blaze_int::Integer;
+use blaze_int::compare::{is_below, lesser};
 use blaze_table::RangeEntry;
 use std::alloc::AllocError;
 
@@ -51,7 +52,9 @@ impl<VC: ValueCarrier> Choice<VC, VC> for RightFirst {
         right: &mut Cursor<T, VC, R>,
     ) -> Result<Option<RangeEntry<T, Option<VC>>>, AllocError> {
         if let Some(piece) = take_before(left, right)? {
-            return Ok(Some(with_value(piece)));
+            let RangeEntry { start, end, value } = piece;
+            let value = Some(value);
+            return Ok(Some(RangeEntry { start, end, value }));
         }
         let Some(RangeEntry { start, end, .. }) = right.range() else {
             return Ok(None);
@@ -80,12 +83,26 @@ impl<VC: ValueCarrier> Choice<VC, VC> for ExactlyOne {
         right: &mut Cursor<T, VC, R>,
     ) -> Result<Option<RangeEntry<T, Option<VC>>>, AllocError> {
         if let Some(piece) = take_before(left, right)? {
-            return Ok(Some(with_value(piece)));
+            let RangeEntry { start, end, value } = piece;
+            let value = Some(value);
+            return Ok(Some(RangeEntry { start, end, value }));
         }
         if let Some(other) = take_before(right, left)? {
-            return Ok(Some(with_value(other)));
+            let RangeEntry { start, end, value } = other;
+            let value = Some(value);
+            return Ok(Some(RangeEntry { start, end, value }));
         }
-        Ok(skip_shared(left, right))
+        let (Some(ours), Some(theirs)) = (left.range(), right.range()) else {
+            return Ok(None);
+        };
+        let end = lesser(ours.end, theirs.end);
+        left.advance_in_first(end);
+        right.advance_in_first(end);
+        Ok(Some(RangeEntry {
+            start: ours.start,
+            end,
+            value: None,
+        }))
     }
 
     ghost from_nothing = { refl };
@@ -120,9 +137,30 @@ impl<VCL: ValueCarrier, VCR: ValueCarrier> Choice<VCL, VCR> for LeftAlone {
         right: &mut Cursor<T, VCR, R>,
     ) -> Result<Option<RangeEntry<T, Option<VCL>>>, AllocError> {
         if let Some(piece) = take_before(left, right)? {
-            return Ok(Some(with_value(piece)));
+            let RangeEntry { start, end, value } = piece;
+            let value = Some(value);
+            return Ok(Some(RangeEntry { start, end, value }));
         }
-        Ok(skip_right(left, right))
+        let (Some(ours), Some(theirs)) = (left.range(), right.range()) else {
+            return Ok(None);
+        };
+        if is_below(theirs.end, ours.start) {
+            theirs.end.in_hand();
+            let end = ours.start.sub_one();
+            right.advance(end);
+            return Ok(Some(RangeEntry {
+                start: theirs.start,
+                end,
+                value: None,
+            }));
+        }
+        right.advance_in_first(theirs.end);
+        left.advance(theirs.end);
+        Ok(Some(RangeEntry {
+            start: theirs.start,
+            end: theirs.end,
+            value: None,
+        }))
     }
 
     ghost from_nothing = { refl };

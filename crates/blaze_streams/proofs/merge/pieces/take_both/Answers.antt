@@ -18,15 +18,15 @@ returns-in_default-clause-taken g c =
 
 pub returns-then-is_below-clause-taken : goal.returns-then-is_below-clause-taken
 returns-then-is_below-clause-taken g c =
-    rw (c.skip_below.ensures.start, c.skip_below.ensures.value) (left_gone g.VCL.Value.PartialEq.eq g.VCR.Value.PartialEq.eq _ _ _ _ _
-    c.args.left.now c.skip_below.new.cursor c.args.right.now c.range.ensures.canonical c.range-2.ensures.canonical
-    c.in-Some-Some.ensures.ends c.in-Some-Some.ensures'.ends (lt_holds _ _ (sym c.is_below.ensures ∙ c.if-is_below.true)) c.skip_below.ensures.end c.skip_below.ensures.rest)
+    left_gone g.VCL.Value.PartialEq.eq g.VCR.Value.PartialEq.eq _ _ _ _ _
+    c.args.left.now c.advance.new.self c.args.right.now c.range.ensures.canonical c.range-2.ensures.canonical
+    c.in-Some-Some.ensures.ends c.in-Some-Some.ensures'.ends (lt_holds _ _ (sym c.is_below.ensures ∙ c.if-is_below.true)) c.sub_one-end.ensures c.advance.ensures
 
 pub returns-then-is_below-2-clause-taken : goal.returns-then-is_below-2-clause-taken
 returns-then-is_below-2-clause-taken g c =
-    rw (c.skip_below-then-is_below-2.ensures.start, c.skip_below-then-is_below-2.ensures.value) (right_gone g.VCL.Value.PartialEq.eq g.VCR.Value.PartialEq.eq g.VCL.Value.PartialEq.eq left_with_right none_with _ _ _ _ _
-    c.args.left.now _ c.args.right.now c.skip_below-then-is_below-2.new.cursor c.range.ensures.canonical c.range-2.ensures.canonical
-    c.in-Some-Some.ensures.ends c.in-Some-Some.ensures'.ends (lt_holds _ _ (sym c.is_below-2.ensures ∙ c.if-is_below-2.true)) c.skip_below-then-is_below-2.ensures.end refl c.skip_below-then-is_below-2.ensures.rest)
+    right_gone g.VCL.Value.PartialEq.eq g.VCR.Value.PartialEq.eq g.VCL.Value.PartialEq.eq left_with_right none_with _ _ _ _ _
+    c.args.left.now _ c.args.right.now c.advance-then-is_below-2.new.self c.range.ensures.canonical c.range-2.ensures.canonical
+    c.in-Some-Some.ensures.ends c.in-Some-Some.ensures'.ends (lt_holds _ _ (sym c.is_below-2.ensures ∙ c.if-is_below-2.true)) c.sub_one-end-then-is_below-2.ensures refl c.advance-then-is_below-2.ensures
 
 pub take-requires-clause-has : goal.take-requires-clause-has
 take-requires-clause-has g c =

@@ -15,5 +15,4 @@ returns-clause-taken g c =
 
 pub returns-in-Some-clause-taken : goal.returns-in-Some-clause-taken
 returns-in-Some-clause-taken g c =
-    rw (c.with_value.ensures.start, c.with_value.ensures.end, c.with_value.ensures.value)
-    (left_taken g.VC.Value.PartialEq.eq c.args.left.now c.take_before.new.cursor c.args.right.now _ _ _ (MatchOption-at_some _ _ _ c.in-Some.is c.in_ok-piece.ensures.taken) right_first (λ x. refl))
+    left_taken g.VC.Value.PartialEq.eq c.args.left.now c.take_before.new.cursor c.args.right.now _ _ _ (MatchOption-at_some _ _ _ c.in-Some.is c.in_ok-piece.ensures.taken) right_first (λ x. refl)
