@@ -4,12 +4,14 @@ use Rattle.std.specs.Option.{option_or}
 use Rattle.std.specs.Prelude.{◌≡◌, ℤ, Bool, List, ◌++◌}
 use Rattle.blaze_table.specs.Entries.{Entry, at, SameOption}
 use Rattle.blaze_table.specs.Canonical.{IsRangeMap}
+use Rattle.blaze_table.specs.Filled.{AreKept}
 
 -- a range map that has at each key what the old one has there, and where that has nothing what the first of the entries with
--- the key has
+-- the key has; the old values are kept
 pub record IsFilledFrom {V : Type 0} (eq : V → V → Bool) (low high : ℤ) (entries old new : List (Entry V)) : Type 0 where
   pub range_map : IsRangeMap eq low high new
   pub content : (k : ℤ) → SameOption eq (at new k) (option_or (at old k) (at entries k))
+  pub kept : AreKept eq (λ k. option_or (at old k) (at entries k)) old new
 
 -- a first part of the entries, perhaps none of them, fills the gaps
 pub record IsPartlyFilledFrom {V : Type 0} (eq : V → V → Bool) (low high : ℤ) (entries old new : List (Entry V)) : Type 0 where

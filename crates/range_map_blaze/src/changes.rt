@@ -79,7 +79,8 @@ impl<T: Integer, V: Eq + Clone> RangeMapBlaze<T, V> {
     }
 
     /// Puts a value on those keys of a range that have none, and returns whether the number of keys changed. A key that has a
-    /// value keeps it. The last gap takes the value, and each gap before it a clone.
+    /// value keeps it. The last gap takes the value, and each gap before it a clone. Where ranges are joined, all their keys have
+    /// the stored value of the lowest.
     ///
     /// The bounds are those that the range tells, as of `ranges_insert`. Bounds that name no key, and a range without a gap,
     /// answer false, change nothing and take no memory. Refused memory leaves the map unchanged. It takes a step for each entry

@@ -36,7 +36,7 @@ loop-range-preserved g c =
     let took = g.met.S.SortedDisjointMap.gives _ _ _ c.in-Some.ensures.steps in (
       i.0 ++ e ∷ [],
       i.1 ∙ ap (λ es. i.0 ++ es) took ∙ sym (append_assoc i.0 (e ∷ []) _),
-      filled_from_more g.V.PartialEq.eq g.met.V.Eq.laws g.T.Integer.low g.T.Integer.high c.args.self.now.entries e c.in_ok-into_value.field-0 i.0 c.loop-range.self.entries c.fill.new.self.entries i.2
+      filled_from_more g.V.PartialEq.eq g.met.V.Eq.laws g.T.Integer.low g.T.Integer.high c.args.self.now.entries e c.in_ok-into_value.field-0 i.0 c.loop-range.self.entries c.fill.new.self.entries c.in_hand.ensures i.2
           (rw (c.into_inner-start.ensures.start, c.into_inner-start.ensures.end) at c.in_ok-fill.ensures.ok) c.in_ok-into_value.ensures,
       counted_then _ _ _ i.3 c.fill.ensures.counted,
     )
