@@ -40,7 +40,7 @@ python3 - "$work" <<'END'
 import random
 import sys
 from datetime import date, timedelta
-from ipaddress import IPv4Network
+from ipaddress import IPv4Network, IPv6Network
 
 random.seed(1)
 work = sys.argv[1]
@@ -54,11 +54,17 @@ with open(f"{work}/calendar", "w") as out:
     out.write("0001-01-01 0001-01-01 first\n9999-12-31 9999-12-31 last\n")
     out.write("".join(f"? {year:04}\n" for year in (1, 1900, 1999, 2000, 2001, 2100, 9999)))
 with open(f"{work}/routes", "w") as out:
-    for _ in range(400):
+    for _ in range(5000):
         length = random.randint(0, 32)
         address = random.getrandbits(32) & random.getrandbits(32)
         out.write(f"{IPv4Network((address, length), strict=False)} {random.choice('abcdef')}\n")
+    for _ in range(5000):
+        length = random.randint(0, 128)
+        address = random.getrandbits(128) & random.getrandbits(128)
+        out.write(f"{IPv6Network((address, length), strict=False)} {random.choice('abcdef')}\n")
     out.write("".join("? " + ".".join(str(random.getrandbits(8)) for _ in range(4)) + "\n" for _ in range(50)))
+    out.write("".join("? " + ":".join(f"{random.getrandbits(16):x}" for _ in range(8)) + "\n" for _ in range(50)))
+    out.write("? prefixes\n")
 with open(f"{work}/picture", "w") as out:
     for _ in range(40):
         start = random.randint(-500, 500)

@@ -1,33 +1,64 @@
-"""What `routes` is to print: the owner at each address where a block begins or ends, by ipaddress."""
+"""What `routes` is to print: the owner at each address where a block begins or ends, and the fewest prefixes, by ipaddress."""
 import sys
-from ipaddress import IPv4Address, IPv4Network
+from collections.abc import Iterator
+from ipaddress import IPv4Address, IPv4Network, IPv6Address, IPv6Network, ip_address, ip_network, summarize_address_range
 
-blocks, asked = [], []
+Address = IPv4Address | IPv6Address
+Network = IPv4Network | IPv6Network
+families = ((4, 32, IPv4Address), (6, 128, IPv6Address))
+blocks: list[Network] = []
+owners: dict[tuple[int, int, int], str] = {}  # by version, length and the bits that are shared
+asked: list[str] = []
 for line in sys.stdin:
     line = line.split("#")[0].strip()
     if line.startswith("? "):
-        asked.append(IPv4Address(line[2:]))
+        asked.append(line[2:])
     elif line:
         block, owner = line.split(" ", 1)
-        blocks.append((IPv4Network(block), owner))
+        blocks.append(ip_network(block))
+        free = blocks[-1].max_prefixlen - blocks[-1].prefixlen
+        owners[blocks[-1].version, blocks[-1].prefixlen, int(blocks[-1][0]) >> free] = owner
+lengths = sorted({block.prefixlen for block in blocks}, reverse=True)
 
 
-def owner_of(address):
+def owner_of(address: Address) -> str | None:
     """Of the blocks that hold the address, the longest prefix; of equal ones the later."""
-    holding = [(block.prefixlen, number, owner) for number, (block, owner) in enumerate(blocks) if address in block]
-    return max(holding)[2] if holding else None
+    number, bits = int(address), address.max_prefixlen
+    holding = ((address.version, length, number >> bits - length) for length in lengths if length <= bits)
+    return next((owners[block] for block in holding if block in owners), None)
 
 
-starts = {0} | {int(block[0]) for block, _ in blocks} | {int(block[-1]) + 1 for block, _ in blocks}
-ranges = []
-for start, after in zip(sorted(starts - {1 << 32}), [*sorted(starts - {1 << 32})[1:], 1 << 32]):
-    owner = owner_of(IPv4Address(start))
-    if ranges and ranges[-1][2] == owner:
-        ranges[-1][1] = after - 1
+def ranges() -> Iterator[tuple[Address, Address, str]]:
+    """The greatest ranges of addresses with one owner."""
+    for version, bits, of in families:
+        mine = [block for block in blocks if block.version == version]
+        starts = {0} | {int(block[0]) for block in mine} | {int(block[-1]) + 1 for block in mine}
+        found: list[tuple[int, int, str | None]] = []
+        for start, after in zip(sorted(starts - {1 << bits}), [*sorted(starts - {1 << bits})[1:], 1 << bits]):
+            owner = owner_of(of(start))
+            if found and found[-1][2] == owner:
+                start = found.pop()[0]
+            found.append((start, after - 1, owner))
+        yield from ((of(start), of(end), owner) for start, end, owner in found if owner is not None)
+
+
+def text(address: Address) -> str:
+    """The address as RFC 5952 has it: of an address of IPv4 in one of IPv6 the last part is dotted.
+
+    >>> text(ip_address("::ffff:a00:1"))
+    '::ffff:10.0.0.1'
+    """
+    mapped = address.ipv4_mapped if isinstance(address, IPv6Address) else None
+    return str(address) if mapped is None else f"::ffff:{mapped}"
+
+
+for start, end, owner in ranges():
+    print(text(start), text(end), owner)
+for question in asked:
+    if question == "prefixes":
+        for start, end, owner in ranges():
+            for prefix in summarize_address_range(start, end):
+                print(f"{text(prefix[0])}/{prefix.prefixlen} {owner}")
     else:
-        ranges.append([start, after - 1, owner])
-for start, end, owner in ranges:
-    if owner is not None:
-        print(IPv4Address(start), IPv4Address(end), owner)
-for address in asked:
-    print(address, owner_of(address) or "-")
+        address = ip_address(question)
+        print(text(address), owner_of(address) or "-")

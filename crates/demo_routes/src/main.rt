@@ -1,51 +1,42 @@
-//! Who owns addresses, from lines `ADDRESS/LENGTH NAME`: of the blocks that hold an address the longest prefix counts, whatever
-//! the order of the lines. The shortest list of ranges, and for each line `? ADDRESS` the owner.
+//! Who owns addresses of both families, from lines `PREFIX NAME`, as `10.0.0.0/8 private` and `2001:db8::/32 documentation`: of the
+//! prefixes that hold an address the longest counts, whatever the order of the lines. The shortest list of ranges, and for each line
+//! `? ADDRESS` the owner, for `? prefixes` the fewest prefixes that say the same.
 #![tactic(auto)]
 
-use demo_lines::{Fault, Table, content, decimal, run};
-use range_map_blaze::RangeMapBlaze;
-use std::net::Ipv4Addr;
-use std::ops::RangeInclusive;
+mod family;
+
+use demo_keys::{Ipv4, Ipv6};
+use demo_lines::{Fault, Table, content, run};
+use family::{Block, map_of, owner_of, print_prefixes, print_ranges, read, read_block};
 use std::process::ExitCode;
 
-/// A block of addresses, the number of the bits that they share, and its owner.
-#[derive(Drop)]
-struct Block {
-    bits: u32,
-    range: RangeInclusive<u32>,
-    owner: String,
+/// What is asked.
+#[derive(Clone, Copy)]
+enum Question {
+    /// The owner of an address.
+    OwnerOf4(Ipv4),
+    OwnerOf6(Ipv6),
+    /// The fewest prefixes.
+    Prefixes,
 }
 
-/// The blocks, and the addresses that were asked.
+/// The blocks of both families, and what was asked.
 #[derive(Drop)]
 struct Routes {
-    blocks: Vec<Block>,
-    asked: Vec<u32>,
+    blocks_of_4: Vec<Block<Ipv4>>,
+    blocks_of_6: Vec<Block<Ipv6>>,
+    questions: Vec<Question>,
 }
 
-/// A number that is 255 at most.
-fn byte(digits: &str) -> Option<u8> {
-    u8::try_from(decimal(digits)?).ok()
-}
-
-/// The address that four numbers write.
-fn address(text: &str) -> Option<u32> {
-    let (a, rest) = text.split_once('.')?;
-    let (b, rest) = rest.split_once('.')?;
-    let (c, d) = rest.split_once('.')?;
-    Some(u32::from_be_bytes([byte(a)?, byte(b)?, byte(c)?, byte(d)?]))
-}
-
-/// The number of shared bits, the addresses and the owner of a line `ADDRESS/LENGTH NAME`. The bits that are not shared are 0.
-fn read(text: &str) -> Option<(u32, RangeInclusive<u32>, &str)> {
-    let (block, owner) = text.split_once(' ')?;
-    let (start, bits) = block.split_once('/')?;
-    let (start, bits) = (address(start)?, u32::from(byte(bits)?));
-    let free = u32::MAX.checked_shr(bits).unwrap_or(0);
-    if 32 < bits || start & free != 0 {
-        return None;
+/// What a line asks. An address with a colon is one of IPv6.
+fn read_question(text: &str) -> Option<Question> {
+    if text == "prefixes" {
+        return Some(Question::Prefixes);
     }
-    Some((bits, start..=start | free, owner))
+    if text.contains(':') {
+        return Some(Question::OwnerOf6(read(text)?));
+    }
+    Some(Question::OwnerOf4(read(text)?))
 }
 
 impl Table for Routes {
@@ -54,36 +45,49 @@ impl Table for Routes {
             return Ok(());
         };
         if let Some(asked) = text.strip_prefix("? ") {
-            self.asked.push(address(asked).ok_or(Fault::Line)?)?;
+            self.questions
+                .push(read_question(asked).ok_or(Fault::Line)?)?;
+            return Ok(());
+        }
+        let (prefix, owner) = text.split_once(' ').ok_or(Fault::Line)?;
+        if prefix.contains(':') {
+            self.blocks_of_6
+                .push(read_block(rt.alloc(), prefix, owner)?)?;
         } else {
-            let (bits, range, owner) = read(text).ok_or(Fault::Line)?;
-            let owner = String::from_str(rt.alloc(), owner)?;
-            self.blocks.push(Block { bits, range, owner })?;
+            self.blocks_of_4
+                .push(read_block(rt.alloc(), prefix, owner)?)?;
         }
         Ok(())
     }
 
     fn print(&mut self, rt: &HostRuntime) -> Result<(), Fault> {
-        self.blocks.sort_by_key(|block| block.bits)?;
-        let painted = self
-            .blocks
-            .drain(..)
-            .map(|block| (block.range, block.owner));
-        let map = RangeMapBlaze::from_ranges(rt.alloc(), painted)?;
-        for (range, owner) in map.range_values() {
-            let (start, end) = range.into_inner();
-            let (start, end) = (Ipv4Addr::from(start), Ipv4Addr::from(end));
-            println!(rt; "{start} {end} {owner}")?;
-        }
-        for asked in self.asked.iter() {
-            let owner = map.get(*asked).map_or("-", |owner| owner.as_str());
-            println!(rt; "{} {owner}", Ipv4Addr::from(*asked))?;
+        let of_4 = map_of(rt.alloc(), &mut self.blocks_of_4)?;
+        let of_6 = map_of(rt.alloc(), &mut self.blocks_of_6)?;
+        print_ranges(rt, &of_4)?;
+        print_ranges(rt, &of_6)?;
+        for question in self.questions.iter() {
+            match *question {
+                Question::OwnerOf4(address) => {
+                    println!(rt; "{address} {}", owner_of(&of_4, address))?;
+                }
+                Question::OwnerOf6(address) => {
+                    println!(rt; "{address} {}", owner_of(&of_6, address))?;
+                }
+                Question::Prefixes => {
+                    print_prefixes(rt, &of_4)?;
+                    print_prefixes(rt, &of_6)?;
+                }
+            }
         }
         Ok(())
     }
 }
 
 fn main(rt: HostRuntime) -> ExitCode {
-    let (blocks, asked) = (Vec::new(rt.alloc()), Vec::new(rt.alloc()));
-    run(&rt, Routes { blocks, asked })
+    let table = Routes {
+        blocks_of_4: Vec::new(rt.alloc()),
+        blocks_of_6: Vec::new(rt.alloc()),
+        questions: Vec::new(rt.alloc()),
+    };
+    run(&rt, table)
 }
