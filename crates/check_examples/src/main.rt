@@ -6,6 +6,7 @@
 mod coarse;
 mod fills;
 mod joins;
+mod keys;
 mod many;
 mod maps;
 mod moved;
@@ -29,7 +30,8 @@ fn run(rt: &HostRuntime) -> Result<(), AllocError> {
     maps::all(rt)?;
     coarse::all(rt)?;
     refused::all(rt)?;
-    moved::all(rt)
+    moved::all(rt)?;
+    keys::all(rt)
 }
 
 fn main(rt: HostRuntime) -> ExitCode {
