@@ -1,6 +1,8 @@
 //! Lengths, neighbours and bounds at the ends of key types.
 use blaze_int::compare::{is_next, length};
 use blaze_int::{Integer, SafeLength, UIntPlusOne, bounds_of, differ, names_a_key};
+use demo_keys::{Day, Ipv4, Ipv6, Weekday};
+use jiff_core::civil::Date;
 use std::ops::Bound;
 use std::process::Abort;
 use std::test::Fail;
@@ -52,6 +54,51 @@ fn keys_of_each_type(rt: HostRuntime) {
     check_type(&rt, ['\0', '\u{1}', '\u{10FFFE}', '\u{10FFFF}'], 1112064);
     assert_eq!(rt; '\u{D7FF}'.checked_add_one(), Some('\u{E000}'));
     assert!(rt; is_next('\u{D7FF}', '\u{E000}'));
+}
+
+#[test]
+fn keys_of_ones_own(rt: HostRuntime) {
+    check_type(
+        &rt,
+        [Ipv4(0), Ipv4(1), Ipv4(u32::MAX - 1), Ipv4(u32::MAX)],
+        4294967296,
+    );
+    check_type(
+        &rt,
+        [Ipv6(0), Ipv6(1), Ipv6(u128::MAX - 1), Ipv6(u128::MAX)],
+        UIntPlusOne::MaxPlusOne,
+    );
+    check_type(
+        &rt,
+        [
+            Weekday::Monday,
+            Weekday::Tuesday,
+            Weekday::Saturday,
+            Weekday::Sunday,
+        ],
+        7,
+    );
+}
+
+#[test]
+fn days_of_the_calendar(rt: HostRuntime) {
+    let ends = [
+        Date::new(-9999, 1, 1),
+        Date::new(-9999, 1, 2),
+        Date::new(9999, 12, 30),
+        Date::new(9999, 12, 31),
+    ];
+    if let [Ok(least), Ok(second), Ok(last_but_one), Ok(greatest)] = ends {
+        let days = [
+            Day::from(least),
+            Day::from(second),
+            Day::from(last_but_one),
+            Day::from(greatest),
+        ];
+        check_type(&rt, days, 7304484);
+    } else {
+        assert!(rt; false);
+    }
 }
 
 #[test]
