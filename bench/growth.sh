@@ -76,7 +76,7 @@ work '`a - b`, b of 100, lent' 22 4 'library plain'
 work '`a - b`, b of 100, by value' 23 4 'library plain'
 work '`a ^ b`, equal sizes' 14 4 'library plain'
 work '`a ^ b`, b of 100, lent' 28 4 'library plain'
-work '`a ^ b`, b of 100, by value' 29 4 'library plain'
+work '`a ^ &b`, b of 100, a by value' 29 4 'library plain'
 work 'a map of unsorted ranges; plain Rust paints them' 17 4 'library plain'
 work 'a map of sorted ranges; plain Rust copies them' 18 4 'library plain'
 wait

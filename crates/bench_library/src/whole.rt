@@ -94,14 +94,14 @@ impl Combination {
         }
     }
 
-    /// What is made of two maps by value.
+    /// What is made of two maps by value; of `^`, the second is lent.
     fn of_values(self, map: Map, other: Map) -> Result<Map, AllocError> {
         match self {
             Combination::Union => map | other,
             Combination::Intersection => map & other,
             Combination::Restriction => other & map,
             Combination::Difference => map - other,
-            Combination::SymmetricDifference => map ^ other,
+            Combination::SymmetricDifference => map ^ &other,
         }
     }
 }

@@ -8,7 +8,8 @@ ghost use Rattle.range_map_blaze.specs.Made.{IsMade};
 
 use crate::map::RangeMapBlaze;
 use crate::operators::exactly_one::{
-    symmetric_difference, symmetric_difference_by_value, symmetric_difference_with,
+    symmetric_difference, symmetric_difference_by_value, symmetric_difference_under,
+    symmetric_difference_with,
 };
 use blaze_int::Integer;
 use std::alloc::AllocError;
@@ -49,7 +50,7 @@ impl<'a, T: Integer, V: Eq + Clone> BitXor<RangeMapBlaze<T, V>> for &'a RangeMap
         (IsMade (IsChosen V.eq T.low T.high option_xor left.now.entries right.entries)) };
 
     fn bitxor(self, right: RangeMapBlaze<T, V>) -> Result<RangeMapBlaze<T, V>, AllocError> {
-        Ok(symmetric_difference_with(right, self)?.uncounted())
+        Ok(symmetric_difference_under(self, right)?.uncounted())
     }
 }
 

@@ -25,7 +25,7 @@ pub fn symmetric_difference<T: Integer, V: Eq + Clone>(
 {
     let (left_len, right_len) = (left.ranges_len(), right.ranges_len());
     if are_few(left_len, right_len) || are_few(right_len, left_len) {
-        return both_alone(left, right);
+        return alone(left, right);
     }
     let room = left_len.saturating_add(right_len);
     lent_chosen(
@@ -37,7 +37,7 @@ pub fn symmetric_difference<T: Integer, V: Eq + Clone>(
     )
 }
 
-/// The same, with both maps' own values. Where one of them has few entries, the other is edited in place.
+/// The same, with both maps' own values, in one pass.
 pub fn symmetric_difference_by_value<T: Integer, V: Eq + Clone>(
     left: RangeMapBlaze<T, V>,
     right: RangeMapBlaze<T, V>,
@@ -46,14 +46,7 @@ pub fn symmetric_difference_by_value<T: Integer, V: Eq + Clone>(
     ensures { IfOk result (λ map. IsChosen V.eq T.low T.high option_xor left.entries
         right.entries map.entries) }
 {
-    let (left_len, right_len) = (left.ranges_len(), right.ranges_len());
-    if are_few(right_len, left_len) {
-        return both_alone_in(left, &right);
-    }
-    if are_few(left_len, right_len) {
-        return both_alone_in(right, &left);
-    }
-    let room = left_len.saturating_add(right_len);
+    let room = left.ranges_len().saturating_add(right.ranges_len());
     owned_chosen(
         left,
         OwnedRangeValuesIter::new(right.table),
@@ -72,13 +65,28 @@ pub fn symmetric_difference_with<T: Integer, V: Eq + Clone>(
         right.now.entries map.entries) }
 {
     if are_few(right.ranges_len(), left.ranges_len()) {
-        return both_alone_in(left, right);
+        return alone_with(left, right);
     }
     symmetric_difference(&left, right)
 }
 
+/// The same, of a map that is lent and one by value. Where the first has few entries, the other is edited in place.
+pub fn symmetric_difference_under<T: Integer, V: Eq + Clone>(
+    left: &RangeMapBlaze<T, V>,
+    right: RangeMapBlaze<T, V>,
+) -> Result<RangeMapBlaze<T, V>, AllocError>
+    requires { ClonesAreAlike V.is_clone V.eq }
+    ensures { IfOk result (λ map. IsChosen V.eq T.low T.high option_xor left.now.entries
+        right.entries map.entries) }
+{
+    if are_few(left.ranges_len(), right.ranges_len()) {
+        return alone_under(left, right);
+    }
+    symmetric_difference(left, &right)
+}
+
 /// What each map has off the other's keys, as one map.
-fn both_alone<T: Integer, V: Eq + Clone>(
+fn alone<T: Integer, V: Eq + Clone>(
     left: &RangeMapBlaze<T, V>,
     right: &RangeMapBlaze<T, V>,
 ) -> Result<RangeMapBlaze<T, V>, AllocError>
@@ -92,8 +100,8 @@ fn both_alone<T: Integer, V: Eq + Clone>(
     Ok(map)
 }
 
-/// The same, with the left map's own values, which is cut in place where the right one has few entries.
-fn both_alone_in<T: Integer, V: Eq + Clone>(
+/// The same, with the left map's own values.
+fn alone_with<T: Integer, V: Eq + Clone>(
     left: RangeMapBlaze<T, V>,
     right: &RangeMapBlaze<T, V>,
 ) -> Result<RangeMapBlaze<T, V>, AllocError>
@@ -103,6 +111,21 @@ fn both_alone_in<T: Integer, V: Eq + Clone>(
 {
     let right_alone = outside_keys(right, &left.table)?;
     let left_alone = outside_keys_by_value(left, &right.table)?;
+    let map = union_by_value(left_alone, right_alone)?;
+    Ok(map)
+}
+
+/// The same, with the right map's own values.
+fn alone_under<T: Integer, V: Eq + Clone>(
+    left: &RangeMapBlaze<T, V>,
+    right: RangeMapBlaze<T, V>,
+) -> Result<RangeMapBlaze<T, V>, AllocError>
+    requires { ClonesAreAlike V.is_clone V.eq }
+    ensures { IfOk result (λ map. IsChosen V.eq T.low T.high option_xor left.now.entries
+        right.entries map.entries) }
+{
+    let left_alone = outside_keys(left, &right.table)?;
+    let right_alone = outside_keys_by_value(right, &left.table)?;
     let map = union_by_value(left_alone, right_alone)?;
     Ok(map)
 }

@@ -1,10 +1,10 @@
 use Rattle.std.proofs.Common.{◌≡◌, ap}
 use Rattle.blaze_table.specs.Counted.{CountedEntries}
 use Rattle.range_map_blaze.proofs.Choices.{both_alone}
-use Rattle.range_map_blaze.proofs.operators.exactly_one.both_alone.Goals as goal
+use Rattle.range_map_blaze.proofs.operators.exactly_one.alone_under.Goals as goal
 
 pub returns : goal.returns
 returns g c =
     let left_is : c.left.inside.table.entries ≡ c.args.left.now.entries = ap (λ (s : CountedEntries g.row.V.Denot). s.entries) c.left.view_is in
-    let right_is : c.right.inside.table.entries ≡ c.args.right.now.entries = ap (λ (s : CountedEntries g.row.V.Denot). s.entries) c.right.view_is in
+    let right_is : c.right.inside.table.entries ≡ c.args.right.entries = ap (λ (s : CountedEntries g.row.V.Denot). s.entries) c.right.view_is in
     both_alone g.V.PartialEq.eq g.met.V.Eq.laws _ _ _ _ _ _ _ (rw right_is at c.in_ok-left_alone.ensures) (rw left_is at c.in_ok-right_alone.ensures) c.in_ok-map.ensures.chosen

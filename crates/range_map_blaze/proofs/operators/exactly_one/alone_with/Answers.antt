@@ -1,7 +1,7 @@
 use Rattle.std.proofs.Common.{◌≡◌, ap}
 use Rattle.blaze_table.specs.Counted.{CountedEntries}
 use Rattle.range_map_blaze.proofs.Choices.{both_alone}
-use Rattle.range_map_blaze.proofs.operators.exactly_one.both_alone_in.Goals as goal
+use Rattle.range_map_blaze.proofs.operators.exactly_one.alone_with.Goals as goal
 
 pub returns : goal.returns
 returns g c =
