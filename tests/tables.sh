@@ -2,9 +2,9 @@
 # The programs over tables that people know. What `rt ci` compares with their excerpts is compared with what tests/tables/NAME.py
 # prints of these: it goes key by key, without ranges. So is what `check_tasks` is to print, in which each line of code of docs/TASKS.md
 # stands. So are the programs with whole tables, where these are there: Scripts.txt of Debian's package unicode-data,
-# /etc/services, the memory of a process, and lists that are made here. Then faulty lines, a folder as input, an output that is
-# full, and each request for memory refused in turn. Programs that are not built are left out, and named. The last line is
-# 'N passed, M failed'.
+# /etc/services, the memory of a process, and lists that are made here. The key type of docs/KEYS.md is that of `demo_keys`. Then
+# faulty lines, a folder as input, an output that is full, and each request for memory refused in turn. Programs that are not built
+# are left out, and named. The last line is 'N passed, M failed'.
 set -euo pipefail
 cd "$(dirname "${BASH_SOURCE[0]}")/.."
 source tests/judge.sh
@@ -24,6 +24,9 @@ tasks="$(cat crates/check_tasks/src/*.rt | unbroken)"
 while IFS= read -r line; do
     judge yes "$(grep -q -F -- "$(unbroken <<<"$line")" <<<"$tasks" && echo yes || echo no)" "'$line' of docs/TASKS.md"
 done < <(sed -n '/^| [^|]/{s/\\|/\x01/g; s/^|[^|]*|[^|]*|//p}' docs/TASKS.md | grep -o '`[^`]*`' | tr -d '`' | tr '\001' '|')
+
+# ---- The key type that docs/KEYS.md shows whole
+judge "$(cat crates/demo_keys/src/ipv4.rt)" "$(awk '/^```/ { if (inside++) exit; next } inside' docs/KEYS.md)" "the key type of docs/KEYS.md"
 
 built=()
 for name in "${names[@]}"; do if [ -x "$(program_of "$name")" ]; then built+=("$name"); else echo "$name is not built"; fi; done
