@@ -68,9 +68,6 @@ module _ {A B : Type 0} (carrieda : A → A → Type 0) (carriedb : B → B → 
   pub given_there : (b : Bool) (p q : Option A × Option B) → b ≡ true → ArePairsCarried carrieda carriedb p q → AreOptions (ArePairsCarried carrieda carriedb) (cond b (Some p) None) (Some q)
   given_there b p q t c = subst (λ z. AreOptions (ArePairsCarried carrieda carriedb) (cond z (Some p) None) (Some q)) (sym t) c
 
-  pub none_given : (b : Bool) (p : Option A × Option B) → b ≡ false → AreOptions (ArePairsCarried carrieda carriedb) (cond b (Some p) None) None
-  none_given b p t = subst (λ z. AreOptions (ArePairsCarried carrieda carriedb) (cond z (Some p) None) None) (sym t) tt
-
 -- ---- the walk
 
 module _ {A B : Type 0} (carrieda : A → A → Type 0) (carriedb : B → B → Type 0) (eqa : A → A → Bool) (eqb : B → B → Bool) (low high : ℤ) (kind : JoinKind) where

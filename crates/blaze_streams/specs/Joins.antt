@@ -1,6 +1,6 @@
 -- The segments of two lists: the greatest ranges on which neither changes and at least one is present, and those of them that
 -- a join is asked for.
-use Rattle.std.specs.Prelude.{◌≡◌, ℤ, ◌≤ℤ◌, Bool, ◌&&◌, ◌||◌, if◌then◌else◌, List, [], ◌∷◌, ◌++◌, Option, Some, None}
+use Rattle.std.specs.Prelude.{◌≡◌, ℤ, ◌≤ℤ◌, Bool, true, false, ◌&&◌, ◌||◌, if◌then◌else◌, List, [], ◌∷◌, ◌++◌, Option, Some, None, MatchOption}
 use Rattle.std.specs.Option.{option_eq, is_some}
 use Rattle.blaze_entries.specs.Cloned.{AreCloned}
 use Rattle.blaze_table.specs.Entries.{Entry, entry, at}
@@ -45,14 +45,40 @@ abbrev pub piece_of : {V : Type 0} → ℤ → ℤ → Option V → List (Entry 
 piece_of s t None = []
 piece_of s t (Some v) = entry s t v ∷ []
 
--- the first segment of two lists, which starts at s, put behind a list where the kind asks for it; and what is left of the two
+-- what is left of a list once all keys were let go that are below another's first key, or all keys where the other has none; the
+-- other has none up to `end`, which is at least s
+pub record IsLetGo {A B : Type 0} (s high : ℤ) (list new : List (Entry A)) (other : List (Entry B)) : Type 0 where
+  pub end : ℤ
+  pub from : s ≤ℤ end
+  pub to : end ≤ℤ high
+  pub alone : (k : ℤ) → k ≤ℤ end → at other k ≡ None
+  pub list_is : new ≡ after end list
+  pub other_is : other ≡ after end other
+
+-- one of two has a value, and a join of the kind is not asked for it
+pub record IsNotAsked {A B : Type 0} (kind : JoinKind) (x : Option A) (y : Option B) : Type 0 where
+  pub one : is_joined Full x y ≡ true
+  pub not_asked : is_joined kind x y ≡ false
+
+-- what is left of two lists once keys up to `end`, which is at least s, were let go, for none of which a join of the kind is asked
+pub record IsSkipped {A B : Type 0} (kind : JoinKind) (s high : ℤ) (left left_new : List (Entry A)) (right right_new : List (Entry B)) : Type 0 where
+  pub end : ℤ
+  pub from : s ≤ℤ end
+  pub to : end ≤ℤ high
+  pub none : (k : ℤ) → k ≤ℤ end → paired kind (at left k) (at right k) ≡ None
+  pub left_is : left_new ≡ after end left
+  pub right_is : right_new ≡ after end right
+
+-- the first keys of two lists, from s up to `end`, gone through: where the kind asks for their segment, it is put behind a list,
+-- and else the kind asks for none of them; and what is left of the two
 pub record IsSegmentPut {A B : Type 0} (carrieda : A → A → Type 0) (carriedb : B → B → Type 0) (low high : ℤ) (kind : JoinKind) (s : ℤ) (left left_new : List (Entry A)) (right right_new : List (Entry B)) (out out_new : List (Entry (Option A × Option B))) : Type 0 where
   pub end : ℤ
   pub from : low ≤ℤ s
+  pub order : s ≤ℤ end
   pub to : end ≤ℤ high
-  pub ends : lesser (steady_to s left) (steady_to s right) ≡ Some end
   pub left_is : left_new ≡ after end left
   pub right_is : right_new ≡ after end right
   pub given : Option (Option A × Option B)
+  pub ends : MatchOption given ((k : ℤ) → s ≤ℤ k → k ≤ℤ end → paired kind (at left k) (at right k) ≡ None) (λ _. lesser (steady_to s left) (steady_to s right) ≡ Some end)
   pub carried : AreOptions (ArePairsCarried carrieda carriedb) (paired kind (at left end) (at right end)) given
   pub put : out_new ≡ out ++ piece_of s end given

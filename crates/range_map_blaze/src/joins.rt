@@ -11,8 +11,8 @@ ghost use Rattle.range_map_blaze.specs.Made.{IsMade};
 use crate::map::RangeMapBlaze;
 use blaze_int::Integer;
 use blaze_streams::{
-    Asks, Both, CanonMapIter, Either, JoinKind, Owned, RangeValuesIter, SortedDisjointMap,
-    WithLeft, answers_of, join_of, transform,
+    Asks, Both, CanonMapIter, Either, JoinKind, Owned, RangeValuesIter, SeekingRangeValuesIter,
+    SortedDisjointMap, WithLeft, answers_of, join_of, transform,
 };
 use blaze_table::RangeTable;
 use std::alloc::{AllocError, Global};
@@ -58,7 +58,10 @@ fn segments_of<'a, T: Integer, V: Eq + Clone, V2: Eq + Clone>(
     ensures { IfOk result (λ segments. IsJoinOf V.eq V2.eq T.low T.high kind table.now.entries
         other.now.entries segments) }
 {
-    let (left, right) = (RangeValuesIter::new(table), RangeValuesIter::new(other));
+    let (left, right) = (
+        SeekingRangeValuesIter::new(table),
+        SeekingRangeValuesIter::new(other),
+    );
     let segments = join_of(alloc, left, right, kind)?;
     Ok(segments)
 }
@@ -111,7 +114,8 @@ impl<T: Integer, V: Eq + Clone> RangeMapBlaze<T, V> {
 
     /// What a closure returns where both maps have a value: one call for each of the greatest ranges on which neither changes
     /// and both are there, ascending. Touching equal results are one entry. Refused memory leaves both maps unchanged and drops
-    /// the answers. It takes O(n + m) steps with n and m entries.
+    /// what it returned. With n entries in one map and m in the other it takes O(n + m) steps, and where m is small O(m) searches
+    /// and a step for each range that the closure is called for.
     pub fn inner_join<V2: Eq + Clone, W: Eq + Clone, F: FnMut(&V, &V2) -> W>(
         &self,
         other: &RangeMapBlaze<T, V2>,
@@ -135,7 +139,8 @@ impl<T: Integer, V: Eq + Clone> RangeMapBlaze<T, V> {
     }
 
     /// The same where this map has a value, with the other's where it has one. Refused memory leaves both maps unchanged and
-    /// drops what it returned.
+    /// drops what it returned. It takes O(n + m) steps with n entries here and m in the other map, and where n is small O(n)
+    /// searches and a step for each range that the closure is called for.
     pub fn left_join<V2: Eq + Clone, W: Eq + Clone, F: FnMut(&V, Option<&V2>) -> W>(
         &self,
         other: &RangeMapBlaze<T, V2>,
@@ -158,7 +163,8 @@ impl<T: Integer, V: Eq + Clone> RangeMapBlaze<T, V> {
         Ok(map)
     }
 
-    /// The same where at least one map has a value. Refused memory leaves both maps unchanged and drops what it returned.
+    /// The same where at least one map has a value. Refused memory leaves both maps unchanged and drops what it returned. It
+    /// takes O(n + m) steps with n and m entries.
     pub fn full_join<V2: Eq + Clone, W: Eq + Clone, F: FnMut(Option<&V>, Option<&V2>) -> W>(
         &self,
         other: &RangeMapBlaze<T, V2>,

@@ -5,8 +5,8 @@ ghost use Rattle.blaze_table.specs.Canonical.{IsCanonical};
 ghost use Rattle.blaze_table.specs.Entries.{at};
 ghost use Rattle.blaze_table.specs.Painted.{ClonesAreAlike};
 ghost use Rattle.blaze_streams.specs.Carried.{shown_pair};
-ghost use Rattle.blaze_streams.specs.Cursors.{first_key, steady_to, Reaches, lesser};
-ghost use Rattle.blaze_streams.specs.Joins.{is_joined, IsCarriedJoin, IsSegmentPut};
+ghost use Rattle.blaze_streams.specs.Cursors.{first_key, steady_to, IsFirstOfBoth, Reaches, StartsAbove, lesser};
+ghost use Rattle.blaze_streams.specs.Joins.{is_joined, IsCarriedJoin, IsLetGo, IsNotAsked, IsSegmentPut, IsSkipped};
 ghost use Rattle.blaze_streams.specs.RangeLists.{shown_ranges};
 
 use crate::carrier::ValueCarrier;
@@ -80,7 +80,7 @@ fn steady_end<
 >(start: T, left: &Cursor<T, VCL, L>, right: &Cursor<T, VCR, R>) -> T
     requires left { IsCanonical VCL.Value.eq left.now }
     requires right { IsCanonical VCR.Value.eq right.now }
-    requires starts { lesser (first_key left.now) (first_key right.now) ≡ Some (T.rank start) }
+    requires starts { IsFirstOfBoth left.now right.now (T.rank start) }
     ensures ends { lesser (steady_to (T.rank start) left.now) (steady_to (T.rank start) right.now)
         ≡ Some (T.rank result) }
     ensures left { Reaches (T.rank result) left.now }
@@ -92,7 +92,51 @@ fn steady_end<
     end
 }
 
-/// Puts the first segment of two streams behind a list, where the kind asks for it, and lets its keys go.
+/// Lets the keys of a stream go that are below another's first key, all where the other has none. The other has none up to `end`.
+/// A stream that finds a key by a search takes one, however many ranges go.
+fn let_go_below<
+    T: Integer,
+    VC: ValueCarrier,
+    VCO: ValueCarrier,
+    I: SortedDisjointMap<T, VC>,
+    O: SortedDisjointMap<T, VCO>,
+>(cursor: &mut Cursor<T, VC, I>, other: &Cursor<T, VCO, O>, end: T)
+    requires { StartsAbove (T.rank end) other.now }
+    ensures { IsLetGo (T.rank end) T.high cursor.old cursor.new other.now }
+{
+    end.in_hand();
+    match other.first() {
+        Some(first) => {
+            first.in_hand();
+            cursor.advance(first.sub_one());
+        }
+        None => cursor.advance(T::max_value()),
+    }
+}
+
+/// Lets the keys go of  the one of two streams that has a value at `end`, where a join of the kind is not asked for it, up to the
+/// other's first key.
+fn skip<
+    T: Integer,
+    VCL: ValueCarrier,
+    VCR: ValueCarrier,
+    L: SortedDisjointMap<T, VCL>,
+    R: SortedDisjointMap<T, VCR>,
+>(kind: JoinKind, left: &mut Cursor<T, VCL, L>, right: &mut Cursor<T, VCR, R>, end: T)
+    requires left { Reaches (T.rank end) left.old }
+    requires right { Reaches (T.rank end) right.old }
+    requires alone { IsNotAsked kind (at left.old (T.rank end)) (at right.old (T.rank end)) }
+    ensures { IsSkipped kind (T.rank end) T.high left.old left.new right.old right.new }
+{
+    if is_asked(JoinKind::Left, left, right, end) {
+        let_go_below(left, right, end);
+    } else {
+        let_go_below(right, left, end);
+    }
+}
+
+/// Puts the first segment of two streams behind a list, where the kind asks for it, and lets its keys go. Where the kind does not,
+/// all keys go for which one of the two streams alone has a value.
 fn join_next<
     T: Integer,
     VCL: ValueCarrier,
@@ -108,7 +152,7 @@ fn join_next<
 ) -> Result<(), AllocError>
     requires left { IsCanonical VCL.Value.eq left.old }
     requires right { IsCanonical VCR.Value.eq right.old }
-    requires starts { lesser (first_key left.old) (first_key right.old) ≡ Some (T.rank start) }
+    requires starts { IsFirstOfBoth left.old right.old (T.rank start) }
     ensures { OnOk result (IsSegmentPut VCL.is_carried VCR.is_carried T.low T.high kind
         (T.rank start) left.old left.new right.old right.new
         (shown_ranges T.rank (shown_pair VCL.shown VCR.shown) out.old.items)
@@ -121,14 +165,13 @@ fn join_next<
         let given = (left.give(end)?, right.give(end)?);
         out.push((start..=end, given))?;
     } else {
-        left.advance_in_first(end);
-        right.advance_in_first(end);
+        skip(kind, left, right, end);
     }
     Ok(())
 }
 
 /// The segments of two streams that a join of a kind is asked for, each with carriers of what the two have there, in one pass
-/// over both. The segment that a range ends with has the range's own carrier, each one before it another (`carry`), whose value
+/// over both, in which a stream that is behind seeks the next key that may be asked for. The segment that a range ends with has the range's own carrier, each one before it another (`carry`), whose value
 /// is to be `==`. Refused memory drops both streams.
 pub fn join_of<
     T: Integer,

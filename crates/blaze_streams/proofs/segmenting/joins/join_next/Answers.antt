@@ -1,11 +1,12 @@
-use Rattle.std.proofs.Common.{◌∙◌, ◌++◌, ◌∷◌, [], Option, Some, None, sym, ap, append-nil}
+use Rattle.std.proofs.Common.{◌∙◌, ◌++◌, ◌∷◌, [], Option, Some, sym, ap}
 use Rattle.std.proofs.lemmas.List.{map-append}
 use Rattle.blaze_table.specs.Entries.{at, entry}
 use Rattle.blaze_streams.specs.Carried.{shown_option, shown_pair}
 use Rattle.blaze_streams.specs.Joins.{is_joined}
 use Rattle.blaze_streams.specs.Ranges.{shown_range}
 use Rattle.blaze_streams.specs.RangeLists.{shown_ranges}
-use Rattle.blaze_streams.proofs.CarriedJoins.{given_there, none_given}
+use Rattle.blaze_streams.proofs.CarriedJoins.{given_there}
+use Rattle.blaze_streams.proofs.Paired.{in_order, not_asked, skipped}
 use Rattle.blaze_streams.proofs.segmenting.joins.join_next.Goals as goal
 
 pub returns-in_ok-push : goal.returns-in_ok-push
@@ -19,6 +20,7 @@ returns-in_ok-push g c =
     record {
       end = t;
       from = c.in_hand.ensures.from;
+      order = in_order g.VCL.Value.PartialEq.eq g.VCR.Value.PartialEq.eq g.T.Integer.low g.T.Integer.high c.args.kind c.args.left.now c.args.right.now (rank c.args.start) t c.requires.left c.requires.right c.requires.starts.is c.steady_end-end.ensures.ends;
       to = c.in_hand-2.ensures.to;
       ends = c.steady_end-end.ensures.ends;
       left_is = c.give.ensures.rest;
@@ -33,20 +35,10 @@ returns-in_ok-push g c =
           ∙ ap (λ k. old ++ entry (rank c.args.start) (rank k) given ∷ []) c.new.ensures.end;
     }
 
+pub skip-requires-clause-alone : goal.skip-requires-clause-alone
+skip-requires-clause-alone g c =
+    not_asked g.VCL.Value.PartialEq.eq g.VCR.Value.PartialEq.eq g.T.Integer.low g.T.Integer.high c.args.kind c.args.left.now c.args.right.now (g.T.Integer.rank c.args.start) (g.T.Integer.rank c.steady_end-end.result) c.requires.left c.requires.right c.requires.starts.is c.steady_end-end.ensures.ends (sym c.is_asked.ensures ∙ c.if-is_asked.false)
+
 pub returns-else-is_asked : goal.returns-else-is_asked
 returns-else-is_asked g c =
-    let t = g.T.Integer.rank c.steady_end-end.result in
-    let left = g.VCL.ValueCarrier.shown in
-    let right = g.VCR.ValueCarrier.shown in
-    record {
-      end = t;
-      from = c.in_hand.ensures.from;
-      to = c.in_hand-2.ensures.to;
-      ends = c.steady_end-end.ensures.ends;
-      left_is = c.advance_in_first.ensures;
-      right_is = c.advance_in_first-else-is_asked.ensures;
-      given = None;
-      carried = none_given g.VCL.ValueCarrier.is_carried g.VCR.ValueCarrier.is_carried (is_joined c.args.kind (at c.args.left.now t) (at c.args.right.now t)) (at c.args.left.now t, at c.args.right.now t)
-          (sym c.is_asked.ensures ∙ c.if-is_asked.false);
-      put = sym (append-nil _);
-    }
+    skipped g.VCL.Value.PartialEq.eq g.VCR.Value.PartialEq.eq g.T.Integer.low g.T.Integer.high c.args.kind c.args.left.now c.args.right.now (g.T.Integer.rank c.args.start) (g.T.Integer.rank c.steady_end-end.result) c.requires.left c.requires.right c.requires.starts.is c.steady_end-end.ensures.ends g.VCL.ValueCarrier.is_carried g.VCR.ValueCarrier.is_carried _ _ _ c.in_hand.ensures.from c.skip.ensures

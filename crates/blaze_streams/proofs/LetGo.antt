@@ -1,0 +1,91 @@
+-- Keys of one list that are let go, since another list has none of them.
+use Rattle.std.proofs.Common.{◌≡◌, ℤ, pos, ◌+ℤ◌, ◌≤ℤ◌, Bool, true, false, ◌&&◌, ◌||◌, List, [], ◌∷◌, Option, Some, None, refl, ◌∙◌, sym, ap, arith}
+use Rattle.std.specs.Option.{is_some}
+use Rattle.std.proofs.lemmas.Int.{ints, by_lt_z}
+use Rattle.blaze_table.specs.Entries.{Entry, at}
+use Rattle.blaze_table.specs.Canonical.{IsCanonical}
+use Rattle.blaze_table.specs.Splice.{after}
+use Rattle.blaze_table.proofs.Canonical.Lookup.{at_in}
+use Rattle.blaze_table.proofs.Paints.Splices.{after_keeps}
+use Rattle.blaze_streams.specs.Cursors.{first_key, IsFrom, Reaches, StartsAbove}
+use Rattle.blaze_streams.specs.declared.segmenting.joins.JoinKind.{JoinKind}
+use Rattle.blaze_streams.specs.declared.segmenting.joins.JoinKind.TheVariants.{Inner, Left, Full}
+use Rattle.blaze_streams.specs.Joins.{is_joined, paired, IsLetGo, IsNotAsked, IsSkipped}
+use Rattle.blaze_streams.proofs.Steady.{at_first, same_some}
+
+-- a list that has nothing at a key, and whose first range does not end below it, starts above it
+pub absent_above : {A : Type 0} (t : ℤ) (es : List (Entry A)) → Reaches t es → is_some (at es t) ≡ false → StartsAbove t es
+absent_above {A} t es r n = record { from = above es r n }
+  where
+    above : (es : List (Entry A)) → Reaches t es → is_some (at es t) ≡ false → IsFrom (t +ℤ pos 1) es
+    above [] r n = tt
+    above (e ∷ es) r n = by_lt_z t e.lo
+        (λ l. omega (arith, ints))
+        (λ l. let is : true ≡ false = ap is_some (sym (at_in e es t l r)) ∙ n in cc)
+
+module _ {A B : Type 0} (eq : B → B → Bool) (s high : ℤ) (L L' : List (Entry A)) (R : List (Entry B)) where
+  pub all_let_go : None ≡ first_key R → s ≤ℤ high → L' ≡ after high L → IsLetGo s high L L' R
+  all_let_go p to list_is = go R p
+    where
+      go : (R : List (Entry B)) → None ≡ first_key R → IsLetGo s high L L' R
+      go [] p = record { end = high; from = to; to = omega (arith, ints); alone = λ k h. refl; list_is = list_is; other_is = refl }
+      go (f ∷ fs) p = cc
+
+  pub let_go_to : (r t : ℤ) → Some r ≡ first_key R → IsCanonical eq R → StartsAbove s R → r ≤ℤ high → t +ℤ pos 1 ≡ r → L' ≡ after t L → IsLetGo s high L L' R
+  let_go_to r t p c from to is list_is = go R p c from.from
+    where
+      go : (R : List (Entry B)) → Some r ≡ first_key R → IsCanonical eq R → IsFrom (s +ℤ pos 1) R → IsLetGo s high L L' R
+      go [] p c from = cc
+      go (f ∷ fs) p c from =
+          let lo : r ≡ f.lo = same_some r f.lo p in
+          record {
+            end = t;
+            from = omega (arith, ints, from, lo, is);
+            to = omega (arith, ints, is, to);
+            alone = λ k h. at_first eq f fs k c (omega (arith, ints, h, is, lo));
+            list_is = list_is;
+            other_is = sym (after_keeps t f fs (omega (arith, ints, is, lo, c.0)) (omega (arith, ints, is, lo)));
+          }
+
+-- ---- what a join of a kind is not asked for
+
+-- where no join is asked for at a key that at least one of two has, none is asked for where the same one is absent
+left_absent : {A B : Type 0} (kind : JoinKind) (x : Option A) (y : Option B) → is_joined kind x y ≡ false → (is_some x || is_some y) ≡ true → (z : Option B) → paired {A = A} kind None z ≡ None
+left_absent Inner x y n one z = refl
+left_absent Left x y n one z = refl
+left_absent Full x y n one z = let q : false ≡ true = sym n ∙ one in cc
+
+right_absent : {A B : Type 0} (kind : JoinKind) (x : Option A) (y : Option B) → is_joined kind x y ≡ false → is_some x ≡ true → (z : Option A) → paired {B = B} kind z None ≡ None
+right_absent Inner x y n there None = refl
+right_absent Inner x y n there (Some v) = refl
+right_absent Left x y n there z = let q : false ≡ true = sym n ∙ there in cc
+right_absent Full x y n there z = let q : false ≡ true = sym n ∙ (ap (λ z. z || is_some y) there) in cc
+
+pub right_none : {A B : Type 0} (kind : JoinKind) (x : Option A) (y : Option B) → is_joined kind x y ≡ false → is_some x ≡ true → is_some y ≡ false
+right_none Inner (Some v) y n there = n
+right_none Inner None y n there = cc
+right_none Left x y n there = let q : false ≡ true = sym n ∙ there in cc
+right_none Full x y n there = let q : false ≡ true = sym n ∙ (ap (λ z. z || is_some y) there) in cc
+
+module _ {A B : Type 0} (kind : JoinKind) (s high : ℤ) (L L' : List (Entry A)) (R R' : List (Entry B)) (n : IsNotAsked kind (at L s) (at R s)) where
+  -- where the left one is absent, the right one's keys go
+  pub right_let_go : IsLetGo s high R R' L → IsSkipped kind s high L L R R'
+  right_let_go m = record {
+    end = m.end;
+    from = m.from;
+    to = m.to;
+    none = λ k h. ap (λ x. paired kind x (at R k)) (m.alone k h) ∙ left_absent kind (at L s) (at R s) n.not_asked n.one (at R k);
+    left_is = m.other_is;
+    right_is = m.list_is;
+  }
+
+  -- where the left one is there, its keys go
+  pub left_let_go : is_some (at L s) ≡ true → IsLetGo s high L L' R → IsSkipped kind s high L L' R R
+  left_let_go there m = record {
+    end = m.end;
+    from = m.from;
+    to = m.to;
+    none = λ k h. ap (paired kind (at L k)) (m.alone k h) ∙ right_absent kind (at L s) (at R s) n.not_asked there (at L k);
+    left_is = m.list_is;
+    right_is = m.other_is;
+  }
