@@ -7,11 +7,12 @@ use crate::map::RangeMapBlaze;
 use crate::operators::chosen::{lent_chosen, owned_chosen};
 use crate::operators::cut::are_few;
 use blaze_int::Integer;
+use blaze_int::compare::is_below;
 use blaze_streams::{OwnedRangeValuesIter, RightFirst, SortedDisjointMap, ValueCarrier};
+use blaze_table::RangeTable;
 use std::alloc::AllocError;
 
 /// How a union is made, which changes nothing of what it is.
-#[derive(Clone, Copy, Debug)]
 enum Path {
     /// The right map's few entries are painted over the left map.
     Over,
@@ -21,15 +22,53 @@ enum Path {
     Merge,
 }
 
-/// The path for maps of so many entries.
-fn path_for(left_len: usize, right_len: usize) -> Path {
-    if right_len == 0 || are_few(right_len, left_len) {
+/// The path for two maps. Few entries are painted or filled in where they cover few of the other map's entries too: each of
+/// those takes a search.
+fn path_for<T: Integer, V: Eq + Clone>(left: &RangeTable<T, V>, right: &RangeTable<T, V>) -> Path {
+    if right.entries() == 0 || are_few(right.entries(), left.entries()) && cover_few(right, left) {
         Path::Over
-    } else if left_len == 0 || are_few(left_len, right_len) {
+    } else if left.entries() == 0
+        || are_few(left.entries(), right.entries()) && cover_few(left, right)
+    {
         Path::Under
     } else {
         Path::Merge
     }
+}
+
+/// Whether the entries of a table cover at most an eighth of the entries of another, wholly or in part.
+fn cover_few<T: Integer, V: Eq + Clone>(
+    table: &RangeTable<T, V>,
+    other: &RangeTable<T, V>,
+) -> bool {
+    let mut most = other.entries() / 8;
+    for (start, end, _) in table.iter() {
+        match most_beside(other, start, end, most) {
+            Some(rest) => most = rest,
+            None => return false,
+        }
+    }
+    true
+}
+
+/// How many entries are left of `most` without those of a table that share a key with a range. None where these are more.
+fn most_beside<T: Integer, V: Eq + Clone>(
+    table: &RangeTable<T, V>,
+    start: T,
+    end: T,
+    most: usize,
+) -> Option<usize> {
+    let mut rest = most;
+    for (first, _, _) in table.iter_ending_from(start) {
+        if is_below(end, first) {
+            return Some(rest);
+        }
+        if rest == 0 {
+            return None;
+        }
+        rest -= 1;
+    }
+    Some(rest)
 }
 
 /// The union of two maps that are lent.
@@ -41,7 +80,7 @@ pub fn union<T: Integer, V: Eq + Clone>(
     ensures { IfOk result
         (λ map. IsUnion V.eq T.low T.high left.now.entries right.now.entries map.entries) }
 {
-    let path = path_for(left.ranges_len(), right.ranges_len());
+    let path = path_for(&left.table, &right.table);
     union_on(path, left, right)
 }
 
@@ -84,7 +123,7 @@ pub fn union_by_value<T: Integer, V: Eq + Clone>(
     ensures { IfOk result
         (λ map. IsUnion V.eq T.low T.high left.entries right.entries map.entries) }
 {
-    match path_for(left.ranges_len(), right.ranges_len()) {
+    match path_for(&left.table, &right.table) {
         Path::Over => painted_over(left, OwnedRangeValuesIter::new(right.table)),
         Path::Under => painted_under(OwnedRangeValuesIter::new(left.table), right),
         Path::Merge => merged_by_value(left, right),
@@ -100,7 +139,7 @@ pub fn union_with<T: Integer, V: Eq + Clone>(
     ensures { IfOk result
         (λ map. IsUnion V.eq T.low T.high left.entries right.now.entries map.entries) }
 {
-    match path_for(left.ranges_len(), right.ranges_len()) {
+    match path_for(&left.table, &right.table) {
         Path::Over => painted_over(left, right.range_values()),
         path => union_on(path, &left, right),
     }
@@ -115,7 +154,7 @@ pub fn union_under<T: Integer, V: Eq + Clone>(
     ensures { IfOk result
         (λ map. IsUnion V.eq T.low T.high left.now.entries right.entries map.entries) }
 {
-    match path_for(left.ranges_len(), right.ranges_len()) {
+    match path_for(&left.table, &right.table) {
         Path::Under => painted_under(left.range_values(), right),
         path => union_on(path, left, &right),
     }
