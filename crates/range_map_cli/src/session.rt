@@ -40,7 +40,7 @@ pub struct Session {
 }
 
 /// Why a line has no answer.
-#[derive(Clone, Copy, Debug)]
+#[derive(Clone, Copy)]
 enum Fault {
     BadLine,
     NoMemory,
