@@ -1,4 +1,5 @@
 pub mod AnsweredRows
+pub mod Around
 pub mod JoinsOfTwo
 pub mod Many
 pub mod OfTwo

@@ -112,7 +112,7 @@ module _ {V : Type 0} where
 -- ---- what is chosen from two parts
 
 module _ {V : Type 0} (eq : V → V → Bool) (laws : IsEquivalence eq) where
-  with_alike : (x x' y y' : Option V) → SameOption eq x x' → SameOption eq y y' → SameOption eq (left_with_right x y) (left_with_right x' y')
+  pub with_alike : (x x' y y' : Option V) → SameOption eq x x' → SameOption eq y y' → SameOption eq (left_with_right x y) (left_with_right x' y')
   with_alike x x' None None s t = tt
   with_alike x x' None (Some y') s t = absurd t
   with_alike x x' (Some y) None s t = absurd t

@@ -1,7 +1,9 @@
 -- Operations between many streams that are made by operations between two: the words of this crate's own functions. No public
 -- clause names them.
-use Rattle.std.specs.Prelude.{ℤ, ◌<◌, List, ◌++◌, length, Option}
-use Rattle.blaze_table.specs.Entries.{Entry, at}
+use Rattle.std.specs.Prelude.{ℤ, Bool, ◌<◌, if◌then◌else◌, List, ◌++◌, length, Option, None}
+use Rattle.std.specs.Option.{is_some}
+use Rattle.std.specs.List.{list_all}
+use Rattle.blaze_table.specs.Entries.{Entry, at, SameOption}
 use Rattle.blaze_streams.specs.Segments.{row}
 
 module _ {V : Type 0} (gives : List (Option V) → Option V → Type 0) where
@@ -12,3 +14,11 @@ module _ {V : Type 0} (gives : List (Option V) → Option V → Type 0) where
   -- where each of two lists has what is given for a part of a row, the new list has what is given for the whole of it
   abbrev pub GivesBoth : List (Entry V) → List (Entry V) → List (Entry V) → Type 0
   GivesBoth left right new = (k : ℤ) (xs ys : List (Option V)) → 0 < length xs → 0 < length ys → gives xs (at left k) → gives ys (at right k) → gives (xs ++ ys) (at new k)
+
+-- a value, where all of a row are there
+abbrev pub with_all : {V : Type 0} → Option V → List (Option V) → Option V
+with_all x xs = if list_all is_some xs then x else None
+
+-- a list on the keys that all lists have too, with its own values
+abbrev pub IsOnAll : {V : Type 0} → (V → V → Bool) → List (Entry V) → List (List (Entry V)) → List (Entry V) → Type 0
+IsOnAll eq list lists new = (k : ℤ) → SameOption eq (at new k) (with_all (at list k) (row lists k))

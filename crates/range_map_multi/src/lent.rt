@@ -3,11 +3,11 @@
 ghost use Rattle.std.specs.Prelude.{◌≡◌, List, map, refl, IfOk};
 ghost use Rattle.blaze_table.specs.Entries.{Entry};
 ghost use Rattle.blaze_table.specs.Painted.{ClonesAreAlike};
-ghost use Rattle.range_map_multi.specs.Many.{last_value, last_of_all, last_of_odd, IsChosenOfMany};
+ghost use Rattle.range_map_multi.specs.Many.{last_of_odd, IsChosenOfMany};
 ghost use Rattle.range_map_blaze.specs.Made.{IsMade};
 
 use crate::merges::merged;
-use crate::operations::{Intersection, OddKeys, Union};
+use crate::operations::{OddKeys, Union};
 use blaze_int::Integer;
 use blaze_streams::{SeekingRangeValuesIter, SortedDisjointMap, intersection_of};
 use range_map_blaze::RangeMapBlaze;
@@ -60,8 +60,8 @@ impl<'a, T: Integer, V: Eq + Clone> AsMap<T, V> for &'a RangeMapBlaze<T, V> {
     ghost are_shown = { λ m. refl };
 }
 
-// The entries of a map, as a stream.
-fn entries_of<'a, T: Integer, V: Eq + Clone, M: AsMap<T, V>>(
+/// The entries of a map, as a stream.
+pub fn entries_of<'a, T: Integer, V: Eq + Clone, M: AsMap<T, V>>(
     map: &'a M,
 ) -> SeekingRangeValuesIter<'a, T, V>
     ensures { result ≡ M.shown map.now }
@@ -81,32 +81,6 @@ pub fn streams_of<'a, T: Integer, V: Eq + Clone, M: AsMap<T, V>>(
         streams.push(entries_of(map))?;
     }
     Ok(streams)
-}
-
-/// The value of the last map that has one.
-pub fn lent_union<'a, T: Integer, V: Eq + Clone, M: AsMap<T, V>>(
-    alloc: Global,
-    maps: &'a [M],
-) -> Result<RangeMapBlaze<T, V>, AllocError>
-    requires { ClonesAreAlike V.is_clone V.eq }
-    ensures { IfOk result (IsMade (IsChosenOfMany V.eq T.low T.high last_value (map M.shown maps.now))) }
-{
-    let list = merged::<_, _, _, Union>(alloc, streams_of(alloc, maps)?)?;
-    list.in_hand();
-    RangeMapBlaze::from_sorted_disjoint_map(alloc, list)
-}
-
-/// The value of the last map, where all have one; of no maps nothing.
-pub fn lent_intersection<'a, T: Integer, V: Eq + Clone, M: AsMap<T, V>>(
-    alloc: Global,
-    maps: &'a [M],
-) -> Result<RangeMapBlaze<T, V>, AllocError>
-    requires { ClonesAreAlike V.is_clone V.eq }
-    ensures { IfOk result (IsMade (IsChosenOfMany V.eq T.low T.high last_of_all (map M.shown maps.now))) }
-{
-    let list = merged::<_, _, _, Intersection>(alloc, streams_of(alloc, maps)?)?;
-    list.in_hand();
-    RangeMapBlaze::from_sorted_disjoint_map(alloc, list)
 }
 
 /// The value of the last map that has one, where an odd number have one.

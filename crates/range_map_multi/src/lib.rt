@@ -3,7 +3,9 @@
 
 pub mod laws;
 mod lent;
+mod lent_intersections;
 mod lent_joins;
+mod lent_unions;
 mod lists;
 mod maps;
 mod merges;
@@ -12,6 +14,7 @@ mod parity;
 mod parts;
 mod row_answers;
 mod rows;
+mod sizes;
 mod streams;
 
 pub use maps::{MultiwayRangeMapBlaze, MultiwayRangeMapBlazeRef};

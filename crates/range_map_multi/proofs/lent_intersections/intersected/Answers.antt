@@ -5,7 +5,7 @@ use Rattle.blaze_table.specs.Entries.{SameOption}
 use Rattle.range_map_multi.specs.Many.{last_of_all}
 use Rattle.range_map_multi.specs.Merges.{GivesEach}
 use Rattle.range_map_multi.proofs.Many.{many_as}
-use Rattle.range_map_multi.proofs.lent.lent_intersection.Goals as goal
+use Rattle.range_map_multi.proofs.lent_intersections.intersected.Goals as goal
 
 pub returns : goal.returns
 returns g c =

@@ -1,0 +1,43 @@
+//! Which of many maps has by far the most entries, and which the fewest.
+ghost use Rattle.std.specs.Prelude.{◌<◌, length, IfSome};
+
+use crate::lent::AsMap;
+use blaze_int::Integer;
+
+/// The place of a map that has at least 16 entries for each entry of all the others together: a search or a paint for each of
+/// those takes less time than a pass over all.
+pub fn place_of_large<T: Integer, V: Eq + Clone, M: AsMap<T, V>>(maps: &[M]) -> Option<usize>
+    ensures { IfSome result (λ place. place < length maps.now) }
+{
+    let mut large = None;
+    let mut most = 0;
+    let mut others: usize = 0;
+    for place in 0..maps.len() {
+        let len = maps[place].lent().ranges_len();
+        if len < most {
+            others = others.saturating_add(len);
+        } else {
+            others = others.saturating_add(most);
+            most = len;
+            large = Some(place);
+        }
+    }
+    if others <= most / 16 { large } else { None }
+}
+
+/// The place of a map that has no more entries than any other.
+pub fn place_of_smallest<T: Integer, V: Eq + Clone, M: AsMap<T, V>>(maps: &[M]) -> usize
+    requires { 0 < length maps.now }
+    ensures { result < length maps.now }
+{
+    let mut smallest = 0;
+    let mut least = usize::MAX;
+    for place in 0..maps.len() {
+        let len = maps[place].lent().ranges_len();
+        if len < least {
+            least = len;
+            smallest = place;
+        }
+    }
+    smallest
+}
