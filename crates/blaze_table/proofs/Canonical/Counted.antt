@@ -1,7 +1,11 @@
 -- How many keys the pieces of a list have.
-use Rattle.std.proofs.Common.{◌≡◌, ℕ, ℤ, pos, ◌+ℤ◌, ◌-ℤ◌, ◌≤ℤ◌, Bool, List, [], ◌∷◌, refl, ◌∙◌, sym, ap, subst, arith}
+use Rattle.std.proofs.Common.{◌≡◌, ℕ, ℤ, pos, ◌+ℤ◌, ◌-ℤ◌, ◌≤ℤ◌, Bool, cond, List, [], ◌∷◌, refl, ◌∙◌, sym, ap, subst, arith}
 use Rattle.std.specs.Cmp.{IsEquivalence}
-use Rattle.std.proofs.lemmas.Int.{ints}
+use Rattle.std.specs.Int.{int_max, int_min}
+use Rattle.std.specs.Prelude.{int_le}
+use Rattle.std.proofs.lemmas.Int.{ints, by_lt_z}
+use Rattle.blaze_int.proofs.Comparisons.{by_bool, lt_true, lt_false, le_true}
+use Rattle.blaze_entries.specs.Overlap.{shared}
 use Rattle.blaze_entries.proofs.Underway.{overlap_none, overlap_over}
 use Rattle.blaze_table.specs.Entries.{Entry, SameEntries, entry}
 use Rattle.blaze_table.specs.Canonical.{IsApart, IsCanonical, AreKeys}
@@ -11,21 +15,54 @@ use Rattle.blaze_table.specs.Table.{IsTable}
 use Rattle.blaze_table.proofs.Canonical.Lookup.{IsAbove, IsAbove-from_apart, above_by}
 use Rattle.blaze_table.proofs.Paints.Splices.{by_before, by_after, by_join, canonical_paint}
 
+-- ---- the greater and the lesser of two
+
+max_left : (a b : ℤ) → b ≤ℤ a → int_max a b ≡ a
+max_left a b h = by_lt_z b a (λ u. ap (λ t. cond t a b) (lt_true b a u)) (λ u. ap (λ t. cond t a b) (lt_false b a u) ∙ omega (arith, ints))
+
+max_right : (a b : ℤ) → a ≤ℤ b → int_max a b ≡ b
+max_right a b h = ap (λ t. cond t a b) (lt_false b a h)
+
+min_left : (a b : ℤ) → a ≤ℤ b → int_min a b ≡ a
+min_left a b h = ap (λ t. cond t b a) (lt_false b a h)
+
+min_right : (a b : ℤ) → b ≤ℤ a → int_min a b ≡ b
+min_right a b h = by_lt_z b a (λ u. ap (λ t. cond t b a) (lt_true b a u)) (λ u. ap (λ t. cond t b a) (lt_false b a u) ∙ omega (arith, ints))
+
+-- the keys shared, by the first and the last of them
+shared_from : (l h a b x y : ℤ) → int_max l a ≡ x → int_min h b ≡ y → x ≤ℤ y → shared l h a b ≡ (y -ℤ x) +ℤ pos 1
+shared_from l h a b x y p q w =
+    ap (λ z. cond (int_le z (int_min h b)) ((int_min h b -ℤ z) +ℤ pos 1) (pos 0)) p
+    ∙ ap (λ z. cond (int_le x z) ((z -ℤ x) +ℤ pos 1) (pos 0)) q
+    ∙ ap (λ t. cond t ((y -ℤ x) +ℤ pos 1) (pos 0)) (le_true x y w)
+
+-- no more are shared than there are
+shared_most : (l h a b : ℤ) → a ≤ℤ b → shared l h a b ≤ℤ (b -ℤ a +ℤ pos 1)
+shared_most l h a b w =
+    let x = int_max l a in
+    let y = int_min h b in
+    let low : a ≤ℤ x = by_lt_z a l (λ u. subst (λ z. a ≤ℤ z) (sym (max_left l a (omega (arith, ints)))) (omega (arith, ints))) (λ u. subst (λ z. a ≤ℤ z) (sym (max_right l a u)) (omega (arith, ints))) in
+    let high : y ≤ℤ b = by_lt_z h b (λ u. subst (λ z. z ≤ℤ b) (sym (min_left h b (omega (arith, ints)))) (omega (arith, ints))) (λ u. subst (λ z. z ≤ℤ b) (sym (min_right h b u)) (omega (arith, ints))) in
+    by_bool (int_le x y) (λ p. rw p (between x y a b low high)) (λ p. rw p (omega (arith, ints)))
+  where
+    between : (x y a b : ℤ) → a ≤ℤ x → y ≤ℤ b → ((y -ℤ x) +ℤ pos 1) ≤ℤ (b -ℤ a +ℤ pos 1)
+    between x y a b p q = omega (arith, ints)
+
 module _ {V : Type 0} where
   pub overlap_left : (l h : ℤ) (e : Entry V) → e.lo ≤ℤ l → l ≤ℤ e.hi → e.hi ≤ℤ h → overlap l h e ≡ (e.hi -ℤ l) +ℤ pos 1
-  overlap_left l h e a b d = grind (arith, ints)
+  overlap_left l h e a b d = shared_from l h e.lo e.hi l e.hi (max_left l e.lo a) (min_right h e.hi d) b
 
   pub overlap_whole : (l h : ℤ) (e : Entry V) → e.lo ≤ℤ l → l ≤ℤ h → h ≤ℤ e.hi → overlap l h e ≡ (h -ℤ l) +ℤ pos 1
-  overlap_whole l h e a b d = grind (arith, ints)
+  overlap_whole l h e a b d = shared_from l h e.lo e.hi l h (max_left l e.lo a) (min_left h e.hi d) b
 
   pub overlap_all : (l h : ℤ) (e : Entry V) → e.lo ≤ℤ e.hi → l ≤ℤ e.lo → e.hi ≤ℤ h → overlap l h e ≡ (e.hi -ℤ e.lo) +ℤ pos 1
-  overlap_all l h e w a b = grind (arith, ints)
+  overlap_all l h e w a b = shared_from l h e.lo e.hi e.lo e.hi (max_right l e.lo a) (min_right h e.hi b) w
 
   pub overlap_right : (l h : ℤ) (e : Entry V) → l ≤ℤ e.lo → e.lo ≤ℤ h → h ≤ℤ e.hi → overlap l h e ≡ (h -ℤ e.lo) +ℤ pos 1
-  overlap_right l h e a b d = grind (arith, ints)
+  overlap_right l h e a b d = shared_from l h e.lo e.hi e.lo h (max_right l e.lo a) (min_left h e.hi d) b
 
   pub overlap_most : (l h : ℤ) (e : Entry V) → e.lo ≤ℤ e.hi → overlap l h e ≤ℤ (e.hi -ℤ e.lo +ℤ pos 1)
-  overlap_most l h e w = grind (arith, ints)
+  overlap_most l h e w = shared_most l h e.lo e.hi w
 
   pub same_keys_in : (eq : V → V → Bool) (es fs : List (Entry V)) → SameEntries eq es fs → keys_in es ≡ keys_in fs
   same_keys_in eq [] [] s = refl

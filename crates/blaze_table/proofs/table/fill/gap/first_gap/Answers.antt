@@ -1,5 +1,6 @@
 use Rattle.std.proofs.Common.{◌≡◌, ◌≤ℤ◌, ◌<ℤ◌, false, arith, sym, subst, ◌∙◌}
 use Rattle.std.proofs.lemmas.Int.{ints}
+use Rattle.blaze_int.proofs.Comparisons.{lt_holds, lt_fails}
 use Rattle.blaze_table.specs.Ending.{ending_from}
 use Rattle.blaze_table.specs.Entries.{Entry, at}
 use Rattle.blaze_table.specs.Filling.{IsNextGap}
@@ -44,14 +45,14 @@ returns-then-not-is_below g c =
     let key = rank c.loop-first.key in
     let e : Entry _ = record { lo = rank c.in-Some.first; hi = rank c.in-Some.last; value = c.in-Some.held.now } in
     let w = subst (IsWalked eq v content (rank c.args.start) key c.loop-first.is_equal) c.in-Some.ensures.steps c.loop-first.invariant.3 in
-    let near : rank c.in-Some.first ≤ℤ key = grind (arith, ints, c.is_below.ensures, c.if-is_below.false) in
-    let reaches : rank c.args.end ≤ℤ rank c.in-Some.last = grind (arith, ints, c.is_below-in-loop-first.ensures, c.if-not-is_below.true) in
+    let near = lt_fails key (rank c.in-Some.first) (sym c.is_below.ensures ∙ c.if-is_below.false) in
+    let reaches = lt_fails (rank c.in-Some.last) (rank c.args.end) (sym c.is_below-in-loop-first.ensures ∙ c.if-not-is_below.true) in
     walked_held eq v content (rank c.args.start) key c.loop-first.is_equal e c.next.new.self w near (rank c.args.end) reaches
 
 pub add_one-key-requires : goal.add_one-key-requires
 add_one-key-requires g c =
     let rank = g.T.Integer.rank in
-    let less : rank c.in-Some.last <ℤ rank c.args.end = grind (arith, ints, c.is_below-in-loop-first.ensures, c.if-not-is_below.false) in
+    let less = lt_holds (rank c.in-Some.last) (rank c.args.end) (sym c.is_below-in-loop-first.ensures ∙ c.if-not-is_below.false) in
     omega (arith, ints, less, c.in_hand.ensures.to)
 
 pub loop-first-preserved : goal.loop-first-preserved
@@ -63,8 +64,8 @@ loop-first-preserved g c =
     let key = rank c.loop-first.key in
     let e : Entry _ = record { lo = rank c.in-Some.first; hi = rank c.in-Some.last; value = c.in-Some.held.now } in
     let w = subst (IsWalked eq v content (rank c.args.start) key c.loop-first.is_equal) c.in-Some.ensures.steps c.loop-first.invariant.3 in
-    let near : rank c.in-Some.first ≤ℤ key = grind (arith, ints, c.is_below.ensures, c.if-is_below.false) in
-    let less : rank c.in-Some.last <ℤ rank c.args.end = grind (arith, ints, c.is_below-in-loop-first.ensures, c.if-not-is_below.false) in (
+    let near = lt_fails key (rank c.in-Some.first) (sym c.is_below.ensures ∙ c.if-is_below.false) in
+    let less = lt_holds (rank c.in-Some.last) (rank c.args.end) (sym c.is_below-in-loop-first.ensures ∙ c.if-not-is_below.false) in (
       tt,
       tt,
       omega (arith, ints, less, c.add_one-key.ensures),
