@@ -1,3 +1,4 @@
+use Rattle.std.proofs.lemmas.Grind.{common_steps}
 use Rattle.std.proofs.Common.{ap, subst, arith}
 use Rattle.std.proofs.lemmas.Int.{ints}
 use Rattle.blaze_table.specs.Canonical.{IsCanonical}
@@ -20,3 +21,12 @@ loop-start-preserved g c =
     let here = ap (shown_list g.T.Integer.rank) (from_index c.args.entries.now c.loop-start.start-index c.loop-start-item.result c.loop-start-test.true c.loop-start-item.is) in
     let canonical = subst (IsCanonical g.V.PartialEq.eq) here i.0 in
     (canonical.2, omega (arith, ints, i.1, ap keys_in here, c.length.ensures, c.plus-sum.ensures))
+
+pub length-requires : goal.length-requires
+length-requires g c = grind (arith, common_steps)
+
+pub returns : goal.returns
+returns g c = grind (arith, common_steps)
+
+pub loop-start-init : goal.loop-start-init
+loop-start-init g c = grind (arith, common_steps)

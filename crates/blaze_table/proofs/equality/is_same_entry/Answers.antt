@@ -26,10 +26,10 @@ returns-then-eq-2 g c =
     let key = g.met.T.Integer.ranked in
     let start = c.eq.ensures ∙ same_test _ _ _ (key.equal l.0 r.0 c.in_hand.ensures.from c.in_hand.ensures.to c.in_hand-3.ensures.from c.in_hand-3.ensures.to) in
     elim c.if-eq.branch [
-      then-eq w ↦
+      | then-eq w ↦
           let end = w.eq-then-eq.ensures ∙ same_test _ _ _ (key.equal l.1 r.1 c.in_hand-2.ensures.from c.in_hand-2.ensures.to c.in_hand-4.ensures.from c.in_hand-4.ensures.to) in
           all_hold (int_eq (rank l.0) (rank r.0)) (int_eq (rank l.1) (rank r.1)) _ _ (sym start ∙ w.if-eq.true) (sym end ∙ sym w.value-is ∙ c.if-eq-2.true) c.eq-then-eq-2.ensures
-    | else-eq w ↦ cc
+      | else-eq w ↦ cc
     ]
 
 pub returns-else-eq-2 : goal.returns-else-eq-2
@@ -40,8 +40,8 @@ returns-else-eq-2 g c =
     let key = g.met.T.Integer.ranked in
     let start = c.eq.ensures ∙ same_test _ _ _ (key.equal l.0 r.0 c.in_hand.ensures.from c.in_hand.ensures.to c.in_hand-3.ensures.from c.in_hand-3.ensures.to) in
     elim c.if-eq.branch [
-      then-eq w ↦
+      | then-eq w ↦
           let end = w.eq-then-eq.ensures ∙ same_test _ _ _ (key.equal l.1 r.1 c.in_hand-2.ensures.from c.in_hand-2.ensures.to c.in_hand-4.ensures.from c.in_hand-4.ensures.to) in
           second_fails (int_eq (rank l.0) (rank r.0)) (int_eq (rank l.1) (rank r.1)) _ _ (sym end ∙ sym w.value-is ∙ c.if-eq-2.false) c.if-eq-2.false
-    | else-eq w ↦ first_fails (int_eq (rank l.0) (rank r.0)) (int_eq (rank l.1) (rank r.1)) _ _ (sym start ∙ w.if-eq.false) c.if-eq-2.false
+      | else-eq w ↦ first_fails (int_eq (rank l.0) (rank r.0)) (int_eq (rank l.1) (rank r.1)) _ _ (sym start ∙ w.if-eq.false) c.if-eq-2.false
     ]

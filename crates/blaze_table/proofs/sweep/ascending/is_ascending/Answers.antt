@@ -1,3 +1,5 @@
+use Rattle.std.proofs.lemmas.Grind.{common_steps}
+use Rattle.std.proofs.Common.{arith}
 use Rattle.std.proofs.Common.{◌≡◌, ◌∷◌, true, sym, ◌∙◌, subst, rules}
 use Rattle.blaze_table.specs.Entries.{shown_list}
 use Rattle.blaze_table.specs.Swept.{AreApart, first_from}
@@ -13,3 +15,15 @@ returns-then-not-follows g c =
           let follows : c.follows.result ≡ true = c.follows.ensures.1 (rest.0, rest.1) in
           sym c.if-not-follows.true ∙ follows,
     )
+
+pub returns : goal.returns
+returns g c = grind (arith, common_steps)
+
+pub loop-pair-init : goal.loop-pair-init
+loop-pair-init g c = grind (arith, common_steps)
+
+pub loop-pair-preserved : goal.loop-pair-preserved
+loop-pair-preserved g c = grind (arith, common_steps)
+
+pub loop-pair-smaller : goal.loop-pair-smaller
+loop-pair-smaller g c = grind (arith, common_steps)

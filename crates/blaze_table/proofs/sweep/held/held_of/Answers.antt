@@ -1,3 +1,5 @@
+use Rattle.std.proofs.lemmas.Grind.{common_steps}
+use Rattle.std.proofs.Common.{arith}
 use Rattle.std.proofs.Common.{◌++◌, map, ◌∙◌, sym, ap, append_assoc}
 use Rattle.std.specs.Vec.Iter.{into_iter_items}
 use Rattle.blaze_table.specs.Held.{kept_value}
@@ -18,3 +20,12 @@ loop-pair-preserved g c =
     ∙ append_assoc held _ _
     ∙ ap (λ ps. held ++ map kept_value ps) (sym c.in-Some.ensures.steps.0)
     ∙ c.loop-pair.invariant
+
+pub returns : goal.returns
+returns g c = grind (arith, common_steps)
+
+pub next-requires : goal.next-requires
+next-requires g c = grind (arith, common_steps)
+
+pub returns-in_err-push : goal.returns-in_err-push
+returns-in_err-push g c = grind (arith, common_steps)

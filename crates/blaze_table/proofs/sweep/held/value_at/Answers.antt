@@ -1,3 +1,4 @@
+use Rattle.std.proofs.lemmas.Grind.{common_steps}
 use Rattle.std.proofs.Common.{◌≡◌, Some, sym, subst, length, refl, ◌∙◌, ap, arith}
 use Rattle.std.specs.Prelude.{slice_get, IsSome}
 use Rattle.std.proofs.lemmas.List.{length-map}
@@ -40,3 +41,15 @@ returns-in-Kept-clause-value g c =
     let l = within_held es held c.args.index c.requires.there in
     let is : slice_get held c.args.index ≡ Some (Kept c.in-Kept.value) = slice_get_read held (length held) c.args.index c.index_mut.result.now refl l c.index_mut.ensures.value ∙ ap Some (sym c.replace.ensures.value ∙ c.in-Kept.is) in
     subst (λ o. SameOption g.V.PartialEq.eq (Some c.in-Kept.value) (held_value es o)) (sym is) (g.met.V.Eq.laws.refl c.in-Kept.value)
+
+pub returns-in-Kept-clause-held : goal.returns-in-Kept-clause-held
+returns-in-Kept-clause-held g c = grind (arith, common_steps)
+
+pub returns-in_ok-value-in-Moved-clause-held : goal.returns-in_ok-value-in-Moved-clause-held
+returns-in_ok-value-in-Moved-clause-held g c = grind (arith, common_steps)
+
+pub returns-in_err-value-in-Moved-clause-held : goal.returns-in_err-value-in-Moved-clause-held
+returns-in_err-value-in-Moved-clause-held g c = grind (arith, common_steps)
+
+pub returns-in_err-value-in-Moved-clause-value : goal.returns-in_err-value-in-Moved-clause-value
+returns-in_err-value-in-Moved-clause-value g c = grind (arith, common_steps)

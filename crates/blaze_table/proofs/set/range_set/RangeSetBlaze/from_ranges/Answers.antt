@@ -1,3 +1,5 @@
+use Rattle.std.proofs.lemmas.Grind.{common_steps}
+use Rattle.std.proofs.Common.{arith}
 use Rattle.std.proofs.Common.{subst}
 use Rattle.blaze_table.specs.Entries.{shown_list}
 use Rattle.blaze_table.specs.RangeSets.{IsSetOf}
@@ -17,3 +19,21 @@ returns g c =
       (c.next.new.self, (c.loop-range.range-iterator, c.loop-range.yielded_by, c.in-None.ensures.steps)),
       rw c.in_ok-table.ensures (subst (λ ranges. IsSetOf low high ranges entries) c.loop-range.invariant (set_of low high (shown_list rank c.loop-range.pairs.items) entries c.in_ok-entries.ensures)),
     )
+
+pub next-requires : goal.next-requires
+next-requires g c = grind (arith, common_steps)
+
+pub loop-range-init : goal.loop-range-init
+loop-range-init g c = grind (arith, common_steps)
+
+pub loop-range-preserved : goal.loop-range-preserved
+loop-range-preserved g c = grind (arith, common_steps)
+
+pub canonical_of-requires : goal.canonical_of-requires
+canonical_of-requires g c = grind (arith, common_steps)
+
+pub from_canonical-requires : goal.from_canonical-requires
+from_canonical-requires g c = grind (arith, common_steps)
+
+pub loop-range-smaller : goal.loop-range-smaller
+loop-range-smaller g c = grind (arith, common_steps)
