@@ -1,4 +1,3 @@
-use Rattle.std.proofs.lemmas.Grind.{common_steps}
 use Rattle.std.proofs.Common.{subst, ap, arith}
 use Rattle.std.proofs.lemmas.Int.{ints}
 use Rattle.blaze_table.specs.Canonical.{IsCanonical}
@@ -21,12 +20,3 @@ loop-start-preserved g c =
       here.2,
       omega (arith, ints, i.3, ap keys_in c.in-Some.ensures.steps, c.length.ensures, c.plus-sum.ensures),
     )
-
-pub length-requires : goal.length-requires
-length-requires g c = grind (arith, common_steps)
-
-pub returns : goal.returns
-returns g c = grind (arith, common_steps)
-
-pub loop-start-init : goal.loop-start-init
-loop-start-init g c = grind (arith, common_steps)

@@ -27,6 +27,3 @@ length-requires g c = grind (arith, common_steps)
 
 pub returns : goal.returns
 returns g c = grind (arith, common_steps)
-
-pub loop-start-init : goal.loop-start-init
-loop-start-init g c = grind (arith, common_steps)

@@ -5,11 +5,5 @@ use Rattle.blaze_table.proofs.set.range_set.entries_of_ranges.Goals as goal
 pub returns : goal.returns
 returns g c = grind (arith, common_steps)
 
-pub loop-range-init : goal.loop-range-init
-loop-range-init g c = grind (arith, common_steps)
-
 pub loop-range-preserved : goal.loop-range-preserved
 loop-range-preserved g c = grind (arith, common_steps)
-
-pub loop-range-smaller : goal.loop-range-smaller
-loop-range-smaller g c = grind (arith, common_steps)

@@ -18,12 +18,3 @@ returns-then-not-follows g c =
 
 pub returns : goal.returns
 returns g c = grind (arith, common_steps)
-
-pub loop-pair-init : goal.loop-pair-init
-loop-pair-init g c = grind (arith, common_steps)
-
-pub loop-pair-preserved : goal.loop-pair-preserved
-loop-pair-preserved g c = grind (arith, common_steps)
-
-pub loop-pair-smaller : goal.loop-pair-smaller
-loop-pair-smaller g c = grind (arith, common_steps)

@@ -23,9 +23,3 @@ loop-pair-preserved g c =
 
 pub returns : goal.returns
 returns g c = grind (arith, common_steps)
-
-pub next-requires : goal.next-requires
-next-requires g c = grind (arith, common_steps)
-
-pub returns-in_err-push : goal.returns-in_err-push
-returns-in_err-push g c = grind (arith, common_steps)

@@ -20,20 +20,5 @@ returns g c =
       rw c.in_ok-table.ensures (subst (λ ranges. IsSetOf low high ranges entries) c.loop-range.invariant (set_of low high (shown_list rank c.loop-range.pairs.items) entries c.in_ok-entries.ensures)),
     )
 
-pub next-requires : goal.next-requires
-next-requires g c = grind (arith, common_steps)
-
-pub loop-range-init : goal.loop-range-init
-loop-range-init g c = grind (arith, common_steps)
-
 pub loop-range-preserved : goal.loop-range-preserved
 loop-range-preserved g c = grind (arith, common_steps)
-
-pub canonical_of-requires : goal.canonical_of-requires
-canonical_of-requires g c = grind (arith, common_steps)
-
-pub from_canonical-requires : goal.from_canonical-requires
-from_canonical-requires g c = grind (arith, common_steps)
-
-pub loop-range-smaller : goal.loop-range-smaller
-loop-range-smaller g c = grind (arith, common_steps)

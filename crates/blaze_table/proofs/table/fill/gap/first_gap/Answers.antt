@@ -1,4 +1,4 @@
-use Rattle.std.proofs.Common.{◌≡◌, ◌≤ℤ◌, ◌<ℤ◌, false, arith, sym, subst, ◌∙◌}
+use Rattle.std.proofs.Common.{◌≡◌, false, arith, sym, subst, ◌∙◌}
 use Rattle.std.proofs.lemmas.Int.{ints}
 use Rattle.blaze_int.proofs.Comparisons.{lt_holds, lt_fails}
 use Rattle.blaze_table.specs.Ending.{ending_from}
