@@ -1,6 +1,7 @@
 pub mod EntryAt
 pub mod EndKeys
 pub mod Stepped
+pub mod Kinds
 pub mod Alike
 pub mod Filling
 pub mod Running

@@ -155,6 +155,17 @@ pub record IsRefusedAt {T V L : Type 0} (eq : V → V → Bool) (rank : T → �
   pub within : (at < length steps) ⊎ (at ≡ 0)
   pub stepped : IsSteppedAll eq rank low high (take at steps) old new
 
+-- the step makes a new map, of the map and another, of the map and a set, or by `complement_with`
+abbrev pub Combines : {T V L : Type 0} → Step T V L → Type 0
+Combines (Or other) = Unit {0}
+Combines (And other) = Unit {0}
+Combines (Minus other) = Unit {0}
+Combines (Xor other) = Unit {0}
+Combines (AndSet keys) = Unit {0}
+Combines (MinusSet keys) = Unit {0}
+Combines (ComplementWith v) = Unit {0}
+Combines _ = ⊥
+
 -- ---- work
 
 -- the step is a paint, an insertion, a removal or a pop

@@ -8,7 +8,7 @@ ghost use Rattle.blaze_table.specs.Laws.{IsShortest};
 ghost use Rattle.blaze_table.specs.Painted.{painted, IsPainted, ClonesAreAlike};
 ghost use Rattle.blaze_table.specs.Work.{IsCounted, IsCountedCut, IsCountedPaint, PutsAtMost};
 ghost use Rattle.range_map_cli.specs.Fills.{ranges_in, IsPaintOrFill};
-ghost use Rattle.range_map_cli.specs.Steps.{answer, first_key, last_key, with_value, answers};
+ghost use Rattle.range_map_cli.specs.Steps.{answer, first_key, last_key, with_value, answers, Combines};
 ghost use Rattle.range_map_cli.specs.Steps.{IsCountedRun, IsEdit, IsRefusedAt, IsStepped};
 ghost use Rattle.range_map_cli.specs.Steps.{IsSteppedAll, IsWithout, SameAnswer, SameAnswers};
 ghost use Rattle.range_map_cli.specs.Steps.{SamePair};
@@ -103,6 +103,68 @@ fn pop_last<T: Integer, V: Eq + Clone>(
     Ok(popped)
 }
 
+/// The map that a step makes of this one and another, of this one and a set, or by `complement_with`.
+fn combined<T: Integer, V: Eq + Clone>(
+    map: &RangeMapBlaze<T, V>,
+    step: Step<T, V>,
+) -> Result<RangeMapBlaze<T, V>, AllocError>
+    requires clones { ClonesAreAlike V.is_clone V.eq }
+    requires combines { Combines step }
+    ensures { IfOk result (λ new. IsStepped V.eq T.rank T.low T.high step
+        map.now.entries new.entries) }
+{
+    match step {
+        Step::Or(other) => map | &other,
+        Step::And(other) => map & &other,
+        Step::Minus(other) => map - &other,
+        Step::Xor(other) => map ^ &other,
+        Step::AndSet(keys) => map & &keys,
+        Step::MinusSet(keys) => map - &keys,
+        Step::ComplementWith(value) => map.complement_with(&value),
+        _ => unreachable!(),
+    }
+}
+
+/// Does a step that is no edit. Refused memory leaves the map unchanged.
+fn change<T: Integer, V: Eq + Clone>(
+    map: &mut RangeMapBlaze<T, V>,
+    step: Step<T, V>,
+) -> Result<Answer<T, V>, AllocError>
+    requires clones { ClonesAreAlike V.is_clone V.eq }
+    requires no_edit { ¬ (IsEdit step) }
+    ensures stepped { OnOk result (IsStepped V.eq T.rank T.low T.high step
+        map.old.entries map.new.entries) }
+    ensures answer { IfOk result (λ given. SameAnswer T.rank V.eq given
+        (answer T.rank T.low T.high step (at map.old.entries))) }
+    ensures err { OnErr result (map.new.entries ≡ map.old.entries) }
+{
+    match step {
+        Step::Fill(start, end, value) => {
+            let changed = fill(map, start, end, value)?;
+            Ok(Answer::Wrote(changed))
+        }
+        Step::Clear => {
+            map.clear();
+            map.in_hand();
+            Ok(Answer::Done)
+        }
+        Step::KeepBelow(key) => {
+            let _ = map.split_off(key)?;
+            Ok(Answer::Done)
+        }
+        Step::KeepFrom(key) => {
+            let from = map.split_off(key)?;
+            *map = from;
+            Ok(Answer::Done)
+        }
+        step => {
+            let new = combined(map, step)?;
+            *map = new;
+            Ok(Answer::Done)
+        }
+    }
+}
+
 /// Does a step. Refused memory leaves the map unchanged.
 fn take_step<T: Integer, V: Eq + Clone>(
     map: &mut RangeMapBlaze<T, V>,
@@ -123,10 +185,6 @@ fn take_step<T: Integer, V: Eq + Clone>(
             let changed = paint(map, start, end, value)?;
             Ok(Answer::Wrote(changed))
         }
-        Step::Fill(start, end, value) => {
-            let changed = fill(map, start, end, value)?;
-            Ok(Answer::Wrote(changed))
-        }
         Step::Insert(key, value) => {
             let old = map.insert(key, value)?;
             Ok(Answer::Old(old))
@@ -143,55 +201,7 @@ fn take_step<T: Integer, V: Eq + Clone>(
             let popped = pop_last(map)?;
             Ok(Answer::Popped(popped))
         }
-        Step::Clear => {
-            map.clear();
-            map.in_hand();
-            Ok(Answer::Done)
-        }
-        Step::KeepBelow(key) => {
-            let _ = map.split_off(key)?;
-            Ok(Answer::Done)
-        }
-        Step::KeepFrom(key) => {
-            let from = map.split_off(key)?;
-            *map = from;
-            Ok(Answer::Done)
-        }
-        Step::Or(other) => {
-            let new = (&*map | &other)?;
-            *map = new;
-            Ok(Answer::Done)
-        }
-        Step::And(other) => {
-            let new = (&*map & &other)?;
-            *map = new;
-            Ok(Answer::Done)
-        }
-        Step::Minus(other) => {
-            let new = (&*map - &other)?;
-            *map = new;
-            Ok(Answer::Done)
-        }
-        Step::Xor(other) => {
-            let new = (&*map ^ &other)?;
-            *map = new;
-            Ok(Answer::Done)
-        }
-        Step::AndSet(keys) => {
-            let new = (&*map & &keys)?;
-            *map = new;
-            Ok(Answer::Done)
-        }
-        Step::MinusSet(keys) => {
-            let new = (&*map - &keys)?;
-            *map = new;
-            Ok(Answer::Done)
-        }
-        Step::ComplementWith(value) => {
-            let new = map.complement_with(&value)?;
-            *map = new;
-            Ok(Answer::Done)
-        }
+        step => change(map, step),
     }
 }
 

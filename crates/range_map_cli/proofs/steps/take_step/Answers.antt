@@ -1,6 +1,7 @@
-use Rattle.range_map_cli.specs.declared.step.Step.TheVariants.{Paint, Fill, Insert, Remove, ComplementWith}
-use Rattle.range_map_cli.specs.declared.step.Answer.TheVariants.{Wrote, Old}
-use Rattle.range_map_cli.proofs.Stepping.Stepped.{answered, complement_is, same_back, stepped}
+use Rattle.range_map_cli.specs.declared.step.Step.TheVariants.{Paint, Insert, Remove, PopFirst, PopLast}
+use Rattle.range_map_cli.specs.declared.step.Answer.TheVariants.{Wrote, Old, Popped}
+use Rattle.range_map_cli.proofs.Stepping.Kinds.{no_edit}
+use Rattle.range_map_cli.proofs.Stepping.Stepped.{answered, same_back, stepped}
 use Rattle.range_map_cli.proofs.steps.take_step.Goals as goal
 
 pub returns-in_ok-changed-in-Paint-clause-stepped : goal.returns-in_ok-changed-in-Paint-clause-stepped
@@ -12,14 +13,10 @@ pub returns-in_ok-changed-in-Paint-clause-answer : goal.returns-in_ok-changed-in
 returns-in_ok-changed-in-Paint-clause-answer g c =
     answered g.V.PartialEq.eq g.T.Integer.rank _ _ _ (Paint c.in-Paint.start c.in-Paint.end c.in-Paint.value) _ (Wrote c.in_ok-changed-in-Paint.changed) c.in-Paint.is c.in_ok-changed-in-Paint.ensures.changed
 
-pub returns-in_ok-changed-in-Fill-clause-stepped : goal.returns-in_ok-changed-in-Fill-clause-stepped
-returns-in_ok-changed-in-Fill-clause-stepped g c =
-    let p = c.in_ok-changed-in-Fill.ensures.ok in
-    stepped g.V.PartialEq.eq g.T.Integer.rank _ _ _ (Fill c.in-Fill.start c.in-Fill.end c.in-Fill.value) _ _ c.in-Fill.is (record { range_map = p.range_map; content = p.content })
-
-pub returns-in_ok-changed-in-Fill-clause-answer : goal.returns-in_ok-changed-in-Fill-clause-answer
-returns-in_ok-changed-in-Fill-clause-answer g c =
-    answered g.V.PartialEq.eq g.T.Integer.rank _ _ _ (Fill c.in-Fill.start c.in-Fill.end c.in-Fill.value) _ (Wrote c.in_ok-changed-in-Fill.changed) c.in-Fill.is c.in_ok-changed-in-Fill.ensures.changed
+pub returns-in_ok-old-in-Insert-clause-stepped : goal.returns-in_ok-old-in-Insert-clause-stepped
+returns-in_ok-old-in-Insert-clause-stepped g c =
+    let p = c.in_ok-old-in-Insert.ensures.ok in
+    stepped g.V.PartialEq.eq g.T.Integer.rank _ _ _ (Insert c.in-Insert.key c.in-Insert.value) _ _ c.in-Insert.is (record { range_map = p.range_map; content = p.content })
 
 pub returns-in_ok-old-in-Insert-clause-answer : goal.returns-in_ok-old-in-Insert-clause-answer
 returns-in_ok-old-in-Insert-clause-answer g c =
@@ -34,7 +31,32 @@ pub returns-in_ok-old-in-Remove-clause-answer : goal.returns-in_ok-old-in-Remove
 returns-in_ok-old-in-Remove-clause-answer g c =
     answered g.V.PartialEq.eq g.T.Integer.rank _ _ _ (Remove c.in-Remove.key) _ (Old c.in_ok-old-in-Remove.old) c.in-Remove.is (same_back g.V.PartialEq.eq g.met.V.Eq.laws _ _ c.in_ok-old-in-Remove.ensures.value)
 
-pub returns-in_ok-new-in-ComplementWith-clause-stepped : goal.returns-in_ok-new-in-ComplementWith-clause-stepped
-returns-in_ok-new-in-ComplementWith-clause-stepped g c =
-    let p = c.in_ok-new-in-ComplementWith.ensures.0 in
-    stepped g.V.PartialEq.eq g.T.Integer.rank _ _ _ (ComplementWith c.in-ComplementWith.value) _ _ c.in-ComplementWith.is (record { range_map = p.range_map; content = complement_is g.V.PartialEq.eq _ _ _ _ _ p })
+pub returns-in_ok-popped-in-PopFirst-clause-stepped : goal.returns-in_ok-popped-in-PopFirst-clause-stepped
+returns-in_ok-popped-in-PopFirst-clause-stepped g c =
+    let p = c.in_ok-popped-in-PopFirst.ensures.ok in
+    stepped g.V.PartialEq.eq g.T.Integer.rank _ _ _ PopFirst _ _ c.in-PopFirst.is (record { range_map = p.range_map; content = p.content })
+
+pub returns-in_ok-popped-in-PopFirst-clause-answer : goal.returns-in_ok-popped-in-PopFirst-clause-answer
+returns-in_ok-popped-in-PopFirst-clause-answer g c =
+    answered g.V.PartialEq.eq g.T.Integer.rank _ _ _ PopFirst _ (Popped c.in_ok-popped-in-PopFirst.popped) c.in-PopFirst.is c.in_ok-popped-in-PopFirst.ensures.pair
+
+pub returns-in_ok-popped-in-PopLast-clause-stepped : goal.returns-in_ok-popped-in-PopLast-clause-stepped
+returns-in_ok-popped-in-PopLast-clause-stepped g c =
+    let p = c.in_ok-popped-in-PopLast.ensures.ok in
+    stepped g.V.PartialEq.eq g.T.Integer.rank _ _ _ PopLast _ _ c.in-PopLast.is (record { range_map = p.range_map; content = p.content })
+
+pub returns-in_ok-popped-in-PopLast-clause-answer : goal.returns-in_ok-popped-in-PopLast-clause-answer
+returns-in_ok-popped-in-PopLast-clause-answer g c =
+    answered g.V.PartialEq.eq g.T.Integer.rank _ _ _ PopLast _ (Popped c.in_ok-popped-in-PopLast.popped) c.in-PopLast.is c.in_ok-popped-in-PopLast.ensures.pair
+
+pub change-requires-clause-no_edit : goal.change-requires-clause-no_edit
+change-requires-clause-no_edit g c = no_edit c.args.step c.in_default.not-Paint c.in_default.not-Insert c.in_default.not-Remove c.in_default.not-PopFirst c.in_default.not-PopLast
+
+pub returns-in_default-clause-counted : goal.returns-in_default-clause-counted
+returns-in_default-clause-counted g c = λ edit. absurd (no_edit c.args.step c.in_default.not-Paint c.in_default.not-Insert c.in_default.not-Remove c.in_default.not-PopFirst c.in_default.not-PopLast edit)
+
+pub returns-in_default-clause-alone : goal.returns-in_default-clause-alone
+returns-in_default-clause-alone g c = λ edit. absurd (no_edit c.args.step c.in_default.not-Paint c.in_default.not-Insert c.in_default.not-Remove c.in_default.not-PopFirst c.in_default.not-PopLast edit)
+
+pub returns-in_default-clause-err_counted : goal.returns-in_default-clause-err_counted
+returns-in_default-clause-err_counted g c = λ edit. absurd (no_edit c.args.step c.in_default.not-Paint c.in_default.not-Insert c.in_default.not-Remove c.in_default.not-PopFirst c.in_default.not-PopLast edit)

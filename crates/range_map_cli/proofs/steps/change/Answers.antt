@@ -1,0 +1,20 @@
+use Rattle.range_map_cli.specs.declared.step.Step.TheVariants.{Fill}
+use Rattle.range_map_cli.specs.declared.step.Answer.TheVariants.{Wrote}
+use Rattle.range_map_cli.proofs.Stepping.Kinds.{combined_answer, combines}
+use Rattle.range_map_cli.proofs.Stepping.Stepped.{answered, stepped}
+use Rattle.range_map_cli.proofs.steps.change.Goals as goal
+
+pub returns-in_ok-changed-in-Fill-clause-stepped : goal.returns-in_ok-changed-in-Fill-clause-stepped
+returns-in_ok-changed-in-Fill-clause-stepped g c =
+    let p = c.in_ok-changed-in-Fill.ensures.ok in
+    stepped g.V.PartialEq.eq g.T.Integer.rank _ _ _ (Fill c.in-Fill.start c.in-Fill.end c.in-Fill.value) _ _ c.in-Fill.is (record { range_map = p.range_map; content = p.content })
+
+pub returns-in_ok-changed-in-Fill-clause-answer : goal.returns-in_ok-changed-in-Fill-clause-answer
+returns-in_ok-changed-in-Fill-clause-answer g c =
+    answered g.V.PartialEq.eq g.T.Integer.rank _ _ _ (Fill c.in-Fill.start c.in-Fill.end c.in-Fill.value) _ (Wrote c.in_ok-changed-in-Fill.changed) c.in-Fill.is c.in_ok-changed-in-Fill.ensures.changed
+
+pub combined-requires-clause-combines : goal.combined-requires-clause-combines
+combined-requires-clause-combines g c = combines c.args.step c.requires.no_edit c.in_default.not-Fill c.in_default.not-Clear c.in_default.not-KeepBelow c.in_default.not-KeepFrom
+
+pub returns-in_ok-new-in_default-clause-answer : goal.returns-in_ok-new-in_default-clause-answer
+returns-in_ok-new-in_default-clause-answer g c = combined_answer g.V.PartialEq.eq g.T.Integer.rank _ _ c.args.step _ (combines c.args.step c.requires.no_edit c.in_default.not-Fill c.in_default.not-Clear c.in_default.not-KeepBelow c.in_default.not-KeepFrom)
