@@ -1,5 +1,5 @@
 -- What a step does, from what the call that takes it does.
-use Rattle.std.proofs.Common.{◌≡◌, ◌↔◌, ℕ, ℤ, pos, ◌≤ℤ◌, Bool, true, false, not, eqb, cond, IsTrue, List, [], Option, Some, None, MatchOption, refl, ◌∙◌, sym, ap, subst, arith, ⊎_elim}
+use Rattle.std.proofs.Common.{◌≡◌, ◌↔◌, ◌≤◌, ℕ, ℤ, pos, ◌≤ℤ◌, Bool, true, false, not, eqb, cond, IsTrue, List, [], length, Option, Some, None, MatchOption, refl, ◌∙◌, sym, ap, subst, arith, ⊎_elim}
 use Rattle.std.specs.Prelude.{int_le, ◌&&◌}
 use Rattle.std.specs.Cmp.{IsEquivalence}
 use Rattle.std.proofs.lemmas.Bool.{eq-eqb, ne_eqb, cases_eq}
@@ -11,6 +11,7 @@ use Rattle.blaze_table.specs.Counted.{CountedEntries}
 use Rattle.blaze_table.specs.Canonical.{IsRangeMap}
 use Rattle.blaze_table.specs.Complement.{absent, IsComplement}
 use Rattle.blaze_table.specs.Count.{keys_in, mapped_keys}
+use Rattle.blaze_table.specs.Work.{IsCountedCut, PutsAtMost}
 use Rattle.range_map_blaze.specs.Pairs.{PopsFirst, PopsLast}
 use Rattle.range_map_cli.specs.Steps.{answer, complemented, first_key, last_key, with_value, pair_of, IsStepped, IsWithout, SameAnswer, SamePair}
 use Rattle.range_map_cli.specs.declared.step.Step.{Step}
@@ -32,6 +33,18 @@ differ_is false m n says = ⊎_elim (λ e. ap not (sym (eq-eqb m n e))) (λ ne. 
   where
     refuse : IsTrue false → ⊥
     refuse e = cc
+
+-- a cut puts in at most two entries
+pub cut_counted : {V : Type 0} (old new : CountedEntries V) → IsCountedCut old new → PutsAtMost 2 old new
+cut_counted old new cut = record {
+  counted = cut.counted;
+  puts = omega (arith, cut.puts);
+  looks = cut.looks;
+}
+
+-- it leaves an empty list with one entry at most
+pub cut_alone : {V : Type 0} (old new : CountedEntries V) → IsCountedCut old new → old.entries ≡ [] → length new.entries ≤ 1
+cut_alone old new cut empty = omega (arith, cut.puts, cut.counted.taken, cut.counted.balance, ap length empty)
 
 -- equal values the other way round
 pub same_back : {V : Type 0} (eq : V → V → Bool) (laws : IsEquivalence eq) (a b : Option V) → SameOption eq a b → SameOption eq b a

@@ -1,4 +1,4 @@
-use Rattle.range_map_cli.specs.declared.step.Step.TheVariants.{Fill}
+use Rattle.range_map_cli.specs.declared.step.Step.TheVariants.{Fill, KeepBelow, KeepFrom}
 use Rattle.range_map_cli.specs.declared.step.Answer.TheVariants.{Wrote}
 use Rattle.range_map_cli.proofs.Stepping.Kinds.{combined_answer, combines}
 use Rattle.range_map_cli.proofs.Stepping.Stepped.{answered, stepped}
@@ -18,3 +18,13 @@ combined-requires-clause-combines g c = combines c.args.step c.requires.no_edit 
 
 pub returns-in_ok-new-in_default-clause-answer : goal.returns-in_ok-new-in_default-clause-answer
 returns-in_ok-new-in_default-clause-answer g c = combined_answer g.V.PartialEq.eq g.T.Integer.rank _ _ c.args.step _ (combines c.args.step c.requires.no_edit c.in_default.not-Fill c.in_default.not-Clear c.in_default.not-KeepBelow c.in_default.not-KeepFrom)
+
+pub returns-in_ok-split_off-in-KeepBelow-clause-stepped : goal.returns-in_ok-split_off-in-KeepBelow-clause-stepped
+returns-in_ok-split_off-in-KeepBelow-clause-stepped g c =
+    let p = c.in_ok-split_off-in-KeepBelow.ensures.ok in
+    stepped g.V.PartialEq.eq g.T.Integer.rank _ _ _ (KeepBelow c.in-KeepBelow.key) _ _ c.in-KeepBelow.is (record { range_map = p.below_range_map; content = p.below_content })
+
+pub returns-in_ok-from-in-KeepFrom-clause-stepped : goal.returns-in_ok-from-in-KeepFrom-clause-stepped
+returns-in_ok-from-in-KeepFrom-clause-stepped g c =
+    let p = c.in_ok-from-in-KeepFrom.ensures.ok in
+    stepped g.V.PartialEq.eq g.T.Integer.rank _ _ _ (KeepFrom c.in-KeepFrom.key) _ _ c.in-KeepFrom.is (record { range_map = p.from_range_map; content = p.from_content })

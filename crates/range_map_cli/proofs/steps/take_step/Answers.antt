@@ -1,7 +1,7 @@
 use Rattle.range_map_cli.specs.declared.step.Step.TheVariants.{Paint, Insert, Remove, PopFirst, PopLast}
 use Rattle.range_map_cli.specs.declared.step.Answer.TheVariants.{Wrote, Old, Popped}
 use Rattle.range_map_cli.proofs.Stepping.Kinds.{no_edit}
-use Rattle.range_map_cli.proofs.Stepping.Stepped.{answered, same_back, stepped}
+use Rattle.range_map_cli.proofs.Stepping.Stepped.{answered, cut_alone, cut_counted, same_back, stepped}
 use Rattle.range_map_cli.proofs.steps.take_step.Goals as goal
 
 pub returns-in_ok-changed-in-Paint-clause-stepped : goal.returns-in_ok-changed-in-Paint-clause-stepped
@@ -60,3 +60,33 @@ returns-in_default-clause-alone g c = λ edit. absurd (no_edit c.args.step c.in_
 
 pub returns-in_default-clause-err_counted : goal.returns-in_default-clause-err_counted
 returns-in_default-clause-err_counted g c = λ edit. absurd (no_edit c.args.step c.in_default.not-Paint c.in_default.not-Insert c.in_default.not-Remove c.in_default.not-PopFirst c.in_default.not-PopLast edit)
+
+pub returns-in_ok-changed-in-Paint-clause-counted : goal.returns-in_ok-changed-in-Paint-clause-counted
+returns-in_ok-changed-in-Paint-clause-counted g c = λ edit. c.in_ok-changed-in-Paint.ensures.counted
+
+pub returns-in_ok-changed-in-Paint-clause-alone : goal.returns-in_ok-changed-in-Paint-clause-alone
+returns-in_ok-changed-in-Paint-clause-alone g c = λ edit empty. c.in_ok-changed-in-Paint.ensures.ok.alone empty
+
+pub returns-in_ok-old-in-Insert-clause-counted : goal.returns-in_ok-old-in-Insert-clause-counted
+returns-in_ok-old-in-Insert-clause-counted g c = λ edit. c.in_ok-old-in-Insert.ensures.counted
+
+pub returns-in_ok-old-in-Insert-clause-alone : goal.returns-in_ok-old-in-Insert-clause-alone
+returns-in_ok-old-in-Insert-clause-alone g c = λ edit empty. c.in_ok-old-in-Insert.ensures.ok.alone empty
+
+pub returns-in_ok-old-in-Remove-clause-counted : goal.returns-in_ok-old-in-Remove-clause-counted
+returns-in_ok-old-in-Remove-clause-counted g c = λ edit. cut_counted c.args.map.now c.remove.new.self c.in_ok-old-in-Remove.ensures.counted
+
+pub returns-in_ok-old-in-Remove-clause-alone : goal.returns-in_ok-old-in-Remove-clause-alone
+returns-in_ok-old-in-Remove-clause-alone g c = λ edit empty. cut_alone c.args.map.now c.remove.new.self c.in_ok-old-in-Remove.ensures.counted empty
+
+pub returns-in_ok-popped-in-PopFirst-clause-counted : goal.returns-in_ok-popped-in-PopFirst-clause-counted
+returns-in_ok-popped-in-PopFirst-clause-counted g c = λ edit. cut_counted c.args.map.now c.pop_first.new.map c.in_ok-popped-in-PopFirst.ensures.counted
+
+pub returns-in_ok-popped-in-PopFirst-clause-alone : goal.returns-in_ok-popped-in-PopFirst-clause-alone
+returns-in_ok-popped-in-PopFirst-clause-alone g c = λ edit empty. cut_alone c.args.map.now c.pop_first.new.map c.in_ok-popped-in-PopFirst.ensures.counted empty
+
+pub returns-in_ok-popped-in-PopLast-clause-counted : goal.returns-in_ok-popped-in-PopLast-clause-counted
+returns-in_ok-popped-in-PopLast-clause-counted g c = λ edit. cut_counted c.args.map.now c.pop_last.new.map c.in_ok-popped-in-PopLast.ensures.counted
+
+pub returns-in_ok-popped-in-PopLast-clause-alone : goal.returns-in_ok-popped-in-PopLast-clause-alone
+returns-in_ok-popped-in-PopLast-clause-alone g c = λ edit empty. cut_alone c.args.map.now c.pop_last.new.map c.in_ok-popped-in-PopLast.ensures.counted empty
