@@ -79,28 +79,46 @@ impl<R: Read + Drop> Script<R> {
         }
     }
 
-    /// Answers the lines up to the next key type, the end or a bad line.
+    /// Answers the lines up to the next key type, the end or a bad line, from empty maps and sets on.
     fn answer_all<T: ScriptKey>(&mut self, rt: &HostRuntime) -> io::Result<Next> {
         let mut state = State::<T>::new(rt.alloc());
+        self.answer_lines(rt, &mut state)
+    }
+
+    /// Answers the lines up to the next key type, the end or a bad line.
+    fn answer_lines<T: ScriptKey>(
+        &mut self,
+        rt: &HostRuntime,
+        state: &mut State<T>,
+    ) -> io::Result<Next> {
         for _ in 0..u64::MAX {
             let call = match self.lines.next_line()? {
                 Line::End => return Ok(Next::End(0)),
                 Line::Nothing => continue,
                 Line::Keys(key_type) => return Ok(Next::Keys(key_type)),
-                Line::Text(text) => Call::read(&state, text),
+                Line::Text(text) => Call::read(state, text),
                 Line::Bytes => Err(Fault::Bad),
             };
-            match self.answer(rt, call, &mut state)? {
-                Ok(()) => {
-                    let reply = self.reply.as_str();
-                    println!(rt; "{reply}")?
-                }
-                Err(Fault::Refused) => println!(rt; "refused")?,
-                Err(Fault::RefusedAt(at)) => println!(rt; "refused at {at}")?,
-                Err(Fault::Bad) => return self.bad(rt),
+            let made = self.answer(rt, call, state)?;
+            if let Some(end) = self.print(rt, made)? {
+                return Ok(end);
             }
         }
         Ok(Next::End(0))
+    }
+
+    /// Prints the answer that is kept, or that memory was refused. Returns the script's end where the line was bad.
+    fn print(&self, rt: &HostRuntime, made: Result<(), Fault>) -> io::Result<Option<Next>> {
+        match made {
+            Ok(()) => {
+                let reply = self.reply.as_str();
+                println!(rt; "{reply}")?;
+            }
+            Err(Fault::Refused) => println!(rt; "refused")?,
+            Err(Fault::RefusedAt(at)) => println!(rt; "refused at {at}")?,
+            Err(Fault::Bad) => return Ok(Some(self.bad(rt)?)),
+        }
+        Ok(None)
     }
 
     /// Makes a call, and keeps what is printed of its answer.
