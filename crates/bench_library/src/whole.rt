@@ -12,6 +12,10 @@ pub enum Combination {
     Restriction,
     Difference,
     SymmetricDifference,
+    /// The sums of the values where both have one.
+    InnerJoin,
+    /// The same where the second has one.
+    LeftJoin,
 }
 
 /// What the work of a number makes of a map of so many entries and another one, and the entries of that one.
@@ -26,6 +30,9 @@ pub fn combined(number: u32, size: u64) -> Option<(Combination, u64)> {
         21 => Some((Combination::Restriction, 100)),
         22 => Some((Combination::Difference, 100)),
         28 => Some((Combination::SymmetricDifference, 100)),
+        30 => Some((Combination::InnerJoin, size)),
+        31 => Some((Combination::InnerJoin, 100)),
+        32 => Some((Combination::LeftJoin, 100)),
         _ => None,
     }
 }
@@ -91,10 +98,20 @@ impl Combination {
             Combination::Restriction => other & map,
             Combination::Difference => map - other,
             Combination::SymmetricDifference => map ^ other,
+            Combination::InnerJoin => map.inner_join(
+                other,
+                |left, right| left.wrapping_add(*right),
+            ),
+            Combination::LeftJoin => {
+                other.left_join(
+                    map,
+                    |left, right| left.wrapping_add(right.copied().unwrap_or(0)),
+                )
+            }
         }
     }
 
-    /// What is made of two maps by value; of `^`, the second is lent.
+    /// What is made of two maps by value; of `^`, the second is lent, and of joins both.
     fn of_values(self, map: Map, other: Map) -> Result<Map, AllocError> {
         match self {
             Combination::Union => map | other,
@@ -102,6 +119,7 @@ impl Combination {
             Combination::Restriction => other & map,
             Combination::Difference => map - other,
             Combination::SymmetricDifference => map ^ &other,
+            Combination::InnerJoin | Combination::LeftJoin => self.of(&map, &other),
         }
     }
 }
@@ -114,6 +132,17 @@ pub fn combine(work: Work, combination: Combination, other: u64) -> Result<u64, 
     let mut sum = 0;
     for _ in 0..work.count {
         sum = checksum(work.check, sum, &combination.of(&map, &other)?);
+    }
+    Ok(sum)
+}
+
+/// A map under another one whose entries, one for each sixteen of its own, cover nearly all of them, again and again.
+pub fn cover(work: Work) -> Result<u64, AllocError> {
+    let map = even(work, 1)?;
+    let other = prepared(work.alloc, 3, work.size / 16, 0, spread(16))?;
+    let mut sum = 0;
+    for _ in 0..work.count {
+        sum = checksum(work.check, sum, &(&map | &other)?);
     }
     Ok(sum)
 }
