@@ -1,4 +1,4 @@
-//! Streams of other values: what two have at the same keys, returns of a closure, every key of the type, events.
+//! Streams of other values: what two have at the same keys, what a closure returns, every key of the type, events.
 use crate::calls::{begin, end, show_refused};
 use crate::tables::{Words, table_of};
 use blaze_streams::{

@@ -54,7 +54,7 @@ pub trait MultiwaySortedDisjointMap<T: Integer, VC: ValueCarrier>: Sized {
 
     /// What a closure returns where all streams have a value: one call for each of the greatest ranges on which no stream
     /// changes and all have a value, ascending. A call gets the row of the streams' carriers, first to last. Touching equal
-    /// returns are one range. Of no streams the closure is called once, with an empty row, and its answer is at every key. With n
+    /// results are one range. Of no streams the closure is called once, with an empty row, and its answer is at every key. With n
     /// ranges in k streams it takes O(n k) steps and O(n + k) memory beside the answer. No value is cloned. Refused memory drops
     /// the answers too.
     fn inner_join<W: Eq + Clone, F: FnMut(&[&VC]) -> W>(

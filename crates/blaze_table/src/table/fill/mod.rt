@@ -22,8 +22,8 @@ impl<T: Integer, V: Eq + Clone> RangeTable<T, V> {
     /// Puts a value on those keys from lo up to hi that have none, and returns whether the number of keys changed. The last gap
     /// takes the value, and each gap before it a clone. All clones and entries are made before touching equal entries are joined,
     /// and refused memory leaves the entries and the count of keys. Where each key of the range has a value nothing changes, and
-    /// no memory is taken. It takes a step for each entry within the range; two searches to find each gap and one to fill it; and
-    /// four for each two entries that are joined.
+    /// no memory is taken. Where a filled gap joins an entry's end, the value that is stored there stays. It takes a step for each
+    /// entry within the range; two searches to find each gap and one to fill it; and four for each two entries that are joined.
     pub fn fill_absent(&mut self, lo: T, hi: T, value: V) -> Result<bool, AllocError>
         requires order { T.rank lo ≤ℤ T.rank hi }
         requires clones { ClonesAreAlike V.is_clone V.eq }
