@@ -114,7 +114,7 @@ fn let_go_below<
     }
 }
 
-/// Lets the keys go of  the one of two streams that has a value at `end`, where a join of the kind is not asked for it, up to the
+/// Lets the keys go of the one of two streams that has a value at `end`, where a join of the kind is not asked for it, up to the
 /// other's first key.
 fn skip<
     T: Integer,
@@ -171,8 +171,8 @@ fn join_next<
 }
 
 /// The segments of two streams that a join of a kind is asked for, each with carriers of what the two have there, in one pass
-/// over both, in which a stream that is behind seeks the next key that may be asked for. The segment that a range ends with has the range's own carrier, each one before it another (`carry`), whose value
-/// is to be `==`. Refused memory drops both streams.
+/// over both. A stream that is behind seeks the next key that may be asked for. The segment that a range ends with has the range's
+/// own carrier, each one before it another (`carry`), whose value is to be `==`. Refused memory drops both streams.
 pub fn join_of<
     T: Integer,
     VCL: ValueCarrier,
