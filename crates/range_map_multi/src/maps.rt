@@ -23,7 +23,7 @@ pub trait MultiwayRangeMapBlazeRef<T: Integer, V: Eq + Clone>: Sized {
 
     /// Each key that a map has, with the value of the last map that has it; of no maps nothing. Each entry of the answer takes
     /// one clone of its value. With n entries in k maps it takes O(n log k) steps. A map that has 16 entries for each of all the
-    /// others' is cloned once, values too, and each of theirs costs a few searches, and a clone for each gap that it fills.
+    /// others' is cloned once, values too; where those cover few of its entries each costs a few searches, and a clone for each gap.
     fn union(self, alloc: Global) -> Result<RangeMapBlaze<T, V>, AllocError>
         requires { ClonesAreAlike V.is_clone V.eq }
         ensures { IfOk result (IsMade (IsChosenOfMany V.eq T.low T.high last_value (lists self))) };
@@ -144,7 +144,7 @@ pub trait MultiwayRangeMapBlaze<T: Integer, V: Eq + Clone>: Sized {
 
     /// Each key that a map has, with the value of the last map that has it; of no maps nothing. Each entry of the answer takes
     /// one clone of its value. With n entries in k maps it takes O(n log k) steps. A map that has 16 entries for each of all the
-    /// others' is cloned once, values too, and each of theirs costs a few searches, and a clone for each gap that it fills.
+    /// others' is cloned once, values too; where those cover few of its entries each costs a few searches, and a clone for each gap.
     fn union(self, alloc: Global) -> Result<RangeMapBlaze<T, V>, AllocError>
         requires { ClonesAreAlike V.is_clone V.eq }
         ensures { IfOk result (IsMade (IsChosenOfMany V.eq T.low T.high last_value (lists self))) };
