@@ -1,5 +1,5 @@
 -- One list among many: those before it, it, and those behind it.
-use Rattle.std.proofs.Common.{◌≡◌, ◌<◌, ◌+◌, ℕ, ℤ, Bool, true, false, cond, ◌&&◌, List, [], ◌∷◌, ◌++◌, length, map, take, drop, get_or, Option, Some, None, is_some, refl, ◌∙◌, sym, ap, subst}
+use Rattle.std.proofs.Common.{◌≡◌, ◌<◌, ◌+◌, ℕ, ℤ, Bool, true, false, cond, ◌&&◌, List, [], ◌∷◌, ◌++◌, length, map, take, drop, get_or, Option, Some, None, is_some, refl, ◌∙◌, sym, ap, subst, arith, length-drop}
 use Rattle.std.specs.List.{list_all}
 use Rattle.std.specs.Cmp.{IsEquivalence}
 use Rattle.std.proofs.lemmas.List.{map-append, take-append-drop}
@@ -20,6 +20,12 @@ pub parted : {A B : Type 0} (f : A → B) (xs front back : List A) (i : ℕ) (x 
 parted f xs front back i x y l e p h t =
     ap (λ z. map f front ++ z ∷ map f back) p ∙ sym (map-append f front (x ∷ back)) ∙ ap (λ zs. map f (zs ++ x ∷ back)) h ∙ ap (λ zs. map f (take i xs ++ x ∷ zs)) t
     ∙ ap (λ ys. map f (take i xs ++ ys)) (sym (from_index xs i x l e)) ∙ ap (map f) (take-append-drop i xs)
+
+-- the same where the item is the first of those that are cut off at its index
+pub parted_at : {A B : Type 0} (f : A → B) (xs front cut behind : List A) (i : ℕ) (x : A) → i < length xs → front ≡ take i xs → cut ≡ drop i xs → x ≡ get_or cut 0 x → behind ≡ drop 1 cut → map f front ++ f x ∷ map f behind ≡ map f xs
+parted_at f xs front cut behind i x l h t e b =
+    let some : 0 < length cut = omega (arith, l, ap length t, length-drop i xs) in
+    sym (map-append f front (x ∷ behind)) ∙ ap (λ zs. map f (zs ++ x ∷ behind)) h ∙ ap (λ zs. map f (take i xs ++ x ∷ zs)) b ∙ ap (λ zs. map f (take i xs ++ zs)) (sym (from_index cut 0 x some e) ∙ t) ∙ ap (map f) (take-append-drop i xs)
 
 module _ {V : Type 0} where
   last_around : (xs : List (Option V)) (y : Option V) (zs : List (Option V)) → right_first (right_first (last_value xs) y) (last_value zs) ≡ last_value (xs ++ y ∷ zs)

@@ -28,7 +28,7 @@ pub fn lent_union<'a, T: Integer, V: Eq + Clone, M: AsMap<T, V>>(
 }
 
 /// The same by rounds of merges.
-fn united<'a, T: Integer, V: Eq + Clone, M: AsMap<T, V>>(
+pub fn united<'a, T: Integer, V: Eq + Clone, M: AsMap<T, V>>(
     alloc: Global,
     maps: &'a [M],
 ) -> Result<RangeMapBlaze<T, V>, AllocError>

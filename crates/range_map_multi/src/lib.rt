@@ -10,6 +10,7 @@ mod lists;
 mod maps;
 mod merges;
 mod operations;
+mod owned_unions;
 mod parity;
 mod parts;
 mod row_answers;

@@ -12,6 +12,7 @@ use crate::lent::{AsMap, lent_symmetric_difference};
 use crate::lent_intersections::lent_intersection;
 use crate::lent_joins::{lent_full_join, lent_inner_join};
 use crate::lent_unions::lent_union;
+use crate::owned_unions::owned_union;
 use blaze_int::Integer;
 use range_map_blaze::RangeMapBlaze;
 use std::alloc::{AllocError, Global};
@@ -144,7 +145,8 @@ pub trait MultiwayRangeMapBlaze<T: Integer, V: Eq + Clone>: Sized {
 
     /// Each key that a map has, with the value of the last map that has it; of no maps nothing. Each entry of the answer takes
     /// one clone of its value. With n entries in k maps it takes O(n log k) steps. A map that has 16 entries for each of all the
-    /// others' is cloned once, values too; where those cover few of its entries each costs a few searches, and a clone for each gap.
+    /// others' is taken as it is, with its own values; where those cover few of its entries each costs a few searches, and a clone
+    /// for each gap.
     fn union(self, alloc: Global) -> Result<RangeMapBlaze<T, V>, AllocError>
         requires { ClonesAreAlike V.is_clone V.eq }
         ensures { IfOk result (IsMade (IsChosenOfMany V.eq T.low T.high last_value (lists self))) };
@@ -168,7 +170,7 @@ impl<T: Integer, V: Eq + Clone> MultiwayRangeMapBlaze<T, V> for Vec<RangeMapBlaz
     ghost lists = { λ s. map (λ m. m.entries) s.items };
 
     fn union(self, alloc: Global) -> Result<RangeMapBlaze<T, V>, AllocError> {
-        lent_union(alloc, &self)
+        owned_union(alloc, self)
     }
 
     fn intersection(self, alloc: Global) -> Result<RangeMapBlaze<T, V>, AllocError> {
