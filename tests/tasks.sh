@@ -18,6 +18,7 @@ number=0
     sed -n '/^```rust$/,/^```$/{/^```/d; p}' docs/TASKS.md
     echo 'use std::process::ExitCode;'
     echo 'type Map = RangeMapBlaze<i32, char>;'
+    echo 'type Numbers = RangeMapBlaze<i32, u32>;'
     while IFS= read -r line; do
         number=$((number + 1))
         lent='&Map'
@@ -28,7 +29,7 @@ number=0
             *) line="let _ = $line;" ;;
         esac
         echo "#[allow(unused_variables)]"
-        echo "fn task_$number(map: $lent, other: &Map, capitals: Map, above: Map, keys: RangeSetBlaze<i32>, range: RangeInclusive<i32>, count: &mut u64, alloc: Global) -> Result<(), AllocError> {"
+        echo "fn task_$number(map: $lent, other: &Map, capitals: Map, above: Map, ours: &Numbers, theirs: &Numbers, keys: RangeSetBlaze<i32>, range: RangeInclusive<i32>, count: &mut u64, alloc: Global) -> Result<(), AllocError> {"
         echo "    $line"
         echo '    Ok(())'
         echo '}'

@@ -127,6 +127,11 @@ print(text({key: letters[key] for key in [*keys(0, 11), *keys(20, 21)] if key in
 capitals = {key: value.upper() for key, value in letters.items()}
 print(text(capitals))
 print(text({key: (letters[key], other[key]) for key in letters if key in other}))
+for run in entries({key: (letters.get(key), other.get(key)) for key in KEYS if key in letters or key in other}):
+    print(ends(run), *(option(value and debug(value)) for value in run[2]))
+ours = dict.fromkeys(keys(0, 9), 1)
+theirs = dict.fromkeys(keys(5, 14), 10)
+print(text({key: ours.get(key, 0) + theirs.get(key, 0) for key in {**ours, **theirs}}))
 print(text({**letters, **other, **capitals}))
 print(str(letters == dict(letters)).lower())
 

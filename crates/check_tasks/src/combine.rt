@@ -1,6 +1,6 @@
 //! Maps are combined.
 use crate::Map;
-use range_map_blaze::{RangeMapBlaze, RangeSetBlaze};
+use range_map_blaze::{JoinKind, RangeMapBlaze, RangeSetBlaze, join_of};
 use range_map_multi::MultiwayRangeMapBlazeRef;
 use std::alloc::AllocError;
 
@@ -44,6 +44,33 @@ fn joined(rt: &HostRuntime, map: &Map, other: &Map) -> Result<(), AllocError> {
     Ok(())
 }
 
+/// The pieces of two maps, with what each map has there.
+fn pieces(rt: &HostRuntime, map: &Map, other: &Map) -> Result<(), AllocError> {
+    let alloc = rt.alloc();
+    for (range, (value, new)) in join_of(
+        alloc,
+        map.range_values(),
+        other.range_values(),
+        JoinKind::Full,
+    )? {
+        let _ = println!(rt; "{range:?} {value:?} {new:?}");
+    }
+    Ok(())
+}
+
+/// A map of numbers.
+type Numbers = RangeMapBlaze<i32, u32>;
+
+/// Numbers added where ranges overlap.
+fn added(rt: &HostRuntime, ours: &Numbers, theirs: &Numbers) -> Result<(), AllocError> {
+    let sums = ours.full_join(theirs, |one, two| {
+        one.map_or(0, |one| *one)
+            .wrapping_add(two.map_or(0, |two| *two))
+    })?;
+    let _ = println!(rt; "{sums}");
+    Ok(())
+}
+
 /// Three maps in one, and two maps compared.
 fn many(rt: &HostRuntime, map: &Map, other: &Map, capitals: Map) -> Result<(), AllocError> {
     let alloc = rt.alloc();
@@ -62,5 +89,12 @@ pub fn all(rt: &HostRuntime, map: &Map) -> Result<(), AllocError> {
     on_a_set(rt, map)?;
     let capitals = capitals_of(rt, map)?;
     joined(rt, map, &other)?;
+    pieces(rt, map, &other)?;
+    let ours = RangeMapBlaze::from_ranges(rt.alloc(), [(0..=9, 1)])?;
+    added(
+        rt,
+        &ours,
+        &RangeMapBlaze::from_ranges(rt.alloc(), [(5..=14, 10)])?,
+    )?;
     many(rt, map, &other, capitals)
 }
