@@ -4,7 +4,6 @@
 #![tactic(auto)]
 
 mod coarse;
-mod fills;
 mod joins;
 mod keys;
 mod many;
@@ -22,7 +21,6 @@ use std::process::ExitCode;
 /// Makes all calls.
 fn run(rt: &HostRuntime) -> Result<(), AllocError> {
     tables::all(rt)?;
-    fills::all(rt)?;
     sets::all(rt)?;
     streams::all(rt)?;
     joins::all(rt)?;

@@ -4,7 +4,7 @@ use crate::streams::show;
 use blaze_streams::RangeValuesIter;
 use range_map_blaze::RangeMapBlaze;
 use range_map_multi::{MultiwayRangeMapBlaze, MultiwayRangeMapBlazeRef, MultiwaySortedDisjointMap};
-use std::alloc::{AllocError, Global};
+use std::alloc::AllocError;
 
 /// Copies of maps, by value.
 fn copies(rt: &HostRuntime, maps: &[Letters; 3]) -> Result<Vec<Letters>, AllocError> {
@@ -99,66 +99,6 @@ fn numbers(rt: &HostRuntime) -> Result<(), AllocError> {
     Ok(())
 }
 
-/// A map of many entries: the even keys up to 62.
-fn large(alloc: Global) -> Result<Letters, AllocError> {
-    let mut map = RangeMapBlaze::default(alloc);
-    for half in 0..32u8 {
-        let _ = map.insert(i64::from(half.wrapping_mul(2)), 'l')?;
-    }
-    Ok(map)
-}
-
-/// The number of a map's entries, and what it has up to the key 12.
-fn show_start(rt: &HostRuntime, name: &str, mut map: Letters) -> Result<(), AllocError> {
-    let count = map.ranges_len();
-    map.ranges_remove(13..=99)?;
-    let _ = println!(rt; "{name}: {count} entries, {map:?}");
-    Ok(())
-}
-
-/// Unions of one large map and two small ones.
-fn beside_a_large_one(rt: &HostRuntime) -> Result<(), AllocError> {
-    let alloc = rt.alloc();
-    let l = large(alloc)?;
-    let a = map_of(alloc, &[(3, 10, 'a')])?;
-    let b = map_of(alloc, &[(9, 12, 'b')])?;
-    show_start(rt, "union l a b", [&l, &a, &b].union(alloc)?)?;
-    show_start(rt, "union a l b", [&a, &l, &b].union(alloc)?)?;
-    show_start(rt, "union a b l", [&a, &b, &l].union(alloc)?)
-}
-
-/// Intersections of three maps of one, two and three entries.
-fn from_the_smallest(rt: &HostRuntime) -> Result<(), AllocError> {
-    let alloc = rt.alloc();
-    let s = map_of(alloc, &[(5, 30, 's')])?;
-    let a = map_of(alloc, &[(0, 9, 'a'), (20, 25, 'A')])?;
-    let b = map_of(alloc, &[(8, 8, 'b'), (22, 40, 'B'), (50, 50, 'b')])?;
-    let _ = println!(rt;
-        "intersection s a b: {:?}",
-        [&s, &a, &b].intersection(alloc)
-    );
-    let _ = println!(rt;
-        "intersection b s a: {:?}",
-        [&b, &s, &a].intersection(alloc)
-    );
-    let _ = println!(rt;
-        "intersection a b s: {:?}",
-        [&a, &b, &s].intersection(alloc)
-    );
-    Ok(())
-}
-
-/// The union of no maps, and the operations on one.
-fn none_and_one(rt: &HostRuntime) -> Result<(), AllocError> {
-    let alloc = rt.alloc();
-    let none: [&Letters; 0] = [];
-    let a = map_of(alloc, &[(0, 9, 'a'), (20, 25, 'A')])?;
-    let _ = println!(rt; "union: {:?}", none.union(alloc));
-    let _ = println!(rt; "union a: {:?}", [&a].union(alloc));
-    let _ = println!(rt; "intersection a: {:?}", [&a].intersection(alloc));
-    Ok(())
-}
-
 /// Makes all calls of this file.
 pub fn all(rt: &HostRuntime) -> Result<(), AllocError> {
     let alloc = rt.alloc();
@@ -171,8 +111,5 @@ pub fn all(rt: &HostRuntime) -> Result<(), AllocError> {
     as_streams(rt, &maps)?;
     inner_joined(rt, streams(rt, &maps)?)?;
     full_joined(rt, streams(rt, &maps)?)?;
-    numbers(rt)?;
-    beside_a_large_one(rt)?;
-    from_the_smallest(rt)?;
-    none_and_one(rt)
+    numbers(rt)
 }

@@ -120,6 +120,17 @@ fn sums_past_the_greatest_u128(rt: HostRuntime) -> Result<(), Fail> {
 }
 
 #[test]
+fn steps_and_lengths(rt: HostRuntime) {
+    assert_eq!(rt; 5u8.add_one(), 6);
+    assert_eq!(rt; 'b'.sub_one(), 'a');
+    let mut key = 5i128;
+    key.assign_sub_one();
+    assert_eq!(rt; key, 4);
+    assert_eq!(rt; u8::safe_len(&(1..=5)), 5);
+    assert_eq!(rt; u128::safe_len(&(1..=5)), UIntPlusOne::UInt(5));
+}
+
+#[test]
 fn bounds(rt: HostRuntime) {
     assert_eq!(rt; bounds_of::<i8, _>(&(..)), Some((-128, 127)));
     assert_eq!(rt; bounds_of(&(..=5u8)), Some((0, 5)));
