@@ -1,5 +1,5 @@
 -- How many keys the pieces of a list have.
-use Rattle.std.proofs.Common.{◌≡◌, ℕ, ℤ, pos, ◌+ℤ◌, ◌-ℤ◌, ◌≤ℤ◌, Bool, cond, List, [], ◌∷◌, refl, ◌∙◌, sym, ap, subst, arith}
+use Rattle.std.proofs.Common.{◌≡◌, ℕ, ℤ, pos, ◌+◌, ◌≤◌, ◌+ℤ◌, ◌-ℤ◌, ◌≤ℤ◌, Bool, cond, List, [], ◌∷◌, refl, ◌∙◌, sym, ap, subst, arith}
 use Rattle.std.specs.Cmp.{IsEquivalence}
 use Rattle.std.specs.Int.{int_max, int_min}
 use Rattle.std.specs.Prelude.{int_le}
@@ -47,6 +47,13 @@ shared_most l h a b w =
   where
     between : (x y a b : ℤ) → a ≤ℤ x → y ≤ℤ b → ((y -ℤ x) +ℤ pos 1) ≤ℤ (b -ℤ a +ℤ pos 1)
     between x y a b p q = omega (arith, ints)
+
+-- the keys of a list are counted one entry after another: the next sum fits, and stands for what is left
+pub one_fits : (sum len most : ℕ) (lo hi left rest all : ℤ) → pos sum +ℤ left ≡ all → left ≡ (hi -ℤ lo +ℤ pos 1) +ℤ rest → pos 0 ≤ℤ rest → all ≤ℤ pos most → lo +ℤ pos len ≡ hi +ℤ pos 1 → sum + len ≤ most
+one_fits sum len most lo hi left rest all counted split some fits length = omega (arith, ints)
+
+pub one_more : (sum len next : ℕ) (lo hi left rest all : ℤ) → pos sum +ℤ left ≡ all → left ≡ (hi -ℤ lo +ℤ pos 1) +ℤ rest → lo +ℤ pos len ≡ hi +ℤ pos 1 → next ≡ sum + len → pos next +ℤ rest ≡ all
+one_more sum len next lo hi left rest all counted split length plus = omega (arith, ints)
 
 module _ {V : Type 0} where
   pub overlap_left : (l h : ℤ) (e : Entry V) → e.lo ≤ℤ l → l ≤ℤ e.hi → e.hi ≤ℤ h → overlap l h e ≡ (e.hi -ℤ l) +ℤ pos 1

@@ -49,11 +49,15 @@ module _ {V : Type 0} (eq : V → V → Bool) where
   pub last_holder : (es : List (Entry V)) → IsCanonical eq es → (e : Entry V) → slice_get es (length es - 1) ≡ Some e → holder_of e.hi es ≡ Some e
   last_holder es c e p = holds e.hi es e (omega (arith, ints)) (last_entry es e c p)
 
+  pub first_there : (es : List (Entry V)) → (length es ≡ 0 → ⊥) → IsSome (slice_get es 0)
+  first_there [] n = absurd (n refl)
+  first_there (e ∷ es) n = refl
+
   pub first_refused : (es : List (Entry V)) → (length es ≡ 0 → ⊥) → IfSome (slice_get es 0) (λ e. IsAmongOthers e.lo es) → (first : Entry V) × (slice_get es 0 ≡ Some first) × IsAmongOthers first.lo es
   first_refused [] n h = absurd (n refl)
   first_refused (e ∷ es) n h = (e, refl, h)
 
-  last_there : (es : List (Entry V)) → (length es ≡ 0 → ⊥) → IsSome (slice_get es (length es - 1))
+  pub last_there : (es : List (Entry V)) → (length es ≡ 0 → ⊥) → IsSome (slice_get es (length es - 1))
   last_there [] n = absurd (n refl)
   last_there (e ∷ es) n =
       let place : length (e ∷ es) - 1 ≡ length es = omega arith in

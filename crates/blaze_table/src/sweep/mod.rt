@@ -38,12 +38,10 @@ pub fn canonical_of<T: Integer, V: Eq + Clone>(
         (shown_list T.rank entries.items)) }
 {
     if is_ascending(pairs.as_slice()) {
-        let entries = joined_entries(alloc, pairs)?;
-        return Ok(entries);
+        return joined_entries(alloc, pairs);
     }
     keys_in_hand(pairs.as_slice());
     let placed = placed_of(alloc, pairs)?;
     let pieces = pieces_of(alloc, placed.as_slice())?;
-    let entries = entries_of_pieces(alloc, placed, pieces)?;
-    Ok(entries)
+    entries_of_pieces(alloc, placed, pieces)
 }

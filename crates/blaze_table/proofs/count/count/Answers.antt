@@ -1,15 +1,14 @@
-use Rattle.std.proofs.Common.{subst, ap, arith}
-use Rattle.std.proofs.lemmas.Int.{ints}
+use Rattle.std.proofs.Common.{subst, ap}
 use Rattle.blaze_table.specs.Canonical.{IsCanonical}
 use Rattle.blaze_table.specs.Count.{keys_in}
-use Rattle.blaze_table.proofs.Canonical.Counted.{some_keys}
+use Rattle.blaze_table.proofs.Canonical.Counted.{some_keys, one_fits, one_more}
 use Rattle.blaze_table.proofs.count.count.Goals as goal
 
 pub plus-sum-requires : goal.plus-sum-requires
 plus-sum-requires g c =
     let i = c.loop-start.invariant in
     let here = subst (IsCanonical g.V.PartialEq.eq) c.in-Some.ensures.steps i.2 in
-    omega (arith, ints, i.3, ap keys_in c.in-Some.ensures.steps, some_keys g.V.PartialEq.eq _ here.2, c.requires.fits, c.length.ensures)
+    one_fits _ _ _ _ _ _ _ _ i.3 (ap keys_in c.in-Some.ensures.steps) (some_keys g.V.PartialEq.eq _ here.2) c.requires.fits c.length.ensures
 
 pub loop-start-preserved : goal.loop-start-preserved
 loop-start-preserved g c =
@@ -18,5 +17,5 @@ loop-start-preserved g c =
       tt,
       tt,
       here.2,
-      omega (arith, ints, i.3, ap keys_in c.in-Some.ensures.steps, c.length.ensures, c.plus-sum.ensures),
+      one_more _ _ _ _ _ _ _ _ i.3 (ap keys_in c.in-Some.ensures.steps) c.length.ensures c.plus-sum.ensures,
     )

@@ -1,10 +1,9 @@
 use Rattle.std.proofs.lemmas.Grind.{common_steps}
 use Rattle.std.proofs.Common.{ap, subst, arith}
-use Rattle.std.proofs.lemmas.Int.{ints}
 use Rattle.blaze_table.specs.Canonical.{IsCanonical}
 use Rattle.blaze_table.specs.Count.{keys_in}
 use Rattle.blaze_table.specs.Entries.{shown_list}
-use Rattle.blaze_table.proofs.Canonical.Counted.{some_keys}
+use Rattle.blaze_table.proofs.Canonical.Counted.{some_keys, one_fits, one_more}
 use Rattle.blaze_table.proofs.Pairs.Indexed.{from_index}
 use Rattle.blaze_table.proofs.count.count_list.Goals as goal
 
@@ -13,14 +12,14 @@ plus-sum-requires g c =
     let i = c.loop-start.invariant in
     let here = ap (shown_list g.T.Integer.rank) (from_index c.args.entries.now c.loop-start.start-index c.loop-start-item.result c.loop-start-test.true c.loop-start-item.is) in
     let canonical = subst (IsCanonical g.V.PartialEq.eq) here i.0 in
-    omega (arith, ints, i.1, ap keys_in here, some_keys g.V.PartialEq.eq _ canonical.2, c.requires.fits, c.length.ensures)
+    one_fits _ _ _ _ _ _ _ _ i.1 (ap keys_in here) (some_keys g.V.PartialEq.eq _ canonical.2) c.requires.fits c.length.ensures
 
 pub loop-start-preserved : goal.loop-start-preserved
 loop-start-preserved g c =
     let i = c.loop-start.invariant in
     let here = ap (shown_list g.T.Integer.rank) (from_index c.args.entries.now c.loop-start.start-index c.loop-start-item.result c.loop-start-test.true c.loop-start-item.is) in
     let canonical = subst (IsCanonical g.V.PartialEq.eq) here i.0 in
-    (canonical.2, omega (arith, ints, i.1, ap keys_in here, c.length.ensures, c.plus-sum.ensures))
+    (canonical.2, one_more _ _ _ _ _ _ _ _ i.1 (ap keys_in here) c.length.ensures c.plus-sum.ensures)
 
 pub length-requires : goal.length-requires
 length-requires g c = grind (arith, common_steps)

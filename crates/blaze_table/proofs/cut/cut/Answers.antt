@@ -50,3 +50,9 @@ returns-in_err-value-in-Some-clause-none g c = λ n.
     let k = rank c.args.key in
     let es = c.args.entries.now.entries in
     absurd (some_key g.V.PartialEq.eq g.met.V.Eq.laws k g.T.Integer.low g.T.Integer.high es c.in_hand.ensures c.requires.table.canonical (has_key g.V.PartialEq.eq g.met.V.Eq.laws k g.T.Integer.low g.T.Integer.high es c.in_hand.ensures c.requires.table.canonical _ (subst (IsRangeCloned rank g.V.Clone.is_clone (holder_of k es)) c.in-Some.is c.in_ok-found.ensures.held)) n)
+
+pub returns-in_ok-value-in-Some-clause-cut : goal.returns-in_ok-value-in-Some-clause-cut
+returns-in_ok-value-in-Some-clause-cut g c =
+    let number = g.T.SafeLen.SafeLength.number c.in_ok-value-in-Some.rest in
+    subst (λ (s : CountedEntries g.row.V.Denot). IsKeyCut g.V.PartialEq.eq g.T.Integer.low g.T.Integer.high number (g.T.Integer.rank c.args.key) (Some c.in_ok-value-in-Some.value) s.entries c.cut_held.new.entries.entries)
+    c.holder.ensures.looked c.in_ok-value-in-Some.ensures.cut

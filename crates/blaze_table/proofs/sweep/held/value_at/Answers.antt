@@ -53,3 +53,12 @@ returns-in_err-value-in-Moved-clause-held g c = grind (arith, common_steps)
 
 pub returns-in_err-value-in-Moved-clause-value : goal.returns-in_err-value-in-Moved-clause-value
 returns-in_err-value-in-Moved-clause-value g c = grind (arith, common_steps)
+
+pub offset_bounds-entries-at : goal.offset_bounds-entries-at
+offset_bounds-entries-at g c =
+    let held = c.args.held.now.items in
+    let es = shown_list g.T.Integer.rank c.args.entries.now in
+    let l = within_held es held c.args.index c.requires.there in
+    let is : slice_get held c.args.index ≡ Some (Moved c.in-Moved.at) = slice_get_read held (length held) c.args.index c.index_mut.result.now refl l c.index_mut.ensures.value ∙ ap Some (sym c.replace.ensures.value ∙ c.in-Moved.is) in
+    let w = within_entries es c.in-Moved.at (subst (λ o. IsSome (held_value es o)) is c.requires.there) in
+    omega (arith, w, length-map c.args.entries.now (shown_entry g.T.Integer.rank (λ v. v)))

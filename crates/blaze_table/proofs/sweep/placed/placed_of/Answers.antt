@@ -52,8 +52,8 @@ loop-start-preserved g c =
           pair.0 pair.1 pair.2 c.push.new.self.items c.in_ok-push.ensures.items (λ _. e) (le_holds _ _ (sym c.is_at_most.ensures ∙ c.if-not-is_at_most.false));
     }
 
-pub returns-clause-placed : goal.returns-clause-placed
-returns-clause-placed g c =
+pub returns : goal.returns
+returns g c =
     let rank = g.T.Integer.rank in
     let i = c.loop-start.invariant in
     let ps = shown_list rank c.args.pairs.items in
@@ -61,28 +61,11 @@ returns-clause-placed g c =
     let sort = c.sort_unstable_by_key.ensures in
     let none : into_iter_items c.loop-start.start-iterator ≡ [] = nil_from_length (into_iter_items c.loop-start.start-iterator) (sym c.loop-start.start-iterator.rest.ok.0 ∙ c.in-None.ensures.steps.0) in
     let placed = placed_sorted rank ps c.loop-start.count c.loop-start.placed.items new i.so_far (omega (arith, i.in_all, ap length none, length-map c.args.pairs.items (shown_entry rank (λ v. v)))) sort.permutation in
-    placed
-
-pub returns-clause-keys : goal.returns-clause-keys
-returns-clause-keys g c =
-    let rank = g.T.Integer.rank in
-    let i = c.loop-start.invariant in
-    let ps = shown_list rank c.args.pairs.items in
-    let new = c.sort_unstable_by_key.new.self.items in
-    let sort = c.sort_unstable_by_key.ensures in
-    let none : into_iter_items c.loop-start.start-iterator ≡ [] = nil_from_length (into_iter_items c.loop-start.start-iterator) (sym c.loop-start.start-iterator.rest.ok.0 ∙ c.in-None.ensures.steps.0) in
-    let placed = placed_sorted rank ps c.loop-start.count c.loop-start.placed.items new i.so_far (omega (arith, i.in_all, ap length none, length-map c.args.pairs.items (shown_entry rank (λ v. v)))) sort.permutation in
-    ends_are_keys rank ps g.T.Integer.low g.T.Integer.high new c.requires placed.known
-
-pub returns-clause-ascending : goal.returns-clause-ascending
-returns-clause-ascending g c =
-    let rank = g.T.Integer.rank in
-    let i = c.loop-start.invariant in
-    let ps = shown_list rank c.args.pairs.items in
-    let new = c.sort_unstable_by_key.new.self.items in
-    let sort = c.sort_unstable_by_key.ensures in
-    let none : into_iter_items c.loop-start.start-iterator ≡ [] = nil_from_length (into_iter_items c.loop-start.start-iterator) (sym c.loop-start.start-iterator.rest.ok.0 ∙ c.in-None.ensures.steps.0) in
-    let placed = placed_sorted rank ps c.loop-start.count c.loop-start.placed.items new i.so_far (omega (arith, i.in_all, ap length none, length-map c.args.pairs.items (shown_entry rank (λ v. v)))) sort.permutation in
-    ascends rank g.T.Integer.low g.T.Integer.high g.T.Ord.cmp g.met.T.Integer.ranked.order new (ends_are_keys rank ps g.T.Integer.low g.T.Integer.high new c.requires placed.known)
-    (All-weaker (IsPlaced rank ps) (λ p. rank p.start ≤ℤ rank p.end) (λ p h. h.order) new placed.known)
-    (sort.sorted (λ p. p.start) (answers_always _ _ _ (λ f a r h k. search rules)))
+    let keys = ends_are_keys rank ps g.T.Integer.low g.T.Integer.high new c.requires placed.known in
+    record {
+      placed = placed;
+      ascending = ascends rank g.T.Integer.low g.T.Integer.high g.T.Ord.cmp g.met.T.Integer.ranked.order new keys
+          (All-weaker (IsPlaced rank ps) (λ p. rank p.start ≤ℤ rank p.end) (λ p h. h.order) new placed.known)
+          (sort.sorted (λ p. p.start) (answers_always _ _ _ (λ f a r h k. search rules)));
+      keys = keys;
+    }

@@ -1,4 +1,4 @@
-use Rattle.std.proofs.Common.{map, sym, subst}
+use Rattle.std.proofs.Common.{map, sym, subst, ap, ◌∙◌}
 use Rattle.blaze_table.specs.Counted.{CountedEntries}
 use Rattle.blaze_table.specs.Entries.{entry, at}
 use Rattle.blaze_table.specs.Filled.{IsFilled, IsHeldFrom}
@@ -36,3 +36,12 @@ returns-in-Ok-clause-held g c s =
     let rank = g.T.Integer.rank in
     absurd (gap_is_not_held g.V.PartialEq.eq g.met.V.Eq.laws c.self.inside.entries.counted.entries (rank c.args.lo) (rank c.args.hi) (rank c.in-Some.first.start) (rank c.in-Some.first.end) c.in-Some.ensures.gap
     (subst (λ (s : CountedEntries g.row.V.Denot). IsHeldFrom (at s.entries) (rank c.args.lo) (rank c.args.hi)) (sym c.self.view_is) s))
+
+pub returns-in-Err-clause-held : goal.returns-in-Err-clause-held
+returns-in-Err-clause-held g c s =
+    let rank = g.T.Integer.rank in
+    absurd (gap_is_not_held g.V.PartialEq.eq g.met.V.Eq.laws c.self.inside.entries.counted.entries (rank c.args.lo) (rank c.args.hi) (rank c.in-Some.first.start) (rank c.in-Some.first.end) c.in-Some.ensures.gap
+    (subst (λ (s : CountedEntries g.row.V.Denot). IsHeldFrom (at s.entries) (rank c.args.lo) (rank c.args.hi)) (sym c.self.view_is) s))
+
+pub returns-in-Err-clause-err : goal.returns-in-Err-clause-err
+returns-in-Err-clause-err g c = c.take_back.ensures.entries ∙ c.in-Err.ensures.back.taken ∙ ap (λ (s : CountedEntries g.row.V.Denot). s.entries) c.self.view_is

@@ -5,7 +5,7 @@ use Rattle.blaze_table.specs.Cut.{IsLastCut, IsAmongOthers}
 use Rattle.std.specs.Prelude.{IfSome}
 use Rattle.blaze_table.proofs.Canonical.RangeMaps.{cut_map}
 use Rattle.blaze_table.proofs.Cuts.CutEdits.{on_err}
-use Rattle.blaze_table.proofs.Cuts.Ends.{last_refused}
+use Rattle.blaze_table.proofs.Cuts.Ends.{last_refused, last_there}
 use Rattle.blaze_table.proofs.table.RangeTable.pop_last.Goals as goal
 
 pub returns-in_err-key-clause-refused : goal.returns-in_err-key-clause-refused
@@ -23,3 +23,6 @@ returns-clause-ok g c =
     let e = c.in_ok-key.ensures.cut in
     subst (λ (s : CountedEntries g.row.V.Denot). IsLastCut eq g.T.Integer.low g.T.Integer.high (rank c.in_ok-key.key) c.in_ok-key.value s.entries new) c.self.view_is
     (record { last = e.last; equal = e.cut.value; cut = cut_map eq g.met.V.Eq.laws g.T.Integer.low g.T.Integer.high _ (rank c.in_ok-key.key) _ _ new e.cut })
+
+pub cut_last-requires-clause-last : goal.cut_last-requires-clause-last
+cut_last-requires-clause-last g c = last_there g.V.PartialEq.eq c.self.inside.entries.counted.entries (λ z. omega (arith, c.len.ensures, c.if-len-eq0.false, z))

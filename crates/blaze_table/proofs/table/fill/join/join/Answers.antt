@@ -1,11 +1,13 @@
-use Rattle.std.proofs.Common.{◌≤ℤ◌, ◌<ℤ◌, length, ap, sym, subst, refl, ◌∙◌, arith}
+use Rattle.std.proofs.Common.{◌≡◌, ◌+◌, List, ◌≤ℤ◌, ◌<ℤ◌, length, ap, sym, subst, refl, ◌∙◌, arith}
 use Rattle.std.specs.Prelude.{IsSome}
 use Rattle.std.specs.Option.{option_map}
 use Rattle.std.proofs.lemmas.Int.{ints}
 use Rattle.blaze_entries.specs.Counted.{CountedEntries}
 use Rattle.blaze_entries.specs.Found.{range_in}
 use Rattle.blaze_entries.specs.Starts.{last_below, start_at, with_end, without}
+use Rattle.blaze_table.specs.Entries.{Entry}
 use Rattle.blaze_table.specs.LastBelow.{IsLastBelow}
+use Rattle.blaze_table.specs.Work.{IsCounted}
 use Rattle.blaze_table.proofs.Fills.Joins.{joint_above, entry_before, none_last, none_starts, starts_here, joined, not_joined}
 use Rattle.blaze_table.proofs.Paints.EditLists.{length-with_end}
 use Rattle.blaze_table.proofs.table.fill.join.join.Goals as goal
@@ -65,30 +67,17 @@ returns-in_default-clause-joined g c =
     not_joined g.V.PartialEq.eq g.met.V.Eq.laws g.T.Integer.low g.T.Integer.high (rank c.args.key) es c.range_at_or_below.new.self.entries (ap (λ (s : CountedEntries g.row.V.Denot). s.entries) c.in_default.ensures.looked) c.requires.ordered c.requires.keys
     (none_last (rank c.args.key) g.T.Integer.low g.T.Integer.high es c.in_hand.ensures c.in_default.ensures.found)
 
+-- two looks, an entry taken out, and one that gets another end
+counted_joined : {V : Type 0} (old one two out new : CountedEntries V) (es fs : List (Entry V)) → one ≡ record old { looks = old.looks + 1 } → two ≡ record one { looks = one.looks + 1 }
+    → out ≡ record two { entries = es; taken_out = two.taken_out + 1 } → length out.entries + 1 ≡ length two.entries → new ≡ record out { entries = fs } → length fs ≡ length out.entries → IsCounted old new
+counted_joined {V} old one two out new es fs a b c shorter d same =
+    let looks : new.looks ≡ old.looks + 2 = omega (arith, ap (λ (s : CountedEntries V). s.looks) a, ap (λ (s : CountedEntries V). s.looks) b, ap (λ (s : CountedEntries V). s.looks) c, ap (λ (s : CountedEntries V). s.looks) d) in
+    let puts : new.put_in ≡ old.put_in = ap (λ (s : CountedEntries V). s.put_in) d ∙ ap (λ (s : CountedEntries V). s.put_in) c ∙ ap (λ (s : CountedEntries V). s.put_in) b ∙ ap (λ (s : CountedEntries V). s.put_in) a in
+    let taken : new.taken_out ≡ old.taken_out + 1 = omega (arith, ap (λ (s : CountedEntries V). s.taken_out) a, ap (λ (s : CountedEntries V). s.taken_out) b, ap (λ (s : CountedEntries V). s.taken_out) c, ap (λ (s : CountedEntries V). s.taken_out) d) in
+    let long : length new.entries + 1 ≡ length old.entries = omega (arith, ap (λ (s : CountedEntries V). length s.entries) a, ap (λ (s : CountedEntries V). length s.entries) b, ap (λ (s : CountedEntries V). length s.entries) d, shorter, same) in
+    record { looks = omega (arith, looks); puts = omega (arith, puts); taken = omega (arith, taken); balance = omega (arith, long, puts, taken) }
+
 pub returns-in-Some-range_at_or_below-clause-counted : goal.returns-in-Some-range_at_or_below-clause-counted
 returns-in-Some-range_at_or_below-clause-counted g c =
-    let one = c.in-Some.ensures.looked in
-    let two = c.in-Some-range_at_or_below.ensures.looked in
-    let out = c.remove.ensures.entries in
-    let moved = c.set_end.ensures in
-    record {
-      looks = omega (arith, ap (λ (s : CountedEntries g.row.V.Denot). s.looks) one, ap (λ (s : CountedEntries g.row.V.Denot). s.looks) two, ap (λ (s : CountedEntries g.row.V.Denot). s.looks) out, ap (λ (s : CountedEntries g.row.V.Denot). s.looks) moved);
-      puts = omega (arith, ap (λ (s : CountedEntries g.row.V.Denot). s.put_in) one, ap (λ (s : CountedEntries g.row.V.Denot). s.put_in) two, ap (λ (s : CountedEntries g.row.V.Denot). s.put_in) out, ap (λ (s : CountedEntries g.row.V.Denot). s.put_in) moved);
-      taken = omega (arith, ap (λ (s : CountedEntries g.row.V.Denot). s.taken_out) one, ap (λ (s : CountedEntries g.row.V.Denot). s.taken_out) two, ap (λ (s : CountedEntries g.row.V.Denot). s.taken_out) out, ap (λ (s : CountedEntries g.row.V.Denot). s.taken_out) moved);
-      balance = omega (
-        arith,
-        ap (λ (s : CountedEntries g.row.V.Denot). s.put_in) one,
-        ap (λ (s : CountedEntries g.row.V.Denot). s.put_in) two,
-        ap (λ (s : CountedEntries g.row.V.Denot). s.put_in) out,
-        ap (λ (s : CountedEntries g.row.V.Denot). s.put_in) moved,
-        ap (λ (s : CountedEntries g.row.V.Denot). s.taken_out) one,
-        ap (λ (s : CountedEntries g.row.V.Denot). s.taken_out) two,
-        ap (λ (s : CountedEntries g.row.V.Denot). s.taken_out) out,
-        ap (λ (s : CountedEntries g.row.V.Denot). s.taken_out) moved,
-        ap (λ (s : CountedEntries g.row.V.Denot). length s.entries) one,
-        ap (λ (s : CountedEntries g.row.V.Denot). length s.entries) two,
-        ap (λ (s : CountedEntries g.row.V.Denot). length s.entries) moved,
-        length-with_end (g.T.Integer.rank c.in-Some-range_at_or_below.below.start) (g.T.Integer.rank c.in-Some.here.end) c.remove.new.self.entries,
-        c.remove.ensures.shorter,
-      );
-    }
+    counted_joined _ _ _ _ _ _ _ c.in-Some.ensures.looked c.in-Some-range_at_or_below.ensures.looked c.remove.ensures.entries c.remove.ensures.shorter c.set_end.ensures
+    (length-with_end (g.T.Integer.rank c.in-Some-range_at_or_below.below.start) (g.T.Integer.rank c.in-Some.here.end) c.remove.new.self.entries)

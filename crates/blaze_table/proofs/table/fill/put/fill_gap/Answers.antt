@@ -1,0 +1,14 @@
+use Rattle.std.proofs.Common.{[], ◌∷◌, map, ap, ◌∙◌}
+use Rattle.std.proofs.lemmas.List.{map-append}
+use Rattle.blaze_table.proofs.table.fill.put.fill_gap.Goals as goal
+
+pub returns-clause-ok : goal.returns-clause-ok
+returns-clause-ok g c =
+    let rank = g.T.Integer.rank in
+    record {
+      put = c.in_ok-put.ensures.ok;
+      remembered = ap (map rank) c.in_ok-put.ensures.starts ∙ map-append rank c.args.made.now.starts.items (c.args.gap.start ∷ []);
+      half = map rank c.note.new.joints.items;
+      below = c.in_ok-note.ensures;
+      above = c.in_ok-note_after.ensures;
+    }
