@@ -1,5 +1,5 @@
 -- Keys of one list that are let go, since another list has none of them.
-use Rattle.std.proofs.Common.{◌≡◌, ℤ, pos, ◌+ℤ◌, ◌≤ℤ◌, Bool, true, false, ◌&&◌, ◌||◌, List, [], ◌∷◌, Option, Some, None, refl, ◌∙◌, sym, ap, arith}
+use Rattle.std.proofs.Common.{◌≡◌, ℤ, pos, ◌+ℤ◌, ◌≤ℤ◌, Bool, true, false, ◌||◌, List, [], ◌∷◌, Option, Some, None, refl, ◌∙◌, sym, ap, arith}
 use Rattle.std.specs.Option.{is_some}
 use Rattle.std.proofs.lemmas.Int.{ints, by_lt_z}
 use Rattle.blaze_table.specs.Entries.{Entry, at}
@@ -7,21 +7,18 @@ use Rattle.blaze_table.specs.Canonical.{IsCanonical}
 use Rattle.blaze_table.specs.Splice.{after}
 use Rattle.blaze_table.proofs.Canonical.Lookup.{at_in}
 use Rattle.blaze_table.proofs.Paints.Splices.{after_keeps}
-use Rattle.blaze_streams.specs.Cursors.{first_key, IsFrom, Reaches, StartsAbove}
+use Rattle.blaze_streams.specs.Cursors.{first_key, IsFrom, Reaches}
 use Rattle.blaze_streams.specs.declared.segmenting.joins.JoinKind.{JoinKind}
 use Rattle.blaze_streams.specs.declared.segmenting.joins.JoinKind.TheVariants.{Inner, Left, Full}
 use Rattle.blaze_streams.specs.Joins.{is_joined, paired, IsLetGo, IsNotAsked, IsSkipped}
 use Rattle.blaze_streams.proofs.Steady.{at_first, same_some}
 
 -- a list that has nothing at a key, and whose first range does not end below it, starts above it
-pub absent_above : {A : Type 0} (t : ℤ) (es : List (Entry A)) → Reaches t es → is_some (at es t) ≡ false → StartsAbove t es
-absent_above {A} t es r n = record { from = above es r n }
-  where
-    above : (es : List (Entry A)) → Reaches t es → is_some (at es t) ≡ false → IsFrom (t +ℤ pos 1) es
-    above [] r n = tt
-    above (e ∷ es) r n = by_lt_z t e.lo
-        (λ l. omega (arith, ints))
-        (λ l. let is : true ≡ false = ap is_some (sym (at_in e es t l r)) ∙ n in cc)
+pub absent_above : {A : Type 0} (t : ℤ) (es : List (Entry A)) → Reaches t es → at es t ≡ None → IsFrom (t +ℤ pos 1) es
+absent_above t [] r n = tt
+absent_above t (e ∷ es) r n = by_lt_z t e.lo
+    (λ l. omega (arith, ints))
+    (λ l. let is : Some e.value ≡ None = sym (at_in e es t l r) ∙ n in cc)
 
 module _ {A B : Type 0} (eq : B → B → Bool) (s high : ℤ) (L L' : List (Entry A)) (R : List (Entry B)) where
   pub all_let_go : None ≡ first_key R → s ≤ℤ high → L' ≡ after high L → IsLetGo s high L L' R
@@ -31,8 +28,8 @@ module _ {A B : Type 0} (eq : B → B → Bool) (s high : ℤ) (L L' : List (Ent
       go [] p = record { end = high; from = to; to = omega (arith, ints); alone = λ k h. refl; list_is = list_is; other_is = refl }
       go (f ∷ fs) p = cc
 
-  pub let_go_to : (r t : ℤ) → Some r ≡ first_key R → IsCanonical eq R → StartsAbove s R → r ≤ℤ high → t +ℤ pos 1 ≡ r → L' ≡ after t L → IsLetGo s high L L' R
-  let_go_to r t p c from to is list_is = go R p c from.from
+  pub let_go_to : (r t : ℤ) → Some r ≡ first_key R → IsCanonical eq R → IsFrom (s +ℤ pos 1) R → r ≤ℤ high → t +ℤ pos 1 ≡ r → L' ≡ after t L → IsLetGo s high L L' R
+  let_go_to r t p c from to is list_is = go R p c from
     where
       go : (R : List (Entry B)) → Some r ≡ first_key R → IsCanonical eq R → IsFrom (s +ℤ pos 1) R → IsLetGo s high L L' R
       go [] p c from = cc
@@ -61,8 +58,12 @@ right_absent Inner x y n there (Some v) = refl
 right_absent Left x y n there z = let q : false ≡ true = sym n ∙ there in cc
 right_absent Full x y n there z = let q : false ≡ true = sym n ∙ (ap (λ z. z || is_some y) there) in cc
 
-pub right_none : {A B : Type 0} (kind : JoinKind) (x : Option A) (y : Option B) → is_joined kind x y ≡ false → is_some x ≡ true → is_some y ≡ false
-right_none Inner (Some v) y n there = n
+pub no_value : {A : Type 0} (x : Option A) → is_some x ≡ false → x ≡ None
+no_value None n = refl
+no_value (Some v) n = cc
+
+pub right_none : {A B : Type 0} (kind : JoinKind) (x : Option A) (y : Option B) → is_joined kind x y ≡ false → is_some x ≡ true → y ≡ None
+right_none Inner (Some v) y n there = no_value y n
 right_none Inner None y n there = cc
 right_none Left x y n there = let q : false ≡ true = sym n ∙ there in cc
 right_none Full x y n there = let q : false ≡ true = sym n ∙ (ap (λ z. z || is_some y) there) in cc

@@ -50,20 +50,20 @@ taken_to eq choose L L' R R' s t value starts order same alike left_is right_is 
 }
 
 -- what one of two lists has alone is chosen
-module _ {A B : Type 0} (eq : A → A → Bool) (L L' : List (Entry A)) (R : List (Entry B)) (s t : ℤ) (value : A) (taken : IsTakenAlone eq L L' R s t value) where
-  pub left_taken : (choose : Option A → Option B → Option A) → ((x : Option A) → choose x None ≡ x) → IsTaken eq choose L L' R R s t (Some value)
+module _ {A B : Type 0} (eq : A → A → Bool) (L L' : List (Entry A)) (R : List (Entry B)) (s t : ℤ) (value : Option A) (taken : IsTakenAlone eq L L' R s t value) where
+  pub left_taken : (choose : Option A → Option B → Option A) → ((x : Option A) → choose x None ≡ x) → IsTaken eq choose L L' R R s t value
   left_taken choose is =
       let here : (k : ℤ) → k ≤ℤ t → chosen_at choose L R k ≡ at L k = λ k h. ap (choose (at L k)) (taken.alone k h) ∙ is (at L k) in
-      taken_to eq choose L L' R R s t (Some value) taken.starts taken.order
+      taken_to eq choose L L' R R s t value taken.starts taken.order
       (λ k l h. here k h ∙ taken.same k l h ∙ sym (here s taken.order))
       (same_along eq (sym (here s taken.order)) refl taken.alike) taken.list_is taken.other_is
 
   -- the same, where it is the right list
-  pub right_taken : (choose : Option B → Option A → Option A) → ((x : Option A) → choose None x ≡ x) → (R' : List (Entry B)) → R ≡ R' → IsTaken eq choose R' R L L' s t (Some value)
+  pub right_taken : (choose : Option B → Option A → Option A) → ((x : Option A) → choose None x ≡ x) → (R' : List (Entry B)) → R ≡ R' → IsTaken eq choose R' R L L' s t value
   right_taken choose is R' p =
       let here : (k : ℤ) → k ≤ℤ t → chosen_at choose R L k ≡ at L k = λ k h. ap (λ o. choose o (at L k)) (taken.alone k h) ∙ is (at L k) in
-      subst (λ l. IsTaken eq choose l R L L' s t (Some value)) p
-      (taken_to eq choose R R L L' s t (Some value) (lesser_exchanged (first_key R) (first_key L) ∙ taken.starts) taken.order
+      subst (λ l. IsTaken eq choose l R L L' s t value) p
+      (taken_to eq choose R R L L' s t value (lesser_exchanged (first_key R) (first_key L) ∙ taken.starts) taken.order
       (λ k l h. here k h ∙ taken.same k l h ∙ sym (here s taken.order))
       (same_along eq (sym (here s taken.order)) refl taken.alike) taken.other_is taken.list_is)
 
@@ -74,8 +74,8 @@ reaches_end l x (e ∷ es) t p h = omega (arith, ints, (ends e l x p).1, h)
 
 module _ {A B : Type 0} (eqa : A → A → Bool) (eqb : B → B → Bool) (l x : ℤ) where
   -- what the first range of a list has below the first key of another
-  pub taken_alone : (L L' : List (Entry A)) (R : List (Entry B)) (t : ℤ) (value : A) → IsCanonical eqa L → IsCanonical eqb R
-      → Some (l, x) ≡ option_map range_in (first_entry L) → IsEndBefore l x t R → SameOption eqa (at L t) (Some value) → L' ≡ after t L → IsTakenAlone eqa L L' R l t value
+  pub taken_alone : (L L' : List (Entry A)) (R : List (Entry B)) (t : ℤ) (value : Option A) → IsCanonical eqa L → IsCanonical eqb R
+      → Some (l, x) ≡ option_map range_in (first_entry L) → IsEndBefore l x t R → SameOption eqa (at L t) value → L' ≡ after t L → IsTakenAlone eqa L L' R l t value
   taken_alone [] L' R t value ca cb p end alike list_is = cc
   taken_alone (e ∷ es) L' R t value ca cb p (order, stop, above) alike list_is =
       let is = ends e l x p in

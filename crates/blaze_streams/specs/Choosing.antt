@@ -26,11 +26,11 @@ pub record IsTaken {A B V : Type 0} (eq : V → V → Bool) (choose : Option A �
 
 -- what is taken of one of two lists, from their first key on: up to `end` it has what it has there, which is equal to the value,
 -- and the other has nothing; of the list is left what it has above
-pub record IsTakenAlone {A B : Type 0} (eq : A → A → Bool) (list new : List (Entry A)) (other : List (Entry B)) (first end : ℤ) (value : A) : Type 0 where
+pub record IsTakenAlone {A B : Type 0} (eq : A → A → Bool) (list new : List (Entry A)) (other : List (Entry B)) (first end : ℤ) (value : Option A) : Type 0 where
   pub starts : lesser (first_key list) (first_key other) ≡ Some first
   pub order : first ≤ℤ end
   pub same : (k : ℤ) → first ≤ℤ k → k ≤ℤ end → at list k ≡ at list first
-  pub alike : SameOption eq (at list first) (Some value)
+  pub alike : SameOption eq (at list first) value
   pub alone : (k : ℤ) → k ≤ℤ end → at other k ≡ None
   pub list_is : new ≡ after end list
   pub other_is : other ≡ after end other

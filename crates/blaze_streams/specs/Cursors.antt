@@ -1,6 +1,6 @@
 -- What is left of lists that are gone through together: the words of this crate's own functions, and of those that it exports
 -- for the crates above it alone. No clause that users of the streams meet names them.
-use Rattle.std.specs.Prelude.{◌≡◌, ℤ, pos, ◌+ℤ◌, ◌-ℤ◌, ◌≤ℤ◌, int_le, Bool, if◌then◌else◌, List, [], ◌∷◌, Option, Some, None}
+use Rattle.std.specs.Prelude.{◌≡◌, ℤ, pos, ◌-ℤ◌, ◌≤ℤ◌, int_le, Bool, if◌then◌else◌, List, [], ◌∷◌, Option, Some, None}
 use Rattle.blaze_table.specs.Entries.{Entry}
 use Rattle.blaze_table.specs.Canonical.{IsCanonical}
 use Rattle.blaze_table.specs.Splice.{after}
@@ -20,10 +20,6 @@ IsFrom s (e ∷ es) = s ≤ℤ e.lo
 abbrev pub steady_to : {A : Type 0} → ℤ → List (Entry A) → Option ℤ
 steady_to s [] = None
 steady_to s (e ∷ es) = Some (if int_le e.lo s then e.hi else e.lo -ℤ pos 1)
-
--- no range starts at s or below
-pub record StartsAbove {A : Type 0} (s : ℤ) (list : List (Entry A)) : Type 0 where
-  pub from : IsFrom (s +ℤ pos 1) list
 
 -- the first range does not end below t
 abbrev pub Reaches : {A : Type 0} → ℤ → List (Entry A) → Type 0

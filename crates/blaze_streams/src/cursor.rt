@@ -142,7 +142,7 @@ impl<T: Integer, VC: ValueCarrier, I: SortedDisjointMap<T, VC>> Cursor<T, VC, I>
 
     /// The last key up to which nothing changes, from a key below which none is left.
     pub fn last(&self, start: T) -> Option<T>
-        requires { IsFrom (T.rank start) self.now }
+        requires from { IsFrom (T.rank start) self.now }
         ensures { option_map T.rank result ≡ steady_to (T.rank start) self.now }
     {
         match &self.head {
@@ -186,7 +186,7 @@ impl<T: Integer, VC: ValueCarrier, I: SortedDisjointMap<T, VC>> Cursor<T, VC, I>
 
     /// The same, where `end` is not above the end of the first range.
     pub fn advance_in_first(&mut self, end: T)
-        requires { Reaches (T.rank end) self.old }
+        requires reaches { Reaches (T.rank end) self.old }
         ensures { self.new ≡ after (T.rank end) self.old }
     {
         let Some(head) = &mut self.head else {
@@ -202,7 +202,7 @@ impl<T: Integer, VC: ValueCarrier, I: SortedDisjointMap<T, VC>> Cursor<T, VC, I>
 
     /// The carrier of the value at a key, which is not above the end of the first range.
     pub fn here(&self, key: T) -> Option<&VC>
-        requires { Reaches (T.rank key) self.now }
+        requires reaches { Reaches (T.rank key) self.now }
         ensures { shown_option (λ c. VC.shown c.now) result ≡ at self.now (T.rank key) }
     {
         match &self.head {

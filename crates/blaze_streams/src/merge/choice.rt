@@ -52,9 +52,7 @@ impl<VC: ValueCarrier> Choice<VC, VC> for RightFirst {
         right: &mut Cursor<T, VC, R>,
     ) -> Result<Option<RangeEntry<T, Option<VC>>>, AllocError> {
         if let Some(piece) = take_before(left, right)? {
-            let RangeEntry { start, end, value } = piece;
-            let value = Some(value);
-            return Ok(Some(RangeEntry { start, end, value }));
+            return Ok(Some(piece));
         }
         let Some(RangeEntry { start, end, .. }) = right.range() else {
             return Ok(None);
@@ -83,14 +81,10 @@ impl<VC: ValueCarrier> Choice<VC, VC> for ExactlyOne {
         right: &mut Cursor<T, VC, R>,
     ) -> Result<Option<RangeEntry<T, Option<VC>>>, AllocError> {
         if let Some(piece) = take_before(left, right)? {
-            let RangeEntry { start, end, value } = piece;
-            let value = Some(value);
-            return Ok(Some(RangeEntry { start, end, value }));
+            return Ok(Some(piece));
         }
         if let Some(other) = take_before(right, left)? {
-            let RangeEntry { start, end, value } = other;
-            let value = Some(value);
-            return Ok(Some(RangeEntry { start, end, value }));
+            return Ok(Some(other));
         }
         let (Some(ours), Some(theirs)) = (left.range(), right.range()) else {
             return Ok(None);
@@ -137,9 +131,7 @@ impl<VCL: ValueCarrier, VCR: ValueCarrier> Choice<VCL, VCR> for LeftAlone {
         right: &mut Cursor<T, VCR, R>,
     ) -> Result<Option<RangeEntry<T, Option<VCL>>>, AllocError> {
         if let Some(piece) = take_before(left, right)? {
-            let RangeEntry { start, end, value } = piece;
-            let value = Some(value);
-            return Ok(Some(RangeEntry { start, end, value }));
+            return Ok(Some(piece));
         }
         let (Some(ours), Some(theirs)) = (left.range(), right.range()) else {
             return Ok(None);

@@ -25,14 +25,14 @@ pub fn take_before<
 >(
     cursor: &mut Cursor<T, VC, I>,
     other: &Cursor<T, VCO, O>,
-) -> Result<Option<RangeEntry<T, VC>>, AllocError>
+) -> Result<Option<RangeEntry<T, Option<VC>>>, AllocError>
     requires { VC.can_carry }
     ensures cursor { IsCanonical VC.Value.eq cursor.old }
     ensures other { IsCanonical VCO.Value.eq other.now }
     ensures taken { IfOk result (λ taken. MatchOption taken ((cursor.new ≡ cursor.old)
         × (lesser (first_key other.now) (first_key cursor.old) ≡ first_key other.now))
         (λ piece. IsTakenAlone VC.Value.eq cursor.old cursor.new other.now (T.rank piece.start)
-        (T.rank piece.end) (VC.shown piece.value))) }
+        (T.rank piece.end) (option_map VC.shown piece.value))) }
 {
     let bound = other.first();
     let Some(
@@ -59,7 +59,7 @@ pub fn take_before<
     Ok(Some(RangeEntry {
         start,
         end,
-        value: carrier,
+        value: Some(carrier),
     }))
 }
 

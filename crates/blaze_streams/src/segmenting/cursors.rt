@@ -38,7 +38,7 @@ pub fn segment_start<T: Integer>(lists: &[PlaceCursor<T>]) -> Option<T>
 
 /// The last key up to which no list changes, from a key below which none is left.
 pub fn segment_end<T: Integer>(lists: &[PlaceCursor<T>], start: T) -> Option<T>
-    requires { AllFrom (T.rank start) lists.now }
+    requires from { AllFrom (T.rank start) lists.now }
     ensures { option_map T.rank result ≡ all_steady_to (T.rank start) lists.now }
 {
     match lists.split_first() {
@@ -53,7 +53,7 @@ pub fn row_at<T: Integer>(
     lists: &[PlaceCursor<T>],
     key: T,
 ) -> Result<Vec<Option<usize>>, AllocError>
-    requires { AllReach (T.rank key) lists.now }
+    requires reach { AllReach (T.rank key) lists.now }
     ensures { IfOk result (λ found. found.items ≡ row lists.now (T.rank key)) }
 {
     let mut found = Vec::new(alloc);

@@ -1,11 +1,11 @@
 //! The segments of two streams.
-ghost use Rattle.std.specs.Prelude.{◌≡◌, Some, IfOk, OnOk};
+ghost use Rattle.std.specs.Prelude.{◌≡◌, None, Some, IfOk, OnOk};
 ghost use Rattle.std.specs.Option.{option_map};
 ghost use Rattle.blaze_table.specs.Canonical.{IsCanonical};
 ghost use Rattle.blaze_table.specs.Entries.{at};
 ghost use Rattle.blaze_table.specs.Painted.{ClonesAreAlike};
 ghost use Rattle.blaze_streams.specs.Carried.{shown_pair};
-ghost use Rattle.blaze_streams.specs.Cursors.{first_key, steady_to, IsFirstOfBoth, Reaches, StartsAbove, lesser};
+ghost use Rattle.blaze_streams.specs.Cursors.{first_key, steady_to, IsFirstOfBoth, Reaches, lesser};
 ghost use Rattle.blaze_streams.specs.Joins.{is_joined, IsCarriedJoin, IsLetGo, IsNotAsked, IsSegmentPut, IsSkipped};
 ghost use Rattle.blaze_streams.specs.RangeLists.{shown_ranges};
 
@@ -92,8 +92,8 @@ fn steady_end<
     end
 }
 
-/// Lets the keys of a stream go that are below another's first key, all where the other has none. The other has none up to `end`.
-/// A stream that finds a key by a search takes one, however many ranges go.
+/// Lets the keys of a stream go that are below another's first key, all where the other has none. The other has none at `end`, which
+/// is not above the end of its first range. A stream that finds a key by a search takes one, however many ranges go.
 fn let_go_below<
     T: Integer,
     VC: ValueCarrier,
@@ -101,7 +101,8 @@ fn let_go_below<
     I: SortedDisjointMap<T, VC>,
     O: SortedDisjointMap<T, VCO>,
 >(cursor: &mut Cursor<T, VC, I>, other: &Cursor<T, VCO, O>, end: T)
-    requires { StartsAbove (T.rank end) other.now }
+    requires reaches { Reaches (T.rank end) other.now }
+    requires none { at other.now (T.rank end) ≡ None }
     ensures { IsLetGo (T.rank end) T.high cursor.old cursor.new other.now }
 {
     end.in_hand();

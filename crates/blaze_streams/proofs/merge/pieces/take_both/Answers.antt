@@ -35,7 +35,7 @@ take-requires-clause-has g c =
     c.in-Some-Some.ensures.ends c.in-Some-Some.ensures'.ends (lt_fails _ _ (sym c.is_below.ensures ∙ c.if-is_below.false)) (lt_fails _ _ (sym c.is_below-2.ensures ∙ c.if-is_below-2.false))
 
 pub advance_in_first-requires : goal.advance_in_first-requires
-advance_in_first-requires g c = right_reaches g.VCL.Value.PartialEq.eq g.VCR.Value.PartialEq.eq _ _ _ _ _ _ c.greater-first.ensures c.lesser-end.ensures c.args.right.now c.in-Some-Some.ensures'.ends
+advance_in_first-requires g c = record { reaches = right_reaches g.VCL.Value.PartialEq.eq g.VCR.Value.PartialEq.eq _ _ _ _ _ _ c.greater-first.ensures c.lesser-end.ensures c.args.right.now c.in-Some-Some.ensures'.ends }
 
 pub returns-clause-taken : goal.returns-clause-taken
 returns-clause-taken g c =

@@ -25,8 +25,10 @@ loop-list-preserved g c =
     }
 
 pub loop-list-init : goal.loop-list-init
-loop-list-init g c = record { found = rw c.new-found.ensures.items refl; reach = c.requires }
+loop-list-init g c = record { found = rw c.new-found.ensures.items refl; reach = c.requires.reach }
 
 pub here-requires : goal.here-requires
-here-requires g c =
-    (subst (AllReach (g.T.Integer.rank c.args.key)) (from_index c.args.lists.now c.loop-list.list-index c.list-item.result c.loop-list-test.true c.list-item.is) c.loop-list.invariant.reach).0
+here-requires g c = record {
+  reaches =
+      (subst (AllReach (g.T.Integer.rank c.args.key)) (from_index c.args.lists.now c.loop-list.list-index c.list-item.result c.loop-list-test.true c.list-item.is) c.loop-list.invariant.reach).0;
+}

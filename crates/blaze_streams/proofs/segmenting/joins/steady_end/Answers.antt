@@ -4,10 +4,10 @@ use Rattle.blaze_streams.proofs.Steady.{reaches}
 use Rattle.blaze_streams.proofs.segmenting.joins.steady_end.Goals as goal
 
 pub last-requires : goal.last-requires
-last-requires g c = (both_from (g.T.Integer.rank c.args.start) c.args.left.now c.args.right.now c.requires.starts.is).0
+last-requires g c = record { from = (both_from (g.T.Integer.rank c.args.start) c.args.left.now c.args.right.now c.requires.starts.is).0 }
 
 pub last-requires-2 : goal.last-requires-2
-last-requires-2 g c = (both_from (g.T.Integer.rank c.args.start) c.args.left.now c.args.right.now c.requires.starts.is).1
+last-requires-2 g c = record { from = (both_from (g.T.Integer.rank c.args.start) c.args.left.now c.args.right.now c.requires.starts.is).1 }
 
 pub returns-clause-ends : goal.returns-clause-ends
 returns-clause-ends g c = lesser_is _ _ _ _ (g.T.Integer.rank c.in-Some.end) c.in-Some.ensures c.last.ensures c.last-2.ensures

@@ -29,7 +29,7 @@ returns-in-Some-2-clause-taken g c =
     right_taken eq c.args.right.now c.take_before-2.new.cursor c.take_before.new.cursor _ _ _ taken option_xor none_xor c.args.left.now none.0
 
 pub advance_in_first-requires : goal.advance_in_first-requires
-advance_in_first-requires g c = reaches_end _ _ c.take_before.new.cursor _ c.in-Some-Some.ensures.ends (at_most_min _ _ _ c.lesser-end.ensures).0
+advance_in_first-requires g c = record { reaches = reaches_end _ _ c.take_before.new.cursor _ c.in-Some-Some.ensures.ends (at_most_min _ _ _ c.lesser-end.ensures).0 }
 
 pub advance_in_first-requires-2 : goal.advance_in_first-requires-2
-advance_in_first-requires-2 g c = reaches_end _ _ c.take_before-2.new.cursor _ c.in-Some-Some.ensures'.ends (at_most_min _ _ _ c.lesser-end.ensures).1
+advance_in_first-requires-2 g c = record { reaches = reaches_end _ _ c.take_before-2.new.cursor _ c.in-Some-Some.ensures'.ends (at_most_min _ _ _ c.lesser-end.ensures).1 }

@@ -39,4 +39,4 @@ returns-in-Some-clause-taken g c =
     left_taken g.VCL.Value.PartialEq.eq c.args.left.now c.take_before.new.cursor c.args.right.now _ _ _ (MatchOption-at_some _ _ _ c.in-Some.is c.in_ok-piece.ensures.taken) left_alone (λ x. refl)
 
 pub advance_in_first-requires : goal.advance_in_first-requires
-advance_in_first-requires g c = reaches_end _ _ c.args.right.now _ c.in-Some-Some.ensures'.ends (omega (arith, ints))
+advance_in_first-requires g c = record { reaches = reaches_end _ _ c.args.right.now _ c.in-Some-Some.ensures'.ends (omega (arith, ints)) }
