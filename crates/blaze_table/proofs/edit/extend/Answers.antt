@@ -1,4 +1,4 @@
-use Rattle.std.proofs.Common.{◌++◌, None, ap, ◌∙◌, arith}
+use Rattle.std.proofs.Common.{rules, ◌++◌, None, ap, ◌∙◌, arith}
 use Rattle.std.specs.Option.{option_map}
 use Rattle.std.proofs.lemmas.Int.{ints}
 use Rattle.blaze_entries.specs.Counted.{CountedEntries}
@@ -64,3 +64,6 @@ returns-clause-worked g c =
     worked_edited 1 0 c.args.entries.now c.clear.new.entries c.set_end.new.self _
     (worked_then 1 0 0 c.args.entries.now c.put_rest.new.entries c.clear.new.entries c.in_ok-put_rest.ensures.worked c.clear.ensures.worked) c.set_end.ensures
     (length-with_end (g.T.Integer.rank c.args.first) (g.T.Integer.rank c.args.plan.end) c.clear.new.entries.entries)
+
+pub returns-in_err-put_rest-clause-err : goal.returns-in_err-put_rest-clause-err
+returns-in_err-put_rest-clause-err g c = search rules

@@ -1,4 +1,4 @@
-use Rattle.std.proofs.Common.{◌++◌, pos, ◌+ℤ◌, subst, sym, ap, ◌∙◌}
+use Rattle.std.proofs.Common.{rules, ◌++◌, pos, ◌+ℤ◌, subst, sym, ap, ◌∙◌}
 use Rattle.std.specs.Option.{option_map}
 use Rattle.blaze_entries.specs.Starts.{below}
 use Rattle.blaze_entries.specs.Found.{shown_ends}
@@ -39,3 +39,6 @@ returns-clause-put g c =
     put_at eq low high es c.in_hand.ensures c.requires.canonical lo end c.args.value c.requires.place.order new c.in_ok-put.ensures.ok c.in_hand-2.ensures third c.clear_above.new.entries.entries c.trim.ensures.entries
     (c.clear_above.ensures.entries
     ∙ ap (λ x. below (lo +ℤ pos 1) third ++ x) (cleared lo end low high third c.in_hand-3.ensures c.requires.place.order c.args.plan.gone (trimmed_inner eq lo end new third canonical c.trim.ensures.entries ∙ c.in_ok-put.ensures.gone)))
+
+pub returns-clause-worked : goal.returns-clause-worked
+returns-clause-worked g c = search rules

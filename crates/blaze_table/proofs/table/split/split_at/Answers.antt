@@ -1,4 +1,4 @@
-use Rattle.std.proofs.Common.{◌∙◌, sym, refl}
+use Rattle.std.proofs.Common.{◌∙◌, sym, refl, rules}
 use Rattle.blaze_int.proofs.Comparisons.{le_fails}
 use Rattle.blaze_entries.specs.Starts.{below, from}
 use Rattle.blaze_table.specs.Splice.{IsSplitOf}
@@ -19,3 +19,6 @@ returns-in_default-clause-split g c =
       | in_default-via-in_default w ↦ split_above eq laws k g.T.Integer.high es g.T.Integer.low c.in_hand.ensures c.requires.canonical w.in_default.ensures
     ] in
     if_split eq laws k g.T.Integer.high es (λ o. o.counted) c.split_off.result c.args.entries.now.counted c.split_off.new.self.counted refl parts c.split_off.ensures.below c.split_off.ensures.from
+
+pub returns-in-Some-clause-split : goal.returns-in-Some-clause-split
+returns-in-Some-clause-split g c = search rules

@@ -1,4 +1,4 @@
-use Rattle.std.proofs.Common.{◌≡◌, ℤ, ◌<ℤ◌, Bool, true, false, ◌&&◌, cond, List, None, refl, ◌∙◌, ap, sym, subst, arith}
+use Rattle.std.proofs.Common.{rules, ◌≡◌, ℤ, ◌<ℤ◌, Bool, true, false, ◌&&◌, cond, List, None, refl, ◌∙◌, ap, sym, subst, arith}
 use Rattle.std.specs.Cmp.{IsEquivalence}
 use Rattle.std.specs.Prelude.{int_le}
 use Rattle.std.proofs.lemmas.Int.{ints, by_lt_z}
@@ -31,3 +31,9 @@ returns-in-Some-clause-none g c = λ told below. let ends = c.in-Some.ensures.ra
 
 pub returns-clause-ok : goal.returns-clause-ok
 returns-clause-ok g c = λ told. cut_nowhere g.V.PartialEq.eq g.met.V.Eq.laws g.T.Integer.low g.T.Integer.high _ _ _ (c.in-None.ensures.ranks told) c.in_hand.ensures
+
+pub returns-in-Some-clause-ok : goal.returns-in-Some-clause-ok
+returns-in-Some-clause-ok g c = search rules
+
+pub returns-in-Some-clause-refused : goal.returns-in-Some-clause-refused
+returns-in-Some-clause-refused g c = search rules

@@ -1,0 +1,5 @@
+use Rattle.std.proofs.Common.{rules}
+use Rattle.blaze_streams.proofs.merge.union.symmetric_difference_of.Goals as goal
+
+pub returns : goal.returns
+returns g c = search rules

@@ -1,0 +1,5 @@
+use Rattle.std.proofs.Common.{rules}
+use Rattle.blaze_table.proofs.splice.is_inside.Goals as goal
+
+pub returns-then-found : goal.returns-then-found
+returns-then-found g c = search rules

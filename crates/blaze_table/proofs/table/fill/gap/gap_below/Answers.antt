@@ -1,0 +1,5 @@
+use Rattle.std.proofs.Common.{rules}
+use Rattle.blaze_table.proofs.table.fill.gap.gap_below.Goals as goal
+
+pub returns-clause-end : goal.returns-clause-end
+returns-clause-end g c = search rules

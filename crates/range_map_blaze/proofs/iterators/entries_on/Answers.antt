@@ -1,0 +1,5 @@
+use Rattle.std.proofs.Common.{rules}
+use Rattle.range_map_blaze.proofs.iterators.entries_on.Goals as goal
+
+pub returns : goal.returns
+returns g c = search rules
