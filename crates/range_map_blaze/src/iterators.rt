@@ -17,6 +17,7 @@ ghost use Rattle.range_map_blaze.specs.Somewhere.{IsOverlappingSomewhere, IsTake
 ghost use Rattle.range_map_blaze.specs.Within.{within};
 
 use crate::map::RangeMapBlaze;
+use crate::pairs::push_clone;
 use blaze_int::compare::{greater, is_below, lesser};
 use blaze_int::{Integer, bounds_of};
 use blaze_iters::{IntoIterMap, IntoKeys, IntoValues, IterMap, Keys, Values};
@@ -288,7 +289,7 @@ impl<T: Integer, V: Eq + Clone> RangeMapBlaze<T, V> {
             if is_below(end, first) {
                 return Ok(list);
             }
-            list.push((greater(first, start), lesser(last, end), value.clone()?))?;
+            push_clone(&mut list, greater(first, start), lesser(last, end), value)?;
         }
         Ok(list)
     }

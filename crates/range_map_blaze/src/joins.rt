@@ -62,8 +62,7 @@ fn segments_of<'a, T: Integer, V: Eq + Clone, V2: Eq + Clone>(
         SeekingRangeValuesIter::new(table),
         SeekingRangeValuesIter::new(other),
     );
-    let segments = join_of(alloc, left, right, kind)?;
-    Ok(segments)
+    join_of(alloc, left, right, kind)
 }
 
 /// What a closure returns at the segments of two tables that a join is asked for, with the arguments that `C` gives it, as a
@@ -90,8 +89,7 @@ fn joined<
         table.now.entries other.now.entries new) }
 {
     let segments = segments_of(alloc, table, other, kind)?;
-    let answers = answers_of::<_, _, _, W, F, C>(alloc, segments, f)?;
-    Ok(answers)
+    answers_of::<_, _, _, W, F, C>(alloc, segments, f)
 }
 
 impl<T: Integer, V: Eq + Clone> RangeMapBlaze<T, V> {
@@ -134,8 +132,7 @@ impl<T: Integer, V: Eq + Clone> RangeMapBlaze<T, V> {
             JoinKind::Inner,
             f,
         )?;
-        let map = map_of(alloc, stream)?;
-        Ok(map)
+        map_of(alloc, stream)
     }
 
     /// The same where this map has a value, with the other's where it has one. Refused memory leaves both maps unchanged and
@@ -159,8 +156,7 @@ impl<T: Integer, V: Eq + Clone> RangeMapBlaze<T, V> {
             JoinKind::Left,
             f,
         )?;
-        let map = map_of(alloc, stream)?;
-        Ok(map)
+        map_of(alloc, stream)
     }
 
     /// The same where at least one map has a value. Refused memory leaves both maps unchanged and drops what it returned. It
@@ -183,7 +179,6 @@ impl<T: Integer, V: Eq + Clone> RangeMapBlaze<T, V> {
             JoinKind::Full,
             f,
         )?;
-        let map = map_of(alloc, stream)?;
-        Ok(map)
+        map_of(alloc, stream)
     }
 }

@@ -29,8 +29,7 @@ fn map_of<T: Integer, V: Eq + Clone, P: Pair<T, V>, I: IntoIterator<Item = P>>(
         (λ items. IsCanonicalOf V.eq T.low T.high (map P.pair items)) iter)) }
 {
     let pairs = pairs_of(alloc, iter)?;
-    let new = map_of_pairs(alloc, pairs)?;
-    Ok(new)
+    map_of_pairs(alloc, pairs)
 }
 
 /// The map of the lent pairs of an iterable, painted in order.
@@ -48,8 +47,7 @@ fn map_of_lent<
         (λ items. IsCanonicalOf V.eq T.low T.high (map P.pair items)) iter)) }
 {
     let pairs = lent_pairs_of(alloc, iter)?;
-    let new = map_of_lent_pairs(alloc, pairs)?;
-    Ok(new)
+    map_of_lent_pairs(alloc, pairs)
 }
 
 impl<T: Integer, V: Eq + Clone> RangeMapBlaze<T, V> {

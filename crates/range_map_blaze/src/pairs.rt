@@ -1,7 +1,7 @@
 //! Pairs of a key or a range with a value of one's own or a lent one, each as a first key, a last key and the value, and maps
 //! of lists of them.
 ghost use Rattle.std.specs.Iterator.{IsFiniteIterable};
-ghost use Rattle.std.specs.Prelude.{◌≡◌, map, IfOk};
+ghost use Rattle.std.specs.Prelude.{◌≡◌, [], ◌∷◌, ◌++◌, map, true, IfOk, OnOk};
 ghost use Rattle.blaze_streams.specs.Ranges.{shown_range};
 ghost use Rattle.blaze_table.specs.CanonicalOf.{IsCanonicalOf};
 ghost use Rattle.blaze_table.specs.Entries.{Entry, shown_entry, shown_list, SameEntries};
@@ -157,6 +157,21 @@ pub(crate) fn map_of_pairs<T: Integer, V: Eq + Clone>(
     Ok(RangeMapBlaze { table })
 }
 
+/// Puts a clone of a value behind a list, from `start` to `end`.
+pub(crate) fn push_clone<T: Integer, V: Eq + Clone>(
+    entries: &mut Vec<(T, T, V)>,
+    start: T,
+    end: T,
+    value: &V,
+) -> Result<(), AllocError>
+    requires { ClonesAreAlike V.is_clone V.eq }
+    ensures { OnOk result ((copy : V) × (V.eq value.now copy ≡ true)
+        × (entries.new.items ≡ entries.old.items ++ (start, end, copy) ∷ [])) }
+{
+    entries.push((start, end, value.clone()?))?;
+    Ok(())
+}
+
 /// Entries with clones of the lent values.
 fn cloned<T: Integer, V: Eq + Clone>(
     alloc: Global,
@@ -169,7 +184,7 @@ fn cloned<T: Integer, V: Eq + Clone>(
 {
     let mut entries = Vec::new(alloc);
     for (start, end, value) in lent {
-        entries.push((start, end, value.clone()?))?;
+        push_clone(&mut entries, start, end, value)?;
     }
     Ok(entries)
 }

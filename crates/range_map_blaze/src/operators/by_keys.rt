@@ -55,8 +55,7 @@ pub fn outside_keys<T: Integer, V: Eq + Clone, W: Eq + Clone>(
 {
     let room = map.ranges_len();
     if are_few(keys.entries(), room) {
-        let most = outside_keys_by_value(map.clone()?, keys)?;
-        return Ok(most);
+        return outside_keys_by_value(map.clone()?, keys);
     }
     let (left, right) = (
         map.seeking_range_values(),
@@ -76,8 +75,7 @@ pub fn outside_keys_by_value<T: Integer, V: Eq + Clone, W: Eq + Clone>(
 {
     let room = map.ranges_len();
     if are_few(keys.entries(), room) {
-        let most = cut_ranges(map, ranges_of(keys))?;
-        return Ok(most);
+        return cut_ranges(map, ranges_of(keys));
     }
     owned_chosen(map, SeekingRangeValuesIter::new(keys), &LeftAlone, room)
 }

@@ -7,6 +7,7 @@ ghost use Rattle.blaze_table.specs.RangeSets.{unit_eq};
 ghost use Rattle.range_map_blaze.specs.Made.{IsMade};
 
 use crate::map::RangeMapBlaze;
+use crate::pairs::push_clone;
 use blaze_int::Integer;
 use blaze_streams::{SortedDisjoint, complement};
 use blaze_table::{RangeSetBlaze, RangeTable};
@@ -53,7 +54,7 @@ impl<T: Integer, V: Eq + Clone> RangeMapBlaze<T, V> {
         let mut entries = Vec::new(alloc);
         for range in stream {
             let (start, end) = range.into_inner();
-            entries.push((start, end, value.clone()?))?;
+            push_clone(&mut entries, start, end, value)?;
         }
         let table = RangeTable::from_canonical(alloc, entries)?;
         Ok(RangeMapBlaze { table })

@@ -96,8 +96,7 @@ fn alone<T: Integer, V: Eq + Clone>(
 {
     let left_alone = outside_keys(left, &right.table)?;
     let right_alone = outside_keys(right, &left.table)?;
-    let map = union_by_value(left_alone, right_alone)?;
-    Ok(map)
+    union_by_value(left_alone, right_alone)
 }
 
 /// The same, with the left map's own values.
@@ -111,8 +110,7 @@ fn alone_with<T: Integer, V: Eq + Clone>(
 {
     let right_alone = outside_keys(right, &left.table)?;
     let left_alone = outside_keys_by_value(left, &right.table)?;
-    let map = union_by_value(left_alone, right_alone)?;
-    Ok(map)
+    union_by_value(left_alone, right_alone)
 }
 
 /// The same, with the right map's own values.
@@ -126,6 +124,5 @@ fn alone_under<T: Integer, V: Eq + Clone>(
 {
     let left_alone = outside_keys(left, &right.table)?;
     let right_alone = outside_keys_by_value(right, &left.table)?;
-    let map = union_by_value(left_alone, right_alone)?;
-    Ok(map)
+    union_by_value(left_alone, right_alone)
 }

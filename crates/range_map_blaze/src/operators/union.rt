@@ -97,20 +97,9 @@ fn union_on<T: Integer, V: Eq + Clone>(
     left.in_hand();
     right.in_hand();
     match path {
-        Path::Over => {
-            let map = painted_over(left.clone()?, right.range_values())?;
-            Ok(map)
-        }
-        Path::Under => {
-            let map = painted_under(left.range_values(), right.clone()?)?;
-            Ok(map)
-        }
-        Path::Merge => {
-            let room = left.ranges_len().saturating_add(right.ranges_len());
-            let (under, over) = (left.seeking_range_values(), right.range_values());
-            let map = lent_chosen(left, under, over, &RightFirst, room)?;
-            Ok(map)
-        }
+        Path::Over => painted_over(left.clone()?, right.range_values()),
+        Path::Under => painted_under(left.range_values(), right.clone()?),
+        Path::Merge => merged(left, right),
     }
 }
 
@@ -198,6 +187,22 @@ fn painted_under<
     Ok(map)
 }
 
+/// The union of two maps that are lent, by one pass over both.
+fn merged<T: Integer, V: Eq + Clone>(
+    left: &RangeMapBlaze<T, V>,
+    right: &RangeMapBlaze<T, V>,
+) -> Result<RangeMapBlaze<T, V>, AllocError>
+    requires { ClonesAreAlike V.is_clone V.eq }
+    ensures { IfOk result
+        (λ map. IsUnion V.eq T.low T.high left.now.entries right.now.entries map.entries) }
+{
+    left.in_hand();
+    right.in_hand();
+    let room = left.ranges_len().saturating_add(right.ranges_len());
+    let (under, over) = (left.seeking_range_values(), right.range_values());
+    lent_chosen(left, under, over, &RightFirst, room)
+}
+
 /// The union of two maps by value, by one pass over both. A value is cloned only for a piece that leaves a rest of its range
 /// behind.
 fn merged_by_value<T: Integer, V: Eq + Clone>(
@@ -211,11 +216,10 @@ fn merged_by_value<T: Integer, V: Eq + Clone>(
     left.in_hand();
     right.in_hand();
     let room = left.ranges_len().saturating_add(right.ranges_len());
-    let map = owned_chosen(
+    owned_chosen(
         left,
         OwnedRangeValuesIter::new(right.table),
         &RightFirst,
         room,
-    )?;
-    Ok(map)
+    )
 }

@@ -1,4 +1,5 @@
 use Rattle.std.proofs.Common.{◌≡◌, true}
+use Rattle.std.proofs.lemmas.Result.{IfOk-weaker}
 use Rattle.blaze_streams.specs.Joins.{is_joined}
 use Rattle.blaze_streams.proofs.Answering.{each_then}
 use Rattle.blaze_streams.proofs.Paired.{joined_all}
@@ -13,4 +14,4 @@ pub answers_of-requires-clause-callable : goal.answers_of-requires-clause-callab
 answers_of-requires-clause-callable g c = c.requires.callable.at _ c.in_ok-segments.ensures
 
 pub returns : goal.returns
-returns g c = record { segments = _; are_segments = c.in_ok-segments.ensures; answered = c.in_ok-answers.ensures }
+returns g c = IfOk-weaker c.answers_of.result _ _ (λ new answered. record { segments = _; are_segments = c.in_ok-segments.ensures; answered = answered }) c.answers_of.ensures

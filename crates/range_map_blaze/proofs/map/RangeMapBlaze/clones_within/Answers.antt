@@ -39,13 +39,13 @@ loop-first-preserved g c =
     let onward = subst (IsOnward eq l) c.in-Some.ensures.steps i.2 in
     let under : e.lo ≤ℤ h = grind (arith, ints, c.is_below.ensures, c.if-is_below.false) in
     let next = ap (within l h) c.in-Some.ensures.steps ∙ within_next eq l h e rest onward c.requires.order under in
-    let clone = c.in_ok-clone.field-0 in (
+    let pushed = c.in_ok-push_clone.ensures in (
       tt,
       tt,
       onward_next eq l h e rest onward,
-      copied_more rank eq all (within l h rest) (within l h rest) (entry (int_max l e.lo) (int_min h e.hi) e.value) (c.greater.result, c.lesser.result, clone) items c.push.new.self.items
+      copied_more rank eq all (within l h rest) (within l h rest) (entry (int_max l e.lo) (int_min h e.hi) e.value) (c.greater.result, c.lesser.result, pushed.0) items c.push_clone.new.entries.items
           (subst (λ left. IsCopied rank eq all left items) next i.3) refl (sym c.greater.ensures) (sym c.lesser.ensures)
-          (c.requires.clones e.value clone c.in_ok-clone.ensures.cases) c.in_ok-push.ensures.items,
+          pushed.1 pushed.2,
     )
 
 pub returns-then-is_below : goal.returns-then-is_below

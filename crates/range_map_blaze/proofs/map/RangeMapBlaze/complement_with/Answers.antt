@@ -25,14 +25,15 @@ loop-range-preserved g c =
     let v = c.args.value.now in
     let e = entry r.lo r.hi v in
     let items = c.loop-range.entries.items in
-    let x : g.row.T.Denot × g.row.T.Denot × g.row.V.Denot = (c.into_inner-start.result.0, c.into_inner-start.result.1, c.in_ok-clone.field-0) in
-    let more = ap (map (shown_entry g.T.Integer.rank (λ w. w))) c.in_ok-push.ensures.items ∙ map-append (shown_entry g.T.Integer.rank (λ w. w)) items (x ∷ []) in (
+    let pushed = c.in_ok-push_clone.ensures in
+    let x : g.row.T.Denot × g.row.T.Denot × g.row.V.Denot = (c.into_inner-start.result.0, c.into_inner-start.result.1, pushed.0) in
+    let more = ap (map (shown_entry g.T.Integer.rank (λ w. w))) pushed.2 ∙ map-append (shown_entry g.T.Integer.rank (λ w. w)) items (x ∷ []) in (
       i.0,
       i.1 ++ r ∷ [],
       i.2,
       i.3 ∙ ap (λ es. i.1 ++ es) c.in-Some.ensures.steps.0 ∙ sym (append_assoc i.1 (r ∷ []) c.next.new.self),
       rw (more, valued-append v i.1 (r ∷ [])) (same-push g.V.PartialEq.eq (valued v i.1) (map (shown_entry g.T.Integer.rank (λ w. w)) items) e (shown_entry g.T.Integer.rank (λ w. w) x) i.4
-          (sym (ap g.T.Integer.rank c.into_inner-start.ensures.start)) (sym (ap g.T.Integer.rank c.into_inner-start.ensures.end)) (c.requires v c.in_ok-clone.field-0 c.in_ok-clone.ensures.cases)),
+          (sym (ap g.T.Integer.rank c.into_inner-start.ensures.start)) (sym (ap g.T.Integer.rank c.into_inner-start.ensures.end)) pushed.1),
     )
 
 pub from_canonical-requires : goal.from_canonical-requires

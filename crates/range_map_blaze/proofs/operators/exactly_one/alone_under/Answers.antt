@@ -1,4 +1,5 @@
 use Rattle.std.proofs.Common.{◌≡◌, ap}
+use Rattle.std.proofs.lemmas.Result.{IfOk-weaker}
 use Rattle.blaze_table.specs.Counted.{CountedEntries}
 use Rattle.range_map_blaze.proofs.Choices.{both_alone}
 use Rattle.range_map_blaze.proofs.operators.exactly_one.alone_under.Goals as goal
@@ -7,4 +8,6 @@ pub returns : goal.returns
 returns g c =
     let left_is : c.left.inside.table.entries ≡ c.args.left.now.entries = ap (λ (s : CountedEntries g.row.V.Denot). s.entries) c.left.view_is in
     let right_is : c.right.inside.table.entries ≡ c.args.right.entries = ap (λ (s : CountedEntries g.row.V.Denot). s.entries) c.right.view_is in
-    both_alone g.V.PartialEq.eq g.met.V.Eq.laws _ _ _ _ _ _ _ (rw right_is at c.in_ok-left_alone.ensures) (rw left_is at c.in_ok-right_alone.ensures) c.in_ok-map.ensures.chosen
+    let left_off = rw right_is at c.in_ok-left_alone.ensures in
+    let right_off = rw left_is at c.in_ok-right_alone.ensures in
+    IfOk-weaker c.union_by_value.result _ _ (λ map union. both_alone g.V.PartialEq.eq g.met.V.Eq.laws _ _ _ _ _ _ _ left_off right_off union.chosen) c.union_by_value.ensures
