@@ -137,6 +137,13 @@ module _ {V : Type 0} (eq : V → V → Bool) (l h low high : ℤ) (w : l ≤ℤ
 pub found_still : {V : Type 0} {eq : V → V → Bool} {test : V → Bool} {l h : ℤ} {old mid : CountedEntries V} {p : Seen} {n : ℕ} {o : Option V} → IsLooked l h old mid → IsWalkOf eq test l h old.entries p n o → IsWalkOf eq test l h mid.entries p n o
 found_still {V} {eq} {test} {l} {h} {old} {mid} {p} {n} {o} looked found = subst (λ (es : List (Entry V)). IsWalkOf eq test l h es p n o) (sym (ap (λ (s : CountedEntries V). s.entries) looked.alone)) found
 
+-- what is left inside an equal entry is left so behind the looks
+pub inside_still : {V R : Type 0} {l h : ℤ} {old mid : CountedEntries V} {new : List (Entry V)} (eq : V → V → Bool) (v : V) → IsLooked l h old mid → (IsInside eq l h v mid.entries → R × (new ≡ mid.entries)) → IsInside eq l h v old.entries → R × (new ≡ old.entries)
+inside_still {V} {R} {l} {h} {old} {mid} {new} eq v looked left inside =
+    let same = ap (λ (s : CountedEntries V). s.entries) looked.alone in
+    let kept = left (subst (λ (es : List (Entry V)). IsInside eq l h v es) (sym same) inside) in
+    (kept.0, kept.1 ∙ same)
+
 -- where the entry is not joined with the range, its value is another
 module _ {V : Type 0} (eq : V → V → Bool) (test : V → Bool) (l h z : ℤ) (w : l ≤ℤ h) (up : h ≤ℤ z) (o : Option V) where
   unjoined : (e : Entry V) → l ≤ℤ e.hi → None ≡ joined_start l (Some (found_in test e)) → test e.value ≡ false

@@ -48,6 +48,18 @@ module _ {V : Type 0} where
         looks = omega (arith, taken, looks, w.looks);
       }
 
+  -- an entry put in
+  pub worked_put : (old new : CountedEntries V) (es : List (Entry V)) → new ≡ record old { entries = es; put_in = old.put_in + 1 } → length new.entries ≡ length old.entries + 1 → IsWorked 1 0 old new
+  worked_put old new es e longer =
+      let puts = ap (λ (s : CountedEntries V). s.put_in) e in
+      let taken = ap (λ (s : CountedEntries V). s.taken_out) e in
+      let looks = ap (λ (s : CountedEntries V). s.looks) e in
+      record {
+        counted = record { looks = omega (arith, looks); puts = omega (arith, puts); taken = omega (arith, taken); balance = omega (arith, longer, puts, taken) };
+        puts = omega (arith, puts);
+        looks = omega (arith, taken, looks);
+      }
+
   -- a look, and an entry taken out by it
   pub worked_out : (p q : ℕ) (old mid seen new : CountedEntries V) (es : List (Entry V)) → IsWorked p q old mid → seen ≡ record mid { looks = mid.looks + 1 } → new ≡ record seen { entries = es; taken_out = seen.taken_out + 1 }
       → length new.entries + 1 ≡ length seen.entries → IsWorked p q old new

@@ -1,9 +1,9 @@
-use Rattle.std.proofs.Common.{sym, ap, ◌∙◌, rules}
+use Rattle.std.proofs.Common.{sym, ap, ◌∙◌}
 use Rattle.blaze_int.proofs.Comparisons.{lt_holds, lt_fails}
 use Rattle.blaze_entries.specs.Counted.{CountedEntries}
 use Rattle.blaze_table.proofs.Cuts.CutEdits.{held_there, next_absent, end_taken, start_taken, inside_taken}
 use Rattle.blaze_table.proofs.Paints.EditLists.{length-with_end}
-use Rattle.blaze_table.proofs.Walks.Worked.{worked_none, worked_edited}
+use Rattle.blaze_table.proofs.Walks.Worked.{worked_none, worked_edited, worked_put}
 use Rattle.blaze_table.proofs.cut.cut_shared.Goals as goal
 
 pub returns-then-not-is_below-clause-cut : goal.returns-then-not-is_below-clause-cut
@@ -53,5 +53,5 @@ returns-clause-cut g c =
 pub returns-clause-worked : goal.returns-clause-worked
 returns-clause-worked g c =
     let rank = g.T.Integer.rank in
-    worked_edited 1 0 c.args.entries.now c.insert.new.self c.set_end-2.new.self _ (record { counted = search rules; puts = search rules; looks = search rules }) c.set_end-2.ensures
+    worked_edited 1 0 c.args.entries.now c.insert.new.self c.set_end-2.new.self _ (worked_put c.args.entries.now c.insert.new.self _ c.in_ok-insert.ensures.ok c.in_ok-insert.ensures.longer) c.set_end-2.ensures
     (length-with_end (rank c.args.start) (rank c.sub_one-2.result) c.insert.new.self.entries)

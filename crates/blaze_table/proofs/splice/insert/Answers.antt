@@ -1,9 +1,8 @@
 use Rattle.blaze_table.proofs.Walks.FewLooks.{counted}
-use Rattle.blaze_table.proofs.Walks.Found.{found_still}
-use Rattle.std.proofs.Common.{sym, subst, ap, ◌∙◌}
+use Rattle.blaze_table.proofs.Walks.Found.{found_still, inside_still}
+use Rattle.std.proofs.Common.{subst}
 use Rattle.blaze_entries.specs.Counted.{CountedEntries}
 use Rattle.blaze_table.specs.Entries.{entry}
-use Rattle.blaze_table.specs.Painted.{IsInside}
 use Rattle.blaze_table.specs.Splice.{IsTablePainted}
 use Rattle.blaze_table.proofs.splice.insert.Goals as goal
 
@@ -20,7 +19,4 @@ returns-clause-painted g c =
     c.walk_down.ensures.looked.alone c.in_ok-rest.ensures.painted
 
 pub returns-clause-inside : goal.returns-clause-inside
-returns-clause-inside g c = λ i.
-    let k = g.T.Integer.rank c.args.key in
-    let looked = c.walk_down.ensures.looked.alone in
-    (c.paint_planned.ensures.inside (subst (λ (s : CountedEntries g.row.V.Denot). IsInside g.V.PartialEq.eq k k c.args.value s.entries) (sym looked) i)).1 ∙ ap (λ (s : CountedEntries g.row.V.Denot). s.entries) looked
+returns-clause-inside g c = λ i. (inside_still g.V.PartialEq.eq c.args.value c.walk_down.ensures.looked c.paint_planned.ensures.inside i).1

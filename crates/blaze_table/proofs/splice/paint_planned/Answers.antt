@@ -1,4 +1,4 @@
-use Rattle.std.proofs.Common.{◌≡◌, ℕ, ℤ, pos, ◌+ℤ◌, ◌-ℤ◌, ◌≤ℤ◌, Bool, List, None, ap, arith, sym, ◌∙◌}
+use Rattle.std.proofs.Common.{◌≡◌, ℕ, ℤ, pos, ◌+◌, ◌+ℤ◌, ◌-ℤ◌, ◌≤ℤ◌, Bool, List, None, ap, arith, sym, ◌∙◌}
 use Rattle.std.specs.Cmp.{IsEquivalence}
 use Rattle.std.proofs.lemmas.Int.{ints}
 use Rattle.blaze_entries.specs.Walked.{shown_plan}
@@ -26,6 +26,10 @@ table_painted eq laws low high n p old new order from to c keys count made =
       painted = painted;
       short = painted_short eq laws p old new made;
     }
+
+-- the keys outside of a range, and those of it
+all_keys : (outside len painted : ℕ) (kept lo hi : ℤ) → pos outside ≡ kept → lo +ℤ pos len ≡ hi +ℤ pos 1 → painted ≡ outside + len → pos painted ≡ kept +ℤ ((hi -ℤ lo) +ℤ pos 1)
+all_keys outside len painted kept lo hi left length plus = omega (arith, ints)
 
 pub returns-then-is_inside-clause-painted : goal.returns-then-is_inside-clause-painted
 returns-then-is_inside-clause-painted g c =
@@ -102,7 +106,7 @@ returns-in_ok-extend-in-Some-clause-painted g c =
     let start = c.in-Some.ensures ∙ ap (joined_start (rank c.args.lo)) c.requires.walk.plan.left in
     let made = c.in_ok-extend-in-Some.ensures.extended in
     table_painted g.V.PartialEq.eq g.met.V.Eq.laws g.T.Integer.low g.T.Integer.high _ (entry (rank c.args.lo) (rank c.args.hi) c.args.value) _ c.extend.new.entries.entries c.requires.order c.in_hand-2.ensures.from c.in_hand-3.ensures.to c.requires.table.canonical c.requires.table.are_keys
-    (let outside = c.requires.walk.outside in omega (arith, ints, outside, c.length.ensures, c.plus-painted.ensures))
+    (all_keys _ _ _ _ _ _ c.requires.walk.outside c.length.ensures c.plus-painted.ensures)
     (paint_extends g.V.PartialEq.eq g.met.V.Eq.laws (rank c.args.lo) (rank c.args.hi) c.args.value c.requires.order g.T.Integer.low g.T.Integer.high c.args.entries.now.entries c.in_hand.ensures c.requires.table.canonical
     (rank c.args.walk.plan.end) c.requires.walk.plan.end made.above made.like (rank c.in-Some.first) c.extend.new.entries.entries start made.of made.found made.put)
 
@@ -112,6 +116,6 @@ returns-in_ok-put_at-in-None-clause-painted g c =
     let start = c.in-None.ensures ∙ ap (joined_start (rank c.args.lo)) c.requires.walk.plan.left in
     let made = c.in_ok-put_at-in-None.ensures.put in
     table_painted g.V.PartialEq.eq g.met.V.Eq.laws g.T.Integer.low g.T.Integer.high _ (entry (rank c.args.lo) (rank c.args.hi) c.args.value) _ c.put_at.new.entries.entries c.requires.order c.in_hand-2.ensures.from c.in_hand-3.ensures.to c.requires.table.canonical c.requires.table.are_keys
-    (let outside = c.requires.walk.outside in omega (arith, ints, outside, c.length.ensures, c.plus-painted.ensures))
+    (all_keys _ _ _ _ _ _ c.requires.walk.outside c.length.ensures c.plus-painted.ensures)
     (paint_puts g.V.PartialEq.eq g.met.V.Eq.laws (rank c.args.lo) (rank c.args.hi) c.args.value c.requires.order g.T.Integer.low g.T.Integer.high c.args.entries.now.entries c.in_hand.ensures c.requires.table.canonical
     (rank c.args.walk.plan.end) c.requires.walk.plan.end made.above made.like c.put_at.new.entries.entries start made.put)

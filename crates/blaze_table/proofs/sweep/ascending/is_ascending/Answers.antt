@@ -1,15 +1,18 @@
 use Rattle.std.proofs.lemmas.Grind.{common_steps}
-use Rattle.std.proofs.Common.{arith}
-use Rattle.std.proofs.Common.{◌≡◌, ◌∷◌, true, sym, ◌∙◌, subst, rules}
+use Rattle.std.proofs.Common.{◌≡◌, ◌∷◌, true, false, sym, ◌∙◌, subst, rules, arith}
+use Rattle.std.specs.Prelude.{IsTrue}
 use Rattle.blaze_table.specs.Entries.{shown_list}
 use Rattle.blaze_table.specs.Swept.{AreApart, first_from}
 use Rattle.blaze_table.proofs.sweep.ascending.is_ascending.Goals as goal
+
+never : IsTrue false → ⊥
+never t = cc
 
 pub returns-then-not-follows : goal.returns-then-not-follows
 returns-then-not-follows g c =
     let rank = g.T.Integer.rank in
     let split : c.loop-pair.rest.now ≡ c.in-Some.pair.now ∷ c.in-Some.others.now = search rules in (
-      λ t. absurd (cc),
+      λ t. absurd (never t),
       λ a.
           let rest = subst (λ xs. AreApart (first_from rank g.T.Integer.low c.loop-pair.last) (shown_list rank xs)) split (c.loop-pair.invariant.1 a) in
           let follows : c.follows.result ≡ true = c.follows.ensures.1 (rest.0, rest.1) in

@@ -18,7 +18,7 @@ loop-start-preserved g c =
     let eq = g.V.PartialEq.eq in
     let all = shown_list rank c.args.pairs.items in
     let pair : g.row.T.Denot × g.row.T.Denot × g.row.V.Denot = (c.in-Some.start, c.in-Some.end, c.in-Some.value) in
-    let split : into_iter_items c.loop-start.start-iterator ≡ pair ∷ into_iter_items c.next.new.self = search rules in
+    let split : into_iter_items c.loop-start.start-iterator ≡ pair ∷ into_iter_items c.next.new.self = c.in-Some.ensures.steps.0 in
     joined_more eq g.met.V.Eq.laws g.T.Integer.low g.T.Integer.high all (shown_entry rank (λ v. v) pair) (shown_list rank (into_iter_items c.next.new.self)) (shown_list rank c.loop-start.entries.items) (shown_list rank c.push_entry.new.out.items)
     c.in_hand.ensures.from c.in_hand-in-loop-start.ensures.to c.in_ok-push_entry.ensures.ok
     (subst (λ xs. IsJoined eq g.T.Integer.low g.T.Integer.high all (shown_list rank xs) (shown_list rank c.loop-start.entries.items)) split c.loop-start.invariant)

@@ -17,7 +17,7 @@ put_piece-requires-clause-there g c =
     let placed = c.args.placed.items in
     let b = g.T.Integer.high +ℤ pos 1 in
     let piece : g.row.T.Denot × g.row.T.Denot × ℕ = (c.in-Some.start, c.in-Some.end, c.in-Some.index) in
-    let split : into_iter_items c.loop-start.start-iterator ≡ piece ∷ into_iter_items c.next.new.self = search rules in
+    let split : into_iter_items c.loop-start.start-iterator ≡ piece ∷ into_iter_items c.next.new.self = c.in-Some.ensures.steps.0 in
     some_value eq g.met.V.Eq.laws rank g.T.Integer.low g.T.Integer.high placed c.requires.keys b (shown_entry rank (λ v. v) piece) (shown_list rank (into_iter_items c.next.new.self)) (shown_list rank c.loop-start.entries.items) c.loop-start.held.items
     (subst (λ xs. IsFilled eq rank g.T.Integer.low g.T.Integer.high placed b (shown_list rank xs) (shown_list rank c.loop-start.entries.items) c.loop-start.held.items) split c.loop-start.invariant)
 
@@ -28,7 +28,7 @@ loop-start-preserved g c =
     let placed = c.args.placed.items in
     let b = g.T.Integer.high +ℤ pos 1 in
     let piece : g.row.T.Denot × g.row.T.Denot × ℕ = (c.in-Some.start, c.in-Some.end, c.in-Some.index) in
-    let split : into_iter_items c.loop-start.start-iterator ≡ piece ∷ into_iter_items c.next.new.self = search rules in
+    let split : into_iter_items c.loop-start.start-iterator ≡ piece ∷ into_iter_items c.next.new.self = c.in-Some.ensures.steps.0 in
     filled_more eq g.met.V.Eq.laws rank g.T.Integer.low g.T.Integer.high placed c.requires.keys b (shown_entry rank (λ v. v) piece) (shown_list rank (into_iter_items c.next.new.self)) (shown_list rank c.loop-start.entries.items) (shown_list rank c.put_piece.new.entries.items) c.loop-start.held.items c.put_piece.new.held.items
     c.in_hand.ensures.from c.in_hand-in-loop-start.ensures.to c.in_ok-put_piece.ensures
     (subst (λ xs. IsFilled eq rank g.T.Integer.low g.T.Integer.high placed b (shown_list rank xs) (shown_list rank c.loop-start.entries.items) c.loop-start.held.items) split c.loop-start.invariant)

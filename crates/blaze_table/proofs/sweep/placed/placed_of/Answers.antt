@@ -27,7 +27,7 @@ loop-start-preserved-then-not-is_at_most g c =
     let pair : g.row.T.Denot × g.row.T.Denot × g.row.V.Denot = (c.in-Some.start, c.in-Some.end, c.in-Some.value) in
     let e = shown_entry rank (λ v. v) pair in
     let rest = into_iter_items c.next.new.self in
-    let split : into_iter_items c.loop-start.start-iterator ≡ pair ∷ rest = search rules in
+    let split : into_iter_items c.loop-start.start-iterator ≡ pair ∷ rest = c.in-Some.ensures.steps.0 in
     let head = head_of_drop c.loop-start.count ps e (shown_list rank rest) (i.rest ∙ ap (shown_list rank) split) in
     record {
       in_all = omega (arith, ap length split, i.in_all);
@@ -43,7 +43,7 @@ loop-start-preserved g c =
     let pair : g.row.T.Denot × g.row.T.Denot × g.row.V.Denot = (c.in-Some.start, c.in-Some.end, c.in-Some.value) in
     let e = shown_entry rank (λ v. v) pair in
     let rest = into_iter_items c.next.new.self in
-    let split : into_iter_items c.loop-start.start-iterator ≡ pair ∷ rest = search rules in
+    let split : into_iter_items c.loop-start.start-iterator ≡ pair ∷ rest = c.in-Some.ensures.steps.0 in
     let head = head_of_drop c.loop-start.count ps e (shown_list rank rest) (i.rest ∙ ap (shown_list rank) split) in
     record {
       in_all = omega (arith, ap length split, i.in_all);

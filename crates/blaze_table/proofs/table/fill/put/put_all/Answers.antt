@@ -135,24 +135,24 @@ returns-clause-filled g c =
     let like = laws.refl c.args.value in
     filling_last eq laws low high (rank c.args.first.start) (rank c.args.hi) (rank c.loop-next.gap.start) (rank c.loop-next.gap.end) c.args.value w starts more joints all old cur new c.in_hand.ensures.from c.in_hand-2.ensures.to i.table.canonical i.filling c.loop-next.gap.equal_below c.loop-next.gap.equal_above i.beside d like c.in_default.ensures
 
-pub fill_gap-requires : goal.fill_gap-requires
-fill_gap-requires g c =
-    let rank = g.T.Integer.rank in
-    let gap = c.loop-next.gap in
+pub fill_gap-requires-clause-absent : goal.fill_gap-requires-clause-absent
+fill_gap-requires-clause-absent g c =
+    let start = g.T.Integer.rank c.loop-next.gap.start in
     let i = c.loop-next.invariant in
-    let cur = c.loop-next.entries.counted.entries in
-    record {
-      absent = absent_in (rank gap.start) cur i.table.canonical (i.filling.clear (rank gap.start) (omega (arith, ints)) i.filling.order);
-      above = λ t. is_under g.V.PartialEq.eq c.args.value g.T.Integer.low g.T.Integer.high (rank gap.end) cur i.table.are_keys (i.beside.above.0 t);
-    }
+    absent_in start c.loop-next.entries.counted.entries i.table.canonical (i.filling.clear start (omega (arith, ints)) i.filling.order)
 
-pub fill_gap-requires-2 : goal.fill_gap-requires-2
-fill_gap-requires-2 g c =
-    let rank = g.T.Integer.rank in
-    let gap = c.loop-next.gap in
+pub fill_gap-requires-clause-above : goal.fill_gap-requires-clause-above
+fill_gap-requires-clause-above g c = λ t.
     let i = c.loop-next.invariant in
-    let cur = c.loop-next.entries.counted.entries in
-    record {
-      absent = absent_in (rank gap.start) cur i.table.canonical (i.filling.clear (rank gap.start) (omega (arith, ints)) i.filling.order);
-      above = λ t. is_under g.V.PartialEq.eq c.args.value g.T.Integer.low g.T.Integer.high (rank gap.end) cur i.table.are_keys (i.beside.above.0 t);
-    }
+    is_under g.V.PartialEq.eq c.args.value g.T.Integer.low g.T.Integer.high (g.T.Integer.rank c.loop-next.gap.end) c.loop-next.entries.counted.entries i.table.are_keys (i.beside.above.0 t)
+
+pub fill_gap-requires-2-clause-absent : goal.fill_gap-requires-2-clause-absent
+fill_gap-requires-2-clause-absent g c =
+    let start = g.T.Integer.rank c.loop-next.gap.start in
+    let i = c.loop-next.invariant in
+    absent_in start c.loop-next.entries.counted.entries i.table.canonical (i.filling.clear start (omega (arith, ints)) i.filling.order)
+
+pub fill_gap-requires-2-clause-above : goal.fill_gap-requires-2-clause-above
+fill_gap-requires-2-clause-above g c = λ t.
+    let i = c.loop-next.invariant in
+    is_under g.V.PartialEq.eq c.args.value g.T.Integer.low g.T.Integer.high (g.T.Integer.rank c.loop-next.gap.end) c.loop-next.entries.counted.entries i.table.are_keys (i.beside.above.0 t)
