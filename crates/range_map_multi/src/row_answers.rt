@@ -79,8 +79,8 @@ fn inner_answers_of_none<T: Integer, A: Copy, S: Shows<A>, W: Eq + Clone, F: FnM
     alloc: Global,
     mut f: F,
 ) -> Result<CanonMapIter<T, Owned<W>>, AllocError>
-    requires { IsCallableAtRows (λ a. shown_full_row S.shown a.0.now) F.FnMut S.Value.eq T.low
-        T.high (list_all is_some) f [] }
+    requires callable { IsCallableAtRows (λ a. shown_full_row S.shown a.0.now) F.FnMut S.Value.eq
+        T.low T.high (list_all is_some) f [] }
     ensures { IfOk result (λ new. IsManyJoined (λ a. shown_full_row S.shown a.0.now) F.FnMut
         S.Value.eq T.low T.high (list_all is_some) W.eq f [] new) }
 {

@@ -37,7 +37,7 @@ impl<T: Integer, VC: ValueCarrier> Model for MultiwaySweep<T, VC> {
 impl<T: Integer, VC: ValueCarrier> MultiwaySweep<T, VC> {
     /// The events, which are to ascend by time. No memory is taken.
     pub fn new(events: Vec<SweepEvent<T, VC>>) -> Self
-        requires { AscendInTime (shown_events T.rank VC.shown events.items) }
+        requires ascend { AscendInTime (shown_events T.rank VC.shown events.items) }
         ensures { result ≡ shown_events T.rank VC.shown events.items }
     {
         MultiwaySweep {

@@ -38,7 +38,7 @@ impl<T: Integer> Model for CanonIter<T> {
 impl<T: Integer> CanonIter<T> {
     /// The ranges, in order. No memory is taken.
     pub fn new(ranges: Vec<RangeInclusive<T>>) -> Self
-        requires { IsRangeSet T.low T.high (shown_bare_ranges T.rank ranges.items) }
+        requires range_set { IsRangeSet T.low T.high (shown_bare_ranges T.rank ranges.items) }
         ensures { result ≡ shown_bare_ranges T.rank ranges.items }
     {
         CanonIter {

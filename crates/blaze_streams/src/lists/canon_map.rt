@@ -42,7 +42,7 @@ impl<T: Integer, VC: ValueCarrier> Model for CanonMapIter<T, VC> {
 impl<T: Integer, VC: ValueCarrier> CanonMapIter<T, VC> {
     /// The items, in order. No memory is taken.
     pub fn new(items: Vec<(RangeInclusive<T>, VC)>) -> Self
-        requires { IsRangeMap VC.Value.eq T.low T.high (shown_ranges T.rank VC.shown items.items) }
+        requires range_map { IsRangeMap VC.Value.eq T.low T.high (shown_ranges T.rank VC.shown items.items) }
         ensures { result ≡ shown_ranges T.rank VC.shown items.items }
     {
         CanonMapIter {

@@ -15,8 +15,10 @@ loop-range-preserved g c =
     c.in_ok-push_none.ensures (rank_of_next rank high _ _ c.checked_add_one-next.ensures)
 
 pub new-requires : goal.new-requires
-new-requires g c =
-    (complement_made unit_eq unit_laws g.T.Integer.low g.T.Integer.high _ c.in_hand.ensures _ _ _ _ c.loop-range.invariant (g.met.S.SortedDisjoint.gives _ _ _ c.in-None.ensures.steps).0 c.in_ok-push_last.ensures).range_map
+new-requires g c = record {
+  range_set =
+      (complement_made unit_eq unit_laws g.T.Integer.low g.T.Integer.high _ c.in_hand.ensures _ _ _ _ c.loop-range.invariant (g.met.S.SortedDisjoint.gives _ _ _ c.in-None.ensures.steps).0 c.in_ok-push_last.ensures).range_map;
+}
 
 pub returns : goal.returns
 returns g c =

@@ -19,8 +19,10 @@ loop-item-preserved g c =
     c.in_ok-push_none.ensures (seen_more (shown_range rank (shown_option g.VC.ValueCarrier.shown)) _ _ _ _ c.in_ok-push.ensures.items (cc (c.new.ensures.start, c.new.ensures.end))) (rank_of_next rank high _ _ c.checked_add_one-next.ensures)
 
 pub new-requires-2 : goal.new-requires-2
-new-requires-2 g c =
-    (fill_made g.VC.Value.PartialEq.eq g.met.VC.Value.Eq.laws g.T.Integer.low g.T.Integer.high _ c.in_hand.ensures _ _ _ _ c.loop-item.invariant (g.met.S.SortedDisjointMap.gives _ _ _ c.in-None.ensures.steps).0 c.in_ok-push_last.ensures).range_map
+new-requires-2 g c = record {
+  range_map =
+      (fill_made g.VC.Value.PartialEq.eq g.met.VC.Value.Eq.laws g.T.Integer.low g.T.Integer.high _ c.in_hand.ensures _ _ _ _ c.loop-item.invariant (g.met.S.SortedDisjointMap.gives _ _ _ c.in-None.ensures.steps).0 c.in_ok-push_last.ensures).range_map;
+}
 
 pub returns : goal.returns
 returns g c =

@@ -32,9 +32,11 @@ loop-item-preserved g c =
     (ap g.T.Integer.rank c.into_inner-start.ensures.start) (ap g.T.Integer.rank c.into_inner-start.ensures.end) c.in_ok-push_joined.ensures.ok
 
 pub new-requires : goal.new-requires
-new-requires g c =
-    (answered_all g.C.Asks.shows g.C.Asks.calls g.VC.Value.PartialEq.eq g.W.PartialEq.eq g.T.Integer.low g.T.Integer.high c.args.f _ g.met.W.Eq.laws _ _ _ c.loop-item.invariant
-    (g.met.S.SortedDisjointMap.gives _ _ _ c.in-None.ensures.steps).0).range_map
+new-requires g c = record {
+  range_map =
+      (answered_all g.C.Asks.shows g.C.Asks.calls g.VC.Value.PartialEq.eq g.W.PartialEq.eq g.T.Integer.low g.T.Integer.high c.args.f _ g.met.W.Eq.laws _ _ _ c.loop-item.invariant
+      (g.met.S.SortedDisjointMap.gives _ _ _ c.in-None.ensures.steps).0).range_map;
+}
 
 pub returns : goal.returns
 returns g c =

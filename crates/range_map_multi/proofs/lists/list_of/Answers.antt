@@ -14,9 +14,11 @@ loop-item-preserved g c =
     (g.met.I.SortedDisjointMap.gives _ _ _ c.in-Some.ensures.steps) c.loop-item.invariant
 
 pub new-requires : goal.new-requires
-new-requires g c =
-    subst (IsRangeMap g.VC.Value.PartialEq.eq g.T.Integer.low g.T.Integer.high)
-    (sym (taken_all _ _ _ c.loop-item.invariant (g.met.I.SortedDisjointMap.gives _ _ _ c.in-None.ensures.steps).0)) c.in_hand.ensures
+new-requires g c = record {
+  range_map =
+      subst (IsRangeMap g.VC.Value.PartialEq.eq g.T.Integer.low g.T.Integer.high)
+      (sym (taken_all _ _ _ c.loop-item.invariant (g.met.I.SortedDisjointMap.gives _ _ _ c.in-None.ensures.steps).0)) c.in_hand.ensures;
+}
 
 pub returns : goal.returns
 returns g c = c.new.ensures ∙ taken_all _ _ _ c.loop-item.invariant (g.met.I.SortedDisjointMap.gives _ _ _ c.in-None.ensures.steps).0

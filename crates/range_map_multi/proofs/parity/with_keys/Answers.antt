@@ -27,15 +27,19 @@ loop-item-preserved g c =
     )
 
 pub new-requires-2 : goal.new-requires-2
-new-requires-2 g c =
-    subst (IsRangeMap g.VC.Value.PartialEq.eq g.T.Integer.low g.T.Integer.high)
-    (sym (taken_all _ _ _ c.loop-item.invariant.0 (g.met.I.SortedDisjointMap.gives _ _ _ c.in-None.ensures.steps).0)) c.in_hand.ensures
+new-requires-2 g c = record {
+  range_map =
+      subst (IsRangeMap g.VC.Value.PartialEq.eq g.T.Integer.low g.T.Integer.high)
+      (sym (taken_all _ _ _ c.loop-item.invariant.0 (g.met.I.SortedDisjointMap.gives _ _ _ c.in-None.ensures.steps).0)) c.in_hand.ensures;
+}
 
 pub new-requires-3 : goal.new-requires-3
-new-requires-3 g c =
-    subst (IsRangeMap nat_eq g.T.Integer.low g.T.Integer.high)
-    (sym (taken_all _ _ _ c.loop-item.invariant.1 (ap (in_places (length c.loop-item.items.items)) (g.met.I.SortedDisjointMap.gives _ _ _ c.in-None.ensures.steps).0)))
-    (range_map_places g.VC.Value.PartialEq.eq g.met.VC.Value.Eq.laws g.T.Integer.low g.T.Integer.high _ c.in_hand.ensures)
+new-requires-3 g c = record {
+  range_map =
+      subst (IsRangeMap nat_eq g.T.Integer.low g.T.Integer.high)
+      (sym (taken_all _ _ _ c.loop-item.invariant.1 (ap (in_places (length c.loop-item.items.items)) (g.met.I.SortedDisjointMap.gives _ _ _ c.in-None.ensures.steps).0)))
+      (range_map_places g.VC.Value.PartialEq.eq g.met.VC.Value.Eq.laws g.T.Integer.low g.T.Integer.high _ c.in_hand.ensures);
+}
 
 pub returns-clause-list : goal.returns-clause-list
 returns-clause-list g c = c.new-2.ensures ∙ taken_all _ _ _ c.loop-item.invariant.0 (g.met.I.SortedDisjointMap.gives _ _ _ c.in-None.ensures.steps).0

@@ -28,10 +28,12 @@ loop-item-preserved g c =
     }
 
 pub new-ranges-requires-2 : goal.new-ranges-requires-2
-new-ranges-requires-2 g c =
-    subst (IsRangeMap nat_eq g.T.Integer.low g.T.Integer.high)
-    (sym (taken_all _ _ _ c.loop-item.invariant.ranges (ap (in_places (length c.loop-item.carriers.items)) (g.met.I.SortedDisjointMap.gives _ _ _ c.in-None.ensures.steps).0)))
-    (range_map_places g.VC.Value.PartialEq.eq g.met.VC.Value.Eq.laws g.T.Integer.low g.T.Integer.high _ c.in_hand.ensures)
+new-ranges-requires-2 g c = record {
+  range_map =
+      subst (IsRangeMap nat_eq g.T.Integer.low g.T.Integer.high)
+      (sym (taken_all _ _ _ c.loop-item.invariant.ranges (ap (in_places (length c.loop-item.carriers.items)) (g.met.I.SortedDisjointMap.gives _ _ _ c.in-None.ensures.steps).0)))
+      (range_map_places g.VC.Value.PartialEq.eq g.met.VC.Value.Eq.laws g.T.Integer.low g.T.Integer.high _ c.in_hand.ensures);
+}
 
 pub returns-clause-placed : goal.returns-clause-placed
 returns-clause-placed g c =

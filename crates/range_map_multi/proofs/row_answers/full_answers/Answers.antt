@@ -49,7 +49,7 @@ loop-out-preserved g c =
     c.in_ok-push_joined.ensures.ok
 
 pub new-requires : goal.new-requires
-new-requires g c = (asked_all _ _ _ _ _ _ _ _ _ _ g.met.W.Eq.laws c.loop-out.cursors c.loop-out.f _ c.loop-out.invariant (rw c.in_default.is at c.in_ok-segment.ensures.none)).answered.range_map
+new-requires g c = record { range_map = (asked_all _ _ _ _ _ _ _ _ _ _ g.met.W.Eq.laws c.loop-out.cursors c.loop-out.f _ c.loop-out.invariant (rw c.in_default.is at c.in_ok-segment.ensures.none)).answered.range_map }
 
 pub returns : goal.returns
 returns g c =

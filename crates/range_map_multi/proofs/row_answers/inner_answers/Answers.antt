@@ -9,8 +9,10 @@ use Rattle.range_map_multi.proofs.row_answers.inner_answers.Goals as goal
 pub inner_answers_of_none-requires : goal.inner_answers_of_none-requires
 inner_answers_of_none-requires g c =
     let values = map (λ v. map g.S.Shows.shown v.items) c.args.lists.now in
-    subst (IsCallableAtRows (λ a. shown_full_row g.S.Shows.shown a.0.now) g.F.FnMut g.S.Value.PartialEq.eq g.T.Integer.low g.T.Integer.high (list_all is_some) c.args.f)
-    (ap (all_valued values) (none_from_empty c.args.cursors.now c.is_empty.result c.is_empty.ensures c.if-is_empty.true) ∙ valued_none values) c.requires.callable
+    record {
+      callable = subst (IsCallableAtRows (λ a. shown_full_row g.S.Shows.shown a.0.now) g.F.FnMut g.S.Value.PartialEq.eq g.T.Integer.low g.T.Integer.high (list_all is_some) c.args.f)
+          (ap (all_valued values) (none_from_empty c.args.cursors.now c.is_empty.result c.is_empty.ensures c.if-is_empty.true) ∙ valued_none values) c.requires.callable;
+    }
 
 pub returns-then-is_empty : goal.returns-then-is_empty
 returns-then-is_empty g c =

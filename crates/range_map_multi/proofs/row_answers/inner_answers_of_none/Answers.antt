@@ -12,7 +12,7 @@ use Rattle.range_map_multi.proofs.row_answers.inner_answers_of_none.Goals as goa
 pub f-answer-requires : goal.f-answer-requires
 f-answer-requires g c =
     let full : g.T.Integer.low ≤ℤ g.T.Integer.high = omega (arith, ints, c.in_hand.ensures.from, c.in_hand.ensures.to) in
-    none_takes (λ a. shown_full_row g.S.Shows.shown a.0.now) g.F.FnMut g.S.Value.PartialEq.eq g.W.PartialEq.eq g.T.Integer.low g.T.Integer.high (list_all is_some) c.args.f g.met.S.Value.Eq.laws full refl c.requires _
+    none_takes (λ a. shown_full_row g.S.Shows.shown a.0.now) g.F.FnMut g.S.Value.PartialEq.eq g.W.PartialEq.eq g.T.Integer.low g.T.Integer.high (list_all is_some) c.args.f g.met.S.Value.Eq.laws full refl c.requires.callable _
     (ap (shown_full_row g.S.Shows.shown) (c.deref.ensures.value ∙ c.new-row.ensures.items))
 
 pub new-requires : goal.new-requires
@@ -30,7 +30,7 @@ new-requires g c =
     ∙ ap (λ l. entry l last answer ∷ []) c.min_value-first.ensures ∙ ap (λ h. entry low h answer ∷ []) c.max_value-last.ensures in
     let joined = none_joined (λ a. shown_full_row shown a.0.now) g.F.FnMut g.S.Value.PartialEq.eq eq low high (list_all is_some) c.args.f g.met.S.Value.Eq.laws full refl g.met.W.Eq.laws _ answer _
     (record { arguments = _; shown = ap (shown_full_row shown) (c.deref.ensures.value ∙ c.new-row.ensures.items); called = c.f-answer.ensures }) put in
-    joined.answered.range_map
+    record { range_map = joined.answered.range_map }
 
 pub returns : goal.returns
 returns g c =

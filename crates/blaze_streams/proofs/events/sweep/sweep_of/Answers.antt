@@ -28,8 +28,10 @@ new-requires g c =
     let i = c.loop-stream.invariant in
     let sort = c.in_ok-sort_by_key.ensures in
     let none : rest ≡ [] = nil_from_length rest (sym c.loop-stream.stream-iterator.rest.ok.0 ∙ c.in-None.ensures.steps.0) in
-    (swept g.T.Integer.rank g.VC.ValueCarrier.shown _ _ g.T.Ord.cmp g.met.T.Integer.ranked.order (left c.args.streams.items) (left rest) c.loop-stream.input c.loop-stream.events.items c.sort_by_key.new.self.items
-    i.made (ap left none) i.keys sort.permutation (sort.sorted instant (answers_always _ _ _ (λ f a r h k. search rules)))).ascending
+    record {
+      ascend = (swept g.T.Integer.rank g.VC.ValueCarrier.shown _ _ g.T.Ord.cmp g.met.T.Integer.ranked.order (left c.args.streams.items) (left rest) c.loop-stream.input c.loop-stream.events.items c.sort_by_key.new.self.items
+          i.made (ap left none) i.keys sort.permutation (sort.sorted instant (answers_always _ _ _ (λ f a r h k. search rules)))).ascending;
+    }
 
 pub returns : goal.returns
 returns g c =

@@ -30,10 +30,12 @@ loop-start-preserved g c =
     g.met.VCL.Value.Eq.laws g.met.VCR.Value.Eq.laws c.loop-start.invariant
 
 pub new-requires : goal.new-requires
-new-requires g c =
-    carried_range_map g.VCL.ValueCarrier.is_carried g.VCR.ValueCarrier.is_carried g.VCL.Value.PartialEq.eq g.VCR.Value.PartialEq.eq g.T.Integer.low g.T.Integer.high c.args.kind g.met.VCL.Value.Eq.laws g.met.VCR.Value.Eq.laws c.requires.left c.requires.right _ _ _
-    (carried_all g.VCL.ValueCarrier.is_carried g.VCR.ValueCarrier.is_carried g.VCL.Value.PartialEq.eq g.VCR.Value.PartialEq.eq g.T.Integer.low g.T.Integer.high c.args.kind g.met.VCL.Value.Eq.laws g.met.VCR.Value.Eq.laws _ c.loop-start.left _ c.loop-start.right _ c.loop-start.invariant
-    (sym c.in_default.ensures.first))
+new-requires g c = record {
+  range_map =
+      carried_range_map g.VCL.ValueCarrier.is_carried g.VCR.ValueCarrier.is_carried g.VCL.Value.PartialEq.eq g.VCR.Value.PartialEq.eq g.T.Integer.low g.T.Integer.high c.args.kind g.met.VCL.Value.Eq.laws g.met.VCR.Value.Eq.laws c.requires.left c.requires.right _ _ _
+      (carried_all g.VCL.ValueCarrier.is_carried g.VCR.ValueCarrier.is_carried g.VCL.Value.PartialEq.eq g.VCR.Value.PartialEq.eq g.T.Integer.low g.T.Integer.high c.args.kind g.met.VCL.Value.Eq.laws g.met.VCR.Value.Eq.laws _ c.loop-start.left _ c.loop-start.right _ c.loop-start.invariant
+      (sym c.in_default.ensures.first));
+}
 
 pub returns : goal.returns
 returns g c =

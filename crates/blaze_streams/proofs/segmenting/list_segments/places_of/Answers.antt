@@ -31,4 +31,4 @@ new-requires-2 g c =
     let seen = shown_ranges rank (λ j. j) c.loop-i.found.items in
     let none = ap (numbered rank c.loop-i.i) (drop_all c.loop-i.i all c.loop-i-test.false) in
     let whole : seen ≡ numbered rank 0 all = sym (append-nil seen) ∙ ap (λ es. seen ++ es) (sym none) ∙ c.loop-i.invariant.numbered in
-    record { runs = one_per_run nat_eq nat_eq_equiv seen (subst (IsCanonical nat_eq) (sym whole) c.requires); keys = c.loop-i.invariant.keys }
+    record { range_map = record { runs = one_per_run nat_eq nat_eq_equiv seen (subst (IsCanonical nat_eq) (sym whole) c.requires); keys = c.loop-i.invariant.keys } }
