@@ -49,7 +49,7 @@ pub use transforms::transform;
 
 // For `range_map_blaze` alone, whose maps are made of entries that are chosen, and whose joins answer segments.
 #[doc(hidden)]
-pub use asks::{Asks, Both, Either, WithLeft};
+pub use asks::{Asks, Both, Either, Whole, WithLeft};
 #[doc(hidden)]
 pub use carrier::HasValue;
 #[doc(hidden)]

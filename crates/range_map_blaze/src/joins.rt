@@ -1,6 +1,6 @@
 //! Joins of two maps, and a map with other values: what a closure returns, once for each segment or entry.
 ghost use Rattle.std.specs.Prelude.{◌≡◌, true, IfOk};
-ghost use Rattle.blaze_streams.specs.Answers.{values, IsCallableAtEach, IsTransformed};
+ghost use Rattle.blaze_streams.specs.Answers.{values, EachValue, IsCallableAtEach, IsTransformed};
 ghost use Rattle.blaze_streams.specs.JoinAnswers.{either, both, with_left, IsCallableAtSegments};
 ghost use Rattle.blaze_streams.specs.JoinAnswers.{IsJoined};
 ghost use Rattle.blaze_streams.specs.Joins.{is_joined, IsJoinOf};
@@ -12,7 +12,7 @@ use crate::map::RangeMapBlaze;
 use blaze_int::Integer;
 use blaze_streams::{
     Asks, Both, CanonMapIter, Either, JoinKind, Owned, RangeValuesIter, SeekingRangeValuesIter,
-    SortedDisjointMap, WithLeft, answers_of, join_of, transform,
+    SortedDisjointMap, Whole, WithLeft, answers_of, join_of,
 };
 use blaze_table::RangeTable;
 use std::alloc::{AllocError, Global};
@@ -35,17 +35,18 @@ pub fn map_of<T: Integer, W: Eq + Clone>(
     Ok(RangeMapBlaze { table })
 }
 
-/// What a closure returns at the values of a table, as a stream.
-fn transformed<T: Integer, V: Eq + Clone, W: Eq + Clone, F: FnMut(&V) -> W>(
+/// What a closure returns at the values of a table, with the arguments that `C` gives it, as a stream.
+fn transformed<'a, T: Integer, V: Eq + Clone, W: Eq + Clone, F: Drop, C: Asks<F, &'a V, W>>(
     alloc: Global,
-    table: &RangeTable<T, V>,
+    table: &'a RangeTable<T, V>,
     f: F,
 ) -> Result<CanonMapIter<T, Owned<W>>, AllocError>
-    requires { IsCallableAtEach (λ a. a.0.now) F.FnMut f (values table.now.entries) }
-    ensures { IfOk result (λ new. IsTransformed (λ a. a.0.now) F.FnMut W.eq T.low T.high f
+    requires have { EachValue C.has_arguments table.now.entries }
+    requires callable { IsCallableAtEach C.shows C.calls f (values table.now.entries) }
+    ensures { IfOk result (λ new. IsTransformed C.shows C.calls W.eq T.low T.high f
         table.now.entries new) }
 {
-    transform(alloc, RangeValuesIter::new(table), f)
+    answers_of::<_, _, _, W, F, C>(alloc, RangeValuesIter::new(table), f)
 }
 
 /// The segments of two tables that a join is asked for, each with what the two have there, as a stream.
@@ -58,11 +59,12 @@ fn segments_of<'a, T: Integer, V: Eq + Clone, V2: Eq + Clone>(
     ensures { IfOk result (λ segments. IsJoinOf V.eq V2.eq T.low T.high kind table.now.entries
         other.now.entries segments) }
 {
-    let (left, right) = (
+    join_of(
+        alloc,
         SeekingRangeValuesIter::new(table),
         SeekingRangeValuesIter::new(other),
-    );
-    join_of(alloc, left, right, kind)
+        kind,
+    )
 }
 
 /// What a closure returns at the segments of two tables that a join is asked for, with the arguments that `C` gives it, as a
@@ -105,9 +107,8 @@ impl<T: Integer, V: Eq + Clone> RangeMapBlaze<T, V> {
             self.now.entries)) }
     {
         let alloc = self.allocator();
-        let stream = transformed(alloc, &self.table, f)?;
-        let map = map_of(alloc, stream)?;
-        Ok(map)
+        let stream = transformed::<T, V, W, F, Whole>(alloc, &self.table, f)?;
+        map_of(alloc, stream)
     }
 
     /// What a closure returns where both maps have a value: one call for each of the greatest ranges on which neither changes

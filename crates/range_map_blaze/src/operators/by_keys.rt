@@ -23,11 +23,13 @@ pub fn within_keys<T: Integer, V: Eq + Clone, W: Eq + Clone>(
         keys.now.entries new.entries) }
 {
     let room = min(map.ranges_len(), keys.entries());
-    let (left, right) = (
+    lent_chosen(
+        map,
         map.seeking_range_values(),
         SeekingRangeValuesIter::new(keys),
-    );
-    lent_chosen(map, left, right, &LeftWithRight, room)
+        &LeftWithRight,
+        room,
+    )
 }
 
 /// The same, with the map's own values, which are gone through one by one.
@@ -57,11 +59,13 @@ pub fn outside_keys<T: Integer, V: Eq + Clone, W: Eq + Clone>(
     if are_few(keys.entries(), room) {
         return outside_keys_by_value(map.clone()?, keys);
     }
-    let (left, right) = (
+    lent_chosen(
+        map,
         map.seeking_range_values(),
         SeekingRangeValuesIter::new(keys),
-    );
-    lent_chosen(map, left, right, &LeftAlone, room)
+        &LeftAlone,
+        room,
+    )
 }
 
 /// The same, with the map's own values. Where the table has few entries, the map is cut in place.

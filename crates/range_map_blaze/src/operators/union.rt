@@ -199,8 +199,13 @@ fn merged<T: Integer, V: Eq + Clone>(
     left.in_hand();
     right.in_hand();
     let room = left.ranges_len().saturating_add(right.ranges_len());
-    let (under, over) = (left.seeking_range_values(), right.range_values());
-    lent_chosen(left, under, over, &RightFirst, room)
+    lent_chosen(
+        left,
+        left.seeking_range_values(),
+        right.range_values(),
+        &RightFirst,
+        room,
+    )
 }
 
 /// The union of two maps by value, by one pass over both. A value is cloned only for a piece that leaves a rest of its range
