@@ -1,11 +1,11 @@
-use Rattle.std.proofs.Common.{◌≡◌, ◌++◌, [], Some, rules, refl, append_assoc, ap, ◌∙◌, sym}
+use Rattle.std.proofs.Common.{◌≡◌, ◌++◌, ℕ, List, [], Some, Ok, rules, refl, append-nil, append_assoc, ap, ◌∙◌, sym}
 use Rattle.std.proofs.Output.{has_written_append}
-use Rattle.std.specs.Fmt.{HasWritten, ◌++?◌}
+use Rattle.std.specs.Fmt.{HasWritten, WritesOnOk, ◌++?◌}
 use Rattle.std.specs.Range.{range_inclusive_start, range_inclusive_end}
 use Rattle.blaze_table.specs.Entries.{Entry}
-use Rattle.range_map_blaze.specs.Printed.{entries_text}
+use Rattle.range_map_blaze.specs.Printed.{entries_text, map_text}
 use Rattle.blaze_table.proofs.Pairs.Texts.{split_some}
-use Rattle.range_map_blaze.proofs.Texts.{entry_shown}
+use Rattle.range_map_blaze.proofs.Texts.{entry_shown, where_known}
 use Rattle.range_map_blaze.proofs.display.RangeMapBlazeDisplay.fmt.Goals as goal
 
 pub loop-range-init : goal.loop-range-init
@@ -37,3 +37,12 @@ loop-range-preserved g c = (
       let wrote : HasWritten g.W.Write.write_str_gives c.loop-range.f parts.0 c.write.new.self = search (rules, writes) in
       (so_far.0 ++ parts.0, parts.1, has_written_append _ _ _ _ _ _ so_far.2 wrote, parts.3, append_assoc so_far.0 parts.0 parts.1 ∙ ap (λ l. so_far.0 ++ l) parts.4 ∙ so_far.4),
 )
+
+pub returns-clause-writes : goal.returns-clause-writes
+returns-clause-writes g c =
+    where_known (map_text g.T.Debug.debug_output g.T.Integer.of_rank g.V.Debug.debug_output c.args.self.now.entries) (λ (bs : List ℕ). WritesOnOk g.W.Write.write_str_gives c.args.f.now (Ok tt) bs c.loop-range.f)
+    (λ whole known p ok.
+    let so_far = c.loop-range.invariant.3 p whole known in
+    let none : Some [] ≡ Some so_far.1 = sym (ap (entries_text g.T.Debug.debug_output g.T.Integer.of_rank g.V.Debug.debug_output c.loop-range.lead.now) c.in-None.ensures.steps.0.0) ∙ so_far.3 in
+    let all : so_far.0 ≡ whole = cc (append-nil so_far.0, so_far.4) in
+    rw all at so_far.2)
