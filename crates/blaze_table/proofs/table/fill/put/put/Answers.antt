@@ -16,3 +16,6 @@ returns-then-is_err-clause-err g c =
     put_back (entry (rank c.args.gap.start) (rank c.args.gap.end) c.args.value) c.args.entries.now.entries _ _ c.requires.absent
     (ap (λ (s : CountedEntries g.row.V.Denot). s.entries) c.in_ok-insert.ensures.ok)
     (ap (λ (s : CountedEntries g.row.V.Denot). s.entries) c.remove.ensures.entries)
+
+pub returns-clause-ok : goal.returns-clause-ok
+returns-clause-ok g c = ap (λ (s : CountedEntries g.row.V.Denot). s.entries) c.in_ok-insert.ensures.ok
