@@ -55,6 +55,13 @@ one_fits sum len most lo hi left rest all counted split some fits length = omega
 pub one_more : (sum len next : ℕ) (lo hi left rest all : ℤ) → pos sum +ℤ left ≡ all → left ≡ (hi -ℤ lo +ℤ pos 1) +ℤ rest → lo +ℤ pos len ≡ hi +ℤ pos 1 → next ≡ sum + len → pos next +ℤ rest ≡ all
 one_more sum len next lo hi left rest all counted split length plus = omega (arith, ints)
 
+-- some keys, and those of a range: their number, and that it fits
+pub all_keys : (some len all : ℕ) (kept lo hi : ℤ) → pos some ≡ kept → lo +ℤ pos len ≡ hi +ℤ pos 1 → all ≡ some + len → pos all ≡ kept +ℤ ((hi -ℤ lo) +ℤ pos 1)
+all_keys some len all kept lo hi left length plus = omega (arith, ints)
+
+pub all_fit : (some len most : ℕ) (lo hi whole : ℤ) → (pos some +ℤ ((hi -ℤ lo) +ℤ pos 1)) ≤ℤ whole → whole ≤ℤ pos most → lo +ℤ pos len ≡ hi +ℤ pos 1 → some + len ≤ most
+all_fit some len most lo hi whole fits room length = omega (arith, ints)
+
 module _ {V : Type 0} where
   pub overlap_left : (l h : ℤ) (e : Entry V) → e.lo ≤ℤ l → l ≤ℤ e.hi → e.hi ≤ℤ h → overlap l h e ≡ (e.hi -ℤ l) +ℤ pos 1
   overlap_left l h e a b d = shared_from l h e.lo e.hi l e.hi (max_left l e.lo a) (min_right h e.hi d) b

@@ -1,4 +1,4 @@
-use Rattle.std.proofs.Common.{◌≡◌, ℕ, ℤ, pos, ◌+◌, ◌+ℤ◌, ◌-ℤ◌, ◌≤ℤ◌, Bool, List, None, ap, arith, sym, ◌∙◌}
+use Rattle.std.proofs.Common.{◌≡◌, ℕ, ℤ, pos, ◌+ℤ◌, ◌-ℤ◌, ◌≤ℤ◌, Bool, List, None, ap, arith, sym, ◌∙◌}
 use Rattle.std.specs.Cmp.{IsEquivalence}
 use Rattle.std.proofs.lemmas.Int.{ints}
 use Rattle.blaze_entries.specs.Walked.{shown_plan}
@@ -6,7 +6,7 @@ use Rattle.blaze_table.specs.Canonical.{AreKeys, IsCanonical}
 use Rattle.blaze_table.specs.Count.{keys_in}
 use Rattle.blaze_table.specs.Entries.{Entry, entry}
 use Rattle.blaze_table.specs.Splice.{before, after, IsPaintOf, IsTablePainted}
-use Rattle.blaze_table.proofs.Canonical.Counted.{keys_painted, painted_table}
+use Rattle.blaze_table.proofs.Canonical.Counted.{all_keys, keys_painted, painted_table}
 use Rattle.blaze_table.proofs.Neighbours.SeenInside.{inside_seen, inside_short, not_reached}
 use Rattle.blaze_table.proofs.Paints.Inside.{inside_painted}
 use Rattle.blaze_table.proofs.Paints.Painted.{is_painted, painted_short}
@@ -26,10 +26,6 @@ table_painted eq laws low high n p old new order from to c keys count made =
       painted = painted;
       short = painted_short eq laws p old new made;
     }
-
--- the keys outside of a range, and those of it
-all_keys : (outside len painted : ℕ) (kept lo hi : ℤ) → pos outside ≡ kept → lo +ℤ pos len ≡ hi +ℤ pos 1 → painted ≡ outside + len → pos painted ≡ kept +ℤ ((hi -ℤ lo) +ℤ pos 1)
-all_keys outside len painted kept lo hi left length plus = omega (arith, ints)
 
 pub returns-then-is_inside-clause-painted : goal.returns-then-is_inside-clause-painted
 returns-then-is_inside-clause-painted g c =

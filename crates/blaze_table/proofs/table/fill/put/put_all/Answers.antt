@@ -1,4 +1,4 @@
-use Rattle.std.proofs.Common.{map, arith}
+use Rattle.std.proofs.Common.{map, arith, refl}
 use Rattle.std.proofs.lemmas.Int.{ints}
 use Rattle.blaze_table.proofs.Fills.Fillings.{beside_next, filling_first, filling_next, filling_last, room_more, table_more}
 use Rattle.blaze_table.proofs.Fills.HeldKeys.{nearer}
@@ -7,6 +7,7 @@ use Rattle.blaze_table.proofs.Fills.Puts.{absent_in}
 use Rattle.blaze_table.proofs.Fills.TakenBack.{map_none}
 use Rattle.blaze_table.proofs.Fills.Upwards.{is_under}
 use Rattle.blaze_table.proofs.Walks.Worked.{counted_none, counted_then}
+use Rattle.blaze_table.proofs.Canonical.Counted.{all_keys, all_fit}
 use Rattle.blaze_table.proofs.table.fill.put.put_all.Goals as goal
 
 pub loop-next-init : goal.loop-next-init
@@ -41,7 +42,7 @@ plus-sum-requires g c =
     let d = c.in_ok-fill_gap.ensures.ok in
     let like = c.requires.clones _ _ c.in_ok-clone.ensures.cases in
     let room = room_more eq laws low high (rank c.args.first.start) (rank c.args.hi) (rank c.loop-next.gap.start) (rank c.loop-next.gap.end) c.args.value w starts more joints all old cur new c.in_hand.ensures.from c.in_hand-2.ensures.to i.table.canonical i.filling c.loop-next.gap.equal_below c.loop-next.gap.equal_above i.beside d like (g.T.SafeLen.SafeLength.number c.loop-next.sum) g.met.T.Integer.ranked.some_key i.table in
-    omega (arith, ints, room, c.length.ensures, g.met.T.Integer.has_room)
+    all_fit _ _ _ _ _ _ room g.met.T.Integer.has_room c.length.ensures
 
 pub loop-next-smaller : goal.loop-next-smaller
 loop-next-smaller g c =
@@ -68,7 +69,7 @@ loop-next-preserved g c =
     let d = c.in_ok-fill_gap.ensures.ok in
     let like = c.requires.clones _ _ c.in_ok-clone.ensures.cases in
     record {
-      table = table_more eq laws low high (rank c.args.first.start) (rank c.args.hi) (rank c.loop-next.gap.start) (rank c.loop-next.gap.end) c.args.value w starts more joints all old cur new c.in_hand.ensures.from c.in_hand-2.ensures.to i.table.canonical i.filling c.loop-next.gap.equal_below c.loop-next.gap.equal_above i.beside d like (g.T.SafeLen.SafeLength.number c.loop-next.sum) (g.T.SafeLen.SafeLength.number c.plus-sum.result) i.table (omega (arith, ints, c.length.ensures, c.plus-sum.ensures));
+      table = table_more eq laws low high (rank c.args.first.start) (rank c.args.hi) (rank c.loop-next.gap.start) (rank c.loop-next.gap.end) c.args.value w starts more joints all old cur new c.in_hand.ensures.from c.in_hand-2.ensures.to i.table.canonical i.filling c.loop-next.gap.equal_below c.loop-next.gap.equal_above i.beside d like (g.T.SafeLen.SafeLength.number c.loop-next.sum) (g.T.SafeLen.SafeLength.number c.plus-sum.result) i.table (all_keys _ _ _ _ _ _ refl c.length.ensures c.plus-sum.ensures);
       filling = filling_next eq laws low high (rank c.args.first.start) (rank c.args.hi) (rank c.loop-next.gap.start) (rank c.loop-next.gap.end) c.args.value w starts more joints all old cur new c.in_hand.ensures.from c.in_hand-2.ensures.to i.table.canonical i.filling c.loop-next.gap.equal_below c.loop-next.gap.equal_above i.beside d like (rank c.in-Some.next.start) (rank c.in-Some.next.end) c.in-Some.ensures.gap;
       beside = beside_next eq laws low high (rank c.args.first.start) (rank c.args.hi) (rank c.loop-next.gap.start) (rank c.loop-next.gap.end) c.args.value w starts more joints all old cur new c.in_hand.ensures.from c.in_hand-2.ensures.to i.table.canonical i.filling c.loop-next.gap.equal_below c.loop-next.gap.equal_above i.beside d like (rank c.in-Some.next.start) (rank c.in-Some.next.end) c.in-Some.next.equal_below c.in-Some.next.equal_above c.in-Some.ensures.gap c.in-Some.ensures.beside;
       counted = counted_then c.args.entries.now.counted c.loop-next.entries.counted c.fill_gap.new.entries i.counted c.in_ok-fill_gap.ensures.counted;
@@ -93,7 +94,7 @@ plus-requires g c =
     let d = c.in_ok-fill_gap-2.ensures.ok in
     let like = laws.refl c.args.value in
     let room = room_more eq laws low high (rank c.args.first.start) (rank c.args.hi) (rank c.loop-next.gap.start) (rank c.loop-next.gap.end) c.args.value w starts more joints all old cur new c.in_hand.ensures.from c.in_hand-2.ensures.to i.table.canonical i.filling c.loop-next.gap.equal_below c.loop-next.gap.equal_above i.beside d like (g.T.SafeLen.SafeLength.number c.loop-next.sum) g.met.T.Integer.ranked.some_key i.table in
-    omega (arith, ints, room, c.length-2.ensures, g.met.T.Integer.has_room)
+    all_fit _ _ _ _ _ _ room g.met.T.Integer.has_room c.length-2.ensures
 
 pub returns-clause-table : goal.returns-clause-table
 returns-clause-table g c =
@@ -113,7 +114,7 @@ returns-clause-table g c =
     let all = map rank c.fill_gap-2.new.made.joints.items in
     let d = c.in_ok-fill_gap-2.ensures.ok in
     let like = laws.refl c.args.value in
-    table_more eq laws low high (rank c.args.first.start) (rank c.args.hi) (rank c.loop-next.gap.start) (rank c.loop-next.gap.end) c.args.value w starts more joints all old cur new c.in_hand.ensures.from c.in_hand-2.ensures.to i.table.canonical i.filling c.loop-next.gap.equal_below c.loop-next.gap.equal_above i.beside d like (g.T.SafeLen.SafeLength.number c.loop-next.sum) (g.T.SafeLen.SafeLength.number c.plus.result) i.table (omega (arith, ints, c.length-2.ensures, c.plus.ensures))
+    table_more eq laws low high (rank c.args.first.start) (rank c.args.hi) (rank c.loop-next.gap.start) (rank c.loop-next.gap.end) c.args.value w starts more joints all old cur new c.in_hand.ensures.from c.in_hand-2.ensures.to i.table.canonical i.filling c.loop-next.gap.equal_below c.loop-next.gap.equal_above i.beside d like (g.T.SafeLen.SafeLength.number c.loop-next.sum) (g.T.SafeLen.SafeLength.number c.plus.result) i.table (all_keys _ _ _ _ _ _ refl c.length-2.ensures c.plus.ensures)
 
 pub returns-clause-filled : goal.returns-clause-filled
 returns-clause-filled g c =
