@@ -1,4 +1,4 @@
-use Rattle.std.proofs.Common.{◌≡◌, [], ◌∷◌, ℕ, sym, subst, ◌∙◌, rules, pos, ◌+ℤ◌}
+use Rattle.std.proofs.Common.{◌≡◌, [], ◌∷◌, ℕ, sym, subst, ◌∙◌, pos, ◌+ℤ◌}
 use Rattle.std.proofs.lemmas.List.{nil_from_length}
 use Rattle.std.specs.Vec.Iter.{into_iter_items}
 use Rattle.blaze_table.specs.Entries.{shown_entry, shown_list}
