@@ -77,7 +77,7 @@ module _ {V : Type 0} (test : V → Bool) (l h : ℤ) (len : ℤ) (n : ℕ) wher
     pub risen : n ≤ looks
 
   -- it is found of the last entries of a list, which all start at l or above; the others stand before them
-  pub record IsUnderway (high : ℤ) (es others tail : List (Entry V)) (s : Seen) (left : ℤ) (looks : ℕ) : Type 0 where
+  pub record IsWalkUnderway (high : ℤ) (es others tail : List (Entry V)) (s : Seen) (left : ℤ) (looks : ℕ) : Type 0 where
     pub parts : es ≡ others ++ tail
     pub near : StartsBelow (h +ℤ pos 2) others
     pub starts : StartsAscend l high tail
@@ -91,7 +91,7 @@ module _ {V : Type 0} (test : V → Bool) (l h low high : ℤ) (w : l ≤ℤ h) 
   over_starts : StartsAscend (h +ℤ pos 2) high over
   over_starts = starts_from (h +ℤ pos 2) low high es (starts_of low high es r)
 
-  pub begins : (len : ℤ) {n looks : ℕ} (others : List (Entry V)) (s : Seen) → others ≡ below (h +ℤ pos 2) es → s ≡ unseen h → looks ≡ n → IsUnderway test l h len n high es others over s len looks
+  pub begins : (len : ℤ) {n looks : ℕ} (others : List (Entry V)) (s : Seen) → others ≡ below (h +ℤ pos 2) es → s ≡ unseen h → looks ≡ n → IsWalkUnderway test l h len n high es others over s len looks
   begins len others s up none q = record {
     parts = halves (h +ℤ pos 2) low high es (starts_of low high es r) ∙ ap (λ xs. xs ++ over) (sym up);
     near = subst (StartsBelow (h +ℤ pos 2)) (sym up) (starts_below (h +ℤ pos 2) es);
@@ -107,7 +107,7 @@ module _ {V : Type 0} (test : V → Bool) (l h low high : ℤ) (w : l ≤ℤ h) 
   pub value_begins : None ≡ at over l
   value_begins = sym (at_over l h (h +ℤ pos 2) high over (omega (arith, ints)) over_starts)
 
-module _ {V : Type 0} {test : V → Bool} {l h high : ℤ} {es : List (Entry V)} {len : ℤ} {n : ℕ} {others tail : List (Entry V)} {s : Seen} {left : ℤ} {looks : ℕ} (i : IsUnderway test l h len n high es others tail s left looks) where
+module _ {V : Type 0} {test : V → Bool} {l h high : ℤ} {es : List (Entry V)} {len : ℤ} {n : ℕ} {others tail : List (Entry V)} {s : Seen} {left : ℤ} {looks : ℕ} (i : IsWalkUnderway test l h len n high es others tail s left looks) where
   -- no entry is left
   pub ends : others ≡ [] → IsFound test l h len n es s left looks
   ends none = subst (λ xs. IsFound test l h len n xs s left looks) (sym (i.parts ∙ ap (λ xs. xs ++ tail) none)) i.found
@@ -148,7 +148,7 @@ module _ {V : Type 0} {test : V → Bool} {l h high : ℤ} {es : List (Entry V)}
 
       module _ (rest : ℤ) (taken : rest +ℤ shared l h f.0 f.1 ≡ left) where
         -- it starts at l or above, and the walk goes on
-        pub goes_on : {more : ℕ} → more ≡ looks + 1 → int_lt f.0 l ≡ false → IsUnderway test l h len n high es xs (e ∷ tail) q rest more
+        pub goes_on : {more : ℕ} → more ≡ looks + 1 → int_lt f.0 l ≡ false → IsWalkUnderway test l h len n high es xs (e ∷ tail) q rest more
         goes_on one u =
             let up = lt_fails f.0 l u in
             let here = start in

@@ -157,7 +157,7 @@ impl<T: Integer, V> Entries<T, V> {
 impl<T: Integer, V: Drop> Entries<T, V> {
     /// The entries of a list whose starts ascend: first key, last key and value. Refused memory drops the list.
     pub fn from_sorted(alloc: Global, entries: Vec<(T, T, V)>) -> Result<Self, AllocError>
-        requires { StartsAscend T.low T.high (shown_list T.rank entries.items) }
+        requires ascend { StartsAscend T.low T.high (shown_list T.rank entries.items) }
         ensures { IfOk result (λ built. built.counted
             ≡ uncounted (shown_list T.rank entries.items)) }
     {

@@ -5,7 +5,7 @@ use Rattle.std.specs.declared.cmp.Ordering.{Ordering}
 
 -- Each number up to `most` is that of exactly one length, and lengths compare as their numbers. A variable of a number
 -- type ranges over every number here, so each law has the premise that its number is that of a length.
-pub record IsCounted {L : Type 0} (number : L → ℕ) (most : ℕ) (cmp : L → L → Ordering) (eq : L → L → Bool) : Type 0 where
+pub record IsNumbered {L : Type 0} (number : L → ℕ) (most : ℕ) (cmp : L → L → Ordering) (eq : L → L → Bool) : Type 0 where
   pub one_value : (a b : L) → number a ≤ most → number a ≡ number b → a ≡ b
   pub has_value : (n : ℕ) → n ≤ most → (a : L) × (number a ≡ n)
   pub order : (a b : L) → number a ≤ most → number b ≤ most → cmp a b ≡ nat_cmp (number a) (number b)

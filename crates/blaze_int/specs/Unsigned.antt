@@ -8,7 +8,7 @@ use Rattle.std.proofs.Common.{refl, ap, arith}
 use Rattle.std.proofs.lemmas.Bool.Decides.{Decides-eqb}
 use Rattle.std.proofs.lemmas.Int.{ints}
 use Rattle.blaze_int.specs.Ranked.{IsRanked, key_count}
-use Rattle.blaze_int.specs.Counted.{IsCounted}
+use Rattle.blaze_int.specs.Counted.{IsNumbered}
 
 -- the natural number at a whole number that is not negative
 abbrev pub nat_of : ℤ → ℕ
@@ -44,7 +44,7 @@ unsigned-ranked high = record {
 pub unsigned-room : (high most : ℕ) → high + 1 ≤ most → key_count (pos 0) (pos high) ≤ℤ pos most
 unsigned-room high most h = omega (arith, ints)
 
-pub unsigned-counted : (most : ℕ) → IsCounted (λ x. x) most nat_cmp (λ x y. x == y)
+pub unsigned-counted : (most : ℕ) → IsNumbered (λ x. x) most nat_cmp (λ x y. x == y)
 unsigned-counted most = record {
   one_value = λ a b f e. e;
   has_value = λ n h. (n, refl);

@@ -54,7 +54,7 @@ pub fn greater<T: Integer>(a: T, b: T) -> T
 
 /// The length of the range from one key to another, both included, in keys.
 pub fn length<T: Integer>(start: T, end: T) -> T::SafeLen
-    requires { T.rank start ≤ℤ T.rank end }
+    requires order { T.rank start ≤ℤ T.rank end }
     ensures { T.rank start +ℤ pos (T.SafeLen.number result) ≡ T.rank end +ℤ pos 1 }
 {
     T::safe_len(&(start..=end))

@@ -53,17 +53,17 @@ pub trait Integer: Copy + Ord + Debug {
 
     /// The next key. The greatest key has none.
     fn add_one(self) -> Self
-        requires { rank self <ℤ high }
+        requires below { rank self <ℤ high }
         ensures { rank result ≡ rank self +ℤ pos 1 };
 
     /// The key before. The least key has none.
     fn sub_one(self) -> Self
-        requires { low <ℤ rank self }
+        requires above { low <ℤ rank self }
         ensures { rank result +ℤ pos 1 ≡ rank self };
 
     /// Steps back by one key. The least key has none before it.
     fn assign_sub_one(&mut self)
-        requires { low <ℤ rank self.old }
+        requires above { low <ℤ rank self.old }
         ensures { rank self.new +ℤ pos 1 ≡ rank self.old }
     {
         *self = self.sub_one();

@@ -1,6 +1,6 @@
 //! Lengths of ranges of keys, as contracts see them: each has a number, and the numbers run from 0 to `most`.
 ghost use Rattle.std.specs.Prelude.{◌≡◌, ◌+◌, ◌≤◌, ℕ, ◌↔◌, IsTrue};
-ghost use Rattle.blaze_int.specs.Counted.{IsCounted};
+ghost use Rattle.blaze_int.specs.Counted.{IsNumbered};
 
 /// A type of lengths: whole numbers of keys, in their order.
 pub trait SafeLength: Copy + Ord {
@@ -20,17 +20,17 @@ pub trait SafeLength: Copy + Ord {
 
     /// The sum of two lengths. The type must have its number.
     fn plus(self, other: Self) -> Self
-        requires { number self + number other ≤ most }
+        requires fits { number self + number other ≤ most }
         ensures { number result ≡ number self + number other };
 
     /// What is left of a length after another is taken away, which may not be greater.
     fn minus(self, other: Self) -> Self
-        requires { number other ≤ number self }
+        requires enough { number other ≤ number self }
         ensures difference { number result + number other ≡ number self }
         ensures fits { number self ≤ most };
 
     // Each number up to `most` is that of one length, and lengths compare as their numbers.
-    ghost counted: { IsCounted number most Self.cmp Self.eq };
+    ghost counted: { IsNumbered number most Self.cmp Self.eq };
 }
 
 /// Changes nothing. Its contract says that a value in hand is a length.

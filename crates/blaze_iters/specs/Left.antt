@@ -66,8 +66,8 @@ module _ {V I : Type 0} (left : I → List (Entry V)) where
     YieldsOpeningLast s r t = YieldsLastBy view items s r t × IfSome r (λ _. OpensLast s t)
 
 -- a key with what shows its value
-abbrev pub shown_pair : {K R V : Type 0} → (R → V) → K × R → K × V
-shown_pair shown p = (p.0, shown p.1)
+abbrev pub shown_key_value : {K R V : Type 0} → (R → V) → K × R → K × V
+shown_key_value shown p = (p.0, shown p.1)
 
 -- ---- the words of this crate's own functions
 
@@ -80,8 +80,8 @@ abbrev pub IsFull : {V : Type 0} → Option (Entry V) → Type 0
 IsFull None = Unit {0}
 IsFull (Some e) = e.lo ≤ℤ e.hi
 
-abbrev pub AreFull : {V I : Type 0} → RangesLeft V I → Type 0
-AreFull s = IsFull s.front × IsFull s.back
+abbrev pub AreEndsFull : {V I : Type 0} → RangesLeft V I → Type 0
+AreEndsFull s = IsFull s.front × IsFull s.back
 
 -- the key after the first of a range, where it has several
 abbrev pub IsSecond : {K : Type 0} → (K → ℤ) → K → K → Option K → Type 0

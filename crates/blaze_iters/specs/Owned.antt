@@ -3,7 +3,7 @@ use Rattle.std.specs.Prelude.{◌≡◌, ◌<ℤ◌, Bool, true, List, [], ◌�
 use Rattle.std.specs.declared.alloc.AllocError.{AllocError}
 use Rattle.blaze_table.specs.Entries.{Entry}
 use Rattle.blaze_table.specs.Canonical.{IsDisjoint}
-use Rattle.blaze_iters.specs.Left.{RangesLeft, unopened, ranges_left, AreFull, OpensFirst, OpensLast}
+use Rattle.blaze_iters.specs.Left.{RangesLeft, unopened, ranges_left, AreEndsFull, OpensFirst, OpensLast}
 
 -- what an iterator by value has left
 abbrev pub OwnedLeft : Type 0 → Type 0
@@ -14,7 +14,7 @@ owned_ranges s = ranges_left (λ es. es) s
 
 -- no range that is left is empty
 abbrev pub IsOwned : {V : Type 0} → OwnedLeft V → Type 0
-IsOwned s = AreFull s × IsDisjoint s.inner
+IsOwned s = AreEndsFull s × IsDisjoint s.inner
 
 -- the first range that is left has several keys
 abbrev pub HasSeveralFirst : {V : Type 0} → OwnedLeft V → Type 0

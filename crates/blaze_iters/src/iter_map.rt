@@ -3,9 +3,9 @@ ghost use Rattle.std.specs.Prelude.{◌≡◌, [], None, IfSome, IfNone};
 ghost use Rattle.std.specs.Iterator.{item_count, UpTo};
 ghost use Rattle.std.specs.Iterator.SizeHint.{IsWithinCount};
 ghost use Rattle.blaze_table.specs.Pairs.{pair_list};
-ghost use Rattle.blaze_iters.specs.Left.{RangesLeft, unopened, shown_left, AreFull, OpensFirst};
+ghost use Rattle.blaze_iters.specs.Left.{RangesLeft, unopened, shown_left, AreEndsFull, OpensFirst};
 ghost use Rattle.blaze_iters.specs.Left.{OpensLast, YieldsOpeningFirst, YieldsOpeningLast};
-ghost use Rattle.blaze_iters.specs.Left.{ranges_left, pairs_left, shown_pair};
+ghost use Rattle.blaze_iters.specs.Left.{ranges_left, pairs_left, shown_key_value};
 
 use crate::rest::{rest_after, rest_before};
 use blaze_int::Integer;
@@ -23,13 +23,13 @@ pub struct IterMap<T: Integer, VC: ValueCarrier + Copy, I: SortedDisjointMap<T, 
 }
 
 impl<T: Integer, VC: ValueCarrier + Copy, I: SortedDisjointMap<T, VC>> Model for IterMap<T, VC, I> {
-    ghost use Rattle.blaze_iters.specs.Left.{RangesLeft, shown_left, AreFull};
+    ghost use Rattle.blaze_iters.specs.Left.{RangesLeft, shown_left, AreEndsFull};
 
     ghost Value = { RangesLeft VC.Value I };
 
     ghost view = { λ s. shown_left T.rank VC.shown s.front s.inner s.back };
 
-    ghost invariant = { λ s. AreFull (shown_left T.rank VC.shown s.front s.inner s.back) };
+    ghost invariant = { λ s. AreEndsFull (shown_left T.rank VC.shown s.front s.inner s.back) };
 }
 
 impl<T: Integer, VC: ValueCarrier + Copy, I: SortedDisjointMap<T, VC>> IterMap<T, VC, I> {
@@ -67,10 +67,10 @@ fn take_first<T: Integer, VC: ValueCarrier, I: SortedDisjointMap<T, VC>>(
     inner: &mut I,
     back: &mut Option<RangeEntry<T, VC>>,
 ) -> Option<RangeEntry<T, VC>>
-    requires { AreFull (shown_left T.rank VC.shown front.old inner.old back.old) }
+    requires { AreEndsFull (shown_left T.rank VC.shown front.old inner.old back.old) }
     ensures left { ranges_left I.left (shown_left T.rank VC.shown front.old inner.old back.old)
         ≡ ranges_left I.left (shown_left T.rank VC.shown result inner.new back.new) }
-    ensures full { AreFull (shown_left T.rank VC.shown result inner.new back.new) }
+    ensures full { AreEndsFull (shown_left T.rank VC.shown result inner.new back.new) }
     ensures front { front.new ≡ None }
     ensures opens { OpensFirst I.left (shown_left T.rank VC.shown front.old inner.old back.old)
         (shown_left T.rank VC.shown front.new inner.new back.new) }
@@ -94,7 +94,7 @@ impl<T: Integer, VC: ValueCarrier + Copy, I: SortedDisjointMap<T, VC>> Iterator
     for IterMap<T, VC, I> {
     type Item = (T, VC);
 
-    ghost next_gives = { YieldsOpeningFirst I.left (shown_pair VC.shown)
+    ghost next_gives = { YieldsOpeningFirst I.left (shown_key_value VC.shown)
         (pairs_left T.of_rank I.left) };
 
     ghost remaining = { item_count (pairs_left T.of_rank I.left) };
@@ -123,10 +123,10 @@ fn take_last<T: Integer, VC: ValueCarrier, I: BothEnds<T, VC>>(
     inner: &mut I,
     back: &mut Option<RangeEntry<T, VC>>,
 ) -> Option<RangeEntry<T, VC>>
-    requires { AreFull (shown_left T.rank VC.shown front.old inner.old back.old) }
+    requires { AreEndsFull (shown_left T.rank VC.shown front.old inner.old back.old) }
     ensures left { ranges_left I.left (shown_left T.rank VC.shown front.old inner.old back.old)
         ≡ ranges_left I.left (shown_left T.rank VC.shown front.new inner.new result) }
-    ensures full { AreFull (shown_left T.rank VC.shown front.new inner.new result) }
+    ensures full { AreEndsFull (shown_left T.rank VC.shown front.new inner.new result) }
     ensures back { back.new ≡ None }
     ensures opens { OpensLast I.left (shown_left T.rank VC.shown front.old inner.old back.old)
         (shown_left T.rank VC.shown front.new inner.new back.new) }
@@ -148,7 +148,7 @@ fn take_last<T: Integer, VC: ValueCarrier, I: BothEnds<T, VC>>(
 
 impl<T: Integer, VC: ValueCarrier + Copy, I: BothEnds<T, VC>> DoubleEndedIterator
     for IterMap<T, VC, I> {
-    ghost next_back_gives = { YieldsOpeningLast I.left (shown_pair VC.shown)
+    ghost next_back_gives = { YieldsOpeningLast I.left (shown_key_value VC.shown)
         (pairs_left T.of_rank I.left) };
 
     fn next_back(&mut self) -> Option<(T, VC)> {

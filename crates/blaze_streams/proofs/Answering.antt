@@ -16,7 +16,7 @@ use Rattle.blaze_table.proofs.Canonical.Counted.{are_keys_glue}
 use Rattle.blaze_table.proofs.Canonical.Runs.{canonical, one_per_run}
 use Rattle.blaze_table.proofs.Paints.Splices.{canonical_glue, at_glue, below_glue, below_more}
 use Rattle.blaze_table.proofs.Canonical.Lookup.{at_append}
-use Rattle.blaze_streams.specs.Answers.{values, answered, EachValue, AnswersAt, SomeCallAt, TakesValue, IsCallableAtEach, IsTransformed}
+use Rattle.blaze_streams.specs.Answers.{values, answered, EachValue, AnswersAtValue, SomeCallAtValue, TakesValue, IsCallableAtEachValue, IsTransformed}
 use Rattle.blaze_streams.specs.Cursors.{first_key}
 use Rattle.blaze_streams.proofs.Steady.{same_some}
 
@@ -44,13 +44,13 @@ each_next P (x ∷ xs) es left e h is = each_next P xs es left e h.1 is
 module _ {F A V W : Type 0} (shows : A → V) (g : Mut F A W) where
   -- the calls, one after another
   abbrev pub CallOf : F → Entry V × W → F → Type 0
-  CallOf j c k = AnswersAt shows g j c.0.value c.1 k
+  CallOf j c k = AnswersAtValue shows g j c.0.value c.1 k
 
-  some_calls : (calls : List (Entry V × W)) (f f' : F) → FoldsTo CallOf f calls f' → FoldsTo (SomeCallAt shows g) f (values (asked calls)) f'
+  some_calls : (calls : List (Entry V × W)) (f f' : F) → FoldsTo CallOf f calls f' → FoldsTo (SomeCallAtValue shows g) f (values (asked calls)) f'
   some_calls [] f f' h = h
   some_calls (c ∷ cs) f f' h = (h.0, (c.1, h.1), some_calls cs h.0 f' h.2)
 
-  in_turn : (calls : List (Entry V × W)) (f f' : F) → FoldsTo CallOf f calls f' → FoldsTo (λ j c k. AnswersAt shows g j c.0 c.1 k) f (zip (values (asked calls)) (map (λ c. c.1) calls)) f'
+  in_turn : (calls : List (Entry V × W)) (f f' : F) → FoldsTo CallOf f calls f' → FoldsTo (λ j c k. AnswersAtValue shows g j c.0 c.1 k) f (zip (values (asked calls)) (map (λ c. c.1) calls)) f'
   in_turn [] f f' h = h
   in_turn (c ∷ cs) f f' h = (h.0, h.1, in_turn cs h.0 f' h.2)
 
@@ -92,7 +92,7 @@ module _ {F A V W : Type 0} (shows : A → V) (g : Mut F A W) where
     }
 
     -- the closure may be called at the next entry
-    pub takes_next : IsCallableAtEach shows g f (values all) → (left others : List (Entry V)) (e : Entry V) (f' : F) (out : List (Entry W)) → IsAnsweredSoFar left f' out → left ≡ e ∷ others → TakesValue shows g f' e.value
+    pub takes_next : IsCallableAtEachValue shows g f (values all) → (left others : List (Entry V)) (e : Entry V) (f' : F) (out : List (Entry W)) → IsAnsweredSoFar left f' out → left ≡ e ∷ others → TakesValue shows g f' e.value
     takes_next may left others e f' out h is =
         may.at (values (asked h.calls)) (values others) e.value f'
         (ap values (h.whole ∙ ap (λ l. asked h.calls ++ l) is) ∙ values_append (asked h.calls) (e ∷ others))
@@ -107,7 +107,7 @@ module _ {F A V W : Type 0} (shows : A → V) (g : Mut F A W) where
 
       -- one answer more
       pub answered_more : (left others : List (Entry V)) (e : Entry V) (f' f'' : F) (out new : List (Entry W)) (w : W) (lo hi : ℤ)
-          → IsAnsweredSoFar left f' out → left ≡ e ∷ others → AnswersAt shows g f' e.value w f'' → lo ≡ e.lo → hi ≡ e.hi → new ≡ glue eq out (entry lo hi w ∷ []) → IsAnsweredSoFar others f'' new
+          → IsAnsweredSoFar left f' out → left ≡ e ∷ others → AnswersAtValue shows g f' e.value w f'' → lo ≡ e.lo → hi ≡ e.hi → new ≡ glue eq out (entry lo hi w ∷ []) → IsAnsweredSoFar others f'' new
       answered_more left others e f' f'' out new w lo hi h is answer starts ends put =
           let pushed = put ∙ ap (λ z. glue eq out (entry z hi w ∷ [])) starts ∙ ap (λ z. glue eq out (entry e.lo z w ∷ [])) ends in
           let c = subst (IsCanonical eqv) is h.left_is in
@@ -138,7 +138,7 @@ module _ {F A V W : Type 0} (shows : A → V) (g : Mut F A W) where
             in_turn = record {
               last = f';
               count = many h.calls ∙ ap (λ l. length (values l)) (sym entries);
-              calls = subst (λ l. FoldsTo (λ j c k. AnswersAt shows g j c.0 c.1 k) f (zip (values l) (map (λ c. c.1) h.calls)) f') (sym entries) (in_turn h.calls f f' h.turns);
+              calls = subst (λ l. FoldsTo (λ j c k. AnswersAtValue shows g j c.0 c.1 k) f (zip (values l) (map (λ c. c.1) h.calls)) f') (sym entries) (in_turn h.calls f f' h.turns);
             };
             range_map = record { runs = one_per_run eq laws out h.canonical; keys = h.keys };
             content = λ k. same_along eq refl (ap (λ l. at l k) (sym (made h.calls) ∙ ap (λ l. answered l (map (λ c. c.1) h.calls)) (sym entries))) (h.content k);

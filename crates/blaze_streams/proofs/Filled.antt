@@ -9,7 +9,7 @@ use Rattle.blaze_table.specs.Entries.{Entry, entry, at}
 use Rattle.blaze_table.specs.Canonical.{IsApart, IsCanonical, AreKeys, IsRangeMap}
 use Rattle.blaze_table.proofs.Canonical.Lookup.{IsAbove, IsAbove-from_apart, at_in, at_under, at_over, at_before, by_place, above_low, above_rest}
 use Rattle.blaze_table.proofs.Canonical.Runs.{canonical, one_per_run}
-use Rattle.blaze_streams.specs.Fills.{with_none, none_before, filled_entries, IsFilled}
+use Rattle.blaze_streams.specs.Fills.{with_none, none_before, filled_entries, IsFilledWithNone}
 use Rattle.blaze_streams.proofs.GapLists.{by_gap}
 
 module _ {V : Type 0} (eq : V → V → Bool) (high : ℤ) where
@@ -93,7 +93,7 @@ module _ {V : Type 0} (high n : ℤ) (old mid new all : List (Entry (Option V)))
       ∙ ap (λ es. old ++ filled_entries n high es) (sym is) ∙ i
 
 module _ {V : Type 0} (eq : V → V → Bool) (laws : IsEquivalence eq) (low high : ℤ) (es : List (Entry V)) (r : IsRangeMap eq low high es) where
-  filled_all : IsFilled eq low high es (filled_entries low high es)
+  filled_all : IsFilledWithNone eq low high es (filled_entries low high es)
   filled_all =
       let c = canonical eq laws es r.runs in
       let above = above_low low high es r.keys in
@@ -103,5 +103,5 @@ module _ {V : Type 0} (eq : V → V → Bool) (laws : IsEquivalence eq) (low hig
       }
 
   -- what was made, range by range
-  pub fill_made : (n : ℤ) (old new : List (Entry (Option V))) (left : List (Entry V)) → old ++ filled_entries n high left ≡ filled_entries low high es → left ≡ [] → new ≡ old ++ none_before n (high +ℤ pos 1) → IsFilled eq low high es new
-  fill_made n old new left i is pushed = subst (IsFilled eq low high es) (sym (pushed ∙ ap (λ es. old ++ filled_entries n high es) (sym is) ∙ i)) filled_all
+  pub fill_made : (n : ℤ) (old new : List (Entry (Option V))) (left : List (Entry V)) → old ++ filled_entries n high left ≡ filled_entries low high es → left ≡ [] → new ≡ old ++ none_before n (high +ℤ pos 1) → IsFilledWithNone eq low high es new
+  fill_made n old new left i is pushed = subst (IsFilledWithNone eq low high es) (sym (pushed ∙ ap (λ es. old ++ filled_entries n high es) (sym is) ∙ i)) filled_all

@@ -21,7 +21,7 @@ EachValue P (e ∷ es) = P e.value × EachValue P es
 -- `shows` is the value that the arguments of a call stand for
 module _ {F A V W : Type 0} (shows : A → V) (g : Mut F A W) where
   -- a call of f with arguments that stand for v may answer w, and leave f as f'
-  pub record AnswersAt (f : F) (v : V) (w : W) (f' : F) : Type 0 where
+  pub record AnswersAtValue (f : F) (v : V) (w : W) (f' : F) : Type 0 where
     pub arguments : A
     pub shown : shows arguments ≡ v
     pub called : Called g f arguments w f'
@@ -31,18 +31,18 @@ module _ {F A V W : Type 0} (shows : A → V) (g : Mut F A W) where
   TakesValue f v = (arguments : A) → shows arguments ≡ v → Takes g f arguments
 
   -- a call of f at v may leave f'
-  abbrev pub SomeCallAt : F → V → F → Type 0
-  SomeCallAt f v f' = (w : W) × AnswersAt f v w f'
+  abbrev pub SomeCallAtValue : F → V → F → Type 0
+  SomeCallAtValue f v f' = (w : W) × AnswersAtValue f v w f'
 
   -- f may be called at each value in turn, in the state that the calls at those before leave
-  pub record IsCallableAtEach (f : F) (vs : List V) : Type 0 where
-    pub at : (before after : List V) (v : V) (f' : F) → vs ≡ before ++ v ∷ after → FoldsTo SomeCallAt f before f' → TakesValue f' v
+  pub record IsCallableAtEachValue (f : F) (vs : List V) : Type 0 where
+    pub at : (before after : List V) (v : V) (f' : F) → vs ≡ before ++ v ∷ after → FoldsTo SomeCallAtValue f before f' → TakesValue f' v
 
   -- what f answers at the values: one answer for each, in order, each in the state that the calls before leave
   pub record AnswersInTurn (f : F) (vs : List V) (answers : List W) : Type 0 where
     pub last : F
     pub count : length answers ≡ length vs
-    pub calls : FoldsTo (λ j c k. AnswersAt j c.0 c.1 k) f (zip vs answers) last
+    pub calls : FoldsTo (λ j c k. AnswersAtValue j c.0 c.1 k) f (zip vs answers) last
 
   -- a range map that has at each key of an entry what f answers at that entry, and nothing at all other keys
   pub record IsTransformed (eq : W → W → Bool) (low high : ℤ) (f : F) (entries : List (Entry V)) (new : List (Entry W)) : Type 0 where

@@ -6,7 +6,7 @@ use Rattle.blaze_table.specs.Canonical.{IsRangeMap}
 use Rattle.blaze_streams.specs.Gaps.{gap_before}
 
 -- a range map that has at each key, as a value, what the entries have there: `Some` of their value, or `None`
-pub record IsFilled {V : Type 0} (eq : V → V → Bool) (low high : ℤ) (entries : List (Entry V)) (new : List (Entry (Option V))) : Type 0 where
+pub record IsFilledWithNone {V : Type 0} (eq : V → V → Bool) (low high : ℤ) (entries : List (Entry V)) (new : List (Entry (Option V))) : Type 0 where
   pub range_map : IsRangeMap (option_eq eq) low high new
   pub content : (k : ℤ) → low ≤ℤ k → k ≤ℤ high → at new k ≡ Some (at entries k)
 

@@ -4,7 +4,7 @@ use Rattle.std.specs.Fn.{Mut}
 use Rattle.blaze_table.specs.Entries.{Entry}
 use Rattle.blaze_streams.specs.declared.segmenting.joins.JoinKind.{JoinKind}
 use Rattle.blaze_streams.specs.Carried.{shown_option}
-use Rattle.blaze_streams.specs.Answers.{values, IsCallableAtEach, IsTransformed}
+use Rattle.blaze_streams.specs.Answers.{values, IsCallableAtEachValue, IsTransformed}
 use Rattle.blaze_streams.specs.Joins.{IsJoinOf}
 
 -- what two lists have where the two arguments of a call stand for it
@@ -23,7 +23,7 @@ both left right a = (Some (left a.0), Some (right a.1.0))
 module _ {F X W A B : Type 0} (shows : X → Option A × Option B) (g : Mut F X W) (eqa : A → A → Bool) (eqb : B → B → Bool) (low high : ℤ) (kind : JoinKind) where
   -- f may be called at each segment that the join is asked for in turn, in the state that the calls at those before leave
   pub record IsCallableAtSegments (f : F) (left : List (Entry A)) (right : List (Entry B)) : Type 0 where
-    pub at : (segments : List (Entry (Option A × Option B))) → IsJoinOf eqa eqb low high kind left right segments → IsCallableAtEach shows g f (values segments)
+    pub at : (segments : List (Entry (Option A × Option B))) → IsJoinOf eqa eqb low high kind left right segments → IsCallableAtEachValue shows g f (values segments)
 
   -- a range map that has at each key of a segment that the join is asked for what f answers there, and nothing at all other
   -- keys: one call for each of these segments, in order

@@ -1,7 +1,7 @@
 //! How a closure is asked at a carrier: which arguments it gets.
 ghost use Rattle.std.specs.Prelude.{◌≡◌, true, ⊤};
 ghost use Rattle.std.specs.Fn.{Mut};
-ghost use Rattle.blaze_streams.specs.Answers.{TakesValue, AnswersAt};
+ghost use Rattle.blaze_streams.specs.Answers.{TakesValue, AnswersAtValue};
 ghost use Rattle.blaze_streams.specs.Carried.{shown_pair};
 ghost use Rattle.blaze_streams.specs.JoinAnswers.{either, with_left, both};
 ghost use Rattle.blaze_streams.specs.Joins.{is_joined};
@@ -28,7 +28,7 @@ pub trait Asks<F, VC: ValueCarrier, W> {
     fn ask(f: &mut F, carrier: VC) -> W
         requires has { has_arguments (VC.shown carrier) }
         requires callable { TakesValue shows calls f.old (VC.shown carrier) }
-        ensures { AnswersAt shows calls f.old (VC.shown carrier) result f.new };
+        ensures { AnswersAtValue shows calls f.old (VC.shown carrier) result f.new };
 }
 
 /// The closure gets the carrier.
@@ -45,7 +45,7 @@ impl<VC: ValueCarrier, W, F: FnMut(VC) -> W> Asks<F, VC, W> for Whole {
 
     fn ask(f: &mut F, carrier: VC) -> W
         requires callable { TakesValue (λ a. VC.shown a.0) F.FnMut f.old (VC.shown carrier) }
-        ensures { AnswersAt (λ a. VC.shown a.0) F.FnMut f.old (VC.shown carrier) result f.new }
+        ensures { AnswersAtValue (λ a. VC.shown a.0) F.FnMut f.old (VC.shown carrier) result f.new }
     {
         f(carrier)
     }
@@ -70,7 +70,7 @@ impl<VCL: ValueCarrier, VCR: ValueCarrier, W, F: FnMut(Option<VCL>, Option<VCR>)
     fn ask(f: &mut F, carrier: (Option<VCL>, Option<VCR>)) -> W
         requires callable { TakesValue (either VCL.shown VCR.shown) F.FnMut f.old
             (shown_pair VCL.shown VCR.shown carrier) }
-        ensures { AnswersAt (either VCL.shown VCR.shown) F.FnMut f.old
+        ensures { AnswersAtValue (either VCL.shown VCR.shown) F.FnMut f.old
             (shown_pair VCL.shown VCR.shown carrier) result f.new }
     {
         let (left, right) = carrier;
@@ -99,7 +99,7 @@ impl<VCL: ValueCarrier, VCR: ValueCarrier, W, F: FnMut(VCL, Option<VCR>) -> W> A
             pair.1 ≡ true }
         requires callable { TakesValue (with_left VCL.shown VCR.shown) F.FnMut f.old
             (shown_pair VCL.shown VCR.shown carrier) }
-        ensures { AnswersAt (with_left VCL.shown VCR.shown) F.FnMut f.old
+        ensures { AnswersAtValue (with_left VCL.shown VCR.shown) F.FnMut f.old
             (shown_pair VCL.shown VCR.shown carrier) result f.new }
     {
         let (left, right) = carrier;
@@ -129,7 +129,7 @@ impl<VCL: ValueCarrier, VCR: ValueCarrier, W, F: FnMut(VCL, VCR) -> W> Asks<
             pair.1 ≡ true }
         requires callable { TakesValue (both VCL.shown VCR.shown) F.FnMut f.old
             (shown_pair VCL.shown VCR.shown carrier) }
-        ensures { AnswersAt (both VCL.shown VCR.shown) F.FnMut f.old
+        ensures { AnswersAtValue (both VCL.shown VCR.shown) F.FnMut f.old
             (shown_pair VCL.shown VCR.shown carrier) result f.new }
     {
         let (left, right) = carrier;

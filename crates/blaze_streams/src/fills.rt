@@ -1,7 +1,7 @@
 //! A stream's values at every key.
 ghost use Rattle.std.specs.Prelude.{◌≡◌, pos, ◌+ℤ◌, ◌++◌, IfOk, OnOk};
 ghost use Rattle.blaze_streams.specs.Carried.{shown_option};
-ghost use Rattle.blaze_streams.specs.Fills.{none_before, IsFilled};
+ghost use Rattle.blaze_streams.specs.Fills.{none_before, IsFilledWithNone};
 ghost use Rattle.blaze_streams.specs.Gaps.{rank_or_end};
 ghost use Rattle.blaze_streams.specs.RangeLists.{shown_ranges};
 
@@ -56,7 +56,7 @@ pub fn fill<T: Integer, VC: ValueCarrier, S: SortedDisjointMap<T, VC>>(
     alloc: Global,
     stream: S,
 ) -> Result<CanonMapIter<T, Option<VC>>, AllocError>
-    ensures { IfOk result (λ new. IsFilled VC.Value.eq T.low T.high (S.left stream) new) }
+    ensures { IfOk result (λ new. IsFilledWithNone VC.Value.eq T.low T.high (S.left stream) new) }
 {
     stream.in_hand();
     let mut out = Vec::new(alloc);

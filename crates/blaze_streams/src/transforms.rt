@@ -1,6 +1,6 @@
 //! A stream with what a closure returns at its values.
 ghost use Rattle.std.specs.Prelude.{IfOk};
-ghost use Rattle.blaze_streams.specs.Answers.{values, EachValue, IsCallableAtEach, IsTransformed};
+ghost use Rattle.blaze_streams.specs.Answers.{values, EachValue, IsCallableAtEachValue, IsTransformed};
 
 use crate::asks::{Asks, Whole};
 use crate::carrier::ValueCarrier;
@@ -22,7 +22,7 @@ pub fn answers_of<
     C: Asks<F, VC, W>,
 >(alloc: Global, stream: S, mut f: F) -> Result<CanonMapIter<T, Owned<W>>, AllocError>
     requires have { EachValue C.has_arguments (S.left stream) }
-    requires callable { IsCallableAtEach C.shows C.calls f (values (S.left stream)) }
+    requires callable { IsCallableAtEachValue C.shows C.calls f (values (S.left stream)) }
     ensures { IfOk result (λ new. IsTransformed C.shows C.calls W.eq T.low T.high f
         (S.left stream) new) }
 {
@@ -46,7 +46,7 @@ pub fn transform<
     W: Eq + Clone,
     F: FnMut(VC) -> W,
 >(alloc: Global, stream: S, f: F) -> Result<CanonMapIter<T, Owned<W>>, AllocError>
-    requires { IsCallableAtEach (λ a. VC.shown a.0) F.FnMut f (values (S.left stream)) }
+    requires { IsCallableAtEachValue (λ a. VC.shown a.0) F.FnMut f (values (S.left stream)) }
     ensures { IfOk result (λ new. IsTransformed (λ a. VC.shown a.0) F.FnMut W.eq T.low T.high f
         (S.left stream) new) }
 {

@@ -83,7 +83,7 @@ ArePieces rank placed a b (x ∷ xs) = (a ≤ℤ x.lo) × IsUncovered rank place
 
 -- the pieces below the key a are made, and of the first n pairs those wait that have a key from there on; the others start there
 -- or above
-pub record IsUnderway {T V : Type 0} (rank : T → ℤ) (low : ℤ) (placed : List (Placed T V)) (a : ℤ) (n : ℕ) (waits : List (ℕ × ℕ)) (pieces : List (Entry ℕ)) : Type 0 where
+pub record IsSweptSoFar {T V : Type 0} (rank : T → ℤ) (low : ℤ) (placed : List (Placed T V)) (a : ℤ) (n : ℕ) (waits : List (ℕ × ℕ)) (pieces : List (Entry ℕ)) : Type 0 where
   pub made : ArePieces rank placed low a pieces
   pub started : All (HasStarted rank placed a) waits
   pub complete : (j : ℕ) (p : Placed T V) → slice_get placed j ≡ Some p → j < n → a ≤ℤ rank p.end → Contains waits (p.place, j)

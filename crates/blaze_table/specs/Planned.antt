@@ -118,7 +118,7 @@ pub record IsPutAt {V : Type 0} (eq : V → V → Bool) (p : Entry V) (old new :
   pub put : new ≡ before p.lo old ++ p ∷ above
 
 -- the entry that starts at f ends at z, and behind it is what lies above z
-pub record IsExtended {V : Type 0} (eq : V → V → Bool) (f z : ℤ) (old new : List (Entry V)) : Type 0 where
+pub record IsEndPut {V : Type 0} (eq : V → V → Bool) (f z : ℤ) (old new : List (Entry V)) : Type 0 where
   pub of : Entry V
   pub found : start_at f old ≡ Some of
   pub above : List (Entry V)

@@ -21,6 +21,6 @@ AreApart b [] = Unit {0}
 AreApart b (e ∷ es) = (b ≤ℤ e.lo) × (e.lo ≤ℤ e.hi) × AreApart (e.hi +ℤ pos 1) es
 
 -- the key after the last one, and the least key where there is no last one
-abbrev pub first_from : {T : Type 0} → (T → ℤ) → ℤ → Option T → ℤ
-first_from rank low None = low
-first_from rank low (Some end) = rank end +ℤ pos 1
+abbrev pub key_after : {T : Type 0} → (T → ℤ) → ℤ → Option T → ℤ
+key_after rank low None = low
+key_after rank low (Some end) = rank end +ℤ pos 1

@@ -1,6 +1,7 @@
 //! The table.
 ghost use Rattle.std.specs.Prelude.{◌≡◌, ◌↔◌, ◌-◌, ◌≤ℤ◌, int_lt, pos, [], length, slice_get, find};
 ghost use Rattle.std.specs.Prelude.{reverse, false, None, Ok, IfOk, OnOk, OnErr, IsTrue, option_map};
+ghost use Rattle.blaze_entries.specs.Starts.{from};
 ghost use Rattle.blaze_table.specs.Counted.{uncounted};
 ghost use Rattle.blaze_table.specs.Entries.{entry, at, entry_at, shown_entry, SameOption, shown_list};
 ghost use Rattle.blaze_table.specs.Entries.{SameEntries};
@@ -152,6 +153,13 @@ impl<T: Integer, V: Eq> RangeTable<T, V> {
         entries_ending_from(&self.entries, key)
     }
 
+    /// The entries that start at a key or above it, ascending: first key, last key and value. It takes one search.
+    pub fn iter_starting_from(&self, key: T) -> Range<'_, T, V>
+        ensures { result ≡ from (T.rank key) self.now.entries }
+    {
+        self.entries.iter_starting_from(key)
+    }
+
     /// The entries that share a key with the range from `lo` up to `hi`, whole, ascending, from both ends: first key, last key
     /// and value. It takes three searches, and no memory.
     pub fn overlapping(&self, lo: T, hi: T) -> Range<'_, T, V>
@@ -174,7 +182,7 @@ impl<T: Integer, V: Eq> RangeTable<T, V> {
 impl<T: Integer, V: Eq + Drop> RangeTable<T, V> {
     /// The table of a canonical list of entries: first key, last key and value. Refused memory drops the list.
     pub fn from_canonical(alloc: Global, entries: Vec<(T, T, V)>) -> Result<Self, AllocError>
-        requires { IsRangeMap V.eq T.low T.high (shown_list T.rank entries.items) }
+        requires range_map { IsRangeMap V.eq T.low T.high (shown_list T.rank entries.items) }
         ensures { IfOk result (λ table. table ≡ uncounted (shown_list T.rank entries.items)) }
     {
         let len = count_list(entries.as_slice());

@@ -7,14 +7,14 @@ use Rattle.demo_keys.specs.declared.weekday.Weekday.{Weekday}
 use Rattle.demo_keys.specs.declared.weekday.Weekday.TheVariants.{Monday, Tuesday, Wednesday, Thursday, Friday, Saturday, Sunday}
 
 -- how many days after Monday
-abbrev pub number_of : Weekday → ℕ
-number_of Monday = 0
-number_of Tuesday = 1
-number_of Wednesday = 2
-number_of Thursday = 3
-number_of Friday = 4
-number_of Saturday = 5
-number_of Sunday = 6
+abbrev pub days_after_monday : Weekday → ℕ
+days_after_monday Monday = 0
+days_after_monday Tuesday = 1
+days_after_monday Wednesday = 2
+days_after_monday Thursday = 3
+days_after_monday Friday = 4
+days_after_monday Saturday = 5
+days_after_monday Sunday = 6
 
 -- the day that many days after Monday
 abbrev pub day_at : ℕ → Weekday
@@ -26,14 +26,14 @@ day_at (suc (suc (suc (suc zero)))) = Friday
 day_at (suc (suc (suc (suc (suc zero))))) = Saturday
 day_at (suc (suc (suc (suc (suc (suc n)))))) = Sunday
 
-pub day_at-number_of : (day : Weekday) → day_at (number_of day) ≡ day
-day_at-number_of Monday = refl
-day_at-number_of Tuesday = refl
-day_at-number_of Wednesday = refl
-day_at-number_of Thursday = refl
-day_at-number_of Friday = refl
-day_at-number_of Saturday = refl
-day_at-number_of Sunday = refl
+pub day_at-days_after_monday : (day : Weekday) → day_at (days_after_monday day) ≡ day
+day_at-days_after_monday Monday = refl
+day_at-days_after_monday Tuesday = refl
+day_at-days_after_monday Wednesday = refl
+day_at-days_after_monday Thursday = refl
+day_at-days_after_monday Friday = refl
+day_at-days_after_monday Saturday = refl
+day_at-days_after_monday Sunday = refl
 
-pub number_of-day_at : (n : ℕ) → pos 0 ≤ℤ pos n → pos n ≤ℤ pos 6 → number_of (day_at n) ≡ n
-number_of-day_at n l h = grind (arith, nat_tests, ints)
+pub days_after_monday-day_at : (n : ℕ) → pos 0 ≤ℤ pos n → pos n ≤ℤ pos 6 → days_after_monday (day_at n) ≡ n
+days_after_monday-day_at n l h = grind (arith, nat_tests, ints)

@@ -20,7 +20,7 @@ pub enum Weekday {
 }
 
 impl Weekday {
-    ghost use Rattle.demo_keys.specs.Weekday.{number_of, day_at};
+    ghost use Rattle.demo_keys.specs.Weekday.{days_after_monday, day_at};
 
     const ALL: [Weekday; 7] = [
         Weekday::Monday,
@@ -42,19 +42,19 @@ impl Weekday {
 
     /// How many days after Monday.
     fn number(self) -> u16
-        ensures { result ≡ number_of self }
+        ensures { result ≡ days_after_monday self }
     {
         self as u16
     }
 }
 
 impl Integer for Weekday {
-    ghost use Rattle.demo_keys.specs.Weekday.{number_of, day_at, day_at-number_of, number_of-day_at};
+    ghost use Rattle.demo_keys.specs.Weekday.{days_after_monday, day_at, day_at-days_after_monday, days_after_monday-day_at};
     ghost use Rattle.std.proofs.Common.{rules};
 
     type SafeLen = u16;
 
-    ghost rank = { λ day. pos (number_of day) };
+    ghost rank = { λ day. pos (days_after_monday day) };
 
     ghost of_rank = { λ z. day_at (nat_of z) };
 
@@ -86,7 +86,7 @@ impl Integer for Weekday {
         r.end().number() - r.start().number() + 1
     }
 
-    ghost ranked = { ranked-along number_of day_at (unsigned-ranked 6) day_at-number_of number_of-day_at (Prim.search rules) (Prim.search rules) };
+    ghost ranked = { ranked-along days_after_monday day_at (unsigned-ranked 6) day_at-days_after_monday days_after_monday-day_at (Prim.search rules) (Prim.search rules) };
 
     ghost has_room = { unsigned-room 6 (2 ^ 16 - 1) (lit≤ tt) };
 }

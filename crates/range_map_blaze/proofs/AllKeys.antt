@@ -8,12 +8,12 @@ use Rattle.blaze_entries.proofs.Alike.{same_along}
 use Rattle.blaze_table.specs.Entries.{Entry, at, SameOption, SameEntries}
 use Rattle.blaze_table.proofs.Paints.Painted.{content_as}
 use Rattle.blaze_table.proofs.Canonical.Unique.{back}
-use Rattle.blaze_streams.specs.Fills.{IsFilled}
+use Rattle.blaze_streams.specs.Fills.{IsFilledWithNone}
 use Rattle.range_map_blaze.specs.GapsFilled.{AreGapsFilled}
 use Rattle.range_map_blaze.proofs.Streams.{range_map_as}
 
 module _ {V : Type 0} (eq : V → V → Bool) (laws : IsEquivalence eq) (low high : ℤ) (entries : List (Entry V)) where
-  pub gaps_filled : (filled new : List (Entry (Option V))) → IsFilled eq low high entries filled → SameEntries (option_eq eq) filled new → AreGapsFilled eq low high entries new
+  pub gaps_filled : (filled new : List (Entry (Option V))) → IsFilledWithNone eq low high entries filled → SameEntries (option_eq eq) filled new → AreGapsFilled eq low high entries new
   gaps_filled filled new f s = record {
     range_map = range_map_as (option_eq eq) (options_equiv laws) low high filled new s f.range_map;
     content = λ k l u. same_along (option_eq eq) refl (f.content k l u) (back (option_eq eq) (options_equiv laws) filled new (content_as (option_eq eq) (options_equiv laws) filled new s) k);

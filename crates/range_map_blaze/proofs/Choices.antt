@@ -111,3 +111,16 @@ module _ {V : Type 0} (eq : V → V → Bool) (laws : IsEquivalence eq) (low hig
     range_map = u.range_map;
     content = λ k. either_alone (at left k) (at right k) (at left_off k) (at right_off k) (at new k) (l.content k) (r.content k) (u.content k);
   }
+
+  -- of the values on the keys that exactly one of two maps has, either may be named first
+  xor_turned : (x y : Option V) → option_xor x y ≡ option_xor y x
+  xor_turned None None = refl
+  xor_turned None (Some y) = refl
+  xor_turned (Some x) None = refl
+  xor_turned (Some x) (Some y) = refl
+
+  pub either_first : (left right new : List (Entry V)) → IsChosen eq low high option_xor right left new → IsChosen eq low high option_xor left right new
+  either_first left right new c = record {
+    range_map = c.range_map;
+    content = λ k. subst (SameOption eq (at new k)) (xor_turned (at right k) (at left k)) (c.content k);
+  }

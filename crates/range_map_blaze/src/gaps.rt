@@ -2,7 +2,7 @@
 ghost use Rattle.std.specs.Iterator.{item_count};
 ghost use Rattle.std.specs.Prelude.{◌≡◌, ◌≤ℤ◌, IfSome, ℤ, IsSome, IfOk};
 ghost use Rattle.blaze_int.specs.Bounds.{start_rank, end_rank};
-ghost use Rattle.blaze_streams.specs.Fills.{IsFilled};
+ghost use Rattle.blaze_streams.specs.Fills.{IsFilledWithNone};
 ghost use Rattle.blaze_table.specs.Chosen.{left_alone, IsChosen};
 ghost use Rattle.blaze_table.specs.Entries.{at};
 ghost use Rattle.blaze_table.specs.Painted.{ClonesAreAlike};
@@ -120,7 +120,7 @@ fn with_gaps<T: Integer, V: Eq + Clone>(
     alloc: Global,
     table: &RangeTable<T, V>,
 ) -> Result<CanonMapIter<T, Option<&V>>, AllocError>
-    ensures { IfOk result (λ new. IsFilled V.eq T.low T.high table.now.entries new) }
+    ensures { IfOk result (λ new. IsFilledWithNone V.eq T.low T.high table.now.entries new) }
 {
     blaze_streams::fill(alloc, RangeValuesIter::new(table))
 }

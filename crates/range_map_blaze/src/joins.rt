@@ -1,6 +1,6 @@
 //! Joins of two maps, and a map with other values: what a closure returns, once for each segment or entry.
 ghost use Rattle.std.specs.Prelude.{◌≡◌, true, IfOk};
-ghost use Rattle.blaze_streams.specs.Answers.{values, EachValue, IsCallableAtEach, IsTransformed};
+ghost use Rattle.blaze_streams.specs.Answers.{values, EachValue, IsCallableAtEachValue, IsTransformed};
 ghost use Rattle.blaze_streams.specs.JoinAnswers.{either, both, with_left, IsCallableAtSegments};
 ghost use Rattle.blaze_streams.specs.JoinAnswers.{IsJoined};
 ghost use Rattle.blaze_streams.specs.Joins.{is_joined, IsJoinOf};
@@ -42,7 +42,7 @@ fn transformed<'a, T: Integer, V: Eq + Clone, W: Eq + Clone, F: Drop, C: Asks<F,
     f: F,
 ) -> Result<CanonMapIter<T, Owned<W>>, AllocError>
     requires have { EachValue C.has_arguments table.now.entries }
-    requires callable { IsCallableAtEach C.shows C.calls f (values table.now.entries) }
+    requires callable { IsCallableAtEachValue C.shows C.calls f (values table.now.entries) }
     ensures { IfOk result (λ new. IsTransformed C.shows C.calls W.eq T.low T.high f
         table.now.entries new) }
 {
@@ -102,7 +102,7 @@ impl<T: Integer, V: Eq + Clone> RangeMapBlaze<T, V> {
         &self,
         f: F,
     ) -> Result<RangeMapBlaze<T, W>, AllocError>
-        requires { IsCallableAtEach (λ a. a.0.now) F.FnMut f (values self.now.entries) }
+        requires { IsCallableAtEachValue (λ a. a.0.now) F.FnMut f (values self.now.entries) }
         ensures { IfOk result (IsMade (IsTransformed (λ a. a.0.now) F.FnMut W.eq T.low T.high f
             self.now.entries)) }
     {

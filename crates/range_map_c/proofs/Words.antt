@@ -30,7 +30,7 @@ use Rattle.std_heap.specs.contracts.Global as global
 use Rattle.std_heap.proofs.Global.TheLaws as heap_laws
 use Rattle.std_heap.specs.declared.Global.{Global}
 use Rattle.std_heap.specs.contracts.GlobalAllocator.TheImpl.{ghosts, dict}
-use Rattle.range_map_c.specs.Handle.{Entries, entries_of, handle_owns, box_of_map}
+use Rattle.range_map_c.specs.Handle.{Entries, row_entries, handle_owns, box_of_map}
 use Rattle.range_map_c.specs.contracts.handle.RangeMap as range_map
 use Rattle.range_map_c.specs.contracts.handle.Parts as parts
 
@@ -74,14 +74,14 @@ module _ {M : Type 1} {𝓤 : Ura M} (𝓛 : Logic 𝓤) (a : Global) (p : Ptr) 
 
 module _ {M : Type 1} {𝓤 : Ura M} {𝓛 : Logic 𝓤} {K : Type 0} {Γ : List (Item 𝓤)} {G : Goal 𝓤 𝓛.H} where
   pub either : K → (a : Global) (p : Ptr) (es : Entries) → (p ≡ null_ptr → es ≡ [] → Seq K 𝓛 Γ G)
-      → ((b o : ℕ) (x : R.Denot) → p ≡ block_ptr b o → es ≡ entries_of x → Testable (block_ptr b o) → Seq K 𝓛 (‵ (box_of_map a (block_ptr b o) x) ∷ Γ) G) → Seq K 𝓛 (‵ (handle_owns a p es) ∷ Γ) G
+      → ((b o : ℕ) (x : R.Denot) → p ≡ block_ptr b o → es ≡ row_entries x → Testable (block_ptr b o) → Seq K 𝓛 (‵ (box_of_map a (block_ptr b o) x) ∷ Γ) G) → Seq K 𝓛 (‵ (handle_owns a p es) ∷ Γ) G
   either t a null_ptr es none one = feq_l t (λ e. none refl e)
   either t a (block_ptr b o) es none one = fpick t (λ x. fsplit t $ feq_l t (λ e.
       use1 𝓛 (given (Testable (block_ptr b o)) (‵ (box_of_map a (block_ptr b o) x))) (tested 𝓛 a (block_ptr b o) x) $ learn t (λ may. one b o x refl e may)))
 
-  pub boxed_in : K → (a : Global) (b o : ℕ) (x : R.Denot) → Step K 𝓛 (‵ (handle_owns a (block_ptr b o) (entries_of x)) ∷ Γ) G (‵ (box_of_map a (block_ptr b o) x) ∷ Γ) G
-  boxed_in t a b o x = step (λ s. feq_i t Entries (entries_of x) (entries_of x) refl $ fjoin t $
-      fpack t R.Denot (λ y. fsep (feq Entries (entries_of x) (entries_of y)) (box_of_map a (block_ptr b o) y)) x $ s)
+  pub boxed_in : K → (a : Global) (b o : ℕ) (x : R.Denot) → Step K 𝓛 (‵ (handle_owns a (block_ptr b o) (row_entries x)) ∷ Γ) G (‵ (box_of_map a (block_ptr b o) x) ∷ Γ) G
+  boxed_in t a b o x = step (λ s. feq_i t Entries (row_entries x) (row_entries x) refl $ fjoin t $
+      fpack t R.Denot (λ y. fsep (feq Entries (row_entries x) (row_entries y)) (box_of_map a (block_ptr b o) y)) x $ s)
 
 -- The same of the parts of a box.
 module _ (X : RattleType) where

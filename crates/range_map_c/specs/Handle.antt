@@ -17,13 +17,13 @@ Entries = List (Entry ℕ)
 abbrev pub entries_code : Coded Entries
 entries_code = coded_list (entry_code coded_ℕ)
 
-abbrev pub entries_of : the_row.Denot → Entries
-entries_of x = x.map.entries
+abbrev pub row_entries : the_row.Denot → Entries
+row_entries x = x.map.entries
 
 -- the entries of the map in a box, and none where there is no box
 abbrev pub entries_in : Option (Box the_row.Denot Global) → Entries
 entries_in None = []
-entries_in (Some boxed) = entries_of boxed.value
+entries_in (Some boxed) = row_entries boxed.value
 
 -- what a box of a map at the pointer owns
 abbrev pub box_of_map : Global → Ptr → the_row.Denot → Fml
@@ -32,7 +32,7 @@ box_of_map alloc = box_owns (ghosts.dealloc_token alloc) the_row
 -- nothing at null, where there are no entries, and else what a box owns of a map with the entries
 abbrev pub handle_owns : Global → Ptr → Entries → Fml
 handle_owns alloc null_ptr es = feq Entries es []
-handle_owns alloc (block_ptr b o) es = fex the_row.Denot (λ x. fsep (feq Entries es (entries_of x)) (box_of_map alloc (block_ptr b o) x))
+handle_owns alloc (block_ptr b o) es = fex the_row.Denot (λ x. fsep (feq Entries es (row_entries x)) (box_of_map alloc (block_ptr b o) x))
 
 abbrev pub least_key : ℤ
 least_key = negsuc (2 ^ 63 - 1)

@@ -15,7 +15,7 @@ use Rattle.blaze_table.specs.Canonical.{IsOnePerRun, IsDisjoint, IsAscending, Is
 use Rattle.blaze_table.proofs.Canonical.Lookup.{at_clear}
 use Rattle.range_map_blaze.specs.Printed as printed
 use Rattle.range_map_cli.specs.Commands.{is_word, Entries}
-use Rattle.range_map_cli.specs.Replies.{Replies, entry_text, entries_text}
+use Rattle.range_map_cli.specs.Replies.{Replies, listed_entry, listed_entries}
 use Rattle.range_map_cli.specs.States.{content_of, HasWords}
 use Rattle.range_map_cli.proofs.Contents.{words_if}
 
@@ -136,17 +136,17 @@ key_text z = Some (signed_decimal z)
 abbrev value_text : String Global → Option (List ℕ)
 value_text s = debug_str (string_bytes s)
 
-text_of_entry : (e : Entry (String Global)) → is_word (string_bytes e.value) ≡ true → printed.entry_text key_text (λ z. z) value_text e ≡ Some (entry_text (word_entry e))
+text_of_entry : (e : Entry (String Global)) → is_word (string_bytes e.value) ≡ true → printed.entry_text key_text (λ z. z) value_text e ≡ Some (listed_entry (word_entry e))
 text_of_entry e good =
     rw (debug_word (string_bytes e.value) good)
     (ap (λ l. Some (codes "(" ++ (signed_decimal e.lo ++ (codes "..=" ++ (signed_decimal e.hi ++ (codes ", " ++ (codes "\"" ++ l))))))) (append_assoc (string_bytes e.value) (34 ∷ []) (41 ∷ [])))
 
-texts_from : (lead : List ℕ) (e : Entry (String Global)) (es : List (Entry (String Global))) → AreWords (e ∷ es) → printed.entries_text key_text (λ z. z) value_text lead (e ∷ es) ≡ Some (lead ++ entries_text (word_entries (e ∷ es)))
-texts_from lead e [] words = rw (text_of_entry e words.0) (ap Some (append-nil (lead ++ entry_text (word_entry e))))
-texts_from lead e (f ∷ es) words = rw (text_of_entry e words.0, texts_from (codes ", ") f es words.1) (ap Some (append_assoc lead (entry_text (word_entry e)) (codes ", " ++ entries_text (word_entries (f ∷ es)))))
+texts_from : (lead : List ℕ) (e : Entry (String Global)) (es : List (Entry (String Global))) → AreWords (e ∷ es) → printed.entries_text key_text (λ z. z) value_text lead (e ∷ es) ≡ Some (lead ++ listed_entries (word_entries (e ∷ es)))
+texts_from lead e [] words = rw (text_of_entry e words.0) (ap Some (append-nil (lead ++ listed_entry (word_entry e))))
+texts_from lead e (f ∷ es) words = rw (text_of_entry e words.0, texts_from (codes ", ") f es words.1) (ap Some (append_assoc lead (listed_entry (word_entry e)) (codes ", " ++ listed_entries (word_entries (f ∷ es)))))
 
 -- the printed text of a range map of words
-map_text-words : (es : List (Entry (String Global))) → IsDisjoint es → HasWords (content_of es) → printed.map_text key_text (λ z. z) value_text es ≡ Some (entries_text (word_entries es))
+map_text-words : (es : List (Entry (String Global))) → IsDisjoint es → HasWords (content_of es) → printed.map_text key_text (λ z. z) value_text es ≡ Some (listed_entries (word_entries es))
 map_text-words [] h words = refl
 map_text-words (e ∷ es) h words = texts_from [] e es (are_words (e ∷ es) h words)
 
@@ -154,6 +154,6 @@ map_text-words (e ∷ es) h words = texts_from [] e es (are_words (e ∷ es) h w
 pub Replies-entries : (es : List (Entry (String Global))) (empty bytes : List ℕ) → IsOnePerRun string_eq es → HasWords (content_of es) → empty ≡ []
     → AppendsText empty bytes (option_append (printed.map_text key_text (λ z. z) value_text es) (Some (10 ∷ []))) → Replies (content_of es) Entries bytes
 Replies-entries es empty bytes runs words none written =
-    let text = entries_text (word_entries es) in
+    let text = listed_entries (word_entries es) in
     let all : bytes ≡ empty ++ (text ++ 10 ∷ []) = subst (λ (o : Option (List ℕ)). AppendsText empty bytes (option_append o (Some (10 ∷ [])))) (map_text-words es runs.disjoint words) written in
     (text, (word_entries es, IsOnePerRun-words es runs, at-words es, refl), all ∙ ap (λ l. l ++ (text ++ 10 ∷ [])) none)

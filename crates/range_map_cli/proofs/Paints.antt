@@ -17,7 +17,7 @@ use Rattle.blaze_table.proofs.Pairs.PairLaws.{pairs_are_content}
 use Rattle.blaze_table.proofs.Canonical.Runs.{canonical}
 use Rattle.range_map_blaze.specs.Order.{ranked_pairs}
 use Rattle.range_map_blaze.proofs.Paints.PaintedOver.{last_is_first, painted_over, turned}
-use Rattle.range_map_cli.specs.Laws.{points_of, AppendUndoesSplit, ArePaintedInTurn, UnionIsPainting}
+use Rattle.range_map_cli.specs.Laws.{points_of, AppendUndoesSplit, AreAllPainted, UnionIsPainting}
 use Rattle.range_map_cli.proofs.Stepping.Stepped.{same_back}
 
 -- ---- points
@@ -63,7 +63,7 @@ module _ {V : Type 0} (eq : V → V → Bool) (laws : IsEquivalence eq) (low hig
     range_map : IsRangeMap eq low high new
     content : (k : ℤ) → SameOption eq (at new k) (painted_in_order pairs (at old) k)
 
-  painted_in_turn : (ps old new : List (Entry V)) → IsRangeMap eq low high old → ArePaintedInTurn eq low high ps old new → IsPaintedInOrder ps old new
+  painted_in_turn : (ps old new : List (Entry V)) → IsRangeMap eq low high old → AreAllPainted eq low high ps old new → IsPaintedInOrder ps old new
   painted_in_turn [] old new r same = subst (λ es. IsPaintedInOrder [] old es) same (record { range_map = r; content = λ k. same_itself eq laws (at old k) })
   painted_in_turn (p ∷ ps) old new r (next, one, more) =
       let rest = painted_in_turn ps next new one.range_map more in

@@ -12,7 +12,7 @@ use Rattle.blaze_table.specs.Canonical.{IsRunStart, IsRunEnd, IsRangeMap}
 use Rattle.blaze_table.specs.Gap.{IsGap}
 use Rattle.blaze_table.proofs.Canonical.Lookup.{holds_in, holds_ends}
 use Rattle.range_map_cli.specs.Commands.{At}
-use Rattle.range_map_cli.specs.Pieces.{IsSameFrom, IsPiece}
+use Rattle.range_map_cli.specs.Pieces.{IsSameFrom, IsGreatestPiece}
 use Rattle.range_map_cli.specs.Replies.{Content, greatest_key, least_key, line, Replies, word_or_dash}
 use Rattle.range_map_cli.specs.States.{content_of}
 use Rattle.range_map_cli.proofs.Contents.{alike_words}
@@ -45,7 +45,7 @@ module _ (low high : ℤ) (es : List (Entry (String Global))) (k a b : ℤ) (v :
       let last : content_of es b ≡ content_of es k = same_here b (omega (arith, ints, within)) (omega (arith, ints)) in
       end.1 (alike_words (at es b) (at es (b +ℤ pos 1)) (last ∙ sym (same (b +ℤ pos 1) (omega (arith, ints, within)) (omega (arith, ints)))))
 
-  entry_is_piece : IsPiece low high (content_of es) k a b
+  entry_is_piece : IsGreatestPiece low high (content_of es) k a b
   entry_is_piece =
       let keys = entry_keys k (entry a b v) low high es map.keys is in
       record {
@@ -61,7 +61,7 @@ module _ (low high : ℤ) (es : List (Entry (String Global))) (k a b : ℤ) (v :
       }
 
 -- the gap round a key
-gap_is_piece : (low high : ℤ) (es : List (Entry (String Global))) (k a b : ℤ) → at es k ≡ None → IsGap low high (at es) k a b → IsPiece low high (content_of es) k a b
+gap_is_piece : (low high : ℤ) (es : List (Entry (String Global))) (k a b : ℤ) → at es k ≡ None → IsGap low high (at es) k a b → IsGreatestPiece low high (content_of es) k a b
 gap_is_piece low high es k a b none gap = record {
   from = gap.from;
   to = gap.to;
@@ -82,7 +82,7 @@ abbrev pub Finds : ℤ → ℤ → List (Entry (String Global)) → ℤ → ℤ 
 Finds low high es k a b found = MatchOption found ((at es k ≡ None) × IsGap low high (at es) k a b) (λ v. entry_at es k ≡ Some (entry a b v.now))
 
 module _ (low high : ℤ) (es : List (Entry (String Global))) (k a b : ℤ) (map : IsRangeMap string_eq low high es) where
-  found_piece : (found : Option (Bor (String Global))) → Finds low high es k a b found → IsPiece low high (content_of es) k a b
+  found_piece : (found : Option (Bor (String Global))) → Finds low high es k a b found → IsGreatestPiece low high (content_of es) k a b
   found_piece None gap = gap_is_piece low high es k a b gap.0 gap.1
   found_piece (Some v) is = entry_is_piece low high es k a b v.now map is
 
@@ -91,11 +91,11 @@ module _ (low high : ℤ) (es : List (Entry (String Global))) (k a b : ℤ) (map
   found_word (Some v) is = sym (word_here low high es k a b v.now map is)
 
   -- it tells the piece round the key, and the word there
-  pub looked_up : (key : ℤ) → key ≡ k → (found : Option (Bor (String Global))) → Finds low high es key a b found → IsPiece low high (content_of es) k a b × (option_map string_bytes (option_copied found) ≡ content_of es k)
+  pub looked_up : (key : ℤ) → key ≡ k → (found : Option (Bor (String Global))) → Finds low high es key a b found → IsGreatestPiece low high (content_of es) k a b × (option_map string_bytes (option_copied found) ≡ content_of es k)
   looked_up key same found h = let here : Finds low high es k a b found = subst (λ j. Finds low high es j a b found) same h in (found_piece found here, found_word found here)
 
 -- what is printed for the piece round a key
-pub Replies-at : (content : Content) (key k lo a hi b : ℤ) (word empty bytes : List ℕ) → k ≡ key → a ≡ lo → b ≡ hi → IsPiece least_key greatest_key content k lo hi → word ≡ word_or_dash (content k) → empty ≡ []
+pub Replies-at : (content : Content) (key k lo a hi b : ℤ) (word empty bytes : List ℕ) → k ≡ key → a ≡ lo → b ≡ hi → IsGreatestPiece least_key greatest_key content k lo hi → word ≡ word_or_dash (content k) → empty ≡ []
     → bytes ≡ empty ++ (signed_decimal a ++ (codes "..=" ++ (signed_decimal b ++ (codes " " ++ (word ++ 10 ∷ []))))) → Replies content (At key) bytes
 Replies-at content key k lo a hi b word empty bytes key_is low_is high_is piece shown none written =
     let text = λ (x y : ℤ) (w : List ℕ). signed_decimal x ++ (codes "..=" ++ (signed_decimal y ++ (codes " " ++ w))) in

@@ -26,9 +26,9 @@ abbrev pub is_digits : List ℕ → Bool
 is_digits text = nat_le 1 (length text) && nat_le (length text) 19 && list_all is_ascii_digit text
 
 -- the i64 that the text writes: digits, after a minus where it is negative
-abbrev pub number_of : List ℕ → Option ℤ
-number_of [] = None
-number_of (b ∷ bs) = if b == 45
+abbrev pub written_number : List ℕ → Option ℤ
+written_number [] = None
+written_number (b ∷ bs) = if b == 45
     then (if is_digits bs && nat_le (digits_value 10 bs) (2 ^ 63) then Some (neg_ℤ (pos (digits_value 10 bs))) else None)
     else (if is_digits (b ∷ bs) && nat_lt (digits_value 10 (b ∷ bs)) (2 ^ 63) then Some (pos (digits_value 10 (b ∷ bs))) else None)
 
@@ -58,14 +58,14 @@ command_of_words (name ∷ []) =
     if bytes_eq name (codes "len") then Some Len else
     (if bytes_eq name (codes "list") then Some Entries else None)
 command_of_words (name ∷ key ∷ []) =
-    if bytes_eq name (codes "get") then option_map Get (number_of key) else
-    (if bytes_eq name (codes "remove") then option_map Remove (number_of key) else
-    (if bytes_eq name (codes "at") then option_map At (number_of key) else None))
+    if bytes_eq name (codes "get") then option_map Get (written_number key) else
+    (if bytes_eq name (codes "remove") then option_map Remove (written_number key) else
+    (if bytes_eq name (codes "at") then option_map At (written_number key) else None))
 command_of_words (name ∷ key ∷ word ∷ []) =
-    if bytes_eq name (codes "insert") then insert_of (number_of key) word else None
+    if bytes_eq name (codes "insert") then insert_of (written_number key) word else None
 command_of_words (name ∷ lo ∷ hi ∷ word ∷ []) =
-    if bytes_eq name (codes "paint") then range_of Paint (number_of lo) (number_of hi) word else
-    (if bytes_eq name (codes "fill") then range_of Fill (number_of lo) (number_of hi) word else None)
+    if bytes_eq name (codes "paint") then range_of Paint (written_number lo) (written_number hi) word else
+    (if bytes_eq name (codes "fill") then range_of Fill (written_number lo) (written_number hi) word else None)
 command_of_words (_ ∷ _ ∷ _ ∷ _ ∷ _ ∷ _) = None
 
 -- what a line asks, or none where it is bad

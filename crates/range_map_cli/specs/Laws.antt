@@ -57,11 +57,11 @@ AppendUndoesSplit {V} eq low high = (k : ℤ) (old below from new : List (Entry 
 -- ---- painting
 
 -- pairs are painted one by one
-abbrev pub ArePaintedInTurn : {V : Type 0} → (V → V → Bool) → ℤ → ℤ → List (Entry V)
+abbrev pub AreAllPainted : {V : Type 0} → (V → V → Bool) → ℤ → ℤ → List (Entry V)
     → List (Entry V) → List (Entry V) → Type 0
-ArePaintedInTurn eq low high [] old new = old ≡ new
-ArePaintedInTurn {V} eq low high (p ∷ ps) old new =
-    (next : List (Entry V)) × IsPainted eq low high p old next × ArePaintedInTurn eq low high ps next new
+AreAllPainted eq low high [] old new = old ≡ new
+AreAllPainted {V} eq low high (p ∷ ps) old new =
+    (next : List (Entry V)) × IsPainted eq low high p old next × AreAllPainted eq low high ps next new
 
 -- each key of a list of entries as an entry of its own
 abbrev pub points_of : {V : Type 0} → List (Entry V) → List (Entry V)
@@ -71,8 +71,8 @@ points_of es = map (λ p. entry p.0 p.0 p.1) (ranked_pairs es)
 pub record IsUnionOfPaints {V : Type 0} (eq : V → V → Bool) (low high : ℤ) (a b union : List (Entry V))
     : Type 0 where
   pub extended : (new : List (Entry V)) → IsExtended eq low high b a new → SameEntries eq union new
-  pub in_turn : (new : List (Entry V)) → ArePaintedInTurn eq low high b a new → SameEntries eq union new
-  pub by_points : (new : List (Entry V)) → ArePaintedInTurn eq low high (points_of b) a new
+  pub in_turn : (new : List (Entry V)) → AreAllPainted eq low high b a new → SameEntries eq union new
+  pub by_points : (new : List (Entry V)) → AreAllPainted eq low high (points_of b) a new
       → SameEntries eq union new
 
 -- every union is that
@@ -239,12 +239,12 @@ EmptyIsUnit V = (x : ℤ → Option V) (k : ℤ)
     → (right_first (x k) (at [] k) ≡ x k) × (right_first (at [] k) (x k) ≡ x k)
 
 -- no key has a value in both
-abbrev pub AreApart : {V : Type 0} → (ℤ → Option V) → (ℤ → Option V) → Type 0
-AreApart x y = (k : ℤ) → IsSome (x k) → y k ≡ None
+abbrev pub AreDisjoint : {V : Type 0} → (ℤ → Option V) → (ℤ → Option V) → Type 0
+AreDisjoint x y = (k : ℤ) → IsSome (x k) → y k ≡ None
 
 -- then `a | b` is `b | a`
 abbrev pub DisjointUnionCommutes : Type 0 → Type 0
-DisjointUnionCommutes V = (x y : ℤ → Option V) → AreApart x y
+DisjointUnionCommutes V = (x y : ℤ → Option V) → AreDisjoint x y
     → (k : ℤ) → right_first (x k) (y k) ≡ right_first (y k) (x k)
 
 -- where `u` has a value at a key, `u & a` is `a` there; `a & u` is `u` there where `a` has a value, else nothing

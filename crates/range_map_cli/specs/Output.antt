@@ -3,7 +3,7 @@ use Rattle.std.specs.Prelude.{◌≡◌, ℕ, ◌+◌, ◌-◌, ◌≤◌, ◌�
 use Rattle.std.specs.Io.KnownBytes.{Appends, Consumes}
 use Rattle.range_map_cli.specs.Lines.{lines_of, ends_in}
 use Rattle.range_map_cli.specs.Commands.{Command, command_of}
-use Rattle.range_map_cli.specs.Replies.{Content, nothing, content_after, Replies, line}
+use Rattle.range_map_cli.specs.Replies.{Content, nothing, content_after_command, Replies, line}
 use Rattle.range_map_cli.specs.declared.End.{End}
 use Rattle.range_map_cli.specs.declared.End.TheVariants as ends
 
@@ -29,7 +29,7 @@ has_bad (line ∷ lines) = bad_or (command_of line) (has_bad lines)
 -- the text is what is printed for the commands, one after another, each on the content that those before it leave
 abbrev pub Answers : Content → List Command → List ℕ → Type 0
 Answers content [] text = text ≡ []
-Answers content (command ∷ commands) text = (first rest : List ℕ) × (text ≡ first ++ rest) × Replies content command first × Answers (content_after command content) commands rest
+Answers content (command ∷ commands) text = (first rest : List ℕ) × (text ≡ first ++ rest) × Replies content command first × Answers (content_after_command command content) commands rest
 
 -- what is printed for a bad line after so many good ones: lines are numbered from 1, and past 2^64 - 1 the number stays there
 abbrev pub error_line : ℕ → List ℕ

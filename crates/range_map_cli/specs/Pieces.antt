@@ -6,7 +6,7 @@ abbrev pub IsSameFrom : {V : Type 0} → (ℤ → Option V) → ℤ → ℤ → 
 IsSameFrom content k a b = (j : ℤ) → a ≤ℤ j → j ≤ℤ b → content j ≡ content k
 
 -- from a up to b: the greatest interval of keys that has k and at whose keys the content is what it is at k
-pub record IsPiece {V : Type 0} (low high : ℤ) (content : ℤ → Option V) (k a b : ℤ) : Type 0 where
+pub record IsGreatestPiece {V : Type 0} (low high : ℤ) (content : ℤ → Option V) (k a b : ℤ) : Type 0 where
   pub from : low ≤ℤ a
   pub to : b ≤ℤ high
   pub starts : a ≤ℤ k

@@ -9,7 +9,7 @@ use Rattle.blaze_table.specs.Filled.{filled}
 use Rattle.blaze_table.specs.Painted.{painted}
 use Rattle.blaze_table.specs.Cut.{cut_at}
 use Rattle.range_map_cli.specs.Commands.{Command, Blank, Paint, Fill, Insert, Remove, Get, At, Len, Entries}
-use Rattle.range_map_cli.specs.Pieces.{IsPiece}
+use Rattle.range_map_cli.specs.Pieces.{IsGreatestPiece}
 
 -- the word at each key, or none
 abbrev pub Content : Type 0
@@ -32,30 +32,30 @@ abbrev pub mapped_count : Content → ℕ
 mapped_count content = mapped_keys least_key greatest_key content
 
 -- the content after a command
-abbrev pub content_after : Command → Content → Content
-content_after Blank content = content
-content_after (Paint lo hi word) content = painted lo hi word content
-content_after (Fill lo hi word) content = filled lo hi word content
-content_after (Insert key word) content = painted key key word content
-content_after (Remove key) content = cut_at key content
-content_after (Get key) content = content
-content_after (At key) content = content
-content_after Len content = content
-content_after Entries content = content
+abbrev pub content_after_command : Command → Content → Content
+content_after_command Blank content = content
+content_after_command (Paint lo hi word) content = painted lo hi word content
+content_after_command (Fill lo hi word) content = filled lo hi word content
+content_after_command (Insert key word) content = painted key key word content
+content_after_command (Remove key) content = cut_at key content
+content_after_command (Get key) content = content
+content_after_command (At key) content = content
+content_after_command Len content = content
+content_after_command Entries content = content
 
 -- (1..=2, "a")
-abbrev pub entry_text : Entry (List ℕ) → List ℕ
-entry_text e = codes "(" ++ (signed_decimal e.lo ++ (codes "..=" ++ (signed_decimal e.hi ++ (codes ", \"" ++ (e.value ++ codes "\")")))))
+abbrev pub listed_entry : Entry (List ℕ) → List ℕ
+listed_entry e = codes "(" ++ (signed_decimal e.lo ++ (codes "..=" ++ (signed_decimal e.hi ++ (codes ", \"" ++ (e.value ++ codes "\")")))))
 
 -- the entries, with a comma and a space between each two
-abbrev pub entries_text : List (Entry (List ℕ)) → List ℕ
-entries_text [] = []
-entries_text (e ∷ []) = entry_text e
-entries_text (e ∷ f ∷ es) = entry_text e ++ (codes ", " ++ entries_text (f ∷ es))
+abbrev pub listed_entries : List (Entry (List ℕ)) → List ℕ
+listed_entries [] = []
+listed_entries (e ∷ []) = listed_entry e
+listed_entries (e ∷ f ∷ es) = listed_entry e ++ (codes ", " ++ listed_entries (f ∷ es))
 
 -- the text of the one list of entries that is one per run and has this content
 abbrev pub Lists : Content → List ℕ → Type 0
-Lists content text = (entries : List (Entry (List ℕ))) × IsOnePerRun bytes_eq entries × ((key : ℤ) → at entries key ≡ content key) × (text ≡ entries_text entries)
+Lists content text = (entries : List (Entry (List ℕ))) × IsOnePerRun bytes_eq entries × ((key : ℤ) → at entries key ≡ content key) × (text ≡ listed_entries entries)
 
 abbrev pub word_or_dash : Option (List ℕ) → List ℕ
 word_or_dash None = codes "-"
@@ -81,6 +81,6 @@ Replies content (Fill lo hi word) text = text ≡ changed_text (filled lo hi wor
 Replies content (Insert key word) text = text ≡ line (word_or_dash (content key))
 Replies content (Remove key) text = text ≡ line (word_or_dash (content key))
 Replies content (Get key) text = text ≡ line (word_or_dash (content key))
-Replies content (At key) text = (lo hi : ℤ) × IsPiece least_key greatest_key content key lo hi × (text ≡ line (piece_text lo hi (content key)))
+Replies content (At key) text = (lo hi : ℤ) × IsGreatestPiece least_key greatest_key content key lo hi × (text ≡ line (piece_text lo hi (content key)))
 Replies content Len text = text ≡ line (decimal (mapped_count content))
 Replies content Entries text = (listed : List ℕ) × Lists content listed × (text ≡ line listed)

@@ -3,16 +3,16 @@ use Rattle.std.specs.Prelude.{◌≡◌, ℕ, ◌+◌, ◌-◌, ◌≤◌, ◌^�
 use Rattle.std.specs.Io.KnownBytes.{Appends}
 use Rattle.range_map_cli.specs.Lines.{lines_of, ends_in, Lacks}
 use Rattle.range_map_cli.specs.Commands.{Command}
-use Rattle.range_map_cli.specs.Replies.{Content, nothing, content_after}
+use Rattle.range_map_cli.specs.Replies.{Content, nothing, content_after_command}
 use Rattle.range_map_cli.specs.Output.{commands_of, has_bad, Answers, Closes}
 use Rattle.range_map_cli.specs.States.{content_of, HasWords}
 use Rattle.range_map_cli.specs.declared.session.Session.{Session}
 use Rattle.range_map_cli.specs.declared.End.{End}
 
 -- the content after all of the commands
-abbrev pub after_all : List Command → Content → Content
-after_all [] content = content
-after_all (command ∷ commands) content = after_all commands (content_after command content)
+abbrev pub content_after_commands : List Command → Content → Content
+content_after_commands [] content = content
+content_after_commands (command ∷ commands) content = content_after_commands commands (content_after_command command content)
 
 -- the session that keeps these bytes of a line, as many as there is room for
 abbrev pub with_line : List ℕ → Session → Session
@@ -36,8 +36,8 @@ pub record IsAt (held holds : Option (List ℕ)) (text : List ℕ) (session : Se
   pub bad : has_bad (lines_of text) ≡ has_bad (lines_of (partial ++ rest))
   pub answered : Answers nothing commands answers
   pub forwards : Forwards held holds answers session.waiting.items
-  pub stored : (key : ℤ) → content_of session.map.entries key ≡ after_all commands nothing key
-  pub words : HasWords (after_all commands nothing)
+  pub stored : (key : ℤ) → content_of session.map.entries key ≡ content_after_commands commands nothing key
+  pub words : HasWords (content_after_commands commands nothing)
   pub counted : length commands + ends_in rest ≡ lines
   pub number : session.number ≡ min (length commands) (2 ^ 64 - 1)
   pub no_end : Lacks 10 partial

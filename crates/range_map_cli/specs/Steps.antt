@@ -35,22 +35,22 @@ pair_of k None = None
 pair_of k (Some v) = Some (k, v)
 
 -- a key, if there is one, with its value
-abbrev pub with_value : {V : Type 0} → (ℤ → Option V) → Option ℤ → Option (ℤ × V)
-with_value content None = None
-with_value content (Some k) = pair_of k (content k)
+abbrev pub key_with_value : {V : Type 0} → (ℤ → Option V) → Option ℤ → Option (ℤ × V)
+key_with_value content None = None
+key_with_value content (Some k) = pair_of k (content k)
 
 -- the content without a key, if there is one
-abbrev pub without : {V : Type 0} → Option ℤ → (ℤ → Option V) → ℤ → Option V
-without None content j = content j
-without (Some k) content j = cut_at k content j
+abbrev pub without_key : {V : Type 0} → Option ℤ → (ℤ → Option V) → ℤ → Option V
+without_key None content j = content j
+without_key (Some k) content j = cut_at k content j
 
 -- the least key that has a value
-abbrev pub first_key : {V : Type 0} → ℤ → ℤ → (ℤ → Option V) → Option ℤ
-first_key low high content = least_mapped content low (nat_of (high -ℤ low +ℤ pos 1))
+abbrev pub first_mapped_key : {V : Type 0} → ℤ → ℤ → (ℤ → Option V) → Option ℤ
+first_mapped_key low high content = least_mapped content low (nat_of (high -ℤ low +ℤ pos 1))
 
 -- the greatest key that has a value
-abbrev pub last_key : {V : Type 0} → ℤ → ℤ → (ℤ → Option V) → Option ℤ
-last_key low high content = greatest_mapped content high (nat_of (high -ℤ low +ℤ pos 1))
+abbrev pub last_mapped_key : {V : Type 0} → ℤ → ℤ → (ℤ → Option V) → Option ℤ
+last_mapped_key low high content = greatest_mapped content high (nat_of (high -ℤ low +ℤ pos 1))
 
 -- a value on the keys that have none, and none on the others
 abbrev pub complemented : {V : Type 0} → ℤ → ℤ → V → (ℤ → Option V) → ℤ → Option V
@@ -59,7 +59,7 @@ complemented low high v content k = if int_le low k && int_le k high then absent
 -- a range map has the content of the old one without a key, if there is one
 pub record IsWithout {V : Type 0} (eq : V → V → Bool) (low high : ℤ) (key : Option ℤ) (old new : List (Entry V)) : Type 0 where
   pub range_map : IsRangeMap eq low high new
-  pub content : (k : ℤ) → SameOption eq (at new k) (without key (at old) k)
+  pub content : (k : ℤ) → SameOption eq (at new k) (without_key key (at old) k)
 
 module _ {T V L : Type 0} (rank : T → ℤ) (low high : ℤ) where
   -- ---- one step
@@ -70,8 +70,8 @@ module _ {T V L : Type 0} (rank : T → ℤ) (low high : ℤ) where
   content_after (Fill lo hi v) content = filled (rank lo) (rank hi) v content
   content_after (Insert k v) content = painted (rank k) (rank k) v content
   content_after (Remove k) content = cut_at (rank k) content
-  content_after PopFirst content = without (first_key low high content) content
-  content_after PopLast content = without (last_key low high content) content
+  content_after PopFirst content = without_key (first_mapped_key low high content) content
+  content_after PopLast content = without_key (last_mapped_key low high content) content
   content_after Clear content = λ _. None
   content_after (KeepBelow k) content = below_at (rank k) content
   content_after (KeepFrom k) content = from_at (rank k) content
@@ -89,8 +89,8 @@ module _ {T V L : Type 0} (rank : T → ℤ) (low high : ℤ) where
   answer (Fill lo hi v) content = Wrote (not (mapped_keys low high (filled (rank lo) (rank hi) v content) == mapped_keys low high content))
   answer (Insert k v) content = Old (content (rank k))
   answer (Remove k) content = Old (content (rank k))
-  answer PopFirst content = Popped (with_value content (first_key low high content))
-  answer PopLast content = Popped (with_value content (last_key low high content))
+  answer PopFirst content = Popped (key_with_value content (first_mapped_key low high content))
+  answer PopLast content = Popped (key_with_value content (last_mapped_key low high content))
   answer Clear content = Done
   answer (KeepBelow k) content = Done
   answer (KeepFrom k) content = Done

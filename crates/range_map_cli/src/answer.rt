@@ -6,8 +6,8 @@ ghost use Rattle.blaze_table.specs.Cut.{cut_at};
 ghost use Rattle.blaze_table.specs.Filled.{filled};
 ghost use Rattle.blaze_table.specs.Painted.{painted};
 ghost use Rattle.range_map_cli.specs.Commands.{asked, Blank};
-ghost use Rattle.range_map_cli.specs.Pieces.{IsPiece};
-ghost use Rattle.range_map_cli.specs.Replies.{content_after, greatest_key, mapped_count, least_key};
+ghost use Rattle.range_map_cli.specs.Pieces.{IsGreatestPiece};
+ghost use Rattle.range_map_cli.specs.Replies.{content_after_command, greatest_key, mapped_count, least_key};
 ghost use Rattle.range_map_cli.specs.Replies.{word_or_dash as shown_word, Replies};
 ghost use Rattle.range_map_cli.specs.States.{content_of, HasWords};
 
@@ -94,7 +94,7 @@ fn word_or_dash(word: Option<&String>) -> &str
 
 /// The first and the last key of the entry that holds a key, or of the gap round it, with its word, or a dash.
 fn piece_at(map: &RangeMapBlaze<i64, String>, key: i64) -> (i64, i64, &str)
-    ensures piece { IsPiece least_key greatest_key (content_of map.now.entries) key
+    ensures piece { IsGreatestPiece least_key greatest_key (content_of map.now.entries) key
         result.0 result.1 }
     ensures word { result.2.now ≡ shown_word (content_of map.now.entries key) }
 {
@@ -114,7 +114,7 @@ pub fn answer(
     ensures reply { OnOk result (HasWords (content_of map.old.entries)
         → Replies (content_of map.old.entries) (asked request.entry) (string_bytes reply.new)) }
     ensures content { OnOk result ((key : ℤ) → content_of map.new.entries key
-        ≡ content_after (asked request.entry) (content_of map.old.entries) key) }
+        ≡ content_after_command (asked request.entry) (content_of map.old.entries) key) }
     ensures refused { OnErr result (asked request.entry ≢ Blank) }
 {
     reply.clear();

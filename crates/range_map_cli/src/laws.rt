@@ -1,5 +1,5 @@
 //! The laws of range maps, for every key type and every value type with a lawful equality.
-ghost use Rattle.blaze_iters.specs.Left.{pairs_left, shown_pair};
+ghost use Rattle.blaze_iters.specs.Left.{pairs_left, shown_key_value};
 ghost use Rattle.range_map_blaze.specs.MapLaws.{AnswersAreOnItsKeys};
 ghost use Rattle.range_map_cli.specs.Fills.{PaintsAloneAreInOrder, StepsPaintAndFill};
 ghost use Rattle.range_map_cli.specs.Laws.{EqualWhereGetsAre, IsOrderOfMaps};
@@ -41,7 +41,7 @@ pub fn look_ups_cover_keys<T: Integer, V: Eq>()
 /// `next` and `next_back` in any mix give each pair that a key-wise iterator has left once, and then
 /// `None` for good.
 pub fn each_pair_once<T: Integer, VC: ValueCarrier + Copy, I: BothEnds<T, VC>>()
-    ensures { EachOnce (shown_pair VC.shown) (pairs_left T.of_rank I.left) }
+    ensures { EachOnce (shown_key_value VC.shown) (pairs_left T.of_rank I.left) }
 {}
 
 /// The same of an iterator by value, each pair with a value that is `==` to the stored one, where no

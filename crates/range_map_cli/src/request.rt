@@ -3,7 +3,7 @@ ghost use Rattle.std.specs.Prelude.{◌≡◌, ◌∷◌, [], ◌<◌, ◌^◌, 
 ghost use Rattle.std.specs.Str.Parse.{digits_value};
 ghost use Rattle.std.specs.List.{list_all};
 ghost use Rattle.std.specs.Char.{is_ascii_alphanumeric};
-ghost use Rattle.range_map_cli.specs.Commands.{asked, command_of, command_of_words, number_of};
+ghost use Rattle.range_map_cli.specs.Commands.{asked, command_of, command_of_words, written_number};
 ghost use Rattle.range_map_cli.specs.Commands.{is_word, is_digits};
 
 use crate::split::split_once;
@@ -42,7 +42,7 @@ fn digits(text: &[u8]) -> Option<u64>
 
 /// The number that digits write, after a minus where it is negative.
 fn number(text: &[u8]) -> Option<i64>
-    ensures { result ≡ number_of text.now }
+    ensures { result ≡ written_number text.now }
 {
     match text {
         [] => None,

@@ -4,7 +4,7 @@ ghost use Rattle.std.specs.Prelude.{Option, Some, None, OnOk, IfErr, IsErrOf};
 ghost use Rattle.std.specs.Prelude.{string_bytes};
 ghost use Rattle.std.specs.Io.KnownBytes.{Appends};
 ghost use Rattle.range_map_cli.specs.Commands.{Blank, Command, command_of};
-ghost use Rattle.range_map_cli.specs.Replies.{content_after, Replies};
+ghost use Rattle.range_map_cli.specs.Replies.{content_after_command, Replies};
 ghost use Rattle.range_map_cli.specs.Output.{Prints, Closes};
 ghost use Rattle.range_map_cli.specs.States.{content_of, HasWords};
 ghost use Rattle.range_map_cli.specs.Lines.{Lacks};
@@ -72,7 +72,7 @@ impl Session {
             × (HasWords (content_of self.old.map.entries)
             → Replies (content_of self.old.map.entries) command (string_bytes self.new.reply))
             × ((key : ℤ) → content_of self.new.map.entries key
-            ≡ content_after command (content_of self.old.map.entries) key)) }
+            ≡ content_after_command command (content_of self.old.map.entries) key)) }
         ensures number { OnOk result (self.new.number ≡ min (self.old.number + 1) (2 ^ 64 - 1)) }
         ensures line { self.new.line ≡ self.old.line }
         ensures waiting { self.new.waiting.items ≡ self.old.waiting.items }

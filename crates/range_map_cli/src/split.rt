@@ -1,9 +1,9 @@
 //! A text cut at a byte.
-ghost use Rattle.range_map_cli.specs.Lines.{IsCut};
+ghost use Rattle.range_map_cli.specs.Lines.{IsCutAtByte};
 
 /// What stands before the first such byte, and what stands after it; none where the text has no such byte.
 pub fn split_once(text: &[u8], byte: u8) -> Option<(&[u8], &[u8])>
-    ensures { IsCut byte text.now result }
+    ensures { IsCutAtByte byte text.now result }
 {
     let at = text.iter().position(|other| *other == byte)?;
     let (before, rest) = text.split_at(at);

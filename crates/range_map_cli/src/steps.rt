@@ -8,7 +8,7 @@ ghost use Rattle.blaze_table.specs.Laws.{IsShortest};
 ghost use Rattle.blaze_table.specs.Painted.{painted, IsPainted, ClonesAreAlike};
 ghost use Rattle.blaze_table.specs.Work.{IsCounted, IsCountedCut, IsCountedPaint, PutsAtMost};
 ghost use Rattle.range_map_cli.specs.Fills.{ranges_in, IsPaintOrFill};
-ghost use Rattle.range_map_cli.specs.Steps.{answer, first_key, last_key, with_value, answers, Combines};
+ghost use Rattle.range_map_cli.specs.Steps.{answer, first_mapped_key, last_mapped_key, key_with_value, answers, Combines};
 ghost use Rattle.range_map_cli.specs.Steps.{IsCountedRun, IsEdit, IsRefusedAt, IsStepped};
 ghost use Rattle.range_map_cli.specs.Steps.{IsSteppedAll, IsWithout, SameAnswer, SameAnswers};
 ghost use Rattle.range_map_cli.specs.Steps.{SamePair};
@@ -71,10 +71,10 @@ fn pop_first<T: Integer, V: Eq + Clone>(
 ) -> Result<Option<(T, V)>, AllocError>
     requires { ClonesAreAlike V.is_clone V.eq }
     ensures ok { OnOk result
-        (IsWithout V.eq T.low T.high (first_key T.low T.high (at map.old.entries))
+        (IsWithout V.eq T.low T.high (first_mapped_key T.low T.high (at map.old.entries))
         map.old.entries map.new.entries) }
     ensures pair { IfOk result (λ pair. SamePair T.rank V.eq pair
-        (with_value (at map.old.entries) (first_key T.low T.high (at map.old.entries)))) }
+        (key_with_value (at map.old.entries) (first_mapped_key T.low T.high (at map.old.entries)))) }
     ensures counted { OnOk result (IsCountedCut map.old map.new) }
     ensures err { OnErr result (map.new.entries ≡ map.old.entries) }
     ensures err_counted { OnErr result (IsCounted map.old map.new) }
@@ -90,10 +90,10 @@ fn pop_last<T: Integer, V: Eq + Clone>(
 ) -> Result<Option<(T, V)>, AllocError>
     requires { ClonesAreAlike V.is_clone V.eq }
     ensures ok { OnOk result
-        (IsWithout V.eq T.low T.high (last_key T.low T.high (at map.old.entries))
+        (IsWithout V.eq T.low T.high (last_mapped_key T.low T.high (at map.old.entries))
         map.old.entries map.new.entries) }
     ensures pair { IfOk result (λ pair. SamePair T.rank V.eq pair
-        (with_value (at map.old.entries) (last_key T.low T.high (at map.old.entries)))) }
+        (key_with_value (at map.old.entries) (last_mapped_key T.low T.high (at map.old.entries)))) }
     ensures counted { OnOk result (IsCountedCut map.old map.new) }
     ensures err { OnErr result (map.new.entries ≡ map.old.entries) }
     ensures err_counted { OnErr result (IsCounted map.old map.new) }

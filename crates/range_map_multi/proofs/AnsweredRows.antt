@@ -9,7 +9,7 @@ use Rattle.blaze_table.specs.Entries.{Entry, entry}
 use Rattle.blaze_table.specs.Splice.{glue}
 use Rattle.blaze_table.proofs.Canonical.Lookup.{at_in}
 use Rattle.blaze_table.proofs.Canonical.Runs.{canonical, one_per_run}
-use Rattle.blaze_streams.specs.Answers.{AnswersAt, TakesValue}
+use Rattle.blaze_streams.specs.Answers.{AnswersAtValue, TakesValue}
 use Rattle.blaze_streams.specs.Cursors.{AllCanonical, first_keys, all_after, IsNextSegment}
 use Rattle.blaze_streams.specs.Segments.{row, row_eq}
 use Rattle.blaze_streams.proofs.Answering.{IsAnsweredSoFar, answered_none, takes_next, answered_more, answered_all}
@@ -107,7 +107,7 @@ module _ {F X W V : Type 0} (shows : X → List (Option V)) (g : Mut F X W) (eqv
       asked_takes may t = takes_next shows g (row_eq eqv) eq low high f h.all (may.at h.all h.are) (entries_where asks h.next) (entries_where asks others.0) (with_row vss p) f' out h.so_far (here t)
 
       -- one answer more
-      pub asked_more : (laws : IsEquivalence eq) (f'' : F) (new : List (Entry W)) (w : W) → asks (picked vss p.value) ≡ true → AnswersAt shows g f' (picked vss p.value) w f'' → new ≡ glue eq out (entry p.lo p.hi w ∷ []) → IsAskedSoFar Ns' f'' new
+      pub asked_more : (laws : IsEquivalence eq) (f'' : F) (new : List (Entry W)) (w : W) → asks (picked vss p.value) ≡ true → AnswersAtValue shows g f' (picked vss p.value) w f'' → new ≡ glue eq out (entry p.lo p.hi w ∷ []) → IsAskedSoFar Ns' f'' new
       asked_more laws f'' new w t answer put = record {
         all = h.all;
         are = h.are;
@@ -153,7 +153,7 @@ module _ {F X W V : Type 0} (shows : X → List (Option V)) (g : Mut F X W) (eqv
     pub none_takes : IsCallableAtRows shows g eqv low high asks f [] → TakesValue shows g f []
     none_takes may = takes_next shows g (row_eq eqv) eq low high f (everywhere ∷ []) (may.at (everywhere ∷ []) join_of_none) (everywhere ∷ []) [] everywhere f [] start refl
 
-    pub none_joined : (laws_w : IsEquivalence eq) (f' : F) (w : W) (new : List (Entry W)) → AnswersAt shows g f [] w f' → new ≡ entry low high w ∷ [] → IsManyJoined shows g eqv low high asks eq f [] new
+    pub none_joined : (laws_w : IsEquivalence eq) (f' : F) (w : W) (new : List (Entry W)) → AnswersAtValue shows g f [] w f' → new ≡ entry low high w ∷ [] → IsManyJoined shows g eqv low high asks eq f [] new
     none_joined laws_w f' w new answer put = record {
       segments = everywhere ∷ [];
       are_segments = join_of_none;

@@ -17,20 +17,10 @@ use Rattle.range_map_multi.specs.Merges.{GivesEach, GivesBoth}
 
 -- ---- lists
 
--- one item more taken from what is left
-pub taken_more : {A B : Type 0} (f : A → B) (out new : List A) (item : A) (left next all : List B) → new ≡ out ++ item ∷ [] → left ≡ f item ∷ next → map f out ++ left ≡ all → map f new ++ next ≡ all
-taken_more f out new item left next all n l i =
-    ap (λ xs. map f xs ++ next) n ∙ ap (λ es. es ++ next) (map-append f out (item ∷ [])) ∙ append_assoc (map f out) (f item ∷ []) next
-    ∙ ap (λ es. map f out ++ es) (sym l) ∙ i
-
 -- one item more put behind what was made of those before
 pub made_more : {A B : Type 0} (f : A → B) (out new : List B) (item : A) (made : B) (left next : List A) (all : List B) → new ≡ out ++ made ∷ [] → made ≡ f item → left ≡ item ∷ next → out ++ map f left ≡ all → new ++ map f next ≡ all
 made_more f out new item made left next all n m l i =
     ap (λ xs. xs ++ map f next) n ∙ append_assoc out (made ∷ []) (map f next) ∙ ap (λ x. out ++ x ∷ map f next) m ∙ ap (λ xs. out ++ map f xs) (sym l) ∙ i
-
--- where nothing is left, what was taken is all
-pub taken_all : {A : Type 0} (out left all : List A) → out ++ left ≡ all → left ≡ [] → out ≡ all
-taken_all out left all i n = sym (append-nil out) ∙ ap (λ xs. out ++ xs) (sym n) ∙ i
 
 -- the two halves are all
 pub halves : {A B : Type 0} (f : A → B) (xs first second : List A) (n : ℕ) → first ≡ take n xs → second ≡ drop n xs → map f first ++ map f second ≡ map f xs

@@ -17,7 +17,7 @@ use Rattle.blaze_streams.specs.Cursors.{first_key, steady_to, lesser, first_keys
 use Rattle.blaze_streams.specs.Segments.{row}
 use Rattle.blaze_streams.proofs.LengthsLeft.{lengths_left, all_lengths_left}
 use Rattle.range_map_multi.specs.Many.{has_odd}
-use Rattle.range_map_multi.specs.Parts.{with_values, in_places, IsPlaced, AllPlaced, with_value, valued, all_valued, picked, AllRangeMaps}
+use Rattle.range_map_multi.specs.Parts.{with_values, in_places, HasPlacedValues, AllPlaced, with_valued_range, valued, all_valued, picked, AllRangeMaps}
 
 -- ---- other values on the same ranges
 
@@ -62,20 +62,20 @@ module _ {V : Type 0} where
   found_there g (Some v) None p = cc
   found_there g (Some v) (Some i) p = cc
 
-  at_placed : (vs : List V) (N : List (Entry ℕ)) (L : List (Entry V)) (k : ℤ) → IsPlaced vs N L → at L k ≡ option_and_then (slice_get vs) (at N k)
+  at_placed : (vs : List V) (N : List (Entry ℕ)) (L : List (Entry V)) (k : ℤ) → HasPlacedValues vs N L → at L k ≡ option_and_then (slice_get vs) (at N k)
   at_placed vs N L k p = found_there (slice_get vs) (at L k) (at N k) (sym (at_with (slice_get vs) N k) ∙ ap (λ l. at l k) p ∙ at_with Some L k)
 
-  after_placed : (vs : List V) (N : List (Entry ℕ)) (L : List (Entry V)) (t : ℤ) → IsPlaced vs N L → IsPlaced vs (after t N) (after t L)
+  after_placed : (vs : List V) (N : List (Entry ℕ)) (L : List (Entry V)) (t : ℤ) → HasPlacedValues vs N L → HasPlacedValues vs (after t N) (after t L)
   after_placed vs N L t p = sym (after_with (slice_get vs) t N) ∙ ap (after t) p ∙ after_with Some t L
 
-  valued_placed : (vs : List V) (N : List (Entry ℕ)) (L : List (Entry V)) → IsPlaced vs N L → valued vs N ≡ L
+  valued_placed : (vs : List V) (N : List (Entry ℕ)) (L : List (Entry V)) → HasPlacedValues vs N L → valued vs N ≡ L
   valued_placed vs [] [] p = refl
   valued_placed vs [] (e ∷ es) p = cc
   valued_placed vs (r ∷ rs) [] p = cc
   valued_placed vs (r ∷ rs) (e ∷ es) p =
       let first : entry r.lo r.hi (slice_get vs r.value) ≡ entry e.lo e.hi (Some e.value) = cc in
-      let others : IsPlaced vs rs es = cc in
-      ap (λ o. with_value r o (valued vs rs)) (ap (λ x. x.value) first)
+      let others : HasPlacedValues vs rs es = cc in
+      ap (λ o. with_valued_range r o (valued vs rs)) (ap (λ x. x.value) first)
       ∙ ap (λ l. entry r.lo r.hi e.value ∷ l) (valued_placed vs rs es others)
       ∙ ap (λ l. entry l r.hi e.value ∷ es) (ap (λ x. x.lo) first)
       ∙ ap (λ h. entry e.lo h e.value ∷ es) (ap (λ x. x.hi) first)
@@ -84,7 +84,7 @@ module _ {V : Type 0} where
   get_seam [] after v = refl
   get_seam (x ∷ xs) after v = get_seam xs after v
 
-  placed_from : (all before : List V) (L : List (Entry V)) (i : ℕ) → all ≡ before ++ values L → i ≡ length before → IsPlaced all (in_places i L) L
+  placed_from : (all before : List V) (L : List (Entry V)) (i : ℕ) → all ≡ before ++ values L → i ≡ length before → HasPlacedValues all (in_places i L) L
   placed_from all before [] i p q = refl
   placed_from all before (e ∷ es) i p q =
       let here : slice_get all i ≡ Some e.value = ap (λ l. slice_get l i) p ∙ ap (slice_get (before ++ e.value ∷ values es)) q ∙ get_seam before (values es) e.value in
@@ -93,7 +93,7 @@ module _ {V : Type 0} where
       ∙ ap (λ l. entry e.lo e.hi (Some e.value) ∷ l) (placed_from all (before ++ e.value ∷ []) es (i + 1) (p ∙ sym (append_assoc before (e.value ∷ []) (values es))) one_more)
 
   -- the values of a list, at the places of its ranges
-  pub placed_all : (vs : List V) (N : List (Entry ℕ)) (L : List (Entry V)) → vs ≡ values L → N ≡ in_places 0 L → IsPlaced vs N L
+  pub placed_all : (vs : List V) (N : List (Entry ℕ)) (L : List (Entry V)) → vs ≡ values L → N ≡ in_places 0 L → HasPlacedValues vs N L
   placed_all vs N L p q = ap (with_values (slice_get vs)) q ∙ placed_from vs [] L 0 p refl
 
   -- one range more with its place
@@ -162,7 +162,7 @@ module _ {V : Type 0} where
 
   -- ---- lists taken apart one after another
 
-  placed_push : (vss : List (List V)) (Ns : List (List (Entry ℕ))) (Ls : List (List (Entry V))) (vs : List V) (N : List (Entry ℕ)) (L : List (Entry V)) → AllPlaced vss Ns Ls → IsPlaced vs N L → AllPlaced (vss ++ vs ∷ []) (Ns ++ N ∷ []) (Ls ++ L ∷ [])
+  placed_push : (vss : List (List V)) (Ns : List (List (Entry ℕ))) (Ls : List (List (Entry V))) (vs : List V) (N : List (Entry ℕ)) (L : List (Entry V)) → AllPlaced vss Ns Ls → HasPlacedValues vs N L → AllPlaced (vss ++ vs ∷ []) (Ns ++ N ∷ []) (Ls ++ L ∷ [])
   placed_push [] [] [] vs N L a p = (p, tt)
   placed_push [] [] (M ∷ Ls) vs N L a p = absurd a
   placed_push [] (M ∷ Ns) Ls vs N L a p = absurd a
@@ -186,7 +186,7 @@ module _ {V : Type 0} where
     apart_none = record { done = []; whole = refl; placed = tt; range_maps = tt }
 
     pub apart_more : (left next : List (List (Entry V))) (L : List (Entry V)) (vss vss' : List (List V)) (vs : List V) (Ns Ns' : List (List (Entry ℕ))) (N : List (Entry ℕ)) → AreTakenApart eq low high all left vss Ns
-        → left ≡ L ∷ next → vss' ≡ vss ++ vs ∷ [] → Ns' ≡ Ns ++ N ∷ [] → IsPlaced vs N L → IsRangeMap eq low high L → AreTakenApart eq low high all next vss' Ns'
+        → left ≡ L ∷ next → vss' ≡ vss ++ vs ∷ [] → Ns' ≡ Ns ++ N ∷ [] → HasPlacedValues vs N L → IsRangeMap eq low high L → AreTakenApart eq low high all next vss' Ns'
     apart_more left next L vss vss' vs Ns Ns' N a l v n p m = record {
       done = a.done ++ L ∷ [];
       whole = a.whole ∙ ap (λ x. a.done ++ x) l ∙ sym (append_assoc a.done (L ∷ []) next);

@@ -3,7 +3,7 @@ use Rattle.std.specs.Prelude.{◌≡◌, ℤ, ◌≤ℤ◌, Bool, if◌then◌el
 use Rattle.std.specs.Fn.{Mut}
 use Rattle.blaze_table.specs.Entries.{Entry, at}
 use Rattle.blaze_table.specs.Canonical.{IsRangeMap}
-use Rattle.blaze_streams.specs.Answers.{values, IsCallableAtEach, IsTransformed}
+use Rattle.blaze_streams.specs.Answers.{values, IsCallableAtEachValue, IsTransformed}
 use Rattle.blaze_streams.specs.Carried.{shown_option}
 use Rattle.blaze_streams.specs.Segments.{row, row_eq}
 
@@ -30,7 +30,7 @@ pub record IsJoinOfMany {A : Type 0} (eq : A → A → Bool) (low high : ℤ) (a
 module _ {F X W A : Type 0} (shows : X → List (Option A)) (g : Mut F X W) (eqv : A → A → Bool) (low high : ℤ) (asks : List (Option A) → Bool) where
   -- f may be called at each segment that the join is asked for in turn, in the state that the calls at those before leave
   pub record IsCallableAtRows (f : F) (lists : List (List (Entry A))) : Type 0 where
-    pub at : (segments : List (Entry (List (Option A)))) → IsJoinOfMany eqv low high asks lists segments → IsCallableAtEach shows g f (values segments)
+    pub at : (segments : List (Entry (List (Option A)))) → IsJoinOfMany eqv low high asks lists segments → IsCallableAtEachValue shows g f (values segments)
 
   -- a range map that has at each key of a segment that the join is asked for what f answers there, and nothing at all other
   -- keys: one call for each of these segments, in order

@@ -16,8 +16,8 @@ in_places i [] = []
 in_places i (e ∷ es) = entry e.lo e.hi i ∷ in_places (i + 1) es
 
 -- the list has the ranges, with the values at their places
-abbrev pub IsPlaced : {V : Type 0} → List V → List (Entry ℕ) → List (Entry V) → Type 0
-IsPlaced vs ranges list = with_values (slice_get vs) ranges ≡ with_values Some list
+abbrev pub HasPlacedValues : {V : Type 0} → List V → List (Entry ℕ) → List (Entry V) → Type 0
+HasPlacedValues vs ranges list = with_values (slice_get vs) ranges ≡ with_values Some list
 
 -- the same of each list
 abbrev pub AllPlaced : {V : Type 0} → List (List V) → List (List (Entry ℕ)) → List (List (Entry V)) → Type 0
@@ -26,17 +26,17 @@ AllPlaced [] [] (L ∷ Ls) = ⊥
 AllPlaced [] (N ∷ Ns) Ls = ⊥
 AllPlaced (vs ∷ vss) [] Ls = ⊥
 AllPlaced (vs ∷ vss) (N ∷ Ns) [] = ⊥
-AllPlaced (vs ∷ vss) (N ∷ Ns) (L ∷ Ls) = IsPlaced vs N L × AllPlaced vss Ns Ls
+AllPlaced (vs ∷ vss) (N ∷ Ns) (L ∷ Ls) = HasPlacedValues vs N L × AllPlaced vss Ns Ls
 
 -- a range with a value before other entries, where there is a value
-abbrev pub with_value : {V : Type 0} → Entry ℕ → Option V → List (Entry V) → List (Entry V)
-with_value r None es = es
-with_value r (Some v) es = entry r.lo r.hi v ∷ es
+abbrev pub with_valued_range : {V : Type 0} → Entry ℕ → Option V → List (Entry V) → List (Entry V)
+with_valued_range r None es = es
+with_valued_range r (Some v) es = entry r.lo r.hi v ∷ es
 
 -- the ranges with the values at their places
 abbrev pub valued : {V : Type 0} → List V → List (Entry ℕ) → List (Entry V)
 valued vs [] = []
-valued vs (r ∷ rs) = with_value r (slice_get vs r.value) (valued vs rs)
+valued vs (r ∷ rs) = with_valued_range r (slice_get vs r.value) (valued vs rs)
 
 -- the same of each list
 abbrev pub all_valued : {V : Type 0} → List (List V) → List (List (Entry ℕ)) → List (List (Entry V))

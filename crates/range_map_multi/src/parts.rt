@@ -1,7 +1,7 @@
 //! Streams taken apart: the ranges with their places, to be gone through together, and the carriers at these places.
 ghost use Rattle.std.specs.Prelude.{◌≡◌, map, IfOk};
 ghost use Rattle.blaze_table.specs.Canonical.{IsRangeMap};
-ghost use Rattle.range_map_multi.specs.Parts.{IsPlaced, AllPlaced, AllRangeMaps};
+ghost use Rattle.range_map_multi.specs.Parts.{HasPlacedValues, AllPlaced, AllRangeMaps};
 
 use blaze_int::Integer;
 use blaze_streams::{CanonMapIter, Cursor, PlaceCursor, SortedDisjointMap, ValueCarrier};
@@ -13,7 +13,7 @@ fn parts_of<T: Integer, VC: ValueCarrier, I: SortedDisjointMap<T, VC>>(
     stream: I,
 ) -> Result<(PlaceCursor<T>, Vec<VC>), AllocError>
     ensures placed { IfOk result
-        (λ parts. IsPlaced (map VC.shown parts.1.items) parts.0 (I.left stream)) }
+        (λ parts. HasPlacedValues (map VC.shown parts.1.items) parts.0 (I.left stream)) }
     ensures range_map { IfOk result (λ parts. IsRangeMap VC.Value.eq T.low T.high (I.left stream)) }
 {
     stream.in_hand();

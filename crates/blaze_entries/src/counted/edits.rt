@@ -47,7 +47,7 @@ impl<T: Integer, V: Drop> Counted<T, V> {
 
     /// Puts an entry in, at a start where none is. Refused memory leaves the entries.
     pub fn insert(&mut self, start: T, end: T, value: V) -> Result<(), AllocError>
-        requires { start_at (T.rank start) self.old.entries ≡ None }
+        requires absent { start_at (T.rank start) self.old.entries ≡ None }
         ensures ok { OnOk result (self.new
             ≡ record self.old {
               entries = with_entry
@@ -64,7 +64,7 @@ impl<T: Integer, V: Drop> Counted<T, V> {
 
     /// The same as `insert`, and nothing is counted.
     pub(crate) fn insert_uncounted(&mut self, start: T, end: T, value: V) -> Result<(), AllocError>
-        requires { start_at (T.rank start) self.old.entries ≡ None }
+        requires absent { start_at (T.rank start) self.old.entries ≡ None }
         ensures ok { OnOk result (self.new
             ≡ record self.old {
               entries = with_entry
@@ -81,7 +81,7 @@ impl<T: Integer, V: Drop> Counted<T, V> {
 
     /// Takes the entry at a start out, and returns its value.
     pub fn remove(&mut self, start: T) -> V
-        requires { IsSome (start_at (T.rank start) self.old.entries) }
+        requires present { IsSome (start_at (T.rank start) self.old.entries) }
         ensures entries { self.new
             ≡ record self.old {
               entries = without (T.rank start) self.old.entries;
@@ -97,7 +97,7 @@ impl<T: Integer, V: Drop> Counted<T, V> {
 
     /// The same as `remove`, and nothing is counted.
     pub(crate) fn remove_uncounted(&mut self, start: T) -> V
-        requires { IsSome (start_at (T.rank start) self.old.entries) }
+        requires present { IsSome (start_at (T.rank start) self.old.entries) }
         ensures entries { self.new
             ≡ record self.old { entries = without (T.rank start) self.old.entries } }
         ensures value { option_map (λ e. e.value) (start_at (T.rank start) self.old.entries)
@@ -109,7 +109,7 @@ impl<T: Integer, V: Drop> Counted<T, V> {
 
     /// Takes the first entry out, and returns its value. No search is made.
     pub fn remove_first(&mut self) -> V
-        requires { IsSome (slice_get self.old.entries 0) }
+        requires present { IsSome (slice_get self.old.entries 0) }
         ensures removed { IsFirstRemoved result self.old.entries self.new.entries }
         ensures counted { self.new
             ≡ record self.old {
@@ -126,7 +126,7 @@ impl<T: Integer, V: Drop> Counted<T, V> {
 
     /// Takes the last entry out, and returns its value. No search is made.
     pub fn remove_last(&mut self) -> V
-        requires { IsSome (slice_get self.old.entries (length self.old.entries - 1)) }
+        requires present { IsSome (slice_get self.old.entries (length self.old.entries - 1)) }
         ensures removed { IsLastRemoved result self.old.entries self.new.entries }
         ensures counted { self.new
             ≡ record self.old {

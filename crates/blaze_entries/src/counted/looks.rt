@@ -83,7 +83,7 @@ impl<T: Integer, V: Clone> Counted<T, V> {
 
     /// A clone of the value of the entry at a start. Refused memory leaves the entries.
     pub fn clone_value(&mut self, start: T) -> Result<V, AllocError>
-        requires { IsSome (start_at (T.rank start) self.old.entries) }
+        requires present { IsSome (start_at (T.rank start) self.old.entries) }
         ensures value { IfOk result
             (λ value. IfSome (start_at (T.rank start) self.old.entries)
             (λ e. V.is_clone e.value value)) }

@@ -40,7 +40,7 @@ impl<T: Integer, V: Drop> Entries<T, V> {
     /// Has the entries of a list whose starts ascend in place of its own: first key, last key and value. No entry is counted.
     /// Refused memory drops the list.
     pub fn set_sorted(&mut self, entries: Vec<(T, T, V)>) -> Result<(), AllocError>
-        requires { StartsAscend T.low T.high (shown_list T.rank entries.items) }
+        requires ascend { StartsAscend T.low T.high (shown_list T.rank entries.items) }
         ensures ok { OnOk result (self.new.counted
             ≡ record self.old.counted { entries = shown_list T.rank entries.items }) }
         ensures err { OnErr result (self.new.counted ≡ self.old.counted) }
@@ -73,7 +73,7 @@ impl<T: Integer, V: Drop> Entries<T, V> {
 
     /// Takes the entry at a start out, and returns its value.
     pub fn remove(&mut self, start: T) -> V
-        requires { IsSome (start_at (T.rank start) self.old.counted.entries) }
+        requires present { IsSome (start_at (T.rank start) self.old.counted.entries) }
         ensures entries { self.new.counted
             ≡ record self.old.counted { entries = without (T.rank start) self.old.counted.entries } }
     {

@@ -12,7 +12,7 @@ use Rattle.blaze_entries.specs.declared.range_entry.RangeEntry.{RangeEntry}
 use Rattle.blaze_table.specs.Edited.{IsLeft}
 use Rattle.blaze_table.specs.Entries.{Entry, entry}
 use Rattle.blaze_table.specs.Canonical.{IsCanonical}
-use Rattle.blaze_table.specs.Planned.{inner, IsRestKept, IsStartPut, IsPutAt, IsExtended}
+use Rattle.blaze_table.specs.Planned.{inner, IsRestKept, IsStartPut, IsPutAt, IsEndPut}
 use Rattle.blaze_table.specs.Splice.{before, IsRangeCutOf}
 use Rattle.blaze_table.proofs.Paints.Splices.{by_before, before_ends, before_keeps, before_cuts}
 use Rattle.blaze_table.proofs.Cuts.Splits.{last_at, from_at}
@@ -134,7 +134,7 @@ module _ {V : Type 0} (eq : V → V → Bool) where
               parts = below_last l high e es t ∙ ap (λ xs. xs ++ e ∷ []) (sym (front_last l high e es t) ∙ ap (λ k. below k es) here);
             }
 
-    pub extended : (l f z : ℤ) (i : IsLeftAt l f) (c1 c2 c3 : List (Entry V)) → IsRestKept eq (l -ℤ pos 1) z es c1 → c2 ≡ below l c1 ++ from (z +ℤ pos 1) c1 → c3 ≡ with_end f z c2 → IsExtended eq f z es c3
+    pub extended : (l f z : ℤ) (i : IsLeftAt l f) (c1 c2 c3 : List (Entry V)) → IsRestKept eq (l -ℤ pos 1) z es c1 → c2 ≡ below l c1 ++ from (z +ℤ pos 1) c1 → c3 ≡ with_end f z c2 → IsEndPut eq f z es c3
     extended l f z i c1 c2 c3 r q t =
         let e = i.of in
         let here = (from_at f low high e es s i.found).0 in

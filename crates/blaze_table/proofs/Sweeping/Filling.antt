@@ -21,7 +21,7 @@ use Rattle.blaze_table.proofs.Sweeping.Placed.{one_item, item_of, none_at, value
 use Rattle.blaze_table.proofs.Sweeping.Sweeps.{swept_none, swept_more}
 
 -- what the pairs paint below the key `from` is in the list, the pieces from there on are left, and each pair's value is at hand
-pub record IsFilled {T V : Type 0} (eq : V → V → Bool) (rank : T → ℤ) (low high : ℤ) (placed : List (Placed T V)) (b : ℤ) (rest : List (Entry ℕ)) (out : List (Entry V)) (held : List (Held V)) : Type 0 where
+pub record IsFilledSoFar {T V : Type 0} (eq : V → V → Bool) (rank : T → ℤ) (low high : ℤ) (placed : List (Placed T V)) (b : ℤ) (rest : List (Entry ℕ)) (out : List (Entry V)) (held : List (Held V)) : Type 0 where
   pub from : ℤ
   pub swept : (ps : List (Entry V)) → ArePlaced rank ps placed → IsSwept eq low high (last_at ps) from out
   pub left : ArePieces rank placed from b rest
@@ -47,7 +47,7 @@ module _ {V : Type 0} (eq : V → V → Bool) (laws : IsEquivalence eq) where
     kept_first (x ∷ xs) zero p q = subst (λ (o : Option (Placed T V)). SameOption eq (Some x.value) (option_map (λ (p : Placed T V). p.value) o)) q (laws.refl x.value)
     kept_first (x ∷ xs) (suc j) p q = kept_first xs j p q
 
-    pub filled_none : (b : ℤ) (pieces : List (Entry ℕ)) → ArePieces rank placed low b pieces → IsFilled eq rank low high placed b pieces [] (map kept_value placed)
+    pub filled_none : (b : ℤ) (pieces : List (Entry ℕ)) → ArePieces rank placed low b pieces → IsFilledSoFar eq rank low high placed b pieces [] (map kept_value placed)
     filled_none b pieces made = record {
       from = low;
       swept = λ ps are. swept_none eq laws low high (last_at ps) low (λ k l. none_at rank ps placed are k (λ i p q h. let e = item_of (EndsAreKeys rank low high) placed i p keys q in omega (arith, ints, l, h.0, e.0)));
@@ -55,7 +55,7 @@ module _ {V : Type 0} (eq : V → V → Bool) (laws : IsEquivalence eq) where
       at_hand = kept_first placed;
     }
 
-    pub some_value : (b : ℤ) (x : Entry ℕ) (rest : List (Entry ℕ)) (out : List (Entry V)) (held : List (Held V)) → IsFilled eq rank low high placed b (x ∷ rest) out held → IsSome (value_in out held x.value)
+    pub some_value : (b : ℤ) (x : Entry ℕ) (rest : List (Entry ℕ)) (out : List (Entry V)) (held : List (Held V)) → IsFilledSoFar eq rank low high placed b (x ∷ rest) out held → IsSome (value_in out held x.value)
     some_value b x rest out held c = some (value_in out held x.value) c.left.2.pair.value (c.at_hand x.value c.left.2.pair c.left.2.is)
       where
         some : (o : Option V) (w : V) → SameOption eq o (Some w) → IsSome o
@@ -64,7 +64,7 @@ module _ {V : Type 0} (eq : V → V → Bool) (laws : IsEquivalence eq) where
 
     -- one piece more
     pub filled_more : (b : ℤ) (x : Entry ℕ) (rest : List (Entry ℕ)) (out new : List (Entry V)) (held after : List (Held V)) → low ≤ℤ x.lo → x.hi ≤ℤ high → PutsPiece eq x.lo x.hi x.value out new held after
-        → IsFilled eq rank low high placed b (x ∷ rest) out held → IsFilled eq rank low high placed b rest new after
+        → IsFilledSoFar eq rank low high placed b (x ∷ rest) out held → IsFilledSoFar eq rank low high placed b rest new after
     filled_more b x rest out new held after f u puts c =
         let piece = c.left.2 in
         let p = entry x.lo x.hi puts.value in
@@ -91,6 +91,6 @@ module _ {V : Type 0} (eq : V → V → Bool) (laws : IsEquivalence eq) where
         }
 
     -- no piece is left
-    pub filled_all : (b : ℤ) (out : List (Entry V)) (held : List (Held V)) → b ≡ high +ℤ pos 1 → IsFilled eq rank low high placed b [] out held → IsCanonicalOfPlaced eq rank low high placed out
+    pub filled_all : (b : ℤ) (out : List (Entry V)) (held : List (Held V)) → b ≡ high +ℤ pos 1 → IsFilledSoFar eq rank low high placed b [] out held → IsCanonicalOfPlaced eq rank low high placed out
     filled_all b out held e c ps are = canonical_of_swept eq laws low high c.from ps out (c.swept ps are)
         (λ k l. none_at rank ps placed are k (λ i p q h. by_lt_z k b (λ s. c.left.1 i p q k l s h) (λ s. let r = item_of (EndsAreKeys rank low high) placed i p keys q in omega (arith, ints, r.1, e, h.1, s))))

@@ -7,7 +7,7 @@ use Rattle.std.proofs.lemmas.List.Elements.{All-nil, All-cons, Contains-append_r
 use Rattle.std.proofs.lemmas.List.Sorted.{All-permutation, Contains-permutation}
 use Rattle.std.proofs.lemmas.Option.{slice_get_within}
 use Rattle.blaze_table.specs.Entries.{Entry}
-use Rattle.blaze_table.specs.Pieces.{EndsAreKeys, AreAscending, HasStarted, IsWaiting, KeepsReaching, ArePieces, IsUnderway}
+use Rattle.blaze_table.specs.Pieces.{EndsAreKeys, AreAscending, HasStarted, IsWaiting, KeepsReaching, ArePieces, IsSweptSoFar}
 use Rattle.blaze_table.proofs.Sweeping.Pieces.{ended}
 use Rattle.blaze_table.proofs.Sweeping.Placed.{one_item, item_of, one_more}
 use Rattle.blaze_table.specs.declared.sweep.placed.Placed.{Placed}
@@ -25,7 +25,7 @@ by_le (suc j) (suc n) below above = by_le j n (λ h. below (omega (arith, h))) (
 
 module _ {T V : Type 0} (rank : T → ℤ) (low : ℤ) (placed : List (Placed T V)) where
   -- at the least key all pairs are to come
-  pub underway_none : (high : ℤ) → All (EndsAreKeys rank low high) placed → IsUnderway rank low placed low 0 [] []
+  pub underway_none : (high : ℤ) → All (EndsAreKeys rank low high) placed → IsSweptSoFar rank low placed low 0 [] []
   underway_none high keys = record {
     made = ended rank placed low;
     started = All-nil (HasStarted rank placed low);
@@ -33,7 +33,7 @@ module _ {T V : Type 0} (rank : T → ℤ) (low : ℤ) (placed : List (Placed T 
     others = λ j p q l. (item_of (EndsAreKeys rank low high) placed j p keys q).0;
   }
 
-  module _ (up : AreAscending rank placed) (a : ℤ) (n : ℕ) (waits : List (ℕ × ℕ)) (pieces : List (Entry ℕ)) (c : IsUnderway rank low placed a n waits pieces) where
+  module _ (up : AreAscending rank placed) (a : ℤ) (n : ℕ) (waits : List (ℕ × ℕ)) (pieces : List (Entry ℕ)) (c : IsSweptSoFar rank low placed a n waits pieces) where
     -- all that start below the next wait
     pub waits_for : (s : Placed T V) → slice_get placed n ≡ Some s → IsWaiting rank placed a (rank s.start -ℤ pos 1) waits
     waits_for s is = record {
@@ -51,7 +51,7 @@ module _ {T V : Type 0} (rank : T → ℤ) (low : ℤ) (placed : List (Placed T 
     -- one more waits
     pub underway_more : (s : Placed T V) → slice_get placed n ≡ Some s → (kept new : List (ℕ × ℕ)) (more : List (Entry ℕ))
         → IsWaiting rank placed (rank s.start) (rank s.start -ℤ pos 1) kept → KeepsReaching rank placed (rank s.start) waits kept → ArePieces rank placed low (rank s.start) more → IsPermutation ((s.place, n) ∷ kept) new
-        → IsUnderway rank low placed (rank s.start) (n + 1) new more
+        → IsSweptSoFar rank low placed (rank s.start) (n + 1) new more
     underway_more s is kept new more w k made p =
         let b = rank s.start in
         let from = c.others n s is (omega arith) in

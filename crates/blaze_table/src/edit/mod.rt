@@ -5,7 +5,7 @@ ghost use Rattle.std.specs.Option.{option_map};
 ghost use Rattle.blaze_table.specs.Canonical.{IsCanonical};
 ghost use Rattle.blaze_table.specs.Edited.{IsPlace};
 ghost use Rattle.blaze_table.specs.Entries.{entry};
-ghost use Rattle.blaze_table.specs.Planned.{IsExtended, IsPutAt, IsWorked};
+ghost use Rattle.blaze_table.specs.Planned.{IsEndPut, IsPutAt, IsWorked};
 ghost use Rattle.blaze_table.specs.Splice.{IsRangeCutOf};
 ghost use Rattle.blaze_table.specs.Work.{IsCounted};
 
@@ -57,7 +57,7 @@ pub fn extend<T: Integer, V: Eq + Drop>(
     requires place { IsPlace T.rank V.eq (T.rank lo) entries.old.entries plan None }
     requires joined { option_map (λ f. T.rank f.start) plan.left ≡ Some (T.rank first) }
     ensures extended { OnOk result
-        (IsExtended V.eq (T.rank first) (T.rank plan.end) entries.old.entries entries.new.entries) }
+        (IsEndPut V.eq (T.rank first) (T.rank plan.end) entries.old.entries entries.new.entries) }
     ensures worked { OnOk result (IsWorked 1 0 entries.old entries.new) }
     ensures err { OnErr result (entries.new.entries ≡ entries.old.entries) }
     ensures err_counted { OnErr result (IsCounted entries.old entries.new) }

@@ -46,7 +46,7 @@ impl<T: Integer> RangeSetBlaze<T> {
 
     /// The set of a canonical list of ranges. Refused memory drops the list.
     pub fn from_canonical(alloc: Global, ranges: Vec<RangeInclusive<T>>) -> Result<Self, AllocError>
-        requires { IsRangeSet T.low T.high (shown_bare_ranges T.rank ranges.items) }
+        requires range_set { IsRangeSet T.low T.high (shown_bare_ranges T.rank ranges.items) }
         ensures { IfOk result (λ set. set ≡ shown_bare_ranges T.rank ranges.items) }
     {
         let entries = entries_of_ranges(alloc, ranges)?;

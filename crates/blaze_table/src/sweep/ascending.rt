@@ -2,7 +2,7 @@
 ghost use Rattle.std.specs.Prelude.{◌≤ℤ◌, ◌↔◌, IsTrue, IfOk};
 ghost use Rattle.blaze_table.specs.Entries.{shown_list};
 ghost use Rattle.blaze_table.specs.CanonicalOf.{IsCanonicalOf};
-ghost use Rattle.blaze_table.specs.Swept.{AreApart, first_from};
+ghost use Rattle.blaze_table.specs.Swept.{AreApart, key_after};
 
 use crate::sweep::push::push_entry;
 use blaze_int::Integer;
@@ -11,7 +11,7 @@ use std::alloc::{AllocError, Global};
 
 /// Whether a pair has a key and starts above the end of the one before it.
 fn follows<T: Integer, V>(last: Option<T>, pair: &(T, T, V)) -> bool
-    ensures { IsTrue result ↔ ((first_from T.rank T.low last ≤ℤ T.rank pair.now.0)
+    ensures { IsTrue result ↔ ((key_after T.rank T.low last ≤ℤ T.rank pair.now.0)
         × (T.rank pair.now.0 ≤ℤ T.rank pair.now.1)) }
 {
     let (start, end, _) = pair;

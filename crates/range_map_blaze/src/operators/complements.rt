@@ -7,6 +7,7 @@ ghost use Rattle.blaze_table.specs.RangeSets.{unit_eq};
 ghost use Rattle.range_map_blaze.specs.Made.{IsMade};
 
 use crate::map::RangeMapBlaze;
+use crate::operators::set_of::set_of;
 use crate::pairs::push_clone;
 use blaze_int::Integer;
 use blaze_streams::{SortedDisjoint, complement};
@@ -22,13 +23,7 @@ pub fn unmapped_keys<T: Integer, V: Eq>(
 {
     let alloc = map.allocator();
     let stream = complement(alloc, map.ranges())?;
-    stream.in_hand();
-    let mut ranges = Vec::new(alloc);
-    for range in stream {
-        ranges.push(range)?;
-    }
-    let set = RangeSetBlaze::from_canonical(alloc, ranges)?;
-    Ok(set)
+    set_of(alloc, stream)
 }
 
 impl<T: Integer, V: Eq + Clone> RangeMapBlaze<T, V> {

@@ -8,9 +8,10 @@ use crate::map::RangeMapBlaze;
 use crate::operators::by_keys::{outside_keys, outside_keys_by_value};
 use crate::operators::chosen::{lent_chosen, owned_chosen};
 use crate::operators::cut::are_few;
+use crate::operators::set_of::set_of;
 use crate::operators::union::union_by_value;
 use blaze_int::Integer;
-use blaze_streams::{ExactlyOne, OwnedRangeValuesIter};
+use blaze_streams::{ExactlyOne, OwnedRangeValuesIter, ranges_of};
 use std::alloc::AllocError;
 
 /// The values on the keys that exactly one of the two maps has, in one pass over both. Where one of them has few entries, they
@@ -37,7 +38,7 @@ pub fn symmetric_difference<T: Integer, V: Eq + Clone>(
     )
 }
 
-/// The same, with both maps' own values, in one pass.
+/// The same, with both maps' own values. Where one of the maps has few entries, the other is edited in place.
 pub fn symmetric_difference_by_value<T: Integer, V: Eq + Clone>(
     left: RangeMapBlaze<T, V>,
     right: RangeMapBlaze<T, V>,
@@ -46,7 +47,14 @@ pub fn symmetric_difference_by_value<T: Integer, V: Eq + Clone>(
     ensures { IfOk result (λ map. IsChosen V.eq T.low T.high option_xor left.entries
         right.entries map.entries) }
 {
-    let room = left.ranges_len().saturating_add(right.ranges_len());
+    let (left_len, right_len) = (left.ranges_len(), right.ranges_len());
+    if are_few(right_len, left_len) {
+        return alone_by_value(left, right);
+    }
+    if are_few(left_len, right_len) {
+        return alone_by_value(right, left);
+    }
+    let room = left_len.saturating_add(right_len);
     owned_chosen(
         left,
         OwnedRangeValuesIter::new(right.table),
@@ -96,6 +104,21 @@ fn alone<T: Integer, V: Eq + Clone>(
 {
     let left_alone = outside_keys(left, &right.table)?;
     let right_alone = outside_keys(right, &left.table)?;
+    union_by_value(left_alone, right_alone)
+}
+
+/// The same, with both maps' own values. The set of the right map's keys is made first, since its entries go.
+fn alone_by_value<T: Integer, V: Eq + Clone>(
+    left: RangeMapBlaze<T, V>,
+    right: RangeMapBlaze<T, V>,
+) -> Result<RangeMapBlaze<T, V>, AllocError>
+    requires { ClonesAreAlike V.is_clone V.eq }
+    ensures { IfOk result (λ map. IsChosen V.eq T.low T.high option_xor left.entries
+        right.entries map.entries) }
+{
+    let keys = set_of(right.allocator(), ranges_of(&right.table))?;
+    let right_alone = outside_keys_by_value(right, &left.table)?;
+    let left_alone = outside_keys_by_value(left, keys.as_table())?;
     union_by_value(left_alone, right_alone)
 }
 

@@ -7,5 +7,6 @@ pub mod chosen;
 pub mod complements;
 pub mod cut;
 pub mod exactly_one;
+pub mod set_of;
 mod sub;
 pub mod union;

@@ -36,7 +36,7 @@ fn path_for<T: Integer, V: Eq + Clone>(left: &RangeTable<T, V>, right: &RangeTab
     }
 }
 
-/// Whether the entries of a table cover at most an eighth of the entries of another, wholly or in part.
+/// Whether at most an eighth of the entries of another table start within the entries of a table. One search for each of these.
 fn cover_few<T: Integer, V: Eq + Clone>(
     table: &RangeTable<T, V>,
     other: &RangeTable<T, V>,
@@ -51,7 +51,7 @@ fn cover_few<T: Integer, V: Eq + Clone>(
     true
 }
 
-/// How many entries are left of `most` without those of a table that share a key with a range. None where these are more.
+/// How many entries are left of `most` without those of a table that start within a range. None where these are more.
 fn most_beside<T: Integer, V: Eq + Clone>(
     table: &RangeTable<T, V>,
     start: T,
@@ -59,7 +59,7 @@ fn most_beside<T: Integer, V: Eq + Clone>(
     most: usize,
 ) -> Option<usize> {
     let mut rest = most;
-    for (first, _, _) in table.iter_ending_from(start) {
+    for (first, _, _) in table.iter_starting_from(start) {
         if is_below(end, first) {
             return Some(rest);
         }

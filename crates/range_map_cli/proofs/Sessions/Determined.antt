@@ -9,10 +9,10 @@ use Rattle.blaze_table.specs.Entries.{Entry, at, entry, SameEntries}
 use Rattle.blaze_table.proofs.Canonical.ListLaws.{canonical_is_unique}
 use Rattle.range_map_cli.specs.Commands.{Command, Blank, Paint, Fill, Insert, Remove, Get, At, Len, Entries}
 use Rattle.range_map_cli.specs.Lines.{lines_of}
-use Rattle.range_map_cli.specs.Pieces.{IsPiece}
-use Rattle.range_map_cli.specs.Replies.{Content, nothing, content_after, greatest_key, least_key, entries_text, line, Lists, piece_text, Replies}
+use Rattle.range_map_cli.specs.Pieces.{IsGreatestPiece}
+use Rattle.range_map_cli.specs.Replies.{Content, nothing, content_after_command, greatest_key, least_key, listed_entries, line, Lists, piece_text, Replies}
 use Rattle.range_map_cli.specs.Output.{commands_of, has_bad, Answers, error_line, IsOutput}
-use Rattle.range_map_cli.specs.Sessions.{after_all}
+use Rattle.range_map_cli.specs.Sessions.{content_after_commands}
 use Rattle.range_map_cli.proofs.Sessions.Forwarding.{front_none}
 
 same_entry : (e f : Entry (List ℕ)) → e.lo ≡ f.lo → e.hi ≡ f.hi → bytes_eq e.value f.value ≡ true → e ≡ f
@@ -27,9 +27,9 @@ same_list (e ∷ es) (f ∷ fs) h = ap (λ x. x ∷ es) (same_entry e f h.0 h.1 
 one_list : (content : Content) (a b : List ℕ) → Lists content a → Lists content b → a ≡ b
 one_list content a b h k =
     let same = canonical_is_unique bytes_eq nat_list_eq_equiv h.0 k.0 h.1 k.1 (λ key. same_along bytes_eq refl (h.2 key ∙ sym (k.2 key)) (same_itself bytes_eq nat_list_eq_equiv (at h.0 key))) in
-    h.3 ∙ ap entries_text (same_list h.0 k.0 same) ∙ sym k.3
+    h.3 ∙ ap listed_entries (same_list h.0 k.0 same) ∙ sym k.3
 
-one_piece : (low high : ℤ) (content : Content) (k a b c d : ℤ) → IsPiece low high content k a b → IsPiece low high content k c d → (a ≡ c) × (b ≡ d)
+one_piece : (low high : ℤ) (content : Content) (k a b c d : ℤ) → IsGreatestPiece low high content k a b → IsGreatestPiece low high content k c d → (a ≡ c) × (b ≡ d)
 one_piece low high content k a b c d p q =
     let wide = p.greatest c d q.from q.starts q.ends q.to q.same in
     let back = q.greatest a b p.from p.starts p.ends p.to p.same in
@@ -51,16 +51,16 @@ one_reply content Entries a b h k = h.2 ∙ ap (λ t. line t) (one_list content 
 -- so do the contents at the start and the commands the answers
 pub one_answer : (content : Content) (commands : List Command) (a b : List ℕ) → Answers content commands a → Answers content commands b → a ≡ b
 one_answer content [] a b h k = h ∙ sym k
-one_answer content (c ∷ cs) a b h k = h.2 ∙ ap (λ l. l ++ h.1) (one_reply content c h.0 k.0 h.3 k.3) ∙ ap (λ l. k.0 ++ l) (one_answer (content_after c content) cs h.1 k.1 h.4 k.4) ∙ sym k.2
+one_answer content (c ∷ cs) a b h k = h.2 ∙ ap (λ l. l ++ h.1) (one_reply content c h.0 k.0 h.3 k.3) ∙ ap (λ l. k.0 ++ l) (one_answer (content_after_command c content) cs h.1 k.1 h.4 k.4) ∙ sym k.2
 
 pub one_output : (text a b : List ℕ) → IsOutput text a → IsOutput text b → a ≡ b
 one_output text a b h k = h.2 ∙ ap (λ l. l ++ (cond (has_bad (lines_of text)) (error_line (length (commands_of (lines_of text)))) [])) (one_answer nothing (commands_of (lines_of text)) h.0 k.0 h.1 k.1) ∙ sym k.2
 
 -- answers to commands, and then to others
-split_answers : (content : Content) (cs ds : List Command) (text : List ℕ) → Answers content (cs ++ ds) text → (first rest : List ℕ) × (text ≡ first ++ rest) × Answers content cs first × Answers (after_all cs content) ds rest
+split_answers : (content : Content) (cs ds : List Command) (text : List ℕ) → Answers content (cs ++ ds) text → (first rest : List ℕ) × (text ≡ first ++ rest) × Answers content cs first × Answers (content_after_commands cs content) ds rest
 split_answers content [] ds text h = ([], text, refl, refl, h)
 split_answers content (c ∷ cs) ds text h =
-    let r = split_answers (content_after c content) cs ds h.1 h.4 in
+    let r = split_answers (content_after_command c content) cs ds h.1 h.4 in
     (h.0 ++ r.0, r.1, h.2 ∙ ap (λ l. h.0 ++ l) r.2 ∙ sym (append_assoc h.0 r.0 r.1), (h.0, r.0, refl, h.3, r.3), r.4)
 
 -- what is printed for a bad line, where there is one
@@ -69,7 +69,7 @@ bad_text text = cond (has_bad (lines_of text)) (error_line (length (commands_of 
 
 -- the output begins with the answers to first commands
 pub output_from : (text out answers : List ℕ) (cs ds : List Command) → commands_of (lines_of text) ≡ cs ++ ds → Answers nothing cs answers → IsOutput text out
-    → (rest : List ℕ) × (out ≡ answers ++ (rest ++ bad_text text)) × Answers (after_all cs nothing) ds rest
+    → (rest : List ℕ) × (out ≡ answers ++ (rest ++ bad_text text)) × Answers (content_after_commands cs nothing) ds rest
 output_from text out answers cs ds asked answered h =
     let s = split_answers nothing cs ds h.0 (subst (λ l. Answers nothing l h.0) asked h.1) in
     (s.1, h.2 ∙ ap (λ l. l ++ bad_text text) (s.2 ∙ ap (λ l. l ++ s.1) (one_answer nothing cs s.0 answers s.3 answered)) ∙ append_assoc answers s.1 (bad_text text), s.4)
@@ -98,7 +98,7 @@ reply_line content Entries text h = inr (_, h.2)
 
 whole_answers : (content : Content) (commands : List Command) (text : List ℕ) → Answers content commands text → IsWhole text
 whole_answers content [] text h = inl h
-whole_answers content (c ∷ cs) text h = subst IsWhole (sym h.2) (whole_append h.0 h.1 (first (reply_line content c h.0 h.3)) (whole_answers (content_after c content) cs h.1 h.4))
+whole_answers content (c ∷ cs) text h = subst IsWhole (sym h.2) (whole_append h.0 h.1 (first (reply_line content c h.0 h.3)) (whole_answers (content_after_command c content) cs h.1 h.4))
   where
     first : ((c ≡ Blank) × (h.0 ≡ [])) ⊎ ((front : List ℕ) × (h.0 ≡ front ++ 10 ∷ [])) → IsWhole h.0
     first (inl p) = inl p.1

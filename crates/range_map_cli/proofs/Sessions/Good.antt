@@ -2,10 +2,10 @@
 use Rattle.std.proofs.Common.{◌≡◌, ℕ, ℤ, List, [], ◌∷◌, true, false, cond, refl, subst, Option, Some, None, Bool, ◌&&◌, codes, option_map, bytes_eq, IfSome, int_le}
 use Rattle.std.specs.Ordering.{int_eq}
 use Rattle.std.specs.Option.{option_or}
-use Rattle.range_map_cli.specs.Commands.{Command, Blank, Paint, Fill, Insert, Remove, Get, At, Len, Entries, command_of, command_of_words, range_of, insert_of, words_of, number_of, is_word}
+use Rattle.range_map_cli.specs.Commands.{Command, Blank, Paint, Fill, Insert, Remove, Get, At, Len, Entries, command_of, command_of_words, range_of, insert_of, words_of, written_number, is_word}
 use Rattle.blaze_table.specs.Filled.{filled}
 use Rattle.blaze_table.specs.Painted.{painted}
-use Rattle.range_map_cli.specs.Replies.{Content, content_after}
+use Rattle.range_map_cli.specs.Replies.{Content, content_after_command}
 use Rattle.range_map_cli.specs.States.{HasWords}
 
 abbrev IsGood : Command → Type 0
@@ -46,13 +46,13 @@ words_good : (ws : List (List ℕ)) → IfGood (command_of_words ws)
 words_good [] = tt
 words_good (n ∷ []) = choose (bytes_eq n (codes "len")) (Some Len) _ (λ e. tt) (choose (bytes_eq n (codes "list")) (Some Entries) None (λ e. tt) tt)
 words_good (n ∷ k ∷ []) =
-    choose (bytes_eq n (codes "get")) (option_map Get (number_of k)) _ (λ e. key_good Get (number_of k) (λ key. tt))
-    (choose (bytes_eq n (codes "remove")) (option_map Remove (number_of k)) _ (λ e. key_good Remove (number_of k) (λ key. tt))
-    (choose (bytes_eq n (codes "at")) (option_map At (number_of k)) None (λ e. key_good At (number_of k) (λ key. tt)) tt))
-words_good (n ∷ k ∷ w ∷ []) = choose (bytes_eq n (codes "insert")) (insert_of (number_of k) w) None (λ e. insert_good (number_of k) w) tt
+    choose (bytes_eq n (codes "get")) (option_map Get (written_number k)) _ (λ e. key_good Get (written_number k) (λ key. tt))
+    (choose (bytes_eq n (codes "remove")) (option_map Remove (written_number k)) _ (λ e. key_good Remove (written_number k) (λ key. tt))
+    (choose (bytes_eq n (codes "at")) (option_map At (written_number k)) None (λ e. key_good At (written_number k) (λ key. tt)) tt))
+words_good (n ∷ k ∷ w ∷ []) = choose (bytes_eq n (codes "insert")) (insert_of (written_number k) w) None (λ e. insert_good (written_number k) w) tt
 words_good (n ∷ l ∷ k ∷ w ∷ []) =
-    choose (bytes_eq n (codes "paint")) (range_of Paint (number_of l) (number_of k) w) _ (λ e. range_good Paint (number_of l) (number_of k) w (λ lo hi good. good))
-    (choose (bytes_eq n (codes "fill")) (range_of Fill (number_of l) (number_of k) w) None (λ e. range_good Fill (number_of l) (number_of k) w (λ lo hi good. good)) tt)
+    choose (bytes_eq n (codes "paint")) (range_of Paint (written_number l) (written_number k) w) _ (λ e. range_good Paint (written_number l) (written_number k) w (λ lo hi good. good))
+    (choose (bytes_eq n (codes "fill")) (range_of Fill (written_number l) (written_number k) w) None (λ e. range_good Fill (written_number l) (written_number k) w (λ lo hi good. good)) tt)
 words_good (a ∷ b ∷ c ∷ d ∷ e ∷ ws) = tt
 
 line_good : (line : List ℕ) → IfGood (command_of line)
@@ -74,7 +74,7 @@ filled_good lo hi word content good words = λ key. place (int_le lo key && int_
     place false None h = tt
     place t (Some old) h = h
 
-after_good : (command : Command) (content : Content) → IsGood command → HasWords content → HasWords (content_after command content)
+after_good : (command : Command) (content : Content) → IsGood command → HasWords content → HasWords (content_after_command command content)
 after_good Blank content good words = words
 after_good (Paint lo hi word) content good words = painted_good lo hi word content good words
 after_good (Fill lo hi word) content good words = filled_good lo hi word content good words
@@ -90,5 +90,5 @@ after_good Len content good words = words
 after_good Entries content good words = words
 
 -- a good line leaves words
-pub HasWords-after : (line : List ℕ) (command : Command) (content : Content) → command_of line ≡ Some command → HasWords content → HasWords (content_after command content)
+pub HasWords-after : (line : List ℕ) (command : Command) (content : Content) → command_of line ≡ Some command → HasWords content → HasWords (content_after_command command content)
 HasWords-after line command content is words = after_good command content (subst IfGood is (line_good line)) words

@@ -7,7 +7,7 @@ use Rattle.std.specs.List.{onto_first, list_all}
 use Rattle.std.specs.Char.{is_ascii_alphanumeric, is_ascii_digit}
 use Rattle.std.proofs.str.Laws.{order}
 use Rattle.std.proofs.lemmas.Bool.{and_parts}
-use Rattle.range_map_cli.specs.Commands.{Command, Paint, Fill, Insert, Remove, Get, At, Len, Entries, command_of, command_of_words, range_of, insert_of, words_of, number_of, is_word, is_digits}
+use Rattle.range_map_cli.specs.Commands.{Command, Paint, Fill, Insert, Remove, Get, At, Len, Entries, command_of, command_of_words, range_of, insert_of, words_of, written_number, is_word, is_digits}
 
 -- the bytes of the words, with one more for each
 total : List (List ℕ) → ℕ
@@ -40,7 +40,7 @@ same_cond : (t : Bool) (x : Option ℤ) → cond t x x ≡ x
 same_cond true x = refl
 same_cond false x = refl
 
-number_long : (text : List ℕ) → 20 < length text → number_of text ≡ None
+number_long : (text : List ℕ) → 20 < length text → written_number text ≡ None
 number_long [] h = absurd (omega arith)
 number_long (b ∷ bs) h = rw (digits_long bs (omega arith), digits_long (b ∷ bs) (omega arith)) (same_cond (eqb b 45) None)
 
@@ -58,11 +58,11 @@ choose true o p h n = h refl
 choose false o p h n = n
 
 -- one of the three is too long
-range_long : (f : ℤ → ℤ → List ℕ → Command) (lo hi word : List ℕ) → 72 < length lo + (length hi + length word) → range_of f (number_of lo) (number_of hi) word ≡ None
+range_long : (f : ℤ → ℤ → List ℕ → Command) (lo hi word : List ℕ) → 72 < length lo + (length hi + length word) → range_of f (written_number lo) (written_number hi) word ≡ None
 range_long f lo hi word h =
-    ⊎_elim (λ long. ap (λ n. range_of f n (number_of hi) word) (number_long lo long)) (λ low.
-    ⊎_elim (λ long. ap (λ n. range_of f (number_of lo) n word) (number_long hi long) ∙ no_high (number_of lo)) (λ high.
-    both (number_of lo) (number_of hi) (λ good. absurd (omega (arith, low, high, h, word_short word good)))) (order 20 (length hi))) (order 20 (length lo))
+    ⊎_elim (λ long. ap (λ n. range_of f n (written_number hi) word) (number_long lo long)) (λ low.
+    ⊎_elim (λ long. ap (λ n. range_of f (written_number lo) n word) (number_long hi long) ∙ no_high (written_number lo)) (λ high.
+    both (written_number lo) (written_number hi) (λ good. absurd (omega (arith, low, high, h, word_short word good)))) (order 20 (length hi))) (order 20 (length lo))
   where
     no_high : (a : Option ℤ) → range_of f a None word ≡ None
     no_high None = refl
@@ -74,9 +74,9 @@ range_long f lo hi word h =
     both (Some l) (Some m) n = choose (is_word word) (Some (f l m word)) None (λ good. absurd (n good)) refl
 
 -- one of the two is too long
-insert_long : (key word : List ℕ) → 52 < length key + length word → insert_of (number_of key) word ≡ None
+insert_long : (key word : List ℕ) → 52 < length key + length word → insert_of (written_number key) word ≡ None
 insert_long key word h =
-    ⊎_elim (λ long. ap (λ n. insert_of n word) (number_long key long)) (λ low. with_key (number_of key) (λ good. absurd (omega (arith, low, h, word_short word good)))) (order 20 (length key))
+    ⊎_elim (λ long. ap (λ n. insert_of n word) (number_long key long)) (λ low. with_key (written_number key) (λ good. absurd (omega (arith, low, h, word_short word good)))) (order 20 (length key))
   where
     with_key : (a : Option ℤ) → (is_word word ≡ true → ⊥) → insert_of a word ≡ None
     with_key None n = refl
@@ -89,13 +89,13 @@ words_long (n ∷ []) h =
     choose (bytes_eq n (codes "len")) (Some Len) _ (λ e. absurd (omega (arith, name_length n (codes "len") e)))
     (choose (bytes_eq n (codes "list")) (Some Entries) None (λ e. absurd (omega (arith, name_length n (codes "list") e))) refl)
 words_long (n ∷ k ∷ []) h =
-    choose (bytes_eq n (codes "get")) (option_map Get (number_of k)) _ (λ e. ap (option_map Get) (number_long k (omega (arith, name_length n (codes "get") e))))
-    (choose (bytes_eq n (codes "remove")) (option_map Remove (number_of k)) _ (λ e. ap (option_map Remove) (number_long k (omega (arith, name_length n (codes "remove") e))))
-    (choose (bytes_eq n (codes "at")) (option_map At (number_of k)) None (λ e. ap (option_map At) (number_long k (omega (arith, name_length n (codes "at") e)))) refl))
-words_long (n ∷ k ∷ w ∷ []) h = choose (bytes_eq n (codes "insert")) (insert_of (number_of k) w) None (λ e. insert_long k w (omega (arith, name_length n (codes "insert") e))) refl
+    choose (bytes_eq n (codes "get")) (option_map Get (written_number k)) _ (λ e. ap (option_map Get) (number_long k (omega (arith, name_length n (codes "get") e))))
+    (choose (bytes_eq n (codes "remove")) (option_map Remove (written_number k)) _ (λ e. ap (option_map Remove) (number_long k (omega (arith, name_length n (codes "remove") e))))
+    (choose (bytes_eq n (codes "at")) (option_map At (written_number k)) None (λ e. ap (option_map At) (number_long k (omega (arith, name_length n (codes "at") e)))) refl))
+words_long (n ∷ k ∷ w ∷ []) h = choose (bytes_eq n (codes "insert")) (insert_of (written_number k) w) None (λ e. insert_long k w (omega (arith, name_length n (codes "insert") e))) refl
 words_long (n ∷ l ∷ k ∷ w ∷ []) h =
-    choose (bytes_eq n (codes "paint")) (range_of Paint (number_of l) (number_of k) w) _ (λ e. range_long Paint l k w (omega (arith, name_length n (codes "paint") e)))
-    (choose (bytes_eq n (codes "fill")) (range_of Fill (number_of l) (number_of k) w) None (λ e. range_long Fill l k w (omega (arith, name_length n (codes "fill") e))) refl)
+    choose (bytes_eq n (codes "paint")) (range_of Paint (written_number l) (written_number k) w) _ (λ e. range_long Paint l k w (omega (arith, name_length n (codes "paint") e)))
+    (choose (bytes_eq n (codes "fill")) (range_of Fill (written_number l) (written_number k) w) None (λ e. range_long Fill l k w (omega (arith, name_length n (codes "fill") e))) refl)
 words_long (a ∷ b ∷ c ∷ d ∷ e ∷ ws) h = refl
 
 too_long : (line : List ℕ) → 80 < length line → command_of line ≡ None

@@ -7,10 +7,10 @@ use Rattle.std.specs.Io.KnownBytes.{Appends}
 use Rattle.range_map_cli.specs.declared.session.Session.{Session}
 use Rattle.range_map_cli.specs.Lines.{lines_of, ends_in, Lacks}
 use Rattle.range_map_cli.specs.Commands.{Command, command_of}
-use Rattle.range_map_cli.specs.Replies.{Content, nothing, content_after, Replies}
+use Rattle.range_map_cli.specs.Replies.{Content, nothing, content_after_command, Replies}
 use Rattle.range_map_cli.specs.Output.{commands_of, has_bad, with_command, bad_or, Answers, AnswersFirst}
 use Rattle.range_map_cli.specs.States.{content_of, HasWords}
-use Rattle.range_map_cli.specs.Sessions.{after_all, with_line, Forwards, IsAt}
+use Rattle.range_map_cli.specs.Sessions.{content_after_commands, with_line, Forwards, IsAt}
 use Rattle.range_map_cli.proofs.Sessions.Kept.{take_again}
 use Rattle.range_map_cli.proofs.Sessions.Lengths.{command_of-take}
 use Rattle.range_map_cli.proofs.Sessions.Cuts.{lines_end, lines_last, ends_in-Lacks, ends_in-append}
@@ -18,14 +18,14 @@ use Rattle.range_map_cli.proofs.Sessions.Good.{HasWords-after}
 use Rattle.range_map_cli.proofs.Sessions.Forwarding.{Forwards-push, Forwards-trans, Forwards-all}
 
 -- one more reply
-Answers-push : (content : Content) (commands : List Command) (command : Command) (text reply : List ℕ) → Answers content commands text → Replies (after_all commands content) command reply → Answers content (commands ++ command ∷ []) (text ++ reply)
+Answers-push : (content : Content) (commands : List Command) (command : Command) (text reply : List ℕ) → Answers content commands text → Replies (content_after_commands commands content) command reply → Answers content (commands ++ command ∷ []) (text ++ reply)
 Answers-push content [] command text reply h r = (reply, [], ap (λ l. l ++ reply) h ∙ sym (append-nil reply), r, refl)
 Answers-push content (c ∷ cs) command text reply h r =
-    (h.0, h.1 ++ reply, ap (λ l. l ++ reply) h.2 ∙ append_assoc h.0 h.1 reply, h.3, Answers-push (content_after c content) cs command h.1 reply h.4 r)
+    (h.0, h.1 ++ reply, ap (λ l. l ++ reply) h.2 ∙ append_assoc h.0 h.1 reply, h.3, Answers-push (content_after_command c content) cs command h.1 reply h.4 r)
 
-after_all-push : (content : Content) (commands : List Command) (command : Command) → after_all (commands ++ command ∷ []) content ≡ content_after command (after_all commands content)
+after_all-push : (content : Content) (commands : List Command) (command : Command) → content_after_commands (commands ++ command ∷ []) content ≡ content_after_command command (content_after_commands commands content)
 after_all-push content [] command = refl
-after_all-push content (c ∷ cs) command = after_all-push (content_after c content) cs command
+after_all-push content (c ∷ cs) command = after_all-push (content_after_command c content) cs command
 
 -- bytes of a line that does not end in them
 pub next_part : (held now : Option (List ℕ)) (text : List ℕ) (session new : Session) (bytes rest : List ℕ) (lines : ℕ)
@@ -67,7 +67,7 @@ module _ (held now : Option (List ℕ)) (text : List ℕ) (session : Session) (r
   -- a good line, with its reply
   module _ (command : Command) (reply : List ℕ) (is : command_of session.line ≡ Some command)
       (replies : HasWords (content_of session.map.entries) → Replies (content_of session.map.entries) command reply) where
-    same_content : content_of session.map.entries ≡ after_all at.commands nothing
+    same_content : content_of session.map.entries ≡ content_after_commands at.commands nothing
     same_content = fun_ext at.stored
 
     pub asked_next : commands_of (lines_of text) ≡ (at.commands ++ command ∷ []) ++ commands_of (lines_of rest)
@@ -79,10 +79,10 @@ module _ (held now : Option (List ℕ)) (text : List ℕ) (session : Session) (r
         Answers-push nothing at.commands command at.answers reply at.answered (subst (λ c. Replies c command reply) same_content (replies words))
 
     -- the line is answered
-    pub next_line : (later : Option (List ℕ)) (new : Session) → ((key : ℤ) → content_of new.map.entries key ≡ content_after command (content_of session.map.entries) key)
+    pub next_line : (later : Option (List ℕ)) (new : Session) → ((key : ℤ) → content_of new.map.entries key ≡ content_after_command command (content_of session.map.entries) key)
         → Forwards now later (session.waiting.items ++ reply) new.waiting.items → new.number ≡ min (session.number + 1) (2 ^ 64 - 1) → new.line ≡ [] → IsAt held later text new rest lines
     next_line later new stored put number line =
-        let content : after_all (at.commands ++ command ∷ []) nothing ≡ content_after command (after_all at.commands nothing) = after_all-push nothing at.commands command in
+        let content : content_after_commands (at.commands ++ command ∷ []) nothing ≡ content_after_command command (content_after_commands at.commands nothing) = after_all-push nothing at.commands command in
         record {
           commands = at.commands ++ command ∷ [];
           partial = [];
@@ -91,8 +91,8 @@ module _ (held now : Option (List ℕ)) (text : List ℕ) (session : Session) (r
           bad = bad_here ∙ ap (λ o. bad_or o (has_bad (lines_of rest))) is;
           answered = answered_next;
           forwards = Forwards-trans held now later (at.answers ++ reply) (session.waiting.items ++ reply) new.waiting.items (Forwards-push held now at.answers session.waiting.items reply at.forwards) put;
-          stored = λ key. stored key ∙ ap (λ c. content_after command c key) same_content ∙ sym (ap (λ (c : Content). c key) content);
-          words = subst HasWords (sym content) (HasWords-after session.line command (after_all at.commands nothing) is at.words);
+          stored = λ key. stored key ∙ ap (λ c. content_after_command command c key) same_content ∙ sym (ap (λ (c : Content). c key) content);
+          words = subst HasWords (sym content) (HasWords-after session.line command (content_after_commands at.commands nothing) is at.words);
           counted = omega (arith, at.counted, length-append at.commands (command ∷ []), ends_in-append (10 ∷ []) rest);
           number = number ∙ one_more (length at.commands) _ _ at.number (length-append at.commands (command ∷ []));
           no_end = λ k d h. absurd (omega arith);

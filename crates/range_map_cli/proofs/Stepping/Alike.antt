@@ -11,7 +11,7 @@ use Rattle.blaze_table.specs.Complement.{absent}
 use Rattle.blaze_table.specs.Count.{mapped_keys}
 use Rattle.blaze_table.specs.Filled.{filled}
 use Rattle.blaze_table.specs.Painted.{painted}
-use Rattle.range_map_cli.specs.Steps.{content_after, after_all, answer, answers, first_key, last_key, pair_of, with_value, without, SameAnswer, SameAnswers, SamePair}
+use Rattle.range_map_cli.specs.Steps.{content_after, after_all, answer, answers, first_mapped_key, last_mapped_key, pair_of, key_with_value, without_key, SameAnswer, SameAnswers, SamePair}
 use Rattle.range_map_cli.specs.declared.step.Step.{Step}
 use Rattle.range_map_cli.specs.declared.step.Step.TheVariants.{Paint, Fill, Insert, Remove, PopFirst, PopLast, Clear, KeepBelow, KeepFrom, Or, And, Minus, Xor, AndSet, MinusSet, ComplementWith}
 use Rattle.range_map_cli.specs.declared.step.Answer.{Answer}
@@ -55,7 +55,7 @@ module _ {V : Type 0} (eq : V → V → Bool) (laws : IsEquivalence eq) where
   same_absent v (Some a) None s = absurd s
   same_absent v (Some a) (Some b) s = tt
 
-  same_without : (o : Option ℤ) (c d : ℤ → Option V) → ((k : ℤ) → SameOption eq (c k) (d k)) → (k : ℤ) → SameOption eq (without o c k) (without o d k)
+  same_without : (o : Option ℤ) (c d : ℤ → Option V) → ((k : ℤ) → SameOption eq (c k) (d k)) → (k : ℤ) → SameOption eq (without_key o c k) (without_key o d k)
   same_without None c d s k = s k
   same_without (Some j) c d s k = same_cond (int_eq k j) None (c k) None (d k) tt (s k)
 
@@ -65,14 +65,14 @@ module _ {V : Type 0} (eq : V → V → Bool) (laws : IsEquivalence eq) where
   same_pair k (Some a) None s = absurd s
   same_pair k (Some a) (Some b) s = (refl, s)
 
-  same_pairs : (o : Option ℤ) (c d : ℤ → Option V) → ((k : ℤ) → SameOption eq (c k) (d k)) → SamePair (λ (j : ℤ). j) eq (with_value c o) (with_value d o)
+  same_pairs : (o : Option ℤ) (c d : ℤ → Option V) → ((k : ℤ) → SameOption eq (c k) (d k)) → SamePair (λ (j : ℤ). j) eq (key_with_value c o) (key_with_value d o)
   same_pairs None c d s = tt
   same_pairs (Some k) c d s = same_pair k (c k) (d k) (s k)
 
-  first_same : (low high : ℤ) (c d : ℤ → Option V) → ((k : ℤ) → SameOption eq (c k) (d k)) → first_key low high c ≡ first_key low high d
+  first_same : (low high : ℤ) (c d : ℤ → Option V) → ((k : ℤ) → SameOption eq (c k) (d k)) → first_mapped_key low high c ≡ first_mapped_key low high d
   first_same low high c d same = first_alike c d (λ k. is_some_alike eq (c k) (d k) (same k)) low _
 
-  last_same : (low high : ℤ) (c d : ℤ → Option V) → ((k : ℤ) → SameOption eq (c k) (d k)) → last_key low high c ≡ last_key low high d
+  last_same : (low high : ℤ) (c d : ℤ → Option V) → ((k : ℤ) → SameOption eq (c k) (d k)) → last_mapped_key low high c ≡ last_mapped_key low high d
   last_same low high c d same = last_alike c d (λ k. is_some_alike eq (c k) (d k) (same k)) high _
 
   -- whether the number of keys changes
@@ -89,8 +89,8 @@ module _ {V : Type 0} (eq : V → V → Bool) (laws : IsEquivalence eq) where
     after_alike (Fill lo hi v) k = same_or_left eq laws (c k) (d k) (cond (int_le (rank lo) k && int_le k (rank hi)) (Some v) None) (same k)
     after_alike (Insert j v) k = same_cond (int_le (rank j) k && int_le k (rank j)) (Some v) (c k) (Some v) (d k) (laws.refl v) (same k)
     after_alike (Remove j) k = same_cond (int_eq k (rank j)) None (c k) None (d k) tt (same k)
-    after_alike PopFirst k = subst (λ o. SameOption eq (without (first_key low high c) c k) (without o d k)) (first_same low high c d same) (same_without (first_key low high c) c d same k)
-    after_alike PopLast k = subst (λ o. SameOption eq (without (last_key low high c) c k) (without o d k)) (last_same low high c d same) (same_without (last_key low high c) c d same k)
+    after_alike PopFirst k = subst (λ o. SameOption eq (without_key (first_mapped_key low high c) c k) (without_key o d k)) (first_same low high c d same) (same_without (first_mapped_key low high c) c d same k)
+    after_alike PopLast k = subst (λ o. SameOption eq (without_key (last_mapped_key low high c) c k) (without_key o d k)) (last_same low high c d same) (same_without (last_mapped_key low high c) c d same k)
     after_alike Clear k = tt
     after_alike (KeepBelow j) k = same_cond (int_lt k (rank j)) (c k) None (d k) None (same k) tt
     after_alike (KeepFrom j) k = same_cond (int_le (rank j) k) (c k) None (d k) None (same k) tt
@@ -108,8 +108,8 @@ module _ {V : Type 0} (eq : V → V → Bool) (laws : IsEquivalence eq) where
     answer_alike (Fill lo hi v) = changed_alike low high c d (filled (rank lo) (rank hi) v c) (filled (rank lo) (rank hi) v d) same (after_alike (Fill lo hi v))
     answer_alike (Insert j v) = same (rank j)
     answer_alike (Remove j) = same (rank j)
-    answer_alike PopFirst = subst (λ o. SamePair (λ (j : ℤ). j) eq (with_value c (first_key low high c)) (with_value d o)) (first_same low high c d same) (same_pairs (first_key low high c) c d same)
-    answer_alike PopLast = subst (λ o. SamePair (λ (j : ℤ). j) eq (with_value c (last_key low high c)) (with_value d o)) (last_same low high c d same) (same_pairs (last_key low high c) c d same)
+    answer_alike PopFirst = subst (λ o. SamePair (λ (j : ℤ). j) eq (key_with_value c (first_mapped_key low high c)) (key_with_value d o)) (first_same low high c d same) (same_pairs (first_mapped_key low high c) c d same)
+    answer_alike PopLast = subst (λ o. SamePair (λ (j : ℤ). j) eq (key_with_value c (last_mapped_key low high c)) (key_with_value d o)) (last_same low high c d same) (same_pairs (last_mapped_key low high c) c d same)
     answer_alike Clear = tt
     answer_alike (KeepBelow j) = tt
     answer_alike (KeepFrom j) = tt

@@ -6,7 +6,7 @@ use Rattle.blaze_table.specs.Entries.{Entry, at}
 use Rattle.blaze_table.specs.Canonical.{AreKeys}
 use Rattle.blaze_table.specs.Count.{mapped}
 use Rattle.blaze_table.proofs.Canonical.Lookup.{at_over, at_under, by_place}
-use Rattle.range_map_cli.specs.Steps.{least_mapped, greatest_mapped, first_key, last_key}
+use Rattle.range_map_cli.specs.Steps.{least_mapped, greatest_mapped, first_mapped_key, last_mapped_key}
 
 module _ {A B : Type 0} (c : ℤ → Option A) (d : ℤ → Option B) (alike : (k : ℤ) → is_some (c k) ≡ is_some (d k)) where
   pub mapped_alike : (a : ℤ) (n : ℕ) → mapped c a n ≡ mapped d a n
@@ -60,14 +60,14 @@ at_key low high (e ∷ es) k v keys p = by_place e k
     (λ h. at_key low high es k v keys.2 (sym (at_over e es k h) ∙ p))
 
 -- the least key of a range map that has keys
-pub first_key_is : {V : Type 0} (low high : ℤ) (es : List (Entry V)) (k : ℤ) (v : V) → AreKeys low high es → at es k ≡ Some v → ((j : ℤ) → j <ℤ k → at es j ≡ None) → first_key low high (at es) ≡ Some k
+pub first_key_is : {V : Type 0} (low high : ℤ) (es : List (Entry V)) (k : ℤ) (v : V) → AreKeys low high es → at es k ≡ Some v → ((j : ℤ) → j <ℤ k → at es j ≡ None) → first_mapped_key low high (at es) ≡ Some k
 first_key_is low high es k v keys here none =
     let b = at_key low high es k v keys here in
     let w = nat_of-pos (high -ℤ low +ℤ pos 1) (omega (arith, ints, b.0, b.1)) in
     first_is (at es) k v low _ here none b.0 (omega (arith, ints, b.1, w))
 
 -- the greatest
-pub last_key_is : {V : Type 0} (low high : ℤ) (es : List (Entry V)) (k : ℤ) (v : V) → AreKeys low high es → at es k ≡ Some v → ((j : ℤ) → k <ℤ j → at es j ≡ None) → last_key low high (at es) ≡ Some k
+pub last_key_is : {V : Type 0} (low high : ℤ) (es : List (Entry V)) (k : ℤ) (v : V) → AreKeys low high es → at es k ≡ Some v → ((j : ℤ) → k <ℤ j → at es j ≡ None) → last_mapped_key low high (at es) ≡ Some k
 last_key_is low high es k v keys here none =
     let b = at_key low high es k v keys here in
     let w = nat_of-pos (high -ℤ low +ℤ pos 1) (omega (arith, ints, b.0, b.1)) in

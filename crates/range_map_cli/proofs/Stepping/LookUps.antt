@@ -7,13 +7,13 @@ use Rattle.blaze_table.specs.Canonical.{IsRangeMap}
 use Rattle.blaze_table.specs.Entries.{Entry, entry, at, entry_at}
 use Rattle.blaze_table.proofs.Canonical.Lookup.{holds_in, holds_ends}
 use Rattle.range_map_cli.specs.Laws.{AreRangesOrGapsFrom, CoverFrom, IsRangeOrGapAt, LookUpsCover}
-use Rattle.range_map_cli.specs.Pieces.{IsSameFrom, IsPiece}
+use Rattle.range_map_cli.specs.Pieces.{IsSameFrom, IsGreatestPiece}
 use Rattle.range_map_cli.proofs.Stepping.EntryAt.{entry_holds, entry_starts, entry_ends, entry_keys, entry_value}
 
 module _ {V : Type 0} (eq : V → V → Bool) (laws : IsEquivalence eq) (low high : ℤ) (es : List (Entry V)) (map : IsRangeMap eq low high es) where
   -- what is there at a key: the piece round it, and its value
   record IsPieceWithValue (k : ℤ) (p : Entry (Option V)) : Type 0 where
-    piece : IsPiece low high (at es) k p.lo p.hi
+    piece : IsGreatestPiece low high (at es) k p.lo p.hi
     here : at es k ≡ p.value
 
   module _ (k a b : ℤ) (v : V) (is : entry_at es k ≡ Some (entry a b v)) where
@@ -33,7 +33,7 @@ module _ {V : Type 0} (eq : V → V → Bool) (laws : IsEquivalence eq) (low hig
         ((map.runs.ends b).0 (entry_ends k (entry a b v) es is)).1
         (same_along eq (sym (value_from b (omega (arith, ints, within.0, within.1)) (omega (arith, ints)))) (sym (same (b +ℤ pos 1) (omega (arith, ints, l, within.1)) (omega (arith, ints, more)) ∙ value_from k within.0 within.1)) (laws.refl v))
 
-    entry_is_piece : IsPiece low high (at es) k a b
+    entry_is_piece : IsGreatestPiece low high (at es) k a b
     entry_is_piece =
         let keys = entry_keys k (entry a b v) low high es map.keys is in
         record {
@@ -67,7 +67,7 @@ module _ {V : Type 0} (eq : V → V → Bool) (laws : IsEquivalence eq) (low hig
   }
 
   -- the piece behind a piece starts there
-  starts_behind : (k a b c d : ℤ) → IsPiece low high (at es) k a b → IsPiece low high (at es) (b +ℤ pos 1) c d → c ≡ b +ℤ pos 1
+  starts_behind : (k a b c d : ℤ) → IsGreatestPiece low high (at es) k a b → IsGreatestPiece low high (at es) (b +ℤ pos 1) c d → c ≡ b +ℤ pos 1
   starts_behind k a b c d p q = by_lt_z c (b +ℤ pos 1) (λ l. absurd (wider l)) (λ h. omega (arith, ints, h, q.starts))
     where
       same : c <ℤ (b +ℤ pos 1) → IsSameFrom (at es) k a (b +ℤ pos 1)
@@ -80,7 +80,7 @@ module _ {V : Type 0} (eq : V → V → Bool) (laws : IsEquivalence eq) (low hig
       wider l = let w = p.greatest a (b +ℤ pos 1) p.from p.starts (omega (arith, ints, p.ends)) (omega (arith, ints, q.ends, q.to)) (same l) in omega (arith, ints, w.1)
 
   -- look-ups from a key at which every piece starts
-  cover : (k : ℤ) (ps : List (Entry (Option V))) → k ≤ℤ (high +ℤ pos 1) → ((a b : ℤ) → IsPiece low high (at es) k a b → a ≡ k) → AreRangesOrGapsFrom low high es k ps → CoverFrom low high es k ps
+  cover : (k : ℤ) (ps : List (Entry (Option V))) → k ≤ℤ (high +ℤ pos 1) → ((a b : ℤ) → IsGreatestPiece low high (at es) k a b → a ≡ k) → AreRangesOrGapsFrom low high es k ps → CoverFrom low high es k ps
   cover k [] end starts h = omega (arith, ints, end, h)
   cover k (p ∷ ps) end starts (more, found, rest) =
       let here = found_piece k p.lo p.hi p.value found in (

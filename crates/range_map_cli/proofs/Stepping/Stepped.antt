@@ -13,7 +13,7 @@ use Rattle.blaze_table.specs.Complement.{absent, IsComplement}
 use Rattle.blaze_table.specs.Count.{keys_in, mapped_keys}
 use Rattle.blaze_table.specs.Work.{IsCountedCut, PutsAtMost}
 use Rattle.range_map_blaze.specs.Pairs.{PopsFirst, PopsLast}
-use Rattle.range_map_cli.specs.Steps.{answer, complemented, first_key, last_key, with_value, pair_of, IsStepped, IsWithout, SameAnswer, SamePair}
+use Rattle.range_map_cli.specs.Steps.{answer, complemented, first_mapped_key, last_mapped_key, key_with_value, pair_of, IsStepped, IsWithout, SameAnswer, SamePair}
 use Rattle.range_map_cli.specs.declared.step.Step.{Step}
 use Rattle.range_map_cli.specs.declared.step.Answer.{Answer}
 use Rattle.range_map_cli.proofs.Stepping.EndKeys.{at_key, first_key_is, first_none, last_key_is, last_none, mapped_alike}
@@ -85,9 +85,9 @@ module _ {V : Type 0} (eq : V → V → Bool) (low high : ℤ) where
     -- what taking the least key out leaves
     pub without_first : (popped : Option (T × V)) (old new : CountedEntries V) → IsRangeMap eq low high old.entries
         → MatchOption popped ((old.entries ≡ []) × (new ≡ old)) (λ pair. PopsFirst eq low high (rank pair.0) pair.1 old.entries new.entries)
-        → IsWithout eq low high (first_key low high (at old.entries)) old.entries new.entries
+        → IsWithout eq low high (first_mapped_key low high (at old.entries)) old.entries new.entries
     without_first None old new map m =
-        let none : first_key low high (at old.entries) ≡ None = first_none (at old.entries) low _ (λ k. ap (λ es. at es k) m.0) in
+        let none : first_mapped_key low high (at old.entries) ≡ None = first_none (at old.entries) low _ (λ k. ap (λ es. at es k) m.0) in
         subst (λ key. IsWithout eq low high key old.entries new.entries) (sym none) (subst (λ s. IsWithout eq low high None old.entries s.entries) (sym m.1) (record {
           range_map = map;
           content = λ k. same_itself eq laws (at old.entries k);
@@ -101,20 +101,20 @@ module _ {V : Type 0} (eq : V → V → Bool) (low high : ℤ) where
     -- the pair that is answered is the least key with its value
     pub first_pair : (popped : Option (T × V)) (old new : CountedEntries V) → IsRangeMap eq low high old.entries
         → MatchOption popped ((old.entries ≡ []) × (new ≡ old)) (λ pair. PopsFirst eq low high (rank pair.0) pair.1 old.entries new.entries)
-        → SamePair rank eq popped (with_value (at old.entries) (first_key low high (at old.entries)))
+        → SamePair rank eq popped (key_with_value (at old.entries) (first_mapped_key low high (at old.entries)))
     first_pair None old new map m =
         let none : Option (T × V) = None in
-        subst (λ key. SamePair rank eq none (with_value (at old.entries) key)) (sym (first_none (at old.entries) low _ (λ k. ap (λ es. at es k) m.0))) tt
+        subst (λ key. SamePair rank eq none (key_with_value (at old.entries) key)) (sym (first_none (at old.entries) low _ (λ k. ap (λ es. at es k) m.0))) tt
     first_pair (Some pair) old new map m =
-        subst (λ key. SamePair rank eq (Some pair) (with_value (at old.entries) key)) (sym (first_key_is low high old.entries (rank pair.0) m.stored map.keys m.first.here m.first.none_below))
+        subst (λ key. SamePair rank eq (Some pair) (key_with_value (at old.entries) key)) (sym (first_key_is low high old.entries (rank pair.0) m.stored map.keys m.first.here m.first.none_below))
         (same_pair rank laws pair (at old.entries (rank pair.0)) m.equal)
 
     -- what taking the greatest key out leaves
     pub without_last : (popped : Option (T × V)) (old new : CountedEntries V) → IsRangeMap eq low high old.entries
         → MatchOption popped ((old.entries ≡ []) × (new ≡ old)) (λ pair. PopsLast eq low high (rank pair.0) pair.1 old.entries new.entries)
-        → IsWithout eq low high (last_key low high (at old.entries)) old.entries new.entries
+        → IsWithout eq low high (last_mapped_key low high (at old.entries)) old.entries new.entries
     without_last None old new map m =
-        let none : last_key low high (at old.entries) ≡ None = last_none (at old.entries) high _ (λ k. ap (λ es. at es k) m.0) in
+        let none : last_mapped_key low high (at old.entries) ≡ None = last_none (at old.entries) high _ (λ k. ap (λ es. at es k) m.0) in
         subst (λ key. IsWithout eq low high key old.entries new.entries) (sym none) (subst (λ s. IsWithout eq low high None old.entries s.entries) (sym m.1) (record {
           range_map = map;
           content = λ k. same_itself eq laws (at old.entries k);
@@ -128,10 +128,10 @@ module _ {V : Type 0} (eq : V → V → Bool) (low high : ℤ) where
     -- the pair that is answered is the greatest key with its value
     pub last_pair : (popped : Option (T × V)) (old new : CountedEntries V) → IsRangeMap eq low high old.entries
         → MatchOption popped ((old.entries ≡ []) × (new ≡ old)) (λ pair. PopsLast eq low high (rank pair.0) pair.1 old.entries new.entries)
-        → SamePair rank eq popped (with_value (at old.entries) (last_key low high (at old.entries)))
+        → SamePair rank eq popped (key_with_value (at old.entries) (last_mapped_key low high (at old.entries)))
     last_pair None old new map m =
         let none : Option (T × V) = None in
-        subst (λ key. SamePair rank eq none (with_value (at old.entries) key)) (sym (last_none (at old.entries) high _ (λ k. ap (λ es. at es k) m.0))) tt
+        subst (λ key. SamePair rank eq none (key_with_value (at old.entries) key)) (sym (last_none (at old.entries) high _ (λ k. ap (λ es. at es k) m.0))) tt
     last_pair (Some pair) old new map m =
-        subst (λ key. SamePair rank eq (Some pair) (with_value (at old.entries) key)) (sym (last_key_is low high old.entries (rank pair.0) m.stored map.keys m.last.here m.last.none_above))
+        subst (λ key. SamePair rank eq (Some pair) (key_with_value (at old.entries) key)) (sym (last_key_is low high old.entries (rank pair.0) m.stored map.keys m.last.here m.last.none_above))
         (same_pair rank laws pair (at old.entries (rank pair.0)) m.equal)

@@ -4,7 +4,7 @@ use Rattle.blaze_entries.specs.Entries.{Entry, at}
 use Rattle.blaze_entries.specs.Found.{is_sought}
 use Rattle.blaze_entries.specs.Nodes.{shown_nodes, entries_of, AreFull}
 use Rattle.blaze_entries.specs.Walked.{shown_plan}
-use Rattle.blaze_entries.proofs.Underway.{IsUnderway}
+use Rattle.blaze_entries.proofs.Underway.{IsWalkUnderway}
 use Rattle.blaze_entries.proofs.scan.walk_tree.Given as goal
 
 -- the entries of the nodes that are left stand before those that were seen
@@ -12,7 +12,7 @@ abbrev pub invariant-loop-next : goal.invariant-loop-next
 invariant-loop-next g l = record {
   full : AreFull (shown_nodes g.T.Integer.rank l.nodes);
   seen : List (Entry g.row.V.Denot);
-  walk : IsUnderway (is_sought g.V.PartialEq.eq (option_copied l.value)) (g.T.Integer.rank l.lo) (g.T.Integer.rank l.hi) (pos (g.T.SafeLen.SafeLength.number l.fn.len)) l.fn.looks.number g.T.Integer.high (entries_of g.T.Integer.rank l.fn.tree.entries) (entries_of g.T.Integer.rank l.nodes) seen (shown_plan g.T.Integer.rank l.plan) (pos (g.T.SafeLen.SafeLength.number l.left)) l.looks.number;
+  walk : IsWalkUnderway (is_sought g.V.PartialEq.eq (option_copied l.value)) (g.T.Integer.rank l.lo) (g.T.Integer.rank l.hi) (pos (g.T.SafeLen.SafeLength.number l.fn.len)) l.fn.looks.number g.T.Integer.high (entries_of g.T.Integer.rank l.fn.tree.entries) (entries_of g.T.Integer.rank l.nodes) seen (shown_plan g.T.Integer.rank l.plan) (pos (g.T.SafeLen.SafeLength.number l.left)) l.looks.number;
   value : option_copied l.held ≡ at seen (g.T.Integer.rank l.lo);
 }
 

@@ -1,7 +1,7 @@
 use Rattle.std.proofs.Common.{sym, ap, subst}
 use Rattle.std.specs.Iterator.{IsFinite}
 use Rattle.blaze_streams.specs.Carried.{shown_option}
-use Rattle.blaze_streams.specs.Fills.{IsFilled}
+use Rattle.blaze_streams.specs.Fills.{IsFilledWithNone}
 use Rattle.blaze_streams.specs.Ranges.{shown_range}
 use Rattle.blaze_streams.proofs.Filled.{seen_more, filled_more, fill_made}
 use Rattle.blaze_streams.proofs.GapLists.{rank_of_next}
@@ -26,7 +26,7 @@ new-requires-2 g c = record {
 
 pub returns : goal.returns
 returns g c =
-    subst (IsFilled g.VC.Value.PartialEq.eq g.T.Integer.low g.T.Integer.high (g.S.SortedDisjointMap.left c.args.stream)) (sym c.new-2.ensures)
+    subst (IsFilledWithNone g.VC.Value.PartialEq.eq g.T.Integer.low g.T.Integer.high (g.S.SortedDisjointMap.left c.args.stream)) (sym c.new-2.ensures)
     (fill_made g.VC.Value.PartialEq.eq g.met.VC.Value.Eq.laws g.T.Integer.low g.T.Integer.high _ c.in_hand.ensures _ _ _ _ c.loop-item.invariant (g.met.S.SortedDisjointMap.gives _ _ _ c.in-None.ensures.steps).0 c.in_ok-push_last.ensures)
 
 pub loop-item-smaller : goal.loop-item-smaller

@@ -20,15 +20,17 @@ returns-in_err-value-in-Some-clause-refused g c =
     (subst (λ (s : CountedEntries g.row.V.Denot). IsSomeAnd (slice_get s.entries 0) (λ e. e.lo <ℤ e.hi)) c.first_held.ensures.looked c.in_err-value-in-Some.ensures.refused))
 
 pub minus-rest-requires : goal.minus-rest-requires
-minus-rest-requires g c =
-    let rank = g.T.Integer.rank in
-    let eq = g.V.PartialEq.eq in
-    let low = g.T.Integer.low in
-    let high = g.T.Integer.high in
-    let es = c.args.entries.now.entries in
-    let canonical = c.requires.table.canonical in
-    let h = first_has eq g.met.V.Eq.laws low high es c.in_hand.ensures canonical rank g.V.Clone.is_clone c.in-Some.held (subst (IsRangeCloned rank g.V.Clone.is_clone (slice_get es 0)) c.in-Some.is c.in_ok-first.ensures.held) in
-    omega (arith, ints, key_fits eq g.met.V.Eq.laws _ low high es c.in_hand.ensures canonical h _ c.requires.table, c.one.ensures)
+minus-rest-requires g c = record {
+  enough =
+      let rank = g.T.Integer.rank in
+      let eq = g.V.PartialEq.eq in
+      let low = g.T.Integer.low in
+      let high = g.T.Integer.high in
+      let es = c.args.entries.now.entries in
+      let canonical = c.requires.table.canonical in
+      let h = first_has eq g.met.V.Eq.laws low high es c.in_hand.ensures canonical rank g.V.Clone.is_clone c.in-Some.held (subst (IsRangeCloned rank g.V.Clone.is_clone (slice_get es 0)) c.in-Some.is c.in_ok-first.ensures.held) in
+      omega (arith, ints, key_fits eq g.met.V.Eq.laws _ low high es c.in_hand.ensures canonical h _ c.requires.table, c.one.ensures);
+}
 
 pub returns-clause-cut : goal.returns-clause-cut
 returns-clause-cut g c =

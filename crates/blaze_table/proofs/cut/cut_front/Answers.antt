@@ -4,10 +4,14 @@ use Rattle.blaze_table.proofs.Cuts.Fronts.{none_next, more_cut, one_cut, first_t
 use Rattle.blaze_table.proofs.cut.cut_front.Goals as goal
 
 pub insert-requires : goal.insert-requires
-insert-requires g c = none_next g.T.Integer.rank g.V.Clone.is_clone c.args.held g.V.PartialEq.eq g.met.V.Eq.laws g.T.Integer.low g.T.Integer.high c.in-Some.value c.in-Some.is _ c.add_one.ensures c.args.entries.now.entries c.in_hand.ensures c.requires.canonical c.requires.held
+insert-requires g c = record {
+  absent = none_next g.T.Integer.rank g.V.Clone.is_clone c.args.held g.V.PartialEq.eq g.met.V.Eq.laws g.T.Integer.low g.T.Integer.high c.in-Some.value c.in-Some.is _ c.add_one.ensures c.args.entries.now.entries c.in_hand.ensures c.requires.canonical c.requires.held;
+}
 
 pub remove_first-requires : goal.remove_first-requires
-remove_first-requires g c = first_there _ c.args.entries.now.entries c.insert.new.self.entries (ap (λ (s : CountedEntries g.row.V.Denot). s.entries) c.in_ok-insert-in-Some.ensures.ok)
+remove_first-requires g c = record {
+  present = first_there _ c.args.entries.now.entries c.insert.new.self.entries (ap (λ (s : CountedEntries g.row.V.Denot). s.entries) c.in_ok-insert-in-Some.ensures.ok);
+}
 
 pub returns-in_ok-insert-in-Some-clause-cut : goal.returns-in_ok-insert-in-Some-clause-cut
 returns-in_ok-insert-in-Some-clause-cut g c =

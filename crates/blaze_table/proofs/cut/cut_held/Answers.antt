@@ -4,13 +4,15 @@ use Rattle.blaze_table.proofs.Cuts.CutEdits.{has_key, key_fits, key_cut}
 use Rattle.blaze_table.proofs.cut.cut_held.Goals as goal
 
 pub minus-rest-requires : goal.minus-rest-requires
-minus-rest-requires g c =
-    let eq = g.V.PartialEq.eq in
-    let key = g.T.Integer.rank c.args.key in
-    let es = c.args.entries.now.entries in
-    let canonical = c.requires.table.canonical in
-    let h = has_key eq g.met.V.Eq.laws key g.T.Integer.low g.T.Integer.high es c.in_hand.ensures canonical _ c.requires.held in
-    omega (arith, ints, key_fits eq g.met.V.Eq.laws key g.T.Integer.low g.T.Integer.high es c.in_hand.ensures canonical h _ c.requires.table, c.one.ensures)
+minus-rest-requires g c = record {
+  enough =
+      let eq = g.V.PartialEq.eq in
+      let key = g.T.Integer.rank c.args.key in
+      let es = c.args.entries.now.entries in
+      let canonical = c.requires.table.canonical in
+      let h = has_key eq g.met.V.Eq.laws key g.T.Integer.low g.T.Integer.high es c.in_hand.ensures canonical _ c.requires.held in
+      omega (arith, ints, key_fits eq g.met.V.Eq.laws key g.T.Integer.low g.T.Integer.high es c.in_hand.ensures canonical h _ c.requires.table, c.one.ensures);
+}
 
 pub returns-clause-cut : goal.returns-clause-cut
 returns-clause-cut g c =

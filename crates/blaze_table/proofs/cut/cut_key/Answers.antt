@@ -17,13 +17,15 @@ returns-in-Some-clause-refused g c =
     on_err c.cut_shared.result (among_others eq laws k g.T.Integer.low g.T.Integer.high es c.in_hand.ensures c.requires.canonical h.of h.last h.up many.0)
 
 pub remove-requires : goal.remove-requires
-remove-requires g c =
-    let rank = g.T.Integer.rank in
-    let k = rank c.args.key in
-    let es = c.args.entries.now.entries in
-    let h = has_key g.V.PartialEq.eq g.met.V.Eq.laws k g.T.Integer.low g.T.Integer.high es c.in_hand.ensures c.requires.canonical _ c.requires.held in
-    let one = subst (IsManyCloned g.V.Clone.is_clone h.of) c.in-None.is h.holds.1 in
-    subst (λ o. IsSome o) (sym (found g.V.PartialEq.eq g.met.V.Eq.laws k g.T.Integer.low g.T.Integer.high es c.in_hand.ensures c.requires.canonical h.of h.last h.up one)) refl
+remove-requires g c = record {
+  present =
+      let rank = g.T.Integer.rank in
+      let k = rank c.args.key in
+      let es = c.args.entries.now.entries in
+      let h = has_key g.V.PartialEq.eq g.met.V.Eq.laws k g.T.Integer.low g.T.Integer.high es c.in_hand.ensures c.requires.canonical _ c.requires.held in
+      let one = subst (IsManyCloned g.V.Clone.is_clone h.of) c.in-None.is h.holds.1 in
+      subst (λ o. IsSome o) (sym (found g.V.PartialEq.eq g.met.V.Eq.laws k g.T.Integer.low g.T.Integer.high es c.in_hand.ensures c.requires.canonical h.of h.last h.up one)) refl;
+}
 
 pub returns-in-None-clause-cut : goal.returns-in-None-clause-cut
 returns-in-None-clause-cut g c =

@@ -15,16 +15,18 @@ returns-in_err-last-clause-refused g c =
     on_err c.from_residual.result (end_among g.V.PartialEq.eq g.met.V.Eq.laws g.T.Integer.low g.T.Integer.high es c.in_hand.ensures c.requires.table.canonical (λ x. x.1) (slice_get es (length es - 1)) (last_holder g.V.PartialEq.eq es c.requires.table.canonical) c.in_err-last.ensures.refused)
 
 pub minus-rest-requires : goal.minus-rest-requires
-minus-rest-requires g c =
-    let rank = g.T.Integer.rank in
-    let eq = g.V.PartialEq.eq in
-    let low = g.T.Integer.low in
-    let high = g.T.Integer.high in
-    let es = c.args.entries.now.entries in
-    let canonical = c.requires.table.canonical in
-    let looked = subst (IsRangeCloned rank g.V.Clone.is_clone (slice_get es (length es - 1))) c.in-Some.is c.in_ok-last.ensures.held in
-    let h = last_has rank g.V.Clone.is_clone c.in-Some.held es looked eq g.met.V.Eq.laws low high c.in_hand.ensures canonical in
-    omega (arith, ints, key_fits eq g.met.V.Eq.laws _ low high es c.in_hand.ensures canonical h _ c.requires.table, c.one.ensures)
+minus-rest-requires g c = record {
+  enough =
+      let rank = g.T.Integer.rank in
+      let eq = g.V.PartialEq.eq in
+      let low = g.T.Integer.low in
+      let high = g.T.Integer.high in
+      let es = c.args.entries.now.entries in
+      let canonical = c.requires.table.canonical in
+      let looked = subst (IsRangeCloned rank g.V.Clone.is_clone (slice_get es (length es - 1))) c.in-Some.is c.in_ok-last.ensures.held in
+      let h = last_has rank g.V.Clone.is_clone c.in-Some.held es looked eq g.met.V.Eq.laws low high c.in_hand.ensures canonical in
+      omega (arith, ints, key_fits eq g.met.V.Eq.laws _ low high es c.in_hand.ensures canonical h _ c.requires.table, c.one.ensures);
+}
 
 pub returns-clause-cut : goal.returns-clause-cut
 returns-clause-cut g c =

@@ -37,10 +37,12 @@ returns-then-not-is_below-2-clause-cut g c =
     (lt_fails (rank c.args.start) (rank c.args.key) (sym c.is_below-2.ensures ∙ c.if-not-is_below-2.true)) c.move_start.new.self.entries c.in_ok-move_start.ensures.ok
 
 pub insert-requires : goal.insert-requires
-insert-requires g c =
-    let rank = g.T.Integer.rank in
-    next_absent g.V.PartialEq.eq g.met.V.Eq.laws (rank c.args.key) g.T.Integer.low g.T.Integer.high c.args.entries.now.entries c.in_hand.ensures c.requires.canonical g.V.Clone.is_clone c.requires.clones (rank c.args.start) (rank c.args.end) c.args.value c.requires.held
-    (lt_holds (rank c.args.key) (rank c.args.end) (sym c.is_below.ensures ∙ c.if-not-is_below.false)) _ c.add_one-next.ensures
+insert-requires g c = record {
+  absent =
+      let rank = g.T.Integer.rank in
+      next_absent g.V.PartialEq.eq g.met.V.Eq.laws (rank c.args.key) g.T.Integer.low g.T.Integer.high c.args.entries.now.entries c.in_hand.ensures c.requires.canonical g.V.Clone.is_clone c.requires.clones (rank c.args.start) (rank c.args.end) c.args.value c.requires.held
+      (lt_holds (rank c.args.key) (rank c.args.end) (sym c.is_below.ensures ∙ c.if-not-is_below.false)) _ c.add_one-next.ensures;
+}
 
 pub returns-clause-cut : goal.returns-clause-cut
 returns-clause-cut g c =

@@ -64,11 +64,13 @@ returns-in_ok-put_at-in-None-clause-inside g c = λ i.
     (sym c.is_inside.ensures ∙ c.if-is_inside.false) i)
 
 pub plus-painted-requires : goal.plus-painted-requires
-plus-painted-requires g c =
-    let rank = g.T.Integer.rank in
-    let bound = keys_painted g.V.PartialEq.eq g.met.V.Eq.laws g.T.Integer.low g.T.Integer.high (rank c.args.lo) (rank c.args.hi) c.args.entries.now.entries c.requires.order c.in_hand-2.ensures.from c.in_hand-3.ensures.to c.requires.table.canonical c.requires.table.are_keys in
-    let outside = c.requires.walk.outside in
-    omega (arith, ints, bound, g.met.T.Integer.has_room, outside, c.length.ensures)
+plus-painted-requires g c = record {
+  fits =
+      let rank = g.T.Integer.rank in
+      let bound = keys_painted g.V.PartialEq.eq g.met.V.Eq.laws g.T.Integer.low g.T.Integer.high (rank c.args.lo) (rank c.args.hi) c.args.entries.now.entries c.requires.order c.in_hand-2.ensures.from c.in_hand-3.ensures.to c.requires.table.canonical c.requires.table.are_keys in
+      let outside = c.requires.walk.outside in
+      omega (arith, ints, bound, g.met.T.Integer.has_room, outside, c.length.ensures);
+}
 
 pub extend-requires-clause-place : goal.extend-requires-clause-place
 extend-requires-clause-place g c =

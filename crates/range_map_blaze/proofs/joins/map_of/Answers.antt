@@ -28,9 +28,11 @@ loop-item-preserved g c =
     ∙ ap (λ es. old ++ es) (sym left) ∙ c.loop-item.invariant
 
 pub from_canonical-requires : goal.from_canonical-requires
-from_canonical-requires g c =
-    let all = sym (append-nil _) ∙ ap (λ es. shown_list g.T.Integer.rank c.loop-item.entries.items ++ es) (sym c.in-None.ensures.steps.0.0) ∙ c.loop-item.invariant in
-    subst (IsRangeMap g.W.PartialEq.eq g.T.Integer.low g.T.Integer.high) (sym all) c.in_hand.ensures
+from_canonical-requires g c = record {
+  range_map =
+      let all = sym (append-nil _) ∙ ap (λ es. shown_list g.T.Integer.rank c.loop-item.entries.items ++ es) (sym c.in-None.ensures.steps.0.0) ∙ c.loop-item.invariant in
+      subst (IsRangeMap g.W.PartialEq.eq g.T.Integer.low g.T.Integer.high) (sym all) c.in_hand.ensures;
+}
 
 pub returns : goal.returns
 returns g c =

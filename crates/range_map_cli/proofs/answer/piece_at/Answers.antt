@@ -1,7 +1,7 @@
 use Rattle.std.proofs.Common.{◌≡◌, ◌∙◌, sym, ap, subst, arith, rules, to_z, of_z, w64}
 use Rattle.std.proofs.lemmas.Int.{ints}
 use Rattle.std.specs.Range.{range_inclusive_start, range_inclusive_end}
-use Rattle.range_map_cli.specs.Pieces.{IsPiece}
+use Rattle.range_map_cli.specs.Pieces.{IsGreatestPiece}
 use Rattle.range_map_cli.specs.Replies.{least_key, greatest_key, word_or_dash}
 use Rattle.range_map_cli.specs.States.{content_of}
 use Rattle.range_map_cli.proofs.Pieces.{looked_up}
@@ -15,8 +15,8 @@ returns-clause-piece c =
     let start : to_z w64 (of_z w64 c.into_inner-start.result.0) ≡ c.into_inner-start.result.0 = omega (arith, ints) in
     let end : to_z w64 (of_z w64 c.into_inner-start.result.1) ≡ c.into_inner-start.result.1 = omega (arith, ints) in
     let found = looked_up least_key greatest_key c.args.map.now.entries c.args.key lo hi c.in_hand.ensures _ (search rules) c.range_or_gap_at.result.1 c.range_or_gap_at.ensures.entry in
-    subst (λ a. IsPiece least_key greatest_key content c.args.key a (to_z w64 (of_z w64 c.into_inner-start.result.1))) (sym (start ∙ c.into_inner-start.ensures.start))
-    (subst (λ b. IsPiece least_key greatest_key content c.args.key lo b) (sym (end ∙ c.into_inner-start.ensures.end)) found.0)
+    subst (λ a. IsGreatestPiece least_key greatest_key content c.args.key a (to_z w64 (of_z w64 c.into_inner-start.result.1))) (sym (start ∙ c.into_inner-start.ensures.start))
+    (subst (λ b. IsGreatestPiece least_key greatest_key content c.args.key lo b) (sym (end ∙ c.into_inner-start.ensures.end)) found.0)
 
 pub returns-clause-word : goal.returns-clause-word
 returns-clause-word c =

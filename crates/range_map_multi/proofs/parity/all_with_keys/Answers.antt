@@ -2,7 +2,8 @@ use Rattle.std.proofs.Common.{◌≡◌, ◌∙◌, [], ◌∷◌, map, sym, ap,
 use Rattle.std.proofs.lemmas.List.{nil_from_length}
 use Rattle.std.specs.Vec.Iter.{into_iter_items}
 use Rattle.range_map_multi.specs.Parts.{in_places}
-use Rattle.range_map_multi.proofs.Many.{made_more, taken_all}
+use Rattle.range_map_blaze.proofs.Taken.{taken_all}
+use Rattle.range_map_multi.proofs.Many.{made_more}
 use Rattle.range_map_multi.proofs.parity.all_with_keys.Goals as goal
 
 pub loop-stream-preserved : goal.loop-stream-preserved

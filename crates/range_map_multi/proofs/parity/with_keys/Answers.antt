@@ -4,7 +4,7 @@ use Rattle.std.proofs.lemmas.List.{length_push}
 use Rattle.blaze_table.specs.Canonical.{IsRangeMap}
 use Rattle.blaze_streams.specs.Ranges.{shown_range}
 use Rattle.range_map_multi.specs.Parts.{in_places}
-use Rattle.range_map_multi.proofs.Many.{taken_more, taken_all}
+use Rattle.range_map_blaze.proofs.Taken.{taken_more, taken_all}
 use Rattle.range_map_multi.proofs.Placed.{place_more, range_map_places}
 use Rattle.range_map_multi.proofs.parity.with_keys.Goals as goal
 

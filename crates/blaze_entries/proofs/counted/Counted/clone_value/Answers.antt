@@ -13,7 +13,7 @@ cloned-requires-clause-present g c =
     let ps = shown_nodes g.T.Integer.rank c.self.inside.tree.entries in
     some_copied c.node_at.result
     (some_taken g.T.Integer.rank c.args.start (option_copied c.node_at.result) (start_at k (full ps)) (c.node_at.ensures ∙ found_at g.T.Integer.low g.T.Integer.high k ps c.self.invariant)
-    (subst (λ (s : CountedEntries g.row.V.Denot). IsSome (start_at k s.entries)) (sym c.self.view_is) c.requires))
+    (subst (λ (s : CountedEntries g.row.V.Denot). IsSome (start_at k s.entries)) (sym c.self.view_is) c.requires.present))
 
 pub cloned-requires-clause-full : goal.cloned-requires-clause-full
 cloned-requires-clause-full g c =

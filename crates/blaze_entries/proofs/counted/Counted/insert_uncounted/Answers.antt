@@ -37,7 +37,7 @@ returns-clause-longer g c =
     let high = g.T.Integer.high in
     let ps = shown_nodes rank c.self.inside.tree.entries in
     let e = entry (rank c.args.start) (rank c.args.end) c.args.value in
-    let absent = subst (λ (s : CountedEntries g.row.V.Denot). start_at (rank c.args.start) s.entries ≡ None) (sym c.self.view_is) c.requires in
+    let absent = subst (λ (s : CountedEntries g.row.V.Denot). start_at (rank c.args.start) s.entries ≡ None) (sym c.self.view_is) c.requires.absent in
     ap length (full_of _ (with_entry e (full ps)) (edited_nodes low high (with_entry (held e)) ps _ (with_entry e (full ps)) c.self.invariant c.in_ok-insert.ensures.ok (with_entry-held e (full ps))))
     ∙ length-with_entry e (full ps) absent
     ∙ ap (λ (s : CountedEntries g.row.V.Denot). length s.entries + 1) c.self.view_is

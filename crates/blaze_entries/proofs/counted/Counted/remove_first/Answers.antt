@@ -21,7 +21,7 @@ pub unreachable-requires : goal.unreachable-requires
 unreachable-requires g c =
     let step = pops_first c.self.inside.tree.entries c.pop_first.result c.pop_first.new.self.entries c.pop_first.ensures.variant c.pop_first.ensures.removal c.pop_first.ensures.unchanged in
     let none = MatchOption-at_none _ _ c.in-None.is (answers_taken (first_node_taken g.T.Integer.rank (λ p. p) _ c.pop_first.result _ c.self.invariant.full step) (shown_entry g.T.Integer.rank (λ v. v)) c.given.result c.given.ensures (ap (λ (s : CountedEntries g.row.V.Denot). s.entries) c.self.view_is)) in
-    no_first c.args.self.now.entries none.0 c.requires
+    no_first c.args.self.now.entries none.0 c.requires.present
   where
     no_first : {V : Type 0} (es : List (Entry V)) → es ≡ [] → IsSome (slice_get es 0) → ⊥
     no_first [] q i = cc

@@ -21,7 +21,7 @@ pub unreachable-requires : goal.unreachable-requires
 unreachable-requires g c =
     let step = pops_last c.self.inside.tree.entries c.pop_last.result c.pop_last.new.self.entries c.pop_last.ensures.variant c.pop_last.ensures.removal c.pop_last.ensures.unchanged in
     let none = MatchOption-at_none _ _ c.in-None.is (answers_taken (last_node_taken g.T.Integer.rank (λ p. p) _ c.pop_last.result _ c.self.invariant.full step) (shown_entry g.T.Integer.rank (λ v. v)) c.given.result c.given.ensures (ap (λ (s : CountedEntries g.row.V.Denot). s.entries) c.self.view_is)) in
-    no_last c.args.self.now.entries none.0 c.requires
+    no_last c.args.self.now.entries none.0 c.requires.present
   where
     no_last : {V : Type 0} (es : List (Entry V)) → es ≡ [] → IsSome (slice_get es (length es - 1)) → ⊥
     no_last [] q i = cc

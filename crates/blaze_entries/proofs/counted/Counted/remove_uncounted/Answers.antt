@@ -15,7 +15,7 @@ value_of-requires-clause-present g c =
     let k = g.T.Integer.rank c.args.start in
     let ps = shown_nodes g.T.Integer.rank c.self.inside.tree.entries in
     some_taken g.T.Integer.rank c.args.start c.remove.result (start_at k (full ps)) (c.remove.ensures.old ∙ found_at g.T.Integer.low g.T.Integer.high k ps c.self.invariant)
-    (subst (λ (s : CountedEntries g.row.V.Denot). IsSome (start_at k s.entries)) (sym c.self.view_is) c.requires)
+    (subst (λ (s : CountedEntries g.row.V.Denot). IsSome (start_at k s.entries)) (sym c.self.view_is) c.requires.present)
 
 pub value_of-requires-clause-full : goal.value_of-requires-clause-full
 value_of-requires-clause-full g c =
@@ -55,7 +55,7 @@ returns-clause-shorter g c =
     let high = g.T.Integer.high in
     let k = g.T.Integer.rank c.args.start in
     let ps = shown_nodes g.T.Integer.rank c.self.inside.tree.entries in
-    let here = subst (λ (s : CountedEntries g.row.V.Denot). IsSome (start_at k s.entries)) (sym c.self.view_is) c.requires in
+    let here = subst (λ (s : CountedEntries g.row.V.Denot). IsSome (start_at k s.entries)) (sym c.self.view_is) c.requires.present in
     ap (λ es. length es + 1) (full_of _ (without k (full ps)) (edited_nodes low high (without k) ps _ (without k (full ps)) c.self.invariant c.remove.ensures.nodes (without-held k (full ps))))
     ∙ length-without k (full ps) here
     ∙ ap (λ (s : CountedEntries g.row.V.Denot). length s.entries) c.self.view_is

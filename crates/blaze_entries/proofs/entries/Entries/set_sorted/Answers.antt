@@ -5,7 +5,7 @@ use Rattle.blaze_entries.proofs.Views.{edited}
 use Rattle.blaze_entries.proofs.entries.Entries.set_sorted.Goals as goal
 
 pub invariant_of-counted : goal.invariant_of-counted
-invariant_of-counted g c = are_held g.T.Integer.low g.T.Integer.high _ _ c.in_ok-tree.ensures c.requires
+invariant_of-counted g c = are_held g.T.Integer.low g.T.Integer.high _ _ c.in_ok-tree.ensures c.requires.ascend
 
 pub returns-clause-ok : goal.returns-clause-ok
 returns-clause-ok g c =

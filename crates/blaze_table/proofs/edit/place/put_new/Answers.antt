@@ -19,10 +19,12 @@ put_rest-requires-clause-above g c =
     above_there g.V.PartialEq.eq g.met.V.Eq.laws rank (rank c.args.lo) c.args.entries.now.entries c.args.plan c.args.above c.requires.canonical c.requires.place
 
 pub remove-requires : goal.remove-requires
-remove-requires g c =
-    let rank = g.T.Integer.rank in
-    put_there (entry (rank c.args.lo) (rank c.args.plan.end) c.args.value) c.args.entries.now.entries _
-    (ap (λ (s : CountedEntries g.row.V.Denot). s.entries) (c.in-Err.ensures.err ∙ c.in_ok-insert.ensures.ok))
+remove-requires g c = record {
+  present =
+      let rank = g.T.Integer.rank in
+      put_there (entry (rank c.args.lo) (rank c.args.plan.end) c.args.value) c.args.entries.now.entries _
+      (ap (λ (s : CountedEntries g.row.V.Denot). s.entries) (c.in-Err.ensures.err ∙ c.in_ok-insert.ensures.ok));
+}
 
 pub returns-in-Err-clause-err : goal.returns-in-Err-clause-err
 returns-in-Err-clause-err g c =

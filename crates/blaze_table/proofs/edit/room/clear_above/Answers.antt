@@ -12,7 +12,9 @@ returns-then-count-eq0-clause-entries g c =
     halves k g.T.Integer.low g.T.Integer.high es c.in_hand.ensures ∙ ap (λ n. below k es ++ drop n (from k es)) (sym c.if-count-eq0.true)
 
 pub add_one-next-requires : goal.add_one-next-requires
-add_one-next-requires g c = not_last (g.T.Integer.rank c.args.key) g.T.Integer.low g.T.Integer.high c.args.entries.now.entries c.in_hand.ensures (omega (arith, c.requires, c.if-count-eq0.false))
+add_one-next-requires g c = record {
+  below = not_last (g.T.Integer.rank c.args.key) g.T.Integer.low g.T.Integer.high c.args.entries.now.entries c.in_hand.ensures (omega (arith, c.requires, c.if-count-eq0.false));
+}
 
 pub remove_next-requires : goal.remove_next-requires
 remove_next-requires g c =

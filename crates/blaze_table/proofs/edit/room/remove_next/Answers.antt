@@ -5,9 +5,11 @@ use Rattle.blaze_table.proofs.Walks.Worked.{worked_none, worked_out}
 use Rattle.blaze_table.proofs.edit.room.remove_next.Goals as goal
 
 pub remove-requires : goal.remove-requires
-remove-requires g c =
-    let same = ap (λ (s : CountedEntries g.row.V.Denot). s.entries) c.in-Some.ensures.looked in
-    (there (g.T.Integer.rank c.args.key) g.T.Integer.low g.T.Integer.high _ c.args.entries.now.entries same c.in_hand.ensures _ _ c.in-Some.ensures.found).1
+remove-requires g c = record {
+  present =
+      let same = ap (λ (s : CountedEntries g.row.V.Denot). s.entries) c.in-Some.ensures.looked in
+      (there (g.T.Integer.rank c.args.key) g.T.Integer.low g.T.Integer.high _ c.args.entries.now.entries same c.in_hand.ensures _ _ c.in-Some.ensures.found).1;
+}
 
 pub returns-clause-below : goal.returns-clause-below
 returns-clause-below g c =

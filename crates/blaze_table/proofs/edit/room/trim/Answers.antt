@@ -13,13 +13,15 @@ use Rattle.blaze_table.proofs.Walks.Worked.{worked_none, worked_edited}
 use Rattle.blaze_table.proofs.edit.room.trim.Goals as goal
 
 pub sub_one-requires : goal.sub_one-requires
-sub_one-requires g c =
-    let rank = g.T.Integer.rank in
-    let es = c.args.entries.now.entries in
-    let under : rank c.in-Some.found.start <ℤ rank c.args.lo =
-    trim_starts g.V.PartialEq.eq (rank c.args.lo) g.T.Integer.low g.T.Integer.high es c.in_hand.ensures c.requires.canonical _ _
-    (subst (λ o. IsLeft (rank c.args.lo) (below (rank c.args.lo) es) (option_map (shown_ends rank) o)) c.in-Some.is c.requires.left) in
-    omega (arith, ints, under, c.in_hand-then-is_at_most.ensures.from)
+sub_one-requires g c = record {
+  above =
+      let rank = g.T.Integer.rank in
+      let es = c.args.entries.now.entries in
+      let under : rank c.in-Some.found.start <ℤ rank c.args.lo =
+      trim_starts g.V.PartialEq.eq (rank c.args.lo) g.T.Integer.low g.T.Integer.high es c.in_hand.ensures c.requires.canonical _ _
+      (subst (λ o. IsLeft (rank c.args.lo) (below (rank c.args.lo) es) (option_map (shown_ends rank) o)) c.in-Some.is c.requires.left) in
+      omega (arith, ints, under, c.in_hand-then-is_at_most.ensures.from);
+}
 
 pub returns-then-is_at_most-clause-entries : goal.returns-then-is_at_most-clause-entries
 returns-then-is_at_most-clause-entries g c =

@@ -2,7 +2,7 @@ use Rattle.std.proofs.lemmas.Grind.{common_steps}
 use Rattle.std.proofs.Common.{◌≡◌, ◌∷◌, true, false, sym, ◌∙◌, subst, rules, arith}
 use Rattle.std.specs.Prelude.{IsTrue}
 use Rattle.blaze_table.specs.Entries.{shown_list}
-use Rattle.blaze_table.specs.Swept.{AreApart, first_from}
+use Rattle.blaze_table.specs.Swept.{AreApart, key_after}
 use Rattle.blaze_table.proofs.sweep.ascending.is_ascending.Goals as goal
 
 never : IsTrue false → ⊥
@@ -14,7 +14,7 @@ returns-then-not-follows g c =
     let split : c.loop-pair.rest.now ≡ c.in-Some.pair.now ∷ c.in-Some.others.now = search rules in (
       λ t. absurd (never t),
       λ a.
-          let rest = subst (λ xs. AreApart (first_from rank g.T.Integer.low c.loop-pair.last) (shown_list rank xs)) split (c.loop-pair.invariant.1 a) in
+          let rest = subst (λ xs. AreApart (key_after rank g.T.Integer.low c.loop-pair.last) (shown_list rank xs)) split (c.loop-pair.invariant.1 a) in
           let follows : c.follows.result ≡ true = c.follows.ensures.1 (rest.0, rest.1) in
           sym c.if-not-follows.true ∙ follows,
     )

@@ -1,7 +1,7 @@
 use Rattle.std.proofs.Common.{length}
 use Rattle.std.specs.Prelude.{◌↔◌}
 use Rattle.blaze_table.specs.Entries.{shown_list}
-use Rattle.blaze_table.specs.Swept.{AreApart, first_from}
+use Rattle.blaze_table.specs.Swept.{AreApart, key_after}
 use Rattle.blaze_table.proofs.sweep.ascending.is_ascending.Given as goal
 
 -- what is left is apart from the last pair exactly where all are
@@ -9,7 +9,7 @@ abbrev pub invariant-loop-pair : goal.invariant-loop-pair
 invariant-loop-pair g l =
     let rank = g.T.Integer.rank in
     let low = g.T.Integer.low in
-    AreApart (first_from rank low l.last) (shown_list rank l.rest) ↔ AreApart low (shown_list rank l.pairs)
+    AreApart (key_after rank low l.last) (shown_list rank l.rest) ↔ AreApart low (shown_list rank l.pairs)
 
 abbrev pub decreases-loop-pair : goal.decreases-loop-pair
 decreases-loop-pair g l = length l.rest

@@ -1,7 +1,7 @@
 use Rattle.std.proofs.Common.{length, ◌-◌, ◌≤◌}
 use Rattle.std.specs.BinaryHeap.{IsHeap, heap_items}
 use Rattle.blaze_table.specs.Entries.{shown_list}
-use Rattle.blaze_table.specs.Pieces.{place_cmp, IsUnderway}
+use Rattle.blaze_table.specs.Pieces.{place_cmp, IsSweptSoFar}
 use Rattle.blaze_table.proofs.sweep.pieces.pieces_of.Given as goal
 
 abbrev pub invariant-loop-i : goal.invariant-loop-i
@@ -10,7 +10,7 @@ invariant-loop-i g l =
     record {
       in_range : l.i ≤ length l.placed;
       heap : IsHeap place_cmp (heap_items l.waiting);
-      so_far : IsUnderway rank g.T.Integer.low l.placed (rank l.from) l.i (heap_items l.waiting) (shown_list rank l.pieces.items);
+      so_far : IsSweptSoFar rank g.T.Integer.low l.placed (rank l.from) l.i (heap_items l.waiting) (shown_list rank l.pieces.items);
     }
 
 abbrev pub decreases-loop-i : goal.decreases-loop-i

@@ -109,9 +109,11 @@ pub loop-top-smaller-then-is_below : goal.loop-top-smaller-then-is_below
 loop-top-smaller-then-is_below g c = omega (arith, c.drop_top.ensures.len)
 
 pub add_one-at-requires : goal.add_one-at-requires
-add_one-at-requires g c =
-    let u = le_fails (g.T.Integer.rank c.args.to) (g.T.Integer.rank c.index-placed-index.result.end) (sym c.is_at_most.ensures ∙ c.if-is_at_most.false) in
-    omega (arith, ints, u, c.in_hand.ensures.to)
+add_one-at-requires g c = record {
+  below =
+      let u = le_fails (g.T.Integer.rank c.args.to) (g.T.Integer.rank c.index-placed-index.result.end) (sym c.is_at_most.ensures ∙ c.if-is_at_most.false) in
+      omega (arith, ints, u, c.in_hand.ensures.to);
+}
 
 pub loop-top-smaller : goal.loop-top-smaller
 loop-top-smaller g c = omega (arith, c.drop_top.ensures.len)

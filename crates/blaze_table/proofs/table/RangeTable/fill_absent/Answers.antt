@@ -2,10 +2,12 @@ use Rattle.std.proofs.Common.{map, sym, subst, ap, ◌∙◌}
 use Rattle.blaze_table.specs.Counted.{CountedEntries}
 use Rattle.blaze_table.specs.Entries.{entry, at}
 use Rattle.blaze_table.specs.Filled.{IsFilled, IsHeldFrom}
+use Rattle.blaze_table.specs.Work.{IsCounted}
 use Rattle.blaze_table.proofs.Canonical.RangeMaps.{range_map}
 use Rattle.blaze_table.proofs.Fills.Filled.{filled_none}
 use Rattle.blaze_table.proofs.Fills.Fillings.{filled_whole, gap_is_not_held}
 use Rattle.blaze_table.proofs.Fills.Ordered.{ordered_of}
+use Rattle.blaze_table.proofs.Walks.Worked.{counted_then}
 use Rattle.blaze_table.proofs.table.RangeTable.fill_absent.Goals as goal
 
 pub first_gap-requires-clause-ordered : goal.first_gap-requires-clause-ordered
@@ -45,3 +47,8 @@ returns-in-Err-clause-held g c s =
 
 pub returns-in-Err-clause-err : goal.returns-in-Err-clause-err
 returns-in-Err-clause-err g c = c.take_back.ensures.entries ∙ c.in-Err.ensures.back.taken ∙ ap (λ (s : CountedEntries g.row.V.Denot). s.entries) c.self.view_is
+
+pub returns-in-Err-clause-counted : goal.returns-in-Err-clause-counted
+returns-in-Err-clause-counted g c =
+    subst (λ (s : CountedEntries g.row.V.Denot). IsCounted s c.take_back.new.entries) c.self.view_is
+    (counted_then c.self.inside.entries.counted c.put_all.new.entries.counted c.take_back.new.entries c.put_all.ensures.counted c.take_back.ensures.counted)

@@ -44,9 +44,11 @@ loop-start-preserved g c =
     (tt, tt, reached_more _ _ _ _ _ _ _ _ _ _ _ _ h _ _ c.in_ok-len.ensures.kept c.in_ok-len.ensures.counted)
 
 pub set_sorted-requires : goal.set_sorted-requires
-set_sorted-requires g c =
-    let h = rw c.in-None.ensures.steps.0 at c.loop-start.invariant.2 in
-    starts_ascend g.V.PartialEq.eq g.T.Integer.low g.T.Integer.high _ h.kept.canonical h.kept.are_keys
+set_sorted-requires g c = record {
+  ascend =
+      let h = rw c.in-None.ensures.steps.0 at c.loop-start.invariant.2 in
+      starts_ascend g.V.PartialEq.eq g.T.Integer.low g.T.Integer.high _ h.kept.canonical h.kept.are_keys;
+}
 
 pub invariant_of-self-2 : goal.invariant_of-self-2
 invariant_of-self-2 g c =

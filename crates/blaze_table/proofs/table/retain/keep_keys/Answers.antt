@@ -150,10 +150,12 @@ keep_key-requires-clause-counted g c =
     some_left hi k (pos (g.T.SafeLen.SafeLength.number c.loop-end.left)) (at_most k hi less) c.loop-end.invariant.room
 
 pub add_one-key-requires : goal.add_one-key-requires
-add_one-key-requires g c =
-    let rank = g.T.Integer.rank in
-    let less = lt_holds (rank c.loop-end.key) (rank c.args.end) (sym c.is_below.ensures ∙ c.loop-end-test.true) in
-    omega (arith, ints, less, c.in_hand.ensures.to)
+add_one-key-requires g c = record {
+  below =
+      let rank = g.T.Integer.rank in
+      let less = lt_holds (rank c.loop-end.key) (rank c.args.end) (sym c.is_below.ensures ∙ c.loop-end-test.true) in
+      omega (arith, ints, less, c.in_hand.ensures.to);
+}
 
 pub loop-end-smaller : goal.loop-end-smaller
 loop-end-smaller g c =

@@ -18,16 +18,20 @@ insert_clone-requires-clause-absent g c =
     absent_inside eq k g.T.Integer.high c.args.entries.now.counted.entries _ _ h k (starts_under eq g.met.V.Eq.laws k g.T.Integer.high c.args.entries.now.counted.entries _ _ h) c.requires.reaches
 
 pub sub_one-requires : goal.sub_one-requires
-sub_one-requires g c =
-    let under : g.T.Integer.rank c.args.ends.start <ℤ g.T.Integer.rank c.args.key =
-    starts_under g.V.PartialEq.eq g.met.V.Eq.laws _ g.T.Integer.high _ _ _ (holder g.V.PartialEq.eq _ g.T.Integer.high _ g.T.Integer.low _ _ c.in_hand.ensures c.requires.canonical c.requires.found) in
-    omega (arith, ints, under, c.in_hand-2.ensures.from)
+sub_one-requires g c = record {
+  above =
+      let under : g.T.Integer.rank c.args.ends.start <ℤ g.T.Integer.rank c.args.key =
+      starts_under g.V.PartialEq.eq g.met.V.Eq.laws _ g.T.Integer.high _ _ _ (holder g.V.PartialEq.eq _ g.T.Integer.high _ g.T.Integer.low _ _ c.in_hand.ensures c.requires.canonical c.requires.found) in
+      omega (arith, ints, under, c.in_hand-2.ensures.from);
+}
 
 pub remove-requires : goal.remove-requires
-remove-requires g c =
-    clone_there g.V.PartialEq.eq g.met.V.Eq.laws (g.T.Integer.rank c.args.key) g.T.Integer.high c.args.entries.now.counted.entries _ _
-    (holder g.V.PartialEq.eq (g.T.Integer.rank c.args.key) g.T.Integer.high c.args.entries.now.counted.entries g.T.Integer.low _ _ c.in_hand.ensures c.requires.canonical c.requires.found)
-    g.V.Clone.is_clone c.insert_clone.new.self.counted c.split_off.new.self.counted c.in_ok-insert_clone.ensures.ok c.in-Err.ensures.err
+remove-requires g c = record {
+  present =
+      clone_there g.V.PartialEq.eq g.met.V.Eq.laws (g.T.Integer.rank c.args.key) g.T.Integer.high c.args.entries.now.counted.entries _ _
+      (holder g.V.PartialEq.eq (g.T.Integer.rank c.args.key) g.T.Integer.high c.args.entries.now.counted.entries g.T.Integer.low _ _ c.in_hand.ensures c.requires.canonical c.requires.found)
+      g.V.Clone.is_clone c.insert_clone.new.self.counted c.split_off.new.self.counted c.in_ok-insert_clone.ensures.ok c.in-Err.ensures.err;
+}
 
 pub returns-in-Ok-clause-split : goal.returns-in-Ok-clause-split
 returns-in-Ok-clause-split g c =

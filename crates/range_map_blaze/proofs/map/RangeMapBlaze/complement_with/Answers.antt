@@ -37,11 +37,13 @@ loop-range-preserved g c =
     )
 
 pub from_canonical-requires : goal.from_canonical-requires
-from_canonical-requires g c =
-    let i = c.loop-range.invariant in
-    let all = i.3 ∙ ap (λ es. i.1 ++ es) c.in-None.ensures.steps.0.0 ∙ append-nil i.1 in
-    range_map_as g.V.PartialEq.eq g.met.V.Eq.laws g.T.Integer.low g.T.Integer.high (valued c.args.value.now i.1) _ i.4
-    (valued_map g.V.PartialEq.eq g.met.V.Eq.laws c.args.value.now g.T.Integer.low g.T.Integer.high i.1 (rw all at i.2.range_map))
+from_canonical-requires g c = record {
+  range_map =
+      let i = c.loop-range.invariant in
+      let all = i.3 ∙ ap (λ es. i.1 ++ es) c.in-None.ensures.steps.0.0 ∙ append-nil i.1 in
+      range_map_as g.V.PartialEq.eq g.met.V.Eq.laws g.T.Integer.low g.T.Integer.high (valued c.args.value.now i.1) _ i.4
+      (valued_map g.V.PartialEq.eq g.met.V.Eq.laws c.args.value.now g.T.Integer.low g.T.Integer.high i.1 (rw all at i.2.range_map));
+}
 
 pub returns : goal.returns
 returns g c =

@@ -28,11 +28,13 @@ loop-range-preserved g c =
     (i.0 ++ e ∷ [], more.0, more.1)
 
 pub from_canonical-requires : goal.from_canonical-requires
-from_canonical-requires g c =
-    let i = c.loop-range.invariant in
-    let none = (g.met.I.SortedDisjointMap.gives _ _ _ c.in-None.ensures.steps).0 in
-    let all = i.1 ∙ ap (λ es. i.0 ++ es) none ∙ append-nil i.0 in
-    range_map_as g.V.PartialEq.eq g.met.V.Eq.laws g.T.Integer.low g.T.Integer.high (g.I.SortedDisjointMap.left c.args.stream) _ (subst (λ es. SameEntries g.V.PartialEq.eq es (map (shown_entry g.T.Integer.rank (λ v. v)) c.loop-range.entries.items)) (sym all) i.2) c.in_hand.ensures
+from_canonical-requires g c = record {
+  range_map =
+      let i = c.loop-range.invariant in
+      let none = (g.met.I.SortedDisjointMap.gives _ _ _ c.in-None.ensures.steps).0 in
+      let all = i.1 ∙ ap (λ es. i.0 ++ es) none ∙ append-nil i.0 in
+      range_map_as g.V.PartialEq.eq g.met.V.Eq.laws g.T.Integer.low g.T.Integer.high (g.I.SortedDisjointMap.left c.args.stream) _ (subst (λ es. SameEntries g.V.PartialEq.eq es (map (shown_entry g.T.Integer.rank (λ v. v)) c.loop-range.entries.items)) (sym all) i.2) c.in_hand.ensures;
+}
 
 pub returns : goal.returns
 returns g c =

@@ -3,7 +3,9 @@ use Rattle.blaze_table.specs.Counted.{CountedEntries}
 use Rattle.range_map_blaze.proofs.operators.chosen.owned_chosen.Goals as goal
 
 pub from_canonical-requires : goal.from_canonical-requires
-from_canonical-requires g c = c.in_ok-entries.ensures.range_map
+from_canonical-requires g c = record {
+  range_map = c.in_ok-entries.ensures.range_map;
+}
 
 pub returns : goal.returns
 returns g c =

@@ -7,7 +7,7 @@ use Rattle.std_alloc.specs.contracts.boxed.Box as boxed
 use Rattle.std_alloc.specs.contracts.boxed.Box.from_raw as callee
 use Rattle.std_alloc.proofs.boxed.Box.from_raw.Met.{met}
 use Rattle.std_heap.proofs.GlobalAllocator.TheImpl.Met as allocator
-use Rattle.range_map_c.specs.Handle.{entries_of}
+use Rattle.range_map_c.specs.Handle.{row_entries}
 use Rattle.range_map_c.specs.contracts.handle.Map.{the_row as R}
 use Rattle.range_map_c.proofs.handle.Map.TheLaws as map_laws
 use Rattle.range_map_c.proofs.Destruct++none.drop.Code as no_drop_code
@@ -71,5 +71,5 @@ into_box_spec {M} 𝓤 𝓛 𝓜 𝓡 wired =
     let good : Good (layout Boxed) u = subst (Good (layout Boxed)) (sym (ap only us)) (box.box_typed E h' b' o' fits') in
     lands_last ! refl good $ exec ! 𝓣.C 𝓣.Λ En (after 6 fn.body) (at_ret En Post) $ let told : Val = live 1 (vcons u vnil) in
     sets ! (of_opd ! (get ! refl)) refl good $ sets ! (agg ! (and_then ! (lit ! tt) (and_then ! (get ! refl) (no_more !)))) refl (and_tt _ good.0, (record { fits = lit< tt }, (good.1, tt))) $ returns ! (look_at ! 0 refl) $ free_all ! refl $
-    use1 𝓛 (‵ (Out.own_val (Some r) (told ∷ []))) (Some-of 𝓛 Boxed r u) $ use0 𝓛 (raw (fact 𝓤 (d.entries ≡ entries_of r.value))) (fact_i 𝓤 (d.entries ≡ entries_of r.value) (emp 𝓤) (has ∙ ap entries_of (sym same))) $
+    use1 𝓛 (‵ (Out.own_val (Some r) (told ∷ []))) (Some-of 𝓛 Boxed r u) $ use0 𝓛 (raw (fact 𝓤 (d.entries ≡ row_entries r.value))) (fact_i 𝓤 (d.entries ≡ row_entries r.value) (emp 𝓤) (has ∙ ap row_entries (sym same))) $
     nothing ! $ nothing ! $ fjoin ! $ nothing ! $ keep ! (0 ∷ 1 ∷ 3 ∷ 2 ∷ []) $ by ! (leaves 𝓛 ended hs c z told (Some r) (tt, tt) (tt, tt))))))))))))

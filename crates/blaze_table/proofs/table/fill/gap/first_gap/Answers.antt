@@ -50,10 +50,12 @@ returns-then-not-is_below g c =
     walked_held eq v content (rank c.args.start) key c.loop-first.is_equal e c.next.new.self w near (rank c.args.end) reaches
 
 pub add_one-key-requires : goal.add_one-key-requires
-add_one-key-requires g c =
-    let rank = g.T.Integer.rank in
-    let less = lt_holds (rank c.in-Some.last) (rank c.args.end) (sym c.is_below-in-loop-first.ensures ∙ c.if-not-is_below.false) in
-    omega (arith, ints, less, c.in_hand.ensures.to)
+add_one-key-requires g c = record {
+  below =
+      let rank = g.T.Integer.rank in
+      let less = lt_holds (rank c.in-Some.last) (rank c.args.end) (sym c.is_below-in-loop-first.ensures ∙ c.if-not-is_below.false) in
+      omega (arith, ints, less, c.in_hand.ensures.to);
+}
 
 pub loop-first-preserved : goal.loop-first-preserved
 loop-first-preserved g c =

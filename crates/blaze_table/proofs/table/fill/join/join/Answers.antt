@@ -13,21 +13,25 @@ use Rattle.blaze_table.proofs.Paints.EditLists.{length-with_end}
 use Rattle.blaze_table.proofs.table.fill.join.join.Goals as goal
 
 pub sub_one-requires : goal.sub_one-requires
-sub_one-requires g c = joint_above g.V.PartialEq.eq g.met.V.Eq.laws g.T.Integer.low g.T.Integer.high (g.T.Integer.rank c.args.key) c.args.entries.now.entries c.requires.ordered c.requires.keys c.in_hand.ensures c.requires.joint
+sub_one-requires g c = record {
+  above = joint_above g.V.PartialEq.eq g.met.V.Eq.laws g.T.Integer.low g.T.Integer.high (g.T.Integer.rank c.args.key) c.args.entries.now.entries c.requires.ordered c.requires.keys c.in_hand.ensures c.requires.joint;
+}
 
 pub remove-requires : goal.remove-requires
-remove-requires g c =
-    let rank = g.T.Integer.rank in
-    let es = c.args.entries.now.entries in
-    let seen = ap (λ (s : CountedEntries g.row.V.Denot). s.entries) c.in-Some.ensures.looked in
-    let seen2 = ap (λ (s : CountedEntries g.row.V.Denot). s.entries) c.in-Some-range_at_or_below.ensures.looked ∙ seen in
-    let up : rank c.args.key ≤ℤ rank c.in-Some.here.start = grind (arith, ints, c.is_at_most.ensures, c.if-is_at_most.true) in
-    let two : IsLastBelow (rank c.args.key) (rank c.in-Some-range_at_or_below.below.start) (rank c.in-Some-range_at_or_below.below.end) es =
-    subst (λ x. IsLastBelow (rank c.args.key) (rank c.in-Some-range_at_or_below.below.start) (rank c.in-Some-range_at_or_below.below.end) x) seen
-    (subst (λ k. IsLastBelow k (rank c.in-Some-range_at_or_below.below.start) (rank c.in-Some-range_at_or_below.below.end) c.range_at_or_below.new.self.entries) c.sub_one.ensures c.in-Some-range_at_or_below.ensures.found) in
-    let here = starts_here g.V.PartialEq.eq g.met.V.Eq.laws g.T.Integer.low g.T.Integer.high (rank c.args.key) es c.requires.ordered c.requires.keys c.in_hand.ensures c.requires.joint
-    (rank c.in-Some.here.start) (rank c.in-Some.here.end) (rank c.in-Some-range_at_or_below.below.start) (rank c.in-Some-range_at_or_below.below.end) c.in-Some.ensures.found up two in
-    subst (λ x. IsSome (start_at (rank c.args.key) x)) (sym seen2) (subst IsSome (sym here) refl)
+remove-requires g c = record {
+  present =
+      let rank = g.T.Integer.rank in
+      let es = c.args.entries.now.entries in
+      let seen = ap (λ (s : CountedEntries g.row.V.Denot). s.entries) c.in-Some.ensures.looked in
+      let seen2 = ap (λ (s : CountedEntries g.row.V.Denot). s.entries) c.in-Some-range_at_or_below.ensures.looked ∙ seen in
+      let up : rank c.args.key ≤ℤ rank c.in-Some.here.start = grind (arith, ints, c.is_at_most.ensures, c.if-is_at_most.true) in
+      let two : IsLastBelow (rank c.args.key) (rank c.in-Some-range_at_or_below.below.start) (rank c.in-Some-range_at_or_below.below.end) es =
+      subst (λ x. IsLastBelow (rank c.args.key) (rank c.in-Some-range_at_or_below.below.start) (rank c.in-Some-range_at_or_below.below.end) x) seen
+      (subst (λ k. IsLastBelow k (rank c.in-Some-range_at_or_below.below.start) (rank c.in-Some-range_at_or_below.below.end) c.range_at_or_below.new.self.entries) c.sub_one.ensures c.in-Some-range_at_or_below.ensures.found) in
+      let here = starts_here g.V.PartialEq.eq g.met.V.Eq.laws g.T.Integer.low g.T.Integer.high (rank c.args.key) es c.requires.ordered c.requires.keys c.in_hand.ensures c.requires.joint
+      (rank c.in-Some.here.start) (rank c.in-Some.here.end) (rank c.in-Some-range_at_or_below.below.start) (rank c.in-Some-range_at_or_below.below.end) c.in-Some.ensures.found up two in
+      subst (λ x. IsSome (start_at (rank c.args.key) x)) (sym seen2) (subst IsSome (sym here) refl);
+}
 
 pub returns-in-Some-range_at_or_below-clause-joined : goal.returns-in-Some-range_at_or_below-clause-joined
 returns-in-Some-range_at_or_below-clause-joined g c =

@@ -24,25 +24,27 @@ loop-next-init g c =
     }
 
 pub plus-sum-requires : goal.plus-sum-requires
-plus-sum-requires g c =
-    let rank = g.T.Integer.rank in
-    let eq = g.V.PartialEq.eq in
-    let laws = g.met.V.Eq.laws in
-    let low = g.T.Integer.low in
-    let high = g.T.Integer.high in
-    let i = c.loop-next.invariant in
-    let old = c.args.entries.now.counted.entries in
-    let cur = c.loop-next.entries.counted.entries in
-    let new = c.fill_gap.new.entries.entries in
-    let w = c.in_ok-clone.clone in
-    let starts = map rank c.loop-next.made.starts.items in
-    let more = map rank c.fill_gap.new.made.starts.items in
-    let joints = map rank c.loop-next.made.joints.items in
-    let all = map rank c.fill_gap.new.made.joints.items in
-    let d = c.in_ok-fill_gap.ensures.ok in
-    let like = c.requires.clones _ _ c.in_ok-clone.ensures.cases in
-    let room = room_more eq laws low high (rank c.args.first.start) (rank c.args.hi) (rank c.loop-next.gap.start) (rank c.loop-next.gap.end) c.args.value w starts more joints all old cur new c.in_hand.ensures.from c.in_hand-2.ensures.to i.table.canonical i.filling c.loop-next.gap.equal_below c.loop-next.gap.equal_above i.beside d like (g.T.SafeLen.SafeLength.number c.loop-next.sum) g.met.T.Integer.ranked.some_key i.table in
-    all_fit _ _ _ _ _ _ room g.met.T.Integer.has_room c.length.ensures
+plus-sum-requires g c = record {
+  fits =
+      let rank = g.T.Integer.rank in
+      let eq = g.V.PartialEq.eq in
+      let laws = g.met.V.Eq.laws in
+      let low = g.T.Integer.low in
+      let high = g.T.Integer.high in
+      let i = c.loop-next.invariant in
+      let old = c.args.entries.now.counted.entries in
+      let cur = c.loop-next.entries.counted.entries in
+      let new = c.fill_gap.new.entries.entries in
+      let w = c.in_ok-clone.clone in
+      let starts = map rank c.loop-next.made.starts.items in
+      let more = map rank c.fill_gap.new.made.starts.items in
+      let joints = map rank c.loop-next.made.joints.items in
+      let all = map rank c.fill_gap.new.made.joints.items in
+      let d = c.in_ok-fill_gap.ensures.ok in
+      let like = c.requires.clones _ _ c.in_ok-clone.ensures.cases in
+      let room = room_more eq laws low high (rank c.args.first.start) (rank c.args.hi) (rank c.loop-next.gap.start) (rank c.loop-next.gap.end) c.args.value w starts more joints all old cur new c.in_hand.ensures.from c.in_hand-2.ensures.to i.table.canonical i.filling c.loop-next.gap.equal_below c.loop-next.gap.equal_above i.beside d like (g.T.SafeLen.SafeLength.number c.loop-next.sum) g.met.T.Integer.ranked.some_key i.table in
+      all_fit _ _ _ _ _ _ room g.met.T.Integer.has_room c.length.ensures;
+}
 
 pub loop-next-smaller : goal.loop-next-smaller
 loop-next-smaller g c =
@@ -76,25 +78,27 @@ loop-next-preserved g c =
     }
 
 pub plus-requires : goal.plus-requires
-plus-requires g c =
-    let rank = g.T.Integer.rank in
-    let eq = g.V.PartialEq.eq in
-    let laws = g.met.V.Eq.laws in
-    let low = g.T.Integer.low in
-    let high = g.T.Integer.high in
-    let i = c.loop-next.invariant in
-    let old = c.args.entries.now.counted.entries in
-    let cur = c.loop-next.entries.counted.entries in
-    let new = c.fill_gap-2.new.entries.entries in
-    let w = c.args.value in
-    let starts = map rank c.loop-next.made.starts.items in
-    let more = map rank c.fill_gap-2.new.made.starts.items in
-    let joints = map rank c.loop-next.made.joints.items in
-    let all = map rank c.fill_gap-2.new.made.joints.items in
-    let d = c.in_ok-fill_gap-2.ensures.ok in
-    let like = laws.refl c.args.value in
-    let room = room_more eq laws low high (rank c.args.first.start) (rank c.args.hi) (rank c.loop-next.gap.start) (rank c.loop-next.gap.end) c.args.value w starts more joints all old cur new c.in_hand.ensures.from c.in_hand-2.ensures.to i.table.canonical i.filling c.loop-next.gap.equal_below c.loop-next.gap.equal_above i.beside d like (g.T.SafeLen.SafeLength.number c.loop-next.sum) g.met.T.Integer.ranked.some_key i.table in
-    all_fit _ _ _ _ _ _ room g.met.T.Integer.has_room c.length-2.ensures
+plus-requires g c = record {
+  fits =
+      let rank = g.T.Integer.rank in
+      let eq = g.V.PartialEq.eq in
+      let laws = g.met.V.Eq.laws in
+      let low = g.T.Integer.low in
+      let high = g.T.Integer.high in
+      let i = c.loop-next.invariant in
+      let old = c.args.entries.now.counted.entries in
+      let cur = c.loop-next.entries.counted.entries in
+      let new = c.fill_gap-2.new.entries.entries in
+      let w = c.args.value in
+      let starts = map rank c.loop-next.made.starts.items in
+      let more = map rank c.fill_gap-2.new.made.starts.items in
+      let joints = map rank c.loop-next.made.joints.items in
+      let all = map rank c.fill_gap-2.new.made.joints.items in
+      let d = c.in_ok-fill_gap-2.ensures.ok in
+      let like = laws.refl c.args.value in
+      let room = room_more eq laws low high (rank c.args.first.start) (rank c.args.hi) (rank c.loop-next.gap.start) (rank c.loop-next.gap.end) c.args.value w starts more joints all old cur new c.in_hand.ensures.from c.in_hand-2.ensures.to i.table.canonical i.filling c.loop-next.gap.equal_below c.loop-next.gap.equal_above i.beside d like (g.T.SafeLen.SafeLength.number c.loop-next.sum) g.met.T.Integer.ranked.some_key i.table in
+      all_fit _ _ _ _ _ _ room g.met.T.Integer.has_room c.length-2.ensures;
+}
 
 pub returns-clause-table : goal.returns-clause-table
 returns-clause-table g c =

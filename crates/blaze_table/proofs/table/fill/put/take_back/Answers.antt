@@ -6,8 +6,10 @@ use Rattle.blaze_table.proofs.Walks.Worked.{counted_then}
 use Rattle.blaze_table.proofs.table.fill.put.take_back.Goals as goal
 
 pub remove-requires : goal.remove-requires
-remove-requires g c =
-    (there_next g.T.Integer.rank c.loop-start.starts.items c.pop.new.self.items c.in-Some.start c.in-Some.ensures.items c.loop-start.entries.entries c.loop-start.invariant.there).0
+remove-requires g c = record {
+  present =
+      (there_next g.T.Integer.rank c.loop-start.starts.items c.pop.new.self.items c.in-Some.start c.in-Some.ensures.items c.loop-start.entries.entries c.loop-start.invariant.there).0;
+}
 
 pub loop-start-preserved : goal.loop-start-preserved
 loop-start-preserved g c =
