@@ -108,7 +108,7 @@ const Work works[] = {
     {"`a - b`, b of 100, by value", 23, 1'000'000, 1'000, 1, "call"},
     {"`a ^ b`, equal sizes", 14, 100'000, 1'000, 200 * thousand, "entry"},
     {"`a ^ b`, b of 100, lent", 28, 100'000, 1'000, 1, "call"},
-    {"`a ^ &b`, b of 100, a by value", 29, 100'000, 1'000, 1, "call"},
+    {"`a ^ b`, b of 100, by value", 29, 100'000, 1'000, 1, "call"},
     {"a range of the lower half of the keys", 24, 100'000, 1'000, 5e4, "entry"},
     {"all keys, 100 an entry", 15, 100'000, 100, 1e7, "key"},
     {"all keys, 1 an entry", 16, 1'000'000, 1'000, 1e6, "key"},

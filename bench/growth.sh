@@ -6,24 +6,15 @@
 #     bench/growth.sh             every work: some minutes
 #     bench/growth.sh WORD..      the works whose names have one of the words, as paint, append or `-`
 #
-# It needs what bench/run.sh needs, and valgrind. `bench/out/count SIDE WORK SIZE COUNT` is what callgrind runs: a WORK by the
-# number that driver.cpp and `library_run` give it, COUNT times on maps of SIZE entries.
+# It needs what bench/run.sh needs, and valgrind.
 set -euo pipefail
 cd "$(dirname "$(readlink -f "${BASH_SOURCE[0]}")")"
+if [ "${1:-}" = --help ]; then
+    sed -n '2,/^set/ s/^# \?//p' growth.sh
+    exit
+fi
 source ./sides.sh
-link count count.cpp
-
-counted() {
-    valgrind --tool=callgrind --callgrind-out-file=/dev/null out/count "$@" 2>&1 | sed -n 's/.*Collected : //p'
-}
-
-# The instructions of one call.
-of_one() { # side, work, entries, calls
-    local none all
-    none="$(counted "$1" "$2" "$3" 0)"
-    all="$(counted "$1" "$2" "$3" "$4")"
-    echo $(((all - none) / $4))
-}
+source ./counted.sh
 
 # The row of a work.
 row() { # name, work, calls, sides
@@ -31,28 +22,13 @@ row() { # name, work, calls, sides
     for side in library plain crate; do
         for size in 1000 4000 16000; do
             if [[ " $4 " == *" $side "* ]]; then
-                cells+=" | $(of_one "$side" "$2" "$size" "$3" | sed ':a; s/\B[0-9]\{3\}\>/,&/; ta')"
+                cells+=" | $(grouped "$(of_one "$side" "$2" "$size" "$3")")"
             else
                 cells+=" | -"
             fi
         done
     done
     echo "| $1$cells |"
-}
-
-folder="$(mktemp -d)"
-trap 'rm -rf "$folder"' EXIT
-words=("$@")
-number=100
-
-# Counts a work beside others, where its name has one of the words.
-work() { # name, work, calls, sides
-    local word is_picked=$((${#words[@]} == 0))
-    for word in "${words[@]}"; do if [[ "$1" == *"$word"* ]]; then is_picked=1; fi; done
-    if [ "$is_picked" = 0 ]; then return 0; fi
-    number=$((number + 1))
-    while [ "$(jobs -rp | wc -l)" -ge "$(nproc)" ]; do wait -n; done
-    row "$@" >"$folder/$number" &
 }
 
 work 'paint' 0 500 'library plain crate'
@@ -76,13 +52,14 @@ work '`a - b`, b of 100, lent' 22 4 'library plain'
 work '`a - b`, b of 100, by value' 23 4 'library plain'
 work '`a ^ b`, equal sizes' 14 4 'library plain'
 work '`a ^ b`, b of 100, lent' 28 4 'library plain'
-work '`a ^ &b`, b of 100, a by value' 29 4 'library plain'
+work '`a ^ b`, b of 100, by value' 29 4 'library plain'
 work '`a \| b`, b of n / 16 ranges that cover nearly all' 35 4 'library'
 work '`a.inner_join(b, ..)`, equal sizes' 30 4 'library'
 work '`a.inner_join(b, ..)`, b of 100' 31 4 'library'
 work '`b.left_join(a, ..)`, b of 100' 32 4 'library'
-work '`[a, b].union`, b of 100' 33 4 'library'
-work '`[a, b].intersection`, b of 100' 34 4 'library'
+work '`[&a, &b].union`, b of 100' 33 4 'library'
+work '`[a, b].union`, b of 100, by value' 36 4 'library'
+work '`[&a, &b].intersection`, b of 100' 34 4 'library'
 work 'a map of unsorted ranges; plain Rust paints them' 17 4 'library plain'
 work 'a map of sorted ranges; plain Rust copies them' 18 4 'library plain'
 wait

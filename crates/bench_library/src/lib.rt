@@ -10,7 +10,7 @@ mod whole;
 
 use crate::changes::{Change, change_maps, clumps, fill, get, pop_first, pop_last, retain};
 use crate::makes::{make, paint_one_by_one};
-use crate::many::{of_large_and_small, union_of_many};
+use crate::many::union_of_many;
 use crate::prepared::Work;
 use crate::whole::{
     Combination, append, combine, combine_by_value, combined, cover, split_off, walk, within,
@@ -68,9 +68,8 @@ fn on_maps(work: Work, number: u32) -> Option<Result<u64, AllocError>> {
         20 => Some(union_of_many(work)),
         23 => Some(combine_by_value(work, Combination::Difference)),
         29 => Some(combine_by_value(work, Combination::SymmetricDifference)),
-        33 => Some(of_large_and_small(work, true)),
-        34 => Some(of_large_and_small(work, false)),
         35 => Some(cover(work)),
+        36 => Some(combine_by_value(work, Combination::UnionOfMany)),
         _ => {
             let (combination, other) = combined(number, work.size)?;
             Some(combine(work, combination, other))

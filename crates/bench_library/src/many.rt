@@ -1,5 +1,5 @@
 //! Operations between many maps.
-use crate::prepared::{ENTRIES, Map, Work, checksum, even, prepared};
+use crate::prepared::{ENTRIES, Map, Work, checksum, prepared};
 use range_map_multi::MultiwayRangeMapBlazeRef;
 use std::alloc::{AllocError, Global};
 
@@ -29,22 +29,6 @@ pub fn union_of_many(work: Work) -> Result<u64, AllocError> {
     let mut sum = 0;
     for _ in 0..work.count {
         sum = checksum(work.check, sum, &union_of(work.alloc, &maps)?);
-    }
-    Ok(sum)
-}
-
-/// The union of a map and one of 100 entries as one of many, or their intersection, again and again.
-pub fn of_large_and_small(work: Work, is_union: bool) -> Result<u64, AllocError> {
-    let gap = (work.size / 100).saturating_mul(16);
-    let (large, small) = (even(work, 1)?, prepared(work.alloc, 3, 100, gap, 0)?);
-    let mut sum = 0;
-    for _ in 0..work.count {
-        let map = if is_union {
-            [&large, &small].union(work.alloc)?
-        } else {
-            [&large, &small].intersection(work.alloc)?
-        };
-        sum = checksum(work.check, sum, &map);
     }
     Ok(sum)
 }

@@ -1,7 +1,8 @@
 //! Works on whole maps.
 use crate::prepared::{Map, Work, checksum, copies, even, mix, prepared, spread};
 use range_map_blaze::names_a_key;
-use std::alloc::AllocError;
+use range_map_multi::{MultiwayRangeMapBlaze, MultiwayRangeMapBlazeRef};
+use std::alloc::{AllocError, Global};
 
 /// What is made of two maps.
 #[derive(Clone, Copy, Debug)]
@@ -16,6 +17,10 @@ pub enum Combination {
     InnerJoin,
     /// The same where the second has one.
     LeftJoin,
+    /// The union of the two as of many.
+    UnionOfMany,
+    /// Their intersection as of many.
+    IntersectionOfMany,
 }
 
 /// What the work of a number makes of a map of so many entries and another one, and the entries of that one.
@@ -33,6 +38,8 @@ pub fn combined(number: u32, size: u64) -> Option<(Combination, u64)> {
         30 => Some((Combination::InnerJoin, size)),
         31 => Some((Combination::InnerJoin, 100)),
         32 => Some((Combination::LeftJoin, 100)),
+        33 => Some((Combination::UnionOfMany, 100)),
+        34 => Some((Combination::IntersectionOfMany, 100)),
         _ => None,
     }
 }
@@ -91,7 +98,7 @@ pub fn append(work: Work) -> Result<u64, AllocError> {
 
 impl Combination {
     /// What is made of two lent maps.
-    fn of(self, map: &Map, other: &Map) -> Result<Map, AllocError> {
+    fn of(self, alloc: Global, map: &Map, other: &Map) -> Result<Map, AllocError> {
         match self {
             Combination::Union => map | other,
             Combination::Intersection => map & other,
@@ -108,18 +115,22 @@ impl Combination {
                     |left, right| left.wrapping_add(right.copied().unwrap_or(0)),
                 )
             }
+            Combination::UnionOfMany => [map, other].union(alloc),
+            Combination::IntersectionOfMany => [map, other].intersection(alloc),
         }
     }
 
-    /// What is made of two maps by value; of `^`, the second is lent, and of joins both.
-    fn of_values(self, map: Map, other: Map) -> Result<Map, AllocError> {
+    /// What is made of two maps by value; for joins they are lent.
+    fn of_values(self, alloc: Global, map: Map, other: Map) -> Result<Map, AllocError> {
         match self {
             Combination::Union => map | other,
             Combination::Intersection => map & other,
             Combination::Restriction => other & map,
             Combination::Difference => map - other,
-            Combination::SymmetricDifference => map ^ &other,
-            Combination::InnerJoin | Combination::LeftJoin => self.of(&map, &other),
+            Combination::SymmetricDifference => map ^ other,
+            Combination::InnerJoin | Combination::LeftJoin => self.of(alloc, &map, &other),
+            Combination::UnionOfMany => [map, other].union(alloc),
+            Combination::IntersectionOfMany => [map, other].intersection(alloc),
         }
     }
 }
@@ -131,7 +142,7 @@ pub fn combine(work: Work, combination: Combination, other: u64) -> Result<u64, 
     let other = prepared(work.alloc, 3, other, gap.saturating_mul(16), 0)?;
     let mut sum = 0;
     for _ in 0..work.count {
-        sum = checksum(work.check, sum, &combination.of(&map, &other)?);
+        sum = checksum(work.check, sum, &combination.of(work.alloc, &map, &other)?);
     }
     Ok(sum)
 }
@@ -161,7 +172,7 @@ pub fn combine_by_value(work: Work, combination: Combination) -> Result<u64, All
             break;
         }
         left -= 1;
-        map = combination.of_values(map, other)?;
+        map = combination.of_values(work.alloc, map, other)?;
     }
     Ok(checksum(work.check, 0, &map))
 }

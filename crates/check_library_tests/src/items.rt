@@ -20,6 +20,8 @@ fn letters(alloc: Global) -> Result<RangeTable<u8, char>, AllocError> {
 fn entries_and_gaps(rt: HostRuntime) -> Result<(), Fail> {
     let table = letters(rt.alloc())?;
     assert_eq!(rt; table.next_above(4), Some((5, 6, &'a')));
+    assert_eq!(rt; table.iter_starting_from(5).next(), Some((5, 6, &'a')));
+    assert_eq!(rt; table.iter_starting_from(6).next(), None);
     match table.find(9) {
         Some(_) => assert!(rt; false),
         None => assert_eq!(rt; table.gap_round(9), (7, 255)),
