@@ -120,7 +120,7 @@ impl Combination {
         }
     }
 
-    /// What is made of two maps by value; for joins they are lent.
+    /// What is made of two maps by value; for joins and the intersection of many they are lent.
     fn of_values(self, alloc: Global, map: Map, other: Map) -> Result<Map, AllocError> {
         match self {
             Combination::Union => map | other,
@@ -128,11 +128,20 @@ impl Combination {
             Combination::Restriction => other & map,
             Combination::Difference => map - other,
             Combination::SymmetricDifference => map ^ other,
-            Combination::InnerJoin | Combination::LeftJoin => self.of(alloc, &map, &other),
-            Combination::UnionOfMany => [map, other].union(alloc),
-            Combination::IntersectionOfMany => [map, other].intersection(alloc),
+            Combination::UnionOfMany => union_of_two(alloc, map, other),
+            Combination::InnerJoin | Combination::LeftJoin | Combination::IntersectionOfMany => {
+                self.of(alloc, &map, &other)
+            }
         }
     }
+}
+
+/// The union of two maps by value, as of many.
+fn union_of_two(alloc: Global, map: Map, other: Map) -> Result<Map, AllocError> {
+    let mut maps = Vec::new(alloc);
+    maps.push(map)?;
+    maps.push(other)?;
+    maps.union(alloc)
 }
 
 /// A map made of two lent maps, again and again.
