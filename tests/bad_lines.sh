@@ -3,7 +3,8 @@
 # and the status is 2. Then it is run with arguments that are not understood: the usage on standard error, status 2. The last
 # line is 'N passed, M failed'. SCRIPT_PROGRAM names the program; without it `./prove script` builds one where that is needed.
 #
-#     tests/bad_lines.sh --cases FOLDER    runs nothing: the lines and what is to be printed, as cases for `rt try --cases`
+#     tests/bad_lines.sh --cases FOLDER    runs nothing: the first line of each kind (after a comment or a key type) with what is to
+#                                          be printed, as cases for `rt try --cases`, which takes seconds for each
 set -euo pipefail
 here="$(cd "$(dirname "${BASH_SOURCE[0]}")" && pwd)"
 cases=''
@@ -13,7 +14,9 @@ program="${SCRIPT_PROGRAM:-$here/../crates/script/out/script}"
 [ -n "$cases${SCRIPT_PROGRAM:-}" ] || "$here/../prove" script
 
 before=()
+begins=''
 while IFS= read -r line; do
+    case "$line" in '#'* | 'at '*) begins=yes ;; esac
     case "$line" in
         '' | '#'*) continue ;;
         'at nothing') before=() && continue ;;
@@ -25,9 +28,12 @@ while IFS= read -r line; do
     for _ in "${before[@]:1}"; do wanted+=$'()\n'; done
     wanted+="bad line $((${#before[@]} + 1))"
     if [ -n "$cases" ]; then
-        passed=$((passed + 1))
-        printf '%s\n' "${before[@]}" "$line" "a len" >"$cases/bad_line_$passed"
-        printf '%s\n' "$wanted" >"$cases/bad_line_$passed.stdout"
+        if [ "$begins" ]; then
+            passed=$((passed + 1))
+            printf '%s\n' "${before[@]}" "$line" "a len" >"$cases/bad_line_$passed"
+            printf '%s\n' "$wanted" >"$cases/bad_line_$passed.stdout"
+        fi
+        begins=''
         continue
     fi
     wanted+=", status 2"

@@ -1,12 +1,16 @@
 #!/usr/bin/env bash
-# ./rangemap, ./script and ./prove: help, wrong arguments, answers, bad lines with their text, and what is done without a proof,
-# in a copy of the sources with nothing proved, by `rt try` and by a stand-in for `rt` that answers as each case wants. Both
+# ./rangemap, ./script, ./prove and ./test: help, wrong arguments, answers, bad lines with their text, and what is done without a
+# proof, in a copy of the sources with nothing proved, by `rt try` and by a stand-in for `rt` that answers as each case wants. Both
 # programs are to be proved before; where ./rangemap is not, it is proved first. The last line is 'N passed, M failed'.
+#
+#     tests/wrapper.sh --without-proof    leaves out the answers of the proved program, and ./test, of which it is a part
 set -euo pipefail
 here="$(cd "$(dirname "${BASH_SOURCE[0]}")" && pwd)"
 source "$here/judge.sh"
 top="$(cd "$here/.." && pwd)"
-"$top/prove" rangemap
+with_proof=yes
+if [ "${1:-}" = --without-proof ]; then with_proof=''; fi
+if [ "$with_proof" ]; then "$top/prove" rangemap; fi
 
 # Runs a command and compares its status and its standard output; `told` is then its standard error.
 run() { # what it is called here, the status and the output that are wanted, the command
@@ -43,22 +47,24 @@ run "script's help" 0 "$(cat "$top/tools/script.help")" "$top/script" --help
 run "prove's help" 0 'usage: ./prove [NAME], NAME one of rangemap script scripts regions ports calendar routes picture; without it rangemap and script' "$top/prove" --help
 
 # ---- Answers of the proved program
-run "an answer" 0 "$answers" "$top/rangemap" <"$work/lines"
-judge '' "$told" "an answer: standard error"
-run "an answer to a pipe" 0 "$answers" "$top/rangemap" < <(cat "$work/lines")
-run "a bad line of a file" 2 "$bad_answers" "$top/rangemap" <"$work/bad"
-judge "rangemap: line 2 is bad: 'get 4 '" "$told" "a bad line of a file: standard error"
-run "a bad line of a pipe" 2 "$bad_answers" "$top/rangemap" < <(cat "$work/bad")
-judge '' "$told" "a bad line of a pipe: standard error"
-{
-    read -r _
-    run "a bad line of a file's rest" 2 "error line 1" "$top/rangemap"
-} <"$work/bad"
-judge "rangemap: line 1 is bad: 'get 4 '" "$told" "a bad line of a file's rest: standard error"
+if [ "$with_proof" ]; then
+    run "an answer" 0 "$answers" "$top/rangemap" <"$work/lines"
+    judge '' "$told" "an answer: standard error"
+    run "an answer to a pipe" 0 "$answers" "$top/rangemap" < <(cat "$work/lines")
+    run "a bad line of a file" 2 "$bad_answers" "$top/rangemap" <"$work/bad"
+    judge "rangemap: line 2 is bad: 'get 4 '" "$told" "a bad line of a file: standard error"
+    run "a bad line of a pipe" 2 "$bad_answers" "$top/rangemap" < <(cat "$work/bad")
+    judge '' "$told" "a bad line of a pipe: standard error"
+    {
+        read -r _
+        run "a bad line of a file's rest" 2 "error line 1" "$top/rangemap"
+    } <"$work/bad"
+    judge "rangemap: line 1 is bad: 'get 4 '" "$told" "a bad line of a file's rest: standard error"
+fi
 
 # ---- Nothing proved, and a stand-in for the toolchain
 mkdir "$work/tree" "$work/bin"
-tar -C "$top" --exclude=out -cf - rangemap script prove tools crates crates.txt HANDLES | tar -C "$work/tree" -xf -
+tar -C "$top" --exclude=out -cf - rangemap script prove test tools tests docs crates crates.txt HANDLES | tar -C "$work/tree" -xf -
 cat >"$work/bin/rt" <<'END'
 #!/usr/bin/env bash
 case "$1" in
@@ -66,6 +72,10 @@ case "$1" in
     lib) echo "${PWD##*/}" >>"$STAND_IN/proved" ;;
     run) mkdir -p out && cp "$STAND_IN/program" "out/${PWD##*/}" ;;
     try) echo "$*" >"$STAND_IN/tried" && if [ -f "$STAND_IN/sleeps" ]; then exec sleep 60; fi
+        case "$2" in
+            --test) echo "test result: ok. 17 passed; 0 failed; 0 ignored" && exit ;;
+            --steps) find "$5" -name '*.stdout' -printf "case=%f status=0 output=$(cat "$STAND_IN/output") " -printf '\n' && exit ;;
+        esac
         cat "$STAND_IN/answers" && cat "$STAND_IN/said" >&2 && exit "$(cat "$STAND_IN/status")" ;;
 esac
 END
@@ -116,6 +126,25 @@ status=0
 told="$(stand_in python3 -c "$terminal" "$work/tree/rangemap" </dev/null)" || status=$?
 judge 70 "$status" "nothing proved, at a terminal: status"
 tells "nothing proved, at a terminal" "not proved yet" "a file or a pipe" "\`./prove rangemap\` proves it"
+
+# ---- Tests without a proof: each part passes, and one whose program answers otherwise fails.
+if [ "$with_proof" ]; then
+    printf 'echo "1 passed, 0 failed"\n' >"$work/tree/tests/wrapper.sh"
+    echo 0 >"$work/status"
+    echo expected >"$work/output"
+    status=0
+    printed="$(stand_in "$work/tree/test" 2>"$work/told")" || status=$?
+    told="$(cat "$work/told")"
+    judge 0 "$status" "tests without a proof: status"
+    judge '' "$(grep -v '^[1-9][0-9]* passed, 0 failed$' <<<"$printed" || true)" "tests without a proof: output"
+    tells "tests without a proof" "rangemap: 1 passed" "demo_ports: 2 passed" "check_library_tests: 17 passed" "wrapper: 1 passed"
+    echo differs >"$work/output"
+    status=0
+    stand_in "$work/tree/test" >"$work/printed" 2>"$work/told" || status=$?
+    told="$(cat "$work/told")"
+    judge 1 "$status" "tests without a proof that fail: status"
+    tells "tests without a proof that fail" "rangemap: 0 passed, 1 failed" "demo_ports: 0 passed, 2 failed"
+fi
 
 # ---- A proof by the stand-in: each crate after those that it stands on, and the program fits until a source file changes.
 run "a proof" 0 '' stand_in "$work/tree/prove" rangemap
