@@ -60,6 +60,12 @@ impl<'a, T: Integer, V: Eq + Clone> AsMap<T, V> for &'a RangeMapBlaze<T, V> {
     ghost are_shown = { λ m. refl };
 }
 
+/// A reference to a map. Arrays of references are those of such elements, since the borrow checker knows nothing of an array of
+/// references whose length is a parameter.
+pub trait MapRef<T: Integer, V: Eq + Clone>: AsMap<T, V> {}
+
+impl<'a, T: Integer, V: Eq + Clone> MapRef<T, V> for &'a RangeMapBlaze<T, V> {}
+
 /// The entries of a map, as a stream.
 pub fn entries_of<'a, T: Integer, V: Eq + Clone, M: AsMap<T, V>>(
     map: &'a M,

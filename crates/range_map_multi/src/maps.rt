@@ -8,7 +8,7 @@ ghost use Rattle.range_map_multi.specs.ManyJoins.{shown_row, shown_full_row, IsC
 ghost use Rattle.range_map_multi.specs.ManyJoins.{IsManyJoined};
 ghost use Rattle.range_map_blaze.specs.Made.{IsMade};
 
-use crate::lent::{AsMap, lent_symmetric_difference};
+use crate::lent::{MapRef, lent_symmetric_difference};
 use crate::lent_intersections::lent_intersection;
 use crate::lent_joins::{lent_full_join, lent_inner_join};
 use crate::lent_unions::lent_union;
@@ -100,7 +100,7 @@ impl<'a, T: Integer, V: Eq + Clone> MultiwayRangeMapBlazeRef<T, V>
     }
 }
 
-impl<T: Integer, V: Eq + Clone, M: AsMap<T, V>, const N: usize> MultiwayRangeMapBlazeRef<T, V>
+impl<T: Integer, V: Eq + Clone, M: MapRef<T, V>, const N: usize> MultiwayRangeMapBlazeRef<T, V>
     for [M; N] {
     ghost lists = { λ s. map M.shown s };
 
@@ -179,5 +179,25 @@ impl<T: Integer, V: Eq + Clone> MultiwayRangeMapBlaze<T, V> for Vec<RangeMapBlaz
 
     fn symmetric_difference(self, alloc: Global) -> Result<RangeMapBlaze<T, V>, AllocError> {
         lent_symmetric_difference(alloc, &self)
+    }
+}
+
+impl<T: Integer, V: Eq + Clone, const N: usize> MultiwayRangeMapBlaze<T, V>
+    for [RangeMapBlaze<T, V>; N] {
+    ghost lists = { λ s. map (λ m. m.entries) s };
+
+    fn union(self, alloc: Global) -> Result<RangeMapBlaze<T, V>, AllocError> {
+        let maps = Vec::from_array(alloc, self)?;
+        owned_union(alloc, maps)
+    }
+
+    fn intersection(self, alloc: Global) -> Result<RangeMapBlaze<T, V>, AllocError> {
+        let maps = Vec::from_array(alloc, self)?;
+        lent_intersection(alloc, &maps)
+    }
+
+    fn symmetric_difference(self, alloc: Global) -> Result<RangeMapBlaze<T, V>, AllocError> {
+        let maps = Vec::from_array(alloc, self)?;
+        lent_symmetric_difference(alloc, &maps)
     }
 }
