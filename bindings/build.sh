@@ -72,7 +72,7 @@ rm -f "$out/made_of"
 if [ "$*" = --as-proved ]; then
     build_as_proved
 else
-    say "proving $crate and what it stands on: from nothing, 25 to 40 minutes on four processors"
+    say "proving $crate and what it stands on: from nothing, 20 to 40 minutes on four processors"
     prove rt lib
 fi
 

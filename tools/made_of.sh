@@ -6,7 +6,7 @@ root="$(cd "$(dirname "${BASH_SOURCE[0]}")/.." && pwd)"
 programs=(rangemap script scripts regions ports calendar routes picture)
 # The crate of a program: the names of those over tables begin with demo_.
 crate_of() { case "$1" in scripts | regions | ports | calendar | routes | picture) echo "demo_$1" ;; *) echo "$1" ;; esac }
-declare -A proof_takes=([rangemap]="25 to 40 minutes on four processors" [script]="40 to 60 minutes on four processors")
+declare -A proof_takes=([rangemap]="20 to 40 minutes on four processors" [script]="30 to 60 minutes on four processors")
 proof_time() { echo "${proof_takes[$1]:-${proof_takes[rangemap]}}"; }
 is_program() { case " ${programs[*]} " in *" $1 "*) return 0 ;; *) return 1 ;; esac }
 
