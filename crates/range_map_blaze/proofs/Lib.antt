@@ -12,3 +12,4 @@ pub mod LentValues
 pub mod AllKeys
 pub mod JoinedKeys
 pub mod GapsWithin
+pub mod Nearest

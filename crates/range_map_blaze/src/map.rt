@@ -1,13 +1,14 @@
 //! The map, and its look-ups by key.
 ghost use Rattle.std.specs.Option.{option_copied};
 ghost use Rattle.std.specs.Prelude.{◌≡◌, ◌↔◌, ℤ, ◌≤ℤ◌, pos, [], length, IsTrue, IsSome, IfOk, Option, Some, None, MatchOption};
-ghost use Rattle.std.specs.Prelude.{IfSome, option_map};
+ghost use Rattle.std.specs.Prelude.{IfSome, option_map, ◌+ℤ◌, find, int_le};
 ghost use Rattle.std.specs.Range.{range_inclusive_start, range_inclusive_end};
+ghost use Rattle.blaze_entries.specs.Starts.{last_below};
 ghost use Rattle.blaze_streams.specs.Ranges.{shown_range};
 ghost use Rattle.blaze_table.specs.Canonical.{IsRangeMap};
 ghost use Rattle.blaze_table.specs.Count.{keys_in, mapped_keys};
 ghost use Rattle.blaze_table.specs.Counted.{uncounted};
-ghost use Rattle.blaze_table.specs.Entries.{at, SameEntries, entry, entry_at};
+ghost use Rattle.blaze_table.specs.Entries.{at, SameEntries, entry, entry_at, shown_entry};
 ghost use Rattle.blaze_table.specs.Gap.{IsGap};
 ghost use Rattle.blaze_table.specs.Laws.{IsShortest};
 ghost use Rattle.blaze_table.specs.Painted.{ClonesAreAlike};
@@ -196,9 +197,50 @@ impl<T: Integer, V: Eq> RangeMapBlaze<T, V> {
             ≡ entry_at self.now.entries (T.rank key) }
         ensures whole { IfSome result (λ pair. IsWhole pair.0) }
     {
+        range_of(self.table.find(key))
+    }
+
+    /// Returns the first entry that ends at a key or above it: its range and its value. It takes O(log n) steps with n entries:
+    /// one search if the key has a value, else two.
+    pub fn range_at_or_above(&self, key: T) -> Option<(RangeInclusive<T>, &V)>
+        ensures entry { option_map (shown_range T.rank (λ v. v.now)) result
+            ≡ find (λ e. int_le (T.rank key) e.hi) self.now.entries }
+        ensures whole { IfSome result (λ pair. IsWhole pair.0) }
+    {
+        range_of(self.entry_at_or_above(key))
+    }
+
+    // The first entry that ends at a key or above it: its first key, last key and value.
+    fn entry_at_or_above(&self, key: T) -> Option<(T, T, &V)>
+        ensures { option_map (shown_entry T.rank (λ v. v.now)) result
+            ≡ find (λ e. int_le (T.rank key) e.hi) self.now.entries }
+    {
+        self.in_hand();
         match self.table.find(key) {
-            Some((start, end, value)) => Some((start..=end, value)),
-            None => None,
+            Some(found) => Some(found),
+            None => self.table.next_above(key),
+        }
+    }
+
+    /// Returns the last entry that starts at a key or below it: its range and its value. It takes O(log n) steps with n entries:
+    /// one search if the key has a value, else two.
+    pub fn range_at_or_below(&self, key: T) -> Option<(RangeInclusive<T>, &V)>
+        ensures entry { option_map (shown_range T.rank (λ v. v.now)) result
+            ≡ last_below (T.rank key +ℤ pos 1) self.now.entries }
+        ensures whole { IfSome result (λ pair. IsWhole pair.0) }
+    {
+        range_of(self.entry_at_or_below(key))
+    }
+
+    // The last entry that starts at a key or below it: its first key, last key and value.
+    fn entry_at_or_below(&self, key: T) -> Option<(T, T, &V)>
+        ensures { option_map (shown_entry T.rank (λ v. v.now)) result
+            ≡ last_below (T.rank key +ℤ pos 1) self.now.entries }
+    {
+        self.in_hand();
+        match self.table.find(key) {
+            Some(found) => Some(found),
+            None => self.table.next_below(key),
         }
     }
 
@@ -251,6 +293,18 @@ impl<T: Integer, V: Eq> RangeMapBlaze<T, V> {
             }
             None => None,
         }
+    }
+}
+
+// The range and the value of an entry: first key, last key and value.
+fn range_of<T: Integer, V>(found: Option<(T, T, &V)>) -> Option<(RangeInclusive<T>, &V)>
+    ensures entry { option_map (shown_range T.rank (λ v. v.now)) result
+        ≡ option_map (shown_entry T.rank (λ v. v.now)) found.entry }
+    ensures whole { IfSome result (λ pair. IsWhole pair.0) }
+{
+    match found {
+        Some((start, end, value)) => Some((start..=end, value)),
+        None => None,
     }
 }
 

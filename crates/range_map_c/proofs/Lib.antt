@@ -1,4 +1,10 @@
-pub mod Rows
+pub mod RowLists
 pub mod Steps
 pub mod Tells
 pub mod Words
+pub mod Covered
+pub mod FreeRanges
+pub mod InOrder
+pub mod Picked
+pub mod Within
+pub mod Parts

@@ -37,3 +37,9 @@ pub gap_told : {X : Type 0} (r : Option X) (B : X → Type 0) (es : List (Entry 
     → Gap es k a b
 gap_told None B es k k' a a' b b' none gap ke ae be = subst (λ h. Gap es k a h) be (subst (λ l. Gap es k l b') ae (subst (λ j. Gap es j a' b') ke gap))
 gap_told (Some x) B es k k' a a' b b' none gap ke ae be = absurd (subst (λ o. MatchOption o ⊥ (λ _. Unit {0})) none tt)
+
+-- the entries of a map that was borrowed, or of the empty one in its place
+pub read_entries : {B R E : Type 0} (f : R → List E) (g : B → R) (o : Option B) (es : List E) (r none : R) → MatchOption o (es ≡ []) (λ b. es ≡ f (g b)) → MatchOption o (r ≡ none) (λ b. r ≡ g b) → f none ≡ []
+    → es ≡ f r
+read_entries f g None es r none is read empty = is ∙ sym empty ∙ ap f (sym read)
+read_entries f g (Some b) es r none is read empty = is ∙ ap f (sym read)

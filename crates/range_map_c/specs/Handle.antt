@@ -2,7 +2,7 @@
 use base.Fml.{Fml, feq, fex, fsep}
 use base.Stored.{Coded}
 use denote.RawPtr.{Ptr, null_ptr, block_ptr}
-use Rattle.std.specs.Prelude.{ℕ, ℤ, pos, negsuc, ◌-◌, ◌^◌, List, [], Option, Some, None, Box}
+use Rattle.std.specs.Prelude.{ℕ, ℤ, pos, negsuc, ◌-◌, ◌^◌, List, []}
 use Rattle.std.specs.Coded.{coded_list, coded_ℕ}
 use Rattle.std.specs.Global.{Global}
 use Rattle.std.specs.Box.Ownership.{box_owns}
@@ -19,11 +19,6 @@ entries_code = coded_list (entry_code coded_ℕ)
 
 abbrev pub row_entries : the_row.Denot → Entries
 row_entries x = x.map.entries
-
--- the entries of the map in a box, and none where there is no box
-abbrev pub entries_in : Option (Box the_row.Denot Global) → Entries
-entries_in None = []
-entries_in (Some boxed) = row_entries boxed.value
 
 -- what a box of a map at the pointer owns
 abbrev pub box_of_map : Global → Ptr → the_row.Denot → Fml

@@ -1,23 +1,24 @@
-//! Values put on keys and ranges, and keys taken out.
-ghost use Rattle.std.specs.Prelude.{◌≡◌, ◌↔◌, IsTrue};
+//! Values set on keys and ranges, and keys removed.
+ghost use Rattle.std.specs.Prelude.{◌≡◌, ◌↔◌, ◌<ℤ◌, pos, Some, None, IsTrue};
 ghost use Rattle.std.specs.Prelude.{nat_eq};
 ghost use Rattle.blaze_entries.specs.Entries.{entry, at};
 ghost use Rattle.blaze_table.specs.Count.{keys_in};
-ghost use Rattle.blaze_table.specs.Cut.{IsCut, IsRangeCut};
-ghost use Rattle.blaze_table.specs.Filled.{IsFilled};
-ghost use Rattle.blaze_table.specs.Painted.{IsPainted};
+ghost use Rattle.blaze_table.specs.Cut.{IsCut, IsRangeCut, IsAmongOthers, GoesOnAbove};
+ghost use Rattle.blaze_table.specs.Filled.{IsFilled, IsHeldFrom};
+ghost use Rattle.blaze_table.specs.Painted.{IsPainted, IsInside};
 ghost use Rattle.range_map_c.specs.Handle.{least_key, greatest_key};
 ghost use Rattle.range_map_c.specs.Status.{IsStatus, OnDone, OnRefused};
 ghost use Rattle.range_map_c.specs.Told.{told};
 
 use crate::handle::RangeMap;
-use crate::{DONE, REFUSED};
+use crate::{DONE, NO_MEMORY};
 use std::alloc::Global;
 
-/// Puts a value on the keys from `lo` to `hi`, over what was there, and tells whether the number of keys changed. Where `lo` is
-/// above `hi` nothing changes. Refused memory leaves the map unchanged. It takes O(log n) steps for each entry that it touches.
+/// Sets the value of every key from `lo` to `hi`, and writes whether the number of keys with a value changed. If an allocation
+/// fails, the map is unchanged. A range without a key, and one inside an entry with the same value, does not allocate. O(log n) for
+/// each of n entries that the range touches.
 #[unsafe(no_mangle)]
-pub extern "C" fn range_map_paint(
+pub extern "C" fn range_map_paint_unchecked(
     alloc: Global,
     map: &mut RangeMap,
     lo: i64,
@@ -30,11 +31,19 @@ pub extern "C" fn range_map_paint(
         map.old.entries map.new.entries) }
     ensures changed { OnDone result (IsTrue changed.new ↔ (¬ (keys_in map.new.entries
         ≡ keys_in map.old.entries))) }
+    ensures nowhere { hi <ℤ lo → (result ≡ pos 0) × (map.new.entries ≡ map.old.entries) }
+    ensures inside { IsInside nat_eq lo hi value map.old.entries
+        → (result ≡ pos 0) × (map.new.entries ≡ map.old.entries) }
     ensures err { OnRefused result (map.new.entries ≡ map.old.entries) }
 {
+    if hi < lo {
+        map.in_hand(alloc);
+        *changed = false;
+        return DONE;
+    }
     let mut boxed = match map.take_or_make(alloc) {
         Ok(boxed) => boxed,
-        Err(_) => return REFUSED,
+        Err(_) => return NO_MEMORY,
     };
     let painted = boxed.map.ranges_insert(lo..=hi, value);
     map.put(boxed);
@@ -43,15 +52,15 @@ pub extern "C" fn range_map_paint(
             *changed = answer;
             DONE
         }
-        Err(_) => REFUSED,
+        Err(_) => NO_MEMORY,
     }
 }
 
-/// Puts a value on those keys from `lo` to `hi` that have none, and tells whether the number of keys changed. Where `lo` is
-/// above `hi` nothing changes. Refused memory leaves the map unchanged. It takes O(log n) steps for each gap, and one for each
-/// entry of the range.
+/// Sets the value of every key from `lo` to `hi` that has none, and writes whether the number of keys with a value changed. If an
+/// allocation fails, the map is unchanged. A range without such a key does not allocate. O(log n) for each gap in the range, and O(1)
+/// for each entry.
 #[unsafe(no_mangle)]
-pub extern "C" fn range_map_fill(
+pub extern "C" fn range_map_fill_unchecked(
     alloc: Global,
     map: &mut RangeMap,
     lo: i64,
@@ -64,11 +73,18 @@ pub extern "C" fn range_map_fill(
         map.old.entries map.new.entries) }
     ensures changed { OnDone result (IsTrue changed.new ↔ (¬ (keys_in map.new.entries
         ≡ keys_in map.old.entries))) }
+    ensures held { IsHeldFrom (at map.old.entries) lo hi
+        → (result ≡ pos 0) × (map.new.entries ≡ map.old.entries) }
     ensures err { OnRefused result (map.new.entries ≡ map.old.entries) }
 {
+    if hi < lo {
+        map.in_hand(alloc);
+        *changed = false;
+        return DONE;
+    }
     let mut boxed = match map.take_or_make(alloc) {
         Ok(boxed) => boxed,
-        Err(_) => return REFUSED,
+        Err(_) => return NO_MEMORY,
     };
     let filled = boxed.map.ranges_insert_absent(lo..=hi, value);
     map.put(boxed);
@@ -77,14 +93,14 @@ pub extern "C" fn range_map_fill(
             *changed = answer;
             DONE
         }
-        Err(_) => REFUSED,
+        Err(_) => NO_MEMORY,
     }
 }
 
-/// Puts a value on a key, over what was there, and tells whether the key had a value, and which. Refused memory leaves the map
-/// unchanged. It takes O(log n) steps.
+/// Sets the value of one key, and writes whether the key had a value, and that value. If an allocation fails, the map is unchanged.
+/// A key that has the value does not allocate. O(log n) for n entries.
 #[unsafe(no_mangle)]
-pub extern "C" fn range_map_insert(
+pub extern "C" fn range_map_insert_unchecked(
     alloc: Global,
     map: &mut RangeMap,
     key: i64,
@@ -100,7 +116,7 @@ pub extern "C" fn range_map_insert(
 {
     let mut boxed = match map.take_or_make(alloc) {
         Ok(boxed) => boxed,
-        Err(_) => return REFUSED,
+        Err(_) => return NO_MEMORY,
     };
     let inserted = boxed.map.insert(key, value);
     map.put(boxed);
@@ -109,15 +125,15 @@ pub extern "C" fn range_map_insert(
             tell(answer, had, old);
             DONE
         }
-        Err(_) => REFUSED,
+        Err(_) => NO_MEMORY,
     }
 }
 
-/// Takes the keys from `lo` to `hi` out, and tells whether the number of keys changed. Where `lo` is above `hi` nothing
-/// changes. Refused memory leaves the map unchanged. It takes O(log n) steps, and as many for each entry that goes.
+/// Removes every key from `lo` to `hi`, and writes whether the number of keys with a value changed. If an allocation fails, the map
+/// is unchanged. It allocates only if an entry with keys of the range continues above it. O(log n) for each of n entries that the
+/// range touches.
 #[unsafe(no_mangle)]
-pub extern "C" fn range_map_remove_range(
-    alloc: Global,
+pub extern "C" fn range_map_remove_range_unchecked(
     map: &mut RangeMap,
     lo: i64,
     hi: i64,
@@ -128,30 +144,30 @@ pub extern "C" fn range_map_remove_range(
         map.new.entries) }
     ensures changed { OnDone result (IsTrue changed.new ↔ (¬ (keys_in map.new.entries
         ≡ keys_in map.old.entries))) }
+    ensures nowhere { hi <ℤ lo → (result ≡ pos 0) × (map.new.entries ≡ map.old.entries) }
+    ensures refused { OnRefused result (GoesOnAbove hi map.old.entries) }
     ensures err { OnRefused result (map.new.entries ≡ map.old.entries) }
 {
-    let mut boxed = match map.take_or_make(alloc) {
-        Ok(boxed) => boxed,
-        Err(_) => return REFUSED,
+    let Some(there) = map.as_mut() else {
+        *changed = false;
+        return DONE;
     };
-    let before = boxed.map.len();
-    let removed = boxed.map.ranges_remove(lo..=hi);
-    let after = boxed.map.len();
-    map.put(boxed);
+    let before = there.map.len();
+    let removed = there.map.ranges_remove(lo..=hi);
+    let after = there.map.len();
     match removed {
         Ok(()) => {
             *changed = after != before;
             DONE
         }
-        Err(_) => REFUSED,
+        Err(_) => NO_MEMORY,
     }
 }
 
-/// Takes a key out, and tells whether it had a value, and which. Refused memory leaves the map unchanged. It takes O(log n)
-/// steps.
+/// Removes one key, and writes whether the key had a value, and that value. If an allocation fails, the map is unchanged. It
+/// allocates only if the entry of the key has other keys. O(log n) for n entries.
 #[unsafe(no_mangle)]
-pub extern "C" fn range_map_remove(
-    alloc: Global,
+pub extern "C" fn range_map_remove_unchecked(
     map: &mut RangeMap,
     key: i64,
     had: &mut bool,
@@ -161,24 +177,23 @@ pub extern "C" fn range_map_remove(
     ensures ok { OnDone result (IsCut nat_eq least_key greatest_key key map.old.entries
         map.new.entries) }
     ensures old { OnDone result (told had.new old.new ≡ at map.old.entries key) }
+    ensures refused { OnRefused result (IsAmongOthers key map.old.entries) }
     ensures err { OnRefused result (map.new.entries ≡ map.old.entries) }
 {
-    let mut boxed = match map.take_or_make(alloc) {
-        Ok(boxed) => boxed,
-        Err(_) => return REFUSED,
+    let Some(there) = map.as_mut() else {
+        *had = false;
+        return DONE;
     };
-    let removed = boxed.map.remove(key);
-    map.put(boxed);
-    match removed {
+    match there.map.remove(key) {
         Ok(answer) => {
             tell(answer, had, old);
             DONE
         }
-        Err(_) => REFUSED,
+        Err(_) => NO_MEMORY,
     }
 }
 
-/// Tells a value, where there is one.
+/// Writes a value, if there is one, and whether there is.
 pub fn tell(found: Option<u64>, had: &mut bool, value: &mut u64)
     ensures { told had.new value.new ≡ found }
 {

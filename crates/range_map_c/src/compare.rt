@@ -1,15 +1,16 @@
-//! Maps compared. No call takes memory.
+//! Comparisons of two maps. None allocates.
 ghost use Rattle.std.specs.Prelude.{◌≡◌, ◌↔◌, IsTrue, nat_eq};
 ghost use Rattle.std.specs.Ordering.{nat_cmp};
 ghost use Rattle.blaze_entries.specs.Entries.{SameContent};
 ghost use Rattle.range_map_blaze.specs.Order.{pairs_cmp};
 ghost use Rattle.range_map_c.specs.Told.{order_number};
 
-use crate::handle::RangeMap;
+use crate::handle::{RangeMap, map_or};
+use range_map_blaze::RangeMapBlaze;
 use std::alloc::Global;
 use std::cmp::Ordering;
 
-/// Returns whether two maps have the same content. It takes O(n) steps for n entries.
+/// Returns whether two maps have the same content. O(n) for n entries, and O(1) if the numbers of entries differ.
 #[unsafe(no_mangle)]
 pub extern "C" fn range_map_equal_unchecked(
     alloc: Global,
@@ -19,17 +20,15 @@ pub extern "C" fn range_map_equal_unchecked(
     ensures content { IsTrue result ↔ SameContent nat_eq a.old.entries b.old.entries }
     ensures kept_a { a.new.entries ≡ a.old.entries }
     ensures kept_b { b.new.entries ≡ b.old.entries }
+    ensures same_a { a.new.at ≡ a.old.at }
+    ensures same_b { b.new.at ≡ b.old.at }
 {
-    let (left, right) = (a.take(alloc), b.take(alloc));
-    let equal = left.map().eq(right.map());
-    a.put_back(left);
-    b.put_back(right);
-    equal
+    let empty = RangeMapBlaze::new(alloc);
+    is_equal_to(alloc, map_or(a.as_ref(), &empty), b)
 }
 
-/// Returns how the lists of (key, value) pairs of two maps compare: -1 where the first is less, 0 where they are equal, else 1.
-/// A list that another begins with is less. It takes O(n + m) steps for n
-/// and m entries.
+/// Returns -1, 0 or 1 if a is less than, equal to or greater than b, in the order of the lists of (key, value) pairs: by key, then by
+/// value, and a list is greater than each of its prefixes. O(n + m) for n and m entries.
 #[unsafe(no_mangle)]
 pub extern "C" fn range_map_compare_unchecked(
     alloc: Global,
@@ -39,14 +38,33 @@ pub extern "C" fn range_map_compare_unchecked(
     ensures order { result ≡ order_number (pairs_cmp nat_cmp a.old.entries b.old.entries) }
     ensures kept_a { a.new.entries ≡ a.old.entries }
     ensures kept_b { b.new.entries ≡ b.old.entries }
+    ensures same_a { a.new.at ≡ a.old.at }
+    ensures same_b { b.new.at ≡ b.old.at }
 {
-    let (left, right) = (a.take(alloc), b.take(alloc));
-    let order = left.map().cmp(right.map());
-    a.put_back(left);
-    b.put_back(right);
-    match order {
+    let empty = RangeMapBlaze::new(alloc);
+    match compared_with(alloc, map_or(a.as_ref(), &empty), b) {
         Ordering::Less => -1,
         Ordering::Equal => 0,
         Ordering::Greater => 1,
     }
+}
+
+// Whether a map has the same content as one that C holds. That one stays.
+fn is_equal_to(alloc: Global, left: &RangeMapBlaze<i64, u64>, right: &mut RangeMap) -> bool
+    ensures content { IsTrue result ↔ SameContent nat_eq left.now.entries right.old.entries }
+    ensures kept { right.new.entries ≡ right.old.entries }
+    ensures same { right.new.at ≡ right.old.at }
+{
+    let empty = RangeMapBlaze::new(alloc);
+    left.eq(map_or(right.as_ref(), &empty))
+}
+
+// How a map compares with one that C holds. That one stays.
+fn compared_with(alloc: Global, left: &RangeMapBlaze<i64, u64>, right: &mut RangeMap) -> Ordering
+    ensures order { result ≡ pairs_cmp nat_cmp left.now.entries right.old.entries }
+    ensures kept { right.new.entries ≡ right.old.entries }
+    ensures same { right.new.at ≡ right.old.at }
+{
+    let empty = RangeMapBlaze::new(alloc);
+    left.cmp(map_or(right.as_ref(), &empty))
 }

@@ -1,19 +1,17 @@
-//! The least and the greatest key that has a value: told, and taken out. Each call takes O(log n) steps for n entries.
-ghost use Rattle.std.specs.Prelude.{◌≡◌, [], MatchBool, MatchOption, nat_eq};
+//! The least and the greatest key that has a value: looked up, and removed. Each call takes O(log n) for n entries.
+ghost use Rattle.std.specs.Prelude.{◌≡◌, pos, [], MatchBool, MatchOption, nat_eq};
 ghost use Rattle.blaze_entries.specs.Entries.{at};
 ghost use Rattle.range_map_blaze.specs.Pairs.{IsFirstPair, IsLastPair, PopsFirst, PopsLast};
 ghost use Rattle.range_map_c.specs.Handle.{least_key, greatest_key};
 ghost use Rattle.range_map_c.specs.Status.{IsStatus, OnDone, OnRefused};
 
 use crate::handle::RangeMap;
-use crate::{DONE, REFUSED};
+use crate::{DONE, NO_MEMORY};
 use range_map_blaze::RangeMapBlaze;
-use std::alloc::Global;
 
-/// Tells the least key that has a value, with its value, and returns whether there is one.
+/// Returns whether a key has a value, and writes the least of those keys with its value.
 #[unsafe(no_mangle)]
-pub extern "C" fn range_map_first(
-    alloc: Global,
+pub extern "C" fn range_map_first_unchecked(
     map: &mut RangeMap,
     key: &mut i64,
     value: &mut u64,
@@ -21,10 +19,12 @@ pub extern "C" fn range_map_first(
     ensures pair { MatchBool result (IsFirstPair (at map.old.entries) key.new value.new)
         (map.old.entries ≡ []) }
     ensures kept { map.new.entries ≡ map.old.entries }
+    ensures same { map.new.at ≡ map.old.at }
 {
-    let taken = map.take(alloc);
-    let found = first_pair(taken.map());
-    map.put_back(taken);
+    let found = match map.as_ref() {
+        Some(map) => first_pair(&map.map),
+        None => None,
+    };
     match found {
         Some((there, held)) => {
             *key = there;
@@ -35,10 +35,9 @@ pub extern "C" fn range_map_first(
     }
 }
 
-/// Tells the greatest key that has a value, with its value, and returns whether there is one.
+/// Returns whether a key has a value, and writes the greatest of those keys with its value.
 #[unsafe(no_mangle)]
-pub extern "C" fn range_map_last(
-    alloc: Global,
+pub extern "C" fn range_map_last_unchecked(
     map: &mut RangeMap,
     key: &mut i64,
     value: &mut u64,
@@ -46,10 +45,12 @@ pub extern "C" fn range_map_last(
     ensures pair { MatchBool result (IsLastPair (at map.old.entries) key.new value.new)
         (map.old.entries ≡ []) }
     ensures kept { map.new.entries ≡ map.old.entries }
+    ensures same { map.new.at ≡ map.old.at }
 {
-    let taken = map.take(alloc);
-    let found = last_pair(taken.map());
-    map.put_back(taken);
+    let found = match map.as_ref() {
+        Some(map) => last_pair(&map.map),
+        None => None,
+    };
     match found {
         Some((there, held)) => {
             *key = there;
@@ -82,11 +83,10 @@ fn last_pair(map: &RangeMapBlaze<i64, u64>) -> Option<(i64, u64)>
     }
 }
 
-/// Takes the least key out, and tells whether there was one, and which, with its value. Refused memory leaves the map
-/// unchanged.
+/// Removes the least key that has a value, and writes whether there was one, and that key with its value. If an allocation fails, the
+/// map is unchanged. The empty map does not allocate.
 #[unsafe(no_mangle)]
-pub extern "C" fn range_map_pop_first(
-    alloc: Global,
+pub extern "C" fn range_map_pop_first_unchecked(
     map: &mut RangeMap,
     had: &mut bool,
     key: &mut i64,
@@ -96,14 +96,13 @@ pub extern "C" fn range_map_pop_first(
     ensures ok { OnDone result (MatchBool had.new (PopsFirst nat_eq least_key greatest_key key.new
         value.new map.old.entries map.new.entries) ((map.old.entries ≡ [])
         × (map.new.entries ≡ []))) }
+    ensures empty { map.old.entries ≡ [] → result ≡ pos 0 }
     ensures err { OnRefused result (map.new.entries ≡ map.old.entries) }
 {
-    let mut boxed = match map.take_or_make(alloc) {
-        Ok(boxed) => boxed,
-        Err(_) => return REFUSED,
+    let popped = match map.as_mut() {
+        Some(map) => map.map.pop_first(),
+        None => Ok(None),
     };
-    let popped = boxed.map.pop_first();
-    map.put(boxed);
     match popped {
         Ok(Some((there, held))) => {
             *had = true;
@@ -115,15 +114,14 @@ pub extern "C" fn range_map_pop_first(
             *had = false;
             DONE
         }
-        Err(_) => REFUSED,
+        Err(_) => NO_MEMORY,
     }
 }
 
-/// Takes the greatest key out, and tells whether there was one, and which, with its value. Refused memory leaves the map
-/// unchanged.
+/// Removes the greatest key that has a value, and writes whether there was one, and that key with its value. If an allocation fails, the
+/// map is unchanged. The empty map does not allocate.
 #[unsafe(no_mangle)]
-pub extern "C" fn range_map_pop_last(
-    alloc: Global,
+pub extern "C" fn range_map_pop_last_unchecked(
     map: &mut RangeMap,
     had: &mut bool,
     key: &mut i64,
@@ -133,14 +131,13 @@ pub extern "C" fn range_map_pop_last(
     ensures ok { OnDone result (MatchBool had.new (PopsLast nat_eq least_key greatest_key key.new
         value.new map.old.entries map.new.entries) ((map.old.entries ≡ [])
         × (map.new.entries ≡ []))) }
+    ensures empty { map.old.entries ≡ [] → result ≡ pos 0 }
     ensures err { OnRefused result (map.new.entries ≡ map.old.entries) }
 {
-    let mut boxed = match map.take_or_make(alloc) {
-        Ok(boxed) => boxed,
-        Err(_) => return REFUSED,
+    let popped = match map.as_mut() {
+        Some(map) => map.map.pop_last(),
+        None => Ok(None),
     };
-    let popped = boxed.map.pop_last();
-    map.put(boxed);
     match popped {
         Ok(Some((there, held))) => {
             *had = true;
@@ -152,6 +149,6 @@ pub extern "C" fn range_map_pop_last(
             *had = false;
             DONE
         }
-        Err(_) => REFUSED,
+        Err(_) => NO_MEMORY,
     }
 }

@@ -1,14 +1,14 @@
 //! The struct that C holds, and the only unsafe code: a box of the map behind a pointer, which is null where no key has a value
 //! yet.
 ghost use denote.RawPtr.{null_ptr};
-ghost use Rattle.std.specs.Prelude.{◌≡◌, ℕ, List, [], MatchOption, IfOk, IsOkAnd, OnErr};
+ghost use Rattle.std.specs.Prelude.{◌≡◌, ℕ, pos, List, [], MatchOption, IfOk, IsOkAnd, OnErr};
 ghost use Rattle.std.specs.Box.Ownership.{box_owns};
 ghost use Rattle.std_heap.specs.contracts.GlobalAllocator.TheImpl.{ghosts};
 ghost use Rattle.blaze_entries.specs.Entries.{Entry};
-ghost use Rattle.range_map_c.specs.Handle.{entries_code, entries_in, handle_owns};
+ghost use Rattle.range_map_c.specs.Handle.{entries_code, handle_owns};
 ghost use Rattle.range_map_c.specs.Status.{IsStatus, OnDone, OnRefused};
 
-use crate::{DONE, REFUSED};
+use crate::{DONE, NO_MEMORY};
 use range_map_blaze::RangeMapBlaze;
 use std::alloc::{AllocError, Global};
 use std::marker::Model;
@@ -19,37 +19,6 @@ use std::ptr::null_mut;
 #[derive(Drop)]
 pub struct Map {
     pub map: RangeMapBlaze<i64, u64>,
-}
-
-/// A map that was taken out to be read. Contracts see its entries, ascending.
-#[derive(Drop)]
-pub struct Taken {
-    boxed: Option<Box<Map>>,
-    // What there is to read where there is no box.
-    empty: RangeMapBlaze<i64, u64>,
-    alloc: Global,
-}
-
-impl Model for Taken {
-    ghost Value = { List (Entry ℕ) };
-
-    ghost coded = { entries_code };
-
-    ghost view = { λ t. entries_in t.boxed };
-
-    ghost invariant = { λ t. t.empty.entries ≡ [] };
-}
-
-impl Taken {
-    /// Returns the map.
-    pub fn map(&self) -> &RangeMapBlaze<i64, u64>
-        ensures { result.now.entries ≡ self.now }
-    {
-        match &self.boxed {
-            Some(boxed) => &boxed.map,
-            None => &self.empty,
-        }
-    }
 }
 
 // A box taken apart.
@@ -123,39 +92,11 @@ impl RangeMap {
         Some(unsafe { Box::from_raw(alloc, at as *mut Map) })
     }
 
-    /// Takes the map out to be read, and leaves an empty one.
-    pub fn take(&mut self, alloc: Global) -> Taken
-        ensures map { result ≡ self.old.entries }
-        ensures left { self.new.entries ≡ [] }
-    {
-        let boxed = mem::replace(self, RangeMap::none(alloc)).into_box();
-        Taken {
-            boxed,
-            empty: RangeMapBlaze::new(alloc),
-            alloc,
-        }
-    }
-
-    /// Puts a map back that was taken out.
-    pub fn put_back(&mut self, taken: Taken)
-        ensures { self.new.entries ≡ taken }
-    {
-        let Taken {
-            boxed,
-            empty,
-            alloc,
-        } = taken;
-        drop(empty);
-        match boxed {
-            Some(boxed) => self.put(boxed),
-            None => *self = RangeMap::none(alloc),
-        }
-    }
-
-    /// Takes the map out to be changed, and leaves an empty one. Where no key has had a value yet, an empty map is made.
-    /// Refused memory leaves the map unchanged.
+    /// Takes the map out to be changed, and leaves an empty one. If the struct has no map yet, makes an empty one. If an allocation
+    /// fails, the struct is unchanged.
     pub fn take_or_make(&mut self, alloc: Global) -> Result<Box<Map>, AllocError>
         ensures map { IfOk result (λ boxed. self.old.entries ≡ boxed.value.map.entries) }
+        ensures empty { OnErr result (self.old.entries ≡ []) }
         ensures err { OnErr result (self.new.entries ≡ self.old.entries) }
     {
         match mem::replace(self, RangeMap::none(alloc)).into_box() {
@@ -164,7 +105,7 @@ impl RangeMap {
         }
     }
 
-    /// Puts a map in the place of what is there.
+    /// Replaces the map.
     pub fn put(&mut self, boxed: Box<Map>)
         ensures { self.new.entries ≡ boxed.value.map.entries }
     {
@@ -172,7 +113,73 @@ impl RangeMap {
     }
 }
 
-/// Puts a map into a box.
+impl RangeMap {
+    ghost use mathlib.Core.Option.{none};
+    ghost use Rattle.std.specs.Borrow.{LendsIf, follows_so, sem};
+    ghost use Rattle.std.specs.Prelude.{⊤};
+    ghost use Rattle.range_map_c.specs.Lends.{with_map};
+    ghost use Rattle.range_map_c.specs.contracts.handle.Map.{the_row as map_row};
+    ghost use Rattle.range_map_c.specs.contracts.handle.RangeMap.{the_row};
+
+    /// Borrows the map. Returns `None` where no key has had a value yet.
+    pub fn as_mut(&mut self) -> Option<&mut Map>
+        ensures* writes_back { sem 𝓛 (LendsIf the_row map_row self.entry result
+            (with_map self.old) self.old) }
+        ensures map { MatchOption result (self.old.entries ≡ [])
+            (λ map. self.old.entries ≡ map.now.map.entries) }
+    {
+        let at = self.at;
+        if at.is_null() {
+            return None;
+        }
+        Some(unsafe { &mut *(at as *mut Map) })
+    }
+
+    /// Borrows the map to be read. Returns `None` where no key has had a value yet. The entries and the pointer stay.
+    pub fn as_ref(&mut self) -> Option<&Map>
+        ensures* unchanged { sem 𝓛 (follows_so the_row the_row self.entry.ghost_name none (λ _ _. ⊤)
+            (λ m. (m.entries ≡ self.old.entries) × (m.at ≡ self.old.at))) }
+        ensures map { MatchOption result (self.old.entries ≡ [])
+            (λ map. self.old.entries ≡ map.now.map.entries) }
+    {
+        match self.as_mut() {
+            Some(map) => Some(map),
+            None => None,
+        }
+    }
+}
+
+impl RangeMap {
+    ghost use Rattle.std.specs.Prelude.{nat_eq};
+    ghost use Rattle.blaze_table.specs.Canonical.{IsRangeMap};
+    ghost use Rattle.range_map_c.specs.Handle.{least_key, greatest_key};
+
+    /// Does nothing; its contract says that the entries are those of a range map.
+    pub fn in_hand(&mut self, alloc: Global)
+        ensures range_map { IsRangeMap nat_eq least_key greatest_key self.old.entries }
+        ensures kept { self.new.entries ≡ self.old.entries }
+        ensures same { self.new.at ≡ self.old.at }
+    {
+        let empty = RangeMapBlaze::new(alloc);
+        map_or(self.as_ref(), &empty).in_hand();
+    }
+}
+
+/// Returns the map that was borrowed, and the other one where there was none.
+pub fn map_or<'a>(
+    borrowed: Option<&'a Map>,
+    other: &'a RangeMapBlaze<i64, u64>,
+) -> &'a RangeMapBlaze<i64, u64>
+    ensures { MatchOption borrowed.entry (result.now ≡ other.now)
+        (λ map. result.now ≡ map.now.map) }
+{
+    match borrowed {
+        Some(map) => &map.map,
+        None => other,
+    }
+}
+
+/// Moves a map into a box.
 pub fn boxed_map(map: RangeMapBlaze<i64, u64>, alloc: Global) -> Result<Box<Map>, AllocError>
     ensures { IfOk result (λ boxed. boxed.value.map.entries ≡ map.entries) }
 {
@@ -182,7 +189,7 @@ pub fn boxed_map(map: RangeMapBlaze<i64, u64>, alloc: Global) -> Result<Box<Map>
     }
 }
 
-/// Puts a map that was made in the place of another. Refused memory leaves that one unchanged.
+/// Replaces another map by one that was made. If an allocation fails, that one is unchanged. The empty map does not allocate.
 pub fn hand_out(
     made: Result<RangeMapBlaze<i64, u64>, AllocError>,
     out: &mut RangeMap,
@@ -190,17 +197,22 @@ pub fn hand_out(
 ) -> i32
     ensures status { IsStatus result }
     ensures ok { OnDone result (IsOkAnd made (λ map. out.new.entries ≡ map.entries)) }
+    ensures empty { IsOkAnd made (λ map. map.entries ≡ []) → result ≡ pos 0 }
     ensures err { OnRefused result (out.new.entries ≡ out.old.entries) }
 {
     let map = match made {
         Ok(map) => map,
-        Err(_) => return REFUSED,
+        Err(_) => return NO_MEMORY,
     };
+    if map.is_empty() {
+        *out = RangeMap::none(alloc);
+        return DONE;
+    }
     match boxed_map(map, alloc) {
         Ok(boxed) => {
             out.put(boxed);
             DONE
         }
-        Err(_) => REFUSED,
+        Err(_) => NO_MEMORY,
     }
 }

@@ -1,20 +1,43 @@
-//! The range map for C: keys `i64`, values `u64`. Each function calls the map's own and says again what it promises.
+//! The range map for C: keys `i64`, values `u64`. Each function calls the map's own and says again what it promises. A call that
+//! only looks something up takes `&mut RangeMap`, and promises that the struct is the same afterwards.
 #![tactic(auto)]
 
+ghost use Rattle.std.specs.Prelude.{◌≡◌};
+
+mod bulk;
 mod changes;
 mod compare;
 mod counts;
 mod ends;
+mod gaps;
 mod handle;
 mod look_ups;
 mod makes;
 mod operators;
-mod tables;
+mod rows;
+mod table_counts;
+mod table_look_ups;
+mod table_order;
+mod table_search;
 
 pub use handle::RangeMap;
 
-/// What a function returns that was done.
+/// The status of a call that succeeded.
 pub const DONE: i32 = 0;
 
-/// What a function returns to which memory was refused.
-pub const REFUSED: i32 = 1;
+/// The status of a call in which an allocation failed.
+pub const NO_MEMORY: i32 = 1;
+
+/// The status of a fill that found a key with a value.
+pub const TAKEN: i32 = 3;
+
+/// The status of a call whose rows are not in order.
+pub const NOT_ORDERED: i32 = 4;
+
+/// Returns the version of the library: 10,000 times the first number, 100 times the second, and the third.
+#[unsafe(no_mangle)]
+pub extern "C" fn range_map_version() -> u32
+    ensures { result ≡ 100 }
+{
+    100
+}

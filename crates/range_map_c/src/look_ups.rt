@@ -1,42 +1,40 @@
-//! Look-ups by key. None takes memory; each takes O(log n) steps for n entries.
-ghost use Rattle.std.specs.Prelude.{◌≡◌, Some, None, MatchBool, MatchOption, option_map};
+//! Look-ups by key. None allocates; each takes O(log n) for n entries.
+ghost use Rattle.std.specs.Prelude.{◌≡◌, Some, None, IsFalse, MatchBool, MatchOption, option_map};
 ghost use Rattle.blaze_entries.specs.Entries.{entry, at, entry_at};
 ghost use Rattle.blaze_table.specs.Ending.{overlapping};
 ghost use Rattle.blaze_table.specs.Gap.{IsGap};
 ghost use Rattle.range_map_c.specs.Handle.{least_key, greatest_key};
 ghost use Rattle.range_map_c.specs.Told.{told, told_entry, shown, first_of, last_of};
 
-use crate::handle::RangeMap;
+use crate::handle::{RangeMap, map_or};
 use range_map_blaze::RangeMapBlaze;
 use std::alloc::Global;
 
-/// Returns whether a key has a value, and tells which.
+/// Returns whether a key has a value, and writes that value.
 #[unsafe(no_mangle)]
-pub extern "C" fn range_map_get(
-    alloc: Global,
-    map: &mut RangeMap,
-    key: i64,
-    value: &mut u64,
-) -> bool
+pub extern "C" fn range_map_get_unchecked(map: &mut RangeMap, key: i64, value: &mut u64) -> bool
     ensures value { told result value.new ≡ at map.old.entries key }
+    ensures unwritten { IsFalse result → value.new ≡ value.old }
     ensures kept { map.new.entries ≡ map.old.entries }
+    ensures same { map.new.at ≡ map.old.at }
 {
-    let taken = map.take(alloc);
-    let found = taken.map().get(key).copied();
-    map.put_back(taken);
-    match found {
+    let map = match map.as_ref() {
+        Some(map) => &map.map,
+        None => return false,
+    };
+    match map.get(key) {
         Some(there) => {
-            *value = there;
+            *value = *there;
             true
         }
         None => false,
     }
 }
 
-/// Tells the entry that holds a key and returns true, or tells the greatest range of keys without a value that holds it, with
-/// the value 0, and returns false.
+/// Writes the entry that contains a key and returns true, or writes the longest range around the key in which no key has a value,
+/// with the value 0, and returns false.
 #[unsafe(no_mangle)]
-pub extern "C" fn range_map_entry_or_gap_at(
+pub extern "C" fn range_map_entry_or_gap_at_unchecked(
     alloc: Global,
     map: &mut RangeMap,
     key: i64,
@@ -50,10 +48,10 @@ pub extern "C" fn range_map_entry_or_gap_at(
         × IsGap least_key greatest_key (at map.old.entries) key lo.new hi.new
         × (value.new ≡ 0)) }
     ensures kept { map.new.entries ≡ map.old.entries }
+    ensures same { map.new.at ≡ map.old.at }
 {
-    let taken = map.take(alloc);
-    let (start, end, found) = piece_at(taken.map(), key);
-    map.put_back(taken);
+    let empty = RangeMapBlaze::new(alloc);
+    let (start, end, found) = piece_at(map_or(map.as_ref(), &empty), key);
     *lo = start;
     *hi = end;
     match found {
@@ -68,7 +66,7 @@ pub extern "C" fn range_map_entry_or_gap_at(
     }
 }
 
-// The entry that holds a key, or the gap round it.
+// The entry that contains a key, or the gap around it.
 fn piece_at(map: &RangeMapBlaze<i64, u64>, key: i64) -> (i64, i64, Option<u64>)
     ensures { MatchOption result.2 ((at map.now.entries key ≡ None)
         × IsGap least_key greatest_key (at map.now.entries) key result.0 result.1)
@@ -82,10 +80,9 @@ fn piece_at(map: &RangeMapBlaze<i64, u64>, key: i64) -> (i64, i64, Option<u64>)
     }
 }
 
-/// Tells the first entry that ends at a key or above, and returns whether there is one.
+/// Returns whether an entry ends at a key or above it, and writes the first of those entries.
 #[unsafe(no_mangle)]
-pub extern "C" fn range_map_next(
-    alloc: Global,
+pub extern "C" fn range_map_next_unchecked(
     map: &mut RangeMap,
     key: i64,
     lo: &mut i64,
@@ -95,17 +92,18 @@ pub extern "C" fn range_map_next(
     ensures entry { told_entry result lo.new hi.new value.new
         ≡ first_of (overlapping key greatest_key map.old.entries) }
     ensures kept { map.new.entries ≡ map.old.entries }
+    ensures same { map.new.at ≡ map.old.at }
 {
-    let taken = map.take(alloc);
-    let found = first_from(taken.map(), key);
-    map.put_back(taken);
+    let found = match map.as_ref() {
+        Some(map) => first_from(&map.map, key),
+        None => None,
+    };
     tell_entry(found, lo, hi, value)
 }
 
-/// Tells the last entry that starts at a key or below, and returns whether there is one.
+/// Returns whether an entry starts at a key or below it, and writes the last of those entries.
 #[unsafe(no_mangle)]
-pub extern "C" fn range_map_previous(
-    alloc: Global,
+pub extern "C" fn range_map_previous_unchecked(
     map: &mut RangeMap,
     key: i64,
     lo: &mut i64,
@@ -115,18 +113,21 @@ pub extern "C" fn range_map_previous(
     ensures entry { told_entry result lo.new hi.new value.new
         ≡ last_of (overlapping least_key key map.old.entries) }
     ensures kept { map.new.entries ≡ map.old.entries }
+    ensures same { map.new.at ≡ map.old.at }
 {
-    let taken = map.take(alloc);
-    let found = last_up_to(taken.map(), key);
-    map.put_back(taken);
+    let found = match map.as_ref() {
+        Some(map) => last_up_to(&map.map, key),
+        None => None,
+    };
     tell_entry(found, lo, hi, value)
 }
 
-// The first entry that ends at a key or above.
+// The first entry that ends at a key or above it.
 fn first_from(map: &RangeMapBlaze<i64, u64>, key: i64) -> Option<(i64, i64, u64)>
     ensures { option_map shown result ≡ first_of (overlapping key greatest_key map.now.entries) }
 {
-    match map.overlapping(key..).next() {
+    map.in_hand();
+    match map.range_at_or_above(key) {
         Some((range, value)) => {
             let (start, end) = range.into_inner();
             Some((start, end, *value))
@@ -135,11 +136,12 @@ fn first_from(map: &RangeMapBlaze<i64, u64>, key: i64) -> Option<(i64, i64, u64)
     }
 }
 
-// The last entry that starts at a key or below.
+// The last entry that starts at a key or below it.
 fn last_up_to(map: &RangeMapBlaze<i64, u64>, key: i64) -> Option<(i64, i64, u64)>
     ensures { option_map shown result ≡ last_of (overlapping least_key key map.now.entries) }
 {
-    match map.overlapping(..=key).next_back() {
+    map.in_hand();
+    match map.range_at_or_below(key) {
         Some((range, value)) => {
             let (start, end) = range.into_inner();
             Some((start, end, *value))
@@ -148,7 +150,7 @@ fn last_up_to(map: &RangeMapBlaze<i64, u64>, key: i64) -> Option<(i64, i64, u64)
     }
 }
 
-// Tells an entry, where there is one.
+// Writes an entry, if there is one.
 fn tell_entry(found: Option<(i64, i64, u64)>, lo: &mut i64, hi: &mut i64, value: &mut u64) -> bool
     ensures { told_entry result lo.new hi.new value.new ≡ option_map shown found }
 {

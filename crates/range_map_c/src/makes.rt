@@ -1,15 +1,16 @@
-//! Maps made, ended, emptied and copied.
+//! Maps made, freed, emptied and copied.
 ghost use denote.RawPtr.{null_ptr};
-ghost use Rattle.std.specs.Prelude.{◌≡◌, []};
+ghost use Rattle.std.specs.Prelude.{◌≡◌, [], pos};
 ghost use Rattle.std.specs.Prelude.{nat_eq};
 ghost use Rattle.blaze_entries.specs.Entries.{SameEntries};
 ghost use Rattle.range_map_c.specs.Status.{IsStatus, OnDone, OnRefused};
 
-use crate::handle::{RangeMap, hand_out};
+use crate::handle::{RangeMap, hand_out, map_or};
+use range_map_blaze::RangeMapBlaze;
 use std::alloc::Global;
 use std::mem;
 
-/// Makes an empty map. What was there is not looked at and not ended. It takes no memory, and one step.
+/// Makes the struct an empty map, which has no memory. What it contained is not read and not freed. O(1).
 #[unsafe(no_mangle)]
 pub extern "C" fn range_map_new(alloc: Global, map: &mut RangeMap)
     ensures empty { map.new.entries ≡ [] }
@@ -18,16 +19,16 @@ pub extern "C" fn range_map_new(alloc: Global, map: &mut RangeMap)
     mem::forget(mem::replace(map, RangeMap::none(alloc)));
 }
 
-/// Ends a map and frees its memory. What is left is an empty map, which may be ended again. It takes O(n) steps for n entries.
+/// Frees a map, and leaves the empty map, which may be freed again. O(n) for n entries.
 #[unsafe(no_mangle)]
-pub extern "C" fn range_map_free(alloc: Global, map: &mut RangeMap)
+pub extern "C" fn range_map_free_unchecked(alloc: Global, map: &mut RangeMap)
     ensures empty { map.new.entries ≡ [] }
     ensures nothing { map.new.at ≡ null_ptr }
 {
     *map = RangeMap::none(alloc);
 }
 
-/// Takes all keys out, and frees the map's memory. It takes O(n) steps for n entries.
+/// Removes all keys, and frees the map's memory. O(n) for n entries.
 #[unsafe(no_mangle)]
 pub extern "C" fn range_map_clear(alloc: Global, map: &mut RangeMap)
     ensures empty { map.new.entries ≡ [] }
@@ -36,7 +37,8 @@ pub extern "C" fn range_map_clear(alloc: Global, map: &mut RangeMap)
     *map = RangeMap::none(alloc);
 }
 
-/// Puts a copy of a map in the place of `out`. Refused memory leaves `out` unchanged. It takes O(n) steps for n entries.
+/// Replaces `out` by a copy of a map. If an allocation fails, `out` is unchanged. A copy of the empty map does not allocate. O(n) for
+/// n entries.
 #[unsafe(no_mangle)]
 pub extern "C" fn range_map_copy_unchecked(
     alloc: Global,
@@ -45,11 +47,14 @@ pub extern "C" fn range_map_copy_unchecked(
 ) -> i32
     ensures status { IsStatus result }
     ensures ok { OnDone result (SameEntries nat_eq map.old.entries out.new.entries) }
+    ensures empty { map.old.entries ≡ [] → result ≡ pos 0 }
     ensures err { OnRefused result (out.new.entries ≡ out.old.entries) }
     ensures kept { map.new.entries ≡ map.old.entries }
+    ensures same { map.new.at ≡ map.old.at }
 {
-    let taken = map.take(alloc);
-    let copied = taken.map().clone();
-    map.put_back(taken);
+    let copied = match map.as_ref() {
+        Some(map) if !map.map.is_empty() => map.map.clone(),
+        _ => Ok(RangeMapBlaze::new(alloc)),
+    };
     hand_out(copied, out, alloc)
 }

@@ -1,5 +1,5 @@
-//! Maps made of one or two others, and a map split in two. An operator takes O(n + m) steps for n and m entries, or fewer.
-ghost use Rattle.std.specs.Prelude.{◌≡◌, nat_eq};
+//! Maps made of one or two others, and a map split in two. An operator takes O(n + m) for n and m entries, or less.
+ghost use Rattle.std.specs.Prelude.{◌≡◌, [], pos, IfOk, nat_eq};
 ghost use Rattle.std.specs.Option.{option_xor};
 ghost use Rattle.blaze_table.specs.Chosen.{left_with_right, left_alone, IsChosen};
 ghost use Rattle.blaze_table.specs.Complement.{IsComplement};
@@ -8,13 +8,12 @@ ghost use Rattle.range_map_blaze.specs.Union.{IsUnion};
 ghost use Rattle.range_map_c.specs.Handle.{least_key, greatest_key};
 ghost use Rattle.range_map_c.specs.Status.{IsStatus, OnDone, OnRefused};
 
-use crate::handle::{RangeMap, boxed_map, hand_out};
-use crate::{DONE, REFUSED};
+use crate::handle::{RangeMap, boxed_map, hand_out, map_or};
+use crate::{DONE, NO_MEMORY};
 use range_map_blaze::RangeMapBlaze;
-use std::alloc::Global;
+use std::alloc::{AllocError, Global};
 
-/// Puts the values of `b` where it has one, and else those of `a`, in the place of `out`. Refused memory leaves `out`
-/// unchanged.
+/// Replaces `out` by the keys of both maps, with the value of `b` where both have one. If an allocation fails, `out` is unchanged.
 #[unsafe(no_mangle)]
 pub extern "C" fn range_map_union_unchecked(
     alloc: Global,
@@ -28,15 +27,15 @@ pub extern "C" fn range_map_union_unchecked(
     ensures err { OnRefused result (out.new.entries ≡ out.old.entries) }
     ensures kept_a { a.new.entries ≡ a.old.entries }
     ensures kept_b { b.new.entries ≡ b.old.entries }
+    ensures same_a { a.new.at ≡ a.old.at }
+    ensures same_b { b.new.at ≡ b.old.at }
 {
-    let (left, right) = (a.take(alloc), b.take(alloc));
-    let made = left.map() | right.map();
-    a.put_back(left);
-    b.put_back(right);
+    let empty = RangeMapBlaze::new(alloc);
+    let made = union_with(alloc, map_or(a.as_ref(), &empty), b);
     hand_out(made, out, alloc)
 }
 
-/// Puts the values of `b` on the keys of both in the place of `out`. Refused memory leaves `out` unchanged.
+/// Replaces `out` by the keys that have a value in both maps, with the value of `b`. If an allocation fails, `out` is unchanged.
 #[unsafe(no_mangle)]
 pub extern "C" fn range_map_intersection_unchecked(
     alloc: Global,
@@ -50,15 +49,15 @@ pub extern "C" fn range_map_intersection_unchecked(
     ensures err { OnRefused result (out.new.entries ≡ out.old.entries) }
     ensures kept_a { a.new.entries ≡ a.old.entries }
     ensures kept_b { b.new.entries ≡ b.old.entries }
+    ensures same_a { a.new.at ≡ a.old.at }
+    ensures same_b { b.new.at ≡ b.old.at }
 {
-    let (left, right) = (a.take(alloc), b.take(alloc));
-    let made = left.map() & right.map();
-    a.put_back(left);
-    b.put_back(right);
+    let empty = RangeMapBlaze::new(alloc);
+    let made = intersection_with(alloc, map_or(a.as_ref(), &empty), b);
     hand_out(made, out, alloc)
 }
 
-/// Puts the values of `a` off the keys of `b` in the place of `out`. Refused memory leaves `out` unchanged.
+/// Replaces `out` by the keys of `a` that have no value in `b`, with their values. If an allocation fails, `out` is unchanged.
 #[unsafe(no_mangle)]
 pub extern "C" fn range_map_difference_unchecked(
     alloc: Global,
@@ -72,15 +71,16 @@ pub extern "C" fn range_map_difference_unchecked(
     ensures err { OnRefused result (out.new.entries ≡ out.old.entries) }
     ensures kept_a { a.new.entries ≡ a.old.entries }
     ensures kept_b { b.new.entries ≡ b.old.entries }
+    ensures same_a { a.new.at ≡ a.old.at }
+    ensures same_b { b.new.at ≡ b.old.at }
 {
-    let (left, right) = (a.take(alloc), b.take(alloc));
-    let made = left.map() - right.map();
-    a.put_back(left);
-    b.put_back(right);
+    let empty = RangeMapBlaze::new(alloc);
+    let made = difference_with(alloc, map_or(a.as_ref(), &empty), b);
     hand_out(made, out, alloc)
 }
 
-/// Puts the values on the keys that exactly one of two maps has in the place of `out`. Refused memory leaves `out` unchanged.
+/// Replaces `out` by the keys that have a value in exactly one of the maps, with that value. If an allocation fails, `out` is
+/// unchanged.
 #[unsafe(no_mangle)]
 pub extern "C" fn range_map_symmetric_difference_unchecked(
     alloc: Global,
@@ -94,16 +94,16 @@ pub extern "C" fn range_map_symmetric_difference_unchecked(
     ensures err { OnRefused result (out.new.entries ≡ out.old.entries) }
     ensures kept_a { a.new.entries ≡ a.old.entries }
     ensures kept_b { b.new.entries ≡ b.old.entries }
+    ensures same_a { a.new.at ≡ a.old.at }
+    ensures same_b { b.new.at ≡ b.old.at }
 {
-    let (left, right) = (a.take(alloc), b.take(alloc));
-    let made = left.map() ^ right.map();
-    a.put_back(left);
-    b.put_back(right);
+    let empty = RangeMapBlaze::new(alloc);
+    let made = symmetric_difference_with(alloc, map_or(a.as_ref(), &empty), b);
     hand_out(made, out, alloc)
 }
 
-/// Puts a value on each key that has none in `a`, and nothing elsewhere, in the place of `out`. Refused memory leaves `out`
-/// unchanged.
+/// Replaces `out` by every key that has no value in `a`, all with the one value. If an allocation fails, `out` is unchanged. O(n) for n
+/// entries.
 #[unsafe(no_mangle)]
 pub extern "C" fn range_map_complement_unchecked(
     alloc: Global,
@@ -116,35 +116,53 @@ pub extern "C" fn range_map_complement_unchecked(
         out.new.entries) }
     ensures err { OnRefused result (out.new.entries ≡ out.old.entries) }
     ensures kept { a.new.entries ≡ a.old.entries }
+    ensures same { a.new.at ≡ a.old.at }
 {
-    let taken = a.take(alloc);
-    let made = taken.map().complement_with(&value);
-    a.put_back(taken);
+    let empty = RangeMapBlaze::new(alloc);
+    let made = map_or(a.as_ref(), &empty).complement_with(&value);
     hand_out(made, out, alloc)
 }
 
-/// Puts the values of `b` over those of `a`. Refused memory leaves `a` unchanged.
+/// Keeps the keys of `a` that have a value in `b`, with the value of `b`. If an allocation fails, `a` is unchanged.
 #[unsafe(no_mangle)]
-pub extern "C" fn range_map_extend_unchecked(
+pub extern "C" fn range_map_intersect_unchecked(
     alloc: Global,
     a: &mut RangeMap,
     b: &mut RangeMap,
 ) -> i32
     ensures status { IsStatus result }
-    ensures ok { OnDone result (IsUnion nat_eq least_key greatest_key a.old.entries b.old.entries
-        a.new.entries) }
+    ensures ok { OnDone result (IsChosen nat_eq least_key greatest_key left_with_right b.old.entries
+        a.old.entries a.new.entries) }
     ensures err { OnRefused result (a.new.entries ≡ a.old.entries) }
     ensures kept { b.new.entries ≡ b.old.entries }
+    ensures same { b.new.at ≡ b.old.at }
 {
-    let (left, right) = (a.take(alloc), b.take(alloc));
-    let made = left.map() | right.map();
-    a.put_back(left);
-    b.put_back(right);
+    let empty = RangeMapBlaze::new(alloc);
+    let made = intersection_with(alloc, map_or(a.as_ref(), &empty), b);
     hand_out(made, a, alloc)
 }
 
-/// Keeps the keys of `a` below a key, and puts the others in the place of `out`. Refused memory leaves both unchanged. It takes
-/// O(log n) steps, and one for each entry of the lesser part.
+/// Removes the keys of `b` from `a`. If an allocation fails, `a` is unchanged.
+#[unsafe(no_mangle)]
+pub extern "C" fn range_map_subtract_unchecked(
+    alloc: Global,
+    a: &mut RangeMap,
+    b: &mut RangeMap,
+) -> i32
+    ensures status { IsStatus result }
+    ensures ok { OnDone result (IsChosen nat_eq least_key greatest_key left_alone a.old.entries
+        b.old.entries a.new.entries) }
+    ensures err { OnRefused result (a.new.entries ≡ a.old.entries) }
+    ensures kept { b.new.entries ≡ b.old.entries }
+    ensures same { b.new.at ≡ b.old.at }
+{
+    let empty = RangeMapBlaze::new(alloc);
+    let made = difference_with(alloc, map_or(a.as_ref(), &empty), b);
+    hand_out(made, a, alloc)
+}
+
+/// Leaves the keys of `a` below a key, and replaces `out` by the map of the others. If an allocation fails, both are unchanged. An
+/// empty `a` does not allocate. O(log n) for n entries, and O(1) for each entry of the smaller part.
 #[unsafe(no_mangle)]
 pub extern "C" fn range_map_split_off_unchecked(
     alloc: Global,
@@ -155,25 +173,96 @@ pub extern "C" fn range_map_split_off_unchecked(
     ensures status { IsStatus result }
     ensures ok { OnDone result (IsSplit nat_eq least_key greatest_key key a.old.entries
         a.new.entries out.new.entries) }
+    ensures empty { a.old.entries ≡ [] → result ≡ pos 0 }
     ensures err { OnRefused result (a.new.entries ≡ a.old.entries) }
+    ensures err_out { OnRefused result (out.new.entries ≡ out.old.entries) }
+{
+    match a.as_mut() {
+        Some(there) if !there.map.is_empty() => split_map(alloc, &mut there.map, key, out),
+        _ => {
+            *out = RangeMap::none(alloc);
+            DONE
+        }
+    }
+}
+
+// Leaves the keys below a key, and replaces `out` by the map of the others. If an allocation fails, both are unchanged.
+fn split_map(alloc: Global, map: &mut RangeMapBlaze<i64, u64>, key: i64, out: &mut RangeMap) -> i32
+    ensures status { IsStatus result }
+    ensures ok { OnDone result (IsSplit nat_eq least_key greatest_key key map.old.entries
+        map.new.entries out.new.entries) }
+    ensures err { OnRefused result (map.new.entries ≡ map.old.entries) }
     ensures err_out { OnRefused result (out.new.entries ≡ out.old.entries) }
 {
     let mut room = match boxed_map(RangeMapBlaze::new(alloc), alloc) {
         Ok(room) => room,
-        Err(_) => return REFUSED,
+        Err(_) => return NO_MEMORY,
     };
-    let mut boxed = match a.take_or_make(alloc) {
-        Ok(boxed) => boxed,
-        Err(_) => return REFUSED,
-    };
-    let split = boxed.map.split_off(key);
-    a.put(boxed);
-    match split {
+    match map.split_off(key) {
         Ok(from) => {
             room.map = from;
             out.put(room);
             DONE
         }
-        Err(_) => REFUSED,
+        Err(_) => NO_MEMORY,
     }
+}
+
+// The union of a map with one that C holds. That one stays.
+fn union_with(
+    alloc: Global,
+    left: &RangeMapBlaze<i64, u64>,
+    right: &mut RangeMap,
+) -> Result<RangeMapBlaze<i64, u64>, AllocError>
+    ensures content { IfOk result (λ made. IsUnion nat_eq least_key greatest_key left.now.entries right.old.entries made.entries) }
+    ensures kept { right.new.entries ≡ right.old.entries }
+    ensures same { right.new.at ≡ right.old.at }
+{
+    let empty = RangeMapBlaze::new(alloc);
+    left | map_or(right.as_ref(), &empty)
+}
+
+// The intersection of a map with one that C holds. That one stays.
+fn intersection_with(
+    alloc: Global,
+    left: &RangeMapBlaze<i64, u64>,
+    right: &mut RangeMap,
+) -> Result<RangeMapBlaze<i64, u64>, AllocError>
+    ensures content { IfOk result (λ made. IsChosen nat_eq least_key greatest_key left_with_right right.old.entries
+        left.now.entries made.entries) }
+    ensures kept { right.new.entries ≡ right.old.entries }
+    ensures same { right.new.at ≡ right.old.at }
+{
+    let empty = RangeMapBlaze::new(alloc);
+    left & map_or(right.as_ref(), &empty)
+}
+
+// The difference of a map and one that C holds. That one stays.
+fn difference_with(
+    alloc: Global,
+    left: &RangeMapBlaze<i64, u64>,
+    right: &mut RangeMap,
+) -> Result<RangeMapBlaze<i64, u64>, AllocError>
+    ensures content { IfOk result (λ made. IsChosen nat_eq least_key greatest_key left_alone left.now.entries
+        right.old.entries made.entries) }
+    ensures kept { right.new.entries ≡ right.old.entries }
+    ensures same { right.new.at ≡ right.old.at }
+{
+    let empty = RangeMapBlaze::new(alloc);
+    left - map_or(right.as_ref(), &empty)
+}
+
+// The symmetric difference of a map and one that C holds. That one stays.
+fn symmetric_difference_with(
+    alloc: Global,
+    left: &RangeMapBlaze<i64, u64>,
+    right: &mut RangeMap,
+) -> Result<RangeMapBlaze<i64, u64>, AllocError>
+    ensures content { IfOk result (λ made. IsChosen nat_eq least_key greatest_key option_xor left.now.entries
+        right.old.entries made.entries) }
+    ensures kept { right.new.entries ≡ right.old.entries }
+    ensures same { right.new.at ≡ right.old.at }
+{
+    let empty = RangeMapBlaze::new(alloc);
+    left ^ map_or(right.as_ref(), &empty)
 }
