@@ -1,38 +1,52 @@
 #!/usr/bin/env bash
-# Builds out/librange_map.a, for `cc`, and out/librange_map.so, which Python loads, from the proved crates. Nothing is written
-# outside of the repository. `build.sh --as-proved` takes the libraries as `rt ci` has just proved them here, and proves the crate
-# range_map_c alone. Standard error says how far it is; a proof that fails ends with status 70.
+# Proves the library for C and builds it in out/: librange_map.a, librange_map.so.0 with the link librange_map.so, and PROOF, which says
+# what was proved. What is proved is kept in the crates' out/, so a later run goes on from there.
+#
+#     bindings/build.sh               proves what is not proved yet
+#     bindings/build.sh --as-proved   takes the libraries that `rt ci` has just proved here, and proves the crate range_map_c alone
+#
+# Standard error says how far it is. Exit status: 0 success; 2 wrong arguments; 70 not proved; 130 stopped. Nothing is written outside of
+# the repository.
 set -euo pipefail
 source "$(dirname "$(readlink -f "${BASH_SOURCE[0]}")")/../tools/made_of.sh"
 crate=range_map_c
 out="$root/bindings/out"
+usage="usage: bindings/build.sh [--as-proved]"
+takes="20 to 40 minutes on four processors"
 
 say() { echo "build: $1" >&2; }
 
-# Runs a command in the crate's folder, and says each half minute that it is at work. On failure it prints what the command said.
-log='' ticks=''
-ended() {
-    if [ -n "$ticks" ]; then kill "$ticks" 2>/dev/null || true; fi
-    rm -f "$log" "$out/names"
-}
-trap ended EXIT
-prove() { # the command
-    local status=0
-    log="$(mktemp)"
-    (while sleep 30 >/dev/null 2>&1; do say "proving, $(clock "$SECONDS")"; done) &
-    ticks=$!
-    (cd "$root/crates/$crate" && "$@") </dev/null >"$log" 2>&1 || status=$?
-    kill "$ticks" 2>/dev/null || true
-    if [ "$status" != 0 ]; then
+# Runs a command in a crate's folder, and says each half minute how far it is.
+prove() { # the crate, the command
+    local name="$1"
+    shift
+    : >"$log"
+    if ! (cd "$root/crates/$name" && "$@" </dev/null 2>&1) | watch "$name"; then
+        if [ -n "$stopped" ]; then exit 130; fi
         grep -Ev ': proved$|^(statements|library|checked|so far|ahead)' "$log" >&2 || true
-        say "$crate was not built: what \`$1\` said stands above"
+        say "$name was not proved: what \`$(basename "$1")\` said in crates/$name is above"
         exit 70
     fi
 }
 
-# The archive over the libraries that stand in the crates' out/rlib.
-build_as_proved() {
+# The crate and what it stands on, each after what it stands on itself.
+prove_all() {
+    local crates at
+    mapfile -t crates < <(crates_of "$crate")
+    say "proving $crate and what it stands on: from nothing, $takes"
+    for at in "${!crates[@]}"; do
+        say "${crates[at]} ($((at + 1)) of ${#crates[@]})"
+        prove "${crates[at]}" rt lib
+    done
+}
+
+# The crate over the libraries in the crates' out/rlib.
+prove_as_proved() {
     local words=(--crate-name "$crate" src/lib.rt --extern "std=$kit/rlibs/std.rlib" -L "dependency=$kit/rlibs") name
+    if [ "$made" != "$(cat "$(note_of "$crate")" 2>/dev/null)" ]; then
+        say "the sources are not those that \`rt ci\` proved here"
+        exit 70
+    fi
     for name in ${stands_on[$crate]}; do
         if [ "$name" = staticlib ]; then continue; fi
         if [ -n "${stands_on[$name]+is}" ]; then
@@ -47,13 +61,51 @@ build_as_proved() {
     words+=(--antt-project "$kit/rattle/logic/antt-project.json" --logic-built "$kit/logic_built" --links "$crate=")
     words+=(--incremental out/incremental --crate-type staticlib --toolchain "$kit/toolchain" --backend llvm --jobs 2)
     mkdir -p "$root/crates/$crate/out"
-    prove "$kit/bin/rattle" build "${words[@]}" -o "out/lib$crate.a"
+    say "proving $crate over the libraries that are proved"
+    prove "$crate" "$kit/bin/rattle" build "${words[@]}" -o "out/lib$crate.a"
+}
+
+# The archive has what it takes of the C library's part too, so that a program links one file.
+link_library() {
+    rm -f "$out"/librange_map.*
+    ar -M <<END
+CREATE $out/librange_map.a
+ADDLIB $root/crates/$crate/out/lib$crate.a
+ADDLIB $kit/c/liblibc_c.a
+SAVE
+END
+    printf '{ global: range_map_*; range_table_*; local: *; };\n' >"$work/names"
+    cc -shared -Wl,-soname,librange_map.so.0 -Wl,--version-script="$work/names" -Wl,--whole-archive "$out/librange_map.a" \
+        -Wl,--no-whole-archive -o "$out/librange_map.so.0"
+    ln -s librange_map.so.0 "$out/librange_map.so"
+}
+
+# What was proved, of which text, and what was built of it.
+write_proof() {
+    local commit
+    commit="$(git -C "$root" rev-parse HEAD 2>/dev/null || echo unknown)"
+    if [ -n "$(git -C "$root" status --porcelain -- crates crates.txt 2>/dev/null)" ]; then commit="$commit, and changes"; fi
+    mkdir "$work/objects"
+    (cd "$work/objects" && ar x "$out/librange_map.a")
+    {
+        echo "toolchain: $(rt version </dev/null)"
+        echo "commit: $commit"
+        echo "sources: sha256 $(sha256sum <<<"$made" | cut -d ' ' -f 1)"
+        echo "proof: $(grep '^logic=' "$log" | tail -n 1)"
+        echo "objects of librange_map.a, sha256:"
+        (cd "$work/objects" && sha256sum -- *)
+    } >"$out/PROOF"
 }
 
 case "$*" in
     '' | --as-proved) ;;
+    --help)
+        sed -n '/^#!/d; s/^# \{0,1\}//p; /^set /q' "${BASH_SOURCE[0]}"
+        exit
+        ;;
     *)
-        say "usage: bindings/build.sh [--as-proved]"
+        say "'$*' is not understood"
+        echo "$usage" >&2
         exit 2
         ;;
 esac
@@ -62,30 +114,20 @@ if ! command -v rt >/dev/null; then
     exit 70
 fi
 kit="$(dirname "$(rt doc)")"
-made="$(made_of "$crate" | sha256sum)"
-if [ -f "$out/librange_map.so" ] && [ "$made" = "$(cat "$out/made_of" 2>/dev/null)" ]; then
+made="$(made_of "$crate")"
+if [ -f "$out/librange_map.a" ] && [ -f "$out/librange_map.so.0" ] && [ -f "$out/PROOF" ] && [ "$made" = "$(cat "$out/made_of" 2>/dev/null)" ]; then
     say "$out is built"
     exit
 fi
 mkdir -p "$out"
+work="$(mktemp -d -p "$out")"
+log="$work/log"
+stopped=''
+trap 'rm -rf "$work"' EXIT
+trap 'stopped=yes; say "stopped after $(clock "$SECONDS"): the crates that are done are kept, and build.sh goes on from there"; exit 130' INT
 rm -f "$out/made_of"
-if [ "$*" = --as-proved ]; then
-    build_as_proved
-else
-    say "proving $crate and what it stands on: from nothing, 20 to 40 minutes on four processors"
-    prove rt lib
-fi
-
-# The archive has what it takes of the C library's part too, so that a program links one file.
-archive="$root/crates/$crate/out/lib$crate.a"
-rm -f "$out/librange_map.a"
-ar -M <<END
-CREATE $out/librange_map.a
-ADDLIB $archive
-ADDLIB $kit/c/liblibc_c.a
-SAVE
-END
-printf '{ global: range_map_*; local: *; };\n' >"$out/names"
-cc -shared -Wl,--version-script="$out/names" -Wl,--whole-archive "$out/librange_map.a" -Wl,--no-whole-archive -o "$out/librange_map.so"
+if [ "$*" = --as-proved ]; then prove_as_proved; else prove_all; fi
+link_library
+write_proof
 printf '%s\n' "$made" >"$out/made_of"
-say "$out/librange_map.a and librange_map.so are built, in $(clock "$SECONDS")"
+say "$out/librange_map.a and librange_map.so.0 are built, in $(clock "$SECONDS")"

@@ -1,8 +1,9 @@
-/* Every function of bindings/range_map.h, with each request for memory that it makes refused in turn: it is to return
- * RANGE_MAP_NO_MEMORY and leave the maps as they were. A call that collects a list may do without one request for each list, as
- * std's `collect` asks for the room that a hint names, and then for that of one item. Then look-ups, a map that is passed twice,
- * empty arrays, the ends of the keys, and that all memory is given back. It is linked with --wrap of malloc, realloc and free. An
- * argument is the most entries that a map is to have. The last line is 'N passed, M failed'. C99 and C++. */
+/* Every function of bindings/range_map.h, with each of its allocations failing in turn: it must return RANGE_MAP_NO_MEMORY and leave
+ * the maps unchanged, or with a first part of the input painted where the header says so. A call that collects a list may do without
+ * one allocation for each list: std's `collect` asks for the room that a hint names, and then for that of one item. Then look-ups,
+ * calls that change nothing with no allocation at all, NULL for each result, a map that is passed twice, empty arrays, the ends of
+ * the keys, and that all memory is freed. It is linked with --wrap of malloc, realloc and free. An argument is the most entries that
+ * a map has. The last line is 'N passed, M failed'. C99 and C++. */
 #include <stdio.h>
 #include <stdlib.h>
 #include <string.h>
@@ -80,7 +81,7 @@ struct contents {
     struct content a, b, out;
 };
 
-static void read_content(struct range_map *map, struct content *into) {
+static void read_content(const struct range_map *map, struct content *into) {
     int64_t at = INT64_MIN, lo, hi;
     uint64_t value;
     into->count = 0;
@@ -153,6 +154,24 @@ static int32_t subtract(struct maps *m) { return range_map_difference(&m->a, &m-
 static int32_t differ(struct maps *m) { return range_map_symmetric_difference(&m->a, &m->b, &m->out); }
 static int32_t complement(struct maps *m) { return range_map_complement(&m->a, 7, &m->out); }
 static int32_t extend(struct maps *m) { return range_map_extend(&m->a, &m->b); }
+static int32_t extend_by_one(struct maps *m) { return range_map_extend(&m->a, &m->out); }
+static int32_t intersect_in_place(struct maps *m) { return range_map_intersect(&m->a, &m->b); }
+static int32_t subtract_in_place(struct maps *m) { return range_map_subtract(&m->a, &m->b); }
+static int32_t fill_if_free(struct maps *m) { return range_map_fill_if_free(&m->a, 7, 8, 50); }
+static int32_t unite_many(struct maps *m) {
+    struct range_map maps[3];
+    memcpy(&maps[0], &m->a, sizeof maps[0]); /* (read only: nothing owns the maps twice) */
+    memcpy(&maps[1], &m->b, sizeof maps[1]);
+    memcpy(&maps[2], &m->a, sizeof maps[2]);
+    return range_map_union_many(maps, 3, &m->out);
+}
+static int32_t from_table(struct maps *m) {
+    static int64_t lo[MOST_ENTRIES], hi[MOST_ENTRIES];
+    static uint64_t value[MOST_ENTRIES];
+    struct range_table table = {NULL, NULL, NULL, 0};
+    int32_t status = range_map_to_table(&m->a, lo, hi, value, MOST_ENTRIES, &table);
+    return status ? status : range_map_from_table(&table, &m->out);
+}
 static int32_t split_low(struct maps *m) { return range_map_split_off(&m->a, 3, &m->out); }
 static int32_t split_middle(struct maps *m) { return range_map_split_off(&m->a, 203, &m->out); }
 static int32_t paint_many(struct maps *m) { return range_map_paint_many(&m->a, many_lo, many_hi, many_values, MANY); }
@@ -160,8 +179,8 @@ static int32_t paint_many(struct maps *m) { return range_map_paint_many(&m->a, m
 struct call {
     const char *name;
     int32_t (*run)(struct maps *maps);
-    int spares;       /* requests that it may do without */
-    bool needs_entry; /* whether it has to ask for memory on some map that is not empty */
+    int spares;       /* allocations that it may do without */
+    bool allocates; /* on some map that is not empty; else it never does */
 };
 
 static const struct call calls[] = {
@@ -181,12 +200,35 @@ static const struct call calls[] = {
     {"symmetric_difference", differ, 1, true},
     {"complement", complement, 1, true},
     {"extend", extend, 1, true},
+    {"extend by one entry", extend_by_one, 1, true},
+    {"intersect", intersect_in_place, 1, true},
+    {"subtract", subtract_in_place, 1, true},
+    {"fill_if_free", fill_if_free, 0, true},
+    {"union_many", unite_many, 2, true},
+    {"from_table", from_table, 2, true},
     {"split_off low", split_low, 0, true},
     {"split_off in the middle", split_middle, 0, true},
     {"paint_many", paint_many, 2, true},
 };
 
-/* How many refusals a call did not do without. */
+/* Whether a has a first part of the many ranges painted, and nothing else has changed. */
+static bool is_part_painted(const struct contents *now, const struct contents *before, long size) {
+    static struct content part;
+    struct maps maps;
+    size_t rows = 0;
+    if (!is_equal_content(&now->b, &before->b) || !is_equal_content(&now->out, &before->out)) return false;
+    start(&maps, size);
+    read_content(&maps.a, &part);
+    while (!is_equal_content(&now->a, &part) && rows < MANY) {
+        if (range_map_paint(&maps.a, many_lo[rows], many_hi[rows], many_values[rows], NULL)) abort();
+        read_content(&maps.a, &part);
+        rows++;
+    }
+    end(&maps);
+    return is_equal_content(&now->a, &part);
+}
+
+/* How many failed allocations a call did not do without. */
 static long refuse_each(const struct call *call, long size) {
     static struct contents before, after, now;
     struct maps maps;
@@ -210,7 +252,8 @@ static long refuse_each(const struct call *call, long size) {
             spared++;
             judge(is_equal(&now, &after), call->name, size, request);
         } else {
-            judge(status == RANGE_MAP_NO_MEMORY && is_equal(&now, &before), call->name, size, request);
+            judge(status == RANGE_MAP_NO_MEMORY && (is_equal(&now, &before) || (call->run == paint_many && is_part_painted(&now, &before, size))),
+                  call->name, size, request);
             /* what it does with memory is the same as if it had not been refused any */
             status = call->run(&maps);
             read_contents(&maps, &now);
@@ -219,7 +262,7 @@ static long refuse_each(const struct call *call, long size) {
         end(&maps);
     }
     judge(spared <= call->spares, call->name, size, -spared);
-    judge(blocks == 0, "memory that is not given back", size, blocks);
+    judge(blocks == 0, "memory that is not freed", size, blocks);
     return all - spared;
 }
 
@@ -227,7 +270,7 @@ static long refuse_each(const struct call *call, long size) {
 
 static void look_up(long size) {
     struct maps maps;
-    int64_t lo, hi, lows[3], highs[3];
+    int64_t lo = 0, hi = 0, lows[3], highs[3];
     uint64_t value, low, high, values[3];
     long last = 10 * size - 5;
     start(&maps, size);
@@ -270,9 +313,9 @@ static void look_up(long size) {
     judge(range_map_compare(&maps.b, &maps.a) == (size ? 1 : 0), "compare turned round", size, 0);
     range_map_clear(&maps.a);
     judge(range_map_is_empty(&maps.a), "clear", size, 0);
-    judge(requests == 0, "look-ups that take memory", size, requests);
+    judge(requests == 0, "look-ups that allocate", size, requests);
     end(&maps);
-    judge(blocks == 0, "memory that is not given back", size, blocks);
+    judge(blocks == 0, "memory that is not freed", size, blocks);
 }
 
 /* ---- What each call leaves and answers, of a: 0 to 5 with 1, 10 to 15 with 2, and b: 4 to 11 with 3 */
@@ -286,7 +329,7 @@ static void begin(struct maps *maps) {
 }
 
 /* The entries of a map, as `lo hi value` in turn. */
-static void judge_map(const char *what, struct range_map *map, size_t count, const int64_t *wanted) {
+static void judge_map(const char *what, const struct range_map *map, size_t count, const int64_t *wanted) {
     static struct content got;
     bool good;
     read_content(map, &got);
@@ -371,7 +414,97 @@ static void contents(void) {
     judge_answer("pop_last", range_map_pop_last(&m.a, &told, &told_key, &told_value), true, 15, 2);
     judge_map("pops", &m.a, 2, popped);
     end(&m);
-    judge(blocks == 0, "memory that is not given back", 2, blocks);
+    judge(blocks == 0, "memory that is not freed", 2, blocks);
+}
+
+/* ---- Calls that change nothing, with every allocation failing */
+
+static void judge_quiet(const char *what, int32_t status) {
+    judge(status == RANGE_MAP_DONE && requests == 0, what, status, requests);
+    requests = 0;
+}
+
+static void change_nothing(struct maps *m) {
+    requests = 0;
+    judge_quiet("paint of an empty range", range_map_paint(&m->a, 9, 2, 5, NULL));
+    judge_quiet("fill of an empty range", range_map_fill(&m->a, 9, 2, 5, NULL));
+    judge_quiet("fill_if_free of an empty range", range_map_fill_if_free(&m->a, 9, 2, 5));
+    judge_quiet("remove_range of an empty range", range_map_remove_range(&m->a, 9, 2, NULL));
+    judge_quiet("remove_range of a free range", range_map_remove_range(&m->a, 6, 9, NULL));
+    judge_quiet("remove of a free key", range_map_remove(&m->a, 7, NULL, NULL));
+    judge_quiet("paint_many of none", range_map_paint_many(&m->a, NULL, NULL, NULL, 0));
+    judge_quiet("extend by nothing", range_map_extend(&m->a, &m->b));
+}
+
+static void nothing(void) {
+    static struct contents before, now;
+    struct maps m;
+    bool had = true;
+    start(&m, 0);
+    range_map_free(&m.out);
+    for (int used = 0; used < 3; used++) {
+        change_nothing(&m);
+        if (used == 1) continue;
+        /* of the empty map, at first zeroed, and in the end one that had entries */
+        judge_quiet("pop_first of the empty map", range_map_pop_first(&m.a, &had, NULL, NULL));
+        judge(!had, "pop_first of the empty map", used, 0);
+        had = true;
+        judge_quiet("pop_last of the empty map", range_map_pop_last(&m.a, &had, NULL, NULL));
+        judge(!had, "pop_last of the empty map", used, 0);
+        judge_quiet("remove from the empty map", range_map_remove(&m.a, 3, NULL, NULL));
+        judge_quiet("remove_range from the empty map", range_map_remove_range(&m.a, INT64_MIN, INT64_MAX, NULL));
+        judge_quiet("copy of the empty map", range_map_copy(&m.a, &m.out));
+        judge_quiet("split_off of the empty map", range_map_split_off(&m.a, 3, &m.out));
+        judge_quiet("union of no map", range_map_union_many(NULL, 0, &m.out));
+        judge(range_map_is_empty(&m.a) && range_map_is_empty(&m.out), "maps after these", used, 0);
+        if (range_map_paint(&m.a, 0, 5, 1, NULL)) abort();
+        read_contents(&m, &before);
+        requests = 0;
+        judge_quiet("paint inside an entry", range_map_paint(&m.a, 2, 3, 1, NULL));
+        judge_quiet("insert inside an entry", range_map_insert(&m.a, 2, 1, NULL, NULL));
+        judge_quiet("fill of a full range", range_map_fill(&m.a, 0, 5, 7, NULL));
+        judge(range_map_fill_if_free(&m.a, 5, 9, 7) == RANGE_MAP_TAKEN && requests == 0, "fill_if_free of a taken range", used, requests);
+        read_contents(&m, &now);
+        judge(is_equal(&now, &before), "maps that nothing changed", used, 0);
+        if (used == 0) judge_quiet("remove of an entry", range_map_remove_range(&m.a, 0, 5, NULL));
+    }
+    end(&m);
+    judge(blocks == 0, "memory that is not freed", 0, blocks);
+}
+
+/* ---- NULL for each result */
+
+static void without_results(void) {
+    struct maps m;
+    struct range_table table = {NULL, NULL, NULL, 0};
+    int64_t lo[4], hi[4];
+    uint64_t value[4];
+    start(&m, 3);
+    judge(range_map_paint(&m.a, 7, 8, 9, NULL) == RANGE_MAP_DONE, "paint", 3, 0);
+    judge(range_map_fill(&m.a, 7, 9, 9, NULL) == RANGE_MAP_DONE, "fill", 3, 0);
+    judge(range_map_insert(&m.a, 7, 8, NULL, NULL) == RANGE_MAP_DONE, "insert", 3, 0);
+    judge(range_map_remove(&m.a, 7, NULL, NULL) == RANGE_MAP_DONE, "remove", 3, 0);
+    judge(range_map_remove_range(&m.a, 7, 8, NULL) == RANGE_MAP_DONE, "remove_range", 3, 0);
+    judge(range_map_pop_first(&m.b, NULL, NULL, NULL) == RANGE_MAP_DONE, "pop_first", 3, 0);
+    judge(range_map_pop_last(&m.b, NULL, NULL, NULL) == RANGE_MAP_DONE, "pop_last", 3, 0);
+    judge(range_map_get(&m.a, 3, NULL) && !range_map_get(&m.a, 7, NULL), "get", 3, 0);
+    judge(range_map_entry_or_gap_at(&m.a, 3, NULL, NULL, NULL) && !range_map_entry_or_gap_at(&m.a, 7, NULL, NULL, NULL), "entry_or_gap_at",
+          3, 0);
+    judge(range_map_next(&m.a, 3, NULL, NULL, NULL) && !range_map_next(&m.a, 99, NULL, NULL, NULL), "next", 3, 0);
+    judge(range_map_previous(&m.a, 3, NULL, NULL, NULL) && !range_map_previous(&m.a, -9, NULL, NULL, NULL), "previous", 3, 0);
+    judge(range_map_first(&m.a, NULL, NULL) && range_map_last(&m.a, NULL, NULL), "first and last", 3, 0);
+    judge(range_map_find_gap(&m.a, 0, 9, 2, NULL) && range_map_find_last_gap(&m.a, 0, 9, 2, NULL), "find_gap", 3, 0);
+    range_map_count(&m.a, NULL, NULL);
+    range_map_count_within(&m.a, 0, 9, NULL, NULL);
+    if (range_map_copy(&m.b, &m.a)) abort();
+    judge(range_map_to_table(&m.b, lo, hi, value, 4, &table) == RANGE_MAP_DONE, "to_table", 3, 0);
+    judge(range_table_get(&table, 6, NULL) && !range_table_get(&table, 8, NULL), "table get", 3, 0);
+    judge(range_table_entry_or_gap_at(&table, 6, NULL, NULL, NULL), "table entry_or_gap_at", 3, 0);
+    judge(range_table_next(&table, 6, NULL, NULL, NULL) && range_table_previous(&table, 6, NULL, NULL, NULL), "table next", 3, 0);
+    range_table_count_within(&table, 0, 9, NULL, NULL);
+    range_map_free(NULL);
+    end(&m);
+    judge(blocks == 0, "memory that is not freed", 3, blocks);
 }
 
 /* ---- A map that is passed twice, empty arrays, ends */
@@ -385,26 +518,34 @@ static void misuse(void) {
     copied = maps.a;
 #define IS_SAME(call) judge((call) == RANGE_MAP_SAME_MAP, #call, 5, 0)
     IS_SAME(range_map_copy(&maps.a, &maps.a));
-    IS_SAME(range_map_union(&maps.a, &maps.a, &maps.out));
     IS_SAME(range_map_union(&maps.a, &maps.b, &maps.a));
     IS_SAME(range_map_union(&maps.a, &maps.b, &maps.b));
-    IS_SAME(range_map_union(&maps.a, &copied, &maps.out));
-    IS_SAME(range_map_intersection(&maps.a, &maps.a, &maps.out));
     IS_SAME(range_map_intersection(&maps.a, &maps.b, &maps.b));
-    IS_SAME(range_map_difference(&maps.a, &maps.a, &maps.out));
     IS_SAME(range_map_difference(&maps.a, &maps.b, &maps.a));
-    IS_SAME(range_map_symmetric_difference(&maps.a, &maps.a, &maps.out));
     IS_SAME(range_map_symmetric_difference(&maps.a, &maps.b, &maps.b));
     IS_SAME(range_map_complement(&maps.a, 1, &maps.a));
     IS_SAME(range_map_extend(&maps.a, &maps.a));
     IS_SAME(range_map_extend(&maps.a, &copied));
     IS_SAME(range_map_split_off(&maps.a, 3, &maps.a));
-    judge(range_map_equal(&maps.a, &maps.a), "equal to itself", 5, 0);
+    IS_SAME(range_map_intersect(&maps.a, &maps.a));
+    IS_SAME(range_map_subtract(&maps.a, &copied));
+    IS_SAME(range_map_union_many(&maps.a, 1, &maps.a));
+    judge(range_map_equal(&maps.a, &maps.a) && range_map_equal(&maps.a, &copied), "equal to itself", 5, 0);
+    judge(range_map_union(&maps.a, &copied, &maps.out) == RANGE_MAP_DONE && range_map_equal(&maps.a, &maps.out), "a | a", 5, 0);
+    range_map_clear(&maps.out);
+    judge(range_map_intersection(&maps.a, &maps.a, &maps.out) == RANGE_MAP_DONE && range_map_equal(&maps.a, &maps.out), "a & a", 5, 0);
+    judge(range_map_difference(&maps.a, &maps.a, &maps.out) == RANGE_MAP_DONE && range_map_is_empty(&maps.out), "a - a", 5, 0);
+    if (range_map_copy(&maps.a, &maps.out)) abort();
+    judge(range_map_symmetric_difference(&maps.a, &copied, &maps.out) == RANGE_MAP_DONE && range_map_is_empty(&maps.out), "a ^ a", 5, 0);
+    if (range_map_paint(&maps.out, -3, 3, 99, NULL)) abort();
     judge(range_map_compare(&maps.a, &maps.a) == 0, "compared with itself", 5, 0);
     judge(range_map_paint_many(&maps.a, NULL, NULL, NULL, 0) == RANGE_MAP_DONE, "paint_many of none", 5, 0);
     judge(range_map_entries_into(&maps.a, 0, NULL, NULL, NULL, 0) == 0, "entries_into no room", 5, 0);
+    told = true;
     judge(range_map_paint(&maps.a, 9, 2, 5, &told) == RANGE_MAP_DONE && !told, "paint of an empty range", 5, 0);
+    told = true;
     judge(range_map_fill(&maps.a, 9, 2, 5, &told) == RANGE_MAP_DONE && !told, "fill of an empty range", 5, 0);
+    told = true;
     judge(range_map_remove_range(&maps.a, 9, 2, &told) == RANGE_MAP_DONE && !told, "remove_range of an empty range", 5, 0);
     read_contents(&maps, &now);
     judge(is_equal(&now, &before), "the maps after these", 5, 0);
@@ -438,7 +579,7 @@ static void whole(void) {
     judge(range_map_pop_first(&map, &told, &lo, &value) == RANGE_MAP_DONE && !told, "pop_first of none", 0, 0);
     range_map_free(&map);
     range_map_free(&other);
-    judge(blocks == 0, "memory that is not given back", 0, blocks);
+    judge(blocks == 0, "memory that is not freed", 0, blocks);
 }
 
 int main(int argc, char **argv) {
@@ -450,11 +591,12 @@ int main(int argc, char **argv) {
     for (size_t at = 0; at < sizeof calls / sizeof calls[0]; at++) {
         long of_none = refuse_each(&calls[at], 0), of_some = 0;
         for (size_t size = 1; size < SIZES && sizes[size] <= most; size++) of_some += refuse_each(&calls[at], sizes[size]);
-        judge(of_none > 0 || of_some > 0, "a request that is needed", 0, (long)at);
-        judge(of_some > 0 || !calls[at].needs_entry, "a request that is needed, of a map with entries", most, (long)at);
+        judge(calls[at].allocates ? of_some > 0 : of_none == 0 && of_some == 0, "whether it allocates", most, (long)at);
     }
     for (size_t size = 0; size < SIZES && sizes[size] <= most; size++) look_up(sizes[size]);
     contents();
+    nothing();
+    without_results();
     misuse();
     whole();
     printf("%ld passed, %ld failed\n", passed, failed);

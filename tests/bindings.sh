@@ -1,12 +1,15 @@
 #!/usr/bin/env bash
-# What stands in bindings/, over the library that bindings/build.sh makes: the header as C99 and as C++, without a warning; that it
-# has what the library exports; each function with each of its requests for memory refused in turn (tests/bindings.c), the same
-# under valgrind, or clang's or gcc's sanitizers where there is no valgrind; random calls from Python (tests/bindings.py) and Rust
-# (tests/bindings.rs) against plain maps; the examples of docstrings and doc comments; the three programs of bindings/examples
-# against their expected output; the lines of README.md. What needs a tool that is not here is left out, and named. The last line
-# is 'N passed, M failed'.
+# What is in bindings/, over the library that bindings/build.sh makes:
+# - the header as C99 and as C++, without a warning, and that it has what the library exports;
+# - each function with each of its allocations failing in turn (tests/bindings.c), random calls against a model (tests/random_calls.c),
+#   both under valgrind too, or under sanitizers where there is no valgrind; four threads (tests/threads.c), under helgrind and DRD too;
+# - the C++ header (tests/bindings.cpp), the package (tests/package.sh), and what build.sh refuses;
+# - the Python module (tests/bindings.py) and the Rust crate, with the examples of their docs;
+# - the example in each language, on random tables, against bindings/examples/expected.py (tests/examples.py);
+# - the program of README.md.
+# What needs a tool that is not here is left out, and named. The last line is 'N passed, M failed'.
 #
-# RANGE_MAP_OUT names a folder with librange_map.a and librange_map.so to test; without it bindings/build.sh makes them.
+# RANGE_MAP_OUT names a folder with librange_map.a, librange_map.so.0 and PROOF to test; without it bindings/build.sh makes them.
 set -euo pipefail
 cd "$(dirname "${BASH_SOURCE[0]}")/.."
 source tests/judge.sh
@@ -16,7 +19,7 @@ if [ -z "${RANGE_MAP_OUT:-}" ]; then
 fi
 out="$(realpath "$RANGE_MAP_OUT")"
 library="$out/librange_map.a"
-export RANGE_MAP_LIBRARY="$out/librange_map.so"
+export RANGE_MAP_OUT="$out" RANGE_MAP_LIB_DIR="$out" CARGO_TARGET_DIR="$work/target"
 
 has() { # a tool
     command -v "$1" >/dev/null || { echo "bindings: there is no $1 here: left out" && false; }
@@ -39,81 +42,151 @@ counts() { # what it is called here, the command
     if [ "$status" != 0 ]; then tail -n 20 "$work/said"; fi
 }
 
-# ---- The header
+# ---- C
 strict=(-Wall -Wextra -pedantic -Werror -g -O1 -I bindings)
 wrap=(-Wl,--wrap=malloc,--wrap=realloc,--wrap=free)
 builds "C99" cc -std=c99 "${strict[@]}" -o "$work/c99" tests/bindings.c "$library" "${wrap[@]}"
-counts "refused memory from C" "$work/c99"
+counts "failing allocations from C" "$work/c99"
+builds "random calls" cc -std=c99 "${strict[@]}" -o "$work/random" tests/random_calls.c "$library" "${wrap[@]}"
+counts "random calls from C" "$work/random" 60000 "$RANDOM"
+builds "threads" cc -std=gnu99 "${strict[@]}" -pthread -o "$work/threads" tests/threads.c "$library"
+counts "look-ups from four threads" "$work/threads"
 if has c++; then
     builds "C++" c++ -std=c++11 "${strict[@]}" -x c++ -c -o "$work/c++.o" tests/bindings.c
     builds "C++, linked" c++ -o "$work/c++" "$work/c++.o" "$library" "${wrap[@]}"
-    counts "refused memory from C++" "$work/c++" 40
+    counts "failing allocations from C++" "$work/c++" 40
 fi
 if has clang; then builds "clang" clang -std=c99 "${strict[@]}" -c -o "$work/clang.o" tests/bindings.c; fi
-declared="$(grep -v '^static inline' bindings/range_map.h | grep -oE '^[a-z0-9_]+ +range_map_[a-z_]+\(' | grep -o 'range_map_[a-z_]*' | sort)"
-judge "$declared" "$(nm -g --defined-only "$library" 2>/dev/null | sed -n 's/^[0-9a-f]* T \(range_map_[a-z_]*\)$/\1/p' | sort)" "what the library exports"
+declared="$(grep -v '^static inline' bindings/range_map.h | grep -oE '^[a-z0-9_]+ +range_[a-z_]+\(' | grep -oE 'range_(map|table)_[a-z_]*' | LC_ALL=C sort)"
+judge "$declared" "$(nm -g --defined-only "$library" 2>/dev/null | sed -n 's/^[0-9a-f]* T \(range_[a-z_]*\)$/\1/p' | LC_ALL=C sort)" "what the library exports"
 judge "free malloc realloc" "$(nm -u "$library" 2>/dev/null | grep -oE '\b(calloc|free|malloc|mmap|realloc|[a-z_]*mem_?align|aligned_alloc)$' | sort -u | paste -sd ' ')" \
-    "which functions it asks for memory"
+    "how it asks for memory"
 
-# ---- Memory
+# ---- C++
+strict_cpp=(-Wall -Wextra -pedantic -Wconversion -Wshadow -Wold-style-cast -Werror -g -I bindings)
+for compiler in g++ clang++; do
+    if has "$compiler"; then
+        for standard in c++17 c++20; do
+            builds "$compiler -std=$standard" "$compiler" "-std=$standard" "${strict_cpp[@]}" -fsyntax-only tests/bindings.cpp
+        done
+        for types in 'int, double' 'bool, int' 'int, std::vector<int>'; do
+            printf '#include "range_map.hpp"\n#include <vector>\nrangemap::map<%s> map;\n' "$types" >"$work/types.cpp"
+            "$compiler" -std=c++17 -I bindings -fsyntax-only "$work/types.cpp" >"$work/said" 2>&1 || true
+            judge rejected "$(grep -qE '(Key|Value) must be' "$work/said" && echo rejected)" "map<$types> of $compiler"
+        done
+    fi
+done
+if has c++; then
+    builds "random calls from C++, built" c++ -std=c++17 "${strict_cpp[@]}" -O1 -o "$work/cpp" tests/bindings.cpp "$library" "${wrap[@]}"
+    counts "random calls from C++" "$work/cpp" 100000 "$RANDOM"
+    builds "sanitizers" c++ -std=c++20 "${strict_cpp[@]}" -O0 -fsanitize=address,undefined -fno-sanitize-recover=undefined -o "$work/cpp" \
+        tests/bindings.cpp "$library" "${wrap[@]}"
+    counts "random calls from C++ under sanitizers" "$work/cpp" 10000 "$RANDOM"
+fi
+
+# ---- Memory and threads
 if command -v valgrind >/dev/null; then
-    counts "refused memory under valgrind" valgrind -q --leak-check=full --error-exitcode=9 "$work/c99" 40
+    check=(valgrind -q --error-exitcode=9)
+    counts "failing allocations under valgrind" "${check[@]}" --leak-check=full "$work/c99" 40
+    counts "random calls under valgrind" "${check[@]}" --leak-check=full "$work/random" 1500 "$RANDOM"
+    counts "threads under helgrind" "${check[@]}" --tool=helgrind "$work/threads" 2000
+    counts "threads under DRD" "${check[@]}" --tool=drd "$work/threads" 2000
 else
-    echo "bindings: there is no valgrind here"
+    echo "bindings: there is no valgrind here: no test of threads by helgrind and DRD"
     for compiler in clang gcc; do
         if command -v "$compiler" >/dev/null; then
             builds "sanitizers of $compiler" "$compiler" -std=c99 "${strict[@]}" -fsanitize=address,undefined -o "$work/sanitized" \
                 tests/bindings.c "$library" "${wrap[@]}"
-            counts "refused memory under sanitizers of $compiler" "$work/sanitized" 40
+            counts "failing allocations under sanitizers of $compiler" "$work/sanitized" 40
             break
         fi
     done
 fi
 
+# ---- The package, and what build.sh refuses
+counts "the package" tests/package.sh
+
+# A copy of the sources, with a stand-in for `rt` that knows its version and proves nothing.
+copy="$work/copy"
+mkdir -p "$copy/bindings/out" "$work/bin"
+cp -r crates.txt tools "$copy"
+cp bindings/build.sh "$copy/bindings"
+while IFS= read -r file; do install -D -m 644 "$file" "$copy/$file"; done < <(git ls-files 'crates/*.rt' 'crates/*.antt')
+printf '#!/bin/sh\ncase "$1" in version) echo stand-in ;; doc) echo /nowhere/doc ;; *) echo "no proof today"; exit 1 ;; esac\n' >"$work/bin/rt"
+chmod +x "$work/bin/rt"
+build() { # what it is called here, the text that standard error must have, the arguments
+    local what="$1" text="$2" status=0
+    shift 2
+    PATH="$work/bin:$PATH" "$copy/bindings/build.sh" "$@" >"$work/said" 2>&1 || status=$?
+    judge 70 "$status" "$what: status"
+    judge yes "$(grep -qF "$text" "$work/said" && echo yes || echo no)" "$what: '$text'"
+}
+build "build.sh --as-proved without a proof" "the sources are not those that" --as-proved
+(
+    PATH="$work/bin:$PATH"
+    source "$copy/tools/made_of.sh"
+    mkdir -p "$copy/crates/range_map_c/out"
+    made_of range_map_c | tee "$(note_of range_map_c)" >"$copy/bindings/out/made_of"
+    touch "$copy/bindings/out/librange_map.so.0" "$copy/bindings/out/PROOF"
+)
+build "build.sh without the archive" "blaze_int was not proved"
+echo '// changed' >>"$copy/crates/blaze_int/src/lib.rt"
+build "build.sh --as-proved over changed sources" "the sources are not those that" --as-proved
+judge 2 "$(bindings/build.sh --as >"$work/said" 2>&1 && echo 0 || echo $?)" "build.sh with a wrong argument"
+
 # ---- Python
-counts "examples of docstrings" python3 -c '
-import doctest, sys
-sys.path.insert(0, "bindings/python")
-import range_map
-told = doctest.testmod(range_map)
-print(f"{told.attempted - told.failed} passed, {told.failed} failed")
-sys.exit(told.failed != 0)'
-counts "random calls from Python" python3 tests/bindings.py
+commands=("$work/owners")
+if ! python="$(tests/bindings_python.sh)"; then
+    echo "bindings: $python: the Python module is left out"
+else
+    rm -f bindings/python/range_map/__init__.*.so # (it may have another library linked in, which is no older)
+    builds "the Python module" make --no-print-directory -s -C bindings python "PYTHON=$python"
+    counts "the Python module, tested" "$python" tests/bindings.py
+    commands+=("$python bindings/examples/owners.py")
+    if "$python" -c 'import dask, distributed' 2>/dev/null; then
+        judge 0 "$("$python" bindings/examples/cluster.py 100000 >"$work/said" 2>&1 && echo 0 || echo $?)" "the example over Dask"
+    else
+        echo "bindings: there is no Dask here: left out"
+    fi
+fi
 
 # ---- Rust
-if has rustc; then
-    rust=(rustc --edition 2021 -D warnings -L "native=$out")
-    builds "the module as a crate" "${rust[@]}" --crate-type rlib --crate-name range_map --out-dir "$work" bindings/rust/range_map.rs
-    builds "calls from Rust" "${rust[@]}" -O -o "$work/calls" tests/bindings.rs
-    counts "random calls from Rust" "$work/calls"
-    if has rustdoc; then
-        judge 'test result: ok' "$(rustdoc --test --edition 2021 --crate-name range_map -L "$work" -L "native=$out" bindings/rust/range_map.rs 2>&1 |
-            grep -o '^test result: [A-Za-z]*')" "examples of doc comments"
+crate=(--offline --manifest-path bindings/rust/Cargo.toml)
+# All tests of the crate: the last line is 'N passed, M failed'.
+crate_tests() {
+    local status=0
+    cargo test "${crate[@]}" >"$work/cargo" 2>&1 || status=$?
+    awk '{ print } /^test result: / { passed += $4; failed += $6 }
+        END { print passed + 0 " passed, " failed + 0 " failed" }' "$work/cargo"
+    return "$status"
+}
+if has cargo; then
+    counts "the Rust crate" crate_tests
+    if cargo clippy --version >/dev/null 2>&1; then
+        builds "clippy" cargo clippy -q "${crate[@]}" --all-targets -- -D warnings
     fi
-    if has rustfmt; then
-        builds "rustfmt" rustfmt --edition 2021 --check bindings/rust/range_map.rs bindings/examples/owners.rs tests/bindings.rs
+    if cargo fmt --version >/dev/null 2>&1; then
+        builds "rustfmt" cargo fmt --manifest-path bindings/rust/Cargo.toml --check
     fi
+    builds "the example in Rust" cargo build -q "${crate[@]}" --example owners
+    commands+=("$work/target/debug/examples/owners")
 fi
+
+# ---- The program of README.md
+sed -n '/^```c$/,/^```$/p' README.md | sed '1d; $d' >"$work/readme.c"
+builds "the program of README.md" cc -std=c99 "${strict[@]}" -o "$work/readme" "$work/readme.c" "$library"
+judge "10 to 19: 7, 20 to 29: 8, 30 to 49: 7, 25: 8" "$("$work/readme" | paste -sd ',' | sed 's/,/, /g')" "what the program of README.md prints"
 
 # ---- The same program in each language
-tables=(bindings/examples/blocks.2002 bindings/examples/blocks.2013)
-expected="$(python3 bindings/examples/expected.py "${tables[@]}")"
-judge "$expected" "$(cat bindings/examples/owners.expected)" "the expected output of the examples"
 builds "the example in C" cc -std=c99 "${strict[@]}" -o "$work/owners" bindings/examples/owners.c "$library"
-judge "$expected" "$("$work/owners" "${tables[@]}")" "the example in C"
+tables=(bindings/examples/blocks.2002 bindings/examples/blocks.2013)
+for command in "${commands[@]}"; do
+    # (a command may have an argument of its own)
+    judge "$(cat bindings/examples/owners.expected)" "$($command "${tables[@]}")" "$command"
+done
+counts "the examples on random tables" python3 tests/examples.py "${commands[@]}"
 if command -v valgrind >/dev/null; then
-    judge "$expected" "$(valgrind -q --leak-check=full --error-exitcode=9 "$work/owners" "${tables[@]}" 2>&1)" "the example in C under valgrind"
-fi
-judge "$expected" "$(python3 bindings/examples/owners.py "${tables[@]}")" "the example in Python"
-if command -v rustc >/dev/null; then
-    builds "the example in Rust" "${rust[@]}" -o "$work/owners.rust" bindings/examples/owners.rs
-    judge "$expected" "$("$work/owners.rust" "${tables[@]}")" "the example in Rust"
-fi
-
-# ---- The lines of README.md
-if [ "$RANGE_MAP_OUT" = bindings/out ] && has rustc; then
-    sed -n '/^## From C, Python and Rust$/,/^## /s/^    //p' README.md >"$work/lines"
-    judge "$(printf '%s\n' "$expected" "$expected" "$expected" "RangeMap([(2, 3, 'a'), (4, 9, 'b')])")" \
-        "$(env -u RANGE_MAP_LIBRARY bash -e "$work/lines" 2>/dev/null)" "the lines of README.md"
+    judge "$(cat bindings/examples/owners.expected)" "$(valgrind -q --leak-check=full --error-exitcode=9 "$work/owners" "${tables[@]}" 2>&1)" \
+        "the example in C under valgrind"
 fi
 tell

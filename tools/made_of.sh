@@ -1,4 +1,4 @@
-# What the programs of this repository are made of. tools/run, tools/prove and tools/noted read this file.
+# What the programs and the library for C are made of. tools/run, tools/prove, tools/noted and bindings/build.sh read this file.
 #
 # Beside a proved program, crates/CRATE/out/CRATE, the file made_of keeps what it was made of: the toolchain, the crates with what
 # they stand on, and the sum of each source file. The program fits as long as that is what stands there.
@@ -50,4 +50,28 @@ made_of() (
 # Whether a program is there, proved, and fits.
 is_proved() {
     [ -x "$(program_of "$1")" ] && [ -f "$(note_of "$1")" ] && [ "$(made_of "$1")" = "$(cat "$(note_of "$1")")" ]
+}
+
+# Copies what rt prints to the file $log, and says each half minute how far it is: functions, or else its last line, and the time.
+# What reads this file has a function `say`.
+watch() { # the crate
+    local line='' part='' far='begun' begun=$SECONDS said=$SECONDS status
+    while true; do
+        status=0
+        IFS= read -r -t 5 line || status=$?
+        if ((status == 0)); then
+            line="$part$line" part=''
+            printf '%s\n' "$line" >>"$log"
+            far="${line:0:100}"
+            if [[ "$line" =~ ^so\ far:\ ([0-9]+\ of\ [0-9]+\ functions) ]]; then far="${BASH_REMATCH[1]}"; fi
+        else
+            part+="$line"
+            if ((status <= 128)); then break; fi # (the end; above, the time was up)
+        fi
+        if ((SECONDS - said >= 30)); then
+            say "$1: $far, $(clock $((SECONDS - begun))) ($(clock "$SECONDS") in all)"
+            said=$SECONDS
+        fi
+    done
+    printf '%s' "$part" >>"$log"
 }

@@ -1,0 +1,162 @@
+//! A map from `i64` keys to `u64` values, stored as entries: ranges of keys with one value each.
+//!
+//! ```
+//! use range_map::{OutOfMemory, RangeMap};
+//!
+//! # fn main() -> Result<(), OutOfMemory> {
+//! let mut map = RangeMap::new();
+//! map.ranges_insert(10..=49, 1)?;
+//! map.ranges_insert(20..30, 2)?; // a later value replaces an earlier one
+//!
+//! assert_eq!(map.get(25), Some(2));
+//! assert_eq!(map.to_string(), "(10..=19, 1), (20..=29, 2), (30..=49, 1)");
+//! assert!(map.gaps(0..=60).eq([0..=9, 50..=60]));
+//! # Ok(())
+//! # }
+//! ```
+//!
+//! The crate calls the library `librange_map.a`. Every function of the library that it calls was
+//! proved to do what its contract says. The Rust code of this crate was tested, not proved.
+//!
+//! The methods have the names of `RangeMapBlaze` in the crate `range-set-blaze` where they do the
+//! same. Two things differ: a method that may allocate returns a [`Result`], and iteration over a
+//! map visits its entries, not its keys.
+//!
+//! # Entries
+//!
+//! An entry is a range of keys and their value. Adjacent ranges with equal values are one entry, so
+//! a map never has more entries than it needs. In the costs of this documentation, n is the number
+//! of entries of the map, and m that of the other map.
+//!
+//! # Ranges
+//!
+//! A method that takes a range accepts all forms of [`RangeBounds<i64>`](std::ops::RangeBounds), as
+//! `2..5`, `2..=4` and `..`. A range without a key is not an error: nothing happens to its keys.
+//! `5..5` and `6..=2` are such ranges. So is a [`RangeInclusive`] that was iterated to its
+//! end:
+//!
+//! ```
+//! # use range_map::{OutOfMemory, RangeMap};
+//! # fn main() -> Result<(), OutOfMemory> {
+//! let mut map = RangeMap::new();
+//! let mut range = 1..=3;
+//! assert_eq!(range.by_ref().count(), 3);
+//! map.ranges_insert(range, 7)?;
+//! assert!(map.is_empty());
+//! # Ok(())
+//! # }
+//! ```
+//!
+//! # Memory
+//!
+//! A call that may allocate returns `Result<_, OutOfMemory>`. So do the operators `|`, `&`, `-` and
+//! `^`. If an allocation fails, the map is unchanged, except by three calls that take many entries.
+//! [`RangeMap::extend_with`], [`RangeMap::append`] and [`RangeMap::try_extend`] may have applied a
+//! first part of them. A change that has no effect does not allocate, except by `try_extend`, which
+//! collects its input in batches first.
+//!
+//! Some traits of the standard library cannot return an error. Their implementations call
+//! [`handle_alloc_error`](std::alloc::handle_alloc_error) if an allocation fails, as the collections
+//! of the standard library do:
+//!
+//! | call | call that returns a `Result` |
+//! |---|---|
+//! | `clone` | [`RangeMap::try_clone`] |
+//! | `collect`, `from_iter`, `extend` | [`RangeMap::try_extend`] |
+//! | <code>a \|= b</code> | [`RangeMap::extend_with`] |
+//! | `a &= b` | [`RangeMap::intersect_with`] |
+//! | `a -= b` | [`RangeMap::subtract`] |
+//! | `a ^= b` | `a = (&a ^ &b)?` |
+//!
+//! The library allocates with the `malloc` of C, so a `#[global_allocator]` does not see its
+//! requests.
+//!
+//! # Threads
+//!
+//! A [`RangeMap`] stays on the thread that made it: it is not [`Send`], because the proof does not
+//! cover a map that another thread changes or frees. Neither is [`IntoRangeValues`], which owns a map.
+//!
+//! ```compile_fail,E0277
+//! let map = range_map::RangeMap::new();
+//! std::thread::spawn(move || drop(map)); // error: cannot be sent between threads safely
+//! ```
+//!
+//! A map is [`Sync`]: several threads may look up in one map at the same time. This was tested, not
+//! proved. The threads of a [`thread::scope`](std::thread::scope) can borrow a map:
+//!
+//! ```
+//! # use range_map::RangeMap;
+//! # use std::thread;
+//! let map = RangeMap::from_iter([(10..=19, 1)]);
+//! thread::scope(|scope| {
+//!     scope.spawn(|| assert_eq!(map.get(12), Some(1)));
+//!     scope.spawn(|| assert_eq!(map.get(20), None));
+//! });
+//! ```
+//!
+//! A [`TableBuf`] has the entries of a map in vectors, and is [`Send`] and [`Sync`]. It may move to
+//! another thread, which can make its own map from it:
+//!
+//! ```
+//! # use range_map::{OutOfMemory, RangeMap};
+//! # use std::thread;
+//! # fn main() -> Result<(), OutOfMemory> {
+//! let table = RangeMap::from_iter([(10..=19, 1)]).to_table()?;
+//! let other = thread::spawn(move || RangeMap::from_table(table.as_table()).map(|map| map.len()));
+//! assert_eq!(other.join().unwrap(), Ok(10));
+//! # Ok(())
+//! # }
+//! ```
+//!
+//! Do not call the library from a signal handler, or from a forked child of a process with threads.
+//!
+//! # No `Index`
+//!
+//! [`Index`](std::ops::Index) returns a reference to the value, but the library returns a copy of
+//! it. Call [`RangeMap::get`] instead of writing `map[key]`.
+//!
+//! # Build
+//!
+//! The build script of this crate links `librange_map.a`. It uses the first of these folders:
+//!
+//! 1. the folder that the environment variable `RANGE_MAP_LIB_DIR` names, as an absolute path;
+//! 2. `../out` beside the crate, where `bindings/build.sh` of the repository puts the library;
+//! 3. the folder that `pkg-config --variable=libdir range_map` prints.
+
+#![deny(missing_docs)]
+#![warn(unsafe_op_in_unsafe_fn)]
+
+mod bounds;
+mod collect;
+mod ffi;
+mod iter;
+mod map;
+mod operators;
+mod out_of_memory;
+mod table;
+mod traits;
+
+use std::ops::RangeInclusive;
+
+pub use iter::{Gaps, IntoRangeValues, Overlapping, RangeValues, Ranges};
+pub use map::RangeMap;
+pub use out_of_memory::OutOfMemory;
+pub use table::{InvalidTable, Table, TableBuf};
+
+/// A range of keys, and the value of each of them.
+///
+/// ```
+/// let entry: range_map::Entry = (10..=19, 1);
+/// assert_eq!(range_map::RangeMap::from_iter([entry]).len(), 10);
+/// ```
+pub type Entry = (RangeInclusive<i64>, u64);
+
+/// Returns the version of the library, as 10,000 * major + 100 * minor + patch. O(1).
+///
+/// ```
+/// assert!(range_map::library_version() >= 100); // 0.1.0
+/// ```
+pub fn library_version() -> u32 {
+    // SAFETY: the function has no conditions.
+    unsafe { ffi::range_map_version() }
+}
