@@ -1,0 +1,26 @@
+#!/usr/bin/env bash
+# Prints the instructions of calls of the library for C, counted by callgrind: the program bench/calls.c with 1,000 calls, less the same
+# program with the random keys alone. bindings/build.sh comes before.
+set -euo pipefail
+cd "$(dirname "${BASH_SOURCE[0]}")"
+out="${RANGE_MAP_OUT:-../bindings/out}"
+mkdir -p out
+cc -std=c99 -O2 -Wall -Wextra -pedantic -I ../bindings -o out/calls calls.c "$out/librange_map.a"
+
+counted() { # call, entries, times
+    valgrind --tool=callgrind --callgrind-out-file=/dev/null out/calls "$@" 2>&1 | sed -n 's/.*Collected : //p'
+}
+
+times=1000
+echo "| instructions of a call | 10^3 entries | 10^4 | 10^5 |"
+echo "|---|---|---|---|"
+for call in get table next next-in-gap previous find-gap walk; do
+    row="| $call |"
+    for entries in 1000 10000 100000; do
+        row+=" $((($(counted "$call" "$entries" "$times") - $(counted none "$entries" "$times")) / times)) |"
+    done
+    echo "$row"
+done
+row="| extend by 10 entries |"
+for entries in 1000 10000 100000; do row+=" $(($(counted extend "$entries" 1) - $(counted none "$entries" 1))) |"; done
+echo "$row"
