@@ -142,6 +142,17 @@ else
     rm -f bindings/python/range_map/__init__.*.so # (it may have another library linked in, which is no older)
     builds "the Python module" make --no-print-directory -s -C bindings python "PYTHON=$python"
     counts "the Python module, tested" "$python" tests/bindings.py
+    if "$python" -c 'import wheel' 2>/dev/null; then
+        # Unpacked in a folder of its own, without the toolchain in the path.
+        mkdir "$work/wheel"
+        cp "$out"/librange_map.a "$out"/librange_map.so* "$out"/PROOF "$work/wheel"
+        RANGE_MAP_OUT="$work/wheel" make --no-print-directory -s -C bindings wheel "PYTHON=$python" >"$work/said" 2>&1 || cat "$work/said"
+        "$python" -m zipfile -e "$work"/wheel/range_map-*.whl "$work/wheel/unpacked" || true
+        says='from range_map import RangeMap; m = RangeMap(); m[2:6] = "a"; m[4:10] = "b"; print(m)'
+        judge "RangeMap([(2, 4, 'a'), (4, 10, 'b')])" "$(cd "$work" && env -i PYTHONPATH="$work/wheel/unpacked" "$python" -c "$says")" "the wheel"
+    else
+        echo "bindings: there is no python3-wheel here: left out"
+    fi
     commands+=("$python bindings/examples/owners.py")
     if "$python" -c 'import dask, distributed' 2>/dev/null; then
         judge 0 "$("$python" bindings/examples/cluster.py 100000 >"$work/said" 2>&1 && echo 0 || echo $?)" "the example over Dask"
