@@ -19,7 +19,7 @@ if [ -z "${RANGE_MAP_OUT:-}" ]; then
 fi
 out="$(realpath "$RANGE_MAP_OUT")"
 library="$out/librange_map.a"
-export RANGE_MAP_OUT="$out" RANGE_MAP_LIB_DIR="$out" CARGO_TARGET_DIR="$work/target"
+export RANGE_MAP_OUT="$out" CARGO_TARGET_DIR="$work/target"
 
 has() { # a tool
     command -v "$1" >/dev/null || { echo "bindings: there is no $1 here: left out" && false; }
@@ -142,16 +142,17 @@ else
     rm -f bindings/python/range_map/__init__.*.so # (it may have another library linked in, which is no older)
     builds "the Python module" make --no-print-directory -s -C bindings python "PYTHON=$python"
     counts "the Python module, tested" "$python" tests/bindings.py
-    if "$python" -c 'import wheel' 2>/dev/null; then
-        # Unpacked in a folder of its own, without the toolchain in the path.
+    if "$python" -c 'import wheel, venv, ensurepip' 2>/dev/null; then
+        # Installed into an environment of its own, and used without the toolchain in the path.
         mkdir "$work/wheel"
         cp "$out"/librange_map.a "$out"/librange_map.so* "$out"/PROOF "$work/wheel"
-        RANGE_MAP_OUT="$work/wheel" make --no-print-directory -s -C bindings wheel "PYTHON=$python" >"$work/said" 2>&1 || cat "$work/said"
-        "$python" -m zipfile -e "$work"/wheel/range_map-*.whl "$work/wheel/unpacked" || true
+        judge 0 "$(RANGE_MAP_OUT="$work/wheel" make --no-print-directory -s -C bindings wheel "PYTHON=$python" >"$work/said" 2>&1 && echo 0 || echo $?)" "the wheel"
+        builds "an environment for the wheel" "$python" -m venv "$work/venv"
+        builds "the wheel, installed" "$work/venv/bin/pip" --disable-pip-version-check install -q --no-index "$work"/wheel/range_map-*.whl
         says='from range_map import RangeMap; m = RangeMap(); m[2:6] = "a"; m[4:10] = "b"; print(m)'
-        judge "RangeMap([(2, 4, 'a'), (4, 10, 'b')])" "$(cd "$work" && env -i PYTHONPATH="$work/wheel/unpacked" "$python" -c "$says")" "the wheel"
+        judge "RangeMap([(2, 4, 'a'), (4, 10, 'b')])" "$(cd "$work" && env -i "$work/venv/bin/python" -c "$says" 2>&1)" "what the wheel prints"
     else
-        echo "bindings: there is no python3-wheel here: left out"
+        echo "bindings: there is no python3-wheel or python3-venv here: the wheel is left out"
     fi
     commands+=("$python bindings/examples/owners.py")
     if "$python" -c 'import dask, distributed' 2>/dev/null; then
@@ -172,6 +173,9 @@ crate_tests() {
     return "$status"
 }
 if has cargo; then
+    # It links the installed archive.
+    builds "the library, installed" make --no-print-directory -s -C bindings "RANGE_MAP_OUT=$out" "PREFIX=$work/installed" install
+    export RANGE_MAP_LIB_DIR="$work/installed/lib"
     counts "the Rust crate" crate_tests
     if cargo clippy --version >/dev/null 2>&1; then
         builds "clippy" cargo clippy -q "${crate[@]}" --all-targets -- -D warnings
