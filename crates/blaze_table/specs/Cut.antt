@@ -1,6 +1,6 @@
 -- What taking keys out gives: one key, a range of keys, or all below or from a key on.
-use Rattle.std.specs.Prelude.{◌≡◌, ◌-◌, length, ℤ, ◌<ℤ◌, int_le, int_lt, Bool, ◌&&◌, if◌then◌else◌, List, Option, Some, None}
-use Rattle.std.specs.List.{slice_get}
+use Rattle.std.specs.Prelude.{◌≡◌, ◌⊎◌, ◌-◌, length, ℤ, ◌<ℤ◌, int_le, int_lt, Bool, ◌&&◌, if◌then◌else◌, List, Option, Some, None}
+use Rattle.std.specs.List.{Contains, slice_get}
 use Rattle.std.specs.Option.{option_map}
 use Rattle.std.specs.Ordering.{int_eq}
 use Rattle.blaze_table.specs.Entries.{Entry, at, entry_at, SameOption}
@@ -45,10 +45,12 @@ pub record IsAmongOthers {V : Type 0} (k : ℤ) (entries : List (Entry V)) : Typ
   pub here : entry_at entries k ≡ Some entry
   pub long : entry.lo <ℤ entry.hi
 
--- what a cut of the keys from l up to h does to a range map
+-- What a cut of the keys from l up to h does to a range map. An entry that has none of these keys is still there, with its very
+-- value.
 pub record IsRangeCut {V : Type 0} (eq : V → V → Bool) (low high : ℤ) (l h : ℤ) (old new : List (Entry V)) : Type 0 where
   pub range_map : IsRangeMap eq low high new
   pub content : (j : ℤ) → SameOption eq (at new j) (cut_range_at l h (at old) j)
+  pub kept : (e : Entry V) → Contains old e → (e.hi <ℤ l) ⊎ (h <ℤ e.lo) → Contains new e
 
 -- the entry that has the key h has keys above it too
 pub record GoesOnAbove {V : Type 0} (h : ℤ) (entries : List (Entry V)) : Type 0 where

@@ -78,6 +78,11 @@ pub record IsRangeCutOf {V : Type 0} (eq : V → V → Bool) (l h : ℤ) (es new
   pub like : SameEntries eq (after h es) above
   pub joined : new ≡ before l es ++ above
 
+-- The same, and each entry that starts above these keys is still there, with its very value.
+pub record IsRangeTaken {V : Type 0} (eq : V → V → Bool) (l h : ℤ) (es new : List (Entry V)) : Type 0 where
+  pub cut : IsRangeCutOf eq l h es new
+  pub kept : (e : Entry V) → Contains es e → h <ℤ e.lo → Contains new e
+
 -- the list without the key k
 abbrev pub IsCutOf : {V : Type 0} → (V → V → Bool) → ℤ → List (Entry V) → List (Entry V) → Type 0
 IsCutOf eq k es new = IsRangeCutOf eq k k es new
@@ -106,7 +111,7 @@ pub record IsLastKeyCut {V : Type 0} (eq : V → V → Bool) (low high : ℤ) (l
 -- a table without the keys from l up to h, with its count of keys
 pub record IsTableCut {V : Type 0} (eq : V → V → Bool) (low high : ℤ) (len : ℕ) (l h : ℤ) (old new : List (Entry V)) : Type 0 where
   pub table : IsTable eq low high len new
-  pub cut : IsRangeCutOf eq l h old new
+  pub taken : IsRangeTaken eq l h old new
 
 -- the parts of a list, where the part from k on may have values that are only equal to the old
 pub record IsSplitOf {V : Type 0} (eq : V → V → Bool) (k : ℤ) (es below from : List (Entry V)) : Type 0 where

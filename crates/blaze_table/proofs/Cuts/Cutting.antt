@@ -1,7 +1,9 @@
 -- A list without a range of keys, from its pieces.
 use Rattle.std.specs.Option.{option_or}
-use Rattle.std.proofs.Common.{◌≡◌, ℕ, ℤ, pos, ◌+ℤ◌, ◌≤ℤ◌, ◌<ℤ◌, Bool, false, cond, List, [], ◌∷◌, ◌++◌, Option, Some, None, refl, ◌∙◌, sym, ap, subst, arith}
+use Rattle.std.proofs.Common.{◌≡◌, ◌⊎◌, inl, inr, ℕ, ℤ, pos, ◌+ℤ◌, ◌≤ℤ◌, ◌<ℤ◌, Bool, false, cond, List, [], ◌∷◌, ◌++◌, Option, Some, None, refl, ◌∙◌, sym, ap, subst, arith}
 use Rattle.std.specs.Cmp.{IsEquivalence}
+use Rattle.std.specs.List.{Contains}
+use Rattle.std.proofs.lemmas.List.Elements.{Contains-append_left}
 use Rattle.std.specs.Ordering.{int_eq}
 use Rattle.std.proofs.lemmas.Int.{ints, by_lt_z}
 use Rattle.std.proofs.lemmas.Bool.{and_left}
@@ -16,6 +18,7 @@ use Rattle.blaze_table.specs.Table.{IsTable}
 use Rattle.blaze_table.proofs.Canonical.Lookup.{IsAbove, above_rest, at_in, at_over, at_before, above_by}
 use Rattle.blaze_table.proofs.Canonical.RangeMaps.{range_map}
 use Rattle.blaze_table.proofs.Canonical.Unique.{back}
+use Rattle.blaze_table.proofs.Paints.Kept.{in_before}
 use Rattle.blaze_table.proofs.Paints.Splices.{by_before, after_skips, by_after, canonical_glue, canonical_before, canonical_after, at_glue, above_after, below_before, at-before_under, at-before_over, at-after_over, below_more}
 use Rattle.blaze_table.proofs.Paints.Painted.{entries_themselves, canonical_as, above_as, content_as}
 use Rattle.blaze_entries.proofs.Underway.{overlap_none}
@@ -142,4 +145,12 @@ module _ {V : Type 0} (eq : V → V → Bool) (l h : ℤ) where
 
 -- what the cut makes of a range map
 pub range_cut_map : {V : Type 0} (eq : V → V → Bool) (laws : IsEquivalence eq) (low high : ℤ) (n : ℕ) (l h : ℤ) → l ≤ℤ h → (old new : List (Entry V)) → IsCanonical eq old → IsTableCut eq low high n l h old new → IsRangeCut eq low high l h old new
-range_cut_map eq laws low high n l h w old new c r = record { range_map = range_map eq laws low high n new r.table; content = range_cut_content eq laws l h w old new c r.cut }
+range_cut_map {V} eq laws low high n l h w old new c r = record {
+  range_map = range_map eq laws low high n new r.table;
+  content = range_cut_content eq laws l h w old new c r.taken.cut;
+  kept = kept;
+}
+  where
+    kept : (e : Entry V) → Contains old e → (e.hi <ℤ l) ⊎ (h <ℤ e.lo) → Contains new e
+    kept e i (inl u) = subst (λ xs. Contains xs e) (sym r.taken.cut.joined) (Contains-append_left (before l old) r.taken.cut.above e (in_before eq l old e c i u))
+    kept e i (inr u) = r.taken.kept e i u

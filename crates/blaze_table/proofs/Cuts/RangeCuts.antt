@@ -16,7 +16,7 @@ use Rattle.blaze_table.specs.Cut.{GoesOnAbove}
 use Rattle.blaze_table.specs.Edited.{IsPlace}
 use Rattle.blaze_table.specs.Entries.{Entry}
 use Rattle.blaze_table.specs.Planned.{rest_of, IsLooked, IsWalkOf, IsWorked}
-use Rattle.blaze_table.specs.Splice.{before, after, IsRangeCutOf, IsTableCut}
+use Rattle.blaze_table.specs.Splice.{before, after, IsRangeCutOf, IsRangeTaken, IsTableCut}
 use Rattle.blaze_table.specs.Table.{IsTable}
 use Rattle.blaze_table.specs.Work.{IsCountedCut}
 use Rattle.blaze_table.proofs.Canonical.Counted.{keys_apart}
@@ -67,10 +67,10 @@ module _ {V : Type 0} (eq : V → V → Bool) (sought : Option V) (free : sought
             record { entry = e; here = last_held eq l h low high w es s c (h +ℤ pos 1) e q h (omega (arith, ints)) (omega (arith, ints, up)); above = up }
 
     -- what lies outside is counted
-    pub range_cut : (laws : IsEquivalence eq) (len : ℕ) (new : List (Entry V)) → IsTable eq low high len es → IsRangeCutOf eq l (rank p.end) es new → IsTableCut eq low high n l h es new
+    pub range_cut : (laws : IsEquivalence eq) (len : ℕ) (new : List (Entry V)) → IsTable eq low high len es → IsRangeTaken eq l (rank p.end) es new → IsTableCut eq low high n l h es new
     range_cut laws len new t k =
-        let cut = subst (λ z. IsRangeCutOf eq l z es new) end_is k in
-        record { table = cut_table eq laws l h w es new c cut low high len n t (omega (arith, ints, t.counted, f.outside, keys_apart eq l h es w c)); cut = cut }
+        let taken = subst (λ z. IsRangeTaken eq l z es new) end_is k in
+        record { table = cut_table eq laws l h w es new c taken.cut low high len n t (omega (arith, ints, t.counted, f.outside, keys_apart eq l h es w c)); taken = taken }
 
 -- few looks, and the edit behind them
 pub counted_cut : {V : Type 0} (eq : V → V → Bool) (laws : IsEquivalence eq) (l h : ℤ) (old mid new : CountedEntries V) → IsLooked l h old mid → IsRangeCutOf eq l h mid.entries new.entries → IsWorked 1 0 mid new → IsCountedCut old new

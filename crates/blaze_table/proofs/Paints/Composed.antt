@@ -5,6 +5,8 @@ use Rattle.std.specs.Option.{option_map}
 use Rattle.std.proofs.lemmas.Int.{ints, by_lt_z}
 use Rattle.std.proofs.lemmas.List.{append_assoc, append-nil}
 use Rattle.std.proofs.lemmas.List.Elements.{filter-append}
+use Rattle.std.specs.List.{Contains}
+use Rattle.std.proofs.lemmas.List.Elements.{Contains-append_right}
 use Rattle.blaze_entries.specs.Starts.{StartsAscend, below, from, last_below, start_at, with_end}
 use Rattle.blaze_entries.proofs.Halves.{StartsBelow, below_takes, from_skips, below_all, below_none, from_none, more_below, starts_below, halves}
 use Rattle.blaze_entries.specs.Found.{range_in, shown_ends}
@@ -13,7 +15,7 @@ use Rattle.blaze_table.specs.Edited.{IsLeft}
 use Rattle.blaze_table.specs.Entries.{Entry, entry}
 use Rattle.blaze_table.specs.Canonical.{IsCanonical}
 use Rattle.blaze_table.specs.Planned.{inner, IsRestKept, IsStartPut, IsPutAt, IsEndPut}
-use Rattle.blaze_table.specs.Splice.{before, IsRangeCutOf}
+use Rattle.blaze_table.specs.Splice.{before, IsRangeTaken}
 use Rattle.blaze_table.proofs.Paints.Splices.{by_before, before_ends, before_keeps, before_cuts}
 use Rattle.blaze_table.proofs.Cuts.Splits.{last_at, from_at}
 use Rattle.blaze_table.proofs.Neighbours.Growing.{last_there, below_last, front_last}
@@ -63,7 +65,7 @@ module _ {V : Type 0} (eq : V → V → Bool) where
     under_canonical l c2 q = subst (IsCanonical eq) (sym q) (canonical_below l low high es s c)
 
     -- a range taken out
-    pub taken_out : (l z : ℤ) → l ≤ℤ z → (c2 c3 c4 : List (Entry V)) → IsRestKept eq (l -ℤ pos 1) z es c2 → c3 ≡ before l (below l c2) ++ from l c2 → c4 ≡ below l c3 ++ from (z +ℤ pos 1) c3 → IsRangeCutOf eq l z es c4
+    pub taken_out : (l z : ℤ) → l ≤ℤ z → (c2 c3 c4 : List (Entry V)) → IsRestKept eq (l -ℤ pos 1) z es c2 → c3 ≡ before l (below l c2) ++ from l c2 → c4 ≡ below l c3 ++ from (z +ℤ pos 1) c3 → IsRangeTaken eq l z es c4
     taken_out l z w c2 c3 c4 r q t =
         let front = before l (below l es) in
         let front_below = starts_before l (below l es) (canonical_below l low high es s c) in
@@ -74,10 +76,10 @@ module _ {V : Type 0} (eq : V → V → Bool) where
         let high_part : from (z +ℤ pos 1) c3 ≡ from (z +ℤ pos 1) c2 =
         ap (from (z +ℤ pos 1)) third ∙ filter-append (λ x. int_le (z +ℤ pos 1) x.lo) front (from l c2)
         ∙ ap (λ x. x ++ from (z +ℤ pos 1) (from l c2)) (from_none (z +ℤ pos 1) front (more_below l (z +ℤ pos 1) front (omega (arith, ints)) front_below)) ∙ from_from l (z +ℤ pos 1) c2 (omega (arith, ints)) in
+        let joined : c4 ≡ before l es ++ from (z +ℤ pos 1) c2 = t ∙ ap (λ x. x ++ from (z +ℤ pos 1) c3) (low_part ∙ before_below l low high es s c) ∙ ap (λ x. before l es ++ x) high_part in
         record {
-          above = from (z +ℤ pos 1) c2;
-          like = r.like.alike;
-          joined = t ∙ ap (λ x. x ++ from (z +ℤ pos 1) c3) (low_part ∙ before_below l low high es s c) ∙ ap (λ x. before l es ++ x) high_part;
+          cut = record { above = from (z +ℤ pos 1) c2; like = r.like.alike; joined = joined };
+          kept = λ e i u. subst (λ xs. Contains xs e) (sym joined) (Contains-append_right (before l es) (from (z +ℤ pos 1) c2) e (r.like.kept e i u));
         }
 
     -- an entry put in at l

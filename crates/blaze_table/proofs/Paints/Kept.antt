@@ -57,7 +57,7 @@ module _ {V : Type 0} (eq : V → V → Bool) where
       (λ m n p. rw p (by_first f fs e c (λ q. let lo = ap (λ (x : Entry V). x.lo) q in absurd (omega (arith, ints))) (λ l. later_in _ fs e l)))
       (λ m n p. rw p c)
 
-  in_before : (k : ℤ) (es : List (Entry V)) (e : Entry V) → IsCanonical eq es → Contains es e → e.hi <ℤ k → Contains (before k es) e
+  pub in_before : (k : ℤ) (es : List (Entry V)) (e : Entry V) → IsCanonical eq es → Contains es e → e.hi <ℤ k → Contains (before k es) e
   in_before k [] e d c u = c
   in_before k (f ∷ fs) e d c u = by_before k f fs
       (λ m p. rw p (by_first f fs e c (same_in f (before k fs) e) (λ l. later_in f (before k fs) e (in_before k fs e d.2 l u))))

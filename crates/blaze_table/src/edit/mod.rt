@@ -6,7 +6,7 @@ ghost use Rattle.blaze_table.specs.Canonical.{IsCanonical};
 ghost use Rattle.blaze_table.specs.Edited.{IsPlace};
 ghost use Rattle.blaze_table.specs.Entries.{entry};
 ghost use Rattle.blaze_table.specs.Planned.{IsEndPut, IsPutAt, IsWorked};
-ghost use Rattle.blaze_table.specs.Splice.{IsRangeCutOf};
+ghost use Rattle.blaze_table.specs.Splice.{IsRangeTaken};
 ghost use Rattle.blaze_table.specs.Work.{IsCounted};
 
 mod place;
@@ -81,7 +81,7 @@ pub fn take_out<T: Integer, V: Eq + Drop>(
 ) -> Result<(), AllocError>
     requires canonical { IsCanonical V.eq entries.old.entries }
     requires place { IsPlace T.rank V.eq (T.rank lo) entries.old.entries plan above }
-    ensures cut { OnOk result (IsRangeCutOf V.eq
+    ensures cut { OnOk result (IsRangeTaken V.eq
         (T.rank lo) (T.rank plan.end) entries.old.entries entries.new.entries) }
     ensures worked { OnOk result (IsWorked 1 0 entries.old entries.new) }
     ensures refused { OnErr result (IsSome plan.rest) }

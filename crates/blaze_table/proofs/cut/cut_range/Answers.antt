@@ -1,7 +1,7 @@
 use Rattle.std.proofs.Common.{refl, ap, sym, subst}
 use Rattle.blaze_entries.specs.Counted.{CountedEntries}
 use Rattle.blaze_table.specs.Edited.{IsPlace}
-use Rattle.blaze_table.specs.Splice.{IsRangeCutOf}
+use Rattle.blaze_table.specs.Splice.{IsRangeCutOf, IsRangeTaken}
 use Rattle.blaze_table.proofs.Cuts.CutEdits.{on_err}
 use Rattle.blaze_table.proofs.Cuts.RangeCuts.{end_is, range_place, range_cut, rest_above, counted_cut}
 use Rattle.blaze_table.proofs.cut.cut_range.Goals as goal
@@ -25,11 +25,11 @@ returns-clause-cut g c =
     let rank = g.T.Integer.rank in
     let same = ap (λ (s : CountedEntries g.row.V.Denot). s.entries) c.walk_down.ensures.looked.alone in
     range_cut g.V.PartialEq.eq _ c.as_ref.ensures.value _ _ rank c.in_ok-found.found.plan _ _ c.args.entries.now.entries c.in_ok-found.ensures.found g.T.Integer.low g.T.Integer.high c.requires.order c.in_hand.ensures c.requires.table.canonical g.met.V.Eq.laws _ c.take_out.new.entries.entries c.requires.table
-    (subst (λ xs. IsRangeCutOf g.V.PartialEq.eq (rank c.args.lo) (rank c.in_ok-found.found.plan.end) xs c.take_out.new.entries.entries) same c.in_ok-take_out.ensures.cut)
+    (subst (λ xs. IsRangeTaken g.V.PartialEq.eq (rank c.args.lo) (rank c.in_ok-found.found.plan.end) xs c.take_out.new.entries.entries) same c.in_ok-take_out.ensures.cut)
 
 pub returns-clause-counted : goal.returns-clause-counted
 returns-clause-counted g c =
     let rank = g.T.Integer.rank in
     let end = end_is g.V.PartialEq.eq _ c.as_ref.ensures.value _ _ rank c.in_ok-found.found.plan _ _ c.args.entries.now.entries c.in_ok-found.ensures.found in
     counted_cut g.V.PartialEq.eq g.met.V.Eq.laws _ _ c.args.entries.now c.walk_down.new.entries c.take_out.new.entries c.walk_down.ensures.looked
-    (subst (λ z. IsRangeCutOf g.V.PartialEq.eq (rank c.args.lo) z c.walk_down.new.entries.entries c.take_out.new.entries.entries) end c.in_ok-take_out.ensures.cut) c.in_ok-take_out.ensures.worked
+    (subst (λ z. IsRangeCutOf g.V.PartialEq.eq (rank c.args.lo) z c.walk_down.new.entries.entries c.take_out.new.entries.entries) end c.in_ok-take_out.ensures.cut.cut) c.in_ok-take_out.ensures.worked
