@@ -107,7 +107,7 @@ module _ {V : Type 0} (eq : V → V → Bool) where
           ∙ sym (ap (gaps l h) (within_next eq l h e es o w u))
 
   -- what lies above l and is cut off above h lies among the keys from l up to h
-  keys_between : (l h : ℤ) (es : List (Entry V)) → IsCanonical eq es → IsAbove (l -ℤ pos 1) es → AreKeys l h (before (h +ℤ pos 1) es)
+  pub keys_between : (l h : ℤ) (es : List (Entry V)) → IsCanonical eq es → IsAbove (l -ℤ pos 1) es → AreKeys l h (before (h +ℤ pos 1) es)
   keys_between l h [] c a = tt
   keys_between l h (e ∷ es) c a = by_before (h +ℤ pos 1) e es
       (λ u p. rw p (omega (arith, ints), omega (arith, ints), keys_between l h es c.2 (above_rest eq (l -ℤ pos 1) e es (omega (arith, ints, c.0)) c)))

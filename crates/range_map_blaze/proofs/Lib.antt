@@ -13,3 +13,4 @@ pub mod AllKeys
 pub mod JoinedKeys
 pub mod GapsWithin
 pub mod Nearest
+pub mod Edits

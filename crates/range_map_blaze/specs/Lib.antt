@@ -39,3 +39,6 @@ pub mod Hashed
 pub mod OrderLaws
 pub mod GapsFilled
 pub mod MapLaws
+pub mod Updated
+pub mod Edits
+pub mod UpdateLaws

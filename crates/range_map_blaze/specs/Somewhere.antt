@@ -1,5 +1,7 @@
 -- What a call does with a range whose bounds are not known: it takes them to be those of some range of keys, or of none.
-use Rattle.std.specs.Prelude.{◌≡◌, ◌⊎◌, ℤ, Bool, List, []}
+use Rattle.std.specs.Prelude.{◌≡◌, ◌⊎◌, ℤ, Bool, List, [], Option, Result}
+use Rattle.std.specs.declared.alloc.AllocError.{AllocError}
+use Rattle.std.specs.Fn.{Mut}
 use Rattle.blaze_table.specs.Entries.{Entry, entry}
 use Rattle.blaze_table.specs.Painted.{IsPainted}
 use Rattle.blaze_table.specs.Filled.{IsFilled}
@@ -8,6 +10,7 @@ use Rattle.blaze_table.specs.Cut.{IsRangeCut}
 use Rattle.blaze_table.specs.Ending.{overlapping}
 use Rattle.blaze_table.specs.RangeSets.{unit_eq}
 use Rattle.range_map_blaze.specs.OneRange.{one_range}
+use Rattle.range_map_blaze.specs.Updated.{IsUpdated, IsPartUpdated}
 
 -- the value is painted on some range of keys, or nothing is changed
 abbrev pub IsPaintedSomewhere : {V : Type 0} → (V → V → Bool) → ℤ → ℤ → V → List (Entry V) → List (Entry V) → Type 0
@@ -32,3 +35,7 @@ IsOverlappingSomewhere old new = (new ≡ []) ⊎ ((l : ℤ) × (h : ℤ) × (ne
 -- the ranges are the keys of some range that no entry has, or there are none
 abbrev pub AreGapsSomewhere : {V : Type 0} → ℤ → ℤ → List (Entry V) → List (Entry (Unit {0})) → Type 0
 AreGapsSomewhere low high old new = (new ≡ []) ⊎ ((l : ℤ) × (h : ℤ) × IsChosen unit_eq low high left_alone (one_range l h) old new)
+
+-- the values of some range of keys are changed by the function, all or a first part of them, or nothing is changed
+abbrev pub IsUpdatedSomewhere : {F A V : Type 0} → (A → Option V) → Mut F A (Result (Option V) AllocError) → (V → V → Bool) → ℤ → ℤ → F → List (Entry V) → List (Entry V) → Type 0
+IsUpdatedSomewhere shows g eq low high f old new = (new ≡ old) ⊎ ((l : ℤ) × (h : ℤ) × (IsUpdated shows g eq low high l h f old new ⊎ IsPartUpdated shows g eq low high l h f old new))

@@ -1,10 +1,15 @@
-//! The laws of pairs painted one by one, of filling one map from another, of joins of maps, and of maps with what a closure
-//! returns at their values.
+//! The laws of pairs painted one by one, of filling one map from another, of joins of maps, of maps with what a closure returns at
+//! their values, and of a range changed by a function.
+ghost use Rattle.blaze_streams.specs.Carried.{shown_option};
 ghost use Rattle.blaze_streams.specs.JoinAnswers.{either, both, with_left};
 ghost use Rattle.range_map_blaze.specs.MapLaws.{AnswersAreOnItsKeys, FillingIsUnion, FullJoinIsInnerJoin};
 ghost use Rattle.range_map_blaze.specs.MapLaws.{LeftJoinIsOnTheLeftKeys, PaintingInTurnExtends};
 
+ghost use Rattle.range_map_blaze.specs.UpdateLaws.{InsertingAbsentIsUpdating, InsertingIsUpdating};
+ghost use Rattle.range_map_blaze.specs.UpdateLaws.{PartUpdatingIsByKeys, RemovingIsUpdating, UpdatingIsByKeys};
+
 use blaze_int::Integer;
+use std::alloc::AllocError;
 
 /// Pairs that are painted one by one, as `extend_from` and `extend_simple` do, leave what painting them in order gives: its
 /// content, at most two entries more for each pair, and what no pair touches.
@@ -40,4 +45,52 @@ pub fn full_join_is_inner_join<
 >()
     ensures { FullJoinIsInnerJoin (either (λ v. v.now) (λ v. v.now)) F.FnMut V.eq V2.eq W.eq T.low
         T.high (both (λ v. v.now) (λ v. v.now)) G.FnMut }
+{}
+
+/// `ranges_update` with a closure that returns what a plain function gives: each key of the range has afterwards what that function
+/// gives at what the key had.
+pub fn updating_is_by_keys<
+    T: Integer,
+    V: Eq,
+    F: FnMut(Option<&V>) -> Result<Option<V>, AllocError>,
+>()
+    ensures { UpdatingIsByKeys (λ a. shown_option (λ v. v.now) a.0) F.FnMut V.eq T.low T.high }
+{}
+
+/// The same if an allocation fails between the edits: the keys up to the end of a piece have what the plain function gives, and the
+/// others what they had.
+pub fn part_updating_is_by_keys<
+    T: Integer,
+    V: Eq,
+    F: FnMut(Option<&V>) -> Result<Option<V>, AllocError>,
+>()
+    ensures { PartUpdatingIsByKeys (λ a. shown_option (λ v. v.now) a.0) F.FnMut V.eq T.low T.high }
+{}
+
+/// `ranges_insert(range, v)` leaves the entries that `ranges_update` leaves with a closure that always returns `Some(v)`.
+pub fn inserting_is_updating<
+    T: Integer,
+    V: Eq,
+    F: FnMut(Option<&V>) -> Result<Option<V>, AllocError>,
+>()
+    ensures { InsertingIsUpdating (λ a. shown_option (λ v. v.now) a.0) F.FnMut V.eq T.low T.high }
+{}
+
+/// `ranges_insert_absent(range, v)` leaves the entries that `ranges_update` leaves with a closure that returns what is there, and
+/// `Some(v)` where nothing is.
+pub fn inserting_absent_is_updating<
+    T: Integer,
+    V: Eq,
+    F: FnMut(Option<&V>) -> Result<Option<V>, AllocError>,
+>()
+    ensures { InsertingAbsentIsUpdating (λ a. shown_option (λ v. v.now) a.0) F.FnMut V.eq T.low T.high }
+{}
+
+/// `ranges_remove(range)` leaves the entries that `ranges_update` leaves with a closure that always returns `None`.
+pub fn removing_is_updating<
+    T: Integer,
+    V: Eq,
+    F: FnMut(Option<&V>) -> Result<Option<V>, AllocError>,
+>()
+    ensures { RemovingIsUpdating (λ a. shown_option (λ v. v.now) a.0) F.FnMut V.eq T.low T.high }
 {}

@@ -14,6 +14,7 @@ mod make;
 mod map;
 mod operators;
 mod pairs;
+mod updates;
 
 pub use blaze_int::{Integer, SafeLength, UIntPlusOne, bounds_of, names_a_key};
 pub use blaze_iters::{IntoIterMap, IntoKeys, IntoValues, IterMap, Keys, Values};

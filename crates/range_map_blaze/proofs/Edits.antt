@@ -1,0 +1,4 @@
+pub mod Asked
+pub mod Applied
+pub mod Pieces
+pub mod ByKeys

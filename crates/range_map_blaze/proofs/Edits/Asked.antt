@@ -1,0 +1,214 @@
+-- A function that was called at pieces, one after another: its answers, and the edits that bring them into a map.
+use Rattle.std.specs.declared.alloc.AllocError.{AllocError}
+use Rattle.std.proofs.Common.{◌≡◌, ℤ, pos, ◌+ℤ◌, ◌-ℤ◌, ◌≤ℤ◌, ◌<ℤ◌, Bool, true, false, cond, List, [], ◌∷◌, ◌++◌, length, map, Option, Some, None, Ok, refl, ◌∙◌, sym, ap, subst, arith, inl, inr}
+use Rattle.std.proofs.lemmas.Fn.{FoldsTo-push}
+use Rattle.std.proofs.lemmas.Int.{ints}
+use Rattle.std.specs.Cmp.{IsEquivalence}
+use Rattle.std.specs.Cmp.Lexicographic.{options_equiv}
+use Rattle.std.specs.Fn.{Mut}
+use Rattle.std.specs.List.{FoldsTo, zip}
+use Rattle.std.specs.Option.{option_eq, option_or}
+use Rattle.std.specs.Prelude.{Result}
+use Rattle.blaze_entries.proofs.Alike.{same_along, same_back, same_itself, same_or_left, same_trans, or_assoc, or_none}
+use Rattle.blaze_table.specs.Canonical.{IsApart, IsCanonical, AreKeys, HasEnd}
+use Rattle.blaze_table.specs.Entries.{Entry, entry, at, SameEntries, SameOption}
+use Rattle.blaze_table.specs.Splice.{glue, IsBelow}
+use Rattle.blaze_table.proofs.Canonical.Counted.{are_keys_glue}
+use Rattle.blaze_table.proofs.Canonical.Lookup.{IsAbove, IsAbove-from_apart, at_append, at_before, at_in, at_over, at_under, by_place}
+use Rattle.blaze_table.proofs.Paints.Splices.{at_glue, below_glue, below_more, canonical_glue}
+use Rattle.blaze_table.proofs.Sweeping.Sweeps.{at_past}
+use Rattle.blaze_streams.specs.Answers.{values, answered, AnswersAtValue, SomeCallAtValue}
+use Rattle.blaze_streams.proofs.FoundSegments.{option_same}
+use Rattle.range_map_blaze.specs.Edits.{with_edit, AreEndsOf, ArePiecesAsked, IsPieceAsked}
+use Rattle.range_map_blaze.specs.Updated.{answer_or, updated}
+
+-- a piece with its answer in place of what it has
+abbrev pub with_answer : {V : Type 0} → Entry (Option V) → Option V → Entry (Option V)
+with_answer piece answer = entry piece.lo piece.hi answer
+
+module _ {V : Type 0} (eq : V → V → Bool) (laws : IsEquivalence eq) where
+  -- equal answers give equal contents
+  pub same_answer : (a b : Option (Option V)) (old : Option V) → SameOption (option_eq eq) a b → SameOption eq (answer_or a old) (answer_or b old)
+  same_answer None None old s = same_itself eq laws old
+  same_answer None (Some y) old s = absurd s
+  same_answer (Some x) None old s = absurd s
+  same_answer (Some x) (Some y) old s = option_same eq x y s
+
+  -- what comes first in a list of answers decides
+  answer_first : (x : Option V) (a b : Option (Option V)) (old : Option V) → a ≡ Some x → answer_or (option_or a b) old ≡ x
+  answer_first x a b old p = ap (λ o. answer_or (option_or o b) old) p
+
+  answer_next : (a b : Option (Option V)) (old : Option V) → a ≡ None → answer_or (option_or a b) old ≡ answer_or b old
+  answer_next a b old p = ap (λ o. answer_or (option_or o b) old) p
+
+  ends_glue : (answers edits : List (Entry (Option V))) (p : Entry (Option V)) → AreEndsOf answers edits → HasEnd answers p.hi → AreEndsOf answers (glue (option_eq eq) edits (p ∷ []))
+  ends_glue answers [] p e h = (h, tt)
+  ends_glue answers (d ∷ []) p e h = by_met (is_met d p)
+    where
+      is_met : Entry (Option V) → Entry (Option V) → Bool
+      is_met d p = Rattle.blaze_table.specs.Splice.is_joinable (option_eq eq) d p
+
+      by_met : (b : Bool) → AreEndsOf answers (cond b (entry d.lo p.hi d.value ∷ []) (d ∷ p ∷ []))
+      by_met true = (h, tt)
+      by_met false = (e.0, (h, tt))
+  ends_glue answers (d ∷ f ∷ fs) p e h = (e.0, ends_glue answers (f ∷ fs) p e.1 h)
+
+-- each piece has what a content has on its keys
+abbrev pub Has : {V : Type 0} → (ℤ → Option V) → List (Entry (Option V)) → Type 0
+Has {V} content pieces = (k : ℤ) (x : Option V) → at pieces k ≡ Some x → x ≡ content k
+
+module _ {F A V : Type 0} (shows : A → Option V) (g : Mut F A (Result (Option V) AllocError)) (eq : V → V → Bool) where
+  -- the pieces of two lists, one list after the other
+  pub asked_then : (xs ys : List (Entry (Option V))) (f f' f'' : F) (edits next new : List (Entry (Option V))) → ArePiecesAsked shows g eq xs f f' edits next → ArePiecesAsked shows g eq ys f' f'' next new → ArePiecesAsked shows g eq (xs ++ ys) f f'' edits new
+  asked_then [] ys f f' f'' edits next new p q = subst (λ s. ArePiecesAsked shows g eq ys s f'' edits new) p.0 (subst (λ es. ArePiecesAsked shows g eq ys f' f'' es new) p.1 q)
+  asked_then (x ∷ xs) ys f f' f'' edits next new p q = (p.0, p.1, p.2, asked_then xs ys p.0 f' f'' p.1 next new p.3 q)
+
+  pub asked_one : (x : Entry (Option V)) (f f' : F) (edits new : List (Entry (Option V))) → IsPieceAsked shows g eq x f f' edits new → ArePiecesAsked shows g eq (x ∷ []) f f' edits new
+  asked_one x f f' edits new p = (f', new, p, (refl, refl))
+
+  -- some calls were made
+  pub some_calls : (xs : List (Entry (Option V))) (f f' : F) (edits new : List (Entry (Option V))) → ArePiecesAsked shows g eq xs f f' edits new → FoldsTo (SomeCallAtValue shows g) f (values xs) f'
+  some_calls [] f f' edits new p = sym p.0
+  some_calls (x ∷ xs) f f' edits new p = (p.0, (Ok p.2.answer, p.2.called), some_calls xs p.0 f' p.1 new p.3)
+
+  abbrev oks : List (Option V) → List (Result (Option V) AllocError)
+  oks rs = map Ok rs
+
+  -- the answers, in order
+  abbrev pub results : (xs : List (Entry (Option V))) (f f' : F) (edits new : List (Entry (Option V))) → ArePiecesAsked shows g eq xs f f' edits new → List (Option V)
+  results [] f f' edits new p = []
+  results (x ∷ xs) f f' edits new p = p.2.answer ∷ results xs p.0 f' p.1 new p.3
+
+  pub results_count : (xs : List (Entry (Option V))) (f f' : F) (edits new : List (Entry (Option V))) (p : ArePiecesAsked shows g eq xs f f' edits new) → length (oks (results xs f f' edits new p)) ≡ length (values xs)
+  results_count [] f f' edits new p = refl
+  results_count (x ∷ xs) f f' edits new p = omega (arith, results_count xs p.0 f' p.1 new p.3)
+
+  pub results_turns : (xs : List (Entry (Option V))) (f f' : F) (edits new : List (Entry (Option V))) (p : ArePiecesAsked shows g eq xs f f' edits new)
+      → FoldsTo (λ j c k. AnswersAtValue shows g j c.0 c.1 k) f (zip (values xs) (oks (results xs f f' edits new p))) f'
+  results_turns [] f f' edits new p = sym p.0
+  results_turns (x ∷ xs) f f' edits new p = (p.0, p.2.called, results_turns xs p.0 f' p.1 new p.3)
+
+  -- the pieces with their answers
+  abbrev pub answers_at : (xs : List (Entry (Option V))) (f f' : F) (edits new : List (Entry (Option V))) → ArePiecesAsked shows g eq xs f f' edits new → List (Entry (Option V))
+  answers_at xs f f' edits new p = answered xs (results xs f f' edits new p)
+
+  -- where every answer equals what is there, there is no edit
+  pub no_edit : (xs : List (Entry (Option V))) (f f' : F) (edits new : List (Entry (Option V))) (p : ArePiecesAsked shows g eq xs f f' edits new) → SameEntries (option_eq eq) (answers_at xs f f' edits new p) xs → new ≡ edits
+  no_edit [] f f' edits new p s = p.1
+  no_edit (x ∷ xs) f f' edits new p s =
+      no_edit xs p.0 f' p.1 new p.3 s.3 ∙ p.2.put ∙ ap (λ b. cond b edits (glue (option_eq eq) edits (with_answer x p.2.answer ∷ []))) s.2
+
+  module _ (laws : IsEquivalence eq) (low high : ℤ) (old : ℤ → Option V) where
+    abbrev same : Option V → Option V → Bool
+    same = option_eq eq
+
+    -- a list of edits that lie below b
+    pub record AreBelow (b : ℤ) (edits : List (Entry (Option V))) : Type 0 where
+      pub canonical : IsCanonical same edits
+      pub keys : AreKeys low high edits
+      pub below : IsBelow b edits
+
+    -- the content of what comes next, by what came before
+    abbrev with_rest : List (Entry (Option V)) → List (Entry (Option V)) → ℤ → Option V
+    with_rest edits rest k = answer_or (option_or (at edits k) (at rest k)) (old k)
+
+    module _ (x : Entry (Option V)) (w : Option V) (edits rest : List (Entry (Option V))) (a : AreBelow x.lo edits) (order : x.lo ≤ℤ x.hi) (nothing : (k : ℤ) → k ≤ℤ x.hi → at rest k ≡ None) where
+      kept : option_eq eq w x.value ≡ true → ((k : ℤ) → x.lo ≤ℤ k → k ≤ℤ x.hi → x.value ≡ old k) → (k : ℤ) → SameOption eq (with_rest edits rest k) (with_rest edits (with_answer x w ∷ rest) k)
+      kept h has k = by_place (with_answer x w) k
+          (λ l u.
+          let free = at_past x.lo k edits a.below l in
+          let above = nothing k u in
+          same_along eq
+          (sym (answer_next eq laws (at edits k) (at rest k) (old k) free ∙ ap (λ o. answer_or o (old k)) above))
+          (sym (answer_next eq laws (at edits k) (at (with_answer x w ∷ rest) k) (old k) free ∙ ap (λ o. answer_or o (old k)) (at_in (with_answer x w) rest k l u)))
+          (same_back eq laws w (old k) (subst (SameOption eq w) (has k l u) (option_same eq w x.value h))))
+          (λ u. off (at_under (with_answer x w) rest k u))
+          (λ u. off (at_over (with_answer x w) rest k u))
+        where
+          off : at (with_answer x w ∷ rest) k ≡ at rest k → SameOption eq (with_rest edits rest k) (with_rest edits (with_answer x w ∷ rest) k)
+          off p = same_along eq refl (sym (ap (λ o. answer_or (option_or (at edits k) o) (old k)) p)) (same_itself eq laws (with_rest edits rest k))
+
+      put : (k : ℤ) → SameOption eq (with_rest (glue same edits (with_answer x w ∷ [])) rest k) (with_rest edits (with_answer x w ∷ rest) k)
+      put k =
+          let one = with_answer x w ∷ [] in
+          let all = ap (λ o. option_or (at edits k) o) (sym (at_append one rest k)) in
+          same_along eq refl
+          (ap (λ o. answer_or o (old k)) (or_assoc (at edits k) (at one k) (at rest k) ∙ all))
+          (same_answer eq laws (option_or (at (glue same edits one) k) (at rest k)) (option_or (option_or (at edits k) (at one k)) (at rest k)) (old k)
+          (same_or_left same (options_equiv laws) (at (glue same edits one) k) (option_or (at edits k) (at one k)) (at rest k)
+          (at_glue same (options_equiv laws) edits one k a.canonical (order, tt, tt))))
+
+      next_below : AreKeys low high (with_answer x w ∷ []) → (b : Bool) → AreBelow (x.hi +ℤ pos 1) (cond b edits (glue same edits (with_answer x w ∷ [])))
+      next_below keys true = record { canonical = a.canonical; keys = a.keys; below = below_more x.lo (x.hi +ℤ pos 1) edits (omega (arith, ints, order)) a.below }
+      next_below keys false = record {
+        canonical = canonical_glue same (options_equiv laws) (x.lo -ℤ pos 1) edits (with_answer x w ∷ []) a.canonical (order, tt, tt) (below_more x.lo (x.lo -ℤ pos 1 +ℤ pos 1) edits (omega (arith, ints)) a.below) (omega (arith, ints));
+        keys = are_keys_glue same low high edits (with_answer x w ∷ []) a.keys keys;
+        below = below_glue same (x.hi +ℤ pos 1) edits (with_answer x w ∷ []) (below_more x.lo (x.hi +ℤ pos 1) edits (omega (arith, ints, order)) a.below) (omega (arith, ints), tt);
+      }
+
+      next_content : ((k : ℤ) → x.lo ≤ℤ k → k ≤ℤ x.hi → x.value ≡ old k) → (b : Bool) → option_eq eq w x.value ≡ b → (k : ℤ) → SameOption eq (with_rest (cond b edits (glue same edits (with_answer x w ∷ []))) rest k) (with_rest edits (with_answer x w ∷ rest) k)
+      next_content has true p k = kept p has k
+      next_content has false p k = put k
+
+    -- the edits of pieces: what is left of them is known
+    pub record AreMade (edits new answers : List (Entry (Option V))) : Type 0 where
+      pub canonical : IsCanonical same new
+      pub keys : AreKeys low high new
+      pub content : (k : ℤ) → SameOption eq (answer_or (at new k) (old k)) (with_rest edits answers k)
+      pub ends : (all : List (Entry (Option V))) → AreEndsOf all edits → AreEndsOf all answers → AreEndsOf all new
+
+    none_answered : (xs : List (Entry (Option V))) (rs : List (Option V)) (k : ℤ) → at xs k ≡ None → at (answered xs rs) k ≡ None
+    none_answered [] rs k p = refl
+    none_answered (x ∷ xs) [] k p = refl
+    none_answered (x ∷ xs) (r ∷ rs) k p = by_place x k
+        (λ l u. absurd (some_is_not (sym (at_in x xs k l u) ∙ p)))
+        (λ u. at_under (with_answer x r) (answered xs rs) k u ∙ none_answered xs rs k (sym (at_under x xs k u) ∙ p))
+        (λ u. at_over (with_answer x r) (answered xs rs) k u ∙ none_answered xs rs k (sym (at_over x xs k u) ∙ p))
+      where
+        some_is_not : {X : Type 0} {x : X} → Some x ≡ None → ⊥
+        some_is_not p = cc
+
+    pub made : (xs : List (Entry (Option V))) (b : ℤ) (f f' : F) (edits new : List (Entry (Option V))) (p : ArePiecesAsked shows g eq xs f f' edits new)
+        → IsCanonical same xs → AreKeys low high xs → IsAbove (b -ℤ pos 1) xs → Has old xs → AreBelow b edits → AreMade edits new (answers_at xs f f' edits new p)
+    made [] b f f' edits new p c keys above has a = record {
+      canonical = subst (IsCanonical same) (sym p.1) a.canonical;
+      keys = subst (AreKeys low high) (sym p.1) a.keys;
+      content = λ k. same_along eq (ap (λ es. answer_or (at es k) (old k)) (sym p.1)) (ap (λ o. answer_or o (old k)) (sym (or_none (at edits k)))) (same_itself eq laws (answer_or (at edits k) (old k)));
+      ends = λ all e h. subst (AreEndsOf all) (sym p.1) e;
+    }
+    made (x ∷ xs) b f f' edits new p c keys above has a =
+        let w = p.2.answer in
+        let here : AreBelow x.lo edits = record { canonical = a.canonical; keys = a.keys; below = below_more b x.lo edits (omega (arith, ints)) a.below } in
+        let rest = answers_at xs p.0 f' p.1 new p.3 in
+        let nothing = λ (k : ℤ) (u : k ≤ℤ x.hi). none_answered xs (results xs p.0 f' p.1 new p.3) k (at_before same xs x.hi k c.2 (IsAbove-from_apart same x xs c.1) u) in
+        let next = subst (AreBelow (x.hi +ℤ pos 1)) (sym p.2.put) (next_below x w edits rest here c.0 nothing (keys.0, keys.1, tt) (option_eq eq w x.value)) in
+        let more = made xs (x.hi +ℤ pos 1) p.0 f' p.1 new p.3 c.2 keys.2 (above_right (IsAbove-from_apart same x xs c.1)) (later has) next in
+        record {
+          canonical = more.canonical;
+          keys = more.keys;
+          content = λ k.
+              let step = next_content x w edits rest here c.0 nothing (λ j l u. has j x.value (at_in x xs j l u)) (option_eq eq w x.value) refl k in
+              same_trans eq laws (answer_or (at new k) (old k)) (with_rest p.1 rest k) (with_rest edits (with_answer x w ∷ rest) k) (more.content k)
+              (subst (λ es. SameOption eq (with_rest es rest k) (with_rest edits (with_answer x w ∷ rest) k)) (sym p.2.put) step);
+          ends = λ all e h. more.ends all (subst (AreEndsOf all) (sym p.2.put) (ends_next all (option_eq eq w x.value) e h.0)) h.1;
+        }
+      where
+        above_right : IsAbove x.hi xs → IsAbove (x.hi +ℤ pos 1 -ℤ pos 1) xs
+        above_right u = above_as xs u
+          where
+            above_as : (ys : List (Entry (Option V))) → IsAbove x.hi ys → IsAbove (x.hi +ℤ pos 1 -ℤ pos 1) ys
+            above_as [] u = tt
+            above_as (y ∷ ys) u = omega (arith, ints)
+
+        later : Has old (x ∷ xs) → Has old xs
+        later has k v q = has k v (by_place x k
+            (λ l u. absurd (none_is_not (sym (at_before same xs x.hi k c.2 (IsAbove-from_apart same x xs c.1) u) ∙ q)))
+            (λ u. at_under x xs k u ∙ q)
+            (λ u. at_over x xs k u ∙ q))
+          where
+            none_is_not : {X : Type 0} {x : X} → None ≡ Some x → ⊥
+            none_is_not p = cc
+
+        ends_next : (all : List (Entry (Option V))) (b : Bool) → AreEndsOf all edits → HasEnd all x.hi → AreEndsOf all (cond b edits (glue same edits (with_answer x p.2.answer ∷ [])))
+        ends_next all true e h = e
+        ends_next all false e h = ends_glue eq laws all edits (with_answer x p.2.answer) e h

@@ -1,0 +1,172 @@
+-- The pieces of a range, as a walk over the entries meets them, and the edits that a function's answers at all of them give.
+use Rattle.std.specs.declared.alloc.AllocError.{AllocError}
+use Rattle.std.proofs.Common.{◌≡◌, ℤ, pos, ◌+ℤ◌, ◌-ℤ◌, ◌≤ℤ◌, ◌<ℤ◌, Bool, cond, List, [], ◌∷◌, ◌++◌, map, Option, Some, None, Result, refl, ◌∙◌, sym, ap, subst, append_assoc, append-nil, arith, inl}
+use Rattle.std.proofs.lemmas.Int.{ints}
+use Rattle.std.proofs.lemmas.List.{map-append}
+use Rattle.std.proofs.lemmas.Option.{same_Some}
+use Rattle.std.specs.Cmp.{IsEquivalence}
+use Rattle.std.specs.Cmp.Lexicographic.{options_equiv}
+use Rattle.std.specs.Fn.{Mut}
+use Rattle.std.specs.Int.{int_max, int_min}
+use Rattle.std.specs.Option.{option_eq, option_or}
+use Rattle.blaze_entries.proofs.Alike.{same_along, none_or}
+use Rattle.blaze_table.specs.Canonical.{IsCanonical, IsRangeMap, AreKeys, HasEnd}
+use Rattle.blaze_table.specs.Chosen.{left_with_right}
+use Rattle.blaze_table.specs.Entries.{Entry, entry, at, SameOption}
+use Rattle.blaze_table.specs.Splice.{after}
+use Rattle.blaze_table.proofs.Canonical.Lookup.{above_low, at_in, by_place}
+use Rattle.blaze_table.proofs.Canonical.Runs.{canonical, one_per_run}
+use Rattle.blaze_table.proofs.Paints.Splices.{canonical_after, canonical_before, above_after}
+use Rattle.blaze_streams.specs.Answers.{values, IsCallableAtEachValue, TakesValue}
+use Rattle.blaze_streams.specs.Fills.{none_before, filled_entries, IsFilledWithNone}
+use Rattle.blaze_streams.specs.Gaps.{gap_before}
+use Rattle.blaze_int.proofs.Comparisons.{lt_true}
+use Rattle.blaze_streams.proofs.Filled.{fill_made}
+use Rattle.blaze_streams.proofs.GapLists.{no_gap}
+use Rattle.range_map_blaze.specs.Edits.{AreEdits, AreEndsOf, AreEntriesAsked, ArePiecesAsked, IsPieceAsked}
+use Rattle.range_map_blaze.specs.OneRange.{one_range}
+use Rattle.range_map_blaze.specs.Updated.{answer_or, updated, IsCallableAtPieces}
+use Rattle.range_map_blaze.specs.Within.{within}
+use Rattle.range_map_blaze.proofs.GapsWithin.{keys_between}
+use Rattle.range_map_blaze.proofs.JoinedKeys.{below_all, above_all}
+use Rattle.range_map_blaze.proofs.Paints.Following.{content_within, within_next, IsOnward}
+use Rattle.range_map_blaze.proofs.Edits.Asked.{asked_one, asked_then, some_calls, results, results_count, results_turns, answers_at, no_edit, made, AreBelow, Has}
+
+-- the pieces of the keys from l to h, by structure
+abbrev pub pieces : {V : Type 0} → ℤ → ℤ → List (Entry V) → List (Entry (Option V))
+pieces l h es = filled_entries l h (within l h es)
+
+module _ {V : Type 0} (eq : V → V → Bool) (laws : IsEquivalence eq) (low high l h : ℤ) (es : List (Entry V)) (r : IsRangeMap eq low high es) where
+  -- they are the pieces
+  pub are_pieces : l ≤ℤ h → IsFilledWithNone eq l h es (pieces l h es)
+  are_pieces w =
+      let c = canonical eq laws es r.runs in
+      let d = canonical_after eq (l -ℤ pos 1) es c in
+      let window : IsRangeMap eq l h (within l h es) = record {
+        runs = one_per_run eq laws (within l h es) (canonical_before eq (h +ℤ pos 1) (after (l -ℤ pos 1) es) d);
+        keys = keys_between eq l h (after (l -ℤ pos 1) es) d (above_after (l -ℤ pos 1) es);
+      } in
+      let nothing : none_before (h +ℤ pos 1) (h +ℤ pos 1) ≡ [] = ap (map (λ e. entry e.lo e.hi None)) (no_gap (h +ℤ pos 1) (h +ℤ pos 1) (omega (arith, ints))) in
+      let all = fill_made eq laws l h (within l h es) window (h +ℤ pos 1) (pieces l h es) (pieces l h es) [] (ap (λ xs. pieces l h es ++ xs) nothing ∙ append-nil (pieces l h es)) refl (sym (ap (λ xs. pieces l h es ++ xs) nothing ∙ append-nil (pieces l h es))) in
+      record {
+        range_map = all.range_map;
+        content = λ k u v. all.content k u v ∙ ap Some (content_within eq laws low high l h es k c d ∙ ap (left_with_right (at es k)) (at_in (entry {V = Unit {0}} l h tt) [] k u v));
+      }
+
+-- the next piece of a walk over the entries
+pub next_piece : {V : Type 0} (eq : V → V → Bool) (l h a b : ℤ) (left rest : List (Entry V)) (e : Entry V) → left ≡ e ∷ rest → IsOnward eq l left → l ≤ℤ h → e.lo ≤ℤ h → a ≡ int_max l e.lo → b ≡ int_min h e.hi → within l h left ≡ entry a b e.value ∷ within l h rest
+next_piece eq l h a b left rest e is o w u starts ends =
+    ap (within l h) is ∙ within_next eq l h e rest (subst (IsOnward eq l) is o) w u
+    ∙ ap (λ z. entry z (int_min h e.hi) e.value ∷ within l h rest) (sym starts) ∙ ap (λ z. entry a z e.value ∷ within l h rest) (sym ends)
+
+-- an entry as a piece
+abbrev pub piece_of : {V : Type 0} → Entry V → Entry (Option V)
+piece_of e = entry e.lo e.hi (Some e.value)
+
+module _ {F A V : Type 0} (shows : A → Option V) (g : Mut F A (Result (Option V) AllocError)) (eq : V → V → Bool) (laws : IsEquivalence eq) (l h : ℤ) (f : F) (old : List (Entry V)) where
+  -- the function may be called at the next piece
+  pub takes_piece : IsCallableAtPieces shows g eq l h f old → (all done more : List (Entry (Option V))) (next : Entry (Option V)) → IsFilledWithNone eq l h old all → all ≡ done ++ next ∷ more
+      → (f' : F) (edits new : List (Entry (Option V))) → ArePiecesAsked shows g eq done f f' edits new → TakesValue shows g f' next.value
+  takes_piece may all done more next is parts f' edits new asked =
+      (may.at all is).at (values done) (values more) next.value f' (ap values parts ∙ map-append (λ e. e.value) done (next ∷ more)) (some_calls shows g eq done f f' edits new asked)
+
+  -- ---- one entry after another
+
+  -- the function was called at the pieces before the key n; what is left of the entries is known
+  pub record IsUnderway (all : List (Entry (Option V))) (n : ℤ) (left : List (Entry V)) (f' : F) (edits new : List (Entry (Option V))) : Type 0 where
+    pub done : List (Entry (Option V))
+    pub parts : done ++ filled_entries n h left ≡ all
+    pub asked : ArePiecesAsked shows g eq done f f' edits new
+
+  module _ (all : List (Entry (Option V))) (n : ℤ) (left others : List (Entry V)) (e : Entry V) (f' : F) (edits new : List (Entry (Option V))) (u : IsUnderway all n left f' edits new) (is : left ≡ e ∷ others) where
+    abbrev more : List (Entry (Option V))
+    more = piece_of e ∷ filled_entries (e.hi +ℤ pos 1) h others
+
+    all_is : all ≡ u.done ++ (none_before n e.lo ++ more)
+    all_is = sym u.parts ∙ ap (λ es. u.done ++ filled_entries n h es) is
+
+    pub takes_gap : IsCallableAtPieces shows g eq l h f old → IsFilledWithNone eq l h old all → n <ℤ e.lo → TakesValue shows g f' None
+    takes_gap may filled w =
+        takes_piece may all u.done more (entry n (e.lo -ℤ pos 1) None) filled (all_is ∙ ap (λ G. u.done ++ (map (λ d. entry d.lo d.hi None) G ++ more)) (there w)) f' edits new u.asked
+      where
+        there : n <ℤ e.lo → gap_before n e.lo ≡ entry n (e.lo -ℤ pos 1) tt ∷ []
+        there w = ap (λ b. cond b (entry n (e.lo -ℤ pos 1) tt ∷ []) []) (lt_true n e.lo w)
+
+    module _ (f'' : F) (mid : List (Entry (Option V))) (gap : ArePiecesAsked shows g eq (none_before n e.lo) f' f'' new mid) where
+      pub takes_entry : IsCallableAtPieces shows g eq l h f old → IsFilledWithNone eq l h old all → TakesValue shows g f'' (Some e.value)
+      takes_entry may filled =
+          takes_piece may all (u.done ++ none_before n e.lo) (filled_entries (e.hi +ℤ pos 1) h others) (piece_of e) filled (all_is ∙ sym (append_assoc u.done (none_before n e.lo) more)) f'' edits mid
+          (asked_then shows g eq u.done (none_before n e.lo) f f' f'' edits new mid u.asked gap)
+
+      pub underway_more : (f''' : F) (next : List (Entry (Option V))) → IsPieceAsked shows g eq (piece_of e) f'' f''' mid next → IsUnderway all (e.hi +ℤ pos 1) others f''' edits next
+      underway_more f''' next here = record {
+        done = (u.done ++ none_before n e.lo) ++ piece_of e ∷ [];
+        parts = append_assoc (u.done ++ none_before n e.lo) (piece_of e ∷ []) (filled_entries (e.hi +ℤ pos 1) h others) ∙ append_assoc u.done (none_before n e.lo) more ∙ sym all_is;
+        asked =
+            asked_then shows g eq (u.done ++ none_before n e.lo) (piece_of e ∷ []) f f'' f''' edits mid next
+            (asked_then shows g eq u.done (none_before n e.lo) f f' f'' edits new mid u.asked gap) (asked_one shows g eq (piece_of e) f'' f''' mid next here);
+      }
+
+  pub underway_none : (all : List (Entry (Option V))) (left : List (Entry V)) (edits : List (Entry (Option V))) → filled_entries l h left ≡ all → IsUnderway all l left f edits edits
+  underway_none all left edits p = record { done = []; parts = p; asked = (refl, refl) }
+
+  -- all entries
+  pub entries_asked : (all : List (Entry (Option V))) (n : ℤ) (left : List (Entry V)) (f' : F) (edits new : List (Entry (Option V))) → IsFilledWithNone eq l h old all → IsUnderway all n left f' edits new → left ≡ [] → AreEntriesAsked shows g eq l h old n f f' edits new
+  entries_asked all n left f' edits new filled u none = record {
+    pieces = u.done;
+    are_pieces = subst (IsFilledWithNone eq l h old) (sym u.parts ∙ ap (λ es. u.done ++ filled_entries n h es) none) filled;
+    asked = u.asked;
+  }
+
+  -- the last gap too
+  pub all_asked : (n : ℤ) (f' f'' : F) (edits mid new : List (Entry (Option V))) (a : AreEntriesAsked shows g eq l h old n f f' edits mid) → ArePiecesAsked shows g eq (none_before n (h +ℤ pos 1)) f' f'' mid new → ArePiecesAsked shows g eq (a.pieces ++ none_before n (h +ℤ pos 1)) f f'' edits new
+  all_asked n f' f'' edits mid new a gap = asked_then shows g eq a.pieces (none_before n (h +ℤ pos 1)) f f' f'' edits mid new a.asked gap
+
+  pub takes_last : IsCallableAtPieces shows g eq l h f old → (n : ℤ) (f' : F) (edits mid : List (Entry (Option V))) → AreEntriesAsked shows g eq l h old n f f' edits mid → n <ℤ (h +ℤ pos 1) → TakesValue shows g f' None
+  takes_last may n f' edits mid a w =
+      takes_piece may (a.pieces ++ none_before n (h +ℤ pos 1)) a.pieces [] (entry n (h +ℤ pos 1 -ℤ pos 1) None) a.are_pieces (ap (λ G. a.pieces ++ map (λ d. entry d.lo d.hi None) G) (there w)) f' edits mid a.asked
+    where
+      there : n <ℤ (h +ℤ pos 1) → gap_before n (h +ℤ pos 1) ≡ entry n (h +ℤ pos 1 -ℤ pos 1) tt ∷ []
+      there w = ap (λ b. cond b (entry n (h +ℤ pos 1 -ℤ pos 1) tt ∷ []) []) (lt_true n (h +ℤ pos 1) w)
+
+  -- ---- all pieces
+
+  ends_itself : (answers : List (Entry (Option V))) → AreEndsOf answers answers
+  ends_itself answers = within_all answers (λ k i. i)
+    where
+      within_all : (some : List (Entry (Option V))) → ((k : ℤ) → HasEnd some k → HasEnd answers k) → AreEndsOf answers some
+      within_all [] i = tt
+      within_all (e ∷ some) i = (i e.hi (inl refl), within_all some (λ k j. i k (Rattle.std.proofs.Common.inr j)))
+
+  has_old : (all : List (Entry (Option V))) → IsFilledWithNone eq l h old all → Has (at old) all
+  has_old all is k x q = by_place (entry {V = Unit {0}} l h tt) k
+      (λ u v. same_Some x (at old k) (sym q ∙ is.content k u v))
+      (λ u. absurd (not_there (below_all l h all k is.range_map.keys u) q))
+      (λ u. absurd (not_there (above_all l h all k is.range_map.keys u) q))
+    where
+      not_there : {o : Option (Option V)} → o ≡ None → o ≡ Some x → ⊥
+      not_there p q = cc
+
+  nothing_below : (b : ℤ) (edits : List (Entry (Option V))) → edits ≡ [] → AreBelow shows g eq laws l h (at old) b edits
+  nothing_below b edits p = subst (AreBelow shows g eq laws l h (at old) b) (sym p) (record { canonical = tt; keys = tt; below = tt })
+
+  -- the edits of all pieces
+  pub edits_made : (all : List (Entry (Option V))) (f' : F) (edits new : List (Entry (Option V))) → IsFilledWithNone eq l h old all → edits ≡ [] → (p : ArePiecesAsked shows g eq all f f' edits new) → AreEdits shows g eq l h f old new
+  edits_made all f' edits new is none p =
+      let eqo = option_eq eq in
+      let c = canonical eqo (options_equiv laws) all is.range_map.runs in
+      let m = made shows g eq laws l h (at old) all l f f' edits new p c is.range_map.keys (above_low l h all is.range_map.keys) (has_old all is) (nothing_below l edits none) in
+      record {
+        answers = answers_at shows g eq all f f' edits new p;
+        asked = record {
+          pieces = all;
+          are_pieces = is;
+          results = results shows g eq all f f' edits new p;
+          in_turn = record { last = f'; count = results_count shows g eq all f f' edits new p; calls = results_turns shows g eq all f f' edits new p };
+          answers_are = refl;
+        };
+        range_map = record { runs = one_per_run eqo (options_equiv laws) new m.canonical; keys = m.keys };
+        content = λ k. subst (λ xs. SameOption eq (updated new (at old) k) (answer_or (option_or (at xs k) (at (answers_at shows g eq all f f' edits new p) k)) (at old k))) none (m.content k);
+        ends = m.ends (answers_at shows g eq all f f' edits new p) (subst (AreEndsOf (answers_at shows g eq all f f' edits new p)) (sym none) tt) (ends_itself (answers_at shows g eq all f f' edits new p));
+        same = λ s. no_edit shows g eq all f f' edits new p s ∙ none;
+      }

@@ -1,0 +1,13 @@
+use Rattle.std.proofs.Common.{subst}
+use Rattle.std.specs.Prelude.{IfOk}
+use Rattle.blaze_streams.specs.Carried.{shown_option}
+use Rattle.blaze_table.specs.Counted.{CountedEntries}
+use Rattle.blaze_table.specs.Entries.{shown_list}
+use Rattle.range_map_blaze.specs.Edits.{AreEdits}
+use Rattle.range_map_blaze.proofs.map.RangeMapBlaze.edits_between.Goals as goal
+
+pub returns : goal.returns
+returns g c =
+    let rank = g.T.Integer.rank in
+    subst (λ (s : CountedEntries g.row.V.Denot). IfOk c.edits_of.result (λ edits. AreEdits (λ a. shown_option (λ v. v.now) a.0) g.F.FnMut g.V.PartialEq.eq (rank c.args.start) (rank c.args.end) c.args.f s.entries (shown_list rank edits.items))) c.self.view_is
+    c.edits_of.ensures

@@ -1,0 +1,57 @@
+-- A range changed by a function: the pieces that it is asked at, and what the map has afterwards.
+use Rattle.std.specs.declared.alloc.AllocError.{AllocError}
+use Rattle.std.specs.Fn.{Mut}
+use Rattle.std.specs.Option.{option_eq}
+use Rattle.std.specs.Prelude.{◌≡◌, ◌⊎◌, ℤ, ◌<ℤ◌, int_le, if◌then◌else◌, Bool, List, map, Option, Some, None, Result, Ok}
+use Rattle.blaze_streams.specs.Answers.{values, answered, AnswersInTurn, IsCallableAtEachValue}
+use Rattle.blaze_streams.specs.Fills.{IsFilledWithNone}
+use Rattle.blaze_table.specs.Canonical.{IsRangeMap, HasEnd}
+use Rattle.blaze_table.specs.Entries.{Entry, at, SameEntries, SameOption}
+
+-- what is there once an answer is given: the answer, and what was there before where none is
+abbrev pub answer_or : {V : Type 0} → Option (Option V) → Option V → Option V
+answer_or None old = old
+answer_or (Some answer) old = answer
+
+-- the content with the answers: on the keys of their ranges what they say, `None` for no value, and elsewhere as before
+abbrev pub updated : {V : Type 0} → List (Entry (Option V)) → (ℤ → Option V) → ℤ → Option V
+updated answers content k = answer_or (at answers k) (content k)
+
+-- the same up to the key b, and as before above it
+abbrev pub updated_up_to : {V : Type 0} → ℤ → List (Entry (Option V)) → (ℤ → Option V) → ℤ → Option V
+updated_up_to b answers content k = if int_le k b then updated answers content k else content k
+
+-- `shows` is what the list has where the arguments of a call stand for it
+module _ {F A V : Type 0} (shows : A → Option V) (g : Mut F A (Result (Option V) AllocError)) (eq : V → V → Bool) where
+  -- The pieces of the keys from l to h are the greatest ranges there on which the list does not change: its entries, cut to these
+  -- keys, and its gaps. The function may be called at each of them in turn, in the state that the calls at those before leave.
+  pub record IsCallableAtPieces (l h : ℤ) (f : F) (entries : List (Entry V)) : Type 0 where
+    pub at : (pieces : List (Entry (Option V))) → IsFilledWithNone eq l h entries pieces → IsCallableAtEachValue shows g f (values pieces)
+
+  -- The function was called once for each piece, ascending, and each call returned a value or none. The answers are these, each on
+  -- the keys of its piece.
+  pub record AreAnswersAtPieces (l h : ℤ) (f : F) (entries : List (Entry V)) (answers : List (Entry (Option V))) : Type 0 where
+    pub pieces : List (Entry (Option V))
+    pub are_pieces : IsFilledWithNone eq l h entries pieces
+    pub results : List (Option V)
+    pub in_turn : AnswersInTurn shows g f (values pieces) (map Ok results)
+    pub answers_are : answers ≡ answered pieces results
+
+  module _ (low high l h : ℤ) (f : F) (old new : List (Entry V)) where
+    -- each piece has what the function answered there; where every answer equals what was there, nothing changes
+    pub record IsUpdated : Type 0 where
+      pub answers : List (Entry (Option V))
+      pub asked : AreAnswersAtPieces l h f old answers
+      pub range_map : IsRangeMap eq low high new
+      pub content : (k : ℤ) → SameOption eq (at new k) (updated answers (at old) k)
+      pub same : SameEntries (option_eq eq) answers asked.pieces → new ≡ old
+
+    -- the pieces up to the end of one of them have what the function answered there, perhaps none of them, and the others what
+    -- they had
+    pub record IsPartUpdated : Type 0 where
+      pub answers : List (Entry (Option V))
+      pub asked : AreAnswersAtPieces l h f old answers
+      pub last : ℤ
+      pub is_end : (last <ℤ l) ⊎ HasEnd answers last
+      pub range_map : IsRangeMap eq low high new
+      pub content : (k : ℤ) → SameOption eq (at new k) (updated_up_to last answers (at old) k)
