@@ -1,5 +1,5 @@
 //! How a closure is asked at a carrier: which arguments it gets.
-ghost use Rattle.std.specs.Prelude.{◌≡◌, true, ⊤};
+ghost use Rattle.std.specs.Prelude.{◌≡◌, true, ⊤, IfOk, IsOkAnd};
 ghost use Rattle.std.specs.Fn.{Mut};
 ghost use Rattle.blaze_streams.specs.Answers.{TakesValue, AnswersAtValue};
 ghost use Rattle.blaze_streams.specs.Carried.{shown_pair};
@@ -9,6 +9,7 @@ ghost use Rattle.blaze_streams.specs.declared.segmenting.joins.JoinKind.TheVaria
 ghost use Rattle.blaze_streams.specs.declared.segmenting.joins.JoinKind.TheVariants.{Full};
 
 use crate::carrier::ValueCarrier;
+use std::alloc::AllocError;
 
 /// Asks closures at carriers.
 pub trait Asks<F, VC: ValueCarrier, W> {
@@ -18,17 +19,18 @@ pub trait Asks<F, VC: ValueCarrier, W> {
     // The value that the arguments stand for.
     ghost shows: { Self.Arguments → VC.Value };
 
-    // The calls of the closure.
+    // The calls of the closure that return a value.
     ghost calls: { Mut F Self.Arguments W };
 
     // There are arguments that stand for the value.
     ghost has_arguments: { VC.Value → Type 0 };
 
-    /// What the closure returns at the carrier, by one call.
-    fn ask(f: &mut F, carrier: VC) -> W
+    /// Returns what the closure returns at the carrier, by one call. If the call fails to allocate, it returns `Err`.
+    fn ask(f: &mut F, carrier: VC) -> Result<W, AllocError>
         requires has { has_arguments (VC.shown carrier) }
         requires callable { TakesValue shows calls f.old (VC.shown carrier) }
-        ensures { AnswersAtValue shows calls f.old (VC.shown carrier) result f.new };
+        ensures { IfOk result (λ answer. AnswersAtValue shows calls f.old (VC.shown carrier) answer
+            f.new) };
 }
 
 /// The closure gets the carrier.
@@ -43,11 +45,12 @@ impl<VC: ValueCarrier, W, F: FnMut(VC) -> W> Asks<F, VC, W> for Whole {
 
     ghost has_arguments = { λ _. ⊤ };
 
-    fn ask(f: &mut F, carrier: VC) -> W
+    fn ask(f: &mut F, carrier: VC) -> Result<W, AllocError>
         requires callable { TakesValue (λ a. VC.shown a.0) F.FnMut f.old (VC.shown carrier) }
-        ensures { AnswersAtValue (λ a. VC.shown a.0) F.FnMut f.old (VC.shown carrier) result f.new }
+        ensures { IsOkAnd result (λ answer. AnswersAtValue (λ a. VC.shown a.0) F.FnMut f.old
+            (VC.shown carrier) answer f.new) }
     {
-        f(carrier)
+        Ok(f(carrier))
     }
 }
 
@@ -67,14 +70,14 @@ impl<VCL: ValueCarrier, VCR: ValueCarrier, W, F: FnMut(Option<VCL>, Option<VCR>)
 
     ghost has_arguments = { λ p. is_joined Full p.0 p.1 ≡ true };
 
-    fn ask(f: &mut F, carrier: (Option<VCL>, Option<VCR>)) -> W
+    fn ask(f: &mut F, carrier: (Option<VCL>, Option<VCR>)) -> Result<W, AllocError>
         requires callable { TakesValue (either VCL.shown VCR.shown) F.FnMut f.old
             (shown_pair VCL.shown VCR.shown carrier) }
-        ensures { AnswersAtValue (either VCL.shown VCR.shown) F.FnMut f.old
-            (shown_pair VCL.shown VCR.shown carrier) result f.new }
+        ensures { IsOkAnd result (λ answer. AnswersAtValue (either VCL.shown VCR.shown) F.FnMut f.old
+            (shown_pair VCL.shown VCR.shown carrier) answer f.new) }
     {
         let (left, right) = carrier;
-        f(left, right)
+        Ok(f(left, right))
     }
 }
 
@@ -94,17 +97,17 @@ impl<VCL: ValueCarrier, VCR: ValueCarrier, W, F: FnMut(VCL, Option<VCR>) -> W> A
 
     ghost has_arguments = { λ p. is_joined Left p.0 p.1 ≡ true };
 
-    fn ask(f: &mut F, carrier: (Option<VCL>, Option<VCR>)) -> W
+    fn ask(f: &mut F, carrier: (Option<VCL>, Option<VCR>)) -> Result<W, AllocError>
         requires has { let pair = shown_pair VCL.shown VCR.shown carrier in is_joined Left pair.0
             pair.1 ≡ true }
         requires callable { TakesValue (with_left VCL.shown VCR.shown) F.FnMut f.old
             (shown_pair VCL.shown VCR.shown carrier) }
-        ensures { AnswersAtValue (with_left VCL.shown VCR.shown) F.FnMut f.old
-            (shown_pair VCL.shown VCR.shown carrier) result f.new }
+        ensures { IsOkAnd result (λ answer. AnswersAtValue (with_left VCL.shown VCR.shown) F.FnMut f.old
+            (shown_pair VCL.shown VCR.shown carrier) answer f.new) }
     {
         let (left, right) = carrier;
         let Some(left) = left else { unreachable!() };
-        f(left, right)
+        Ok(f(left, right))
     }
 }
 
@@ -124,17 +127,17 @@ impl<VCL: ValueCarrier, VCR: ValueCarrier, W, F: FnMut(VCL, VCR) -> W> Asks<
 
     ghost has_arguments = { λ p. is_joined Inner p.0 p.1 ≡ true };
 
-    fn ask(f: &mut F, carrier: (Option<VCL>, Option<VCR>)) -> W
+    fn ask(f: &mut F, carrier: (Option<VCL>, Option<VCR>)) -> Result<W, AllocError>
         requires has { let pair = shown_pair VCL.shown VCR.shown carrier in is_joined Inner pair.0
             pair.1 ≡ true }
         requires callable { TakesValue (both VCL.shown VCR.shown) F.FnMut f.old
             (shown_pair VCL.shown VCR.shown carrier) }
-        ensures { AnswersAtValue (both VCL.shown VCR.shown) F.FnMut f.old
-            (shown_pair VCL.shown VCR.shown carrier) result f.new }
+        ensures { IsOkAnd result (λ answer. AnswersAtValue (both VCL.shown VCR.shown) F.FnMut f.old
+            (shown_pair VCL.shown VCR.shown carrier) answer f.new) }
     {
         let (left, right) = carrier;
         let Some(left) = left else { unreachable!() };
         let Some(right) = right else { unreachable!() };
-        f(left, right)
+        Ok(f(left, right))
     }
 }

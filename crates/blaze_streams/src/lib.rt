@@ -6,6 +6,7 @@ mod carrier;
 mod complements;
 mod cursor;
 mod events;
+mod fallible;
 mod fills;
 pub mod laws;
 mod lists;
@@ -52,6 +53,8 @@ pub use transforms::transform;
 pub use asks::{Asks, Both, Either, Whole, WithLeft};
 #[doc(hidden)]
 pub use carrier::HasValue;
+#[doc(hidden)]
+pub use fallible::Fallible;
 #[doc(hidden)]
 pub use merge::choice::{Choice, ExactlyOne, LeftAlone, LeftWithRight, RightFirst};
 #[doc(hidden)]

@@ -11,8 +11,9 @@ use crate::sorted_disjoint_map::SortedDisjointMap;
 use blaze_int::Integer;
 use std::alloc::{AllocError, Global};
 
-/// The ranges of a stream, each with what a closure returns at its value, with the arguments that `C` gives it: one call for each
-/// range, ascending, and no other. Touching ranges with equal answers are one. Refused memory drops the stream and the answers.
+/// Returns the ranges of a stream, each with what a closure returns at its value. `C` gives the closure its arguments. It is called
+/// once for each range, ascending. Touching ranges with equal results are one. If a call of the closure or an allocation fails, the
+/// closure is not called again, and the stream and the results are dropped.
 pub fn answers_of<
     T: Integer,
     VC: ValueCarrier,
@@ -31,7 +32,7 @@ pub fn answers_of<
     for item in stream {
         let (range, carrier) = item;
         let (start, end) = range.into_inner();
-        let answer = C::ask(&mut f, carrier);
+        let answer = C::ask(&mut f, carrier)?;
         push_joined(&mut out, start, end, Owned(answer))?;
     }
     Ok(CanonMapIter::new(out))

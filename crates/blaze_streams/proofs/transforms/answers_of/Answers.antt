@@ -13,13 +13,13 @@ loop-item-init g c =
 pub loop-item-init-derived : goal.loop-item-init-derived
 loop-item-init-derived g c = (g.met.S.SortedDisjointMap.ready _, subst IsFinite (sym (g.met.S.SortedDisjointMap.counted _)) tt)
 
-pub ask-answer-requires-clause-has : goal.ask-answer-requires-clause-has
-ask-answer-requires-clause-has g c =
+pub ask-requires-clause-has : goal.ask-requires-clause-has
+ask-requires-clause-has g c =
     each_next g.C.Asks.has_arguments (asked c.loop-item.invariant.calls) _ _ (shown_range g.T.Integer.rank g.VC.ValueCarrier.shown c.in-Some.item)
     (subst (EachValue g.C.Asks.has_arguments) c.loop-item.invariant.whole c.requires.have) (g.met.S.SortedDisjointMap.gives _ _ _ c.in-Some.ensures.steps)
 
-pub ask-answer-requires-clause-callable : goal.ask-answer-requires-clause-callable
-ask-answer-requires-clause-callable g c =
+pub ask-requires-clause-callable : goal.ask-requires-clause-callable
+ask-requires-clause-callable g c =
     takes_next g.C.Asks.shows g.C.Asks.calls g.VC.Value.PartialEq.eq g.W.PartialEq.eq g.T.Integer.low g.T.Integer.high c.args.f _ c.requires.callable _ _
     (shown_range g.T.Integer.rank g.VC.ValueCarrier.shown c.in-Some.item) c.loop-item.f _ c.loop-item.invariant
     (g.met.S.SortedDisjointMap.gives _ _ _ c.in-Some.ensures.steps)
@@ -27,8 +27,8 @@ ask-answer-requires-clause-callable g c =
 pub loop-item-preserved : goal.loop-item-preserved
 loop-item-preserved g c =
     answered_more g.C.Asks.shows g.C.Asks.calls g.VC.Value.PartialEq.eq g.W.PartialEq.eq g.T.Integer.low g.T.Integer.high c.args.f _ g.met.W.Eq.laws _ _
-    (shown_range g.T.Integer.rank g.VC.ValueCarrier.shown c.in-Some.item) c.loop-item.f _ _ _ c.ask-answer.result _ _ c.loop-item.invariant
-    (g.met.S.SortedDisjointMap.gives _ _ _ c.in-Some.ensures.steps) c.ask-answer.ensures
+    (shown_range g.T.Integer.rank g.VC.ValueCarrier.shown c.in-Some.item) c.loop-item.f _ _ _ _ _ _ c.loop-item.invariant
+    (g.met.S.SortedDisjointMap.gives _ _ _ c.in-Some.ensures.steps) c.in_ok-answer.ensures
     (ap g.T.Integer.rank c.into_inner-start.ensures.start) (ap g.T.Integer.rank c.into_inner-start.ensures.end) c.in_ok-push_joined.ensures.ok
 
 pub new-requires : goal.new-requires
