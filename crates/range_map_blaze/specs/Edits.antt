@@ -1,6 +1,7 @@
 -- The edits that bring a function's answers into a map: the words of this crate's own functions. No public clause names them.
 use Rattle.std.specs.declared.alloc.AllocError.{AllocError}
 use Rattle.std.specs.Fn.{Mut}
+use Rattle.std.specs.List.{Contains}
 use Rattle.std.specs.Option.{option_eq}
 use Rattle.std.specs.Prelude.{◌≡◌, ℤ, pos, ◌+ℤ◌, if◌then◌else◌, Bool, List, [], ◌∷◌, ◌++◌, Option, Result, Ok}
 use Rattle.blaze_streams.specs.Answers.{AnswersAtValue}
@@ -8,7 +9,7 @@ use Rattle.blaze_streams.specs.Fills.{none_before, IsFilledWithNone}
 use Rattle.blaze_table.specs.Canonical.{IsRangeMap, HasEnd}
 use Rattle.blaze_table.specs.Entries.{Entry, entry, at, holds, SameEntries, SameOption}
 use Rattle.blaze_table.specs.Splice.{glue}
-use Rattle.range_map_blaze.specs.Updated.{updated, AreAnswersAtPieces}
+use Rattle.range_map_blaze.specs.Updated.{updated, AreAnswersAtPieces, AreOthersKept, IsAside}
 
 -- a piece's answer put behind a list of edits, in one with the last where the two touch and are equal; an answer that equals what
 -- the piece has is left out
@@ -51,16 +52,23 @@ module _ {F A V : Type 0} (shows : A → Option V) (g : Mut F A (Result (Option 
     pub ends : AreEndsOf answers edits
     pub same : SameEntries (option_eq eq) answers asked.pieces → edits ≡ []
 
+-- each of the edits is aside of the entry
+abbrev pub AreAside : {V : Type 0} → List (Entry (Option V)) → Entry V → Type 0
+AreAside [] e = Unit {0}
+AreAside (d ∷ edits) e = IsAside d.lo d.hi e × AreAside edits e
+
 -- one edit: its keys have what it says, or nothing, and the others what they had
 pub record IsEdited {V : Type 0} (eq : V → V → Bool) (low high : ℤ) (e : Entry (Option V)) (old new : List (Entry V)) : Type 0 where
   pub range_map : IsRangeMap eq low high new
   pub content : (k : ℤ) → SameOption eq (at new k) (if holds e k then e.value else at old k)
+  pub kept : AreOthersKept e.lo e.hi old new
 
 -- the edits, one after another
 pub record AreEdited {V : Type 0} (eq : V → V → Bool) (low high : ℤ) (edits : List (Entry (Option V))) (old new : List (Entry V)) : Type 0 where
   pub range_map : IsRangeMap eq low high new
   pub content : (k : ℤ) → SameOption eq (at new k) (updated edits (at old) k)
   pub none : edits ≡ [] → new ≡ old
+  pub kept : (e : Entry V) → Contains old e → AreAside edits e → Contains new e
 
 -- a first part of the edits, perhaps none of them
 pub record IsPartEdited {V : Type 0} (eq : V → V → Bool) (low high : ℤ) (edits : List (Entry (Option V))) (old new : List (Entry V)) : Type 0 where

@@ -1,8 +1,9 @@
 -- A range changed by a function: the pieces that it is asked at, and what the map has afterwards.
 use Rattle.std.specs.declared.alloc.AllocError.{AllocError}
 use Rattle.std.specs.Fn.{Mut}
+use Rattle.std.specs.List.{Contains}
 use Rattle.std.specs.Option.{option_eq}
-use Rattle.std.specs.Prelude.{◌≡◌, ◌⊎◌, ℤ, ◌<ℤ◌, int_le, if◌then◌else◌, Bool, List, map, Option, Some, None, Result, Ok}
+use Rattle.std.specs.Prelude.{◌≡◌, ◌⊎◌, ℤ, pos, ◌+ℤ◌, ◌<ℤ◌, int_le, if◌then◌else◌, Bool, List, map, Option, Some, None, Result, Ok}
 use Rattle.blaze_streams.specs.Answers.{values, answered, AnswersInTurn, IsCallableAtEachValue}
 use Rattle.blaze_streams.specs.Fills.{IsFilledWithNone}
 use Rattle.blaze_table.specs.Canonical.{IsRangeMap, HasEnd}
@@ -21,6 +22,14 @@ updated answers content k = answer_or (at answers k) (content k)
 abbrev pub updated_up_to : {V : Type 0} → ℤ → List (Entry (Option V)) → (ℤ → Option V) → ℤ → Option V
 updated_up_to b answers content k = if int_le k b then updated answers content k else content k
 
+-- the keys from l to h are not in the entry, and not right beside it
+abbrev pub IsAside : {V : Type 0} → ℤ → ℤ → Entry V → Type 0
+IsAside l h e = ((h +ℤ pos 1) <ℤ e.lo) ⊎ ((e.hi +ℤ pos 1) <ℤ l)
+
+-- each entry that the keys from l to h are aside of is still there, with its very value
+abbrev pub AreOthersKept : {V : Type 0} → ℤ → ℤ → List (Entry V) → List (Entry V) → Type 0
+AreOthersKept {V} l h old new = (e : Entry V) → Contains old e → IsAside l h e → Contains new e
+
 -- `shows` is what the list has where the arguments of a call stand for it
 module _ {F A V : Type 0} (shows : A → Option V) (g : Mut F A (Result (Option V) AllocError)) (eq : V → V → Bool) where
   -- The pieces of the keys from l to h are the greatest ranges there on which the list does not change: its entries, cut to these
@@ -38,16 +47,18 @@ module _ {F A V : Type 0} (shows : A → Option V) (g : Mut F A (Result (Option 
     pub answers_are : answers ≡ answered pieces results
 
   module _ (low high l h : ℤ) (f : F) (old new : List (Entry V)) where
-    -- each piece has what the function answered there; where every answer equals what was there, nothing changes
+    -- Each piece has what the function answered there, and the other entries are kept; where every answer equals what was there,
+    -- nothing changes.
     pub record IsUpdated : Type 0 where
       pub answers : List (Entry (Option V))
       pub asked : AreAnswersAtPieces l h f old answers
       pub range_map : IsRangeMap eq low high new
       pub content : (k : ℤ) → SameOption eq (at new k) (updated answers (at old) k)
+      pub kept : AreOthersKept l h old new
       pub same : SameEntries (option_eq eq) answers asked.pieces → new ≡ old
 
-    -- the pieces up to the end of one of them have what the function answered there, perhaps none of them, and the others what
-    -- they had
+    -- The pieces up to the end of one of them have what the function answered there, perhaps none of them, and the others what
+    -- they had; and the other entries are kept.
     pub record IsPartUpdated : Type 0 where
       pub answers : List (Entry (Option V))
       pub asked : AreAnswersAtPieces l h f old answers
@@ -55,3 +66,4 @@ module _ {F A V : Type 0} (shows : A → Option V) (g : Mut F A (Result (Option 
       pub is_end : (last <ℤ l) ⊎ HasEnd answers last
       pub range_map : IsRangeMap eq low high new
       pub content : (k : ℤ) → SameOption eq (at new k) (updated_up_to last answers (at old) k)
+      pub kept : AreOthersKept l h old new

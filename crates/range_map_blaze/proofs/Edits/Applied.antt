@@ -17,27 +17,35 @@ use Rattle.blaze_table.proofs.Canonical.Lookup.{IsAbove, IsAbove-from_apart, abo
 use Rattle.blaze_table.proofs.Canonical.Runs.{canonical, one_per_run}
 use Rattle.blaze_table.proofs.Cuts.Splits.{ends_below}
 use Rattle.blaze_table.proofs.Sweeping.Sweeps.{at_past}
-use Rattle.range_map_blaze.specs.Edits.{AreEdits, AreEdited, AreEndsOf, IsEdited, IsPartEdited}
+use Rattle.range_map_blaze.specs.Edits.{AreAside, AreEdits, AreEdited, AreEndsOf, IsEdited, IsPartEdited}
 use Rattle.range_map_blaze.specs.Somewhere.{IsUpdatedSomewhere}
-use Rattle.range_map_blaze.specs.Updated.{answer_or, updated, updated_up_to, IsPartUpdated, IsUpdated}
+use Rattle.range_map_blaze.specs.Updated.{answer_or, updated, updated_up_to, IsAside, IsPartUpdated, IsUpdated}
 use Rattle.range_map_blaze.proofs.Edits.Asked.{same_answer}
 
 module _ {V : Type 0} (eq : V → V → Bool) (laws : IsEquivalence eq) (low high : ℤ) where
   -- ---- one edit
 
   pub painted_edit : (l h : ℤ) (v : V) (old new : List (Entry V)) → IsPainted eq low high (entry l h v) old new → IsEdited eq low high (entry l h (Some v)) old new
-  painted_edit l h v old new p = record { range_map = p.range_map; content = p.content }
+  painted_edit l h v old new p = record { range_map = p.range_map; content = p.content; kept = λ e i u. p.kept e i (inr (inl u)) }
 
-  pub cut_edit : (l h : ℤ) (old new : List (Entry V)) → IsRangeCut eq low high l h old new → IsEdited eq low high (entry l h None) old new
-  cut_edit l h old new p = record { range_map = p.range_map; content = p.content }
+  cut_edit : (l h : ℤ) (old new : List (Entry V)) → IsRangeCut eq low high l h old new → IsEdited eq low high (entry l h None) old new
+  cut_edit l h old new p = record { range_map = p.range_map; content = p.content; kept = λ e i u. p.kept e i (off e u) }
+    where
+      off : (e : Entry V) → IsAside l h e → (e.hi <ℤ l) ⊎ (h <ℤ e.lo)
+      off e (inl u) = inr (omega (arith, ints))
+      off e (inr u) = inl (omega (arith, ints))
+
+  pub cut_where : {R E : Type 0} (l h : ℤ) (old new : List (Entry V)) (r : Result R E) → OnOk r (IsRangeCut eq low high l h old new) → OnOk r (IsEdited eq low high (entry l h None) old new)
+  cut_where l h old new (Ok x) p = cut_edit l h old new p
+  cut_where l h old new (Err e) p = tt
 
   -- ---- one after another
 
   pub edited_none : (old : List (Entry V)) → IsRangeMap eq low high old → AreEdited eq low high [] old old
-  edited_none old r = record { range_map = r; content = λ k. same_itself eq laws (at old k); none = λ p. refl }
+  edited_none old r = record { range_map = r; content = λ k. same_itself eq laws (at old k); none = λ p. refl; kept = λ e i u. i }
 
   pub edited_more : (e : Entry (Option V)) (done rest : List (Entry (Option V))) (old next new : List (Entry V)) → IsCanonical (option_eq eq) (done ++ e ∷ rest) → AreEdited eq low high done old next → IsEdited eq low high e next new → AreEdited eq low high (done ++ e ∷ []) old new
-  edited_more e done rest old next new c d s = record {
+  edited_more e done rest old next new c prior s = record {
     range_map = s.range_map;
     content = λ k.
         same_trans eq laws (at new k) (cond (holds e k) e.value (at next k)) (updated (done ++ e ∷ []) (at old) k) (s.content k)
@@ -50,13 +58,18 @@ module _ {V : Type 0} (eq : V → V → Bool) (laws : IsEquivalence eq) (low hig
         (λ u. off k (holds_under e k u) (at_under e [] k u))
         (λ u. off k (holds_over e k u) (at_over e [] k u))));
     none = λ p. absurd (some_left done p);
+    kept = λ d i u. let parts = aside d done u in s.kept d (prior.kept d i parts.0) parts.1;
   }
     where
+      aside : (d : Entry V) (xs : List (Entry (Option V))) → AreAside (xs ++ e ∷ []) d → AreAside xs d × IsAside e.lo e.hi d
+      aside d [] u = (tt, u.0)
+      aside d (x ∷ xs) u = let more = aside d xs u.1 in ((u.0, more.0), more.1)
+
       off : (k : ℤ) → holds e k ≡ Bool.false → at (e ∷ []) k ≡ None → SameOption eq (cond (holds e k) e.value (at next k)) (answer_or (option_or (at done k) (at (e ∷ []) k)) (at old k))
       off k p q = same_along eq
           (sym (ap (λ b. cond b e.value (at next k)) p))
           (sym (ap (λ o. answer_or (option_or (at done k) o) (at old k)) q ∙ ap (λ o. answer_or o (at old k)) (or_none (at done k))))
-          (d.content k)
+          (prior.content k)
 
       some_left : (xs : List (Entry (Option V))) → xs ++ e ∷ [] ≡ [] → ⊥
       some_left [] p = cc
@@ -90,6 +103,15 @@ module _ {V : Type 0} (eq : V → V → Bool) (laws : IsEquivalence eq) (low hig
   pub edits_wider : (l h : ℤ) (edits : List (Entry (Option V))) → low ≤ℤ l → h ≤ℤ high → IsRangeMap (option_eq eq) l h edits → IsRangeMap (option_eq eq) low high edits
   edits_wider l h edits u v r = record { runs = r.runs; keys = keys_wider l h edits u v r.keys }
 
+  -- an entry that the keys from l to h are aside of is so of each edit on these keys
+  all_aside : (l h : ℤ) (edits : List (Entry (Option V))) (e : Entry V) → AreKeys l h edits → IsAside l h e → AreAside edits e
+  all_aside l h [] e k u = tt
+  all_aside l h (d ∷ edits) e k u = (one u, all_aside l h edits e k.2 u)
+    where
+      one : IsAside l h e → IsAside d.lo d.hi e
+      one (inl u) = inl (omega (arith, ints, k.1))
+      one (inr u) = inr (omega (arith, ints, k.0))
+
   -- ---- what a map has once a function's answers are brought into it
 
   module _ {F A : Type 0} (shows : A → Option V) (g : Mut F A (Result (Option V) AllocError)) (l h : ℤ) (f : F) (old new : List (Entry V)) (edits : List (Entry (Option V))) (a : AreEdits shows g eq l h f old edits) where
@@ -99,6 +121,7 @@ module _ {V : Type 0} (eq : V → V → Bool) (laws : IsEquivalence eq) (low hig
       asked = a.asked;
       range_map = d.range_map;
       content = λ k. same_trans eq laws (at new k) (updated edits (at old) k) (updated a.answers (at old) k) (d.content k) (a.content k);
+      kept = λ e i u. d.kept e i (all_aside l h edits e a.range_map.keys u);
       same = λ s. d.none (a.same s);
     }
 
@@ -112,6 +135,7 @@ module _ {V : Type 0} (eq : V → V → Bool) (laws : IsEquivalence eq) (low hig
           last = last.last;
           is_end = last.is_end a.answers (ends_of p.done p.rest (subst (AreEndsOf a.answers) p.parts a.ends));
           range_map = p.edited.range_map;
+          kept = λ e i u. p.edited.kept e i (aside_first p.done p.rest e (subst (λ es. AreAside es e) p.parts (all_aside l h edits e a.range_map.keys u)));
           content = λ k. by_lt_z last.last k
               (λ u.
               let free = at_past (last.last +ℤ pos 1) k p.done last.below (omega (arith, ints)) in
@@ -128,6 +152,10 @@ module _ {V : Type 0} (eq : V → V → Bool) (laws : IsEquivalence eq) (low hig
               (a.content k)));
         }
       where
+        aside_first : (done rest : List (Entry (Option V))) (e : Entry V) → AreAside (done ++ rest) e → AreAside done e
+        aside_first [] rest e u = tt
+        aside_first (d ∷ done) rest e u = (u.0, aside_first done rest e u.1)
+
         ends_of : (done rest : List (Entry (Option V))) → AreEndsOf a.answers (done ++ rest) → AreEndsOf a.answers done
         ends_of [] rest e = tt
         ends_of (d ∷ done) rest e = (e.0, ends_of done rest e.1)
@@ -155,6 +183,7 @@ module _ {V : Type 0} (eq : V → V → Bool) (laws : IsEquivalence eq) (low hig
       };
       range_map = r;
       content = λ k. same_itself eq laws (at old k);
+      kept = λ e i u. i;
       same = λ s. refl;
     }
 

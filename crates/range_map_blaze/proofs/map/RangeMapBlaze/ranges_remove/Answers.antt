@@ -24,6 +24,7 @@ module _ {V : Type 0} (eq : V → V → Bool) (laws : IsEquivalence eq) (low hig
   cut_nowhere r = record {
     range_map = r;
     content = λ j. subst (SameOption eq (at es j)) (sym (ap (λ b. cond b None (at es j)) (off j))) (same_itself eq laws (at es j));
+    kept = λ e i u. i;
   }
 
 pub returns-in-Some-clause-none : goal.returns-in-Some-clause-none
