@@ -14,3 +14,4 @@ pub mod JoinedKeys
 pub mod GapsWithin
 pub mod Nearest
 pub mod Edits
+pub mod TryLaws

@@ -15,6 +15,7 @@ pub use Rattle.blaze_table.specs.RangeSets
 pub use Rattle.blaze_table.specs.Retain
 pub use Rattle.blaze_table.specs.Work
 pub use Rattle.blaze_streams.specs.Answers
+pub use Rattle.blaze_streams.specs.Fallible
 pub use Rattle.blaze_streams.specs.JoinAnswers
 pub use Rattle.blaze_streams.specs.Joins
 pub use Rattle.blaze_streams.specs.KeyRanges
@@ -42,3 +43,4 @@ pub mod MapLaws
 pub mod Updated
 pub mod Edits
 pub mod UpdateLaws
+pub mod TryLaws

@@ -36,11 +36,14 @@ pub fn map_of<T: Integer, W: Eq + Clone>(
 }
 
 /// What a closure returns at the values of a table, with the arguments that `C` gives it, as a stream.
-fn transformed<'a, T: Integer, V: Eq + Clone, W: Eq + Clone, F: Drop, C: Asks<F, &'a V, W>>(
-    alloc: Global,
-    table: &'a RangeTable<T, V>,
-    f: F,
-) -> Result<CanonMapIter<T, Owned<W>>, AllocError>
+pub(crate) fn transformed<
+    'a,
+    T: Integer,
+    V: Eq + Clone,
+    W: Eq + Clone,
+    F: Drop,
+    C: Asks<F, &'a V, W>,
+>(alloc: Global, table: &'a RangeTable<T, V>, f: F) -> Result<CanonMapIter<T, Owned<W>>, AllocError>
     requires have { EachValue C.has_arguments table.now.entries }
     requires callable { IsCallableAtEachValue C.shows C.calls f (values table.now.entries) }
     ensures { IfOk result (λ new. IsTransformed C.shows C.calls W.eq T.low T.high f
@@ -69,7 +72,7 @@ fn segments_of<'a, T: Integer, V: Eq + Clone, V2: Eq + Clone>(
 
 /// What a closure returns at the segments of two tables that a join is asked for, with the arguments that `C` gives it, as a
 /// stream.
-fn joined<
+pub(crate) fn joined<
     'a,
     T: Integer,
     V: Eq + Clone,

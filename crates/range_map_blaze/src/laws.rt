@@ -4,6 +4,7 @@ ghost use Rattle.blaze_streams.specs.Carried.{shown_option};
 ghost use Rattle.blaze_streams.specs.JoinAnswers.{either, both, with_left};
 ghost use Rattle.range_map_blaze.specs.MapLaws.{AnswersAreOnItsKeys, FillingIsUnion, FullJoinIsInnerJoin};
 ghost use Rattle.range_map_blaze.specs.MapLaws.{LeftJoinIsOnTheLeftKeys, PaintingInTurnExtends};
+ghost use Rattle.range_map_blaze.specs.TryLaws.{TryIsPlain};
 
 ghost use Rattle.range_map_blaze.specs.UpdateLaws.{InsertingAbsentIsUpdating, InsertingIsUpdating};
 ghost use Rattle.range_map_blaze.specs.UpdateLaws.{PartUpdatingIsByKeys, RemovingIsUpdating, UpdatingIsByKeys};
@@ -25,6 +26,18 @@ pub fn extend_absent_is_or<T: Integer, V: Eq>()
 /// `transform_values` keeps the mapped keys, and so `len`.
 pub fn transform_values_keeps_keys<T: Integer, V: Eq, W: Eq, F: FnMut(&V) -> W>()
     ensures { AnswersAreOnItsKeys (λ a. a.0.now) F.FnMut W.eq T.low T.high }
+{}
+
+/// A map that `try_transform_values` returns is one that `transform_values` returns, for a closure `G` that returns what `F`
+/// returns in `Ok`.
+pub fn try_transform_values_is_transform_values<
+    T: Integer,
+    V: Eq,
+    W: Eq,
+    F: FnMut(&V) -> Result<W, AllocError>,
+    G: FnMut(&V) -> W,
+>()
+    ensures { TryIsPlain (λ a. a.0.now) F.FnMut G.FnMut W.eq T.low T.high }
 {}
 
 /// `left_join` has the mapped keys of the left map, and so its `len`.

@@ -15,6 +15,7 @@ mod map;
 mod operators;
 mod pairs;
 mod updates;
+mod try_joins;
 
 pub use blaze_int::{Integer, SafeLength, UIntPlusOne, bounds_of, names_a_key};
 pub use blaze_iters::{IntoIterMap, IntoKeys, IntoValues, IterMap, Keys, Values};
