@@ -15,3 +15,4 @@ pub mod GapsWithin
 pub mod Nearest
 pub mod Edits
 pub mod TryLaws
+pub mod SharedKeys

@@ -44,3 +44,4 @@ pub mod Updated
 pub mod Edits
 pub mod UpdateLaws
 pub mod TryLaws
+pub mod Relations

@@ -16,6 +16,7 @@ mod operators;
 mod pairs;
 mod updates;
 mod try_joins;
+mod relations;
 
 pub use blaze_int::{Integer, SafeLength, UIntPlusOne, bounds_of, names_a_key};
 pub use blaze_iters::{IntoIterMap, IntoKeys, IntoValues, IterMap, Keys, Values};
