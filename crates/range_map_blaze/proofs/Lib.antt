@@ -16,3 +16,4 @@ pub mod Nearest
 pub mod Edits
 pub mod TryLaws
 pub mod SharedKeys
+pub mod TakenBack

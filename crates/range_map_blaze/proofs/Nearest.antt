@@ -18,10 +18,10 @@ not_both p = cc
 module _ {V : Type 0} (eq : V → V → Bool) (k : ℤ) where
   -- ---- the first that ends at the key or above
 
-  ends_below : (e : Entry V) (es : List (Entry V)) → e.hi <ℤ k → find (λ x. int_le k x.hi) (e ∷ es) ≡ find (λ x. int_le k x.hi) es
+  pub ends_below : (e : Entry V) (es : List (Entry V)) → e.hi <ℤ k → find (λ x. int_le k x.hi) (e ∷ es) ≡ find (λ x. int_le k x.hi) es
   ends_below e es h = let p : int_le k e.hi ≡ false = grind (arith, ints) in rw p refl
 
-  ends_above : (e : Entry V) (es : List (Entry V)) → k ≤ℤ e.hi → find (λ x. int_le k x.hi) (e ∷ es) ≡ Some e
+  pub ends_above : (e : Entry V) (es : List (Entry V)) → k ≤ℤ e.hi → find (λ x. int_le k x.hi) (e ∷ es) ≡ Some e
   ends_above e es h = let p : int_le k e.hi ≡ true = grind (arith, ints) in rw p refl
 
   starts_above : (e : Entry V) (es : List (Entry V)) → k <ℤ e.lo → find (λ x. int_lt k x.lo) (e ∷ es) ≡ Some e

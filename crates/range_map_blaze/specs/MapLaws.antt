@@ -1,4 +1,5 @@
--- The laws of pairs painted one by one, of filling one map from another, of joins of maps, and of maps with what a closure answers at their values.
+-- The laws of pairs painted one by one, of filling one map from another, of keys taken out and put back, of joins of maps, and of
+-- maps with what a closure answers at their values.
 use Rattle.std.specs.Prelude.{◌≡◌, ℤ, ◌≤ℤ◌, Bool, List, Option, IsSome}
 use Rattle.std.specs.Option.{is_some}
 use Rattle.std.specs.Fn.{Mut}
@@ -10,6 +11,7 @@ use Rattle.blaze_streams.specs.Answers.{IsTransformed}
 use Rattle.blaze_streams.specs.JoinAnswers.{IsJoined}
 use Rattle.range_map_blaze.specs.Extended.{ArePaintedInTurn, IsExtended}
 use Rattle.range_map_blaze.specs.FilledFrom.{IsFilledFrom}
+use Rattle.range_map_blaze.specs.RangeTaken.{IsRangeTaken}
 use Rattle.range_map_blaze.specs.Union.{IsUnion}
 
 -- pairs painted one by one give what painting them in order gives
@@ -19,6 +21,10 @@ PaintingInTurnExtends {V} eq low high = (pairs old new : List (Entry V)) → IsR
 -- a map whose gaps are filled from another is the other with it painted over: the ranges are the same, and values equal
 abbrev pub FillingIsUnion : {V : Type 0} → (V → V → Bool) → ℤ → ℤ → Type 0
 FillingIsUnion {V} eq low high = (other old filled union : List (Entry V)) → IsFilledFrom eq low high other old filled → IsUnion eq low high other old union → SameEntries eq filled union
+
+-- keys that are taken out of a range map, and painted back entry by entry: the ranges are the same, and values equal
+abbrev pub TakingIsUndone : {V : Type 0} → (V → V → Bool) → ℤ → ℤ → Type 0
+TakingIsUndone {V} eq low high = (l h : ℤ) (old left taken back : List (Entry V)) → IsRangeMap eq low high old → IsRangeTaken eq low high l h old left taken → ArePaintedInTurn eq low high taken left back → SameEntries eq old back
 
 -- two lists map the same keys, and so as many
 pub record HaveSameKeys {V W : Type 0} (low high : ℤ) (entries : List (Entry V)) (new : List (Entry W)) : Type 0 where

@@ -262,7 +262,7 @@ impl<T: Integer, V: Eq + Clone> RangeMapBlaze<T, V> {
     }
 
     /// The map on the keys from `start` up to `end`.
-    fn on_keys(&self, start: T, end: T) -> Result<Self, AllocError>
+    pub(crate) fn on_keys(&self, start: T, end: T) -> Result<Self, AllocError>
         requires order { T.rank start ≤ℤ T.rank end }
         requires clones { ClonesAreAlike V.is_clone V.eq }
         ensures { IfOk result (λ map. IsChosen V.eq T.low T.high left_with_right self.now.entries

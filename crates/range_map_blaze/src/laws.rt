@@ -8,6 +8,9 @@ ghost use Rattle.range_map_blaze.specs.TryLaws.{TryIsPlain};
 
 ghost use Rattle.range_map_blaze.specs.UpdateLaws.{InsertingAbsentIsUpdating, InsertingIsUpdating};
 ghost use Rattle.range_map_blaze.specs.UpdateLaws.{PartUpdatingIsByKeys, RemovingIsUpdating, UpdatingIsByKeys};
+//! The laws of pairs painted one by one, of filling one map from another, of keys taken out and put back, of joins of maps,
+//! and of maps with what a closure returns at their values.
+ghost use Rattle.range_map_blaze.specs.MapLaws.{LeftJoinIsOnTheLeftKeys, PaintingInTurnExtends, TakingIsUndone};
 
 use blaze_int::Integer;
 use std::alloc::AllocError;
@@ -21,6 +24,12 @@ pub fn painting_in_turn_extends<T: Integer, V: Eq>()
 /// `a.extend_absent(&b)` leaves the entries of `b | a`: the same ranges, with equal values.
 pub fn extend_absent_is_or<T: Integer, V: Eq>()
     ensures { FillingIsUnion V.eq T.low T.high }
+{}
+
+/// Where `a.ranges_take(..)` has returned `b`, `a.extend_from(b)` leaves the entries that `a` had before: the same ranges, with
+/// equal values.
+pub fn extend_from_undoes_ranges_take<T: Integer, V: Eq>()
+    ensures { TakingIsUndone V.eq T.low T.high }
 {}
 
 /// `transform_values` keeps the mapped keys, and so `len`.

@@ -17,6 +17,7 @@ mod pairs;
 mod updates;
 mod try_joins;
 mod relations;
+mod takes;
 
 pub use blaze_int::{Integer, SafeLength, UIntPlusOne, bounds_of, names_a_key};
 pub use blaze_iters::{IntoIterMap, IntoKeys, IntoValues, IterMap, Keys, Values};

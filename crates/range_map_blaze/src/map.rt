@@ -211,7 +211,7 @@ impl<T: Integer, V: Eq> RangeMapBlaze<T, V> {
     }
 
     // The first entry that ends at a key or above it: its first key, last key and value.
-    fn entry_at_or_above(&self, key: T) -> Option<(T, T, &V)>
+    pub(crate) fn entry_at_or_above(&self, key: T) -> Option<(T, T, &V)>
         ensures { option_map (shown_entry T.rank (λ v. v.now)) result
             ≡ find (λ e. int_le (T.rank key) e.hi) self.now.entries }
     {

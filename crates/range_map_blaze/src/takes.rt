@@ -1,0 +1,83 @@
+//! The keys of a range taken out of a map, as a map of their own.
+ghost use Rattle.std.specs.Prelude.{◌≡◌, ◌↔◌, ◌≤ℤ◌, [], IfOk, IsTrue, Ok, OnErr, OnOk};
+ghost use Rattle.blaze_int.specs.Bounds.{start_rank, end_rank};
+ghost use Rattle.blaze_table.specs.Counted.{uncounted};
+ghost use Rattle.blaze_table.specs.Entries.{at};
+ghost use Rattle.blaze_table.specs.Painted.{ClonesAreAlike};
+ghost use Rattle.blaze_table.specs.Work.{IsCounted, IsCountedCut};
+ghost use Rattle.range_map_blaze.specs.RangeTaken.{IsFreeFrom, IsRangeTaken, IsTakenOutSomewhere};
+
+use crate::map::RangeMapBlaze;
+use blaze_int::compare::is_below;
+use blaze_int::{Integer, bounds_of};
+use std::alloc::AllocError;
+use std::ops::RangeBounds;
+
+impl<T: Integer, V: Eq + Clone> RangeMapBlaze<T, V> {
+    /// Takes the keys of a range out, and returns them as a map. Bounds that name no key take nothing out.
+    ///
+    /// The returned map has clones of the values, one for each of its entries; `split_off` moves them instead. All memory is
+    /// taken before the first change: if an allocation fails, the map is unchanged and nothing is returned. Where no key of the
+    /// range has a value, nothing is allocated. It takes O(log n) steps for each entry that shares a key with the range, with n
+    /// entries in the map.
+    pub fn ranges_take<R: RangeBounds<T> + Drop>(&mut self, range: R) -> Result<Self, AllocError>
+        requires { ClonesAreAlike V.is_clone V.eq }
+        ensures ok { R.has_bounds range → IfOk result (λ taken. IsRangeTaken V.eq T.low T.high
+            (start_rank T.rank T.low (R.start_bound range))
+            (end_rank T.rank T.high (R.end_bound range)) self.old.entries self.new.entries
+            taken.entries) }
+        ensures somewhere { IfOk result (λ taken. IsTakenOutSomewhere V.eq T.low T.high
+            self.old.entries self.new.entries taken.entries) }
+        ensures uncounted { IfOk result (λ taken. taken ≡ uncounted taken.entries) }
+        ensures none { R.has_bounds range
+            → IsFreeFrom (at self.old.entries) (start_rank T.rank T.low (R.start_bound range))
+            (end_rank T.rank T.high (R.end_bound range))
+            → (result ≡ Ok (uncounted [])) × (self.new ≡ self.old) }
+        ensures counted { OnOk result (IsCountedCut self.old self.new) }
+        ensures err { OnErr result (self.new.entries ≡ self.old.entries) }
+        ensures err_counted { OnErr result (IsCounted self.old self.new) }
+    {
+        self.in_hand();
+        match bounds_of(&range) {
+            Some((start, end)) => self.take_keys(start, end),
+            None => Ok(Self::new(self.allocator())),
+        }
+    }
+
+    // Takes the keys from `start` up to `end` out.
+    fn take_keys(&mut self, start: T, end: T) -> Result<Self, AllocError>
+        requires order { T.rank start ≤ℤ T.rank end }
+        requires clones { ClonesAreAlike V.is_clone V.eq }
+        ensures ok { IfOk result (λ taken. IsRangeTaken V.eq T.low T.high (T.rank start)
+            (T.rank end) self.old.entries self.new.entries taken.entries) }
+        ensures uncounted { IfOk result (λ taken. taken ≡ uncounted taken.entries) }
+        ensures none { IsFreeFrom (at self.old.entries) (T.rank start) (T.rank end)
+            → (result ≡ Ok (uncounted [])) × (self.new ≡ self.old) }
+        ensures counted { OnOk result (IsCountedCut self.old self.new) }
+        ensures err { OnErr result (self.new.entries ≡ self.old.entries) }
+        ensures err_counted { OnErr result (IsCounted self.old self.new) }
+    {
+        self.in_hand();
+        if self.is_free(start, end) {
+            return Ok(Self::new(self.allocator()));
+        }
+        let taken = self.on_keys(start, end)?;
+        self.table.cut_range(start, end)?;
+        Ok(taken.uncounted())
+    }
+
+    // Whether no key from `start` up to `end` has a value.
+    fn is_free(&self, start: T, end: T) -> bool
+        requires { T.rank start ≤ℤ T.rank end }
+        ensures { IsTrue result ↔ IsFreeFrom (at self.now.entries) (T.rank start) (T.rank end) }
+    {
+        self.in_hand();
+        match self.entry_at_or_above(start) {
+            Some(entry) => {
+                let (first, _, _) = entry;
+                is_below(end, first)
+            }
+            None => true,
+        }
+    }
+}
