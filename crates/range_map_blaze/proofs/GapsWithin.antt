@@ -41,14 +41,14 @@ max_is l k = by_lt_z l k
     under u = grind (arith, ints)
 
 module _ {V : Type 0} where
-  up_to_takes : (h : ℤ) (e : Entry V) (es : List (Entry V)) → e.lo ≤ℤ h → up_to h (e ∷ es) ≡ e ∷ up_to h es
+  pub up_to_takes : (h : ℤ) (e : Entry V) (es : List (Entry V)) → e.lo ≤ℤ h → up_to h (e ∷ es) ≡ e ∷ up_to h es
   up_to_takes h e es u = ap (λ b. cond b (e ∷ up_to h es) (up_to h es)) (le_true e.lo h u)
 
-  up_to_skips : (h : ℤ) (e : Entry V) (es : List (Entry V)) → h <ℤ e.lo → up_to h (e ∷ es) ≡ up_to h es
+  pub up_to_skips : (h : ℤ) (e : Entry V) (es : List (Entry V)) → h <ℤ e.lo → up_to h (e ∷ es) ≡ up_to h es
   up_to_skips h e es u = ap (λ b. cond b (e ∷ up_to h es) (up_to h es)) (le_false e.lo h u)
 
 module _ {V : Type 0} (eq : V → V → Bool) where
-  up_to_none : (h : ℤ) (es : List (Entry V)) → IsCanonical eq es → IsAbove h es → up_to h es ≡ []
+  pub up_to_none : (h : ℤ) (es : List (Entry V)) → IsCanonical eq es → IsAbove h es → up_to h es ≡ []
   up_to_none h [] c a = refl
   up_to_none h (e ∷ es) c a = up_to_skips h e es (omega (arith, ints)) ∙ up_to_none h es c.2 (above_rest eq h e es (omega (arith, ints, c.0)) c)
 

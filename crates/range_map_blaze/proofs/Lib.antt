@@ -12,6 +12,7 @@ pub mod LentValues
 pub mod AllKeys
 pub mod JoinedKeys
 pub mod GapsWithin
+pub mod CutEach
 pub mod Nearest
 pub mod Edits
 pub mod TryLaws

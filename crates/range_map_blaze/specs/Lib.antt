@@ -29,6 +29,7 @@ pub mod Printed
 pub mod OneRange
 pub mod Somewhere
 pub mod Within
+pub mod EntriesWithin
 pub mod Made
 pub mod Extended
 pub mod Collected

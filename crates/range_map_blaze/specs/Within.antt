@@ -1,12 +1,21 @@
 -- The entries on the keys of a range, and the gaps there: the words of this crate's own functions. No public clause names them.
-use Rattle.std.specs.Prelude.{ℤ, pos, ◌+ℤ◌, ◌-ℤ◌, int_lt, if◌then◌else◌, List, [], ◌∷◌, ◌++◌, Option, Some, None}
+use Rattle.std.specs.Prelude.{ℤ, pos, ◌+ℤ◌, ◌-ℤ◌, int_lt, if◌then◌else◌, List, [], ◌∷◌, ◌++◌, map, Option, Some, None}
+use Rattle.std.specs.Int.{int_max, int_min}
 use Rattle.blaze_streams.specs.Gaps.{gap_before}
-use Rattle.blaze_table.specs.Entries.{Entry}
+use Rattle.blaze_table.specs.Entries.{Entry, entry}
 use Rattle.blaze_table.specs.Splice.{before, after}
 
 -- the entries on the keys from l up to h: what lies above the key before l and below the key after h
 abbrev pub within : {V : Type 0} → ℤ → ℤ → List (Entry V) → List (Entry V)
 within l h es = before (h +ℤ pos 1) (after (l -ℤ pos 1) es)
+
+-- the part of an entry on the keys from l up to h, with which it shares a key
+abbrev pub cut_to : {V : Type 0} → ℤ → ℤ → Entry V → Entry V
+cut_to l h e = entry (int_max l e.lo) (int_min h e.hi) e.value
+
+-- entries that share a key with the range from l up to h, each cut to it
+abbrev pub cut_each : {V : Type 0} → ℤ → ℤ → List (Entry V) → List (Entry V)
+cut_each l h es = map (cut_to l h) es
 
 -- a list that is there, or none
 abbrev pub all_or_none : {X : Type 0} → Option (List X) → List X

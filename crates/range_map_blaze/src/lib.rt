@@ -18,6 +18,7 @@ mod updates;
 mod try_joins;
 mod relations;
 mod takes;
+mod within;
 
 pub use blaze_int::{Integer, SafeLength, UIntPlusOne, bounds_of, names_a_key};
 pub use blaze_iters::{IntoIterMap, IntoKeys, IntoValues, IterMap, Keys, Values};
@@ -36,6 +37,7 @@ pub use gaps::Gaps;
 pub use iterators::Overlapping;
 pub use make::IntoRangeMapBlaze;
 pub use map::RangeMapBlaze;
+pub use within::Within;
 
 // For `range_map_multi` alone, whose joins give such streams.
 #[doc(hidden)]

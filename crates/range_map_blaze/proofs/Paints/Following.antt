@@ -126,7 +126,7 @@ module _ {V : Type 0} (eq : V → V → Bool) where
             ∙ at_before eq (after (l -ℤ pos 1) es) (l -ℤ pos 1) k d (above_after (l -ℤ pos 1) es) (omega (arith, ints)))
             (λ v. at-before_over eq (h +ℤ pos 1) k (after (l -ℤ pos 1) es) v)
 
-    within_chosen : IsRangeMap eq low high es → IsChosen eq low high left_with_right es (one_range l h) (within l h es)
+    pub within_chosen : IsRangeMap eq low high es → IsChosen eq low high left_with_right es (one_range l h) (within l h es)
     within_chosen r =
         let c = canonical eq laws es r.runs in
         let d = canonical_after eq (l -ℤ pos 1) es c in
