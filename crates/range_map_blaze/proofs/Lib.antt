@@ -13,6 +13,7 @@ pub mod AllKeys
 pub mod JoinedKeys
 pub mod GapsWithin
 pub mod CutEach
+pub mod GapWalks
 pub mod Nearest
 pub mod Edits
 pub mod TryLaws

@@ -1,5 +1,5 @@
 -- The entries on the keys of a range, and the gaps there: the words of this crate's own functions. No public clause names them.
-use Rattle.std.specs.Prelude.{ℤ, pos, ◌+ℤ◌, ◌-ℤ◌, int_lt, if◌then◌else◌, List, [], ◌∷◌, ◌++◌, map, Option, Some, None}
+use Rattle.std.specs.Prelude.{◌≡◌, ℤ, pos, ◌+ℤ◌, ◌-ℤ◌, ◌≤ℤ◌, ◌<ℤ◌, int_lt, if◌then◌else◌, List, [], ◌∷◌, ◌++◌, map, Option, Some, None}
 use Rattle.std.specs.Int.{int_max, int_min}
 use Rattle.blaze_streams.specs.Gaps.{gap_before}
 use Rattle.blaze_table.specs.Entries.{Entry, entry}
@@ -31,3 +31,23 @@ gaps_within l h (e ∷ es) = gap_before l e.lo ++ (if int_lt e.hi h then gaps_wi
 abbrev pub gaps_left : {T V : Type 0} → (T → ℤ) → Option (T × T) → List (Entry V) → List (Entry (Unit {0}))
 gaps_left rank None es = []
 gaps_left rank (Some p) es = gaps_within (rank p.0) (rank p.1) es
+
+-- each entry has a key, starts up to h and above the end of the one before, the first of them above b
+abbrev pub IsUpTo : {V : Type 0} → ℤ → ℤ → List (Entry V) → Type 0
+IsUpTo b h [] = Unit {0}
+IsUpTo b h (e ∷ es) = (b <ℤ e.lo) × (e.lo ≤ℤ e.hi) × (e.lo ≤ℤ h) × IsUpTo e.hi h es
+
+-- each entry has a key, shares one with the range from l up to h, and starts above the end of the one before
+abbrev pub IsAcross : {V : Type 0} → ℤ → ℤ → List (Entry V) → Type 0
+IsAcross l h [] = Unit {0}
+IsAcross l h (e ∷ es) = (l ≤ℤ e.hi) × (e.lo ≤ℤ e.hi) × (e.lo ≤ℤ h) × IsUpTo e.hi h es
+
+-- a walk over the gaps of a range under way: the keys from l up to h are left, and the entries that share a key with them
+pub record IsGapWalk {V : Type 0} (l h : ℤ) (es : List (Entry V)) : Type 0 where
+  pub order : l ≤ℤ h
+  pub entries : IsAcross l h es
+
+-- the keys from a up to b, by the first and the last of them, or none where there are none
+abbrev pub AreKeysFrom : {T : Type 0} → (T → ℤ) → ℤ → ℤ → Option (T × T) → Type 0
+AreKeysFrom rank a b None = b <ℤ a
+AreKeysFrom rank a b (Some p) = (a ≤ℤ b) × (rank p.0 ≡ a) × (rank p.1 ≡ b)

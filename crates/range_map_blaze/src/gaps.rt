@@ -1,17 +1,18 @@
 //! The gaps of a map within a range, and a map with its gaps filled.
 ghost use Rattle.std.specs.Iterator.{item_count};
-ghost use Rattle.std.specs.Prelude.{◌≡◌, ◌≤ℤ◌, IfSome, ℤ, IsSome, IfOk};
+ghost use Rattle.std.specs.Prelude.{◌≤ℤ◌, ◌+ℤ◌, ◌-ℤ◌, ℤ, pos, IsSome, IfOk};
 ghost use Rattle.blaze_int.specs.Bounds.{start_rank, end_rank};
 ghost use Rattle.blaze_streams.specs.Fills.{IsFilledWithNone};
 ghost use Rattle.blaze_table.specs.Chosen.{left_alone, IsChosen};
 ghost use Rattle.blaze_table.specs.Entries.{at};
 ghost use Rattle.blaze_table.specs.Painted.{ClonesAreAlike};
 ghost use Rattle.blaze_table.specs.RangeSets.{shown_bare_range, unit_eq};
-ghost use Rattle.blaze_table.specs.Whole.{YieldsWholeFirst};
+ghost use Rattle.blaze_table.specs.Whole.{YieldsWholeFirst, YieldsWholeLast};
 ghost use Rattle.range_map_blaze.specs.GapsFilled.{AreGapsFilled};
 ghost use Rattle.range_map_blaze.specs.Made.{IsMade};
 ghost use Rattle.range_map_blaze.specs.OneRange.{one_range};
 ghost use Rattle.range_map_blaze.specs.Somewhere.{AreGapsSomewhere};
+ghost use Rattle.range_map_blaze.specs.Within.{AreKeysFrom};
 
 use crate::iterators::{Overlapping, entries_on, no_entries};
 use crate::map::RangeMapBlaze;
@@ -24,20 +25,20 @@ use std::iter::FusedIterator;
 use std::marker::Model;
 use std::ops::{RangeBounds, RangeInclusive};
 
-/// The greatest ranges of keys without a value within a range, ascending.
+/// The greatest ranges of keys without a value within a range, ascending, from both ends.
 #[derive(Drop)]
 pub struct Gaps<'a, T: Integer, V: Eq> {
-    // The first key that was not gone through, and the last key of the range. None where none is left.
+    // The first and the last key that neither end has gone through. None where none is left.
     left: Option<(T, T)>,
     entries: Overlapping<'a, T, V>,
 }
 
 impl<'a, T: Integer, V: Eq> Model for Gaps<'a, T, V> {
-    ghost use Rattle.std.specs.Prelude.{List, IfSome, ◌≤ℤ◌};
+    ghost use Rattle.std.specs.Prelude.{List, IfSome};
     ghost use Rattle.std.specs.Coded.{coded_list};
     ghost use Rattle.blaze_table.specs.Entries.{Entry};
     ghost use Rattle.blaze_table.specs.RangeSets.{bare_code};
-    ghost use Rattle.range_map_blaze.specs.Within.{gaps_left};
+    ghost use Rattle.range_map_blaze.specs.Within.{gaps_left, IsGapWalk};
 
     ghost Value = { List (Entry (Unit {0})) };
 
@@ -45,13 +46,14 @@ impl<'a, T: Integer, V: Eq> Model for Gaps<'a, T, V> {
 
     ghost view = { λ s. gaps_left T.rank s.left s.entries };
 
-    ghost invariant = { λ s. IfSome s.left (λ p. T.rank p.0 ≤ℤ T.rank p.1) };
+    ghost invariant = { λ s. IfSome s.left
+        (λ p. IsGapWalk (T.rank p.0) (T.rank p.1) s.entries) };
 }
 
 impl<T: Integer, V: Eq> RangeMapBlaze<T, V> {
-    /// The greatest ranges of keys without a value within a range, ascending. Bounds that name no key give none. It takes three
-    /// searches, and a step for each entry that shares a key with the range, however many the map has elsewhere. No memory is
-    /// taken.
+    /// Returns the greatest ranges of keys without a value within a range, ascending, from both ends. Bounds that name no key give
+    /// none. No memory is allocated. It takes O(log n) steps with n entries, and O(1) more for each entry that shares a key with
+    /// the range.
     pub fn gaps<R: RangeBounds<T> + Drop>(&self, range: R) -> Gaps<'_, T, V>
         ensures within { R.has_bounds range → IsChosen unit_eq T.low T.high left_alone
             (one_range (start_rank T.rank T.low (R.start_bound range))
@@ -84,6 +86,30 @@ fn gaps_on<T: Integer, V: Eq>(table: &RangeTable<T, V>, start: T, end: T) -> Gap
     }
 }
 
+// The keys above `end` up to `last`, by the first and the last of them, or None where there are none.
+fn keys_above<T: Integer>(end: T, last: T) -> Option<(T, T)>
+    ensures { AreKeysFrom T.rank (T.rank end +ℤ pos 1) (T.rank last) result }
+{
+    if is_below(end, last) {
+        last.in_hand();
+        Some((end.add_one(), last))
+    } else {
+        None
+    }
+}
+
+// The keys from `first` on that lie below `start`, by the first and the last of them, or None where there are none.
+fn keys_below<T: Integer>(first: T, start: T) -> Option<(T, T)>
+    ensures { AreKeysFrom T.rank (T.rank first) (T.rank start -ℤ pos 1) result }
+{
+    if is_below(first, start) {
+        first.in_hand();
+        Some((first, start.sub_one()))
+    } else {
+        None
+    }
+}
+
 impl<'a, T: Integer, V: Eq> Iterator for Gaps<'a, T, V> {
     type Item = RangeInclusive<T>;
 
@@ -98,15 +124,28 @@ impl<'a, T: Integer, V: Eq> Iterator for Gaps<'a, T, V> {
                 return Some(first..=last);
             };
             let (start, end) = range.into_inner();
-            self.left = if is_below(end, last) {
-                last.in_hand();
-                Some((end.add_one(), last))
-            } else {
-                None
+            self.left = keys_above(end, last);
+            if let Some((gap_start, gap_end)) = keys_below(first, start) {
+                return Some(gap_start..=gap_end);
+            }
+        }
+        None
+    }
+}
+
+impl<'a, T: Integer, V: Eq> DoubleEndedIterator for Gaps<'a, T, V> {
+    ghost next_back_gives = { YieldsWholeLast (λ r. r) (shown_bare_range T.rank) (λ s. s) };
+
+    fn next_back(&mut self) -> Option<RangeInclusive<T>> {
+        while let Some((first, last)) = self.left {
+            let Some((range, _)) = self.entries.next_back() else {
+                self.left = None;
+                return Some(first..=last);
             };
-            if is_below(first, start) {
-                first.in_hand();
-                return Some(first..=start.sub_one());
+            let (start, end) = range.into_inner();
+            self.left = keys_below(first, start);
+            if let Some(gap) = keys_above(end, last) {
+                return Some(gap.0..=gap.1);
             }
         }
         None

@@ -1,5 +1,14 @@
+use Rattle.blaze_table.proofs.Canonical.Runs.{canonical}
 use Rattle.range_map_blaze.proofs.GapsWithin.{gaps_made}
+use Rattle.range_map_blaze.proofs.GapWalks.{walk_first}
 use Rattle.range_map_blaze.proofs.gaps.gaps_on.Goals as goal
+
+pub invariant_of-result : goal.invariant_of-result
+invariant_of-result g c =
+    let rank = g.T.Integer.rank in
+    let eq = g.V.PartialEq.eq in
+    let es = c.args.table.now.entries in
+    walk_first eq (rank c.args.start) (rank c.args.end) es c.entries_on.result (canonical eq g.met.V.Eq.laws es c.in_hand.ensures.runs) c.requires c.entries_on.ensures
 
 pub returns : goal.returns
 returns g c =

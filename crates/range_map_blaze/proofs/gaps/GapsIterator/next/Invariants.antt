@@ -1,11 +1,11 @@
-use Rattle.std.proofs.Common.{◌≡◌, ◌≤ℤ◌, IfSome, length}
-use Rattle.range_map_blaze.specs.Within.{gaps_left}
+use Rattle.std.proofs.Common.{◌≡◌, IfSome, length}
+use Rattle.range_map_blaze.specs.Within.{gaps_left, IsGapWalk}
 use Rattle.range_map_blaze.proofs.gaps.GapsIterator.next.Given as goal
 
--- the same gaps are left as at the start, and the keys that were not gone through are in order
+-- the same gaps are left as at the start
 abbrev pub invariant-loop-self : goal.invariant-loop-self
 invariant-loop-self g l = record {
-  order : IfSome l.self-inside.left (λ p. g.T.Integer.rank p.0 ≤ℤ g.T.Integer.rank p.1);
+  walk : IfSome l.self-inside.left (λ p. IsGapWalk (g.T.Integer.rank p.0) (g.T.Integer.rank p.1) l.self-inside.entries);
   same : gaps_left g.T.Integer.rank l.self-inside.left l.self-inside.entries ≡ l.fn.self;
 }
 
