@@ -6,6 +6,7 @@ use Rattle.std.proofs.Common.{◌≡◌, ℤ, ◌≤ℤ◌, ◌<ℤ◌, Bool, tr
 use Rattle.std.proofs.lemmas.Int.{ints, by_lt_z}
 use Rattle.blaze_int.proofs.Comparisons.{lt_fails, lt_holds}
 use Rattle.blaze_entries.proofs.Alike.{same_along, same_back, same_itself, same_or, same_trans}
+use Rattle.blaze_table.specs.Gap.{IsClearFrom}
 use Rattle.blaze_table.specs.Canonical.{IsCanonical, IsRangeMap}
 use Rattle.blaze_table.specs.Chosen.{left_with_right, right_first, IsChosen}
 use Rattle.blaze_table.specs.Cut.{cut_range_at}
@@ -16,7 +17,7 @@ use Rattle.blaze_table.proofs.Canonical.Unique.{unique}
 use Rattle.blaze_streams.proofs.Steady.{at_first}
 use Rattle.range_map_blaze.specs.MapLaws.{TakingIsUndone}
 use Rattle.range_map_blaze.specs.OneRange.{one_range}
-use Rattle.range_map_blaze.specs.RangeTaken.{IsFreeFrom, IsRangeTaken}
+use Rattle.range_map_blaze.specs.KeysTaken.{AreKeysTaken}
 use Rattle.range_map_blaze.proofs.Nearest.{ends_above, ends_below}
 use Rattle.range_map_blaze.proofs.Paints.PaintedOver.{painted_over}
 use Rattle.range_map_blaze.proofs.Paints.Paintings.{in_turn}
@@ -29,13 +30,13 @@ module _ {V : Type 0} (eq : V → V → Bool) (l h : ℤ) where
   IsBeyond None = Unit {0}
   IsBeyond (Some e) = h <ℤ e.lo
 
-  pub free_before : (es : List (Entry V)) → IsCanonical eq es → (o : Option (Entry V)) → o ≡ find (λ x. int_le l x.hi) es → IsBeyond o → IsFreeFrom (at es) l h
+  pub free_before : (es : List (Entry V)) → IsCanonical eq es → (o : Option (Entry V)) → o ≡ find (λ x. int_le l x.hi) es → IsBeyond o → IsClearFrom (at es) l h
   free_before [] c o p b k from to = refl
   free_before (e ∷ es) c o p b k from to = by_lt_z e.hi l
       (λ u. at_over e es k (omega (arith, ints)) ∙ free_before es c.2 o (p ∙ ends_below eq l e es u) b k from to)
       (λ u. at_first eq e es k c (let w : h <ℤ e.lo = subst IsBeyond (p ∙ ends_above eq l e es u) b in omega (arith, ints)))
 
-  pub not_free : (es : List (Entry V)) → IsCanonical eq es → l ≤ℤ h → (f : Entry V) → Some f ≡ find (λ x. int_le l x.hi) es → f.lo ≤ℤ h → IsFreeFrom (at es) l h → ⊥
+  pub not_free : (es : List (Entry V)) → IsCanonical eq es → l ≤ℤ h → (f : Entry V) → Some f ≡ find (λ x. int_le l x.hi) es → f.lo ≤ℤ h → IsClearFrom (at es) l h → ⊥
   not_free [] c w f p b free = cc
   not_free (e ∷ es) c w f p b free = by_lt_z e.hi l
       (λ u. not_free es c.2 w f (p ∙ ends_below eq l e es u) b (λ k from to. sym (at_over e es k (omega (arith, ints))) ∙ free k from to))
@@ -52,7 +53,7 @@ module _ {V : Type 0} (eq : V → V → Bool) (l h : ℤ) where
       here e es k a b n = let is : Some e.value ≡ None = sym (at_in e es k a b) ∙ n in cc
 
   -- where there is one, whether it starts above h decides
-  pub free_decided : (es : List (Entry V)) → IsCanonical eq es → l ≤ℤ h → (f : Entry V) → Some f ≡ find (λ x. int_le l x.hi) es → (b : Bool) → b ≡ int_lt h f.lo → IsTrue b ↔ IsFreeFrom (at es) l h
+  pub free_decided : (es : List (Entry V)) → IsCanonical eq es → l ≤ℤ h → (f : Entry V) → Some f ≡ find (λ x. int_le l x.hi) es → (b : Bool) → b ≡ int_lt h f.lo → IsTrue b ↔ IsClearFrom (at es) l h
   free_decided es c w f p true q = ((λ t. free_before es c (Some f) p (lt_holds h f.lo (sym q))), (λ s. refl))
   free_decided es c w f p false q = ((λ t. cc), (λ s. absurd (not_free es c w f p (lt_fails h f.lo (sym q)) s)))
 
@@ -75,7 +76,7 @@ module _ {V : Type 0} (eq : V → V → Bool) (laws : IsEquivalence eq) (low hig
   none_of true x n = rw (n refl) tt
   none_of false x n = tt
 
-  pub nothing_taken : (es : List (Entry V)) → IsRangeMap eq low high es → IsFreeFrom (at es) l h → IsRangeTaken eq low high l h es es []
+  pub nothing_taken : (es : List (Entry V)) → IsRangeMap eq low high es → IsClearFrom (at es) l h → AreKeysTaken eq low high l h es es []
   nothing_taken es r free = record {
     left_is = record { range_map = r; content = λ k. kept (holds one k) (at es k) (λ q. let is = holds_ends one k q in free k is.0 is.1) };
     taken_is = record {
@@ -92,7 +93,7 @@ module _ {V : Type 0} (eq : V → V → Bool) (laws : IsEquivalence eq) (low hig
   rejoined false None = refl
   rejoined false (Some v) = refl
 
-  back_again : (old left taken back : List (Entry V)) → IsRangeTaken eq low high l h old left taken → IsChosen eq low high right_first left taken back → (k : ℤ) → SameOption eq (at old k) (at back k)
+  back_again : (old left taken back : List (Entry V)) → AreKeysTaken eq low high l h old left taken → IsChosen eq low high right_first left taken back → (k : ℤ) → SameOption eq (at old k) (at back k)
   back_again old left taken back t over k = same_back eq laws (at back k) (at old k)
       (same_trans eq laws (at back k) (right_first (at left k) (at taken k)) (at old k) (over.content k)
       (same_along eq {a = option_or (at taken k) (at left k)} refl (rejoined (holds one k) (at old k))

@@ -46,4 +46,4 @@ pub mod Edits
 pub mod UpdateLaws
 pub mod TryLaws
 pub mod Relations
-pub mod RangeTaken
+pub mod KeysTaken

@@ -11,7 +11,7 @@ use Rattle.blaze_streams.specs.Answers.{IsTransformed}
 use Rattle.blaze_streams.specs.JoinAnswers.{IsJoined}
 use Rattle.range_map_blaze.specs.Extended.{ArePaintedInTurn, IsExtended}
 use Rattle.range_map_blaze.specs.FilledFrom.{IsFilledFrom}
-use Rattle.range_map_blaze.specs.RangeTaken.{IsRangeTaken}
+use Rattle.range_map_blaze.specs.KeysTaken.{AreKeysTaken}
 use Rattle.range_map_blaze.specs.Union.{IsUnion}
 
 -- pairs painted one by one give what painting them in order gives
@@ -24,7 +24,7 @@ FillingIsUnion {V} eq low high = (other old filled union : List (Entry V)) → I
 
 -- keys that are taken out of a range map, and painted back entry by entry: the ranges are the same, and values equal
 abbrev pub TakingIsUndone : {V : Type 0} → (V → V → Bool) → ℤ → ℤ → Type 0
-TakingIsUndone {V} eq low high = (l h : ℤ) (old left taken back : List (Entry V)) → IsRangeMap eq low high old → IsRangeTaken eq low high l h old left taken → ArePaintedInTurn eq low high taken left back → SameEntries eq old back
+TakingIsUndone {V} eq low high = (l h : ℤ) (old left taken back : List (Entry V)) → IsRangeMap eq low high old → AreKeysTaken eq low high l h old left taken → ArePaintedInTurn eq low high taken left back → SameEntries eq old back
 
 -- two lists map the same keys, and so as many
 pub record HaveSameKeys {V W : Type 0} (low high : ℤ) (entries : List (Entry V)) (new : List (Entry W)) : Type 0 where

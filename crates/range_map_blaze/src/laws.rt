@@ -1,16 +1,12 @@
-//! The laws of pairs painted one by one, of filling one map from another, of joins of maps, of maps with what a closure returns at
-//! their values, and of a range changed by a function.
+//! The laws of pairs painted one by one, of filling one map from another, of keys taken out and put back, of joins of maps, of maps
+//! with what a closure returns at their values, and of a range changed by a function.
 ghost use Rattle.blaze_streams.specs.Carried.{shown_option};
 ghost use Rattle.blaze_streams.specs.JoinAnswers.{either, both, with_left};
 ghost use Rattle.range_map_blaze.specs.MapLaws.{AnswersAreOnItsKeys, FillingIsUnion, FullJoinIsInnerJoin};
-ghost use Rattle.range_map_blaze.specs.MapLaws.{LeftJoinIsOnTheLeftKeys, PaintingInTurnExtends};
+ghost use Rattle.range_map_blaze.specs.MapLaws.{LeftJoinIsOnTheLeftKeys, PaintingInTurnExtends, TakingIsUndone};
 ghost use Rattle.range_map_blaze.specs.TryLaws.{TryIsPlain};
-
 ghost use Rattle.range_map_blaze.specs.UpdateLaws.{InsertingAbsentIsUpdating, InsertingIsUpdating};
 ghost use Rattle.range_map_blaze.specs.UpdateLaws.{PartUpdatingIsByKeys, RemovingIsUpdating, UpdatingIsByKeys};
-//! The laws of pairs painted one by one, of filling one map from another, of keys taken out and put back, of joins of maps,
-//! and of maps with what a closure returns at their values.
-ghost use Rattle.range_map_blaze.specs.MapLaws.{LeftJoinIsOnTheLeftKeys, PaintingInTurnExtends, TakingIsUndone};
 
 use blaze_int::Integer;
 use std::alloc::AllocError;

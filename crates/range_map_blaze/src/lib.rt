@@ -14,10 +14,10 @@ mod make;
 mod map;
 mod operators;
 mod pairs;
-mod updates;
-mod try_joins;
 mod relations;
 mod takes;
+mod try_joins;
+mod updates;
 mod within;
 
 pub use blaze_int::{Integer, SafeLength, UIntPlusOne, bounds_of, names_a_key};

@@ -3,9 +3,10 @@ ghost use Rattle.std.specs.Prelude.{◌≡◌, ◌↔◌, ◌≤ℤ◌, [], IfOk
 ghost use Rattle.blaze_int.specs.Bounds.{start_rank, end_rank};
 ghost use Rattle.blaze_table.specs.Counted.{uncounted};
 ghost use Rattle.blaze_table.specs.Entries.{at};
+ghost use Rattle.blaze_table.specs.Gap.{IsClearFrom};
 ghost use Rattle.blaze_table.specs.Painted.{ClonesAreAlike};
 ghost use Rattle.blaze_table.specs.Work.{IsCounted, IsCountedCut};
-ghost use Rattle.range_map_blaze.specs.RangeTaken.{IsFreeFrom, IsRangeTaken, IsTakenOutSomewhere};
+ghost use Rattle.range_map_blaze.specs.KeysTaken.{AreKeysTaken, IsTakenOutSomewhere};
 
 use crate::map::RangeMapBlaze;
 use blaze_int::compare::is_below;
@@ -22,7 +23,7 @@ impl<T: Integer, V: Eq + Clone> RangeMapBlaze<T, V> {
     /// entries in the map.
     pub fn ranges_take<R: RangeBounds<T> + Drop>(&mut self, range: R) -> Result<Self, AllocError>
         requires { ClonesAreAlike V.is_clone V.eq }
-        ensures ok { R.has_bounds range → IfOk result (λ taken. IsRangeTaken V.eq T.low T.high
+        ensures ok { R.has_bounds range → IfOk result (λ taken. AreKeysTaken V.eq T.low T.high
             (start_rank T.rank T.low (R.start_bound range))
             (end_rank T.rank T.high (R.end_bound range)) self.old.entries self.new.entries
             taken.entries) }
@@ -30,7 +31,7 @@ impl<T: Integer, V: Eq + Clone> RangeMapBlaze<T, V> {
             self.old.entries self.new.entries taken.entries) }
         ensures uncounted { IfOk result (λ taken. taken ≡ uncounted taken.entries) }
         ensures none { R.has_bounds range
-            → IsFreeFrom (at self.old.entries) (start_rank T.rank T.low (R.start_bound range))
+            → IsClearFrom (at self.old.entries) (start_rank T.rank T.low (R.start_bound range))
             (end_rank T.rank T.high (R.end_bound range))
             → (result ≡ Ok (uncounted [])) × (self.new ≡ self.old) }
         ensures counted { OnOk result (IsCountedCut self.old self.new) }
@@ -48,10 +49,10 @@ impl<T: Integer, V: Eq + Clone> RangeMapBlaze<T, V> {
     fn take_keys(&mut self, start: T, end: T) -> Result<Self, AllocError>
         requires order { T.rank start ≤ℤ T.rank end }
         requires clones { ClonesAreAlike V.is_clone V.eq }
-        ensures ok { IfOk result (λ taken. IsRangeTaken V.eq T.low T.high (T.rank start)
+        ensures ok { IfOk result (λ taken. AreKeysTaken V.eq T.low T.high (T.rank start)
             (T.rank end) self.old.entries self.new.entries taken.entries) }
         ensures uncounted { IfOk result (λ taken. taken ≡ uncounted taken.entries) }
-        ensures none { IsFreeFrom (at self.old.entries) (T.rank start) (T.rank end)
+        ensures none { IsClearFrom (at self.old.entries) (T.rank start) (T.rank end)
             → (result ≡ Ok (uncounted [])) × (self.new ≡ self.old) }
         ensures counted { OnOk result (IsCountedCut self.old self.new) }
         ensures err { OnErr result (self.new.entries ≡ self.old.entries) }
@@ -69,7 +70,7 @@ impl<T: Integer, V: Eq + Clone> RangeMapBlaze<T, V> {
     // Whether no key from `start` up to `end` has a value.
     fn is_free(&self, start: T, end: T) -> bool
         requires { T.rank start ≤ℤ T.rank end }
-        ensures { IsTrue result ↔ IsFreeFrom (at self.now.entries) (T.rank start) (T.rank end) }
+        ensures { IsTrue result ↔ IsClearFrom (at self.now.entries) (T.rank start) (T.rank end) }
     {
         self.in_hand();
         match self.entry_at_or_above(start) {

@@ -4,12 +4,12 @@ use Rattle.std.proofs.lemmas.Int.{ints}
 use Rattle.blaze_int.specs.Bounds.{start_rank, end_rank}
 use Rattle.blaze_table.specs.Counted.{CountedEntries}
 use Rattle.blaze_table.specs.Entries.{Entry}
-use Rattle.range_map_blaze.specs.RangeTaken.{IsRangeTaken, IsTakenOutSomewhere}
+use Rattle.range_map_blaze.specs.KeysTaken.{AreKeysTaken, IsTakenOutSomewhere}
 use Rattle.range_map_blaze.proofs.TakenBack.{nothing_taken}
 use Rattle.range_map_blaze.proofs.map.RangeMapBlaze.ranges_take.Goals as goal
 
 somewhere : {V E : Type 0} (eq : V → V → Bool) (low high l h : ℤ) (old left : List (Entry V)) (r : Result (CountedEntries V) E)
-    → IfOk r (λ taken. IsRangeTaken eq low high l h old left taken.entries) → IfOk r (λ taken. IsTakenOutSomewhere eq low high old left taken.entries)
+    → IfOk r (λ taken. AreKeysTaken eq low high l h old left taken.entries) → IfOk r (λ taken. IsTakenOutSomewhere eq low high old left taken.entries)
 somewhere eq low high l h old left (Ok taken) t = inr (l, h, t)
 somewhere eq low high l h old left (Err e) t = tt
 
@@ -26,5 +26,5 @@ returns-clause-ok g c = λ told.
     let h = end_rank g.T.Integer.rank high (g.R.RangeBounds.end_bound c.args.range) in
     let es = c.args.self.now.entries in
     let under = c.in-None.ensures.ranks told in
-    subst (λ (s : CountedEntries g.row.V.Denot). IsRangeTaken eq low high l h es es s.entries) (sym c.new.ensures)
+    subst (λ (s : CountedEntries g.row.V.Denot). AreKeysTaken eq low high l h es es s.entries) (sym c.new.ensures)
     (nothing_taken eq g.met.V.Eq.laws low high l h es c.in_hand.ensures (λ k from to. absurd (omega (arith, ints, under, from, to))))

@@ -1,6 +1,6 @@
 use Rattle.std.proofs.Common.{sym, subst}
 use Rattle.blaze_table.specs.Counted.{CountedEntries}
-use Rattle.range_map_blaze.specs.RangeTaken.{IsRangeTaken}
+use Rattle.range_map_blaze.specs.KeysTaken.{AreKeysTaken}
 use Rattle.range_map_blaze.proofs.TakenBack.{nothing_taken}
 use Rattle.range_map_blaze.proofs.map.RangeMapBlaze.take_keys.Goals as goal
 
@@ -10,5 +10,5 @@ returns-then-is_free-clause-ok g c =
     let l = g.T.Integer.rank c.args.start in
     let h = g.T.Integer.rank c.args.end in
     let es = c.args.self.now.entries in
-    subst (λ (s : CountedEntries g.row.V.Denot). IsRangeTaken eq g.T.Integer.low g.T.Integer.high l h es es s.entries) (sym c.new.ensures)
+    subst (λ (s : CountedEntries g.row.V.Denot). AreKeysTaken eq g.T.Integer.low g.T.Integer.high l h es es s.entries) (sym c.new.ensures)
     (nothing_taken eq g.met.V.Eq.laws g.T.Integer.low g.T.Integer.high l h es c.in_hand.ensures (c.is_free.ensures.0 c.if-is_free.true))
