@@ -78,7 +78,7 @@ module _ {V : Type 0} (eq : V → V → Bool) (laws : IsEquivalence eq) (low hig
 
   pub nothing_taken : (es : List (Entry V)) → IsRangeMap eq low high es → IsClearFrom (at es) l h → AreKeysTaken eq low high l h es es []
   nothing_taken es r free = record {
-    left_is = record { range_map = r; content = λ k. kept (holds one k) (at es k) (λ q. let is = holds_ends one k q in free k is.0 is.1) };
+    left_is = record { range_map = r; content = λ k. kept (holds one k) (at es k) (λ q. let is = holds_ends one k q in free k is.0 is.1); kept = λ e i u. i };
     taken_is = record {
       range_map = record { runs = one_per_run eq laws [] tt; keys = tt };
       content = λ k. none_of (holds one k) (at es k) (λ q. let is = holds_ends one k q in free k is.0 is.1);
