@@ -1,6 +1,6 @@
 -- The entries that share a key with a range, each cut to it, are the entries on the keys of the range; and their lengths are how
 -- many keys of the range have a value.
-use Rattle.std.proofs.Common.{◌≡◌, ℕ, zero, suc, ℤ, pos, negsuc, ◌+ℤ◌, ◌-ℤ◌, ◌≤ℤ◌, ◌<ℤ◌, Bool, List, [], ◌∷◌, map, refl, ◌∙◌, sym, ap, subst, Option, arith}
+use Rattle.std.proofs.Common.{◌≡◌, ℕ, zero, suc, ℤ, pos, negsuc, ◌+ℤ◌, ◌-ℤ◌, ◌≤ℤ◌, ◌<ℤ◌, Bool, List, [], ◌∷◌, refl, ◌∙◌, sym, ap, subst, Option, arith}
 use Rattle.std.specs.Cmp.{IsEquivalence}
 use Rattle.std.proofs.lemmas.Int.{ints, by_lt_z}
 use Rattle.blaze_int.proofs.Naturals.{nat_of-pos, pos_injective}

@@ -37,11 +37,7 @@ impl<T: Integer, V: Eq + Clone> RangeMapBlaze<T, V> {
     pub fn ranges_update<
         R: RangeBounds<T> + Drop,
         F: FnMut(Option<&V>) -> Result<Option<V>, AllocError>,
-    >(
-        &mut self,
-        range: R,
-        f: F,
-    ) -> Result<(), AllocError>
+    >(&mut self, range: R, f: F) -> Result<(), AllocError>
         requires callable { (l h : ℤ)
             → (R.has_bounds range → (l ≡ start_rank T.rank T.low (R.start_bound range))
             × (h ≡ end_rank T.rank T.high (R.end_bound range)))
@@ -119,7 +115,11 @@ struct Asking<T: Integer, V, F> {
     f: F,
 }
 
-impl<T: Integer, V: Eq + Clone, F: FnMut(Option<&V>) -> Result<Option<V>, AllocError>> Asking<T, V, F> {
+impl<T: Integer, V: Eq + Clone, F: FnMut(Option<&V>) -> Result<Option<V>, AllocError>> Asking<
+    T,
+    V,
+    F,
+> {
     // Asks the function at the piece from `start` up to `end`, which has the value `old`, or none.
     fn ask(&mut self, start: T, end: T, old: Option<&V>) -> Result<(), AllocError>
         requires { TakesValue (λ a. shown_option (λ v. v.now) a.0) F.FnMut self.old.f

@@ -19,8 +19,7 @@ use Rattle.blaze_table.proofs.Cuts.Splits.{ends_below}
 use Rattle.blaze_table.proofs.Sweeping.Sweeps.{at_past}
 use Rattle.range_map_blaze.specs.Edits.{AreAside, AreEdits, AreEdited, AreEndsOf, IsEdited, IsPartEdited}
 use Rattle.range_map_blaze.specs.Somewhere.{IsUpdatedSomewhere}
-use Rattle.range_map_blaze.specs.Updated.{answer_or, updated, updated_up_to, IsAside, IsPartUpdated, IsUpdated}
-use Rattle.range_map_blaze.proofs.Edits.Asked.{same_answer}
+use Rattle.range_map_blaze.specs.Updated.{answer_or, updated, IsAside, IsPartUpdated, IsUpdated}
 
 module _ {V : Type 0} (eq : V → V → Bool) (laws : IsEquivalence eq) (low high : ℤ) where
   -- ---- one edit

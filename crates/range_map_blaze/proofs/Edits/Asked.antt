@@ -1,7 +1,6 @@
 -- A function that was called at pieces, one after another: its answers, and the edits that bring them into a map.
 use Rattle.std.specs.declared.alloc.AllocError.{AllocError}
-use Rattle.std.proofs.Common.{◌≡◌, ℤ, pos, ◌+ℤ◌, ◌-ℤ◌, ◌≤ℤ◌, ◌<ℤ◌, Bool, true, false, cond, List, [], ◌∷◌, ◌++◌, length, map, Option, Some, None, Ok, refl, ◌∙◌, sym, ap, subst, arith, inl, inr}
-use Rattle.std.proofs.lemmas.Fn.{FoldsTo-push}
+use Rattle.std.proofs.Common.{◌≡◌, ℤ, pos, ◌+ℤ◌, ◌-ℤ◌, ◌≤ℤ◌, Bool, true, false, cond, List, [], ◌∷◌, ◌++◌, length, map, Option, Some, None, Ok, refl, ◌∙◌, sym, ap, subst, arith}
 use Rattle.std.proofs.lemmas.Int.{ints}
 use Rattle.std.specs.Cmp.{IsEquivalence}
 use Rattle.std.specs.Cmp.Lexicographic.{options_equiv}
@@ -10,7 +9,7 @@ use Rattle.std.specs.List.{FoldsTo, zip}
 use Rattle.std.specs.Option.{option_eq, option_or}
 use Rattle.std.specs.Prelude.{Result}
 use Rattle.blaze_entries.proofs.Alike.{same_along, same_back, same_itself, same_or_left, same_trans, or_assoc, or_none}
-use Rattle.blaze_table.specs.Canonical.{IsApart, IsCanonical, AreKeys, HasEnd}
+use Rattle.blaze_table.specs.Canonical.{IsCanonical, AreKeys, HasEnd}
 use Rattle.blaze_table.specs.Entries.{Entry, entry, at, SameEntries, SameOption}
 use Rattle.blaze_table.specs.Splice.{glue, IsBelow}
 use Rattle.blaze_table.proofs.Canonical.Counted.{are_keys_glue}
@@ -19,8 +18,8 @@ use Rattle.blaze_table.proofs.Paints.Splices.{at_glue, below_glue, below_more, c
 use Rattle.blaze_table.proofs.Sweeping.Sweeps.{at_past}
 use Rattle.blaze_streams.specs.Answers.{values, answered, AnswersAtValue, SomeCallAtValue}
 use Rattle.blaze_streams.proofs.FoundSegments.{option_same}
-use Rattle.range_map_blaze.specs.Edits.{with_edit, AreEndsOf, ArePiecesAsked, IsPieceAsked}
-use Rattle.range_map_blaze.specs.Updated.{answer_or, updated}
+use Rattle.range_map_blaze.specs.Edits.{AreEndsOf, ArePiecesAsked, IsPieceAsked}
+use Rattle.range_map_blaze.specs.Updated.{answer_or}
 
 -- a piece with its answer in place of what it has
 abbrev pub with_answer : {V : Type 0} → Entry (Option V) → Option V → Entry (Option V)

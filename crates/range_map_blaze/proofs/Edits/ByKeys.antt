@@ -1,7 +1,6 @@
 -- What a range changed by a function has key by key, where the function's answers are those of a plain function.
 use Rattle.std.specs.declared.alloc.AllocError.{AllocError}
-use Rattle.std.proofs.Common.{◌≡◌, ℤ, ◌≤ℤ◌, ◌<ℤ◌, Bool, true, false, ◌&&◌, cond, List, [], ◌∷◌, map, Option, Some, None, Result, refl, ◌∙◌, sym, ap, subst, arith}
-use Rattle.std.proofs.lemmas.Int.{ints, by_lt_z}
+use Rattle.std.proofs.Common.{◌≡◌, ℤ, ◌≤ℤ◌, ◌<ℤ◌, Bool, true, false, ◌&&◌, cond, List, [], ◌∷◌, map, Option, Some, None, Result, refl, ◌∙◌, sym, ap}
 use Rattle.std.specs.Cmp.{IsEquivalence}
 use Rattle.std.specs.Cmp.Lexicographic.{options_equiv}
 use Rattle.std.specs.Fn.{Mut}
@@ -10,7 +9,7 @@ use Rattle.std.specs.Prelude.{int_le}
 use Rattle.blaze_int.proofs.Comparisons.{le_true, le_false}
 use Rattle.blaze_entries.proofs.Alike.{same_along, same_back, same_itself, same_trans}
 use Rattle.blaze_table.specs.Canonical.{IsRangeMap}
-use Rattle.blaze_table.specs.Entries.{Entry, entry, at, SameContent, SameEntries, SameOption}
+use Rattle.blaze_table.specs.Entries.{Entry, entry, at, SameEntries, SameOption}
 use Rattle.blaze_table.proofs.Canonical.ListLaws.{canonical_is_unique}
 use Rattle.blaze_table.proofs.Canonical.Lookup.{at_in, at_over, at_under, by_place}
 use Rattle.blaze_table.proofs.Paints.Painted.{content_as}

@@ -9,22 +9,20 @@ use Rattle.std.specs.Cmp.Lexicographic.{options_equiv}
 use Rattle.std.specs.Fn.{Mut}
 use Rattle.std.specs.Int.{int_max, int_min}
 use Rattle.std.specs.Option.{option_eq, option_or}
-use Rattle.blaze_entries.proofs.Alike.{same_along, none_or}
-use Rattle.blaze_table.specs.Canonical.{IsCanonical, IsRangeMap, AreKeys, HasEnd}
+use Rattle.blaze_table.specs.Canonical.{IsRangeMap, HasEnd}
 use Rattle.blaze_table.specs.Chosen.{left_with_right}
 use Rattle.blaze_table.specs.Entries.{Entry, entry, at, SameOption}
 use Rattle.blaze_table.specs.Splice.{after}
 use Rattle.blaze_table.proofs.Canonical.Lookup.{above_low, at_in, by_place}
 use Rattle.blaze_table.proofs.Canonical.Runs.{canonical, one_per_run}
 use Rattle.blaze_table.proofs.Paints.Splices.{canonical_after, canonical_before, above_after}
-use Rattle.blaze_streams.specs.Answers.{values, IsCallableAtEachValue, TakesValue}
+use Rattle.blaze_streams.specs.Answers.{values, TakesValue}
 use Rattle.blaze_streams.specs.Fills.{none_before, filled_entries, IsFilledWithNone}
 use Rattle.blaze_streams.specs.Gaps.{gap_before}
 use Rattle.blaze_int.proofs.Comparisons.{lt_true}
 use Rattle.blaze_streams.proofs.Filled.{fill_made}
 use Rattle.blaze_streams.proofs.GapLists.{no_gap}
 use Rattle.range_map_blaze.specs.Edits.{AreEdits, AreEndsOf, AreEntriesAsked, ArePiecesAsked, IsPieceAsked}
-use Rattle.range_map_blaze.specs.OneRange.{one_range}
 use Rattle.range_map_blaze.specs.Updated.{answer_or, updated, IsCallableAtPieces}
 use Rattle.range_map_blaze.specs.Within.{within}
 use Rattle.range_map_blaze.proofs.GapsWithin.{keys_between}

@@ -1,6 +1,5 @@
-use Rattle.std.proofs.Common.{sym, ap}
+use Rattle.std.proofs.Common.{ap}
 use Rattle.blaze_streams.specs.Carried.{shown_option}
-use Rattle.blaze_streams.specs.Fills.{none_before}
 use Rattle.blaze_streams.specs.Gaps.{rank_or_end}
 use Rattle.blaze_table.specs.Entries.{shown_list}
 use Rattle.range_map_blaze.proofs.Edits.Pieces.{all_asked, edits_made, takes_last}

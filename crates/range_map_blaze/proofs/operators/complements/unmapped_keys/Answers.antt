@@ -1,4 +1,4 @@
-use Rattle.std.proofs.Common.{◌≡◌, sym, subst}
+use Rattle.std.proofs.Common.{sym, subst}
 use Rattle.std.proofs.lemmas.Result.{IfOk-weaker}
 use Rattle.blaze_table.specs.Complement.{IsComplement}
 use Rattle.blaze_table.specs.RangeSets.{unit_eq}

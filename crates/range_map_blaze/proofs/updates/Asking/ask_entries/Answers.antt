@@ -1,12 +1,8 @@
-use Rattle.std.proofs.Common.{◌≤ℤ◌, ◌<ℤ◌, ◌∷◌, ◌∙◌, refl, ap, sym, subst, arith}
+use Rattle.std.proofs.Common.{◌≤ℤ◌, ◌<ℤ◌, ◌∙◌, ap, sym, subst, arith}
 use Rattle.std.proofs.lemmas.Int.{ints}
-use Rattle.std.specs.Int.{int_min}
 use Rattle.blaze_streams.specs.Carried.{shown_option}
 use Rattle.blaze_streams.specs.Fills.{filled_entries}
-use Rattle.blaze_streams.specs.Gaps.{rank_or_end}
 use Rattle.blaze_streams.proofs.GapLists.{rank_of_next}
-use Rattle.blaze_table.specs.Counted.{CountedEntries}
-use Rattle.blaze_table.specs.Ending.{ending_from}
 use Rattle.blaze_table.specs.Entries.{entry, shown_entry, shown_list}
 use Rattle.blaze_table.proofs.Canonical.Runs.{canonical}
 use Rattle.range_map_blaze.specs.Within.{within}
