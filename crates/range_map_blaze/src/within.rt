@@ -20,7 +20,7 @@ use std::marker::Model;
 use std::ops::{RangeBounds, RangeInclusive};
 
 /// The entries of a map cut to a range of keys, ascending, from both ends: each range with a reference to its value. No call of
-/// the iterator takes memory.
+/// the iterator allocates memory.
 #[derive(Drop)]
 pub struct Within<'a, T: Integer, V: Eq> {
     // The first and the last key of the range.
