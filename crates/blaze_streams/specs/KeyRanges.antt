@@ -1,5 +1,5 @@
 -- A map's keys as ranges.
-use Rattle.std.specs.Prelude.{◌≡◌, ℤ, pos, ◌+ℤ◌, if◌then◌else◌, List, [], ◌∷◌, Option, Some, None, is_some, MatchOption}
+use Rattle.std.specs.Prelude.{◌≡◌, ℤ, pos, ◌+ℤ◌, if◌then◌else◌, List, [], ◌∷◌, ◌++◌, map, Option, Some, None, is_some, MatchOption}
 use Rattle.std.specs.Ordering.{int_eq}
 use Rattle.blaze_table.specs.Entries.{Entry, entry, at}
 use Rattle.blaze_table.specs.RangeSets.{IsRangeSet}
@@ -13,6 +13,10 @@ pub record AreKeyRanges {V : Type 0} (low high : ℤ) (entries : List (Entry V))
 abbrev pub TakesEnds : {T V : Type 0} → (T → ℤ) → Option (T × T) → List (Entry V) → List (Entry V) → Type 0
 TakesEnds {V = V} rank ends old new = MatchOption ends ((old ≡ []) × (new ≡ [])) (λ p. (v : V) × (old ≡ entry (rank p.0) (rank p.1) v ∷ new))
 
+-- the last of the entries is taken out, by its first and last key, or there is none
+abbrev pub TakesLastEnds : {T V : Type 0} → (T → ℤ) → Option (T × T) → List (Entry V) → List (Entry V) → Type 0
+TakesLastEnds {V = V} rank ends old new = MatchOption ends ((old ≡ []) × (new ≡ [])) (λ p. (v : V) × (old ≡ new ++ entry (rank p.0) (rank p.1) v ∷ []))
+
 -- ---- by structure
 
 -- the range from lo up to hi and the entries after it, joined where they touch
@@ -24,3 +28,16 @@ joined_ranges lo hi (e ∷ es) = if int_eq e.lo (hi +ℤ pos 1) then joined_rang
 abbrev pub joined_left : {T V : Type 0} → (T → ℤ) → Option (T × T) → List (Entry V) → List (Entry (Unit {0}))
 joined_left rank None entries = []
 joined_left rank (Some p) entries = joined_ranges (rank p.0) (rank p.1) entries
+
+-- the entries' ranges alone
+abbrev pub bare_entries : {V : Type 0} → List (Entry V) → List (Entry (Unit {0}))
+bare_entries es = map (λ e. entry e.lo e.hi tt) es
+
+-- a range by its first and last key, or none, as a list
+abbrev pub held_range : {T : Type 0} → (T → ℤ) → Option (T × T) → List (Entry (Unit {0}))
+held_range rank None = []
+held_range rank (Some p) = entry (rank p.0) (rank p.1) tt ∷ []
+
+-- the entries' ranges and then a range that is held
+abbrev pub ranges_then : {T V : Type 0} → (T → ℤ) → List (Entry V) → Option (T × T) → List (Entry (Unit {0}))
+ranges_then rank entries back = bare_entries entries ++ held_range rank back

@@ -112,8 +112,8 @@ impl<T: Integer, V: Eq + Clone> IntoIterator for RangeMapBlaze<T, V> {
 }
 
 impl<T: Integer, V: Eq> RangeMapBlaze<T, V> {
-    /// The ranges of the keys that have a value, ascending. Touching ranges are one, whatever their values. No memory is taken.
-    /// It takes one step, and one for each entry.
+    /// Returns the ranges of the keys that have a value, ascending, from both ends. Touching ranges are one range, whatever their
+    /// values. No memory is allocated. The call takes O(1) steps, and going through all ranges takes O(n) steps with n entries.
     pub fn ranges(&self) -> MapRangesIter<'_, T, V>
         ensures { AreKeyRanges T.low T.high self.now.entries result }
     {
@@ -122,8 +122,9 @@ impl<T: Integer, V: Eq> RangeMapBlaze<T, V> {
 }
 
 impl<T: Integer, V: Eq + Drop> RangeMapBlaze<T, V> {
-    /// The ranges of the keys that have a value, ascending, by value. Touching ranges are one, whatever their values. No memory
-    /// is taken. It takes one step, and one for each entry.
+    /// Returns the ranges of the keys that have a value, ascending, from both ends, and consumes the map. Touching ranges are one
+    /// range, whatever their values. No memory is allocated. The call takes O(1) steps, and going through all ranges takes O(n)
+    /// steps with n entries.
     pub fn into_ranges(self) -> MapIntoRangesIter<T, V>
         ensures { AreKeyRanges T.low T.high self.entries result }
     {

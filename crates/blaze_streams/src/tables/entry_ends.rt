@@ -1,12 +1,12 @@
 //! Entries that are gone through for their first and last keys.
 ghost use Rattle.std.specs.Prelude.{List};
 ghost use Rattle.blaze_table.specs.Entries.{Entry};
-ghost use Rattle.blaze_streams.specs.KeyRanges.{TakesEnds};
+ghost use Rattle.blaze_streams.specs.KeyRanges.{TakesEnds, TakesLastEnds};
 
 use blaze_int::Integer;
 use blaze_table::{IntoIter, Iter};
 
-/// Entries that are gone through from their start, whatever their values.
+/// Entries that are gone through from both ends, whatever their values.
 pub trait EntryEnds<T: Integer>: Drop {
     /// The type of the entries' values.
     type Value: Eq;
@@ -17,6 +17,10 @@ pub trait EntryEnds<T: Integer>: Drop {
     /// Takes the first entry out, and returns its first and last key.
     fn next_ends(&mut self) -> Option<(T, T)>
         ensures { TakesEnds T.rank result (left self.old) (left self.new) };
+
+    /// Takes the last entry out, and returns its first and last key.
+    fn next_ends_back(&mut self) -> Option<(T, T)>
+        ensures { TakesLastEnds T.rank result (left self.old) (left self.new) };
 }
 
 impl<'a, T: Integer, V: Eq> EntryEnds<T> for Iter<'a, T, V> {
@@ -28,6 +32,11 @@ impl<'a, T: Integer, V: Eq> EntryEnds<T> for Iter<'a, T, V> {
         let (start, end, _) = self.next()?;
         Some((start, end))
     }
+
+    fn next_ends_back(&mut self) -> Option<(T, T)> {
+        let (start, end, _) = self.next_back()?;
+        Some((start, end))
+    }
 }
 
 impl<T: Integer, V: Eq + Drop> EntryEnds<T> for IntoIter<T, V> {
@@ -37,6 +46,11 @@ impl<T: Integer, V: Eq + Drop> EntryEnds<T> for IntoIter<T, V> {
 
     fn next_ends(&mut self) -> Option<(T, T)> {
         let (start, end, _) = self.next()?;
+        Some((start, end))
+    }
+
+    fn next_ends_back(&mut self) -> Option<(T, T)> {
+        let (start, end, _) = self.next_back()?;
         Some((start, end))
     }
 }

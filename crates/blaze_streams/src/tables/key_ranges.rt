@@ -2,10 +2,10 @@
 ghost use Rattle.std.specs.Prelude.{◌≡◌, refl, length, min, None, IfSome};
 ghost use Rattle.std.specs.Iterator.{item_count, UpTo};
 ghost use Rattle.std.specs.Iterator.SizeHint.{IsWithinCount};
-ghost use Rattle.blaze_streams.specs.KeyRanges.{AreKeyRanges};
+ghost use Rattle.blaze_streams.specs.KeyRanges.{AreKeyRanges, TakesEnds, TakesLastEnds, ranges_then};
 ghost use Rattle.blaze_table.specs.Canonical.{IsRangeMap};
 ghost use Rattle.blaze_table.specs.RangeSets.{shown_bare_range};
-ghost use Rattle.blaze_table.specs.Whole.{YieldsWholeFirst};
+ghost use Rattle.blaze_table.specs.Whole.{YieldsWholeFirst, YieldsWholeLast};
 
 use crate::sorted_disjoint::SortedDisjoint;
 use crate::tables::entry_ends::EntryEnds;
@@ -16,12 +16,14 @@ use std::iter::FusedIterator;
 use std::marker::Model;
 use std::ops::RangeInclusive;
 
-/// The ranges of the keys that entries have, ascending. Touching ranges are one, whatever their values.
+/// The ranges of the keys that entries have, ascending, from both ends. Touching ranges are one, whatever their values.
 #[derive(Drop)]
 pub struct KeyRanges<T: Integer, I: EntryEnds<T>> {
-    // The first range of what is left, which the entries may go on with.
+    // The first range of what is left, which the entries may go on with. None where nothing is left.
     open: Option<(T, T)>,
     entries: I,
+    // The range of the last entry of what is left, if it was taken out of the entries. They may end right below it.
+    back: Option<(T, T)>,
 }
 
 /// The ranges of the keys of a table that is lent.
@@ -34,17 +36,17 @@ impl<T: Integer, I: EntryEnds<T>> Model for KeyRanges<T, I> {
     ghost use Rattle.std.specs.Prelude.{List};
     ghost use Rattle.std.specs.Coded.{coded_list};
     ghost use Rattle.blaze_table.specs.Entries.{Entry};
-    ghost use Rattle.blaze_streams.specs.KeyRanges.{joined_left};
+    ghost use Rattle.blaze_streams.specs.KeyRanges.{joined_left, ranges_then};
     ghost use Rattle.blaze_table.specs.RangeSets.{bare_code, IsRangeSet};
 
     ghost Value = { List (Entry (Unit {0})) };
 
     ghost coded = { coded_list bare_code };
 
-    ghost view = { λ s. joined_left T.rank s.open (I.left s.entries) };
+    ghost view = { λ s. joined_left T.rank s.open (ranges_then T.rank (I.left s.entries) s.back) };
 
     ghost invariant = { λ s. IsRangeSet T.low T.high
-        (joined_left T.rank s.open (I.left s.entries)) };
+        (joined_left T.rank s.open (ranges_then T.rank (I.left s.entries) s.back)) };
 }
 
 impl<T: Integer, I: EntryEnds<T>> KeyRanges<T, I> {
@@ -55,7 +57,41 @@ impl<T: Integer, I: EntryEnds<T>> KeyRanges<T, I> {
     {
         let mut entries = entries;
         let open = entries.next_ends();
-        KeyRanges { open, entries }
+        KeyRanges {
+            open,
+            entries,
+            back: None,
+        }
+    }
+}
+
+// Takes the first of some entries, and of a range behind them, out, and returns its first and last key.
+fn first_ends<T: Integer, I: EntryEnds<T>>(
+    entries: &mut I,
+    back: &mut Option<(T, T)>,
+) -> Option<(T, T)>
+    ensures { TakesEnds T.rank result (ranges_then T.rank (I.left entries.old) back.old)
+        (ranges_then T.rank (I.left entries.new) back.new) }
+{
+    match entries.next_ends() {
+        Some(ends) => Some(ends),
+        None => back.take(),
+    }
+}
+
+// Takes the last of some entries, and of a range behind them, out, and returns its first and last key. No range is behind them
+// then.
+fn last_ends<T: Integer, I: EntryEnds<T>>(
+    entries: &mut I,
+    back: &mut Option<(T, T)>,
+) -> Option<(T, T)>
+    ensures taken { TakesLastEnds T.rank result (ranges_then T.rank (I.left entries.old) back.old)
+        (ranges_then T.rank (I.left entries.new) back.new) }
+    ensures none { back.new ≡ None }
+{
+    match back.take() {
+        Some(ends) => Some(ends),
+        None => entries.next_ends_back(),
     }
 }
 
@@ -102,7 +138,7 @@ impl<T: Integer, I: EntryEnds<T>> Iterator for KeyRanges<T, I> {
 
     fn next(&mut self) -> Option<RangeInclusive<T>> {
         let (start, mut end) = self.open.take()?;
-        while let Some((next_start, next_end)) = self.entries.next_ends() {
+        while let Some((next_start, next_end)) = first_ends(&mut self.entries, &mut self.back) {
             if !is_next(end, next_start) {
                 self.open = Some((next_start, next_end));
                 return Some(start..=end);
@@ -122,6 +158,30 @@ impl<T: Integer, I: EntryEnds<T>> Iterator for KeyRanges<T, I> {
             Some(_) => (1, None),
             None => (0, None),
         }
+    }
+}
+
+impl<T: Integer, I: EntryEnds<T>> DoubleEndedIterator for KeyRanges<T, I> {
+    ghost next_back_gives = { YieldsWholeLast (λ r. r) (shown_bare_range T.rank) (λ s. s) };
+
+    fn next_back(&mut self) -> Option<RangeInclusive<T>> {
+        let (first, first_end) = self.open?;
+        let Some((mut start, end)) = last_ends(&mut self.entries, &mut self.back) else {
+            self.open = None;
+            return Some(first..=first_end);
+        };
+        while let Some(previous) = self.entries.next_ends_back() {
+            if !is_next(previous.1, start) {
+                self.back = Some(previous);
+                return Some(start..=end);
+            }
+            start = previous.0;
+        }
+        if is_next(first_end, start) {
+            self.open = None;
+            return Some(first..=end);
+        }
+        Some(start..=end)
     }
 }
 

@@ -1,12 +1,14 @@
 use Rattle.std.proofs.Common.{◌≡◌, None, length}
-use Rattle.blaze_streams.specs.KeyRanges.{joined_ranges}
+use Rattle.blaze_streams.specs.KeyRanges.{joined_ranges, ranges_then}
 use Rattle.blaze_streams.proofs.tables.key_ranges.KeyRangesIterator.next.Given as goal
 
 abbrev pub invariant-loop-next_start : goal.invariant-loop-next_start
-invariant-loop-next_start g l = record {
-  none : l.self-inside.open ≡ None;
-  left : joined_ranges (g.T.Integer.rank l.start) (g.T.Integer.rank l.end) (g.I.EntryEnds.left l.self-inside.entries) ≡ l.fn.self;
-}
+invariant-loop-next_start g l =
+    let rank = g.T.Integer.rank in
+    record {
+      none : l.self-inside.open ≡ None;
+      left : joined_ranges (rank l.start) (rank l.end) (ranges_then rank (g.I.EntryEnds.left l.self-inside.entries) l.self-inside.back) ≡ l.fn.self;
+    }
 
 abbrev pub decreases-loop-next_start : goal.decreases-loop-next_start
-decreases-loop-next_start g l = length (g.I.EntryEnds.left l.self-inside.entries)
+decreases-loop-next_start g l = length (ranges_then g.T.Integer.rank (g.I.EntryEnds.left l.self-inside.entries) l.self-inside.back)
