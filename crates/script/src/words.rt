@@ -56,3 +56,15 @@ fn end_bound<T: ScriptKey>(word: &str) -> Result<Bound<T>, Fault> {
         None => Ok(Bound::Excluded(key(word.strip_prefix('<').unwrap_or(word))?)),
     }
 }
+
+/// The call that fails, from 1, which the last word of a line writes, or none where there is no word.
+pub fn nth_call(words: &[&str]) -> Result<Option<u64>, Fault> {
+    match words {
+        [] => Ok(None),
+        [word] if !word.starts_with('+') => match word.parse::<u64>() {
+            Ok(0) | Err(_) => Err(Fault::Bad),
+            Ok(nth) => Ok(Some(nth)),
+        },
+        _ => Err(Fault::Bad),
+    }
+}

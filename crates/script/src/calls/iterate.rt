@@ -41,6 +41,7 @@ enum Kind<T: ScriptKey> {
     Taking(Over),
     Range((Bound<T>, Bound<T>)),
     Overlapping((Bound<T>, Bound<T>)),
+    Within((Bound<T>, Bound<T>)),
     Gaps((Bound<T>, Bound<T>)),
 }
 
@@ -63,6 +64,7 @@ impl<T: ScriptKey> Kind<T> {
             },
             ["range", range] => Ok(Kind::Range(bounds(range)?)),
             ["overlapping", range] => Ok(Kind::Overlapping(bounds(range)?)),
+            ["within", range] => Ok(Kind::Within(bounds(range)?)),
             ["gaps", range] => Ok(Kind::Gaps(bounds(range)?)),
             _ => Err(Fault::Bad),
         }
@@ -156,6 +158,7 @@ impl<T: ScriptKey> Iterate<T> {
             Kind::Taking(over) => Ok(over.walk_taking(state.take_map(name), steps, reply)?),
             Kind::Range(range) => walk_range(state.map(name), range, steps, reply),
             Kind::Overlapping(range) => Ok(walk(state.map(name).overlapping(range), steps, reply)?),
+            Kind::Within(range) => Ok(walk(state.map(name).within(range), steps, reply)?),
             Kind::Gaps(range) => Ok(walk_forward(state.map(name).gaps(range), steps.len(), reply)?),
         }
     }

@@ -5,7 +5,7 @@ use crate::state::{Map, MapName, State};
 use std::alloc::{AllocError, Global};
 
 /// Two words joined with `+`. An absent one is `-`.
-fn joined(
+pub fn joined(
     alloc: Global,
     left: Option<&String>,
     right: Option<&String>,
@@ -18,7 +18,7 @@ fn joined(
 }
 
 /// The first character of a word.
-fn first_character(alloc: Global, word: &String) -> Result<String, AllocError> {
+pub fn first_character(alloc: Global, word: &String) -> Result<String, AllocError> {
     let mut first = String::new(alloc);
     if let Some(character) = word.chars().next() {
         first.push(character)?;

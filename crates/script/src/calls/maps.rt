@@ -5,8 +5,10 @@ use crate::calls::extends::Extend;
 use crate::calls::iterate::Iterate;
 use crate::calls::look_ups::LookUp;
 use crate::calls::other_maps::OtherMap;
+use crate::calls::relations::Relation;
 use crate::calls::runs::Run;
 use crate::calls::unless_bad;
+use crate::calls::updates::Update;
 use crate::fault::Fault;
 use crate::keys::ScriptKey;
 use crate::state::{MapName, State};
@@ -19,6 +21,8 @@ pub enum OfMap<T: ScriptKey> {
     Extend(Extend<T>),
     OtherMap(OtherMap),
     Compare(Comparison),
+    Relate(Relation<T>),
+    Update(Update<T>),
     Run(Run<T>),
     Iterate(Iterate<T>),
 }
@@ -35,6 +39,9 @@ impl<T: ScriptKey> OfMap<T> {
         if let Ok(comparison) = Comparison::read(words) {
             return Ok(OfMap::Compare(comparison));
         }
+        if let Ok(relation) = Relation::read(words) {
+            return Ok(OfMap::Relate(relation));
+        }
         Self::read_owning(state, map, words)
     }
 
@@ -42,6 +49,9 @@ impl<T: ScriptKey> OfMap<T> {
     fn read_owning(state: &State<T>, map: MapName, words: &[&str]) -> Result<Self, Fault> {
         if let Some(change) = unless_bad(Change::read(state.alloc, words))? {
             return Ok(OfMap::Change(change));
+        }
+        if let Some(update) = unless_bad(Update::read(state.alloc, words))? {
+            return Ok(OfMap::Update(update));
         }
         if let Some(extend) = unless_bad(Extend::read(state.alloc, words))? {
             return Ok(OfMap::Extend(extend));
@@ -60,6 +70,8 @@ impl<T: ScriptKey> OfMap<T> {
             OfMap::Extend(extend) => Ok(extend.make(state.map_mut(map), reply)?),
             OfMap::OtherMap(other) => Ok(other.make(map, state, reply)?),
             OfMap::Compare(comparison) => Ok(comparison.make(state.map(map), state, reply)?),
+            OfMap::Relate(relation) => Ok(relation.make(state.map(map), state, reply)?),
+            OfMap::Update(update) => Ok(update.make(state.map_mut(map), reply)?),
             OfMap::Run(run) => run.make(state.alloc, state.map_mut(map), reply),
             OfMap::Iterate(iterate) => iterate.make(map, state, reply),
         }

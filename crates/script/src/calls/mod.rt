@@ -21,8 +21,11 @@ pub mod maps;
 pub mod new_maps;
 pub mod operators;
 pub mod other_maps;
+pub mod relations;
 pub mod runs;
 pub mod sets;
+pub mod try_joins;
+pub mod updates;
 
 /// What was read, or `None` where it was bad.
 fn unless_bad<X>(read: Result<X, Fault>) -> Result<Option<X>, Fault> {

@@ -4,6 +4,7 @@ use crate::calls::joins::Join;
 use crate::calls::makes::Make;
 use crate::calls::many::Many;
 use crate::calls::operators::Operation;
+use crate::calls::try_joins::TryJoin;
 use crate::calls::unless_bad;
 use crate::fault::Fault;
 use crate::keys::ScriptKey;
@@ -15,6 +16,7 @@ use std::alloc::Global;
 pub enum NewMap<T: ScriptKey> {
     Operate(Operation),
     Join(Join),
+    TryJoin(TryJoin),
     Many(Many),
     FromPairs(FromPairs<T>),
     Make(Make<T>),
@@ -28,6 +30,9 @@ impl<T: ScriptKey> NewMap<T> {
         }
         if let Ok(join) = Join::read(words) {
             return Ok(NewMap::Join(join));
+        }
+        if let Ok(join) = TryJoin::read(words) {
+            return Ok(NewMap::TryJoin(join));
         }
         if let Some(many) = unless_bad(Many::read(alloc, words))? {
             return Ok(NewMap::Many(many));
@@ -43,6 +48,7 @@ impl<T: ScriptKey> NewMap<T> {
         match self {
             NewMap::Operate(operation) => Ok(operation.make(state)?),
             NewMap::Join(join) => Ok(join.make(state)?),
+            NewMap::TryJoin(join) => Ok(join.make(state)?),
             NewMap::Many(many) => many.make(state),
             NewMap::FromPairs(pairs) => pairs.make(state.alloc),
             NewMap::Make(make) => Ok(make.make(state)?),
