@@ -69,14 +69,6 @@ impl<T: ScriptKey> Kind<T> {
             _ => Err(Fault::Bad),
         }
     }
-
-    /// Whether the iterator goes forward alone.
-    fn is_forward(&self) -> bool {
-        matches!(
-            self,
-            Kind::Lent(Over::Ranges) | Kind::Taking(Over::Ranges) | Kind::Gaps(_)
-        )
-    }
 }
 
 impl Over {
@@ -103,7 +95,7 @@ impl Over {
             Over::Keys => walk(map.keys(), steps, reply),
             Over::Values => walk_values(map, map.values(), steps, reply),
             Over::RangeValues => walk(map.range_values(), steps, reply),
-            Over::Ranges => walk_forward(map.ranges(), steps.len(), reply),
+            Over::Ranges => walk(map.ranges(), steps, reply),
         }
     }
 
@@ -119,7 +111,7 @@ impl Over {
             Over::Keys => walk(map.into_keys(), steps, reply),
             Over::Values => walk_owned(map.into_values(), steps, reply),
             Over::RangeValues => walk(map.into_range_values()?, steps, reply),
-            Over::Ranges => walk_forward(map.into_ranges(), steps.len(), reply),
+            Over::Ranges => walk(map.into_ranges(), steps, reply),
         }
     }
 }
@@ -139,9 +131,6 @@ impl<T: ScriptKey> Iterate<T> {
         };
         let kind = Kind::read(call)?;
         let steps = steps(alloc, calls)?;
-        if kind.is_forward() && steps.iter().any(|step| *step != Step::Next) {
-            return Err(Fault::Bad);
-        }
         Ok(Iterate { kind, steps })
     }
 
@@ -159,7 +148,7 @@ impl<T: ScriptKey> Iterate<T> {
             Kind::Range(range) => walk_range(state.map(name), range, steps, reply),
             Kind::Overlapping(range) => Ok(walk(state.map(name).overlapping(range), steps, reply)?),
             Kind::Within(range) => Ok(walk(state.map(name).within(range), steps, reply)?),
-            Kind::Gaps(range) => Ok(walk_forward(state.map(name).gaps(range), steps.len(), reply)?),
+            Kind::Gaps(range) => Ok(walk(state.map(name).gaps(range), steps, reply)?),
         }
     }
 }
@@ -246,22 +235,4 @@ fn print_item<X: Debug + Drop>(
         Some(Err(_)) => reply.push_str("Some(refused)"),
         None => reply.push_str("None"),
     }
-}
-
-/// Makes so many calls of an iterator that goes forward alone.
-fn walk_forward<X: Debug + Drop, I: Iterator<Item = X> + Drop>(
-    iter: I,
-    count: usize,
-    reply: &mut String,
-) -> Result<(), AllocError>
-    requires { (s : I) → I.can_next s }
-{
-    let mut iter = iter;
-    let mut lead = "";
-    for _ in 0..count {
-        reply.push_str(lead)?;
-        write!(reply, "{:?}", iter.next())?;
-        lead = "; ";
-    }
-    Ok(())
 }
