@@ -14,6 +14,7 @@ mod sets;
 mod streams;
 mod stubborn;
 mod tables;
+mod updates;
 
 use std::alloc::AllocError;
 use std::process::ExitCode;
@@ -26,6 +27,7 @@ fn run(rt: &HostRuntime) -> Result<(), AllocError> {
     joins::all(rt)?;
     many::all(rt)?;
     maps::all(rt)?;
+    updates::all(rt)?;
     coarse::all(rt)?;
     refused::all(rt)?;
     moved::all(rt)?;

@@ -47,6 +47,15 @@ fn filled(rt: &HostRuntime, end: i64) -> Result<(), AllocError> {
     Ok(())
 }
 
+/// Changes keys of the one range of a deaf value: a rest on either side needs a clone, one rest is moved, and an equal result takes
+/// no edit.
+fn updated(rt: &HostRuntime, start: i64, end: i64, number: u32) -> Result<(), AllocError> {
+    let mut map = one(rt.alloc(), 0, 9, deaf(7))?;
+    let answer = map.ranges_update(start..=end, |_| Ok(Some(heard(number))));
+    show(rt, "ranges_update", answer, &map);
+    Ok(())
+}
+
 /// A key taken out of an entry whose value is cloned for it, and a split that clones none.
 fn cut(rt: &HostRuntime, mut map: Map) {
     let answer = map.pop_first();
@@ -69,6 +78,9 @@ pub fn all(rt: &HostRuntime) -> Result<(), AllocError> {
     }
     for end in [9, 6, 3] {
         filled(rt, end)?;
+    }
+    for (end, number) in [(5, 8), (9, 8), (5, 7)] {
+        updated(rt, 4, end, number)?;
     }
     cut(rt, one(rt.alloc(), 1, 9, deaf(7))?);
     pairs(rt, one(rt.alloc(), 1, 1, deaf(7))?);
