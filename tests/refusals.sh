@@ -1,7 +1,7 @@
 #!/usr/bin/env bash
 # Each request for memory of each call in tests/refusals.txt refused in turn, and at last none. A refused call must leave the
 # maps and sets as they were, but for what it was given by value, which is gone; a call that paints or fills pairs may leave a
-# first part of them painted or filled; a list of steps leaves what the steps before the refused one left; an iterator by value
+# first part of them painted or filled; a change of a range by a closure may leave a first part of its pieces changed; a list of steps leaves what the steps before the refused one left; an iterator by value
 # must end. Without a refusal the call must succeed. A call that is to take memory must make a request that it can't do without,
 # one that is to take none must make none.
 #
@@ -86,6 +86,20 @@ refused_items() { # the answer without a refusal
     done
 }
 
+# The lines that change a first part of the pieces of a range, as the call does: up to each end of an entry or a gap within it. The
+# range is LO..=HI, and the entries are 0..=5, 10..=15 and so on.
+first_pieces() {
+    local words lo hi place end
+    read -ra words <<<"$call"
+    lo="${words[2]%..=*}" hi="${words[2]#*..=}"
+    pieces=()
+    for ((place = 0; place < entries_count; place++)); do
+        for end in $((10 * place - 1)) $((10 * place + 5)); do
+            if ((lo <= end && end < hi)); then pieces+=("${words[*]:0:2} $lo..=$end ${words[*]:3}"); fi
+        done
+    done
+}
+
 is_among() { # what, of what
     local what="$1" each
     shift
@@ -97,7 +111,7 @@ is_among() { # what, of what
 
 # One call, on maps of one size.
 sweep() {
-    local what="$call on $entries_count${with:+ with $with}" requests nth got kept done_answer done_left spared=0
+    local piece what="$call on $entries_count${with:+ with $with}" requests nth got kept done_answer done_left spared=0
     REFUSE_TELL=1 LD_PRELOAD="$work/refuse.so" run mark "$((${#before[@]} + 1))" -- "$call"
     requests="$(sed -n 's/^requests=//p' "$work/told")"
     got=done
@@ -121,6 +135,15 @@ sweep() {
             for ((count = 0; count <= pairs; count++)); do
                 first_pairs "$count"
                 run -- "${instead[@]}"
+                kept+=("$left")
+            done
+            ;;
+        pieces)
+            first_pieces
+            run --
+            kept=("$left")
+            for piece in "${pieces[@]}"; do
+                run -- "$piece"
                 kept+=("$left")
             done
             ;;
