@@ -1,6 +1,7 @@
 #!/usr/bin/env bash
-# Each line of code of docs/TASKS.md compiles alone, with what the page says is in scope: a program with a function for each line
-# is made in a copy of the sources, and `rt try` builds and runs it without a proof. The last line is 'N passed, M failed'.
+# Each line of code of docs/TASKS.md compiles alone, with what the page says is in scope, and gives what its comment says: a program
+# with a function for each line is made in a copy of the sources, and `rt try` builds and runs it without a proof. Of a line that
+# changes a map the comment has the map afterwards, of a loop what it goes through. The last line is 'N passed, M failed'.
 set -euo pipefail
 cd "$(dirname "${BASH_SOURCE[0]}")/.."
 source tests/judge.sh
@@ -9,36 +10,81 @@ program="$work/crates/task_lines"
 mkdir -p "$program/src"
 echo "task_lines: range_map_blaze range_map_multi" >>"$work/crates.txt"
 
-# The lines, and those of them that change the map.
+# The lines with their comments.
 lines() { sed -n '/^| [^|]/{s/\\|/\x01/g; s/^|[^|]*|[^|]*|//p}' docs/TASKS.md | grep -o '`[^`]*`' | tr -d '`' | tr '\001' '|'; }
-changing='map\.(ranges_insert|ranges_insert_absent|insert|extend_ranges|bitor_assign_ref|ranges_remove|remove|pop_last|ranges_retain|split_off)\('
 
+# Prints the values of names, in debug form.
+show() { # names
+    local text=''
+    for name in "$@"; do text+="${text:+, }{$name:?}"; done
+    if [ "$#" -gt 1 ]; then text="($text)"; fi
+    echo "    let _ = print!(rt; \"$text\");"
+}
+
+# The function of a line: `code` is the line without its comment. One more function makes the values that the page lists, and passes
+# them.
+task() {
+    local names pattern lent='' lent_numbers=''
+    if [[ "$code" =~ $changing ]]; then lent='mut '; fi
+    if [[ "$code" = *'ours.ranges_update('* ]]; then lent_numbers='mut '; fi
+    echo "#[allow(unused_variables)]"
+    echo "fn task_$number(rt: &HostRuntime, map: &${lent}Map, other: &Map, capitals: Map, above: Map, shifted: &mut Map, ours: &${lent_numbers}Numbers, theirs: &Numbers, keys: RangeSetBlaze<i32>, range: RangeInclusive<i32>, count: &mut u64, alloc: Global) -> Result<(), AllocError> {"
+    case "$code" in
+        'let _ = '* | 'map.'*';') echo "    $code" && show map ;;
+        'ours.'*';') echo "    $code" && show ours ;;
+        'for '*'}') echo "    $code" && show shifted ;;
+        'let '*)
+            pattern="${code#let }" pattern="${pattern%% = *}" pattern="${pattern%%: *}"
+            read -ra names <<<"${pattern//[(),]/ }"
+            echo "    $code"
+            show "${names[@]}"
+            ;;
+        'for '*)
+            pattern="${code#for }" pattern="${pattern%% in *}"
+            read -ra names <<<"${pattern//[(),]/ }"
+            echo "    $code"
+            show "${names[@]}"
+            echo '    let _ = print!(rt; "; "); }'
+            ;;
+        '*count '*) echo "    $code" && show count ;;
+        *) echo "    let result = $code;" && show result ;;
+    esac
+    printf '    Ok(())\n}\n'
+    echo "#[allow(unused_mut)]"
+    echo "fn with_values_$number(rt: &HostRuntime) -> Result<(), AllocError> {"
+    echo "    let alloc = rt.alloc();"
+    sed -n '/^```rust values$/,/^```$/{/^```/d; s/^/    /p}' docs/TASKS.md
+    echo "    task_$number(rt, &${lent}map, &other, capitals, above, &mut shifted, &${lent_numbers}ours, &theirs, keys, range, &mut count, alloc)"
+    echo '}'
+}
+
+changing='map\.(ranges_insert|ranges_insert_absent|insert|extend_ranges|bitor_assign_ref|ranges_update|ranges_remove|remove|pop_last|ranges_retain|split_off|ranges_take)\('
 number=0
+wanted=()
 {
     sed -n '/^```rust$/,/^```$/{/^```/d; p}' docs/TASKS.md
     echo 'use std::process::ExitCode;'
-    echo 'type Map = RangeMapBlaze<i32, char>;'
-    echo 'type Numbers = RangeMapBlaze<i32, u32>;'
     while IFS= read -r line; do
         number=$((number + 1))
-        lent='&Map'
-        if [[ "$line" =~ $changing ]]; then lent='&mut Map'; fi
-        case "$line" in
-            *'{') line="$line }" ;;
-            *';') ;;
-            *) line="let _ = $line;" ;;
-        esac
-        echo "#[allow(unused_variables)]"
-        echo "fn task_$number(map: $lent, other: &Map, capitals: Map, above: Map, ours: &Numbers, theirs: &Numbers, keys: RangeSetBlaze<i32>, range: RangeInclusive<i32>, count: &mut u64, alloc: Global) -> Result<(), AllocError> {"
-        echo "    $line"
-        echo '    Ok(())'
-        echo '}'
+        code="${line%% // *}"
+        wanted+=("${line#"$code"}")
+        task
     done < <(lines)
-    echo 'fn main(_rt: HostRuntime) -> ExitCode { ExitCode::SUCCESS }'
+    echo 'fn all(rt: &HostRuntime) -> Result<(), AllocError> {'
+    for ((each = 1; each <= number; each++)); do
+        echo "    with_values_$each(rt)?;"
+        echo '    let _ = println!(rt; "");'
+    done
+    echo '    Ok(())'
+    echo '}'
+    echo 'fn main(rt: HostRuntime) -> ExitCode { if all(&rt).is_ok() { ExitCode::SUCCESS } else { ExitCode::FAILURE } }'
 } >"$program/src/main.rt"
 
-if (cd "$program" && rt try) </dev/null >"$work/said" 2>&1; then
-    passed="$number"
+if (cd "$program" && rt try) </dev/null >"$work/got" 2>"$work/said"; then
+    mapfile -t got <"$work/got"
+    for ((each = 0; each < number; each++)); do
+        judge "${wanted[each]# // }" "${got[each]%; }" "line $((each + 1)) of docs/TASKS.md"
+    done
 else
     failed="$number"
     cat "$work/said"

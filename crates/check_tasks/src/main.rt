@@ -5,6 +5,9 @@ mod change;
 mod combine;
 mod look;
 mod make;
+mod nearest;
+mod pieces;
+mod relate;
 mod walk;
 
 use range_map_blaze::RangeMapBlaze;
@@ -19,6 +22,9 @@ fn run(rt: &HostRuntime) -> Result<(), AllocError> {
     let map = make::all(rt)?;
     look::all(rt, &map)?;
     walk::all(rt, &map)?;
+    nearest::all(rt, &map)?;
+    pieces::all(rt, &map)?;
+    relate::all(rt, &map)?;
     combine::all(rt, &map)?;
     change::all(rt, map)
 }
