@@ -33,6 +33,13 @@ fn within(rt: &HostRuntime, map: &Map) {
     let _ = println!(rt; "{used}");
 }
 
+/// The keys of a range taken out, as a map.
+fn taken(rt: &HostRuntime, mut map: Map) -> Result<(), AllocError> {
+    let taken = map.ranges_take(12..=21)?;
+    let _ = println!(rt; "{taken}; {map}");
+    Ok(())
+}
+
 /// All keys moved up by a number. A range that moves past the greatest key ends there.
 fn moved(alloc: Global, map: &Map) -> Result<Map, AllocError> {
     let mut shifted = RangeMapBlaze::new(alloc);
@@ -51,6 +58,7 @@ pub fn all(rt: &HostRuntime, map: &Map) -> Result<(), AllocError> {
     capitals(rt, map.clone()?)?;
     bookings(rt, RangeMapBlaze::from_ranges(alloc, [(0..=9, 1)])?)?;
     within(rt, map);
+    taken(rt, map.clone()?)?;
     let shifted = moved(alloc, map)?;
     let _ = println!(rt; "{shifted}");
     Ok(())

@@ -4,8 +4,9 @@ use crate::calls::other_maps::other_map;
 use crate::fault::Fault;
 use crate::keys::ScriptKey;
 use crate::state::{Map, MapName, State};
-use crate::words::{key, value};
+use crate::words::{bounds, key, value};
 use std::alloc::{AllocError, Global};
+use std::ops::Bound;
 
 /// How a map is made.
 #[derive(Drop)]
@@ -14,11 +15,12 @@ pub enum Make<T: ScriptKey> {
     ComplementWith(MapName, String),
     UniverseWith(String),
     SplitOff(MapName, T),
+    RangesTake(MapName, (Bound<T>, Bound<T>)),
     TransformValues(MapName),
 }
 
 impl<T: ScriptKey> Make<T> {
-    /// What the words behind `=` ask for. A map that is split is not the target.
+    /// What the words behind `=` ask for. A map that keys are taken from is not the target.
     pub fn read(alloc: Global, target: MapName, words: &[&str]) -> Result<Self, Fault> {
         match words {
             ["clone", map] => Ok(Make::Clone(MapName::read(map)?)),
@@ -28,6 +30,9 @@ impl<T: ScriptKey> Make<T> {
             }
             ["universe_with", text] => Ok(Make::UniverseWith(value(alloc, text)?)),
             [map, "split_off", word] => { Ok(Make::SplitOff(other_map(target, map)?, key(word)?)) }
+            [map, "ranges_take", word] => {
+                Ok(Make::RangesTake(other_map(target, map)?, bounds(word)?))
+            }
             _ => Err(Fault::Bad),
         }
     }
@@ -40,6 +45,7 @@ impl<T: ScriptKey> Make<T> {
             Make::UniverseWith(value) => Map::universe_with(state.alloc, &value),
             Make::TransformValues(map) => first_characters(state.alloc, state.map(map)),
             Make::SplitOff(map, key) => state.map_mut(map).split_off(key),
+            Make::RangesTake(map, range) => state.map_mut(map).ranges_take(range),
         }
     }
 }
