@@ -23,7 +23,7 @@ unbroken() { tr -d ' \n' | sed 's/,)/)/g'; }
 tasks="$(cat crates/check_tasks/src/*.rt | unbroken)"
 while IFS= read -r line; do
     judge yes "$(grep -q -F -- "$(unbroken <<<"$line")" <<<"$tasks" && echo yes || echo no)" "'$line' of docs/TASKS.md"
-done < <(sed -n '/^| [^|]/{s/\\|/\x01/g; s/^|[^|]*|[^|]*|//p}' docs/TASKS.md | grep -o '`[^`]*`' | tr -d '`' | tr '\001' '|')
+done < <(sed -n '/^| [^|]/{s/\\|/\x01/g; s/^|[^|]*|[^|]*|//p}' docs/TASKS.md | grep -o '`[^`]*`' | tr -d '`' | tr '\001' '|' | sed 's| // .*||')
 
 # ---- The key type that docs/KEYS.md shows whole
 judge "$(cat crates/demo_keys/src/ipv4.rt)" "$(awk '/^```/ { if (inside++) exit; next } inside' docs/KEYS.md)" "the key type of docs/KEYS.md"

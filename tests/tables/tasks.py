@@ -59,6 +59,23 @@ def debug(value):
     return f"({', '.join(map(debug, value))})" if isinstance(value, tuple) else repr(value)
 
 
+class Word(str):
+    """Text, in double quotes."""
+
+    def __repr__(self):
+        return f'"{self}"'
+
+
+class Flag(Word):
+    """A truth value."""
+
+    def __new__(cls, value):
+        return str.__new__(cls, str(value).lower())
+
+    def __repr__(self):
+        return str(self)
+
+
 def option(value):
     return "None" if value is None else f"Some({value})"
 
@@ -115,6 +132,48 @@ for key in sorted(letters)[:2]:
     print(key, letters[key])
 for run in entries(dict.fromkeys(letters, "there")):
     print(ends(run))
+
+# ---- What is next to a key, the longest, lists, keys by their number
+print(option(entry([run for run in entries(letters) if run[0] <= 27][-1])), option(entry([run for run in entries(letters) if 27 <= run[1]][0])))
+print(*(option(debug((key, letters[key]))) for key in (min(letters), max(letters))))
+print(option(ends(gaps(letters, 0, 50)[-1])))
+print(option(entry(max(entries(letters), key=length))))
+print(option(ends(max(gaps(letters, 0, 50), key=length))))
+print(f"[{text(letters)}]")
+
+
+def nth_key(content, n):
+    for run in entries(content):
+        if n < length(run):
+            return run[0] + n
+        n -= length(run)
+    return None
+
+
+print(*(option(nth_key(letters, n)) for n in (6, 0, 14, 15, 2147483632, 2147483633)), sep="\n")
+
+# ---- Ranges that a closure changes, entries cut to a range, keys that move
+print(text({**letters, **{key: letters[key].upper() if key in letters else "-" for key in keys(12, 27)}}))
+depths = dict.fromkeys(keys(0, 9), 1)
+for key in keys(5, 14):
+    depths[key] = depths.get(key, 0) + 1
+print(text(depths))
+part = {key: letters[key] for key in keys(12, 21) if key in letters}
+for run in entries(part):
+    print(ends(run), run[2])
+print(len(part))
+print(f"{text(part)}; {text({key: value for key, value in letters.items() if key not in part})}")
+print(text({key: value for key, value in letters.items() if value != "a" and entry_or_gap_at(letters, key)[0] < 20}))
+print(text({**{key + 5: value for key, value in letters.items() if key + 5 <= 99}, MAX: letters[MAX]}))
+
+# ---- Two maps, or a map and a set
+other = dict.fromkeys(keys(12, 15), "b")
+print(str(not any(key in letters for key in other)).lower(), str(all(key in letters for key in other)).lower())
+some = [*keys(11, 12), *keys(20, 21)]
+print(str(all(key in letters for key in some)).lower(), str(not any(key in letters for key in some)).lower())
+print(text({key: Flag(letters.get(key) != other.get(key)) for key in {**letters, **other}}))
+print(text({key: Word(f"{value}!") for key, value in letters.items()}))
+print(text({key: Word(letters[key] + other[key]) for key in other}))
 
 # ---- Maps are combined
 other = {}

@@ -16,10 +16,10 @@ fn next_to(rt: &HostRuntime, map: &Map) {
 
 /// The longest entry, and the longest gap of a range.
 fn longest(rt: &HostRuntime, map: &Map) {
-    let entry = map.range_values().max_by_key(|(range, _)| length(range));
-    let _ = println!(rt; "{entry:?}");
-    let gap = map.gaps(0..=50).max_by_key(|gap| length(gap));
-    let _ = println!(rt; "{gap:?}");
+    let longest = map.range_values().max_by_key(|(range, _)| length(range));
+    let _ = println!(rt; "{longest:?}");
+    let longest = map.gaps(0..=50).max_by_key(|gap| length(gap));
+    let _ = println!(rt; "{longest:?}");
 }
 
 /// The entries as a list.
@@ -48,7 +48,9 @@ pub fn all(rt: &HostRuntime, map: &Map) -> Result<(), AllocError> {
     next_to(rt, map);
     longest(rt, map);
     listed(rt, rt.alloc(), map)?;
-    for n in [0, 6, 14, 15, 2147483632, 2147483633] {
+    let key = nth_key(map, 6);
+    let _ = println!(rt; "{key:?}");
+    for n in [0, 14, 15, 2147483632, 2147483633] {
         let key = nth_key(map, n);
         let _ = println!(rt; "{key:?}");
     }

@@ -16,11 +16,11 @@ fn capitals(rt: &HostRuntime, mut map: Map) -> Result<(), AllocError> {
 }
 
 /// How many bookings a key has: one more on the keys of each.
-fn bookings(rt: &HostRuntime, mut depths: Numbers) -> Result<(), AllocError> {
-    depths.ranges_update(5..=14, |depth| {
+fn bookings(rt: &HostRuntime, mut ours: Numbers) -> Result<(), AllocError> {
+    ours.ranges_update(5..=14, |depth| {
         Ok(Some(depth.map_or(1, |depth| depth.saturating_add(1))))
     })?;
-    let _ = println!(rt; "{depths}");
+    let _ = println!(rt; "{ours}");
     Ok(())
 }
 
@@ -38,6 +38,12 @@ fn taken(rt: &HostRuntime, mut map: Map) -> Result<(), AllocError> {
     let taken = map.ranges_take(12..=21)?;
     let _ = println!(rt; "{taken}; {map}");
     Ok(())
+}
+
+/// Entries kept by a test.
+fn kept(rt: &HostRuntime, mut map: Map) {
+    map.ranges_retain(|range, value| *value != 'a' && *range.start() < 20);
+    let _ = println!(rt; "{map}");
 }
 
 /// All keys moved up by a number. A range that moves past the greatest key ends there.
@@ -59,6 +65,7 @@ pub fn all(rt: &HostRuntime, map: &Map) -> Result<(), AllocError> {
     bookings(rt, RangeMapBlaze::from_ranges(alloc, [(0..=9, 1)])?)?;
     within(rt, map);
     taken(rt, map.clone()?)?;
+    kept(rt, map.clone()?);
     let shifted = moved(alloc, map)?;
     let _ = println!(rt; "{shifted}");
     Ok(())
