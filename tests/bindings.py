@@ -243,21 +243,33 @@ class Round:
 
     def update_range(self):
         start, stop = self.ends()
-        seen, new = [], [self.choose.choice([None, "keep", self.value()]) for _ in range(2 * KEYS)]
+        if self.choose.random() < 0.2:
+            start, stop = self.choose.choice([(None, stop), (start, None), (None, None)])
+        missing = self.choose.choice([None, object()])
+        seen, new = [], [self.choose.choice([missing, "keep", self.value()]) for _ in range(2 * KEYS)]
+        if self.choose.random() < 0.2:
+            new = [self.choose.choice([missing, "keep", self.value()])] * len(new)
+        from_key, to_key = LEAST if start is None else start, END if stop is None else stop
+        gaps = [(*gap, missing) for gap in gaps_of(self.one.plain, from_key, to_key)]
+        rows = sorted(runs_of(self.within(from_key, to_key)) + gaps, key=lambda row: row[0])
+        # (a piece that is long beside the dictionary keeps what it has)
+        new = [old if result == "keep" or hi - lo > KEYS else result for (lo, hi, old), result in zip(rows, new)]
 
         def change(old):
             seen.append(old)
-            return old if new[len(seen)] == "keep" else new[len(seen)]
+            return new[len(seen) - 1]
 
-        rows = runs_of(self.within(start, stop)) + [(*gap, None) for gap in gaps_of(self.one.plain, start, stop)]
-        rows.sort(key=lambda row: row[0])
-        self.one.map.update_range(start, stop, change)
+        if missing is None and self.choose.random() < 0.5:
+            self.one.map.update_range(start, stop, change)
+        else:
+            self.one.map.update_range(start, stop, change, missing)
         same([mark(value) for value in seen], [mark(row[2]) for row in rows], "the pieces of update_range")
-        for number, (lo, hi, old) in enumerate(rows):
-            value = old if new[number + 1] == "keep" else new[number + 1]
+        for (lo, hi, old), value in zip(rows, new):
+            if hi - lo > KEYS:
+                continue
             for key in range(lo, hi):
                 self.one.plain.pop(key, None)
-                if value is not None:
+                if value is not missing:
                     self.one.plain[key] = value
 
     def update(self):
@@ -429,6 +441,69 @@ def changed_while_iterated():
     same(list(done), [], "an iterator that has ended")
 
 
+def updated_ranges():
+    class Stop(Exception):
+        pass
+
+    entries = [(1, 4, "a"), (6, 8, None), (8, 9, "b"), (12, 20, "c")]
+    pieces = ["gap", "a", "gap", None, "b", "gap", "c"]
+
+    def called(act, *more):
+        """A map, and what its function was given, where each call of the function acts."""
+        m, given = RangeMap(entries), []
+
+        def function(old):
+            given.append(old)
+            return act(m, old, len(given))
+
+        result = result_of(lambda: m.update_range(0, 15, function, *more), Stop, RuntimeError, TypeError, OverflowError)
+        return result, list(m), given
+
+    def raising(at):
+        def act(m, old, number):
+            if number == at:
+                raise Stop
+            return number
+        return act
+
+    for at in range(1, len(pieces) + 1):
+        same(called(raising(at), "gap"), (Stop, entries, pieces[:at]), f"a function that raises at call {at}")
+    same(called(raising(0), "gap"), (None, [(0, 1, 1), (1, 4, 2), (4, 6, 3), (6, 8, 4), (8, 9, 5), (9, 12, 6), (12, 15, 7), (15, 20, "c")],
+                                     pieces), "a function that does not raise")
+
+    def changing(at, change):
+        def act(m, old, number):
+            if number == at:
+                change(m)
+            return "new"
+        return act
+
+    for change in (lambda m: m.__setitem__(30, "x"), lambda m: m.clear(), lambda m: m.__delitem__(slice(2, 3)), lambda m: m.pop(13),
+                   lambda m: m.update_range(0, 15, lambda old: "y"), lambda m: (m.__setitem__(30, "x"), m.pop(30))):
+        wanted = RangeMap(entries)
+        change(wanted)
+        for at in range(1, len(pieces) + 1):
+            same(called(changing(at, change), "gap"), (RuntimeError, list(wanted), pieces[:at]), f"a function that changes the map at call {at}")
+    for change in (list, len, lambda m: m.update_range(0, 15, lambda old: old, "gap"), lambda m: m.__setitem__(2, "a"), lambda m: m.copy()):
+        same(called(changing(3, change), "gap"), (None, [(0, 15, "new"), (15, 20, "c")], pieces), "a function that changes nothing")
+    for at in range(1, len(pieces) + 1):
+        same(called(lambda m, old, number: [] if number == at else 1), (TypeError, entries, [None if old == "gap" else old for old in pieces]),
+             f"a result without a hash at call {at}")
+    same(called(lambda m, old, number: old, "gap"), (None, entries, pieces), "what is there")
+    same(called(lambda m, old, number: old), (None, [row for row in entries if row[2] is not None], [None if old == "gap" else old
+         for old in pieces]), "None in place of no value")
+    same(called(lambda m, old, number: "gap", "gap"), (None, [(15, 20, "c")], pieces), "no value")
+    m = RangeMap(entries)
+    for ends in ((5, 5), (7, 2), (2**70, 2**69), (None, LEAST), (END, None)):
+        same(result_of(lambda: m.update_range(*ends, raising(1)), Stop), None, "no keys")
+    for ends in ((LEAST - 1, 3), (3, END + 1), (2**70, 2**71)):
+        same(result_of(lambda: m.update_range(*ends, raising(1)), OverflowError), OverflowError, "a range with other keys")
+    same(result_of(lambda: m.update_range("a", 3, raising(1)), TypeError), TypeError, "an end that is no number")
+    all_keys = []
+    m.update_range(None, None, lambda old: all_keys.append(old) or "all")
+    same((all_keys, list(m)), ([None, "a", None, None, "b", None, "c", None], [(LEAST, END, "all")]), "all keys")
+
+
 class Wild:
     """A value whose __hash__, __eq__ and __del__ do what `act` does, which may raise or change maps."""
 
@@ -476,6 +551,7 @@ def wild_calls(choose, m, n):
         (stop, stop + 2, Wild(choose.randrange(12))), (start, start + 1, Wild(3))]), lambda: m.__ior__(n), lambda: m.__iand__(n),
         lambda: m.__ixor__(n), lambda: m.__isub__(n), lambda: m | n, lambda: m & n, lambda: n ^ m, lambda: m == n, lambda: m < n,
         lambda: m.update_range(start, stop, lambda old: choose.choice([None, old, value])), lambda: m.copy(), lambda: m[start:stop],
+        lambda: m.update_range(start, stop, lambda old: choose.choice([0, old, value, Wild(choose.randrange(12))]), 0),
         lambda: m.freeze(), lambda: hash(n.freeze()), lambda: m.complement(value)[start:stop], lambda: m.split(25), lambda: m.get(start),
         lambda: copy.deepcopy(m), lambda: pickle.loads(pickle.dumps(m)), lambda: list(m), lambda: list(m.gaps(0, 30)), m.to_arrays,
         lambda: RangeMap.from_arrays(*m.to_arrays()), lambda: m.entry_at(start), lambda: m.get_many(array("q", range(30))),
@@ -617,11 +693,23 @@ def memory_is_flat():
             m |= m.freeze()
             list(m)
 
+    def update(count):
+        m = RangeMap((10 * key, 10 * key + 5, key) for key in range(20))
+        for number in range(count):
+            at = number * 7 % 200
+            m.update_range(at, at + 25, lambda old: float(number) if old is None else None if number % 3 else old)
+            try:
+                m.update_range(0, 200, lambda old: object() if old else number // 0)
+            except ZeroDivisionError:
+                pass
+
     overwrite(100_000)
     drop(10_000)
+    update(5_000)
     before = resident()
     overwrite(1_000_000)
     drop(100_000)
+    update(50_000)
     grown = resident() - before
     same(grown < 2**20, True, f"{grown} bytes more memory")
 
@@ -769,6 +857,8 @@ def refused():
         lambda m, n, s, f: m.update((key, key + 1, object()) for key in range(0, 400, 2)), lambda m, n, s, f: s.update(m),
         lambda m, n, s, f: m.paint_many(starts, stops, range(150)), lambda m, n, s, f: m.update_range(0, 99, lambda old: old and -old),
         lambda m, n, s, f: m.update_range(0, 9, lambda old: old or "new"), lambda m, n, s, f: m.update_range(0, 2, str),
+        lambda m, n, s, f: m.update_range(0, 600, lambda old: 30, "gap"), lambda m, n, s, f: m.update_range(0, 600, lambda old: None),
+        lambda m, n, s, f: m.update_range(0, 600, lambda old: object()), lambda m, n, s, f: m.update_range(1, 2, lambda old: None),
         lambda m, n, s, f: m | n, lambda m, n, s, f: m & n, lambda m, n, s, f: m - n, lambda m, n, s, f: m ^ n,
         lambda m, n, s, f: m.__ior__(n), lambda m, n, s, f: m.__iand__(n), lambda m, n, s, f: m.__isub__(n),
         lambda m, n, s, f: m.__ixor__(n), lambda m, n, s, f: m.__ior__(s), lambda m, n, s, f: m.__ior__(f), lambda m, n, s, f: m == n,
@@ -809,6 +899,17 @@ def refused():
             if request == 1 and requests < 0:
                 print("the module was not found by the shim")
                 failed += 1
+    # equal results that touch are one edit, which is made in the map itself; others are made in a copy of it
+    m = RangeMap((key, key + 1, key) for key in range(20_000))
+    for function, least, most in ((lambda old: 8, 1, 50), (lambda old: old + 1, 500, 1_000_000)):
+        shim.refuse_from(0, 0)
+        m.update_range(7, 10, function)
+        requests = shim.refuse_count()
+        if least <= requests <= most:
+            passed += 1
+        else:
+            failed += 1
+            print(f"{requests} requests of update_range")
     print(f"{passed} passed, {failed} failed")
     sys.exit(failed != 0)
 
@@ -864,7 +965,8 @@ def examples():
 def types():
     code = ("from range_map import FrozenRangeMap, RangeMap\nm: RangeMap[str] = RangeMap([(1, 2, 'a')])\nm[3:5] = 'b'\n"
             "value: str = m[3]\nother: RangeMap[str] = m[1:4] | m.freeze()\nnone: str | None = m.get(7)\n"
-            "rows: list[tuple[int, int, str]] = list(m.overlapping(1, 3))\ntable: FrozenRangeMap[str] = m.freeze()\n")
+            "rows: list[tuple[int, int, str]] = list(m.overlapping(1, 3))\ntable: FrozenRangeMap[str] = m.freeze()\n"
+            "m.update_range(1, 5, lambda old: old and old.upper())\nm.update_range(1, 5, lambda old: 0 if old else old, 0)\n")
     if shutil.which("mypy") is None:
         print("bindings: there is no mypy here: left out")
         return
@@ -882,7 +984,7 @@ def types():
 def main():
     if sys.argv[1:] == ["refused"]:
         refused()
-    cases = [values_of_all_kinds, changed_while_iterated, wild_values, values_are_dropped, collected, memory_is_flat, subclasses,
+    cases = [values_of_all_kinds, changed_while_iterated, updated_ranges, wild_values, values_are_dropped, collected, memory_is_flat, subclasses,
              arrays, many_entries, threads, printed, refused_memory, sanitized, examples, types]
     named = [case for case in cases if case.__name__ in sys.argv[1:]]
     numbers = [int(word) for word in sys.argv[1:] if word.isdigit()]

@@ -416,24 +416,28 @@ cdef class RangeMap(Lookups):
                 painted.append(held[row])
         self.paint_rows(rows, painted)
 
-    def update_range(self, start, stop, function):
-        """Calls `function` once for each entry and each gap of the range, cut to it, ascending, with its value, or None for a gap;
-        then sets its keys to the result, or removes them if that is None.
+    def update_range(self, start, stop, function, missing=None):
+        """Calls `function` once for each entry and each gap of the range, cut to it, ascending, with its value, or `missing` for a
+        gap; then sets its keys to the result, or removes them if the result is `missing`.
 
-        An end may be None. Raises what `function` raises, RuntimeError if the map changes meanwhile, and what
-        `m[start:stop] = value` raises; then the map is unchanged. O(n) and O(log n) for each entry in the range, or O(log n) for
-        each entry in it if all that change are adjacent and get the same value.
+        All calls come before the first change. If values of the map may be None, pass another object as `missing`. An end may be
+        None. Raises what `function` raises, RuntimeError if the map changes during a call, and what `m[start:stop] = value` raises;
+        then the map is unchanged by this method. O(n) and O(log n) for each entry in the range, or O(log n) for each entry in it if
+        all that change are in one run of pieces with the same result.
 
         >>> m = RangeMap([(1, 6, "a"), (8, 10, "b")])
         >>> m.update_range(4, 9, lambda old: old and old.upper())
         >>> m
         RangeMap([(1, 4, 'a'), (4, 6, 'A'), (8, 9, 'B'), (9, 10, 'b')])
+        >>> m.update_range(0, 9, lambda old: None if old == "gap" else "full", missing="gap")
+        >>> m
+        RangeMap([(0, 1, None), (1, 6, 'full'), (6, 8, None), (8, 9, 'full'), (9, 10, 'b')])
         """
         cdef int64_t lo, hi
         cdef uint64_t changes
         cdef Rows rows, pieces = Rows()
         cdef Py_ssize_t row
-        cdef list olds = [], news
+        cdef list olds = [], news = []
         if not keys_of(start, stop, True, &lo, &hi):
             return
         rows = self.rows(lo, hi)
@@ -441,39 +445,39 @@ cdef class RangeMap(Lookups):
         for row in range(rows.length):
             if lo < rows.lo[row]:
                 pieces.push(lo, rows.lo[row] - 1, 0)
-                olds.append(_MISSING)
+                olds.append(missing)
             pieces.push(rows.lo[row], rows.hi[row], 0)
             olds.append(rows.values.value_of(rows.number[row]))
             lo = rows.hi[row] + (rows.hi[row] < hi)
         if not rows.length or rows.hi[rows.length - 1] < hi:
             pieces.push(lo, hi, 0)
-            olds.append(_MISSING)
-        news = [function(None if old is _MISSING else old) for old in olds]
-        self.set_pieces(pieces, news, changes)
+            olds.append(missing)
+        for old in olds:
+            news.append(function(old))
+            self.check_changes(changes)
+        self.set_pieces(pieces, news, missing, changes)
 
-    cdef int set_pieces(self, Rows pieces, list values, uint64_t changes) except -1:
-        """Sets the keys of each piece, or removes them where the value is None, if the map has not changed since."""
+    cdef int check_changes(self, uint64_t changes) except -1:
+        if self.changes != changes:
+            raise RuntimeError("the map changed during the call")
+        return 0
+
+    cdef int set_pieces(self, Rows pieces, list values, object missing, uint64_t changes) except -1:
+        """Sets the keys of each piece, or removes them where the value is `missing`, if the map has not changed since."""
         cdef c_map out
         cdef c_bool ignored = False
         cdef Py_ssize_t row
         cdef int32_t status = DONE
-        cdef bint is_changed = False, had
-        cdef uint64_t number, old
-        cdef Rows changed = Rows()
+        cdef Rows changed
         memset(&out, 0, sizeof(out))
         self.values.pins += 1
         try:
             for row in range(pieces.length):
                 value = values[row]
-                pieces.number[row] = UINT64_MAX if value is None else self.values.number_of(value)
-            if self.changes != changes:
-                raise RuntimeError("the map changed during the call")
-            for row in range(pieces.length):
-                number = pieces.number[row]
-                had = self.find(pieces.lo[row], &old)
-                if old != number if had else number != UINT64_MAX:
-                    changed.push(pieces.lo[row], pieces.hi[row], number)
-            changed.join()
+                pieces.number[row] = UINT64_MAX if value is missing else self.values.number_of(value)
+            changed = Rows()  # (the garbage collector may run Python code here)
+            self.check_changes(changes)
+            self.push_changed(pieces, changed)
             if changed.length == 1:
                 if changed.number[0] == UINT64_MAX:
                     status = range_map_remove_range_unchecked(&self.map, changed.lo[0], changed.hi[0], &ignored)
@@ -495,6 +499,25 @@ cdef class RangeMap(Lookups):
             self.values.pins -= 1
             self.drop_unused()
         return check(status)
+
+    cdef int push_changed(self, Rows pieces, Rows changed) except -1:
+        """Pushes the pieces whose number is not what the map has there, UINT64_MAX for none. In a run of pieces with one number, these
+        are one row, from the first to the last of them."""
+        cdef Py_ssize_t row
+        cdef uint64_t old
+        cdef bint had, is_pushed = False
+        for row in range(pieces.length):
+            if row and pieces.number[row] != pieces.number[row - 1]:
+                is_pushed = False
+            had = self.find(pieces.lo[row], &old)
+            if old == pieces.number[row] if had else pieces.number[row] == UINT64_MAX:
+                continue
+            if is_pushed:
+                changed.hi[changed.length - 1] = pieces.hi[row]
+            else:
+                changed.push(pieces.lo[row], pieces.hi[row], pieces.number[row])
+            is_pushed = True
+        return 0
 
     cdef int combine(self, Rows rows, Operation operation) except -1:
         """Changes this map by the rows of another one, which no other object has: all of it, or nothing if an exception is raised."""
