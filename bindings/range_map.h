@@ -25,8 +25,9 @@
  * status other than RANGE_MAP_DONE, it writes nothing through these pointers, except the ends of a gap that it was asked for.
  *
  * Memory. A function that may allocate returns a status. If an allocation fails, it returns RANGE_MAP_NO_MEMORY and all maps are
- * unchanged, except by range_map_extend and range_map_paint_many, which may have applied a first part of their input. A call that
- * changes nothing does not allocate. malloc, realloc and free must belong to one allocator.
+ * unchanged, except by range_map_extend and range_map_paint_many, which may have applied a first part of their input, and by
+ * range_map_combine, which may have changed a first part of its range. A call that changes nothing does not allocate. malloc, realloc
+ * and free must belong to one allocator.
  *
  * Threads. A map stays on the thread that made it: only this thread may change the map or free it. The proof does not cover a map that
  * moves to another thread. Several threads may look up in one map through const pointers, or read it as a const operand, at the same
@@ -86,6 +87,23 @@ enum {
     RANGE_MAP_NO_ROOM = 5      /* the arrays are too short; nothing was done */
 };
 
+/* What range_map_combine makes of the value of a key and the given value. */
+enum range_map_op {
+    RANGE_MAP_ADD = 0,     /* the sum, modulo 2^64 */
+    RANGE_MAP_MIN = 1,     /* the lesser */
+    RANGE_MAP_MAX = 2,     /* the greater */
+    RANGE_MAP_AND = 3,     /* the bits that both have */
+    RANGE_MAP_OR = 4,      /* the bits that one of them has, or both */
+    RANGE_MAP_XOR = 5,     /* the bits that exactly one of them has */
+    RANGE_MAP_KEEP_OLD = 6 /* the value of the key */
+};
+
+/* Which keys of its range range_map_combine changes. */
+enum range_map_place {
+    RANGE_MAP_ALL = 0,   /* all keys; one without a value gets the given value */
+    RANGE_MAP_MAPPED = 1 /* the keys that have a value */
+};
+
 /* ---- Exports, for languages that do not read this header. The functions below wrap them. No pointer may be null, all maps must be
  * different, and each array is followed by its length; the arrays of one call must be equally long. A map that a call does not
  * change is not written to. ---- */
@@ -99,6 +117,7 @@ int32_t range_map_paint_unchecked(struct range_map *map, int64_t lo, int64_t hi,
 int32_t range_map_fill_unchecked(struct range_map *map, int64_t lo, int64_t hi, uint64_t value, bool *changed);
 int32_t range_map_fill_if_free(struct range_map *map, int64_t lo, int64_t hi, uint64_t value);
 int32_t range_map_insert_unchecked(struct range_map *map, int64_t key, uint64_t value, bool *had, uint64_t *old);
+int32_t range_map_combine_unchecked(struct range_map *map, int64_t lo, int64_t hi, uint64_t value, uint32_t op, uint32_t place);
 int32_t range_map_remove_range_unchecked(struct range_map *map, int64_t lo, int64_t hi, bool *changed);
 int32_t range_map_remove_unchecked(struct range_map *map, int64_t key, bool *had, uint64_t *old);
 int32_t range_map_pop_first_unchecked(struct range_map *map, bool *had, int64_t *key, uint64_t *value);
@@ -210,6 +229,15 @@ static inline int32_t range_map_insert(struct range_map *map, int64_t key, uint6
     if (had && status == RANGE_MAP_DONE) *had = found;
     if (old && found && status == RANGE_MAP_DONE) *old = old_value;
     return status;
+}
+
+/* Sets the value of each key in the range that has a value to `op` of that value and `value`. With RANGE_MAP_ALL, a key without a
+ * value gets `value`; with RANGE_MAP_MAPPED, it stays without a value. If an allocation fails, a first part of the entries and gaps in
+ * the range is changed, perhaps none. O(log n), O(1) for each entry and each gap in the range, and O(log n) for each of them that
+ * changes. */
+static inline int32_t range_map_combine(struct range_map *map, int64_t lo, int64_t hi, uint64_t value, enum range_map_op op,
+                                        enum range_map_place place) {
+    return range_map_combine_unchecked(map, lo, hi, value, op, place);
 }
 
 /* Removes every key in the range. *changed: whether one of them had a value. O(log n) for each entry that the range touches. */

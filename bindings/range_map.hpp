@@ -33,6 +33,23 @@
 
 namespace rangemap {
 
+/// What `map::combine` makes of the value of a key and the given value.
+enum class op : std::uint32_t {
+    add = RANGE_MAP_ADD,          ///< the sum, as of unsigned numbers of the value type
+    min = RANGE_MAP_MIN,          ///< the lesser
+    max = RANGE_MAP_MAX,          ///< the greater
+    bit_and = RANGE_MAP_AND,      ///< the bits that both have
+    bit_or = RANGE_MAP_OR,        ///< the bits that one of them has, or both
+    bit_xor = RANGE_MAP_XOR,      ///< the bits that exactly one of them has
+    keep_old = RANGE_MAP_KEEP_OLD ///< the value of the key
+};
+
+/// Which keys of its range `map::combine` changes.
+enum class place : std::uint32_t {
+    all = RANGE_MAP_ALL,      ///< all keys; one without a value gets the given value
+    mapped = RANGE_MAP_MAPPED ///< the keys that have a value
+};
+
 namespace detail {
 
 /// The integer type of a key: the type itself, or that of an enum.
@@ -271,6 +288,16 @@ template <class Key, class Value> class map {
         return value_of(old);
     }
 
+    /// Sets the value of each key in the range that has a value to `by` of that value and `value`. With place::all, a key without a
+    /// value gets `value`; with place::mapped, it stays without a value. The value type must be an unsigned integer of 64 bits.
+    /// Throws std::bad_alloc if an allocation fails; a first part of the entries and gaps in the range may be changed then. O(log
+    /// n), O(1) for each entry and each gap in the range, and O(log n) for each of them that changes.
+    void combine(Key first, Key last, Value value, op by, place where) {
+        static_assert(std::is_unsigned_v<Value> && sizeof(Value) == 8, "Value must be an unsigned integer of 64 bits");
+        detail::check(range_map_combine(&handle, from(first), from(last), value, static_cast<range_map_op>(by),
+                                        static_cast<range_map_place>(where)));
+    }
+
     /// Removes one key. Returns the value that it had, if any. Throws std::bad_alloc if an allocation fails; the map is then
     /// unchanged. O(log n).
     std::optional<Value> erase(Key key) {
@@ -447,19 +474,19 @@ template <class Key, class Value> class map {
 
     /// Returns the keys of both maps, with the value of b where both have one. Throws std::bad_alloc if an allocation fails. O(n
     /// + m), or O(m log n) if m is at most n / 16, and a copy.
-    friend map operator|(const map &a, const map &b) { return combine(range_map_union, a, b); }
+    friend map operator|(const map &a, const map &b) { return made_of(range_map_union, a, b); }
 
     /// Returns the keys that have a value in both maps, with the value of b. Throws std::bad_alloc if an allocation fails. O(n +
     /// m) at most.
-    friend map operator&(const map &a, const map &b) { return combine(range_map_intersection, a, b); }
+    friend map operator&(const map &a, const map &b) { return made_of(range_map_intersection, a, b); }
 
     /// Returns the keys of a that have no value in b, with their values. Throws std::bad_alloc if an allocation fails. O(n + m)
     /// at most.
-    friend map operator-(const map &a, const map &b) { return combine(range_map_difference, a, b); }
+    friend map operator-(const map &a, const map &b) { return made_of(range_map_difference, a, b); }
 
     /// Returns the keys that have a value in exactly one of the maps, with that value. Throws std::bad_alloc if an allocation
     /// fails. O(n + m) at most.
-    friend map operator^(const map &a, const map &b) { return combine(range_map_symmetric_difference, a, b); }
+    friend map operator^(const map &a, const map &b) { return made_of(range_map_symmetric_difference, a, b); }
 
     /// Paints the entries of the other map, ascending: where both have a value, that of the other remains. Throws std::bad_alloc
     /// if an allocation fails; a first part of the entries may be painted then. O(n + m), or O(m log n) if m is at most n / 16.
@@ -500,7 +527,7 @@ template <class Key, class Value> class map {
   private:
     using operation = std::int32_t (*)(const ::range_map *, const ::range_map *, ::range_map *);
 
-    static map combine(operation operation, const map &a, const map &b) {
+    static map made_of(operation operation, const map &a, const map &b) {
         map result;
         detail::check(operation(&a.handle, &b.handle, &result.handle));
         return result;

@@ -176,6 +176,29 @@ static int32_t split_low(struct maps *m) { return range_map_split_off(&m->a, 3, 
 static int32_t split_middle(struct maps *m) { return range_map_split_off(&m->a, 203, &m->out); }
 static int32_t paint_many(struct maps *m) { return range_map_paint_many(&m->a, many_lo, many_hi, many_values, MANY); }
 
+/* Values combined with one value: sums of pieces of all kinds, entries that become one, and a part of one entry. */
+struct combination {
+    int64_t lo, hi;
+    uint64_t value;
+    enum range_map_op op;
+    enum range_map_place place;
+};
+enum { COMBINATIONS = 5 };
+static const struct combination combinations[COMBINATIONS] = {
+    {2, 83, 3, RANGE_MAP_ADD, RANGE_MAP_ALL},    {-5, 500, 20, RANGE_MAP_MAX, RANGE_MAP_ALL}, {-5, 500, 1, RANGE_MAP_XOR, RANGE_MAP_MAPPED},
+    {-5, 500, 50, RANGE_MAP_KEEP_OLD, RANGE_MAP_ALL}, {2, 3, 1, RANGE_MAP_OR, RANGE_MAP_MAPPED},
+};
+static int32_t combine(struct range_map *map, const struct combination *by) {
+    return range_map_combine(map, by->lo, by->hi, by->value, by->op, by->place);
+}
+static int32_t combine_sums(struct maps *m) { return combine(&m->a, &combinations[0]); }
+static int32_t combine_greatest(struct maps *m) { return combine(&m->a, &combinations[1]); }
+static int32_t combine_mapped(struct maps *m) { return combine(&m->a, &combinations[2]); }
+static int32_t combine_absent(struct maps *m) { return combine(&m->a, &combinations[3]); }
+static int32_t combine_within(struct maps *m) { return combine(&m->a, &combinations[4]); }
+static int32_t (*const combine_runs[COMBINATIONS])(struct maps *m) = {combine_sums, combine_greatest, combine_mapped, combine_absent,
+                                                                    combine_within};
+
 struct call {
     const char *name;
     int32_t (*run)(struct maps *maps);
@@ -209,6 +232,11 @@ static const struct call calls[] = {
     {"split_off low", split_low, 0, true},
     {"split_off in the middle", split_middle, 0, true},
     {"paint_many", paint_many, 2, true},
+    {"combine, sums", combine_sums, 0, true},
+    {"combine, the greater", combine_greatest, 0, true},
+    {"combine, mapped keys", combine_mapped, 0, true},
+    {"combine, keys without a value", combine_absent, 0, true},
+    {"combine within an entry", combine_within, 0, true},
 };
 
 /* Whether a has a first part of the many ranges painted, and nothing else has changed. */
@@ -226,6 +254,34 @@ static bool is_part_painted(const struct contents *now, const struct contents *b
     }
     end(&maps);
     return is_equal_content(&now->a, &part);
+}
+
+/* What a call combines, or NULL. */
+static const struct combination *combination_of(const struct call *call) {
+    for (size_t at = 0; at < COMBINATIONS; at++) {
+        if (call->run == combine_runs[at]) return &combinations[at];
+    }
+    return NULL;
+}
+
+/* Whether a has its new values up to the end of a piece of the range, or below the range, and nothing else has changed. */
+static bool is_part_combined(const struct contents *now, const struct contents *before, const struct combination *by, long size) {
+    static struct content part;
+    struct maps maps;
+    bool is_part = false;
+    if (!is_equal_content(&now->b, &before->b) || !is_equal_content(&now->out, &before->out)) return false;
+    for (int64_t last = by->lo - 1; last <= by->hi && !is_part; last++) {
+        int64_t piece_end = by->lo - 1;
+        start(&maps, size);
+        if (last >= by->lo) range_map_entry_or_gap_at(&maps.a, last, NULL, &piece_end, NULL);
+        if (piece_end == last || last == by->hi || last < by->lo) {
+            if (range_map_combine(&maps.a, by->lo, last, by->value, by->op, by->place)) abort();
+            read_content(&maps.a, &part);
+            is_part = is_equal_content(&now->a, &part);
+        }
+        end(&maps);
+    }
+    return is_part;
 }
 
 /* How many failed allocations a call did not do without. */
@@ -252,12 +308,17 @@ static long refuse_each(const struct call *call, long size) {
             spared++;
             judge(is_equal(&now, &after), call->name, size, request);
         } else {
-            judge(status == RANGE_MAP_NO_MEMORY && (is_equal(&now, &before) || (call->run == paint_many && is_part_painted(&now, &before, size))),
+            const struct combination *by = combination_of(call);
+            bool is_same = is_equal(&now, &before);
+            judge(status == RANGE_MAP_NO_MEMORY && (is_same || (call->run == paint_many && is_part_painted(&now, &before, size)) ||
+                                                    (by && is_part_combined(&now, &before, by, size))),
                   call->name, size, request);
-            /* what it does with memory is the same as if it had not been refused any */
-            status = call->run(&maps);
-            read_contents(&maps, &now);
-            judge(status == RANGE_MAP_DONE && is_equal(&now, &after), call->name, size, request);
+            /* what it does with memory is the same as if it had not been refused any; but a part is not combined again */
+            if (!by || is_same) {
+                status = call->run(&maps);
+                read_contents(&maps, &now);
+                judge(status == RANGE_MAP_DONE && is_equal(&now, &after), call->name, size, request);
+            }
         }
         end(&maps);
     }
@@ -347,6 +408,25 @@ static void judge_answer(const char *what, int32_t status, bool had, int64_t key
     told_value = 0;
 }
 
+/* What combining 4 to 12 of a with 3 makes of 4 to 5, which have 1, of 6 to 9, which have no value, and of 10 to 12, which have 2. */
+static void combined(struct maps *m) {
+    static const int64_t of_one[] = {4, 1, 3, 1, 3, 2, 1}, of_two[] = {5, 2, 3, 2, 3, 1, 2};
+    for (int op = RANGE_MAP_ADD; op <= RANGE_MAP_KEEP_OLD; op++) {
+        for (int place = RANGE_MAP_ALL; place <= RANGE_MAP_MAPPED; place++) {
+            struct range_map wanted = {0};
+            begin(m);
+            if (range_map_copy(&m->a, &wanted)) abort();
+            if (range_map_paint(&wanted, 4, 5, (uint64_t)of_one[op], NULL)) abort();
+            if (place == RANGE_MAP_ALL && range_map_paint(&wanted, 6, 9, 3, NULL)) abort();
+            if (range_map_paint(&wanted, 10, 12, (uint64_t)of_two[op], NULL)) abort();
+            judge(range_map_combine(&m->a, 4, 12, 3, (enum range_map_op)op, (enum range_map_place)place) == RANGE_MAP_DONE &&
+                      range_map_equal(&m->a, &wanted),
+                  "combine", op, place);
+            range_map_free(&wanted);
+        }
+    }
+}
+
 static void contents(void) {
     static const int64_t a[] = {0, 5, 1, 10, 15, 2}, b[] = {4, 11, 3};
     static const int64_t united[] = {0, 3, 1, 4, 11, 3, 12, 15, 2}, both[] = {4, 5, 3, 10, 11, 3};
@@ -413,6 +493,7 @@ static void contents(void) {
     judge_answer("pop_first", range_map_pop_first(&m.a, &told, &told_key, &told_value), true, 0, 1);
     judge_answer("pop_last", range_map_pop_last(&m.a, &told, &told_key, &told_value), true, 15, 2);
     judge_map("pops", &m.a, 2, popped);
+    combined(&m);
     end(&m);
     judge(blocks == 0, "memory that is not freed", 2, blocks);
 }
@@ -432,6 +513,8 @@ static void change_nothing(struct maps *m) {
     judge_quiet("remove_range of an empty range", range_map_remove_range(&m->a, 9, 2, NULL));
     judge_quiet("remove_range of a free range", range_map_remove_range(&m->a, 6, 9, NULL));
     judge_quiet("remove of a free key", range_map_remove(&m->a, 7, NULL, NULL));
+    judge_quiet("combine of an empty range", range_map_combine(&m->a, 9, 2, 5, RANGE_MAP_ADD, RANGE_MAP_ALL));
+    judge_quiet("combine of a free range", range_map_combine(&m->a, 6, 9, 5, RANGE_MAP_ADD, RANGE_MAP_MAPPED));
     judge_quiet("paint_many of none", range_map_paint_many(&m->a, NULL, NULL, NULL, 0));
     judge_quiet("extend by nothing", range_map_extend(&m->a, &m->b));
 }
@@ -455,6 +538,7 @@ static void nothing(void) {
         judge_quiet("remove_range from the empty map", range_map_remove_range(&m.a, INT64_MIN, INT64_MAX, NULL));
         judge_quiet("copy of the empty map", range_map_copy(&m.a, &m.out));
         judge_quiet("split_off of the empty map", range_map_split_off(&m.a, 3, &m.out));
+        judge_quiet("combine of the empty map", range_map_combine(&m.a, INT64_MIN, INT64_MAX, 5, RANGE_MAP_ADD, RANGE_MAP_MAPPED));
         judge_quiet("union of no map", range_map_union_many(NULL, 0, &m.out));
         judge(range_map_is_empty(&m.a) && range_map_is_empty(&m.out), "maps after these", used, 0);
         if (range_map_paint(&m.a, 0, 5, 1, NULL)) abort();
@@ -463,6 +547,9 @@ static void nothing(void) {
         judge_quiet("paint inside an entry", range_map_paint(&m.a, 2, 3, 1, NULL));
         judge_quiet("insert inside an entry", range_map_insert(&m.a, 2, 1, NULL, NULL));
         judge_quiet("fill of a full range", range_map_fill(&m.a, 0, 5, 7, NULL));
+        judge_quiet("combine, a sum with 0", range_map_combine(&m.a, INT64_MIN, INT64_MAX, 0, RANGE_MAP_ADD, RANGE_MAP_MAPPED));
+        judge_quiet("combine, the same bits", range_map_combine(&m.a, 1, 4, 1, RANGE_MAP_OR, RANGE_MAP_ALL));
+        judge_quiet("combine, the old value", range_map_combine(&m.a, 0, 5, 9, RANGE_MAP_KEEP_OLD, RANGE_MAP_ALL));
         judge(range_map_fill_if_free(&m.a, 5, 9, 7) == RANGE_MAP_TAKEN && requests == 0, "fill_if_free of a taken range", used, requests);
         read_contents(&m, &now);
         judge(is_equal(&now, &before), "maps that nothing changed", used, 0);
@@ -564,6 +651,9 @@ static void whole(void) {
     range_map_count(&map, &low, &high);
     judge(low == 0 && high == 1, "count of all keys", 1, 0);
     judge(range_map_previous(&map, INT64_MIN, &lo, &hi, &value) && hi == INT64_MAX && value == UINT64_MAX, "previous", 1, 0);
+    judge(range_map_combine(&map, INT64_MIN, INT64_MAX, 3, RANGE_MAP_ADD, RANGE_MAP_MAPPED) == RANGE_MAP_DONE, "combine of all keys", 1, 0);
+    judge(range_map_entries(&map) == 1 && range_map_get(&map, INT64_MAX, &value) && value == 2, "a sum that wraps", 1, 0);
+    judge(range_map_combine(&map, INT64_MIN, INT64_MAX, UINT64_MAX, RANGE_MAP_MAX, RANGE_MAP_ALL) == RANGE_MAP_DONE, "combine again", 1, 0);
     judge(range_map_next(&map, INT64_MAX, &lo, &hi, &value) && lo == INT64_MIN, "next", 1, 0);
     judge(range_map_remove(&map, 0, &told, &value) == RANGE_MAP_DONE && told && value == UINT64_MAX, "remove", 1, 0);
     judge(range_map_pop_last(&map, &told, &hi, &value) == RANGE_MAP_DONE && told && hi == INT64_MAX, "pop_last", 2, 0);

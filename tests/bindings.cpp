@@ -230,6 +230,17 @@ static void judge_members() {
     for (int i = 0; i < 100; i++) long_map.paint(3 * i, 3 * i + 1, i);
     judge(std::distance(long_map.begin(), long_map.end()) == 100 && long_map.size() == 100, "a long walk");
 
+    using rangemap::op;
+    rangemap::map<int, std::uint64_t> depth = {{0, 9, 1}, {20, 29, 6}};
+    depth.combine(5, 24, 3, op::add, rangemap::place::all);
+    depth.combine(9, 5, 3, op::add, rangemap::place::all);
+    judge(list(depth) == decltype(list(depth)){{0, 4, 1}, {5, 9, 4}, {10, 19, 3}, {20, 24, 9}, {25, 29, 6}}, "combine, all keys");
+    depth.erase(10, 19);
+    depth.combine(INT32_MIN, INT32_MAX, 5, op::bit_xor, rangemap::place::mapped);
+    judge(list(depth) == decltype(list(depth)){{0, 4, 4}, {5, 9, 1}, {20, 24, 12}, {25, 29, 3}}, "combine, mapped keys");
+    depth.combine(5, 29, 2, op::min, rangemap::place::mapped);
+    judge(list(depth) == decltype(list(depth)){{0, 4, 4}, {5, 9, 1}, {20, 29, 2}}, "combine, the lesser");
+
     rangemap::map<std::uint64_t, id> places;
     judge(places.paint(0, UINT64_MAX, id(4)) && places.count() == UINT64_MAX && places.size() == 1, "all 2^64 keys");
     judge(places.count_within(0, UINT64_MAX) == UINT64_MAX && places.complement(id(1)).empty(), "all 2^64 keys, within");
@@ -257,6 +268,18 @@ template <class Value> static Value value_of(std::uint64_t number) {
     else if constexpr (std::is_same_v<Value, letter>) return static_cast<letter>('a' + number);
     else if constexpr (std::is_same_v<Value, id>) return id(static_cast<int>(number));
     else return static_cast<Value>(number - 1);
+}
+
+static std::uint64_t combined(std::uint64_t old, std::uint64_t value, rangemap::op by) {
+    switch (by) {
+    case rangemap::op::add: return old + value;
+    case rangemap::op::min: return std::min(old, value);
+    case rangemap::op::max: return std::max(old, value);
+    case rangemap::op::bit_and: return old & value;
+    case rangemap::op::bit_or: return old | value;
+    case rangemap::op::bit_xor: return old ^ value;
+    default: return old;
+    }
 }
 
 template <class Key, class Value> class random_test {
@@ -434,10 +457,26 @@ template <class Key, class Value> class random_test {
         } else if (choice >= 15) {
             combine(map, model, maps[n], models[n], maps[o], models[o]);
         }
+        if constexpr (std::is_same_v<Value, std::uint64_t>) {
+            if (draw(10) == 0) combine_values(map, model);
+        }
         if (is_small ? model.size() > 200 : model.size() > 60 && draw(8) == 0) {
             map.clear();
             model.clear();
         }
+    }
+
+    void combine_values(range_map &map, key_map &model) {
+        const auto [first, last] = draw_range();
+        const Value value = value_of<Value>(draw(3));
+        const auto by = static_cast<rangemap::op>(draw(7));
+        const auto where = static_cast<rangemap::place>(draw(2));
+        each(first, last, [&](Key at) {
+            const auto found = model.find(at);
+            if (found != model.end()) found->second = combined(found->second, value, by);
+            else if (where == rangemap::place::all) model.emplace(at, value);
+        });
+        map.combine(first, last, value, by, where);
     }
 
     void combine(range_map &map, key_map &into, const range_map &a, const key_map &x, const range_map &b, const key_map &y) {

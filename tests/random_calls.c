@@ -1,6 +1,6 @@
 /* Random calls on maps against a model: the value of each of a list of atoms, which are ranges of keys that are set together. In a
- * third of the calls one allocation fails: the maps must be unchanged then, or a first part of the input applied where the header
- * says so. Arguments: the number of calls, and a seed. It is linked with --wrap of malloc, realloc and free. The last line is 'N passed,
+ * third of the calls one allocation fails: the maps must be unchanged then, or a first part of the input or the range changed where
+ * the header says so. Arguments: the number of calls, and a seed. It is linked with --wrap of malloc, realloc and free. The last line is 'N passed,
  * M failed'. */
 #include <inttypes.h>
 #include <stdio.h>
@@ -164,6 +164,58 @@ static void check(int m) {
     range_map_free(&again);
 }
 
+/* ---- Values combined with one value */
+
+static uint64_t combined(uint64_t old, uint64_t value, enum range_map_op op) {
+    switch (op) {
+    case RANGE_MAP_ADD: return old + value;
+    case RANGE_MAP_MIN: return old < value ? old : value;
+    case RANGE_MAP_MAX: return old > value ? old : value;
+    case RANGE_MAP_AND: return old & value;
+    case RANGE_MAP_OR: return old | value;
+    case RANGE_MAP_XOR: return old ^ value;
+    default: return old;
+    }
+}
+
+/* Combines the values of atoms i to j, and returns whether one of them changes. */
+static bool combine_model(struct model *model, int i, int j, uint64_t value, enum range_map_op op, enum range_map_place place) {
+    bool is_changed = false;
+    for (int k = i; k <= j; k++) {
+        if (model->has[k]) {
+            uint64_t now = combined(model->value[k], value, op);
+            is_changed |= now != model->value[k];
+            model->value[k] = now;
+        } else if (place == RANGE_MAP_ALL) {
+            is_changed = model->has[k] = true, model->value[k] = value;
+        }
+    }
+    return is_changed;
+}
+
+static bool is_content(const struct range_map *map, const struct model *model) {
+    for (int k = 0; k < ATOMS; k++) {
+        uint64_t value;
+        if (range_map_get(map, start_of[k], &value) != model->has[k] || (model->has[k] && value != model->value[k])) return false;
+    }
+    return true;
+}
+
+/* The model of a map in which the atoms i to j, or those up to the end of a piece of them, or none are combined. */
+static struct model part_combined(const struct range_map *map, struct model old, int i, int j, uint64_t value, enum range_map_op op,
+                                  enum range_map_place place) {
+    struct model model = old;
+    for (int k = i; k <= j && !is_content(map, &model); k++) {
+        combine_model(&model, k, k, value, op, place);
+        while (k < j && old.has[k + 1] == old.has[k] && (!old.has[k] || old.value[k + 1] == old.value[k])) {
+            k++;
+            combine_model(&model, k, k, value, op, place);
+        }
+    }
+    judge(is_content(map, &model), "a part combined");
+    return model;
+}
+
 /* One random call on map m and its model. Returns the status of the call; the model changes only if it is DONE. */
 static int32_t call(int m, uint64_t choice, int i, int j, uint64_t value, int n, int o) {
     struct model *model = &models[m], before = *model, other = models[n];
@@ -296,6 +348,16 @@ static int32_t call(int m, uint64_t choice, int i, int j, uint64_t value, int n,
         }
         break;
     }
+    case 15:
+    case 16: {
+        enum range_map_op op = (enum range_map_op)draw(7);
+        enum range_map_place place = (enum range_map_place)draw(2);
+        uint64_t with = draw(8) ? value : UINT64_MAX - value;
+        combine_model(model, i, j, with, op, place);
+        status = range_map_combine(map, start_of[i], end_of[j], with, op, place);
+        if (status == RANGE_MAP_NO_MEMORY) before = part_combined(map, before, i, j, with, op, place);
+        break;
+    }
     default: {
         int64_t sign = 0;
         for (int k = 0; k < ATOMS && !sign; k++) { /* the first atom in which the lists differ */
@@ -340,7 +402,7 @@ int main(int count, char **arguments) {
         uint64_t value = draw(3);
         requests = 0;
         refused = draw(3) ? 0 : 1 + (long)draw(4);
-        int32_t status = call(m, draw(16), i, j, value, n, o);
+        int32_t status = call(m, draw(18), i, j, value, n, o);
         judge(status == RANGE_MAP_DONE || (status == RANGE_MAP_NO_MEMORY && refused), "status");
         refused = 0;
         check(m);
@@ -351,6 +413,13 @@ int main(int count, char **arguments) {
             while (k <= j && models[m].has[k] && models[m].value[k] == value) k++;
             requests = 0;
             if (k > j) judge(range_map_paint(&maps[m], start_of[i], end_of[j], value, NULL) == RANGE_MAP_DONE && !requests, "a paint that changes nothing");
+            for (int op = RANGE_MAP_ADD; op <= RANGE_MAP_KEEP_OLD; op++) {
+                struct model model = models[m];
+                enum range_map_place place = (enum range_map_place)draw(2);
+                if (combine_model(&model, i, j, value, (enum range_map_op)op, place)) continue;
+                judge(range_map_combine(&maps[m], start_of[i], end_of[j], value, (enum range_map_op)op, place) == RANGE_MAP_DONE && !requests,
+                      "a combination that changes nothing");
+            }
             for (k = i; k <= j && !models[m].has[k]; k++) {}
             if (k > j) judge(range_map_remove_range(&maps[m], start_of[i], end_of[j], NULL) == RANGE_MAP_DONE && !requests, "a removal that changes nothing");
         }

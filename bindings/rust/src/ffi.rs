@@ -76,6 +76,14 @@ extern "C" {
         had: *mut bool,
         old: *mut u64,
     ) -> i32;
+    pub(crate) fn range_map_combine_unchecked(
+        map: *mut Raw,
+        lo: i64,
+        hi: i64,
+        value: u64,
+        op: u32,
+        place: u32,
+    ) -> i32;
     pub(crate) fn range_map_remove_range_unchecked(
         map: *mut Raw,
         lo: i64,

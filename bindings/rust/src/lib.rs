@@ -50,9 +50,9 @@
 //! # Memory
 //!
 //! A call that may allocate returns `Result<_, OutOfMemory>`. So do the operators `|`, `&`, `-` and
-//! `^`. If an allocation fails, the map is unchanged, except by three calls that take many entries.
-//! [`RangeMap::extend_with`], [`RangeMap::append`] and [`RangeMap::try_extend`] may have applied a
-//! first part of them. A change that has no effect does not allocate, except by `try_extend`, which
+//! `^`. If an allocation fails, the map is unchanged, except by four calls. [`RangeMap::extend_with`],
+//! [`RangeMap::append`] and [`RangeMap::try_extend`] take many entries, and may have applied a first
+//! part of them. [`RangeMap::combine`] may have changed a first part of its range. A change that has no effect does not allocate, except by `try_extend`, which
 //! collects its input in batches first.
 //!
 //! Some traits of the standard library cannot return an error. Their implementations call
@@ -128,6 +128,7 @@
 
 mod bounds;
 mod collect;
+mod combine;
 mod ffi;
 mod iter;
 mod map;
@@ -138,6 +139,7 @@ mod traits;
 
 use std::ops::RangeInclusive;
 
+pub use combine::{Op, Place};
 pub use iter::{Gaps, IntoRangeValues, Overlapping, RangeValues, Ranges};
 pub use map::RangeMap;
 pub use out_of_memory::OutOfMemory;

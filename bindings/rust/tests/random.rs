@@ -5,8 +5,8 @@
 //! does not replace. The tests of the C header make each allocation fail in turn.
 
 use range_map::{
-    Entry, Gaps, IntoRangeValues, InvalidTable, OutOfMemory, Overlapping, RangeMap, RangeValues,
-    Ranges, Table, TableBuf,
+    Entry, Gaps, IntoRangeValues, InvalidTable, Op, OutOfMemory, Overlapping, Place, RangeMap,
+    RangeValues, Ranges, Table, TableBuf,
 };
 use std::collections::hash_map::DefaultHasher;
 use std::collections::{BTreeMap, VecDeque};
@@ -165,6 +165,28 @@ fn check(choice: &mut Choice, map: &RangeMap, plain: &Plain, lo: i64, hi: i64) -
     Ok(())
 }
 
+const OPS: [Op; 7] = [
+    Op::Add,
+    Op::Min,
+    Op::Max,
+    Op::BitAnd,
+    Op::BitOr,
+    Op::BitXor,
+    Op::KeepOld,
+];
+
+fn combined(old: u64, value: u64, op: Op) -> u64 {
+    match op {
+        Op::Add => old.wrapping_add(value),
+        Op::Min => old.min(value),
+        Op::Max => old.max(value),
+        Op::BitAnd => old & value,
+        Op::BitOr => old | value,
+        Op::BitXor => old ^ value,
+        Op::KeepOld => old,
+    }
+}
+
 fn round(choice: &mut Choice) -> Outcome {
     let base = [0, -12, i64::MIN, i64::MAX - KEYS + 1][choice.below(4) as usize];
     let (mut map, mut plain) = (RangeMap::new(), Plain::new());
@@ -173,7 +195,7 @@ fn round(choice: &mut Choice) -> Outcome {
         let (one, two) = (base + choice.below(KEYS), base + choice.below(KEYS));
         let (lo, hi, value) = (one.min(two), one.max(two), choice.below(4) as u64);
         let size = plain.len();
-        match choice.below(24) {
+        match choice.below(26) {
             0..=2 => {
                 plain.extend((lo..=hi).map(|key| (key, value)));
                 assert_eq!(map.ranges_insert(lo..=hi, value)?, plain.len() != size);
@@ -320,6 +342,19 @@ fn round(choice: &mut Choice) -> Outcome {
                 assert_eq!(map.cmp(&other), plain.cmp(&other_plain));
                 assert_eq!(map < other, plain < other_plain);
                 assert_eq!(map == other, plain == other_plain);
+            }
+            23 | 24 => {
+                let op = OPS[choice.below(7) as usize];
+                let place = [Place::All, Place::Mapped][choice.below(2) as usize];
+                let value = [value, u64::MAX - value][choice.below(2) as usize];
+                for key in lo..=hi {
+                    match plain.get_mut(&key) {
+                        Some(old) => *old = combined(*old, value, op),
+                        None if place == Place::All => drop(plain.insert(key, value)),
+                        None => {}
+                    }
+                }
+                map.combine(lo..=hi, value, op, place)?;
             }
             _ => {
                 map.clear();
@@ -587,6 +622,7 @@ fn ranges_without_a_key() -> Outcome {
             assert!(!map.ranges_insert_absent(range, 2)?);
             assert!(map.fill_if_free(range, 2)?);
             assert!(!map.ranges_remove(range)?);
+            map.combine(range, 2, Op::Add, Place::All)?;
             map.try_extend([(range, 2), (range, 3)])?;
             assert_eq!(map, before);
             assert_eq!(map.len_within(range), 0);

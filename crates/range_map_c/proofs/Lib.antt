@@ -1,3 +1,4 @@
+pub mod Combining
 pub mod RowLists
 pub mod Steps
 pub mod Tells

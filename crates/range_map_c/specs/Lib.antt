@@ -1,3 +1,4 @@
+pub mod Combined
 pub mod Gaps
 pub mod Handle
 pub mod Lends

@@ -45,8 +45,8 @@ pub extern "C" fn range_map_paint_many_unchecked(
     }
 }
 
-// The status of a call that only a failed allocation can stop.
-fn status_of(outcome: Result<(), AllocError>) -> i32
+/// Returns the status of a call that only a failed allocation can stop.
+pub fn status_of(outcome: Result<(), AllocError>) -> i32
     ensures { MatchResult outcome (λ done. result ≡ pos 0) (λ error. result ≡ pos 1) }
 {
     match outcome {

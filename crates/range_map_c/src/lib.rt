@@ -6,6 +6,7 @@ ghost use Rattle.std.specs.Prelude.{◌≡◌};
 
 mod bulk;
 mod changes;
+mod combine;
 mod compare;
 mod counts;
 mod ends;
