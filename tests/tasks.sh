@@ -83,7 +83,8 @@ wanted=()
 if (cd "$program" && rt try) </dev/null >"$work/got" 2>"$work/said"; then
     mapfile -t got <"$work/got"
     for ((each = 0; each < number; each++)); do
-        judge "${wanted[each]# // }" "${got[each]%; }" "line $((each + 1)) of docs/TASKS.md"
+        one="${got[each]:-}"
+        judge "${wanted[each]# // }" "${one%; }" "line $((each + 1)) of docs/TASKS.md"
     done
 else
     failed="$number"
