@@ -39,7 +39,8 @@ counts() { # what it is called here, the command
         failed=$((failed + BASH_REMATCH[2]))
     fi
     judge 0 "$status" "$what"
-    if [ "$status" != 0 ]; then tail -n 20 "$work/said"; fi
+    # (also of a test that passes: what it left out)
+    if [ "$status" != 0 ]; then tail -n 20 "$work/said"; else grep 'left out$' "$work/said" || true; fi
 }
 
 # ---- C
