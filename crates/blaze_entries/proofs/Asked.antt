@@ -1,5 +1,5 @@
 -- Entries that a closure is asked at, one after another, where those at which it answers false go.
-use Rattle.std.proofs.Common.{◌≡◌, ◌<◌, ℤ, pos, negsuc, ◌+ℤ◌, ◌-ℤ◌, ◌≤ℤ◌, ◌<ℤ◌, Bool, true, false, List, [], ◌∷◌, ◌++◌, refl, ◌∙◌, sym, subst, ap, arith, append_assoc}
+use Rattle.std.proofs.Common.{◌≡◌, ◌<◌, ℤ, pos, negsuc, ◌+ℤ◌, ◌-ℤ◌, ◌≤ℤ◌, ◌<ℤ◌, Bool, true, false, cond, List, [], ◌∷◌, ◌++◌, refl, ◌∙◌, sym, subst, ap, arith, append_assoc}
 use Rattle.std.specs.Borrow.{Bor}
 use Rattle.std.specs.Fn.{Mut, Called}
 use Rattle.std.specs.List.{FoldsTo}
@@ -12,7 +12,10 @@ use Rattle.std.proofs.lemmas.List.{append-nil}
 use Rattle.blaze_int.specs.Unsigned.{nat_of}
 use Rattle.blaze_entries.specs.Answers.{IsShown, AnswersAt, SomeCallAt, IsCallableAtEach, TakesEntry, KeepsEach, KeepsUpTo}
 use Rattle.blaze_entries.specs.Entries.{Entry, shown_entry}
-use Rattle.blaze_entries.specs.Starts.{StartsAscend, from, without}
+use Rattle.blaze_entries.specs.Starts.{StartsAscend, from, start_at, without}
+use Rattle.blaze_int.proofs.Comparisons.{eq_true}
+use Rattle.std.specs.Ordering.{int_eq}
+use Rattle.std.specs.Prelude.{Some, IsSome}
 use Rattle.blaze_entries.proofs.Ascending.{by_order}
 use Rattle.blaze_entries.proofs.InTurn.{kept_calls, filtered_kept, filtered_dropped, folds-append}
 use Rattle.blaze_entries.proofs.Halves.{StartsBelow, from_skips, from_all, more_below}
@@ -177,6 +180,19 @@ module _ {F T V : Type 0} {rank : T → ℤ} {g : Mut F (Bor (RangeInclusive T) 
 
       pub next_is_key : start ≤ℤ high
       next_is_key = omega (arith, ints, here.is_key, u.starts)
+
+      -- the one that goes is there
+      pub asked_present : IsSome (start_at start es)
+      asked_present =
+          subst (λ l. IsSome (start_at start l)) (sym (a.parts ∙ ap (λ l. a.done ++ l) split ∙ sym (append_assoc a.done u.before (u.first ∷ u.after))))
+          (some_among (a.done ++ u.before))
+        where
+          some_among : (xs : List (Entry V)) → IsSome (start_at start (xs ++ u.first ∷ u.after))
+          some_among [] = rw (eq_true start u.first.lo u.starts) refl
+          some_among (x ∷ xs) = elim (int_eq start x.lo) as (λ b. IsSome (cond b (Some x) (start_at start (xs ++ u.first ∷ u.after)))) [
+            | true ↦ refl
+            | false ↦ some_among xs
+          ]
 
       pub next_asked : {new : List (Entry V)} {j : ℤ} → new ≡ without start es → j ≡ start +ℤ pos 1 → IsAsked rank g f high old j new i
       next_asked {new} {j} q n =

@@ -6,7 +6,7 @@ use Rattle.blaze_entries.specs.Cloned.{AreCloned}
 use Rattle.blaze_entries.specs.Entries.{Entry, entry}
 use Rattle.blaze_entries.specs.Nodes.{shown_nodes, shown_node, held, full, AreHeld}
 use Rattle.blaze_entries.specs.Starts.{StartsAscend}
-use Rattle.blaze_entries.specs.declared.nodes.EndValue.{EndValue}
+use Rattle.blaze_entries.specs.declared.node.EndValue.{EndValue}
 use Rattle.blaze_entries.proofs.Held.{are_held, full-held}
 
 -- a clone of the value v

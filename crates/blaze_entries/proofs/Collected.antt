@@ -16,7 +16,7 @@ use Rattle.std.proofs.lemmas.Map.Made.{update_all_none}
 use Rattle.blaze_entries.specs.Entries.{Entry, shown_entry}
 use Rattle.blaze_entries.specs.Nodes.{shown_nodes, shown_node_at, held, node_of}
 use Rattle.blaze_entries.specs.Starts.{StartsAscend, start_at}
-use Rattle.blaze_entries.specs.declared.nodes.EndValue.{EndValue}
+use Rattle.blaze_entries.specs.declared.node.EndValue.{EndValue}
 use Rattle.blaze_entries.proofs.Ascending.{by_order, start_none}
 use Rattle.blaze_entries.proofs.NodeLists.{as_entries_lookup}
 

@@ -9,7 +9,7 @@ use denote.Ref.{Bor}
 use Rattle.blaze_entries.specs.Entries.{Entry, entry}
 use Rattle.blaze_entries.specs.Nodes.{held, full, AreHeld, shown_node, shown_node_at, shown_lent_node, shown_nodes}
 use Rattle.blaze_entries.specs.Starts.{last_below, reaching, holder_of, first_from, start_at, with_entry, IsCloneInserted}
-use Rattle.blaze_entries.specs.declared.nodes.EndValue.{EndValue}
+use Rattle.blaze_entries.specs.declared.node.EndValue.{EndValue}
 use Rattle.blaze_entries.proofs.Held.{last_below-held, first_from-held, start_at-held, none_held, some_held}
 
 module _ {T V : Type 0} (rank : T → ℤ) where
@@ -55,16 +55,6 @@ module _ {V : Type 0} (low high k : ℤ) (ps : List (Entry (Option V))) (h : Are
   pub found_below : last_below k ps ≡ option_map held (last_below k (full ps))
   found_below = ap (last_below k) h.full.held ∙ last_below-held k (full ps)
 
-  pub found_reaching : reaching k (last_below (k +ℤ pos 1) ps) ≡ option_map held (holder_of k (full ps))
-  found_reaching = ap (λ es. reaching k (last_below (k +ℤ pos 1) es)) h.full.held ∙ ap (reaching k) (last_below-held (k +ℤ pos 1) (full ps)) ∙ reaching-held (last_below (k +ℤ pos 1) (full ps))
-    where
-      reaching-held : (o : Option (Entry V)) → reaching k (option_map held o) ≡ option_map held (reaching k o)
-      reaching-held None = refl
-      reaching-held (Some e) = elim (int_lt e.hi k) as (λ b. cond b None (Some (held e)) ≡ option_map held (cond b None (Some e))) [
-        | true ↦ refl
-        | false ↦ refl
-      ]
-
   pub found_from : first_from k ps ≡ option_map held (first_from k (full ps))
   found_from = ap (first_from k) h.full.held ∙ first_from-held k (full ps)
 
@@ -76,33 +66,6 @@ module _ {V : Type 0} (low high k : ℤ) (ps : List (Entry (Option V))) (h : Are
 
   pub present_at : IsSome (start_at k (full ps)) → IsSome (start_at k ps)
   present_at i = subst (λ o. IsSome o) (sym found_at) (some_held (start_at k (full ps)) i)
-
--- a node that is lent
-module _ {X : Type 0} where
-  pub some_copied : (r : Option (Bor X)) → IsSome (option_copied r) → IsSome r
-  some_copied None i = i
-  some_copied (Some x) i = refl
-
-  pub each_copied : (P : X → Type 0) (r : Option (Bor X)) → IfSome (option_copied r) P → IfSome r (λ x. P x.now)
-  each_copied P None i = tt
-  each_copied P (Some x) i = i
-
--- a fact for the entry that a node holds, where there is one
-pub each_held : {V : Type 0} (P : Entry V → Type 0) (o : Option (Entry V)) (m : Option (Entry (Option V))) → m ≡ option_map held o → ((e : Entry V) → m ≡ Some (held e) → P e) → IfSome o P
-each_held P None m q f = tt
-each_held P (Some e) m q f = f e q
-
--- an entry put in with a clone of the value of one that was found
-pub clone_inserted : {V : Type 0} (is_clone : V → V → Type 0) (k s z : ℤ) (v : V) (m : Option (Entry (Option V))) (old new : List (Entry V))
-    → IsSome (start_at k old) → m ≡ option_map held (start_at k old) → ((e : Entry V) → m ≡ Some (held e) → (z ≡ e.hi) × is_clone e.value v)
-    → new ≡ with_entry (entry s z v) old → IsCloneInserted is_clone k s old new
-clone_inserted {V} is_clone k s z v m old new i q f p = by_found (start_at k old) refl i
-  where
-    by_found : (o : Option (Entry V)) → start_at k old ≡ o → IsSome o → IsCloneInserted is_clone k s old new
-    by_found None r j = cc
-    by_found (Some e) r j =
-        let t = f e (q ∙ ap (option_map held) r) in
-        record { of = e; found = r; value = v; clone = t.1; inserted = p ∙ ap (λ x. with_entry (entry s x v) old) t.0 }
 
 pub no_value : (X : Type 0) → IsSome {T = X} None → ⊥
 no_value X j = cc

@@ -16,7 +16,7 @@ use Rattle.std.proofs.lemmas.List.{length-map}
 use Rattle.std.proofs.lemmas.Option.{slice_get-map}
 use Rattle.blaze_entries.specs.Entries.{Entry, entry}
 use Rattle.blaze_entries.specs.Changed.{changed}
-use Rattle.blaze_entries.specs.declared.nodes.EndValue.{EndValue}
+use Rattle.blaze_entries.specs.declared.node.EndValue.{EndValue}
 use Rattle.blaze_entries.specs.Nodes.{shown_nodes, shown_node, shown_node_at}
 use Rattle.blaze_entries.specs.Starts.{StartsAscend, below, from, up_to, first_entry, last_below, start_at, with_entry, without, with_end, with_end_value, with_last_end}
 use Rattle.blaze_entries.proofs.Ascending.{by_order}
@@ -33,18 +33,6 @@ last_taken shows s t (Some x) h = rw h (sym (last_of_append None t (shows x)))
 pub first_taken : {A X : Type 0} (shows : A → X) (s t : List X) (r : Option A) → TakesFirst shows s r t → option_map shows r ≡ first_entry s
 first_taken shows s t None h = rw h.0 refl
 first_taken shows s t (Some x) h = rw h refl
-
-pub last_shown : {A B : Type 0} (f : A → B) (o : Option A) (xs : List A) → option_map f (last_or o xs) ≡ last_or (option_map f o) (map f xs)
-last_shown f o [] = refl
-last_shown f o (x ∷ xs) = last_shown f (Some x) xs
-
-pub first_shown : {A B : Type 0} (f : A → B) (xs : List A) → option_map f (first_entry xs) ≡ first_entry (map f xs)
-first_shown f [] = refl
-first_shown f (x ∷ xs) = refl
-
-pub map_twice : {A B C : Type 0} (f : A → B) (h : B → C) (o : Option A) → option_map (λ x. h (f x)) o ≡ option_map h (option_map f o)
-map_twice f h None = refl
-map_twice f h (Some x) = refl
 
 -- the tests of the searches, by rank
 module _ (k z : ℤ) where
@@ -147,9 +135,6 @@ module _ {T V : Type 0} (rank : T → ℤ) where
     -- the nodes that start below a key
     pub as_entries_between : shown_nodes rank (entries_between (on rank int_cmp) Unbounded (Excluded k) m) ≡ below (rank k) (shown_nodes rank m)
     as_entries_between = as_entries_filter (λ q. not (is_le (int_cmp (rank k) (rank q)))) (λ z. int_lt z (rank k)) (λ q. not_above_is (rank k) (rank q)) m
-
-    pub as_entries_before : option_map (shown_node rank) (last_or None (entries_between (on rank int_cmp) Unbounded (Excluded k) m)) ≡ last_below (rank k) (shown_nodes rank m)
-    as_entries_before = last_shown (shown_node rank) None (entries_between (on rank int_cmp) Unbounded (Excluded k) m) ∙ ap (last_or None) as_entries_between
 
     -- the nodes that start from a key on
     pub as_entries_at_or_above : shown_nodes rank (entries_between (on rank int_cmp) (Included k) Unbounded m) ≡ from (rank k) (shown_nodes rank m)

@@ -9,17 +9,7 @@ use Rattle.blaze_entries.specs.Found.{IsFoundAt}
 use Rattle.blaze_entries.specs.Nodes.{held, full, shown_nodes, shown_node, AreFull}
 use Rattle.blaze_entries.specs.Starts.{below, from}
 use Rattle.blaze_entries.specs.declared.range_entry.RangeEntry.{RangeEntry}
-use Rattle.blaze_entries.specs.declared.nodes.EndValue.{EndValue}
-
--- what shows the last entry
-pub shown_last : {V : Type 0} (e : Entry V) (o : Option (Entry V)) (es fs : List (Entry V)) → Some e ≡ o → MatchOption o ((es ≡ []) × (fs ≡ [])) (λ f. es ≡ fs ++ f ∷ []) → es ≡ fs ++ e ∷ []
-shown_last e None es fs q h = cc
-shown_last e (Some f) es fs q h = let p : f ≡ e = cc in h ∙ ap (λ x. fs ++ x ∷ []) p
-
--- none is left where nothing is shown
-pub shown_none : {V : Type 0} (o : Option (Entry V)) (es fs : List (Entry V)) → None ≡ o → MatchOption o ((es ≡ []) × (fs ≡ [])) (λ f. es ≡ fs ++ f ∷ []) → es ≡ []
-shown_none None es fs q h = h.0
-shown_none (Some f) es fs q h = cc
+use Rattle.blaze_entries.specs.declared.node.EndValue.{EndValue}
 
 -- what was looked at with its value is the entry
 pub found_entry : {T V : Type 0} {rank : T → ℤ} {test : V → Bool} {f : RangeEntry T Bool} {w : V} {e : Entry V} → IsFoundAt rank test f w e → entry (rank f.start) (rank f.end) w ≡ e
@@ -34,12 +24,3 @@ length-below k es = length-part (λ e. int_lt e.lo k) es
 
 pub length-from : {V : Type 0} (k : ℤ) (es : List (Entry V)) → length (from k es) ≤ length es
 length-from k es = length-part (λ e. int_le k e.lo) es
-
--- as many nodes as entries
-pub length-nodes : {T V : Type 0} (rank : T → ℤ) (m : List (T × EndValue T (Option V))) → AreFull (shown_nodes rank m) → length m ≡ length (full (shown_nodes rank m))
-length-nodes rank m h = sym (length-map m (shown_node rank)) ∙ ap length h.held ∙ length-map (full (shown_nodes rank m)) held
-
-pub shorter_last : {V : Type 0} (e : Entry V) (es fs : List (Entry V)) (m n : ℕ) → es ≡ fs ++ e ∷ [] → m ≡ length fs → n ≡ length es → m < n
-shorter_last e es fs m n h p q =
-    let l : length es ≡ length fs + 1 = ap length h ∙ length-append fs (e ∷ []) in
-    omega arith

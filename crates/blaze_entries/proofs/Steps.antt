@@ -8,7 +8,7 @@ use Rattle.std.proofs.lemmas.Int.{ints}
 use Rattle.blaze_entries.specs.Entries.{Entry}
 use Rattle.blaze_entries.specs.Nodes.{held, full, shown_node, shown_nodes, entries_of, AreFull, AreHeld}
 use Rattle.blaze_entries.specs.Starts.{StartsAscend}
-use Rattle.blaze_entries.specs.declared.nodes.EndValue.{EndValue}
+use Rattle.blaze_entries.specs.declared.node.EndValue.{EndValue}
 use Rattle.blaze_entries.proofs.Ascending.{start_front, start_lower}
 use Rattle.blaze_entries.proofs.Held.{full-held}
 use Rattle.blaze_entries.proofs.Lent.{no_value}

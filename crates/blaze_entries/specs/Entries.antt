@@ -1,5 +1,7 @@
 -- A range map as a list of entries, and its content: what it has at each key. Keys stand by their ranks.
 use Rattle.std.specs.Prelude.{◌≡◌, ℤ, int_le, Bool, true, ◌&&◌, if◌then◌else◌, List, [], ◌∷◌, map, Option, Some, None, refl}
+use Rattle.std.specs.Option.{option_map}
+use denote.Ref.{Bor}
 use Rattle.std.specs.Coded.{Coded, code_by, coded×, coded_ℤ}
 use Rattle.blaze_entries.specs.declared.range_entry.RangeEntry.{RangeEntry}
 
@@ -25,6 +27,10 @@ shown_entry rank shown p = record { lo = rank p.0; hi = rank p.1; value = shown 
 -- a list of first keys, last keys and values, as entries
 abbrev pub shown_list : {T V : Type 0} → (T → ℤ) → List (T × T × V) → List (Entry V)
 shown_list rank entries = map (shown_entry rank (λ v. v)) entries
+
+-- an entry that a look-up has found, its value lent
+abbrev pub shown_lent : {T V : Type 0} → (T → ℤ) → Option (T × T × Bor V) → Option (Entry V)
+shown_lent rank found = option_map (shown_entry rank (λ v. v.now)) found
 
 -- an entry that one function hands to another
 abbrev pub shown_range_entry : {T R V : Type 0} → (T → ℤ) → (R → V) → RangeEntry T R → Entry V

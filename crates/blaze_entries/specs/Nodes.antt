@@ -5,7 +5,7 @@ use Rattle.std.specs.Map.Iter.{deref_pair}
 use denote.Ref.{Bor}
 use Rattle.blaze_entries.specs.Entries.{Entry, entry}
 use Rattle.blaze_entries.specs.Starts.{StartsAscend}
-use Rattle.blaze_entries.specs.declared.nodes.EndValue.{EndValue}
+use Rattle.blaze_entries.specs.declared.node.EndValue.{EndValue}
 
 -- a start with its node
 abbrev pub shown_node : {T V : Type 0} → (T → ℤ) → T × EndValue T V → Entry V

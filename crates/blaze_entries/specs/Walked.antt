@@ -1,8 +1,10 @@
 -- What a walk down the entries, from right above a range to the first that starts below it, tells an edit of the range.
-use Rattle.std.specs.Prelude.{◌≡◌, ℕ, ◌+◌, ℤ, pos, ◌+ℤ◌, ◌≤ℤ◌, ◌<ℤ◌, length, false, MatchOption, IfSome, IsSomeAnd, int_lt, int_le, ◌||◌, Bool, if◌then◌else◌, List, [], ◌∷◌, Option, Some, None}
+use Rattle.std.specs.Prelude.{◌≡◌, ℕ, ◌+◌, ◌≤◌, ℤ, pos, ◌+ℤ◌, ◌≤ℤ◌, ◌<ℤ◌, length, false, MatchOption, IfSome, IsSomeAnd, int_lt, int_le, ◌||◌, Bool, if◌then◌else◌, List, [], ◌∷◌, Option, Some, None}
 use Rattle.std.specs.Option.{option_map}
-use Rattle.blaze_entries.specs.Entries.{Entry, holds}
+use Rattle.blaze_entries.specs.Counted.{CountedEntries}
+use Rattle.blaze_entries.specs.Entries.{Entry, at, holds}
 use Rattle.blaze_entries.specs.Found.{found_in, shown_ends, shown_found}
+use Rattle.blaze_entries.specs.Overlap.{covered}
 use Rattle.blaze_entries.specs.Starts.{below, from, last_below, start_at}
 use Rattle.blaze_entries.specs.declared.scan.Plan.{Plan}
 
@@ -92,3 +94,21 @@ GoesOnUnlike test l h es = IsSomeAnd (last_below l es) (λ e. (h <ℤ e.hi) × (
 -- a clone of the value, if there is one and it is wanted
 abbrev pub IsClonedIf : {V : Type 0} → (V → V → Type 0) → Bool → Option V → Option V → Type 0
 IsClonedIf is_clone wanted o r = MatchOption (if wanted then o else None) (r ≡ None) (λ v. IsSomeAnd r (is_clone v))
+
+-- ---- the walk
+
+-- What a walk down the entries to the keys from l up to h has found: what it has seen; how many of len keys lie outside of those that
+-- the entries have from l up to h; a clone of the value of the entry that starts below l and goes on above h, where it differs; and
+-- a clone of the value of the key l, if it is wanted.
+pub record IsWalk {V : Type 0} (is_clone : V → V → Type 0) (test : V → Bool) (wanted : Bool) (l h : ℤ) (len : ℕ) (es : List (Entry V)) (s : Seen) (rest : ℕ) (up here : Option V) : Type 0 where
+  pub plan : IsSeenIn test l h es s
+  pub outside : pos rest +ℤ covered l h es ≡ pos len
+  pub above : IsAboveCloned is_clone test l h es up
+  pub value : IsClonedIf is_clone wanted (at es l) here
+
+-- Looks alone, for a walk to the keys from l up to h: one for each entry that starts from l up to the key above h, one for the entry
+-- below them, and so many more.
+pub record IsLookedAt {V : Type 0} (more : ℕ) (l h : ℤ) (old new : CountedEntries V) : Type 0 where
+  pub alone : new ≡ record old { looks = new.looks }
+  pub risen : old.looks ≤ new.looks
+  pub few : new.looks ≤ old.looks + length (from l (below (h +ℤ pos 2) old.entries)) + 1 + more

@@ -2,7 +2,6 @@
 //! that is taken out. Another crate can neither see the tree nor look at it without a count.
 ghost use Rattle.std.specs.Prelude.{◌≡◌, ◌<◌, ◌^◌, length};
 ghost use Rattle.blaze_entries.specs.Counted.{uncounted};
-ghost use Rattle.blaze_entries.specs.Nodes.{shown_nodes, entries_of, AreHeld};
 ghost use Rattle.blaze_entries.specs.Starts.{StartsAscend};
 
 mod edits;
@@ -10,14 +9,14 @@ mod looks;
 
 use crate::count::Count;
 use crate::into_iter::IntoIter;
-use crate::nodes::Tree;
+use crate::tree::Tree;
 use blaze_int::Integer;
 use std::marker::Model;
 
 /// Entries by their starts, and how much work was done on them.
 #[derive(Drop)]
 pub struct Counted<T: Integer, V> {
-    pub(crate) tree: Tree<T, Option<V>>,
+    pub(crate) tree: Tree<T, V>,
     looks: Count,
     put_in: Count,
     taken_out: Count,
@@ -30,23 +29,18 @@ impl<T: Integer, V> Model for Counted<T, V> {
 
     ghost coded = { counted_code V.code };
 
-    ghost use Rattle.blaze_entries.specs.Nodes.{shown_nodes, entries_of, AreHeld};
-
     ghost view = { λ c. record {
-      entries = entries_of T.rank c.tree.entries;
+      entries = c.tree;
       looks = c.looks.number;
       put_in = c.put_in.number;
       taken_out = c.taken_out.number;
     } };
-
-    ghost invariant = { λ c. AreHeld T.low T.high (shown_nodes T.rank c.tree.entries) };
 }
 
 impl<T: Integer, V> Counted<T, V> {
     /// The entries of a tree, of which nothing is counted yet.
-    pub(crate) fn new(tree: Tree<T, Option<V>>) -> Self
-        requires { AreHeld T.low T.high (shown_nodes T.rank tree.entries) }
-        ensures { result ≡ uncounted (entries_of T.rank tree.entries) }
+    pub(crate) fn new(tree: Tree<T, V>) -> Self
+        ensures { result ≡ uncounted tree }
     {
         Counted {
             tree,
@@ -68,7 +62,7 @@ impl<T: Integer, V> Counted<T, V> {
     pub fn in_hand(&self)
         ensures { StartsAscend T.low T.high self.now.entries }
     {
-        let _ = &self.tree;
+        self.tree.in_hand();
     }
 
     /// Does nothing; its contract says that the number of entries is a `usize`.
@@ -85,6 +79,6 @@ impl<T: Integer, V: Drop> Counted<T, V> {
         ensures { result ≡ self.entries }
     {
         let Counted { tree, .. } = self;
-        IntoIter::new(tree.into_iter())
+        tree.into_iter()
     }
 }

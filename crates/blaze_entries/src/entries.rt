@@ -8,16 +8,13 @@ ghost use Rattle.blaze_entries.specs.Starts.{StartsAscend, from, last_below, fir
 
 mod edits;
 
-use crate::build::tree_of;
 use crate::counted::Counted;
-use crate::full_nodes::shown;
 use crate::into_iter::IntoIter;
 use crate::iter::Iter;
-use crate::nodes::{node_at_or_above, node_at_or_below, node_below, nodes_between, nodes_from};
 use crate::range::Range;
+use crate::tree::Tree;
 use blaze_int::Integer;
 use std::alloc::{AllocError, Global};
-use std::collections::BTreeMap;
 
 /// Entries by their starts. What is done by way of `counted` is counted, what is done here is not.
 #[derive(Drop)]
@@ -46,7 +43,7 @@ impl<T: Integer, V> Entries<T, V> {
         ensures { result.counted ≡ uncounted [] }
     {
         Entries {
-            counted: Counted::new(BTreeMap::new(alloc)),
+            counted: Counted::new(Tree::new(alloc)),
             alloc,
         }
     }
@@ -71,8 +68,7 @@ impl<T: Integer, V> Entries<T, V> {
     pub fn len(&self) -> usize
         ensures { result ≡ length self.now.counted.entries }
     {
-        let counted = &self.counted;
-        counted.tree.len()
+        self.counted.tree.len()
     }
 
     /// Does nothing; its contract says that the starts are keys and ascend.
@@ -87,8 +83,7 @@ impl<T: Integer, V> Entries<T, V> {
         ensures { option_map (shown_entry T.rank (λ v. v.now)) result
             ≡ slice_get self.now.counted.entries 0 }
     {
-        let counted = &self.counted;
-        shown(counted.tree.first_key_value())
+        self.counted.tree.first()
     }
 
     /// The entry with the greatest start: its first key, last key and value.
@@ -96,8 +91,7 @@ impl<T: Integer, V> Entries<T, V> {
         ensures { option_map (shown_entry T.rank (λ v. v.now)) result
             ≡ slice_get self.now.counted.entries (length self.now.counted.entries - 1) }
     {
-        let counted = &self.counted;
-        shown(counted.tree.last_key_value())
+        self.counted.tree.last()
     }
 
     /// The entry with the greatest start below a key: its first key, last key and value.
@@ -105,8 +99,7 @@ impl<T: Integer, V> Entries<T, V> {
         ensures { option_map (shown_entry T.rank (λ v. v.now)) result
             ≡ last_below (T.rank key) self.now.counted.entries }
     {
-        let counted = &self.counted;
-        shown(node_below(&counted.tree, key))
+        self.counted.tree.below(key)
     }
 
     /// The entry with the greatest start up to a key: its first key, last key and value.
@@ -114,8 +107,7 @@ impl<T: Integer, V> Entries<T, V> {
         ensures { option_map (shown_entry T.rank (λ v. v.now)) result
             ≡ last_below (T.rank key +ℤ pos 1) self.now.counted.entries }
     {
-        let counted = &self.counted;
-        shown(node_at_or_below(&counted.tree, key))
+        self.counted.tree.at_or_below(key)
     }
 
     /// The entry with the least start from a key on: its first key, last key and value.
@@ -123,24 +115,21 @@ impl<T: Integer, V> Entries<T, V> {
         ensures { option_map (shown_entry T.rank (λ v. v.now)) result
             ≡ first_from (T.rank key) self.now.counted.entries }
     {
-        let counted = &self.counted;
-        shown(node_at_or_above(&counted.tree, key))
+        self.counted.tree.at_or_above(key)
     }
 
     /// The entries, ascending: first key, last key and value.
     pub fn iter(&self) -> Iter<'_, T, V>
         ensures { result ≡ self.now.counted.entries }
     {
-        let counted = &self.counted;
-        Iter::new(counted.tree.iter())
+        self.counted.tree.iter()
     }
 
     /// The entries that start from a key on, ascending: first key, last key and value. One search finds the first.
     pub fn iter_starting_from(&self, key: T) -> Range<'_, T, V>
         ensures { result ≡ from (T.rank key) self.now.counted.entries }
     {
-        let counted = &self.counted;
-        Range::new(nodes_from(&counted.tree, key))
+        self.counted.tree.iter_from(key)
     }
 
     /// The entries that start from one key on, up to another, ascending, from both ends: first key, last key and value. Two
@@ -149,8 +138,7 @@ impl<T: Integer, V> Entries<T, V> {
         requires { T.rank first ≤ℤ T.rank last }
         ensures { result ≡ up_to (T.rank last) (from (T.rank first) self.now.counted.entries) }
     {
-        let counted = &self.counted;
-        Range::new(nodes_between(&counted.tree, first, last))
+        self.counted.tree.iter_between(first, last)
     }
 }
 
@@ -161,7 +149,7 @@ impl<T: Integer, V: Drop> Entries<T, V> {
         ensures { IfOk result (λ built. built.counted
             ≡ uncounted (shown_list T.rank entries.items)) }
     {
-        let tree = tree_of(alloc, entries)?;
+        let tree = Tree::from_sorted(alloc, entries)?;
         Ok(Entries {
             counted: Counted::new(tree),
             alloc,
@@ -176,8 +164,7 @@ impl<T: Integer, V: Clone> Entries<T, V> {
             (λ copy. AreCloned V.is_clone self.now.counted.entries copy.counted.entries) }
         ensures uncounted { IfOk result (λ copy. copy.counted ≡ uncounted copy.counted.entries) }
     {
-        let counted = &self.counted;
-        let tree = counted.tree.clone()?;
+        let tree = self.counted.tree.clone()?;
         Ok(Entries {
             counted: Counted::new(tree),
             alloc: self.alloc,

@@ -5,8 +5,7 @@ ghost use Rattle.std.specs.Iterator.SizeHint.{IsWithinCount};
 ghost use Rattle.blaze_entries.specs.Entries.{shown_entry};
 ghost use Rattle.blaze_entries.specs.Nodes.{shown_nodes, entries_of, AreFull};
 
-use crate::full_nodes::given;
-use crate::nodes::EndValue;
+use crate::node::{EndValue, given};
 use crate::start::Start;
 use blaze_int::Integer;
 use std::collections::btree_map;

@@ -1,20 +1,19 @@
 //! The entries of a table in a tree by their starts, with counters of the work on them.
 #![tactic(auto)]
 
-mod build;
 mod count;
 mod counted;
 mod entries;
-mod full_nodes;
+mod found;
 mod into_iter;
 mod iter;
-mod nodes;
+mod node;
 mod overlap;
 mod range;
 mod range_entry;
-mod retain;
 mod scan;
 mod start;
+mod tree;
 
 pub use count::Count;
 pub use counted::Counted;

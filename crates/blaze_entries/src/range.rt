@@ -4,8 +4,7 @@ ghost use Rattle.std.specs.Iterator.{YieldsFirstBy, YieldsLastBy, item_count};
 ghost use Rattle.blaze_entries.specs.Entries.{shown_entry};
 ghost use Rattle.blaze_entries.specs.Nodes.{shown_nodes, entries_of, AreFull};
 
-use crate::full_nodes::shown;
-use crate::nodes::EndValue;
+use crate::node::{EndValue, shown};
 use crate::start::Start;
 use blaze_int::Integer;
 use std::collections::btree_map;

@@ -4,22 +4,19 @@ ghost use Rattle.std.specs.Prelude.{length, MatchOption, OnSome, IfOk, OnErr, Is
 ghost use Rattle.std.specs.Option.{option_copied};
 ghost use Rattle.blaze_entries.specs.Entries.{Entry, entry, at};
 ghost use Rattle.blaze_entries.specs.Found.{shown_found, is_sought, IsFoundAt};
-ghost use Rattle.blaze_entries.specs.Nodes.{shown_nodes, entries_of, AreFull, AreHeld};
 ghost use Rattle.blaze_entries.specs.Overlap.{covered};
 ghost use Rattle.blaze_entries.specs.Starts.{below, from};
 ghost use Rattle.blaze_entries.specs.Walked.{RangesAscend, shown_plan, IsSeenIn, unseen, seen_end};
 ghost use Rattle.blaze_entries.specs.Walked.{seen_start, seen, seen_value, IsClonedIf};
 
 use crate::count::Count;
-use crate::full_nodes::shown;
-use crate::nodes::{EndValue, Tree, nodes_up_to};
 use crate::overlap::length_outside;
+use crate::range::Range;
 use crate::range_entry::RangeEntry;
-use crate::start::Start;
+use crate::tree::Tree;
 use blaze_int::Integer;
 use blaze_int::compare::{is_at_most, is_below};
 use std::alloc::AllocError;
-use std::collections::btree_map;
 
 /// What a walk down the entries from above a range has seen.
 #[derive(Clone, Copy)]
@@ -113,23 +110,21 @@ fn beside<T: Integer, V: Eq>(start: T, end: T, other: &V, value: Option<&V>) -> 
     }
 }
 
-// The last of the nodes that are left, counted: what it shows beside a value, if one is asked for, and its own value.
+// The last of the entries that are left, counted: what it shows beside a value, if one is asked for, and its own value.
 #[inline(always)]
 fn next_found<'a, T: Integer, V: Eq>(
-    nodes: &mut btree_map::Range<'a, Start<T>, EndValue<T, Option<V>>>,
+    entries: &mut Range<'a, T, V>,
     value: Option<&V>,
     looks: &mut Count,
 ) -> Option<(RangeEntry<T, bool>, &'a V)>
-    requires { AreFull (shown_nodes T.rank nodes.old) }
-    ensures full { AreFull (shown_nodes T.rank nodes.new) }
-    ensures found { MatchOption result (entries_of T.rank nodes.old ≡ []) (λ f. (e : Entry V)
+    ensures found { MatchOption result (entries.old ≡ []) (λ f. (e : Entry V)
         × IsFoundAt T.rank (is_sought V.eq (option_copied value.entry)) f.0 f.1.now e
-        × (entries_of T.rank nodes.old ≡ entries_of T.rank nodes.new ++ e ∷ [])) }
+        × (entries.old ≡ entries.new ++ e ∷ [])) }
     ensures looked { looks.new.number ≡ looks.old.number + 1 }
-    ensures shorter { OnSome result (length nodes.new < length nodes.old) }
+    ensures shorter { OnSome result (length entries.new < length entries.old) }
 {
     *looks = looks.one_more();
-    match shown(nodes.next_back()) {
+    match entries.next_back() {
         Some(last) => {
             let (start, end, held) = last;
             Some((beside(start, end, held, value), held))
@@ -178,12 +173,12 @@ pub struct Walk<T: Integer, V> {
     pub value: Option<V>,
 }
 
-/// Walks down the entries, from the one that may start right above a range to the first that starts below it, and returns what
-/// it has seen, beside a value if one is asked for, and the value that the range's first key has. A length loses how many of their
+/// Looks at the entries from the one that may start right above a range down to the first that starts below it, and returns what
+/// they show, beside a value if one is asked for, and the value that the range's first key has. A length loses how many of their
 /// keys lie in the range. It is inlined, so that where that value isn't asked for the compiler leaves it out.
 #[inline(always)]
-pub fn walk_tree<'a, T: Integer, V: Eq>(
-    tree: &'a Tree<T, Option<V>>,
+pub fn look_down<'a, T: Integer, V: Eq>(
+    tree: &'a Tree<T, V>,
     len: T::SafeLen,
     lo: T,
     hi: T,
@@ -191,28 +186,28 @@ pub fn walk_tree<'a, T: Integer, V: Eq>(
     looks: &mut Count,
 ) -> (Plan<T>, T::SafeLen, Option<&'a V>)
     requires order { T.rank lo ≤ℤ T.rank hi }
-    requires held { AreHeld T.low T.high (shown_nodes T.rank tree.now.entries) }
-    requires ranges { RangesAscend T.low T.high (entries_of T.rank tree.now.entries) }
-    requires len { covered (T.rank lo) (T.rank hi) (entries_of T.rank tree.now.entries)
+    requires ranges { RangesAscend T.low T.high tree.now }
+    requires len { covered (T.rank lo) (T.rank hi) tree.now
         ≤ℤ pos (T.SafeLen.number len) }
     ensures plan { IsSeenIn (is_sought V.eq (option_copied value.entry)) (T.rank lo) (T.rank hi)
-        (entries_of T.rank tree.now.entries) (shown_plan T.rank result.0) }
+        tree.now (shown_plan T.rank result.0) }
     ensures len { pos (T.SafeLen.number result.1)
-        +ℤ covered (T.rank lo) (T.rank hi) (entries_of T.rank tree.now.entries)
+        +ℤ covered (T.rank lo) (T.rank hi) tree.now
         ≡ pos (T.SafeLen.number len) }
     ensures value { option_copied result.2
-        ≡ at (entries_of T.rank tree.now.entries) (T.rank lo) }
+        ≡ at tree.now (T.rank lo) }
     ensures risen { looks.old.number ≤ looks.new.number }
     ensures few { looks.new.number ≤ looks.old.number + length (from (T.rank lo)
-        (below (T.rank hi +ℤ pos 2) (entries_of T.rank tree.now.entries))) + 1 }
+        (below (T.rank hi +ℤ pos 2) tree.now)) + 1 }
 {
-    let most = tree.len();
+    tree.in_hand();
+    let _ = tree.len();
     let mut plan = Plan::new(hi);
     let mut left = len;
     let mut held = None;
     let top = next_or_last(hi);
-    let mut nodes = nodes_up_to(tree, top);
-    while let Some(next) = next_found(&mut nodes, value, looks) {
+    let mut entries = tree.iter_up_to(top);
+    while let Some(next) = next_found(&mut entries, value, looks) {
         let (found, here) = next;
         left = length_outside(left, found, lo, hi);
         plan.see(lo, hi, found);

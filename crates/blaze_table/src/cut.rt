@@ -14,7 +14,6 @@ ghost use Rattle.blaze_table.specs.Table.{IsTable};
 ghost use Rattle.blaze_table.specs.Work.{IsCountedCut, IsCounted};
 
 use crate::edit::take_out;
-use crate::walk::walk_down;
 use blaze_entries::{Counted, RangeEntry, Walk};
 use blaze_int::compare::is_below;
 use blaze_int::{Integer, SafeLength};
@@ -270,7 +269,7 @@ pub fn cut_range<T: Integer, V: Eq + Clone>(
 {
     entries.in_hand();
     let sought: Option<V> = None;
-    let found = walk_down(entries, len, lo, hi, sought.as_ref(), false)?;
+    let found = entries.walk(len, lo, hi, sought.as_ref(), false)?;
     let Walk {
         plan,
         outside,

@@ -8,12 +8,12 @@ mod entry_keys;
 mod equality;
 mod gaps;
 pub mod laws;
+mod looks;
 mod search;
 mod set;
 mod splice;
 mod sweep;
 mod table;
-mod walk;
 
 pub use blaze_entries::{Count, IntoIter, Iter, Range, RangeEntry};
 pub use entry_keys::keys_in_hand;

@@ -3,15 +3,14 @@ ghost use Rattle.std.specs.Option.{option_map, option_or};
 ghost use Rattle.std.specs.Prelude.{◌≡◌, ◌≤ℤ◌, Ok, IfOk, OnOk, OnErr};
 ghost use Rattle.blaze_entries.specs.Found.{shown_found};
 ghost use Rattle.blaze_entries.specs.Walked.{shown_plan};
-ghost use Rattle.blaze_table.specs.Work.{IsCountedPaint, IsCounted};
-ghost use Rattle.blaze_table.specs.Entries.{entry, at, SameOption};
-ghost use Rattle.blaze_table.specs.Painted.{IsInside, ClonesAreAlike};
+ghost use Rattle.blaze_table.specs.Work.{IsCounted};
+ghost use Rattle.blaze_table.specs.Entries.{entry};
+ghost use Rattle.blaze_table.specs.Painted.{IsInside};
 ghost use Rattle.blaze_table.specs.Planned.{joined_start, reaches, IsWalkOf, IsWorked};
 ghost use Rattle.blaze_table.specs.Splice.{IsTablePainted};
 ghost use Rattle.blaze_table.specs.Table.{IsTable};
 
 use crate::edit::{extend, put_at};
-use crate::walk::{walk_by_looks, walk_down};
 use blaze_entries::{Counted, Plan, RangeEntry, Walk};
 use blaze_int::compare::{is_at_most, is_next, length};
 use blaze_int::{Integer, SafeLength};
@@ -41,10 +40,11 @@ fn joined_below<T: Integer>(left: Option<RangeEntry<T, bool>>, lo: T) -> Option<
     }
 }
 
-// Puts a value on the keys from lo up to hi, by what a walk has found. Inside an entry with an equal value nothing changes.
-// Refused memory leaves the entries as they are. It is inlined, so that a plan is not copied on its way here.
+/// Puts a value on the keys from lo up to hi, by what a walk has found, and returns how many keys there are then: what is to be put
+/// in is put in, and only then is anything edited that can't be taken back. Inside an entry with an equal value nothing changes.
+/// Refused memory leaves the entries as they are. It is inlined, so that a plan is not copied on its way here.
 #[inline(always)]
-fn paint_planned<T: Integer, V: Eq + Drop>(
+pub fn paint_planned<T: Integer, V: Eq + Drop>(
     entries: &mut Counted<T, V>,
     len: T::SafeLen,
     lo: T,
@@ -88,79 +88,4 @@ fn paint_planned<T: Integer, V: Eq + Drop>(
             Ok(painted)
         }
     }
-}
-
-/// Puts a value on the keys from lo up to hi, and returns how many keys there are then: the entries that the range touches
-/// are found by single looks, what is to be put in is put in, and only then is anything edited that can't be taken back.
-/// Inside an entry with an equal value nothing changes. Refused memory leaves the entries as they are.
-pub fn paint_by_splice<T: Integer, V: Eq + Clone>(
-    entries: &mut Counted<T, V>,
-    len: T::SafeLen,
-    lo: T,
-    hi: T,
-    value: V,
-) -> Result<T::SafeLen, AllocError>
-    requires order { T.rank lo ≤ℤ T.rank hi }
-    requires clones { ClonesAreAlike V.is_clone V.eq }
-    requires table { IsTable V.eq T.low T.high (T.SafeLen.number len) entries.old.entries }
-    ensures painted { IfOk result (λ len. IsTablePainted V.eq T.low T.high (T.SafeLen.number len)
-        (entry (T.rank lo) (T.rank hi) value) entries.old.entries entries.new.entries) }
-    ensures inside { IsInside V.eq (T.rank lo) (T.rank hi) value entries.old.entries
-        → (result ≡ Ok len) × (entries.new.entries ≡ entries.old.entries) }
-    ensures counted { OnOk result (IsCountedPaint entries.old entries.new) }
-    ensures err { OnErr result (entries.new.entries ≡ entries.old.entries) }
-    ensures err_counted { OnErr result (IsCounted entries.old entries.new) }
-{
-    let found = walk_by_looks(entries, len, lo, hi, &value)?;
-    paint_planned(entries, len, lo, hi, value, found)
-}
-
-/// Puts a value on the keys from lo up to hi, and returns how many keys there are then: the entries that the range touches
-/// are seen in one walk, what is to be put in is put in, and only then is anything edited that can't be taken back. Inside an
-/// entry with an equal value nothing changes. Refused memory leaves the entries as they are.
-pub fn paint<T: Integer, V: Eq + Clone>(
-    entries: &mut Counted<T, V>,
-    len: T::SafeLen,
-    lo: T,
-    hi: T,
-    value: V,
-) -> Result<T::SafeLen, AllocError>
-    requires order { T.rank lo ≤ℤ T.rank hi }
-    requires clones { ClonesAreAlike V.is_clone V.eq }
-    requires table { IsTable V.eq T.low T.high (T.SafeLen.number len) entries.old.entries }
-    ensures painted { IfOk result (λ len. IsTablePainted V.eq T.low T.high (T.SafeLen.number len)
-        (entry (T.rank lo) (T.rank hi) value) entries.old.entries entries.new.entries) }
-    ensures inside { IsInside V.eq (T.rank lo) (T.rank hi) value entries.old.entries
-        → (result ≡ Ok len) × (entries.new.entries ≡ entries.old.entries) }
-    ensures counted { OnOk result (IsCountedPaint entries.old entries.new) }
-    ensures err { OnErr result (entries.new.entries ≡ entries.old.entries) }
-    ensures err_counted { OnErr result (IsCounted entries.old entries.new) }
-{
-    let found = walk_down(entries, len, lo, hi, Some(&value), false)?;
-    paint_planned(entries, len, lo, hi, value, found)
-}
-
-/// Puts a value on a key, as `paint` does on a range, and returns the value that was there, which the walk finds, and how many
-/// keys there are then. Refused memory leaves the entries as they are.
-pub fn insert<T: Integer, V: Eq + Clone>(
-    entries: &mut Counted<T, V>,
-    len: T::SafeLen,
-    key: T,
-    value: V,
-) -> Result<(Option<V>, T::SafeLen), AllocError>
-    requires clones { ClonesAreAlike V.is_clone V.eq }
-    requires table { IsTable V.eq T.low T.high (T.SafeLen.number len) entries.old.entries }
-    ensures painted { IfOk result (λ r. IsTablePainted V.eq T.low T.high (T.SafeLen.number r.1)
-        (entry (T.rank key) (T.rank key) value) entries.old.entries entries.new.entries) }
-    ensures value { IfOk result (λ r. SameOption V.eq (at entries.old.entries (T.rank key)) r.0) }
-    ensures inside { IsInside V.eq (T.rank key) (T.rank key) value entries.old.entries
-        → entries.new.entries ≡ entries.old.entries }
-    ensures counted { OnOk result (IsCountedPaint entries.old entries.new) }
-    ensures err { OnErr result (entries.new.entries ≡ entries.old.entries) }
-    ensures err_counted { OnErr result (IsCounted entries.old entries.new) }
-{
-    let mut found = walk_down(entries, len, key, key, Some(&value), true)?;
-    let old = found.value.take();
-    let rest = paint_planned(entries, len, key, key, value, found)?;
-    Ok((old, rest))
 }

@@ -14,6 +14,7 @@ ghost use Rattle.blaze_table.specs.Work.{IsCounted, IsCountedPaint};
 
 mod cut;
 mod fill;
+mod paint;
 mod retain;
 mod split;
 
@@ -22,7 +23,6 @@ use crate::gaps::gap_round;
 use crate::search::{
     entries_ending_from, entries_overlapping, entry_above, entry_below, entry_holding,
 };
-use crate::splice::{insert, paint, paint_by_splice};
 use blaze_entries::{Entries, IntoIter, Iter, Range};
 use blaze_int::{Integer, SafeLength, differ};
 use std::alloc::{AllocError, Global};
@@ -211,70 +211,6 @@ impl<T: Integer, V: Eq + Clone> RangeTable<T, V> {
             entries,
             len: self.len,
         })
-    }
-
-    /// Puts a value on the keys from lo up to hi, and returns whether the number of keys changed. The entries that the range
-    /// touches are seen in one walk, and edited in place.
-    /// Refused memory leaves the entries unchanged. Inside one entry with an equal value nothing changes, the stored value
-    /// neither, and no memory is taken.
-    pub fn paint(&mut self, lo: T, hi: T, value: V) -> Result<bool, AllocError>
-        requires order { T.rank lo ≤ℤ T.rank hi }
-        requires clones { ClonesAreAlike V.is_clone V.eq }
-        ensures ok { OnOk result (IsPainted V.eq T.low T.high (entry (T.rank lo) (T.rank hi) value)
-            self.old.entries self.new.entries) }
-        ensures changed { IfOk result (λ changed. IsTrue changed ↔ (¬ (keys_in self.new.entries
-            ≡ keys_in self.old.entries))) }
-        ensures inside { IsInside V.eq (T.rank lo) (T.rank hi) value self.old.entries
-            → (result ≡ Ok false) × (self.new.entries ≡ self.old.entries) }
-        ensures counted { OnOk result (IsCountedPaint self.old self.new) }
-        ensures err { OnErr result (self.new.entries ≡ self.old.entries) }
-        ensures err_counted { OnErr result (IsCounted self.old self.new) }
-    {
-        let old_len = self.len;
-        let new_len = paint(&mut self.entries.counted, old_len, lo, hi, value)?;
-        self.len = new_len;
-        Ok(differ(new_len, old_len))
-    }
-
-    /// Puts a value on the keys from lo up to hi, as `paint` does: the entries beside the range are found by single looks.
-    /// Refused memory leaves the entries and the count of keys.
-    pub fn paint_by_splice(&mut self, lo: T, hi: T, value: V) -> Result<bool, AllocError>
-        requires order { T.rank lo ≤ℤ T.rank hi }
-        requires clones { ClonesAreAlike V.is_clone V.eq }
-        ensures ok { OnOk result (IsPainted V.eq T.low T.high (entry (T.rank lo) (T.rank hi) value)
-            self.old.entries self.new.entries) }
-        ensures changed { IfOk result (λ changed. IsTrue changed ↔ (¬ (keys_in self.new.entries
-            ≡ keys_in self.old.entries))) }
-        ensures inside { IsInside V.eq (T.rank lo) (T.rank hi) value self.old.entries
-            → (result ≡ Ok false) × (self.new.entries ≡ self.old.entries) }
-        ensures counted { OnOk result (IsCountedPaint self.old self.new) }
-        ensures err { OnErr result (self.new.entries ≡ self.old.entries) }
-        ensures err_counted { OnErr result (IsCounted self.old self.new) }
-    {
-        let old_len = self.len;
-        let new_len = paint_by_splice(&mut self.entries.counted, old_len, lo, hi, value)?;
-        self.len = new_len;
-        Ok(differ(new_len, old_len))
-    }
-
-    /// Puts a value on a key, as `paint` does on a range, and returns the value that was there. Refused memory leaves the entries
-    /// unchanged.
-    pub fn insert(&mut self, key: T, value: V) -> Result<Option<V>, AllocError>
-        requires { ClonesAreAlike V.is_clone V.eq }
-        ensures ok { OnOk result (IsPainted V.eq T.low T.high
-            (entry (T.rank key) (T.rank key) value) self.old.entries self.new.entries) }
-        ensures value { IfOk result
-            (λ old. SameOption V.eq (at self.old.entries (T.rank key)) old) }
-        ensures inside { IsInside V.eq (T.rank key) (T.rank key) value self.old.entries
-            → self.new.entries ≡ self.old.entries }
-        ensures counted { OnOk result (IsCountedPaint self.old self.new) }
-        ensures err { OnErr result (self.new.entries ≡ self.old.entries) }
-        ensures err_counted { OnErr result (IsCounted self.old self.new) }
-    {
-        let old_len = self.len;
-        let (old, new_len) = insert(&mut self.entries.counted, old_len, key, value)?;
-        self.len = new_len;
-        Ok(old)
     }
 }
 

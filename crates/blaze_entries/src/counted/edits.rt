@@ -7,10 +7,6 @@ ghost use Rattle.blaze_entries.specs.Starts.{with_last_end, IsLastRemoved};
 ghost use Rattle.blaze_entries.specs.Starts.{IsStartMoved, IsFrontReplaced, IsFirstRemoved};
 
 use super::Counted;
-use crate::full_nodes::{given, value_of};
-use crate::nodes::{
-    EndValue, insert, move_node, remove, replace, replace_front, set_end, set_last_end,
-};
 use blaze_int::Integer;
 use std::alloc::AllocError;
 
@@ -20,7 +16,7 @@ impl<T: Integer, V> Counted<T, V> {
         ensures { self.new
             ≡ record self.old { entries = with_end (T.rank start) (T.rank end) self.old.entries } }
     {
-        set_end(&mut self.tree, start, end);
+        self.tree.set_end(start, end);
     }
 
     /// Moves the end of the last entry. No search is made.
@@ -28,7 +24,7 @@ impl<T: Integer, V> Counted<T, V> {
         ensures { self.new
             ≡ record self.old { entries = with_last_end (T.rank end) self.old.entries } }
     {
-        set_last_end(&mut self.tree, end);
+        self.tree.set_last_end(end);
     }
 }
 
@@ -41,8 +37,7 @@ impl<T: Integer, V: Drop> Counted<T, V> {
                   (T.rank end) value self.old.entries;
             } }
     {
-        let value = Some(value);
-        replace(&mut self.tree, start, EndValue { end, value });
+        self.tree.replace(start, end, value);
     }
 
     /// Puts an entry in, at a start where none is. Refused memory leaves the entries.
@@ -57,25 +52,8 @@ impl<T: Integer, V: Drop> Counted<T, V> {
         ensures longer { OnOk result (length self.new.entries ≡ length self.old.entries + 1) }
         ensures err { OnErr result (self.new ≡ self.old) }
     {
-        self.insert_uncounted(start, end, value)?;
+        self.tree.insert(start, end, value)?;
         self.put_in = self.put_in.one_more();
-        Ok(())
-    }
-
-    /// The same as `insert`, and nothing is counted.
-    pub(crate) fn insert_uncounted(&mut self, start: T, end: T, value: V) -> Result<(), AllocError>
-        requires absent { start_at (T.rank start) self.old.entries ≡ None }
-        ensures ok { OnOk result (self.new
-            ≡ record self.old {
-              entries = with_entry
-                  (entry (T.rank start) (T.rank end) value) self.old.entries;
-            }) }
-        ensures longer { OnOk result (length self.new.entries ≡ length self.old.entries + 1) }
-        ensures err { OnErr result (self.new ≡ self.old) }
-    {
-        start.in_hand();
-        let value = Some(value);
-        insert(&mut self.tree, start, EndValue { end, value })?;
         Ok(())
     }
 
@@ -92,19 +70,7 @@ impl<T: Integer, V: Drop> Counted<T, V> {
         ensures shorter { length self.new.entries + 1 ≡ length self.old.entries }
     {
         self.taken_out = self.taken_out.one_more();
-        self.remove_uncounted(start)
-    }
-
-    /// The same as `remove`, and nothing is counted.
-    pub(crate) fn remove_uncounted(&mut self, start: T) -> V
-        requires present { IsSome (start_at (T.rank start) self.old.entries) }
-        ensures entries { self.new
-            ≡ record self.old { entries = without (T.rank start) self.old.entries } }
-        ensures value { option_map (λ e. e.value) (start_at (T.rank start) self.old.entries)
-            ≡ Some result }
-        ensures shorter { length self.new.entries + 1 ≡ length self.old.entries }
-    {
-        value_of(remove(&mut self.tree, start))
+        self.tree.remove(start)
     }
 
     /// Takes the first entry out, and returns its value. No search is made.
@@ -118,10 +84,7 @@ impl<T: Integer, V: Drop> Counted<T, V> {
             } }
     {
         self.taken_out = self.taken_out.one_more();
-        match given(self.tree.pop_first()) {
-            Some((_, _, value)) => value,
-            None => unreachable!(),
-        }
+        self.tree.remove_first()
     }
 
     /// Takes the last entry out, and returns its value. No search is made.
@@ -135,10 +98,7 @@ impl<T: Integer, V: Drop> Counted<T, V> {
             } }
     {
         self.taken_out = self.taken_out.one_more();
-        match given(self.tree.pop_last()) {
-            Some((_, _, value)) => value,
-            None => unreachable!(),
-        }
+        self.tree.remove_last()
     }
 
     /// Moves the entry at a start to another start, where none is, with its end and value. Refused memory leaves it.
@@ -156,12 +116,7 @@ impl<T: Integer, V: Drop> Counted<T, V> {
         ensures length { OnOk result (length self.new.entries ≡ length self.old.entries) }
         ensures err { OnErr result (self.new ≡ self.old) }
     {
-        to.in_hand();
-        let place = EndValue {
-            end: to,
-            value: None,
-        };
-        move_node(&mut self.tree, from, to, place)?;
+        self.tree.move_start(from, to)?;
         self.put_in = self.put_in.one_more();
         self.taken_out = self.taken_out.one_more();
         Ok(())
@@ -180,13 +135,7 @@ impl<T: Integer, V: Drop> Counted<T, V> {
         ensures longer { OnOk result (length self.new.entries ≡ length self.old.entries + 1) }
         ensures err { OnErr result (self.new ≡ self.old) }
     {
-        to.in_hand();
-        let value = Some(value);
-        let place = EndValue {
-            end: to,
-            value: None,
-        };
-        replace_front(&mut self.tree, start, EndValue { end, value }, to, place)?;
+        self.tree.replace_front(start, end, value, to)?;
         self.put_in = self.put_in.one_more();
         Ok(())
     }

@@ -7,14 +7,13 @@ ghost use Rattle.blaze_entries.specs.Entries.{at};
 ghost use Rattle.blaze_entries.specs.Found.{found_in, shown_found, is_sought, range_in, shown_ends};
 ghost use Rattle.blaze_entries.specs.Overlap.{covered};
 ghost use Rattle.blaze_entries.specs.Starts.{below, from, last_below, first_from, holder_of, start_at};
-ghost use Rattle.blaze_entries.specs.Walked.{RangesAscend, shown_plan, IsSeenIn};
-ghost use Rattle.blaze_entries.specs.Walked.{IsAboveCloned, IsClonedIf, GoesOnUnlike};
+ghost use Rattle.blaze_entries.specs.Walked.{RangesAscend, shown_plan, IsWalk, IsLookedAt};
+ghost use Rattle.blaze_entries.specs.Walked.{GoesOnUnlike};
 
 use super::Counted;
-use crate::full_nodes::{cloned, found, range_cloned, range_of, reaching};
-use crate::nodes::{node_at, node_at_or_above, node_at_or_below, node_below};
+use crate::found::{compared, range_cloned, range_of, reaching, value_cloned};
 use crate::range_entry::RangeEntry;
-use crate::scan::{Walk, above_cloned, cloned_if, walk_tree};
+use crate::scan::{Walk, above_cloned, cloned_if, look_down};
 use blaze_int::Integer;
 use std::alloc::AllocError;
 
@@ -26,7 +25,7 @@ impl<T: Integer, V> Counted<T, V> {
         ensures looked { self.new ≡ record self.old { looks = self.old.looks + 1 } }
     {
         self.looks = self.looks.one_more();
-        range_of(node_at_or_below(&self.tree, key))
+        range_of(self.tree.at_or_below(key))
     }
 
     /// The first and last key of the entry with the least start from a key on.
@@ -36,7 +35,7 @@ impl<T: Integer, V> Counted<T, V> {
         ensures looked { self.new ≡ record self.old { looks = self.old.looks + 1 } }
     {
         self.looks = self.looks.one_more();
-        range_of(node_at_or_above(&self.tree, key))
+        range_of(self.tree.at_or_above(key))
     }
 }
 
@@ -51,7 +50,7 @@ impl<T: Integer, V: Clone> Counted<T, V> {
         ensures looked { self.new ≡ record self.old { looks = self.old.looks + 1 } }
     {
         self.looks = self.looks.one_more();
-        let ends = range_cloned(reaching(node_at_or_below(&self.tree, key), key))?;
+        let ends = range_cloned(reaching(self.tree.at_or_below(key), key))?;
         Ok(ends)
     }
 
@@ -64,7 +63,7 @@ impl<T: Integer, V: Clone> Counted<T, V> {
         ensures looked { self.new ≡ record self.old { looks = self.old.looks + 1 } }
     {
         self.looks = self.looks.one_more();
-        let ends = range_cloned(self.tree.first_key_value())?;
+        let ends = range_cloned(self.tree.first())?;
         Ok(ends)
     }
 
@@ -77,7 +76,7 @@ impl<T: Integer, V: Clone> Counted<T, V> {
         ensures looked { self.new ≡ record self.old { looks = self.old.looks + 1 } }
     {
         self.looks = self.looks.one_more();
-        let ends = range_cloned(self.tree.last_key_value())?;
+        let ends = range_cloned(self.tree.last())?;
         Ok(ends)
     }
 
@@ -90,8 +89,8 @@ impl<T: Integer, V: Clone> Counted<T, V> {
         ensures looked { self.new ≡ record self.old { looks = self.old.looks + 1 } }
     {
         self.looks = self.looks.one_more();
-        let node = cloned(node_at(&self.tree, start))?;
-        Ok(node.value)
+        let value = value_cloned(self.tree.at(start))?;
+        Ok(value)
     }
 }
 
@@ -104,7 +103,7 @@ impl<T: Integer, V: Eq> Counted<T, V> {
         ensures looked { self.new ≡ record self.old { looks = self.old.looks + 1 } }
     {
         self.looks = self.looks.one_more();
-        found(node_below(&self.tree, key), value)
+        compared(self.tree.below(key), value)
     }
 
     /// The entry with the greatest start up to a key.
@@ -115,7 +114,7 @@ impl<T: Integer, V: Eq> Counted<T, V> {
         ensures looked { self.new ≡ record self.old { looks = self.old.looks + 1 } }
     {
         self.looks = self.looks.one_more();
-        found(node_at_or_below(&self.tree, key), value)
+        compared(self.tree.at_or_below(key), value)
     }
 }
 
@@ -138,24 +137,16 @@ impl<T: Integer, V: Eq + Clone> Counted<T, V> {
         requires ranges { RangesAscend T.low T.high self.old.entries }
         requires len { covered (T.rank lo) (T.rank hi) self.old.entries
             ≤ℤ pos (T.SafeLen.number len) }
-        ensures plan { IfOk result (λ w. IsSeenIn (is_sought V.eq (option_copied value.entry))
-            (T.rank lo) (T.rank hi) self.old.entries (shown_plan T.rank w.plan)) }
-        ensures outside { IfOk result (λ w. pos (T.SafeLen.number w.outside)
-            +ℤ covered (T.rank lo) (T.rank hi) self.old.entries ≡ pos (T.SafeLen.number len)) }
-        ensures above { IfOk result (λ w. IsAboveCloned V.is_clone
-            (is_sought V.eq (option_copied value.entry))
-            (T.rank lo) (T.rank hi) self.old.entries w.above) }
-        ensures value { IfOk result (λ w. IsClonedIf V.is_clone wanted
-            (at self.old.entries (T.rank lo)) w.value) }
+        ensures found { IfOk result (λ w. IsWalk V.is_clone
+            (is_sought V.eq (option_copied value.entry)) wanted (T.rank lo) (T.rank hi)
+            (T.SafeLen.number len) self.old.entries (shown_plan T.rank w.plan)
+            (T.SafeLen.number w.outside) w.above w.value) }
         ensures refused { OnErr result (GoesOnUnlike (is_sought V.eq (option_copied value.entry))
             (T.rank lo) (T.rank hi) self.old.entries
             ⊎ ((wanted ≡ true) × IsSome (at self.old.entries (T.rank lo)))) }
-        ensures looked { self.new ≡ record self.old { looks = self.new.looks } }
-        ensures risen { self.old.looks ≤ self.new.looks }
-        ensures few { self.new.looks ≤ self.old.looks + length (from (T.rank lo)
-            (below (T.rank hi +ℤ pos 2) self.old.entries)) + 1 }
+        ensures looked { IsLookedAt 0 (T.rank lo) (T.rank hi) self.old self.new }
     {
-        let (plan, outside, held) = walk_tree(&self.tree, len, lo, hi, value, &mut self.looks);
+        let (plan, outside, held) = look_down(&self.tree, len, lo, hi, value, &mut self.looks);
         let above = above_cloned(plan.left, hi, held)?;
         let value = cloned_if(wanted, held)?;
         Ok(Walk {

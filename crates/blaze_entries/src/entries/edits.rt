@@ -8,11 +8,8 @@ ghost use Rattle.blaze_entries.specs.Starts.{StartsAscend, below, from, start_at
 ghost use Rattle.blaze_entries.specs.Starts.{IsCloneInserted};
 
 use super::Entries;
-use crate::build::tree_of;
 use crate::counted::Counted;
-use crate::full_nodes::cloned;
-use crate::nodes::{node_at, split_off};
-use crate::retain::retain;
+use crate::tree::Tree;
 use blaze_int::Integer;
 use std::alloc::AllocError;
 use std::ops::RangeInclusive;
@@ -26,9 +23,7 @@ impl<T: Integer, V> Entries<T, V> {
             ≡ uncounted (from (T.rank key) self.old.counted.entries)) }
         ensures err { OnErr result (self.new.counted ≡ self.old.counted) }
     {
-        key.in_hand();
-        let counted = &mut self.counted;
-        let tree = split_off(&mut counted.tree, key)?;
+        let tree = self.counted.tree.split_off(key)?;
         Ok(Entries {
             counted: Counted::new(tree),
             alloc: self.alloc,
@@ -45,9 +40,8 @@ impl<T: Integer, V: Drop> Entries<T, V> {
             ≡ record self.old.counted { entries = shown_list T.rank entries.items }) }
         ensures err { OnErr result (self.new.counted ≡ self.old.counted) }
     {
-        let tree = tree_of(self.alloc, entries)?;
-        let counted = &mut self.counted;
-        counted.tree = tree;
+        let tree = Tree::from_sorted(self.alloc, entries)?;
+        self.counted.tree = tree;
         Ok(())
     }
 
@@ -59,16 +53,14 @@ impl<T: Integer, V: Drop> Entries<T, V> {
             self.old.counted.entries self.new.counted.entries }
         ensures uncounted { self.new.counted ≡ record self.old.counted { entries = self.new.counted.entries } }
     {
-        let counted = &mut self.counted;
-        retain(&mut counted.tree, f);
+        self.counted.tree.retain(f);
     }
 
     /// Takes all entries out. No entry is counted.
     pub fn clear(&mut self)
         ensures { self.new.counted ≡ record self.old.counted { entries = [] } }
     {
-        let counted = &mut self.counted;
-        counted.tree.clear();
+        self.counted.tree.clear();
     }
 
     /// Takes the entry at a start out, and returns its value.
@@ -77,7 +69,7 @@ impl<T: Integer, V: Drop> Entries<T, V> {
         ensures entries { self.new.counted
             ≡ record self.old.counted { entries = without (T.rank start) self.old.counted.entries } }
     {
-        self.counted.remove_uncounted(start)
+        self.counted.tree.remove(start)
     }
 }
 
@@ -95,9 +87,6 @@ impl<T: Integer, V: Clone + Drop> Entries<T, V> {
         ensures longer { OnOk result (length self.new.counted.entries ≡ length self.old.counted.entries + 1) }
         ensures err { OnErr result (self.new.counted ≡ self.old.counted) }
     {
-        let counted = &mut self.counted;
-        let node = cloned(node_at(&counted.tree, of))?;
-        counted.insert_uncounted(start, node.end, node.value)?;
-        Ok(())
+        self.counted.tree.insert_clone(of, start)
     }
 }

@@ -9,13 +9,6 @@ use Rattle.blaze_table.specs.Filled.{IsHeldFrom}
 use Rattle.blaze_table.proofs.Canonical.Lookup.{by_place, entry_in, entry_under, entry_over, holds_in}
 
 module _ {V : Type 0} where
-  -- the entry found at a key has it
-  pub entry_has : (e : Entry V) (es : List (Entry V)) (k : ℤ) → Some e ≡ entry_at es k → (e.lo ≤ℤ k) × (k ≤ℤ e.hi)
-  entry_has e [] k p = cc
-  entry_has e (f ∷ fs) k p = by_place f k
-      (λ a b. let same : e ≡ f = cc (p, entry_in f fs k a b) in subst (λ (x : Entry V). (x.lo ≤ℤ k) × (k ≤ℤ x.hi)) (sym same) (a, b))
-      (λ a. entry_has e fs k (p ∙ entry_under f fs k a))
-      (λ b. entry_has e fs k (p ∙ entry_over f fs k b))
 
   -- the list has a value at each key of an entry found in it
   pub entry_held : (e : Entry V) (es : List (Entry V)) (k : ℤ) → Some e ≡ entry_at es k → IsHeldFrom (at es) e.lo e.hi

@@ -88,20 +88,6 @@ module _ {V : Type 0} (test : V → Bool) (l low high : ℤ) (es : List (Entry V
             ];
           }
 
-  pub started_below : (l1 : ℤ) → Some l1 ≡ joined_start l (option_map (found_in test) (last_below l es)) → l1 <ℤ l
-  started_below l1 q =
-      let t = started_at l1 q in
-      let i = last_at l low high t.of es s t.is in
-      let up = i.starts in
-      let here = t.lo in
-      omega (arith, ints)
-
-  pub started_there : (l1 : ℤ) → Some l1 ≡ joined_start l (option_map (found_in test) (last_below l es)) → IsSome (start_at l1 es)
-  started_there l1 q =
-      let t = started_at l1 q in
-      let i = last_at l low high t.of es s t.is in
-      subst (λ o. IsSome o) (sym (ap (λ x. start_at x es) (sym t.lo) ∙ last_there l high t.of es i)) refl
-
 -- the range ends at its own end, or above it
 pub end_up : {V : Type 0} (eq : V → V → Bool) (test : V → Bool) (h : ℤ) (es : List (Entry V)) → IsCanonical eq es → (z : ℤ) → IsEnd test h es z → h ≤ℤ z
 end_up eq test h es c z (inl e) = let q = e.0 in omega (arith, ints)

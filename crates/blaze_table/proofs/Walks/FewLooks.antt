@@ -4,6 +4,7 @@ use Rattle.std.specs.Prelude.{Result, Ok, Err, OnOk, IfOk}
 use Rattle.std.proofs.lemmas.Int.{ints, by_lt_z}
 use Rattle.blaze_entries.specs.Counted.{CountedEntries}
 use Rattle.blaze_entries.specs.Starts.{StartsAscend, below, from}
+use Rattle.blaze_entries.specs.Walked.{IsLookedAt}
 use Rattle.blaze_entries.proofs.Halves.{below_takes, below_skips, below_none, from_takes, from_skips, from_all}
 use Rattle.blaze_table.specs.Entries.{Entry, entry}
 use Rattle.blaze_table.specs.Canonical.{IsCanonical}
@@ -46,13 +47,16 @@ module _ {V : Type 0} (eq : V → V → Bool) where
       (λ u m p. rw (p, from_takes (h +ℤ pos 1) e es (omega (arith, ints)), over (omega (arith, ints))) (omega arith))
 
   -- the looks of a walk, and one look more at most
-  pub looked : (l h low high : ℤ) (old new : CountedEntries V) → l ≤ℤ h → StartsAscend low high old.entries → IsCanonical eq old.entries → new ≡ record old { looks = new.looks } → old.looks ≤ new.looks
+  looked : (l h low high : ℤ) (old new : CountedEntries V) → l ≤ℤ h → StartsAscend low high old.entries → IsCanonical eq old.entries → new ≡ record old { looks = new.looks } → old.looks ≤ new.looks
       → new.looks ≤ old.looks + length (from l (below (h +ℤ pos 2) old.entries)) + 2 → IsLooked l h old new
   looked l h low high old new w s c alone risen few = record {
     alone = alone;
     risen = risen;
     few = omega (arith, few, few_starts l h low high old.entries w s, before_starts l old.entries c, after_starts h old.entries c);
   }
+
+  pub looked_by_walk : (l h low high : ℤ) {old new : CountedEntries V} → l ≤ℤ h → StartsAscend low high old.entries → IsCanonical eq old.entries → IsLookedAt 0 l h old new → IsLooked l h old new
+  looked_by_walk l h low high {old} {new} w s c k = looked l h low high old new w s c k.alone k.risen (omega (arith, k.few))
 
   pub looked_again : (l h low high : ℤ) (old mid new : CountedEntries V) → l ≤ℤ h → StartsAscend low high old.entries → IsCanonical eq old.entries → mid ≡ record old { looks = mid.looks } → old.looks ≤ mid.looks
       → mid.looks ≤ old.looks + length (from l (below (h +ℤ pos 2) old.entries)) + 1 → new ≡ record mid { looks = new.looks } → mid.looks ≤ new.looks → new.looks ≤ mid.looks + 1 → IsLooked l h old new
@@ -74,8 +78,3 @@ module _ {V : Type 0} (l h : ℤ) (old mid new : CountedEntries V) (looked : IsL
         puts = omega (arith, puts, work.puts);
         looks = omega (arith, looked.few, puts, taken, long, low_part, high_part, short, work.counted.puts, work.counted.taken, work.counted.balance, work.looks);
       }
-
-  -- of a paint
-  pub counted_paint : {A E : Type 0} (eq : V → V → Bool) (low high : ℤ) (v : V) (len : A → ℕ) (r : Result A E) → OnOk r (IsWorked 2 0 mid new) → IfOk r (λ a. IsTablePainted eq low high (len a) (entry l h v) mid.entries new.entries) → OnOk r (IsCountedPaint old new)
-  counted_paint eq low high v len (Ok a) work painted = counted 2 work painted.short
-  counted_paint eq low high v len (Err e) work painted = tt

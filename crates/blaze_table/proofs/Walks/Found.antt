@@ -10,7 +10,7 @@ use Rattle.blaze_entries.specs.Counted.{CountedEntries}
 use Rattle.blaze_entries.specs.declared.range_entry.RangeEntry.{RangeEntry}
 use Rattle.blaze_entries.specs.Found.{found_in, shown_found}
 use Rattle.blaze_entries.specs.Overlap.{covered}
-use Rattle.blaze_entries.specs.Walked.{RangesAscend, end_of, IsSeenIn, IsAboveCloned, GoesOnUnlike, IsClonedIf}
+use Rattle.blaze_entries.specs.Walked.{RangesAscend, end_of, IsSeenIn, IsAboveCloned, GoesOnUnlike, IsClonedIf, IsWalk}
 use Rattle.blaze_entries.specs.Starts.{StartsAscend, below, last_below, start_at}
 use Rattle.blaze_entries.proofs.Halves.{below_none, below_takes}
 use Rattle.blaze_table.specs.Canonical.{IsCanonical, AreKeys}
@@ -95,13 +95,6 @@ module _ {V : Type 0} (eq : V → V → Bool) (l h low high : ℤ) (w : l ≤ℤ
           let start : rank f.start ≡ e.lo = ap (λ (t : ℤ × ℤ × Bool). t.0) found in
           subst (λ o. IsSome o) (sym (ap (λ k. start_at k es) start ∙ start_last e r)) refl
 
--- a clone of what there is is equal to it
-pub cloned_option : {V : Type 0} (eq : V → V → Bool) (is_clone : V → V → Type 0) → ClonesAreAlike is_clone eq → (o r : Option V) → IsClonedIf is_clone true o r → SameOption eq o r
-cloned_option eq is_clone k None None h = tt
-cloned_option eq is_clone k None (Some y) h = cc
-cloned_option eq is_clone k (Some x) None h = h
-cloned_option eq is_clone k (Some x) (Some y) h = k x y h
-
 -- a clone of the value above the range is equal to it
 like_cloned : {V : Type 0} (eq : V → V → Bool) (is_clone : V → V → Type 0) → ClonesAreAlike is_clone eq → (test : V → Bool) (h : ℤ) (x : Option (Entry V)) (o : Option V) → IfSome x (λ e. h <ℤ e.hi → test e.value ≡ false → IsSomeAnd o (is_clone e.value))
     → IfSome x (λ e. h <ℤ e.hi → test e.value ≡ false → IsSomeAnd o (λ u. eq e.value u ≡ true))
@@ -133,16 +126,12 @@ module _ {V : Type 0} (eq : V → V → Bool) (l h low high : ℤ) (w : l ≤ℤ
       above = like_cloned eq is_clone k test h (last_below l es) o a;
     }
 
+    pub walked : {is_clone : V → V → Type 0} {wanted : Bool} {p : Seen} {n : ℕ} {o v : Option V} → ClonesAreAlike is_clone eq → IsWalk is_clone test wanted l h len es p n o v → IsWalkOf eq test l h es p n o
+    walked {is_clone} {p = p} {n} {o} k i = found_by_walk p i.plan n i.outside is_clone k o i.above
+
 -- what was found still holds behind the looks
 pub found_still : {V : Type 0} {eq : V → V → Bool} {test : V → Bool} {l h : ℤ} {old mid : CountedEntries V} {p : Seen} {n : ℕ} {o : Option V} → IsLooked l h old mid → IsWalkOf eq test l h old.entries p n o → IsWalkOf eq test l h mid.entries p n o
 found_still {V} {eq} {test} {l} {h} {old} {mid} {p} {n} {o} looked found = subst (λ (es : List (Entry V)). IsWalkOf eq test l h es p n o) (sym (ap (λ (s : CountedEntries V). s.entries) looked.alone)) found
-
--- what is left inside an equal entry is left so behind the looks
-pub inside_still : {V R : Type 0} {l h : ℤ} {old mid : CountedEntries V} {new : List (Entry V)} (eq : V → V → Bool) (v : V) → IsLooked l h old mid → (IsInside eq l h v mid.entries → R × (new ≡ mid.entries)) → IsInside eq l h v old.entries → R × (new ≡ old.entries)
-inside_still {V} {R} {l} {h} {old} {mid} {new} eq v looked left inside =
-    let same = ap (λ (s : CountedEntries V). s.entries) looked.alone in
-    let kept = left (subst (λ (es : List (Entry V)). IsInside eq l h v es) (sym same) inside) in
-    (kept.0, kept.1 ∙ same)
 
 -- where the entry is not joined with the range, its value is another
 module _ {V : Type 0} (eq : V → V → Bool) (test : V → Bool) (l h z : ℤ) (w : l ≤ℤ h) (up : h ≤ℤ z) (o : Option V) where

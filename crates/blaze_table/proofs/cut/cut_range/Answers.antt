@@ -1,35 +1,51 @@
-use Rattle.std.proofs.Common.{refl, ap, sym, subst}
+use Rattle.std.proofs.Common.{◌≡◌, true, false, ap, sym, subst, inl, inr}
+use Rattle.std.specs.Option.{option_copied}
+use Rattle.blaze_entries.specs.Found.{is_sought}
+use Rattle.blaze_table.specs.Planned.{GoesOnUnequal}
 use Rattle.blaze_entries.specs.Counted.{CountedEntries}
 use Rattle.blaze_table.specs.Edited.{IsPlace}
 use Rattle.blaze_table.specs.Splice.{IsRangeCutOf, IsRangeTaken}
 use Rattle.blaze_table.proofs.Cuts.CutEdits.{on_err}
 use Rattle.blaze_table.proofs.Cuts.RangeCuts.{end_is, range_place, range_cut, rest_above, counted_cut}
+use Rattle.blaze_table.proofs.Walks.FewLooks.{looked_by_walk}
+use Rattle.blaze_table.proofs.Walks.Found.{has_ranges, has_keys, found_above, walked}
 use Rattle.blaze_table.proofs.cut.cut_range.Goals as goal
 
+pub walk-requires-clause-ranges : goal.walk-requires-clause-ranges
+walk-requires-clause-ranges g c = has_ranges g.V.PartialEq.eq (g.T.Integer.rank c.args.lo) (g.T.Integer.rank c.args.hi) g.T.Integer.low g.T.Integer.high c.requires.order _ _ c.in_hand.ensures c.requires.table
+
+pub walk-requires-clause-len : goal.walk-requires-clause-len
+walk-requires-clause-len g c = has_keys g.V.PartialEq.eq _ _ g.T.Integer.low g.T.Integer.high c.requires.order _ _ c.in_hand.ensures c.requires.table
+
 pub returns-in_err-found-clause-refused : goal.returns-in_err-found-clause-refused
-returns-in_err-found-clause-refused g c = on_err c.from_residual.result (c.in_err-found.ensures.refused refl).over
+returns-in_err-found-clause-refused g c =
+    let over : GoesOnUnequal (is_sought g.V.PartialEq.eq (option_copied c.as_ref.result)) (g.T.Integer.rank c.args.hi) c.args.entries.now.entries = elim c.in_err-found.ensures.refused [
+      | inl over ↦ found_above g.V.PartialEq.eq _ _ g.T.Integer.low g.T.Integer.high c.requires.order _ _ c.in_hand.ensures c.requires.table (is_sought g.V.PartialEq.eq (option_copied c.as_ref.result)) over
+      | inr held ↦ absurd (let no : false ≡ true = held.0 in cc)
+    ] in
+    on_err c.from_residual.result over.over
 
 pub take_out-requires-clause-place : goal.take_out-requires-clause-place
 take_out-requires-clause-place g c =
-    let same = ap (λ (s : CountedEntries g.row.V.Denot). s.entries) c.walk_down.ensures.looked.alone in
+    let same = ap (λ (s : CountedEntries g.row.V.Denot). s.entries) c.walk.ensures.looked.alone in
     subst (λ xs. IsPlace g.T.Integer.rank g.V.PartialEq.eq (g.T.Integer.rank c.args.lo) xs c.in_ok-found.found.plan c.in_ok-found.found.above) (sym same)
-    (range_place g.V.PartialEq.eq _ c.as_ref.ensures.value _ _ g.T.Integer.rank c.in_ok-found.found.plan _ _ c.args.entries.now.entries c.in_ok-found.ensures.found g.T.Integer.low g.T.Integer.high c.requires.order c.in_hand.ensures c.requires.table.canonical)
+    (range_place g.V.PartialEq.eq _ c.as_ref.ensures.value _ _ g.T.Integer.rank c.in_ok-found.found.plan _ _ c.args.entries.now.entries (walked g.V.PartialEq.eq _ _ g.T.Integer.low g.T.Integer.high c.requires.order _ _ c.in_hand.ensures c.requires.table _ c.requires.clones c.in_ok-found.ensures.found) g.T.Integer.low g.T.Integer.high c.requires.order c.in_hand.ensures c.requires.table.canonical)
 
 pub returns-in_err-take_out-clause-refused : goal.returns-in_err-take_out-clause-refused
 returns-in_err-take_out-clause-refused g c =
-    on_err c.from_residual-in_err-take_out.result (rest_above g.V.PartialEq.eq _ c.as_ref.ensures.value _ _ g.T.Integer.rank c.in_ok-found.found.plan _ _ c.args.entries.now.entries c.in_ok-found.ensures.found g.T.Integer.low g.T.Integer.high c.requires.order c.in_hand.ensures c.requires.table.canonical
+    on_err c.from_residual-in_err-take_out.result (rest_above g.V.PartialEq.eq _ c.as_ref.ensures.value _ _ g.T.Integer.rank c.in_ok-found.found.plan _ _ c.args.entries.now.entries (walked g.V.PartialEq.eq _ _ g.T.Integer.low g.T.Integer.high c.requires.order _ _ c.in_hand.ensures c.requires.table _ c.requires.clones c.in_ok-found.ensures.found) g.T.Integer.low g.T.Integer.high c.requires.order c.in_hand.ensures c.requires.table.canonical
     c.in_err-take_out.ensures.refused)
 
 pub returns-clause-cut : goal.returns-clause-cut
 returns-clause-cut g c =
     let rank = g.T.Integer.rank in
-    let same = ap (λ (s : CountedEntries g.row.V.Denot). s.entries) c.walk_down.ensures.looked.alone in
-    range_cut g.V.PartialEq.eq _ c.as_ref.ensures.value _ _ rank c.in_ok-found.found.plan _ _ c.args.entries.now.entries c.in_ok-found.ensures.found g.T.Integer.low g.T.Integer.high c.requires.order c.in_hand.ensures c.requires.table.canonical g.met.V.Eq.laws _ c.take_out.new.entries.entries c.requires.table
+    let same = ap (λ (s : CountedEntries g.row.V.Denot). s.entries) c.walk.ensures.looked.alone in
+    range_cut g.V.PartialEq.eq _ c.as_ref.ensures.value _ _ rank c.in_ok-found.found.plan _ _ c.args.entries.now.entries (walked g.V.PartialEq.eq _ _ g.T.Integer.low g.T.Integer.high c.requires.order _ _ c.in_hand.ensures c.requires.table _ c.requires.clones c.in_ok-found.ensures.found) g.T.Integer.low g.T.Integer.high c.requires.order c.in_hand.ensures c.requires.table.canonical g.met.V.Eq.laws _ c.take_out.new.entries.entries c.requires.table
     (subst (λ xs. IsRangeTaken g.V.PartialEq.eq (rank c.args.lo) (rank c.in_ok-found.found.plan.end) xs c.take_out.new.entries.entries) same c.in_ok-take_out.ensures.cut)
 
 pub returns-clause-counted : goal.returns-clause-counted
 returns-clause-counted g c =
     let rank = g.T.Integer.rank in
-    let end = end_is g.V.PartialEq.eq _ c.as_ref.ensures.value _ _ rank c.in_ok-found.found.plan _ _ c.args.entries.now.entries c.in_ok-found.ensures.found in
-    counted_cut g.V.PartialEq.eq g.met.V.Eq.laws _ _ c.args.entries.now c.walk_down.new.entries c.take_out.new.entries c.walk_down.ensures.looked
-    (subst (λ z. IsRangeCutOf g.V.PartialEq.eq (rank c.args.lo) z c.walk_down.new.entries.entries c.take_out.new.entries.entries) end c.in_ok-take_out.ensures.cut.cut) c.in_ok-take_out.ensures.worked
+    let end = end_is g.V.PartialEq.eq _ c.as_ref.ensures.value _ _ rank c.in_ok-found.found.plan _ _ c.args.entries.now.entries (walked g.V.PartialEq.eq _ _ g.T.Integer.low g.T.Integer.high c.requires.order _ _ c.in_hand.ensures c.requires.table _ c.requires.clones c.in_ok-found.ensures.found) in
+    counted_cut g.V.PartialEq.eq g.met.V.Eq.laws _ _ c.args.entries.now c.walk.new.self c.take_out.new.entries (looked_by_walk g.V.PartialEq.eq _ _ g.T.Integer.low g.T.Integer.high c.requires.order c.in_hand.ensures c.requires.table.canonical c.walk.ensures.looked)
+    (subst (λ z. IsRangeCutOf g.V.PartialEq.eq (rank c.args.lo) z c.walk.new.self.entries c.take_out.new.entries.entries) end c.in_ok-take_out.ensures.cut.cut) c.in_ok-take_out.ensures.worked

@@ -4,19 +4,22 @@ use Rattle.std.specs.Option.{option_copied}
 use Rattle.blaze_entries.specs.Counted.{CountedEntries}
 use Rattle.blaze_entries.specs.Entries.{at}
 use Rattle.blaze_entries.specs.Found.{is_sought}
-use Rattle.blaze_entries.specs.Walked.{RangesAscend, IsAboveCloned, IsClonedIf}
+use Rattle.blaze_entries.specs.Walked.{RangesAscend, shown_plan, IsWalk, IsClonedIf}
 use Rattle.blaze_entries.proofs.Underway.{above_at, cloned_above}
 use Rattle.blaze_entries.proofs.counted.Counted.walk.Goals as goal
 
-pub returns-clause-above : goal.returns-clause-above
-returns-clause-above g c =
+pub returns-clause-found : goal.returns-clause-found
+returns-clause-found g c =
     let rank = g.T.Integer.rank in
     let l = rank c.args.lo in
     let h = rank c.args.hi in
-    let low = g.T.Integer.low in
-    let high = g.T.Integer.high in
     let test = is_sought g.V.PartialEq.eq (option_copied c.args.value) in
-    subst (λ (s : CountedEntries g.row.V.Denot). RangesAscend low high s.entries → IsAboveCloned g.V.Clone.is_clone test l h s.entries c.in_ok-above.above) c.self.view_is
-    (λ r. cloned_above rank g.V.Clone.is_clone test h _ _ (λ k. at _ l) _ c.walk_tree.ensures.plan.left (above_at l h c.requires.order low high _ r)
-    (subst (λ o. IfSome c.walk_tree.result.0.left (λ f. h <ℤ rank f.end → f.value ≡ false → IsClonedIf g.V.Clone.is_clone true o c.in_ok-above.above)) c.walk_tree.ensures.value c.in_ok-above.ensures.clone))
-    c.requires.ranges
+    let es = c.self.inside.tree in
+    subst (λ (s : CountedEntries g.row.V.Denot). RangesAscend g.T.Integer.low g.T.Integer.high s.entries → IsWalk g.V.Clone.is_clone test c.args.wanted l h (g.T.SafeLen.SafeLength.number c.args.len) s.entries (shown_plan rank c.look_down.result.0) (g.T.SafeLen.SafeLength.number c.look_down.result.1) c.in_ok-above.above c.in_ok-value.value) c.self.view_is
+    (λ r. record {
+      plan = c.look_down.ensures.plan;
+      outside = c.look_down.ensures.len;
+      above = cloned_above rank g.V.Clone.is_clone test h _ _ (λ k. at _ l) _ c.look_down.ensures.plan.left (above_at l h c.requires.order g.T.Integer.low g.T.Integer.high _ r)
+          (subst (λ o. IfSome c.look_down.result.0.left (λ f. h <ℤ rank f.end → f.value ≡ false → IsClonedIf g.V.Clone.is_clone true o c.in_ok-above.above)) c.look_down.ensures.value c.in_ok-above.ensures.clone);
+      value = subst (λ o. IsClonedIf g.V.Clone.is_clone c.args.wanted o c.in_ok-value.value) c.look_down.ensures.value c.in_ok-value.ensures.clone;
+    }) c.requires.ranges

@@ -1,0 +1,9 @@
+use Rattle.std.proofs.Common.{◌∙◌, ap}
+use Rattle.std.specs.Prelude.{None}
+use Rattle.std.specs.List.{last_or}
+use Rattle.blaze_entries.specs.Entries.{shown_entry}
+use Rattle.blaze_entries.proofs.Edits.{last_yielded}
+use Rattle.blaze_entries.proofs.tree.Tree.at_or_below.Goals as goal
+
+pub returns : goal.returns
+returns g c = last_yielded (shown_entry g.T.Integer.rank (λ v. v.now)) _ _ c.next_back.result c.next_back.ensures.steps ∙ ap (last_or None) c.iter_up_to.ensures

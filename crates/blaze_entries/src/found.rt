@@ -1,0 +1,87 @@
+//! What a counted look answers of an entry that was found.
+ghost use Rattle.std.specs.Prelude.{◌≡◌, ◌<ℤ◌, IfOk, OnErr, IsSome, IsSomeAnd, IfSome};
+ghost use Rattle.blaze_entries.specs.Cloned.{IsRangeCloned};
+ghost use Rattle.blaze_entries.specs.Entries.{shown_lent};
+ghost use Rattle.blaze_entries.specs.Found.{found_in, shown_found, range_in, shown_ends};
+ghost use Rattle.blaze_entries.specs.Starts.{reaching};
+ghost use Rattle.std.specs.Option.{option_map};
+
+use crate::range_entry::RangeEntry;
+use blaze_int::Integer;
+use blaze_int::compare::is_below;
+use std::alloc::AllocError;
+
+/// Its first and last key.
+pub fn range_of<T: Integer, V>(found: Option<(T, T, &V)>) -> Option<RangeEntry<T, ()>>
+    ensures { option_map (shown_ends T.rank) result
+        ≡ option_map range_in (shown_lent T.rank found.entry) }
+{
+    let (start, end, _) = found?;
+    Some(RangeEntry {
+        start,
+        end,
+        value: (),
+    })
+}
+
+/// Its first and last key, and whether its value is equal to another.
+pub fn compared<T: Integer, V: Eq>(
+    found: Option<(T, T, &V)>,
+    value: &V,
+) -> Option<RangeEntry<T, bool>>
+    ensures { option_map (shown_found T.rank) result
+        ≡ option_map (found_in (λ w. V.eq w value.now)) (shown_lent T.rank found.entry) }
+{
+    let (start, end, other) = found?;
+    Some(RangeEntry {
+        start,
+        end,
+        value: *other == *value,
+    })
+}
+
+/// The entry, if it ends at a key or above.
+pub fn reaching<'a, T: Integer, V>(found: Option<(T, T, &'a V)>, key: T) -> Option<(T, T, &'a V)>
+    ensures { shown_lent T.rank result ≡ reaching (T.rank key) (shown_lent T.rank found.entry) }
+{
+    let (start, end, value) = found?;
+    if is_below(end, key) {
+        return None;
+    }
+    Some((start, end, value))
+}
+
+/// Its first and last key, and a clone of its value where it has more than one key.
+pub fn range_cloned<T: Integer, V: Clone>(
+    found: Option<(T, T, &V)>,
+) -> Result<Option<RangeEntry<T, Option<V>>>, AllocError>
+    ensures range { IfOk result
+        (λ r. IsRangeCloned T.rank V.is_clone (shown_lent T.rank found.entry) r) }
+    ensures refused { OnErr result
+        (IsSomeAnd (shown_lent T.rank found.entry) (λ e. e.lo <ℤ e.hi)) }
+{
+    let Some((start, end, value)) = found else {
+        return Ok(None);
+    };
+    let value = if is_below(start, end) {
+        Some(value.clone()?)
+    } else {
+        None
+    };
+    Ok(Some(RangeEntry { start, end, value }))
+}
+
+/// A clone of its value.
+pub fn value_cloned<T: Integer, V: Clone>(found: Option<(T, T, &V)>) -> Result<V, AllocError>
+    requires { IsSome (shown_lent T.rank found) }
+    ensures { IfOk result
+        (λ copy. IfSome (shown_lent T.rank found.entry) (λ e. V.is_clone e.value copy)) }
+{
+    match found {
+        Some((_, _, value)) => {
+            let copy = value.clone()?;
+            Ok(copy)
+        }
+        None => unreachable!(),
+    }
+}

@@ -1,0 +1,38 @@
+//! The tree of a sorted list.
+ghost use Rattle.std.specs.BTreeMap.{IsFromIterResult};
+ghost use Rattle.std.specs.Ordering.{int_cmp, on};
+ghost use Rattle.std.specs.Prelude.{◌≡◌, map, IfOk};
+ghost use Rattle.blaze_entries.specs.Entries.{shown_list};
+ghost use Rattle.blaze_entries.specs.Nodes.{node_of};
+ghost use Rattle.blaze_entries.specs.Starts.{StartsAscend};
+
+use super::Tree;
+use crate::node::{EndValue, Nodes};
+use crate::start::Start;
+use blaze_int::Integer;
+use std::alloc::{AllocError, Global};
+
+// The nodes of entries, made in one go. Of entries with equal starts the last one stays.
+fn collect<T: Integer, V: Drop>(
+    alloc: Global,
+    entries: Vec<(T, T, V)>,
+) -> Result<Nodes<T, V>, AllocError>
+    ensures { IfOk result (IsFromIterResult (on T.rank int_cmp) (map node_of entries.items)) }
+{
+    let nodes = entries.into_iter().map(|(start, end, value)| {
+        let value = Some(value);
+        (Start(start), EndValue { end, value })
+    });
+    nodes.collect(alloc)
+}
+
+impl<T: Integer, V: Drop> Tree<T, V> {
+    /// The tree of entries whose starts ascend: first key, last key and value. Refused memory drops the list.
+    pub fn from_sorted(alloc: Global, entries: Vec<(T, T, V)>) -> Result<Self, AllocError>
+        requires { StartsAscend T.low T.high (shown_list T.rank entries.items) }
+        ensures { IfOk result (λ tree. tree ≡ shown_list T.rank entries.items) }
+    {
+        let nodes = collect(alloc, entries)?;
+        Ok(Tree { nodes })
+    }
+}

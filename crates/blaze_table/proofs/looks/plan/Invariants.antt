@@ -1,0 +1,22 @@
+use Rattle.std.proofs.Common.{◌≡◌, ◌+◌, ℤ, pos, List}
+use Rattle.std.specs.Option.{option_map}
+use Rattle.blaze_entries.specs.Found.{found_in, shown_found}
+use Rattle.blaze_entries.specs.Starts.{below, last_below}
+use Rattle.blaze_entries.specs.Walked.{shown_plan}
+use Rattle.blaze_entries.proofs.Underway.{IsWalkUnderway}
+use Rattle.blaze_table.specs.Entries.{Entry}
+use Rattle.blaze_table.proofs.Walks.Descents.{rounds}
+use Rattle.blaze_table.proofs.looks.plan.Given as goal
+
+-- the entries below a key stand before those that were seen; the look at the last of them is made
+abbrev pub invariant-loop-last : goal.invariant-loop-last
+invariant-loop-last g l = record {
+  key : ℤ;
+  seen : List (Entry g.row.V.Denot);
+  same : l.entries ≡ record l.fn.entries { looks = l.entries.looks };
+  found : option_map (shown_found g.T.Integer.rank) l.last ≡ option_map (found_in (λ w. g.V.PartialEq.eq w l.value)) (last_below key l.fn.entries.entries);
+  walk : IsWalkUnderway (λ w. g.V.PartialEq.eq w l.value) (g.T.Integer.rank l.lo) (g.T.Integer.rank l.hi) (pos (g.T.SafeLen.SafeLength.number l.fn.len)) (l.fn.entries.looks + 1) g.T.Integer.high l.fn.entries.entries (below key l.fn.entries.entries) seen (shown_plan g.T.Integer.rank l.plan) (pos (g.T.SafeLen.SafeLength.number l.left)) l.entries.looks;
+}
+
+abbrev pub decreases-loop-last : goal.decreases-loop-last
+decreases-loop-last g l = rounds l.fn.entries.entries (option_map (shown_found g.T.Integer.rank) l.last)

@@ -1,0 +1,110 @@
+//! What a paint has to know of the entries beside its range, found by single looks.
+ghost use Rattle.std.specs.Prelude.{◌≡◌, ◌+◌, ◌≤◌, pos, ◌+ℤ◌, ◌≤ℤ◌, ◌<ℤ◌, length, true, false};
+ghost use Rattle.std.specs.Prelude.{IsSome, IsSomeAnd, IfSome, IfOk, OnErr};
+ghost use Rattle.std.specs.Option.{option_map};
+ghost use Rattle.blaze_entries.specs.Overlap.{covered};
+ghost use Rattle.blaze_entries.specs.Starts.{below, from, start_at};
+ghost use Rattle.blaze_entries.specs.Walked.{RangesAscend, shown_plan, IsSeenIn, IsClonedIf};
+ghost use Rattle.blaze_table.specs.Painted.{ClonesAreAlike};
+ghost use Rattle.blaze_table.specs.Planned.{IsWalkOf, IsLooked, GoesOnUnequal};
+ghost use Rattle.blaze_table.specs.Table.{IsTable};
+
+use blaze_entries::{Counted, Plan, RangeEntry, Walk, length_outside, next_or_last};
+use blaze_int::Integer;
+use blaze_int::compare::is_below;
+use std::alloc::AllocError;
+
+// Walks down the entries by single looks, from the one that may start right above a range to the first that starts below
+// it. A length loses how many of their keys lie in the range.
+fn plan<T: Integer, V: Eq>(
+    entries: &mut Counted<T, V>,
+    len: T::SafeLen,
+    lo: T,
+    hi: T,
+    value: &V,
+) -> (Plan<T>, T::SafeLen)
+    requires order { T.rank lo ≤ℤ T.rank hi }
+    requires ranges { RangesAscend T.low T.high entries.old.entries }
+    requires len { covered (T.rank lo) (T.rank hi) entries.old.entries
+        ≤ℤ pos (T.SafeLen.number len) }
+    ensures plan { IsSeenIn (λ w. V.eq w value.now) (T.rank lo) (T.rank hi) entries.old.entries
+        (shown_plan T.rank result.0) }
+    ensures len { pos (T.SafeLen.number result.1)
+        +ℤ covered (T.rank lo) (T.rank hi) entries.old.entries ≡ pos (T.SafeLen.number len) }
+    ensures looked { entries.new ≡ record entries.old { looks = entries.new.looks } }
+    ensures risen { entries.old.looks ≤ entries.new.looks }
+    ensures few { entries.new.looks ≤ entries.old.looks
+        + length (from (T.rank lo) (below (T.rank hi +ℤ pos 2) entries.old.entries)) + 1 }
+{
+    entries.in_hand();
+    entries.length_in_hand();
+    let mut plan = Plan::new(hi);
+    let mut left = len;
+    let mut last = entries.found_at_or_below(next_or_last(hi), value);
+    while let Some(found) = last {
+        left = length_outside(left, found, lo, hi);
+        plan.see(lo, hi, found);
+        if is_below(found.start, lo) {
+            return (plan, left);
+        }
+        last = entries.found_below(found.start, value);
+    }
+    (plan, left)
+}
+
+// A clone of the value of the entry `left`, which starts below a range, where it goes on above the range with another value,
+// by one look. A refused clone leaves the entries.
+fn value_above<T: Integer, V: Eq + Clone>(
+    entries: &mut Counted<T, V>,
+    hi: T,
+    left: Option<RangeEntry<T, bool>>,
+) -> Result<Option<V>, AllocError>
+    requires { IfSome left (λ f. IsSome (start_at (T.rank f.start) entries.old.entries)) }
+    ensures above { IfOk result (λ r. IfSome left (λ f. T.rank hi <ℤ T.rank f.end → f.value ≡ false
+        → IsClonedIf V.is_clone true
+        (option_map (λ e. e.value) (start_at (T.rank f.start) entries.old.entries)) r)) }
+    ensures refused { OnErr result
+        (IsSomeAnd left (λ f. (T.rank hi <ℤ T.rank f.end) × (f.value ≡ false))) }
+    ensures looked { entries.new ≡ record entries.old { looks = entries.new.looks } }
+    ensures risen { entries.old.looks ≤ entries.new.looks }
+    ensures few { entries.new.looks ≤ entries.old.looks + 1 }
+{
+    match left {
+        Some(found) if !found.value && is_below(hi, found.end) => {
+            let above = entries.clone_value(found.start)?;
+            Ok(Some(above))
+        }
+        _ => Ok(None),
+    }
+}
+
+/// Finds what an edit of the keys from lo up to hi has to know of the entries by single looks, beside a value: what `Counted::walk`
+/// finds in one search. A refused clone leaves the entries.
+#[inline(always)]
+pub fn walk_by_looks<T: Integer, V: Eq + Clone>(
+    entries: &mut Counted<T, V>,
+    len: T::SafeLen,
+    lo: T,
+    hi: T,
+    value: &V,
+) -> Result<Walk<T, V>, AllocError>
+    requires order { T.rank lo ≤ℤ T.rank hi }
+    requires clones { ClonesAreAlike V.is_clone V.eq }
+    requires table { IsTable V.eq T.low T.high (T.SafeLen.number len) entries.old.entries }
+    ensures found { IfOk result (λ w. IsWalkOf V.eq (λ x. V.eq x value.now)
+        (T.rank lo) (T.rank hi) entries.old.entries
+        (shown_plan T.rank w.plan) (T.SafeLen.number w.outside) w.above) }
+    ensures refused { OnErr result
+        (GoesOnUnequal (λ x. V.eq x value.now) (T.rank hi) entries.old.entries) }
+    ensures looked { IsLooked (T.rank lo) (T.rank hi) entries.old entries.new }
+{
+    entries.in_hand();
+    let (plan, outside) = plan(entries, len, lo, hi, value);
+    let above = value_above(entries, hi, plan.left)?;
+    Ok(Walk {
+        plan,
+        outside,
+        above,
+        value: None,
+    })
+}
