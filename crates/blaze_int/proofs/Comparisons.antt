@@ -1,6 +1,7 @@
 -- What tests answer, and what their answers say.
-use Rattle.std.proofs.Common.{◌≡◌, ℤ, ◌≤ℤ◌, ◌<ℤ◌, Bool, true, false, refl, arith}
+use Rattle.std.proofs.Common.{◌≡◌, ℤ, ◌≤ℤ◌, ◌<ℤ◌, Bool, true, false, cond, refl, ap, arith}
 use Rattle.std.specs.Prelude.{int_lt, int_le, ◌&&◌}
+use Rattle.std.specs.Int.{int_max}
 use Rattle.std.specs.Ordering.{int_eq}
 use Rattle.std.proofs.lemmas.Int.{ints}
 
@@ -51,3 +52,8 @@ and_fails false b p q = cc
 
 pub not_both : (b : Bool) → b ≡ true → b ≡ false → ⊥
 not_both b p q = cc
+
+-- ---- the greater of two
+
+pub max_right : (a b : ℤ) → a ≤ℤ b → int_max a b ≡ b
+max_right a b h = ap (λ t. cond t a b) (lt_false b a h)

@@ -1,5 +1,5 @@
 -- Natural numbers, and whole numbers that are not negative.
-use Rattle.std.proofs.Common.{◌≡◌, ℕ, ◌+◌, ℤ, pos, negsuc, ◌≤ℤ◌, false, refl, nat_eq, arith}
+use Rattle.std.proofs.Common.{◌≡◌, ◌<◌, ◌≤◌, ℕ, zero, suc, ◌+◌, ℤ, pos, negsuc, ◌≤ℤ◌, false, refl, nat_eq, arith}
 use Rattle.std.proofs.lemmas.Int.{ints}
 use Rattle.blaze_int.specs.Unsigned.{nat_of}
 
@@ -12,3 +12,9 @@ pos_injective m n e = cc
 
 pub next_differs : (n : ℕ) → nat_eq n (n + 1) ≡ false
 next_differs n = grind arith
+
+-- by which of two numbers is less
+pub by_less : {P : Type 0} (j n : ℕ) → (j < n → P) → (n ≤ j → P) → P
+by_less j zero below above = above (omega arith)
+by_less zero (suc n) below above = below (omega arith)
+by_less (suc j) (suc n) below above = by_less j n (λ h. below (omega (arith, h))) (λ h. above (omega (arith, h)))
