@@ -6,9 +6,7 @@ use Rattle.std.proofs.lemmas.Int.{ints}
 use Rattle.std.proofs.lemmas.List.Elements.{All-nil, All-cons, Contains-append_right}
 use Rattle.std.proofs.lemmas.List.Sorted.{All-permutation, Contains-permutation}
 use Rattle.std.proofs.lemmas.Option.{slice_get_within}
-use Rattle.blaze_table.specs.Entries.{Entry}
-use Rattle.blaze_table.specs.Pieces.{EndsAreKeys, AreAscending, HasStarted, IsWaiting, KeepsReaching, ArePieces, IsSweptSoFar}
-use Rattle.blaze_table.proofs.Sweeping.Pieces.{ended}
+use Rattle.blaze_table.specs.Pieces.{EndsAreKeys, AreAscending, HasStarted, IsWaiting, KeepsReaching, IsUnderway}
 use Rattle.blaze_table.proofs.Sweeping.Placed.{one_item, item_of, one_more}
 use Rattle.blaze_table.specs.declared.sweep.placed.Placed.{Placed}
 
@@ -23,17 +21,16 @@ by_le j zero below above = above (omega arith)
 by_le zero (suc n) below above = below (omega arith)
 by_le (suc j) (suc n) below above = by_le j n (λ h. below (omega (arith, h))) (λ h. above (omega (arith, h)))
 
-module _ {T V : Type 0} (rank : T → ℤ) (low : ℤ) (placed : List (Placed T V)) where
+module _ {T V : Type 0} (rank : T → ℤ) (placed : List (Placed T V)) where
   -- at the least key all pairs are to come
-  pub underway_none : (high : ℤ) → All (EndsAreKeys rank low high) placed → IsSweptSoFar rank low placed low 0 [] []
-  underway_none high keys = record {
-    made = ended rank placed low;
+  pub underway_none : (low high : ℤ) → All (EndsAreKeys rank low high) placed → IsUnderway rank placed low 0 []
+  underway_none low high keys = record {
     started = All-nil (HasStarted rank placed low);
     complete = λ j p q l u. absurd (omega arith);
     others = λ j p q l. (item_of (EndsAreKeys rank low high) placed j p keys q).0;
   }
 
-  module _ (up : AreAscending rank placed) (a : ℤ) (n : ℕ) (waits : List (ℕ × ℕ)) (pieces : List (Entry ℕ)) (c : IsSweptSoFar rank low placed a n waits pieces) where
+  module _ (up : AreAscending rank placed) (a : ℤ) (n : ℕ) (waits : List (ℕ × ℕ)) (c : IsUnderway rank placed a n waits) where
     -- all that start below the next wait
     pub waits_for : (s : Placed T V) → slice_get placed n ≡ Some s → IsWaiting rank placed a (rank s.start -ℤ pos 1) waits
     waits_for s is = record {
@@ -49,14 +46,12 @@ module _ {T V : Type 0} (rank : T → ℤ) (low : ℤ) (placed : List (Placed T 
     }
 
     -- one more waits
-    pub underway_more : (s : Placed T V) → slice_get placed n ≡ Some s → (kept new : List (ℕ × ℕ)) (more : List (Entry ℕ))
-        → IsWaiting rank placed (rank s.start) (rank s.start -ℤ pos 1) kept → KeepsReaching rank placed (rank s.start) waits kept → ArePieces rank placed low (rank s.start) more → IsPermutation ((s.place, n) ∷ kept) new
-        → IsSweptSoFar rank low placed (rank s.start) (n + 1) new more
-    underway_more s is kept new more w k made p =
+    pub underway_more : (s : Placed T V) → slice_get placed n ≡ Some s → (kept new : List (ℕ × ℕ)) → IsWaiting rank placed (rank s.start) (rank s.start -ℤ pos 1) kept → KeepsReaching rank placed (rank s.start) waits kept → IsPermutation ((s.place, n) ∷ kept) new
+        → IsUnderway rank placed (rank s.start) (n + 1) new
+    underway_more s is kept new w k p =
         let b = rank s.start in
         let from = c.others n s is (omega arith) in
         record {
-          made = made;
           started = All-permutation (HasStarted rank placed b) ((s.place, n) ∷ kept) new p (All-cons (HasStarted rank placed b) (s.place, n) kept (record { pair = s; is = is; place = refl; start = omega (arith, ints) }) w.started);
           complete = λ j q r l u. Contains-permutation ((s.place, n) ∷ kept) new (q.place, j) p
               (one_more (λ i. (q : Placed T V) → slice_get placed i ≡ Some q → b ≤ℤ rank q.end → Contains ((s.place, n) ∷ kept) (q.place, i)) n

@@ -1,11 +1,19 @@
 use Rattle.std.proofs.lemmas.Result.{IfOk-weaker}
+use Rattle.std.proofs.Common.{sym, subst, []}
+use Rattle.blaze_table.specs.Entries.{shown_list}
+use Rattle.blaze_table.specs.Pieces.{IsSweptTo}
 use Rattle.blaze_table.proofs.sweep.canonical_of.Goals as goal
 
-pub pieces_of-requires-clause-ascending : goal.pieces_of-requires-clause-ascending
-pieces_of-requires-clause-ascending g c = rw c.as_slice-3.ensures.value c.in_ok-placed.ensures.ascending
+pub entries_of_placed-requires-clause-ascending : goal.entries_of_placed-requires-clause-ascending
+entries_of_placed-requires-clause-ascending g c = rw c.as_mut_slice.ensures.value c.in_ok-placed.ensures.ascending
 
-pub pieces_of-requires-clause-keys : goal.pieces_of-requires-clause-keys
-pieces_of-requires-clause-keys g c = rw c.as_slice-3.ensures.value c.in_ok-placed.ensures.keys
+pub entries_of_placed-requires-clause-placed : goal.entries_of_placed-requires-clause-placed
+entries_of_placed-requires-clause-placed g c = rw c.as_mut_slice.ensures.value (shown_list g.T.Integer.rank c.args.pairs.items, c.in_ok-placed.ensures.placed)
 
 pub returns : goal.returns
-returns g c = IfOk-weaker c.entries_of_pieces.result _ _ (λ es made. made _ c.in_ok-placed.ensures.placed) c.entries_of_pieces.ensures
+returns g c =
+    let rank = g.T.Integer.rank in
+    let ps = shown_list rank c.args.pairs.items in
+    IfOk-weaker c.entries_of_placed.result _ _
+    (λ es made. made ps (subst (λ xs. IsSweptTo g.V.PartialEq.eq rank g.T.Integer.low g.T.Integer.high ps xs g.T.Integer.low []) (sym c.as_mut_slice.ensures.value) c.in_ok-placed.ensures.placed))
+    c.entries_of_placed.ensures
