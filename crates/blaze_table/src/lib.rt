@@ -6,7 +6,6 @@ mod cut;
 mod edit;
 mod entry_keys;
 mod equality;
-mod gaps;
 pub mod laws;
 mod looks;
 mod search;

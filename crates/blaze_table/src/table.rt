@@ -1,30 +1,25 @@
 //! The table.
-ghost use Rattle.std.specs.Prelude.{◌≡◌, ◌↔◌, ◌-◌, ◌≤ℤ◌, int_lt, pos, [], length, slice_get, find};
-ghost use Rattle.std.specs.Prelude.{reverse, false, None, Ok, IfOk, OnOk, OnErr, IsTrue, option_map};
+ghost use Rattle.std.specs.Prelude.{◌≡◌, ◌-◌, pos, [], length, slice_get};
+ghost use Rattle.std.specs.Prelude.{Ok, IfOk, option_map};
 ghost use Rattle.blaze_entries.specs.Starts.{from};
 ghost use Rattle.blaze_table.specs.Counted.{uncounted};
-ghost use Rattle.blaze_table.specs.Entries.{entry, at, entry_at, shown_entry, SameOption, shown_list};
+ghost use Rattle.blaze_table.specs.Entries.{entry, at, shown_entry, shown_list};
 ghost use Rattle.blaze_table.specs.Entries.{SameEntries};
 ghost use Rattle.blaze_table.specs.Canonical.{IsRangeMap};
 ghost use Rattle.blaze_table.specs.Count.{keys_in, mapped_keys};
-ghost use Rattle.blaze_table.specs.Painted.{IsPainted, ClonesAreAlike, IsInside};
-ghost use Rattle.blaze_table.specs.Ending.{ending_from, overlapping};
-ghost use Rattle.blaze_table.specs.Gap.{IsGap};
-ghost use Rattle.blaze_table.specs.Work.{IsCounted, IsCountedPaint};
+ghost use Rattle.blaze_table.specs.Painted.{ClonesAreAlike};
 
 mod cut;
 mod fill;
+mod gaps;
 mod paint;
 mod retain;
+mod search;
 mod split;
 
 use crate::count::count_list;
-use crate::gaps::gap_round;
-use crate::search::{
-    entries_ending_from, entries_overlapping, entry_above, entry_below, entry_holding,
-};
 use blaze_entries::{Entries, IntoIter, Iter, Range};
-use blaze_int::{Integer, SafeLength, differ};
+use blaze_int::{Integer, SafeLength};
 use std::alloc::{AllocError, Global};
 use std::marker::Model;
 
@@ -98,15 +93,6 @@ impl<T: Integer, V: Eq> RangeTable<T, V> {
         let _ = &self.entries;
     }
 
-    /// The entry that holds a key: its first key, last key and value.
-    pub fn find(&self, key: T) -> Option<(T, T, &V)>
-        ensures entry { option_map (shown_entry T.rank (λ v. v.now)) result
-            ≡ entry_at self.now.entries (T.rank key) }
-        ensures value { option_map (λ e. e.2.now) result ≡ at self.now.entries (T.rank key) }
-    {
-        entry_holding(&self.entries, key)
-    }
-
     /// The least entry: its first key, last key and value.
     pub fn first(&self) -> Option<(T, T, &V)>
         ensures { option_map (shown_entry T.rank (λ v. v.now)) result
@@ -123,22 +109,6 @@ impl<T: Integer, V: Eq> RangeTable<T, V> {
         self.entries.last()
     }
 
-    /// The least entry that starts above a key: its first key, last key and value.
-    pub fn next_above(&self, key: T) -> Option<(T, T, &V)>
-        ensures { option_map (shown_entry T.rank (λ v. v.now)) result
-            ≡ find (λ e. int_lt (T.rank key) e.lo) self.now.entries }
-    {
-        entry_above(&self.entries, key)
-    }
-
-    /// The greatest entry that ends below a key: its first key, last key and value.
-    pub fn next_below(&self, key: T) -> Option<(T, T, &V)>
-        ensures { option_map (shown_entry T.rank (λ v. v.now)) result
-            ≡ find (λ e. int_lt e.hi (T.rank key)) (reverse self.now.entries) }
-    {
-        entry_below(&self.entries, key)
-    }
-
     /// The entries, ascending: first key, last key and value.
     pub fn iter(&self) -> Iter<'_, T, V>
         ensures { result ≡ self.now.entries }
@@ -146,36 +116,11 @@ impl<T: Integer, V: Eq> RangeTable<T, V> {
         self.entries.iter()
     }
 
-    /// The entries that end at a key or above it, ascending: first key, last key and value. It takes two searches.
-    pub fn iter_ending_from(&self, key: T) -> Range<'_, T, V>
-        ensures { result ≡ ending_from (T.rank key) self.now.entries }
-    {
-        entries_ending_from(&self.entries, key)
-    }
-
     /// The entries that start at a key or above it, ascending: first key, last key and value. It takes one search.
     pub fn iter_starting_from(&self, key: T) -> Range<'_, T, V>
         ensures { result ≡ from (T.rank key) self.now.entries }
     {
         self.entries.iter_starting_from(key)
-    }
-
-    /// The entries that share a key with the range from `lo` up to `hi`, whole, ascending, from both ends: first key, last key
-    /// and value. It takes three searches, and no memory.
-    pub fn overlapping(&self, lo: T, hi: T) -> Range<'_, T, V>
-        requires { T.rank lo ≤ℤ T.rank hi }
-        ensures { result ≡ overlapping (T.rank lo) (T.rank hi) self.now.entries }
-    {
-        entries_overlapping(&self.entries, lo, hi)
-    }
-
-    /// The greatest range of keys without a value that holds a key without one: its first and last key.
-    pub fn gap_round(&self, key: T) -> (T, T)
-        requires { at self.now.entries (T.rank key) ≡ None }
-        ensures { IsGap T.low T.high (at self.now.entries) (T.rank key) (T.rank result.0)
-            (T.rank result.1) }
-    {
-        gap_round(&self.entries, key)
     }
 }
 
