@@ -91,7 +91,3 @@ last_node rank m r f v low high h =
     let size : length m ≡ length (full (shown_nodes rank m)) = sym (length-map m (shown_node rank)) ∙ ap length h.full.held ∙ length-map (full (shown_nodes rank m)) held in
     node_at_index rank m (length m - 1) r f v low high h ∙ ap (λ n. option_map held (slice_get (full (shown_nodes rank m)) (n - 1))) size
 
--- what is said of a refused answer
-pub on_err : {A E P : Type 0} (r : Result A E) → P → OnErr r P
-on_err (Ok x) p = tt
-on_err (Err e) p = p

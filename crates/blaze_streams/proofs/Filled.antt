@@ -24,12 +24,6 @@ module _ {V : Type 0} (eq : V → V → Bool) (high : ℤ) where
   rest : (e : Entry V) (es : List (Entry V)) → IsCanonical eq (e ∷ es) → IsAbove (e.hi +ℤ pos 1 -ℤ pos 1) es
   rest e es c = above_rest eq (e.hi +ℤ pos 1 -ℤ pos 1) e es (omega (arith, ints)) c
 
-  above_filled : (n : ℤ) (es : List (Entry V)) → IsAbove (n -ℤ pos 1) es → IsAbove (n -ℤ pos 1) (filled_entries n high es)
-  above_filled n [] a = by_none (IsAbove (n -ℤ pos 1)) n (high +ℤ pos 1) (λ h. omega (arith, ints)) (λ h. tt)
-  above_filled n (e ∷ es) a = by_none (λ G. IsAbove (n -ℤ pos 1) (G ++ entry e.lo e.hi (Some e.value) ∷ filled_entries (e.hi +ℤ pos 1) high es)) n e.lo
-      (λ h. omega (arith, ints))
-      (λ h. a)
-
   -- an entry is apart from what is filled right above it
   apart_filled : (e : Entry V) (es : List (Entry V)) → IsApart eq e es → IsApart (option_eq eq) (entry e.lo e.hi (Some e.value)) (filled_entries (e.hi +ℤ pos 1) high es)
   apart_filled e [] a = by_none (IsApart (option_eq eq) (entry e.lo e.hi (Some e.value))) (e.hi +ℤ pos 1) (high +ℤ pos 1)

@@ -1,4 +1,5 @@
 -- The laws of joins and of what closures answer.
+use Rattle.blaze_int.proofs.Options.{same_value}
 use Rattle.std.proofs.Common.{◌≡◌, ℤ, ◌≤ℤ◌, Bool, true, false, ◌&&◌, cond, List, [], ◌∷◌, length, map, Option, Some, None, refl, ◌∙◌, sym, subst, ap, arith}
 use Rattle.std.specs.Option.{option_eq, option_map, is_some}
 use Rattle.std.specs.Cmp.{IsEquivalence}
@@ -74,9 +75,6 @@ module _ {A : Type 0} (eq : A → A → Bool) where
   }
 
 -- ---- canonical lists with the same content are the same
-
-same_value : {V : Type 0} (x y : V) → Some x ≡ Some y → x ≡ y
-same_value x y p = cc
 
 module _ {V : Type 0} (eq : V → V → Bool) where
   at_rest : (e : Entry V) (es : List (Entry V)) (k : ℤ) → IsCanonical eq (e ∷ es) → k ≤ℤ e.hi → at es k ≡ None

@@ -1,4 +1,5 @@
 -- Keys of one list that are let go, since another list has none of them.
+use Rattle.blaze_int.proofs.Options.{is_none}
 use Rattle.std.proofs.Common.{◌≡◌, ℤ, pos, ◌+ℤ◌, ◌≤ℤ◌, Bool, true, false, ◌||◌, List, [], ◌∷◌, Option, Some, None, refl, ◌∙◌, sym, ap, arith}
 use Rattle.std.specs.Option.{is_some}
 use Rattle.std.proofs.lemmas.Int.{ints, by_lt_z}
@@ -21,12 +22,6 @@ absent_above t (e ∷ es) r n = by_lt_z t e.lo
     (λ l. let is : Some e.value ≡ None = sym (at_in e es t l r) ∙ n in cc)
 
 module _ {A B : Type 0} (eq : B → B → Bool) (s high : ℤ) (L L' : List (Entry A)) (R : List (Entry B)) where
-  pub all_let_go : None ≡ first_key R → s ≤ℤ high → L' ≡ after high L → IsLetGo s high L L' R
-  all_let_go p to list_is = go R p
-    where
-      go : (R : List (Entry B)) → None ≡ first_key R → IsLetGo s high L L' R
-      go [] p = record { end = high; from = to; to = omega (arith, ints); alone = λ k h. refl; list_is = list_is; other_is = refl }
-      go (f ∷ fs) p = cc
 
   pub let_go_to : (r t : ℤ) → Some r ≡ first_key R → IsCanonical eq R → IsFrom (s +ℤ pos 1) R → r ≤ℤ high → t +ℤ pos 1 ≡ r → L' ≡ after t L → IsLetGo s high L L' R
   let_go_to r t p c from to is list_is = go R p c from
@@ -58,12 +53,8 @@ right_absent Inner x y n there (Some v) = refl
 right_absent Left x y n there z = let q : false ≡ true = sym n ∙ there in cc
 right_absent Full x y n there z = let q : false ≡ true = sym n ∙ (ap (λ z. z || is_some y) there) in cc
 
-pub no_value : {A : Type 0} (x : Option A) → is_some x ≡ false → x ≡ None
-no_value None n = refl
-no_value (Some v) n = cc
-
 pub right_none : {A B : Type 0} (kind : JoinKind) (x : Option A) (y : Option B) → is_joined kind x y ≡ false → is_some x ≡ true → y ≡ None
-right_none Inner (Some v) y n there = no_value y n
+right_none Inner (Some v) y n there = is_none y n
 right_none Inner None y n there = cc
 right_none Left x y n there = let q : false ≡ true = sym n ∙ there in cc
 right_none Full x y n there = let q : false ≡ true = sym n ∙ (ap (λ z. z || is_some y) there) in cc

@@ -1,5 +1,5 @@
 -- The values of pairs, by where they are: the words of this crate's own functions. No public clause names them.
-use Rattle.std.specs.Prelude.{◌≡◌, ℕ, ◌-◌, length, ℤ, Bool, List, [], ◌∷◌, Option, Some, slice_get, MatchBool}
+use Rattle.std.specs.Prelude.{◌≡◌, ◌-◌, length, ℤ, Bool, List, [], ◌∷◌, Option, Some, slice_get, MatchBool}
 use Rattle.std.specs.Option.{option_map}
 use Rattle.blaze_table.specs.Entries.{Entry, entry, SameOption}
 use Rattle.blaze_table.specs.Splice.{glue}

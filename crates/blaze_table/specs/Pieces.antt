@@ -1,6 +1,6 @@
 -- Pairs swept from the least key up: the words of this crate's own functions. No public clause names them. A placed pair is of
 -- first key, last key, the pair's place in the order in which the pairs are painted, from 0 on, and its value, or where that is.
-use Rattle.std.specs.Prelude.{◌≡◌, ℕ, ◌<◌, ◌≤◌, ℤ, ◌≤ℤ◌, length, Bool, List, [], ◌∷◌, map, Some, All, slice_get}
+use Rattle.std.specs.Prelude.{◌≡◌, ℕ, ◌<◌, ◌≤◌, ℤ, ◌≤ℤ◌, length, Bool, List, map, Some, All, slice_get}
 use Rattle.std.specs.List.{Contains}
 use Rattle.std.specs.Ordering.{nat_cmp, ordering_then}
 use Rattle.std.specs.declared.cmp.Ordering.{Ordering}

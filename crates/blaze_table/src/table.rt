@@ -1,9 +1,9 @@
 //! The table.
 ghost use Rattle.std.specs.Prelude.{◌≡◌, ◌-◌, pos, [], length, slice_get};
-ghost use Rattle.std.specs.Prelude.{Ok, IfOk, option_map};
+ghost use Rattle.std.specs.Prelude.{IfOk, option_map};
 ghost use Rattle.blaze_entries.specs.Starts.{from};
 ghost use Rattle.blaze_table.specs.Counted.{uncounted};
-ghost use Rattle.blaze_table.specs.Entries.{entry, at, shown_entry, shown_list};
+ghost use Rattle.blaze_table.specs.Entries.{at, shown_entry, shown_list};
 ghost use Rattle.blaze_table.specs.Entries.{SameEntries};
 ghost use Rattle.blaze_table.specs.Canonical.{IsRangeMap};
 ghost use Rattle.blaze_table.specs.Count.{keys_in, mapped_keys};

@@ -21,10 +21,6 @@ module _ {V : Type 0} where
   across_above b h [] u = tt
   across_above b h (e ∷ es) u = (omega (arith, ints, u.0, u.1), u.1, u.2, u.3)
 
-  -- what is left once the first entry was taken
-  pub walk_on : (l h : ℤ) (e : Entry V) (es : List (Entry V)) → IsGapWalk l h (e ∷ es) → e.hi <ℤ h → IsGapWalk (e.hi +ℤ pos 1) h es
-  walk_on l h e es w u = record { order = omega (arith, ints); entries = across_above e.hi h es w.entries.3 }
-
   -- ---- from the back
 
   -- the others lie below the last
@@ -115,23 +111,6 @@ module _ {T : Type 0} (rank : T → ℤ) where
 
     -- the first entry has keys from s up to t: `under` are the keys below it that are left, `over` those above
     module _ (l h s t : ℤ) (e : Entry V) (es old : List (Entry V)) (under over : Option (T × T)) where
-      pub front_gaps : old ≡ e ∷ es → s ≡ e.lo → t ≡ e.hi → AreKeysFrom rank l (s -ℤ pos 1) under → AreKeysFrom rank (t +ℤ pos 1) h over
-          → gaps_within l h old ≡ keys_list rank under ++ gaps_left rank over es
-      front_gaps p q r u o =
-          let from = subst (λ z. AreKeysFrom rank l (z -ℤ pos 1) under) q u in
-          let to = subst (λ z. AreKeysFrom rank (z +ℤ pos 1) h over) r o in
-          let start : e.lo -ℤ pos 1 +ℤ pos 1 ≡ e.lo = omega (arith, ints) in
-          let below : gap_before l e.lo ≡ keys_list rank under = ap (gap_before l) (sym start) ∙ gap_is l (e.lo -ℤ pos 1) under from in
-          let above : cond (int_lt e.hi h) (gaps_within (e.hi +ℤ pos 1) h es) [] ≡ gaps_left rank over es =
-          gaps_are_left (e.hi +ℤ pos 1) h (int_lt e.hi h) over es to (λ a. lt_true e.hi h (omega (arith, ints))) (λ a. lt_false e.hi h (omega (arith, ints))) in
-          ap (gaps_within l h) p
-          ∙ ap (λ G. G ++ cond (int_lt e.hi h) (gaps_within (e.hi +ℤ pos 1) h es) []) below
-          ∙ ap (λ G. keys_list rank under ++ G) above
-
-      pub front_walk : old ≡ e ∷ es → t ≡ e.hi → IsGapWalk l h old → AreKeysFrom rank (t +ℤ pos 1) h over → IfSome over (λ p. IsGapWalk (rank p.0) (rank p.1) es)
-      front_walk p r w o =
-          let to = subst (λ z. AreKeysFrom rank (z +ℤ pos 1) h over) r o in
-          walk_kept (e.hi +ℤ pos 1) h over es to (λ a. walk_on l h e es (subst (IsGapWalk l h) p w) (omega (arith, ints)))
 
       -- the same of the last entry
       pub back_gaps : old ≡ es ++ e ∷ [] → s ≡ e.lo → t ≡ e.hi → IsGapWalk l h old → AreKeysFrom rank l (s -ℤ pos 1) under → AreKeysFrom rank (t +ℤ pos 1) h over

@@ -1,4 +1,6 @@
 -- The nearest entries of a key: the first that ends there or above, and the last that starts there or below.
+use Rattle.blaze_int.proofs.Options.{some_none}
+use Rattle.blaze_int.proofs.Comparisons.{by_bool}
 use Rattle.std.specs.Prelude.{int_lt, int_le, find, reverse}
 use Rattle.std.proofs.Common.{◌≡◌, ℤ, pos, ◌+ℤ◌, ◌≤ℤ◌, ◌<ℤ◌, Bool, true, false, List, [], ◌∷◌, Option, Some, None, refl, ◌∙◌, sym, arith}
 use Rattle.std.proofs.lemmas.Int.{ints}
@@ -7,13 +9,6 @@ use Rattle.blaze_table.specs.Canonical.{IsCanonical}
 use Rattle.blaze_table.specs.Entries.{Entry, entry_at}
 use Rattle.blaze_table.proofs.Canonical.Lookup.{entry_in, entry_under, entry_over}
 use Rattle.blaze_table.proofs.Neighbours.NextEntries.{holding_none, holding_some, holding_not, below_none_is, below_here}
-
-by_bool : {P : Type 0} (b : Bool) → (b ≡ true → P) → (b ≡ false → P) → P
-by_bool true t f = t refl
-by_bool false t f = f refl
-
-not_both : {X : Type 0} {x : X} → Some x ≡ None → ⊥
-not_both p = cc
 
 module _ {V : Type 0} (eq : V → V → Bool) (k : ℤ) where
   -- ---- the first that ends at the key or above
@@ -43,7 +38,7 @@ module _ {V : Type 0} (eq : V → V → Bool) (k : ℤ) where
   pub first_with_key : (es : List (Entry V)) → IsCanonical eq es → (e : Entry V) → Some e ≡ entry_at es k → Some e ≡ find (λ x. int_le k x.hi) es
   first_with_key [] c e is = is
   first_with_key (x ∷ xs) c e is =
-      by_place x (λ over. first_with_key xs c.2 e (is ∙ entry_over x xs k over) ∙ sym (ends_below x xs over)) (λ under to. absurd (not_both (is ∙ sym (none_at x xs c under))))
+      by_place x (λ over. first_with_key xs c.2 e (is ∙ entry_over x xs k over) ∙ sym (ends_below x xs over)) (λ under to. absurd (some_none (is ∙ sym (none_at x xs c under))))
       (λ l h. is ∙ entry_in x xs k l h ∙ sym (ends_above x xs h))
 
   -- where no entry has the key, it is the first that starts above
@@ -51,7 +46,7 @@ module _ {V : Type 0} (eq : V → V → Bool) (k : ℤ) where
   first_above [] c is = refl
   first_above (x ∷ xs) c is =
       by_place x (λ over. starts_below x xs (let a : x.lo ≤ℤ x.hi = c.0 in omega (arith, ints)) ∙ first_above xs c.2 (is ∙ entry_over x xs k over) ∙ sym (ends_below x xs over))
-      (λ under to. starts_above x xs under ∙ sym (ends_above x xs to)) (λ l h. absurd (not_both (sym (is ∙ entry_in x xs k l h))))
+      (λ under to. starts_above x xs under ∙ sym (ends_above x xs to)) (λ l h. absurd (some_none (sym (is ∙ entry_in x xs k l h))))
 
   -- ---- the last that starts at the key or below
 
@@ -60,8 +55,8 @@ module _ {V : Type 0} (eq : V → V → Bool) (k : ℤ) where
 
   module _ (b high : ℤ) (es : List (Entry V)) (c : IsCanonical eq es) (a : StartsAscend b high es) where
     last_is : (o : Option (Entry V)) → o ≡ last_below (k +ℤ pos 1) es → (e : Entry V) → Some e ≡ entry_at es k → Some e ≡ o
-    last_is None last e is = absurd (not_both (is ∙ sym (holding_none eq k b high es c a last)))
-    last_is (Some x) last e is = by_end x (λ over. absurd (not_both (is ∙ sym (holding_not eq k b high es c a x last over)))) (λ to. is ∙ sym (holding_some eq k b high es c a x last to))
+    last_is None last e is = absurd (some_none (is ∙ sym (holding_none eq k b high es c a last)))
+    last_is (Some x) last e is = by_end x (λ over. absurd (some_none (is ∙ sym (holding_not eq k b high es c a x last over)))) (λ to. is ∙ sym (holding_some eq k b high es c a x last to))
 
     -- the entry that has the key is the last
     pub last_with_key : (e : Entry V) → Some e ≡ entry_at es k → Some e ≡ last_below (k +ℤ pos 1) es
@@ -69,7 +64,7 @@ module _ {V : Type 0} (eq : V → V → Bool) (k : ℤ) where
 
     last_under : (o : Option (Entry V)) → o ≡ last_below (k +ℤ pos 1) es → None ≡ entry_at es k → find (λ x. int_lt x.hi k) (reverse es) ≡ o
     last_under None last is = sym (below_none_is eq k b high es c a last)
-    last_under (Some x) last is = by_end x (λ over. sym (below_here eq k b high es c a x last over)) (λ to. absurd (not_both (holding_some eq k b high es c a x last to ∙ sym is)))
+    last_under (Some x) last is = by_end x (λ over. sym (below_here eq k b high es c a x last over)) (λ to. absurd (some_none (holding_some eq k b high es c a x last to ∙ sym is)))
 
     -- where no entry has the key, it is the last that ends below
     pub last_under_key : None ≡ entry_at es k → find (λ x. int_lt x.hi k) (reverse es) ≡ last_below (k +ℤ pos 1) es

@@ -1,4 +1,5 @@
 -- Keys that two lists share, and keys of one list that the other has, where both are gone through together.
+use Rattle.blaze_int.proofs.Options.{some_is_not}
 use Rattle.std.proofs.Common.{◌≡◌, ℕ, ◌+◌, ◌<◌, ℤ, pos, ◌+ℤ◌, ◌≤ℤ◌, ◌<ℤ◌, Bool, true, false, List, [], ◌∷◌, Option, Some, None, refl, ◌∙◌, sym, subst, arith, inl, inr, ⊎_elim, option_map}
 use Rattle.std.specs.Prelude.{◌⊎◌, ◌↔◌, IsSome, IsTrue}
 use Rattle.std.proofs.lemmas.Int.{ints, by_lt_z}
@@ -20,10 +21,6 @@ use Rattle.range_map_blaze.specs.Relations.{ShareNoKey, HasKeysOf}
 -- the first range of the list is the one from l up to x
 abbrev pub HasFirst : {A : Type 0} → ℤ → ℤ → List (Entry A) → Type 0
 HasFirst l x L = Some (l, x) ≡ option_map range_in (first_entry L)
-
-some_not_none : {X : Type 0} (o : Option X) → IsSome o → o ≡ None → ⊥
-some_not_none None s p = cc
-some_not_none (Some x) s p = cc
 
 module _ {A : Type 0} (eq : A → A → Bool) (l x : ℤ) where
   -- no range starts below the first
@@ -108,8 +105,8 @@ module _ {A B : Type 0} (eqa : A → A → Bool) (eqb : B → B → Bool) (l x r
     where
       both : (j : ℤ) → ShareNoKey L R → l ≤ℤ j → j ≤ℤ x → r ≤ℤ j → j ≤ℤ y → ⊥
       both j none a b c d = ⊎_elim
-          (λ n. some_not_none (at L j) (there eqa l x L j first_left a b) n)
-          (λ n. some_not_none (at R j) (there eqb r y R j first_right c d) n) (none j)
+          (λ n. some_is_not (at L j) (there eqa l x L j first_left a b) n)
+          (λ n. some_is_not (at R j) (there eqb r y R j first_right c d) n) (none j)
 
 -- a list that has no range shares no key
 pub nothing_left : {A B : Type 0} {P : Type 0} (L : List (Entry A)) (R : List (Entry B))
@@ -127,7 +124,7 @@ module _ {A B : Type 0} (eqa : A → A → Bool) (eqb : B → B → Bool) (r y :
   own_passed {P} L' t is q (to, back) = subst (λ M. P ↔ HasKeysOf M R) (sym q) ((λ p. ahead (to p)), (λ s. back (behind s)))
     where
       gone : {X : Type 0} (k : ℤ) → k ≤ℤ t → IsSome (at R k) → X
-      gone k under s = absurd (some_not_none (at R k) s (not_below eqb r y R k cb first_right (omega (arith, ints, is, under))))
+      gone k under s = absurd (some_is_not (at R k) s (not_below eqb r y R k cb first_right (omega (arith, ints, is, under))))
 
       ahead : HasKeysOf L R → HasKeysOf (after t L) R
       ahead has k s = by_lt_z t k (λ over. subst IsSome (sym (at-after_over eqa t k L ca over)) (has k s)) (λ under. gone k under s)
@@ -148,7 +145,7 @@ module _ {A B : Type 0} (eqa : A → A → Bool) (eqb : B → B → Bool) (r y :
     pub starts_before : {P : Type 0} → r <ℤ l → P ↔ HasKeysOf L R → IsTrue false ↔ P
     starts_before h (to, back) = (
       (λ t. cc),
-      (λ p. absurd (some_not_none (at L r)
+      (λ p. absurd (some_is_not (at L r)
           (to p r (there eqb r y R r first_right (omega (arith, ints)) (first_order eqb r y R cb first_right)))
           (not_below eqa l x L r ca first_left h))),
     )
@@ -160,16 +157,11 @@ module _ {A B : Type 0} (eqa : A → A → Bool) (eqb : B → B → Bool) (r y :
         ahead : HasKeysOf L R → HasKeysOf L (after x R)
         ahead has k s = by_lt_z x k
             (λ over. has k (subst IsSome (at-after_over eqb x k R cb over) s))
-            (λ under. absurd (some_not_none (at (after x R) k) s (at-after_under eqb x k R cb under)))
+            (λ under. absurd (some_is_not (at (after x R) k) s (at-after_under eqb x k R cb under)))
 
         behind : HasKeysOf L (after x R) → HasKeysOf L R
         behind has k s = by_lt_z x k
             (λ over. has k (subst IsSome (sym (at-after_over eqb x k R cb over)) s))
             (λ under. by_lt_z k r
-            (λ b. absurd (some_not_none (at R k) s (not_below eqb r y R k cb first_right b)))
+            (λ b. absurd (some_is_not (at R k) s (not_below eqb r y R k cb first_right b)))
             (λ a. there eqa l x L k first_left (omega (arith, ints, h, a)) under))
-
--- every list has the keys of one that has no range
-pub covers_nothing : {A B : Type 0} {P : Type 0} (L : List (Entry A)) (R : List (Entry B)) → None ≡ option_map range_in (first_entry R) → P ↔ HasKeysOf L R → IsTrue true ↔ P
-covers_nothing L [] n (to, back) = ((λ t. back (λ k s. cc)), (λ p. refl))
-covers_nothing L (f ∷ fs) n both = cc

@@ -30,9 +30,6 @@ module _ (l h a b x y : ℤ) (max : x ≡ int_max l a) (min : y ≡ int_min h b)
   pub counted_shared : (n : ℕ) → x ≤ℤ y → n ≡ unsigned_abs (y -ℤ x) → pos (n + 1) ≡ shared l h a b
   counted_shared n le is = counted_between x y n le is ∙ ap (λ z. between z y) max ∙ ap (λ z. between (int_max l a) z) min
 
-  pub none_shared : y <ℤ x → pos 0 ≡ shared l h a b
-  none_shared lt = none_between x y lt ∙ ap (λ z. between z y) max ∙ ap (λ z. between (int_max l a) z) min
-
 module _ {V : Type 0} (d : Entry V) (l h : ℤ) where
   covered_none : (es : List (Entry V)) → ((i : ℕ) → i < length es → overlap l h (get_or es i d) ≡ pos 0) → covered l h es ≡ pos 0
   covered_none [] none = refl

@@ -1,4 +1,6 @@
 -- Free ranges, found by a walk over the entries from below or from above.
+use Rattle.blaze_int.proofs.Options.{some_is_not}
+use Rattle.blaze_int.proofs.Comparisons.{by_bool}
 use Rattle.std.specs.Prelude.{◌↔◌, int_le, filter, not, IsTrue, MatchOption}
 use Rattle.std.specs.Option.{option_or, is_some}
 use Rattle.std.proofs.Common.{◌≡◌, ℕ, ◌<◌, ℤ, pos, ◌+ℤ◌, ◌-ℤ◌, ◌≤ℤ◌, ◌<ℤ◌, Bool, true, false, cond, List, [], ◌∷◌, ◌++◌, Option, Some, None, IsSome, refl, ◌∙◌, sym, ap, subst, arith}
@@ -10,14 +12,6 @@ use Rattle.blaze_table.specs.Entries.{Entry, at, holds}
 use Rattle.blaze_table.specs.Filled.{IsHeldFrom}
 use Rattle.blaze_table.proofs.Canonical.Lookup.{at_in, at_under, at_over, at_append}
 use Rattle.range_map_c.specs.Gaps.{IsFreeRange, HasNoFreeRange, IsFirstFreeRange, IsLastFreeRange}
-
-by_bool : {P : Type 0} (b : Bool) → (b ≡ true → P) → (b ≡ false → P) → P
-by_bool true t f = t refl
-by_bool false t f = f refl
-
-is_no_none : {X : Type 0} (o : Option X) → IsSome o → o ≡ None → ⊥
-is_no_none None s e = cc
-is_no_none (Some x) s e = cc
 
 module _ {V : Type 0} where
   -- each starts above b, each ends below b, each ends at b or above, each starts up to b
@@ -152,7 +146,7 @@ module _ {V : Type 0} (c : ℤ → Option V) (a b : ℤ) (n : ℕ) where
   module _ (l h : ℤ) (left : List (Entry V)) (s : IsSearched l h left) where
     -- no key of a free range has a value
     no_key : (k j : ℤ) → IsFreeRange c a b n k → k ≤ℤ j → j <ℤ (k +ℤ pos n) → l ≤ℤ j → j ≤ℤ h → IsSome (at left j) → ⊥
-    no_key k j f u w x y is = is_no_none (at left j) is (sym (s.same j x y) ∙ f.clear j u (omega (arith, ints)))
+    no_key k j f u w x y is = some_is_not (at left j) is (sym (s.same j x y) ∙ f.clear j u (omega (arith, ints)))
 
     -- a free range of all that is left in front of the entries
     free_below : (m : ℤ) → AllAbove m left → (l +ℤ pos n) ≤ℤ (m +ℤ pos 1) → (l +ℤ pos n) ≤ℤ (h +ℤ pos 1) → IsFirstFreeRange c a b n l
@@ -306,4 +300,4 @@ held_by c a b true None e none = (λ _ k l h. some_or (c k) (λ is. none k (reco
     some_or (Some x) f = refl
 held_by c a b true (Some first) e is = absurd cc
 held_by c a b false None e none = absurd cc
-held_by c a b false (Some first) e is = (λ t. absurd cc, λ held. absurd (is_no_none (c first) (held first is.free.from (let t = is.free.to in omega (arith, ints))) (is.free.clear first (omega (arith, ints)) (omega (arith, ints)))))
+held_by c a b false (Some first) e is = (λ t. absurd cc, λ held. absurd (some_is_not (c first) (held first is.free.from (let t = is.free.to in omega (arith, ints))) (is.free.clear first (omega (arith, ints)) (omega (arith, ints)))))

@@ -1,4 +1,6 @@
 -- What a table in order has at a key, and round it, by where the key is among its first and last keys.
+use Rattle.blaze_int.proofs.Naturals.{by_less}
+use Rattle.blaze_int.proofs.Comparisons.{by_bool}
 use Rattle.std.proofs.Common.{◌≡◌, ℕ, zero, suc, ◌+◌, ◌-◌, ◌<◌, ◌≤◌, ℤ, pos, ◌+ℤ◌, ◌≤ℤ◌, ◌<ℤ◌, List, [], ◌∷◌, length, get_or, slice_get, slice_index_or, ltb, Bool, true, false, ◌&&◌, Option, Some, None, int_le, MatchBool, refl, sym, ap, subst, ◌∙◌, arith, FitsSigned, w64, to_z, of_z}
 use borrow.Author.Tests.{ltb-true, ltb-false}
 use Rattle.std.proofs.lemmas.Int.{ints, by_lt_z, to_z-of_z}
@@ -11,10 +13,7 @@ use Rattle.blaze_table.specs.Gap.{IsGap, IsClearFrom}
 use Rattle.range_map_c.specs.Ordered.{AreOrdered, AreApart, IsRank, IsRankBelow, IsSorted}
 use Rattle.range_map_c.specs.Tables.{rows}
 use Rattle.range_map_c.specs.Told.{first_of, last_of, told_entry}
-use Rattle.range_map_c.proofs.Picked.{by_bool, filter_none, first_passing, last_passing, filter_both, entry_at-first, at-entry_at}
-
-pub by_less : {P : Type 0} (i j : ℕ) → (i < j → P) → (j ≤ i → P) → P
-by_less i j less not = by_bool (ltb i j) (λ e. less (ltb-true i j e)) (λ e. not (ltb-false i j e))
+use Rattle.range_map_c.proofs.Picked.{filter_none, first_passing, last_passing, filter_both, entry_at-first, at-entry_at}
 
 -- ---- entries in order
 

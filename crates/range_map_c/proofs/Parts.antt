@@ -101,6 +101,3 @@ pub err_by : {A E P Q : Type 0} (r : Result A E) → (P → Q) → OnErr r P →
 err_by (Ok x) f p = tt
 err_by (Err e) f p = f p
 
-pub if_err : {A E P : Type 0} (r : Result A E) → P → OnErr r P
-if_err (Ok x) p = tt
-if_err (Err e) p = p

@@ -1,13 +1,10 @@
 -- The first and the last element of a list that passes a test.
+use Rattle.blaze_int.proofs.Comparisons.{by_bool}
 use Rattle.std.proofs.Common.{◌≡◌, ℕ, zero, suc, ◌<◌, ℤ, List, [], ◌∷◌, length, get_or, Bool, true, false, ◌&&◌, Some, refl, ap, arith}
 use Rattle.std.specs.Option.{option_map}
 use Rattle.std.specs.List.{filter}
 use Rattle.blaze_entries.specs.Entries.{Entry, at, entry_at, holds}
 use Rattle.range_map_c.specs.Told.{first_of, last_of}
-
-pub by_bool : {P : Type 0} (b : Bool) → (b ≡ true → P) → (b ≡ false → P) → P
-by_bool true t f = t refl
-by_bool false t f = f refl
 
 module _ {X : Type 0} (d : X) (p : X → Bool) where
   pub filter_none : (xs : List X) → ((j : ℕ) → j < length xs → p (get_or xs j d) ≡ false) → filter p xs ≡ []

@@ -18,13 +18,6 @@ or_none : {V : Type 0} (o : Option V) → option_or o None ≡ o
 or_none None = refl
 or_none (Some x) = refl
 
-pub rows_painted : (table over old new : List (Entry ℕ)) → IsCanonicalOf nat_eq least_key greatest_key table over → IsUnion nat_eq least_key greatest_key old over new
-    → AreRowsPainted least_key greatest_key table old new
-rows_painted table over old new made united = record {
-  range_map = united.chosen.range_map;
-  content = λ k.
-      let is : at over k ≡ last_at table k = sym (same_is _ _ (made.content k)) ∙ or_none (last_at table k) in
-      subst (λ o. SameOption nat_eq (at new k) (option_or o (at old k))) is (united.chosen.content k);
 }
 
 module _ {V : Type 0} where
@@ -71,15 +64,3 @@ count_all i n m k all none room = let same : m ≡ i = omega arith in sym (min-e
 
 pub count_full : (i n m k : ℕ) → m ≡ i + k → i ≡ n → i ≡ min n m
 count_full i n m k all full = full ∙ sym (min-eq_left (omega arith))
-
--- what is behind a position is behind the next one
-pub behind_next : {X : Type 0} (i : ℕ) (xs ys : List X) → drop i xs ≡ drop i ys → drop (i + 1) xs ≡ drop (i + 1) ys
-behind_next i xs ys same = subst (λ n. drop n xs ≡ drop n ys) next (one_less i xs ∙ ap (drop 1) same ∙ sym (one_less i ys))
-  where
-    next : suc i ≡ i + 1
-    next = omega arith
-
-    one_less : {X : Type 0} (i : ℕ) (xs : List X) → drop (suc i) xs ≡ drop 1 (drop i xs)
-    one_less zero xs = refl
-    one_less (suc i) [] = refl
-    one_less (suc i) (x ∷ xs) = one_less i xs

@@ -7,18 +7,6 @@ use Rattle.blaze_table.specs.Gap.{IsGap}
 use Rattle.range_map_c.specs.Handle.{least_key, greatest_key}
 use Rattle.range_map_c.specs.Told.{told, last_of}
 
-last_of-end : {A : Type 0} (xs : List A) (x : A) → last_of (xs ++ x ∷ []) ≡ Some x
-last_of-end [] x = refl
-last_of-end (y ∷ []) x = refl
-last_of-end (y ∷ z ∷ zs) x = last_of-end (z ∷ zs) x
-
--- an iterator over the list gave the entry from its back
-pub last_told : (list es front : List (Entry ℕ)) (e : Entry ℕ) (lo hi : ℤ) (v : ℕ) → es ≡ list → es ≡ front ++ e ∷ [] → e.lo ≡ lo → e.hi ≡ hi → e.value ≡ v
-    → Some (entry lo hi v) ≡ last_of list
-last_told list es front e lo hi v is ends low high value =
-    ap (λ l. Some (entry l hi v)) (sym low) ∙ ap (λ h. Some (entry e.lo h v)) (sym high) ∙ ap (λ w. Some (entry e.lo e.hi w)) (sym value)
-    ∙ sym (last_of-end front e) ∙ ap last_of (sym ends ∙ is)
-
 pub same_is : (a b : Option ℕ) → SameOption nat_eq a b → b ≡ a
 same_is None None s = refl
 same_is None (Some y) s = absurd s

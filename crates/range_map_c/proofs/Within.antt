@@ -1,4 +1,5 @@
 -- The entries that share a key with a range: the first and the last of them, whether there are any, and how many keys they have there.
+use Rattle.blaze_int.proofs.Comparisons.{by_bool}
 use Rattle.std.specs.Prelude.{int_le, int_lt, find, filter}
 use Rattle.std.specs.Int.{int_max, int_min}
 use Rattle.std.specs.List.{last_or}
@@ -16,10 +17,6 @@ use Rattle.blaze_table.proofs.Canonical.Lookup.{at_in}
 use Rattle.range_map_c.specs.Gaps.{HasKeyFrom}
 use Rattle.range_map_c.specs.Told.{first_of, last_of}
 use Rattle.range_map_c.proofs.FreeRanges.{AllFrom, AllUpTo, InOrder, in_order, order_some, from_some, from_ending, up_to_all, at_overlapping}
-
-by_bool : {P : Type 0} (b : Bool) → (b ≡ true → P) → (b ≡ false → P) → P
-by_bool true t f = t refl
-by_bool false t f = f refl
 
 length_or : (a b : ℤ) → pos 0 ≤ℤ cond (int_le a b) ((b -ℤ a) +ℤ pos 1) (pos 0)
 length_or a b = by_bool (int_le a b) (λ t. rw t (let u : a ≤ℤ b = grind (arith, ints) in omega (arith, ints))) (λ t. rw t (omega (arith, ints)))
@@ -97,9 +94,6 @@ module _ {V : Type 0} where
   -- the entries that share no key with the range add none
   pub covered_overlapping : (l h : ℤ) (es : List (Entry V)) → covered l h es ≡ covered l h (overlapping l h es)
   covered_overlapping l h es = covered_ending l h es ∙ covered_up_to l h (ending_from l es)
-
-  pub overlap_is : (l h : ℤ) (e : Entry V) → int_max l e.lo ≤ℤ int_min h e.hi → overlap l h e ≡ (int_min h e.hi -ℤ int_max l e.lo) +ℤ pos 1
-  overlap_is l h e u = grind (arith, ints)
 
   pub covered_some : (l h : ℤ) (es : List (Entry V)) → pos 0 ≤ℤ covered l h es
   covered_some l h [] = omega (arith, ints)

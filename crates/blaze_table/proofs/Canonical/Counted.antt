@@ -4,7 +4,7 @@ use Rattle.std.specs.Cmp.{IsEquivalence}
 use Rattle.std.specs.Int.{int_max, int_min}
 use Rattle.std.specs.Prelude.{int_le}
 use Rattle.std.proofs.lemmas.Int.{ints, by_lt_z}
-use Rattle.blaze_int.proofs.Comparisons.{by_bool, lt_true, lt_false, le_true}
+use Rattle.blaze_int.proofs.Comparisons.{by_bool, lt_true, lt_false, le_true, max_right}
 use Rattle.blaze_entries.specs.Overlap.{shared}
 use Rattle.blaze_entries.proofs.Underway.{overlap_none, overlap_over}
 use Rattle.blaze_table.specs.Entries.{Entry, SameEntries, entry}
@@ -19,9 +19,6 @@ use Rattle.blaze_table.proofs.Paints.Splices.{by_before, by_after, by_join, cano
 
 max_left : (a b : ℤ) → b ≤ℤ a → int_max a b ≡ a
 max_left a b h = by_lt_z b a (λ u. ap (λ t. cond t a b) (lt_true b a u)) (λ u. ap (λ t. cond t a b) (lt_false b a u) ∙ omega (arith, ints))
-
-max_right : (a b : ℤ) → a ≤ℤ b → int_max a b ≡ b
-max_right a b h = ap (λ t. cond t a b) (lt_false b a h)
 
 min_left : (a b : ℤ) → a ≤ℤ b → int_min a b ≡ a
 min_left a b h = ap (λ t. cond t b a) (lt_false b a h)

@@ -1,4 +1,5 @@
 -- A canonical list has the fewest entries.
+use Rattle.blaze_int.proofs.Options.{none_is_not}
 use Rattle.std.proofs.Common.{◌≡◌, ℕ, ◌+◌, ◌≤◌, ℤ, pos, ◌+ℤ◌, ◌-ℤ◌, ◌≤ℤ◌, ◌<ℤ◌, Bool, cond, List, [], ◌∷◌, length, Option, Some, None, refl, sym, subst, arith, inl, inr}
 use Rattle.std.specs.Prelude.{IsSome, int_lt}
 use Rattle.std.proofs.lemmas.Int.{ints, by_lt_z}
@@ -8,7 +9,7 @@ use Rattle.blaze_table.specs.Entries.{Entry, at, SameOption, SameContent}
 use Rattle.blaze_table.specs.Canonical.{IsCanonical, IsRunEnd, HasEnd, IsDisjoint}
 use Rattle.blaze_table.proofs.Canonical.Lookup.{IsAbove, IsAbove-from_apart, at_in, at_under, at_over, by_place, holds_in, at_clear}
 use Rattle.blaze_table.proofs.Canonical.Unique.{back}
-use Rattle.blaze_table.proofs.Canonical.Runs.{ends_are, end_along, none_is_not}
+use Rattle.blaze_table.proofs.Canonical.Runs.{ends_are, end_along}
 
 module _ {V : Type 0} (eq : V → V → Bool) (laws : IsEquivalence eq) where
   -- how many ranges end above b

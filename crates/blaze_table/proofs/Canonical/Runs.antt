@@ -1,4 +1,5 @@
 -- The entries of a canonical list are the runs of what it has at each key.
+use Rattle.blaze_int.proofs.Options.{none_is_not}
 use Rattle.std.proofs.Common.{◌≡◌, ℤ, pos, ◌+ℤ◌, ◌-ℤ◌, ◌≤ℤ◌, ◌<ℤ◌, Bool, true, false, List, [], ◌∷◌, Option, Some, None, refl, ◌∙◌, sym, subst, ap, arith, inl, inr}
 use Rattle.std.specs.Prelude.{◌⊎◌, ◌↔◌, IsSome}
 use Rattle.std.proofs.lemmas.Int.{ints, by_lt_z}
@@ -20,10 +21,6 @@ module _ {V : Type 0} (eq : V → V → Bool) (laws : IsEquivalence eq) where
 
   pub end_along : (c d : ℤ → Option V) (k : ℤ) → c k ≡ d k → c (k +ℤ pos 1) ≡ d (k +ℤ pos 1) → IsRunEnd eq c k → IsRunEnd eq d k
   end_along c d k p q s = (subst (λ o. IsSome o) p s.0, λ h. s.1 (same_along eq (sym p) (sym q) h))
-
-  pub none_is_not : (o : Option V) → o ≡ None → IsSome o → ⊥
-  none_is_not None p h = cc
-  none_is_not (Some x) p h = cc
 
   -- a value is not at or below the key above which the list begins
   some_above : (es : List (Entry V)) (b k : ℤ) → IsCanonical eq es → IsAbove b es → IsSome (at es k) → b <ℤ k

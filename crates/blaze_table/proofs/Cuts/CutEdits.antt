@@ -27,10 +27,6 @@ use Rattle.blaze_table.proofs.Paints.EditLists.{end_put}
 use Rattle.blaze_table.proofs.Paints.Painted.{before_past, after_past, entries_themselves}
 use Rattle.blaze_table.proofs.Paints.Splices.{before_cuts, before_ends, after_cuts, below_more}
 
-pub on_err : {A E P : Type 0} (r : Result A E) → P → OnErr r P
-on_err (Ok x) p = tt
-on_err (Err e) p = p
-
 module _ {V : Type 0} where
   -- what a key has behind entries that end below it
   at_past : (k : ℤ) (xs ys : List (Entry V)) → IsBelow k xs → at (xs ++ ys) k ≡ at ys k

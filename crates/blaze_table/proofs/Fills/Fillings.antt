@@ -1,4 +1,5 @@
 -- A value put on the gaps of a range, one after another.
+use Rattle.blaze_int.proofs.Options.{none_is_not}
 use Rattle.std.specs.Option.{option_or}
 use Rattle.std.proofs.Common.{◌≡◌, ℕ, ℤ, pos, ◌+ℤ◌, ◌-ℤ◌, ◌≤ℤ◌, ◌<ℤ◌, Bool, true, false, cond, List, [], Option, Some, None, refl, ◌∙◌, sym, ap, subst, arith, inl, inr}
 use Rattle.std.specs.Prelude.{◌↔◌, IsSome, IsTrue}
@@ -66,10 +67,6 @@ module _ {V : Type 0} (eq : V → V → Bool) (laws : IsEquivalence eq) where
         above = (λ x. last.0 (s.above.0 x), λ x. s.above.1 (last.1 x));
       }
 
-  no_value : (o : Option V) → o ≡ None → IsSome o → ⊥
-  no_value None q s = cc
-  no_value (Some x) q s = cc
-
   no_joint : (es : List (Entry V)) → IsCanonical eq es → IsJoinedBut eq [] es
   no_joint es c = record {
     starts = λ k h. inl (((one_per_run eq laws es c).starts k).0 h);
@@ -112,7 +109,7 @@ module _ {V : Type 0} (eq : V → V → Bool) (laws : IsEquivalence eq) where
     beside_next c e t u g s =
         let apart : b <ℤ (c -ℤ pos 1) = elim i.greatest [
           | inl q ↦ absurd (omega (arith, ints, g.from, g.order, g.to))
-          | inr q ↦ by_lt_z (b +ℤ pos 1) c (λ m. omega (arith, ints)) (λ m. absurd (no_value (at cur c) (g.clear c (omega (arith, ints)) g.order) (subst (λ k. IsSome (at cur k)) (omega (arith, ints, g.from)) q)))
+          | inr q ↦ by_lt_z (b +ℤ pos 1) c (λ m. omega (arith, ints)) (λ m. absurd (none_is_not (at cur c) (g.clear c (omega (arith, ints)) g.order) (subst (λ k. IsSome (at cur k)) (omega (arith, ints, g.from)) q)))
         ] in record {
           below = subst (λ o. IsTrue t ↔ SameOption eq o (Some v)) (sym (over (c -ℤ pos 1) apart)) s.below;
           above = subst (λ o. IsTrue u ↔ SameOption eq o (Some v)) (sym (over (e +ℤ pos 1) (omega (arith, ints, g.from, g.order)))) s.above;
@@ -176,4 +173,4 @@ module _ {V : Type 0} (eq : V → V → Bool) (laws : IsEquivalence eq) where
 
   -- where there is a gap, not each key has a value
   pub gap_is_not_held : (old : List (Entry V)) (l h a b : ℤ) → IsFirstGap (at old) l h a b → IsHeldFrom (at old) l h → ⊥
-  gap_is_not_held old l h a b g s = no_value (at old a) (g.clear a (omega (arith, ints)) g.order) (s a g.from (omega (arith, ints, g.order, g.to)))
+  gap_is_not_held old l h a b g s = none_is_not (at old a) (g.clear a (omega (arith, ints)) g.order) (s a g.from (omega (arith, ints, g.order, g.to)))

@@ -1,4 +1,6 @@
 -- The joints of a list after one more gap has an entry of its own.
+use Rattle.blaze_int.proofs.Options.{none_is_not}
+use Rattle.blaze_int.proofs.Comparisons.{by_bool, not_both}
 use Rattle.std.proofs.Common.{◌≡◌, ℤ, pos, ◌+ℤ◌, ◌-ℤ◌, ◌≤ℤ◌, ◌<ℤ◌, Bool, true, false, cond, List, Option, Some, None, refl, ◌∙◌, sym, subst, ap, arith, inl, inr}
 use Rattle.std.specs.Prelude.{◌⊎◌, IsSome}
 use Rattle.std.specs.Cmp.{IsEquivalence}
@@ -22,24 +24,13 @@ module _ {V : Type 0} (eq : V → V → Bool) (laws : IsEquivalence eq) (low hig
   pub new_over : (k : ℤ) → b <ℤ k → at new k ≡ at cur k
   new_over k l = p.content k ∙ ap (λ t. cond t (Some w) (at cur k)) (holds_over (entry a b w) k l)
 
-  no_value : (o : Option V) → o ≡ None → IsSome o → ⊥
-  no_value None q s = cc
-  no_value (Some x) q s = cc
-
   -- what has a value stays
   kept : (k : ℤ) → IsSome (at cur k) → at new k ≡ at cur k
-  kept k s = by_lt_z k a (λ l. new_under k l) (λ l. by_lt_z b k (λ u. new_over k u) (λ u. absurd (no_value (at cur k) (clear k l u) s)))
-
-  by_test : {P : Type 0} (t : Bool) → (t ≡ true → P) → (t ≡ false → P) → P
-  by_test true like unlike = like refl
-  by_test false like unlike = unlike refl
-
-  not_both : (t : Bool) → t ≡ true → t ≡ false → ⊥
-  not_both t q r = cc
+  kept k s = by_lt_z k a (λ l. new_under k l) (λ l. by_lt_z b k (λ u. new_over k u) (λ u. absurd (none_is_not (at cur k) (clear k l u) s)))
 
   by_same : {P : Type 0} (o : Option V) → (SameOption eq o (Some w) → P) → ((SameOption eq o (Some w) → ⊥) → P) → P
   by_same None like unlike = unlike (λ s. s)
-  by_same (Some x) like unlike = by_test (eq x w) like (λ q. unlike (λ s. not_both (eq x w) s q))
+  by_same (Some x) like unlike = by_bool (eq x w) like (λ q. unlike (λ s. not_both (eq x w) s q))
 
   some_w : (o : Option V) → o ≡ Some w → IsSome o
   some_w o q = subst IsSome (sym q) refl
@@ -79,7 +70,7 @@ module _ {V : Type 0} (eq : V → V → Bool) (laws : IsEquivalence eq) (low hig
         (λ m.
         let is : b +ℤ pos 1 ≡ k = omega (arith, ints) in
         subst (λ j. IsRunStart eq (at new) j ⊎ Contains all j) is (at_behind (subst (IsRunStart eq (at cur)) (sym is) r))))
-        (λ u. absurd (no_value (at cur k) (clear k l u) r.0)))
+        (λ u. absurd (none_is_not (at cur k) (clear k l u) r.0)))
 
     joint_first : SameOption eq (at cur (a -ℤ pos 1)) (Some w) → IsJoint eq (at new) a
     joint_first s = (some_w (at new a) first, same_along eq (sym before) (sym first) s)

@@ -1,4 +1,5 @@
 -- An entry made one with the one before it, which touches it and has an equal value.
+use Rattle.blaze_int.proofs.Options.{none_is_not}
 use Rattle.std.proofs.Common.{◌≡◌, ℤ, pos, ◌+ℤ◌, ◌-ℤ◌, ◌≤ℤ◌, ◌<ℤ◌, Bool, cond, true, false, List, [], ◌∷◌, ◌++◌, Option, Some, None, option_map, refl, ◌∙◌, sym, subst, ap, arith, inl, inr}
 use Rattle.std.specs.Prelude.{IsSome}
 use Rattle.std.proofs.lemmas.Int.{ints, by_lt_z}
@@ -156,24 +157,20 @@ module _ {V : Type 0} where
   none_at : (es : List (Entry V)) (k : ℤ) → None ≡ entry_at es k → at es k ≡ None
   none_at es k p = sym (ap (option_map (λ (x : Entry V). x.value)) p ∙ value-entry_at es k)
 
-  no_value : (o : Option V) → o ≡ None → IsSome o → ⊥
-  no_value None p s = cc
-  no_value (Some x) p s = cc
-
   module _ (eq : V → V → Bool) (laws : IsEquivalence eq) (low high s : ℤ) (es : List (Entry V)) (c : IsOrdered es) (k : AreKeys low high es) (u : StartsAscend low high es) (joint : IsJoint eq (at es) s) where
     value_before : IsSome (at es (s -ℤ pos 1))
     value_before = some_of_same eq (at es s) (at es (s -ℤ pos 1)) (same_back eq laws (at es (s -ℤ pos 1)) (at es s) joint.1) joint.0
 
     -- a key stands before a joint
     pub joint_above : low <ℤ s
-    joint_above = by_lt_z low s (λ l. l) (λ l. absurd (no_value (at es (s -ℤ pos 1)) (none_under low high (s -ℤ pos 1) es k (omega (arith, ints))) value_before))
+    joint_above = by_lt_z low s (λ l. l) (λ l. absurd (none_is_not (at es (s -ℤ pos 1)) (none_under low high (s -ℤ pos 1) es k (omega (arith, ints))) value_before))
 
     -- an entry starts before it
     pub entry_before : None ≡ option_map range_in (last_below s es) → ⊥
     entry_before p =
         let next : s -ℤ pos 1 +ℤ pos 1 ≡ s = omega (arith, ints) in
         let none : None ≡ last_below (s -ℤ pos 1 +ℤ pos 1) es = sym (ap (λ x. last_below x es) next ∙ none_from_map range_in (last_below s es) p) in
-        no_value (at es (s -ℤ pos 1)) (none_at es (s -ℤ pos 1) (holding_none never (s -ℤ pos 1) low high es c u none)) value_before
+        none_is_not (at es (s -ℤ pos 1)) (none_at es (s -ℤ pos 1) (holding_none never (s -ℤ pos 1) low high es c u none)) value_before
 
     -- the entry that starts at it, and the one before
     module _ (a1 z1 a2 z2 : ℤ) (one : IsLastBelow (s +ℤ pos 1) a1 z1 es) (at_it : s ≤ℤ a1) (two : IsLastBelow s a2 z2 es) where
@@ -209,7 +206,7 @@ module _ {V : Type 0} where
 
       reaches : (s -ℤ pos 1) ≤ℤ that.of.hi
       reaches = by_lt_z that.of.hi (s -ℤ pos 1)
-          (λ l. absurd (no_value (at es (s -ℤ pos 1)) (none_at es (s -ℤ pos 1) (holding_not never (s -ℤ pos 1) low high es c u that.of last l)) value_before))
+          (λ l. absurd (none_is_not (at es (s -ℤ pos 1)) (none_at es (s -ℤ pos 1) (holding_not never (s -ℤ pos 1) low high es c u that.of last l)) value_before))
           (λ l. l)
 
       touch : this.of.lo ≡ that.of.hi +ℤ pos 1

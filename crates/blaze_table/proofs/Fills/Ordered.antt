@@ -1,4 +1,5 @@
 -- Ordered lists: what holds of them though touching entries may have equal values.
+use Rattle.blaze_int.proofs.Options.{none_is_not}
 use Rattle.std.proofs.Common.{◌≡◌, ℕ, ℤ, pos, ◌-ℤ◌, ◌<ℤ◌, Bool, true, false, List, [], ◌∷◌, Option, Some, None, refl, ◌∙◌, sym, subst, arith, inl, inr}
 use Rattle.std.specs.Prelude.{IsSome}
 use Rattle.std.proofs.lemmas.Int.{ints, by_lt_z}
@@ -30,10 +31,6 @@ module _ {V : Type 0} where
   start_above b k [] c a h = absurd h
   start_above b k (e ∷ es) c a (inl p) = omega (arith, ints)
   start_above b k (e ∷ es) c a (inr q) = let r = start_above e.hi k es c.2 (IsAbove-from_apart never e es c.1) q in omega (arith, ints, c.0)
-
-  none_is_not : (o : Option V) → o ≡ None → IsSome o → ⊥
-  none_is_not None p h = cc
-  none_is_not (Some x) p h = cc
 
   -- an ordered list is canonical where each start is a run start
   pub canonical_by_starts : (eq : V → V → Bool) (es : List (Entry V)) → IsOrdered es → ((k : ℤ) → HasStart es k → IsRunStart eq (at es) k) → IsCanonical eq es

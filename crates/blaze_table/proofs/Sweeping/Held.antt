@@ -2,7 +2,6 @@
 use Rattle.std.proofs.Common.{◌≡◌, ℕ, zero, suc, ◌-◌, ◌<◌, ◌≤◌, ℤ, Bool, List, [], ◌∷◌, length, slice_set, Option, Some, None, refl, ◌∙◌, sym, ap, subst, arith, get_or, option_map}
 use Rattle.std.specs.Prelude.{slice_get, IsSome}
 use Rattle.std.specs.Cmp.{IsEquivalence}
-use Rattle.std.proofs.lemmas.List.{length-map}
 use Rattle.std.proofs.lemmas.Option.{slice_get-map, slice_get_read}
 use Rattle.blaze_table.specs.Entries.{Entry, SameOption, shown_entry, shown_list}
 use Rattle.blaze_table.specs.Splice.{glue}

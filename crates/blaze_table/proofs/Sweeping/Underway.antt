@@ -1,4 +1,5 @@
 -- Pairs that wait or are to come.
+use Rattle.blaze_int.proofs.Naturals.{by_less}
 use Rattle.std.proofs.Common.{◌≡◌, ℕ, zero, suc, ◌+◌, ◌<◌, ◌≤◌, ℤ, pos, ◌-ℤ◌, ◌≤ℤ◌, List, [], ◌∷◌, length, All, IsPermutation, Some, refl, subst, arith}
 use Rattle.std.specs.Prelude.{slice_get}
 use Rattle.std.specs.List.{Contains}
@@ -16,11 +17,6 @@ contains_head x xs = (0, omega arith, refl)
 contains_tail : {X : Type 0} (x y : X) (xs : List X) → Contains xs y → Contains (x ∷ xs) y
 contains_tail x y xs c = Contains-append_right (x ∷ []) xs y c
 
-by_le : {P : Type 0} (j n : ℕ) → (j < n → P) → (n ≤ j → P) → P
-by_le j zero below above = above (omega arith)
-by_le zero (suc n) below above = below (omega arith)
-by_le (suc j) (suc n) below above = by_le j n (λ h. below (omega (arith, h))) (λ h. above (omega (arith, h)))
-
 module _ {T V : Type 0} (rank : T → ℤ) (placed : List (Placed T V)) where
   -- at the least key all pairs are to come
   pub underway_none : (low high : ℤ) → All (EndsAreKeys rank low high) placed → IsUnderway rank placed low 0 []
@@ -35,7 +31,7 @@ module _ {T V : Type 0} (rank : T → ℤ) (placed : List (Placed T V)) where
     pub waits_for : (s : Placed T V) → slice_get placed n ≡ Some s → IsWaiting rank placed a (rank s.start -ℤ pos 1) waits
     waits_for s is = record {
       started = c.started;
-      complete = λ j p q r l. by_le j n (λ h. c.complete j p q h r) (λ h. let f = up n j s p h is q in absurd (omega (arith, ints, f, l)));
+      complete = λ j p q r l. by_less j n (λ h. c.complete j p q h r) (λ h. let f = up n j s p h is q in absurd (omega (arith, ints, f, l)));
     }
 
     -- all wait

@@ -1,4 +1,5 @@
 -- A function that was called at pieces, one after another: its answers, and the edits that bring them into a map.
+use Rattle.blaze_int.proofs.Options.{some_none}
 use Rattle.std.specs.declared.alloc.AllocError.{AllocError}
 use Rattle.std.proofs.Common.{◌≡◌, ℤ, pos, ◌+ℤ◌, ◌-ℤ◌, ◌≤ℤ◌, Bool, true, false, cond, List, [], ◌∷◌, ◌++◌, length, map, Option, Some, None, Ok, refl, ◌∙◌, sym, ap, subst, arith}
 use Rattle.std.proofs.lemmas.Int.{ints}
@@ -32,10 +33,6 @@ module _ {V : Type 0} (eq : V → V → Bool) (laws : IsEquivalence eq) where
   same_answer None (Some y) old s = absurd s
   same_answer (Some x) None old s = absurd s
   same_answer (Some x) (Some y) old s = option_same eq x y s
-
-  -- what comes first in a list of answers decides
-  answer_first : (x : Option V) (a b : Option (Option V)) (old : Option V) → a ≡ Some x → answer_or (option_or a b) old ≡ x
-  answer_first x a b old p = ap (λ o. answer_or (option_or o b) old) p
 
   answer_next : (a b : Option (Option V)) (old : Option V) → a ≡ None → answer_or (option_or a b) old ≡ answer_or b old
   answer_next a b old p = ap (λ o. answer_or (option_or o b) old) p
@@ -160,12 +157,10 @@ module _ {F A V : Type 0} (shows : A → Option V) (g : Mut F A (Result (Option 
     none_answered [] rs k p = refl
     none_answered (x ∷ xs) [] k p = refl
     none_answered (x ∷ xs) (r ∷ rs) k p = by_place x k
-        (λ l u. absurd (some_is_not (sym (at_in x xs k l u) ∙ p)))
+        (λ l u. absurd (some_none (sym (at_in x xs k l u) ∙ p)))
         (λ u. at_under (with_answer x r) (answered xs rs) k u ∙ none_answered xs rs k (sym (at_under x xs k u) ∙ p))
         (λ u. at_over (with_answer x r) (answered xs rs) k u ∙ none_answered xs rs k (sym (at_over x xs k u) ∙ p))
       where
-        some_is_not : {X : Type 0} {x : X} → Some x ≡ None → ⊥
-        some_is_not p = cc
 
     pub made : (xs : List (Entry (Option V))) (b : ℤ) (f f' : F) (edits new : List (Entry (Option V))) (p : ArePiecesAsked shows g eq xs f f' edits new)
         → IsCanonical same xs → AreKeys low high xs → IsAbove (b -ℤ pos 1) xs → Has old xs → AreBelow b edits → AreMade edits new (answers_at xs f f' edits new p)

@@ -1,4 +1,5 @@
 -- How two lists compare from their first entries on.
+use Rattle.blaze_int.proofs.Options.{same_value}
 use Rattle.blaze_int.specs.Unsigned.{nat_of}
 use Rattle.std.proofs.Common.{◌≡◌, ◌+◌, ◌≤◌, ℤ, pos, ◌+ℤ◌, ◌-ℤ◌, ◌≤ℤ◌, Bool, List, [], ◌∷◌, ◌++◌, length, Some, None, true, false, refl, ◌∙◌, sym, ap, subst, arith, append_assoc, inl, inr, ⊎_elim}
 use Rattle.std.specs.Prelude.{◌⊎◌}
@@ -39,9 +40,6 @@ pub is_Equal : (o : Ordering) (b : Bool) → b ≡ is_ne o → b ≡ false → o
 is_Equal Less b p q = absurd cc
 is_Equal Equal b p q = refl
 is_Equal Greater b p q = absurd cc
-
-same_some : {A : Type 0} (x y : A) → Some x ≡ Some y → x ≡ y
-same_some x y p = cc
 
 module _ {V : Type 0} where
   first_pairs : (e : Entry V) (es : List (Entry V)) → e.lo ≤ℤ e.hi → ranked_pairs (e ∷ es) ≡ (e.lo, e.value) ∷ (pairs_from (λ k. k) (e.lo +ℤ pos 1) (nat_of (e.hi -ℤ e.lo)) e.value ++ ranked_pairs es)
@@ -144,14 +142,14 @@ module _ {V : Type 0} where
       pub decided_at_first : (L M : List (Entry V)) (e f : Entry V) → Some e ≡ slice_get L 0 → Some f ≡ slice_get M 0 → IsCanonical eq L → IsCanonical eq M → (o : Ordering) → o ≡ first_cmp value e f → (o ≡ Equal → ⊥) → o ≡ pairs_cmp value L M
       decided_at_first [] M e f p q c d o r n = absurd cc
       decided_at_first (x ∷ xs) [] e f p q c d o r n = absurd cc
-      decided_at_first (x ∷ xs) (y ∷ ys) e f p q c d o r n = first_decides x y xs ys c d o (r ∙ (ap (λ z. first_cmp value z f) (same_some e x p) ∙ ap (λ z. first_cmp value x z) (same_some f y q))) n
+      decided_at_first (x ∷ xs) (y ∷ ys) e f p q c d o r n = first_decides x y xs ys c d o (r ∙ (ap (λ z. first_cmp value z f) (same_value e x p) ∙ ap (λ z. first_cmp value x z) (same_value f y q))) n
 
       pub compared_after : (L M : List (Entry V)) (e f : Entry V) → Some e ≡ slice_get L 0 → Some f ≡ slice_get M 0 → IsCanonical eq L → IsCanonical eq M → first_cmp value e f ≡ Equal → IsComparedOn value L M (after (int_min f.hi e.hi) L) (after (int_min f.hi e.hi) M)
       compared_after [] M e f p q c d r = absurd cc
       compared_after (x ∷ xs) [] e f p q c d r = absurd cc
       compared_after (x ∷ xs) (y ∷ ys) e f p q c d r =
-          let left = same_some e x p in
-          let other = same_some f y q in
+          let left = same_value e x p in
+          let other = same_value f y q in
           let tied : first_cmp value x y ≡ Equal = ap (λ z. first_cmp value x z) (sym other) ∙ (ap (λ z. first_cmp value z f) (sym left) ∙ r) in
           let L : List (Entry V) = x ∷ xs in
           let M : List (Entry V) = y ∷ ys in
@@ -160,7 +158,7 @@ module _ {V : Type 0} where
 
   pub reaches_first : (L : List (Entry V)) (e : Entry V) (m : ℤ) → Some e ≡ slice_get L 0 → m ≤ℤ e.hi → Reaches m L
   reaches_first [] e m p h = tt
-  reaches_first (x ∷ xs) e m p h = subst (λ (z : Entry V). m ≤ℤ z.hi) (same_some e x p) h
+  reaches_first (x ∷ xs) e m p h = subst (λ (z : Entry V). m ≤ℤ z.hi) (same_value e x p) h
 
 pub earlier_left : (a b : ℤ) → int_min b a ≤ℤ a
 earlier_left a b = grind (arith, ints)

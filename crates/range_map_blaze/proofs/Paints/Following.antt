@@ -3,7 +3,7 @@ use Rattle.std.proofs.Common.{◌≡◌, ℤ, pos, ◌+ℤ◌, ◌-ℤ◌, ◌�
 use Rattle.std.specs.Cmp.{IsEquivalence}
 use Rattle.std.proofs.lemmas.Int.{ints, by_lt_z}
 use Rattle.std.proofs.lemmas.List.{map-append}
-use Rattle.blaze_int.proofs.Comparisons.{lt_true, lt_false}
+use Rattle.blaze_int.proofs.Comparisons.{lt_true, lt_false, max_right}
 use Rattle.blaze_entries.proofs.Alike.{same_itself}
 use Rattle.blaze_table.specs.Canonical.{IsCanonical, IsRangeMap}
 use Rattle.blaze_table.specs.Chosen.{left_with_right, IsChosen}
@@ -36,9 +36,6 @@ EndsFrom l (e ∷ es) = l ≤ℤ e.hi
 
 max_under : (a b : ℤ) → b <ℤ a → int_max a b ≡ a
 max_under a b l = grind (arith, ints)
-
-max_over : (a b : ℤ) → a ≤ℤ b → int_max a b ≡ b
-max_over a b l = grind (arith, ints)
 
 module _ {V : Type 0} (eq : V → V → Bool) where
   -- ---- a walk over the entries from the key l on
@@ -87,7 +84,7 @@ module _ {V : Type 0} (eq : V → V → Bool) where
         starts = by_after (l -ℤ pos 1) e es
             (λ a p. absurd (omega (arith, ints, o.ends)))
             (λ a b p. p ∙ ap (λ x. entry x e.hi e.value ∷ es) (omega (arith, ints, max_under l e.lo (omega (arith, ints)))))
-            (λ a b p. p ∙ ap (λ x. entry x e.hi e.value ∷ es) (sym (max_over l e.lo (omega (arith, ints)))))
+            (λ a b p. p ∙ ap (λ x. entry x e.hi e.value ∷ es) (sym (max_right l e.lo (omega (arith, ints)))))
 
         under : int_max l e.lo <ℤ (h +ℤ pos 1)
         under = grind (arith, ints)

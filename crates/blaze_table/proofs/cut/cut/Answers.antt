@@ -1,10 +1,11 @@
+use Rattle.blaze_int.proofs.Options.{if_err}
 use Rattle.std.proofs.Common.{Some, None, ap, sym, subst}
 use Rattle.blaze_entries.specs.Cloned.{IsRangeCloned}
 use Rattle.blaze_entries.specs.Counted.{CountedEntries}
 use Rattle.blaze_entries.specs.Starts.{holder_of}
 use Rattle.blaze_entries.proofs.Alike.{same_none}
 use Rattle.blaze_table.specs.Splice.{IsKeyCut}
-use Rattle.blaze_table.proofs.Cuts.CutEdits.{on_err, has_key, some_key, no_key, among_others}
+use Rattle.blaze_table.proofs.Cuts.CutEdits.{has_key, some_key, no_key, among_others}
 use Rattle.blaze_table.proofs.Cuts.Cutting.{key_absent}
 use Rattle.blaze_table.proofs.cut.cut.Goals as goal
 
@@ -21,7 +22,7 @@ returns-in_err-found-clause-refused g c =
     let k = rank c.args.key in
     let es = c.args.entries.now.entries in
     let h = has_key g.V.PartialEq.eq g.met.V.Eq.laws k g.T.Integer.low g.T.Integer.high es c.in_hand.ensures c.requires.table.canonical _ c.in_err-found.ensures.refused in
-    on_err c.from_residual.result (among_others g.V.PartialEq.eq g.met.V.Eq.laws k g.T.Integer.low g.T.Integer.high es c.in_hand.ensures c.requires.table.canonical h.of h.last h.up h.holds)
+    if_err c.from_residual.result (among_others g.V.PartialEq.eq g.met.V.Eq.laws k g.T.Integer.low g.T.Integer.high es c.in_hand.ensures c.requires.table.canonical h.of h.last h.up h.holds)
 
 pub cut_held-requires-clause-held : goal.cut_held-requires-clause-held
 cut_held-requires-clause-held g c =

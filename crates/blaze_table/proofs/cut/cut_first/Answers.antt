@@ -1,3 +1,4 @@
+use Rattle.blaze_int.proofs.Options.{if_err}
 use Rattle.std.proofs.Common.{◌<ℤ◌, Some, subst, arith}
 use Rattle.std.proofs.lemmas.Int.{ints}
 use Rattle.std.specs.List.{slice_get}
@@ -5,18 +6,18 @@ use Rattle.std.specs.Prelude.{IsSomeAnd}
 use Rattle.blaze_entries.specs.Cloned.{IsRangeCloned}
 use Rattle.blaze_entries.specs.Counted.{CountedEntries}
 use Rattle.blaze_table.specs.Splice.{IsKeyTaken}
-use Rattle.blaze_table.proofs.Cuts.CutEdits.{on_err, key_fits, key_cut}
+use Rattle.blaze_table.proofs.Cuts.CutEdits.{key_fits, key_cut}
 use Rattle.blaze_table.proofs.Cuts.Ends.{first_among, first_has}
 use Rattle.blaze_table.proofs.Cuts.Fronts.{first_key}
 use Rattle.blaze_table.proofs.cut.cut_first.Goals as goal
 
 pub returns-in_err-first-clause-refused : goal.returns-in_err-first-clause-refused
 returns-in_err-first-clause-refused g c =
-    on_err c.from_residual.result (first_among g.V.PartialEq.eq g.met.V.Eq.laws g.T.Integer.low g.T.Integer.high c.args.entries.now.entries c.in_hand.ensures c.requires.table.canonical c.in_err-first.ensures.refused)
+    if_err c.from_residual.result (first_among g.V.PartialEq.eq g.met.V.Eq.laws g.T.Integer.low g.T.Integer.high c.args.entries.now.entries c.in_hand.ensures c.requires.table.canonical c.in_err-first.ensures.refused)
 
 pub returns-in_err-value-in-Some-clause-refused : goal.returns-in_err-value-in-Some-clause-refused
 returns-in_err-value-in-Some-clause-refused g c =
-    on_err c.from_residual-in_err-value-in-Some.result (first_among g.V.PartialEq.eq g.met.V.Eq.laws g.T.Integer.low g.T.Integer.high c.args.entries.now.entries c.in_hand.ensures c.requires.table.canonical
+    if_err c.from_residual-in_err-value-in-Some.result (first_among g.V.PartialEq.eq g.met.V.Eq.laws g.T.Integer.low g.T.Integer.high c.args.entries.now.entries c.in_hand.ensures c.requires.table.canonical
     (subst (λ (s : CountedEntries g.row.V.Denot). IsSomeAnd (slice_get s.entries 0) (λ e. e.lo <ℤ e.hi)) c.first_held.ensures.looked c.in_err-value-in-Some.ensures.refused))
 
 pub minus-rest-requires : goal.minus-rest-requires

@@ -1,9 +1,10 @@
+use Rattle.blaze_int.proofs.Options.{if_err}
 use Rattle.std.proofs.Common.{refl, ap, sym, subst}
 use Rattle.std.specs.Prelude.{IsSome}
 use Rattle.blaze_entries.specs.Cloned.{IsManyCloned}
 use Rattle.blaze_entries.specs.Counted.{CountedEntries}
 use Rattle.blaze_table.specs.Splice.{IsCutOf}
-use Rattle.blaze_table.proofs.Cuts.CutEdits.{on_err, has_key, among_others, found, value_removed, whole_cut}
+use Rattle.blaze_table.proofs.Cuts.CutEdits.{has_key, among_others, found, value_removed, whole_cut}
 use Rattle.blaze_table.proofs.cut.cut_key.Goals as goal
 
 pub returns-in-Some-clause-refused : goal.returns-in-Some-clause-refused
@@ -14,7 +15,7 @@ returns-in-Some-clause-refused g c =
     let es = c.args.entries.now.entries in
     let h = has_key eq laws k g.T.Integer.low g.T.Integer.high es c.in_hand.ensures c.requires.canonical _ c.requires.held in
     let many = subst (IsManyCloned g.V.Clone.is_clone h.of) c.in-Some.is h.holds.1 in
-    on_err c.cut_shared.result (among_others eq laws k g.T.Integer.low g.T.Integer.high es c.in_hand.ensures c.requires.canonical h.of h.last h.up many.0)
+    if_err c.cut_shared.result (among_others eq laws k g.T.Integer.low g.T.Integer.high es c.in_hand.ensures c.requires.canonical h.of h.last h.up many.0)
 
 pub remove-requires : goal.remove-requires
 remove-requires g c = record {

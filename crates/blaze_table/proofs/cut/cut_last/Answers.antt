@@ -1,3 +1,4 @@
+use Rattle.blaze_int.proofs.Options.{if_err}
 use Rattle.std.proofs.Common.{◌-◌, length, Some, subst, arith}
 use Rattle.std.proofs.lemmas.Int.{ints}
 use Rattle.std.specs.List.{slice_get}
@@ -5,14 +6,14 @@ use Rattle.blaze_entries.specs.Cloned.{IsRangeCloned}
 use Rattle.blaze_entries.specs.Counted.{CountedEntries}
 use Rattle.blaze_table.specs.Splice.{IsKeyTaken}
 use Rattle.blaze_table.proofs.Cuts.Backs.{last_key, last_has}
-use Rattle.blaze_table.proofs.Cuts.CutEdits.{on_err, key_fits, key_cut}
+use Rattle.blaze_table.proofs.Cuts.CutEdits.{key_fits, key_cut}
 use Rattle.blaze_table.proofs.Cuts.Ends.{last_holder, end_among}
 use Rattle.blaze_table.proofs.cut.cut_last.Goals as goal
 
 pub returns-in_err-last-clause-refused : goal.returns-in_err-last-clause-refused
 returns-in_err-last-clause-refused g c =
     let es = c.args.entries.now.entries in
-    on_err c.from_residual.result (end_among g.V.PartialEq.eq g.met.V.Eq.laws g.T.Integer.low g.T.Integer.high es c.in_hand.ensures c.requires.table.canonical (λ x. x.1) (slice_get es (length es - 1)) (last_holder g.V.PartialEq.eq es c.requires.table.canonical) c.in_err-last.ensures.refused)
+    if_err c.from_residual.result (end_among g.V.PartialEq.eq g.met.V.Eq.laws g.T.Integer.low g.T.Integer.high es c.in_hand.ensures c.requires.table.canonical (λ x. x.1) (slice_get es (length es - 1)) (last_holder g.V.PartialEq.eq es c.requires.table.canonical) c.in_err-last.ensures.refused)
 
 pub minus-rest-requires : goal.minus-rest-requires
 minus-rest-requires g c = record {

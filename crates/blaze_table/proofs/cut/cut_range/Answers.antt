@@ -1,3 +1,4 @@
+use Rattle.blaze_int.proofs.Options.{if_err}
 use Rattle.std.proofs.Common.{◌≡◌, true, false, ap, sym, subst, inl, inr}
 use Rattle.std.specs.Option.{option_copied}
 use Rattle.blaze_entries.specs.Found.{is_sought}
@@ -5,7 +6,6 @@ use Rattle.blaze_table.specs.Planned.{GoesOnUnequal}
 use Rattle.blaze_entries.specs.Counted.{CountedEntries}
 use Rattle.blaze_table.specs.Edited.{IsPlace}
 use Rattle.blaze_table.specs.Splice.{IsRangeCutOf, IsRangeTaken}
-use Rattle.blaze_table.proofs.Cuts.CutEdits.{on_err}
 use Rattle.blaze_table.proofs.Cuts.RangeCuts.{end_is, range_place, range_cut, rest_above, counted_cut}
 use Rattle.blaze_table.proofs.Walks.FewLooks.{looked_by_walk}
 use Rattle.blaze_table.proofs.Walks.Found.{has_ranges, has_keys, found_above, walked}
@@ -23,7 +23,7 @@ returns-in_err-found-clause-refused g c =
       | inl over ↦ found_above g.V.PartialEq.eq _ _ g.T.Integer.low g.T.Integer.high c.requires.order _ _ c.in_hand.ensures c.requires.table (is_sought g.V.PartialEq.eq (option_copied c.as_ref.result)) over
       | inr held ↦ absurd (let no : false ≡ true = held.0 in cc)
     ] in
-    on_err c.from_residual.result over.over
+    if_err c.from_residual.result over.over
 
 pub take_out-requires-clause-place : goal.take_out-requires-clause-place
 take_out-requires-clause-place g c =
@@ -33,7 +33,7 @@ take_out-requires-clause-place g c =
 
 pub returns-in_err-take_out-clause-refused : goal.returns-in_err-take_out-clause-refused
 returns-in_err-take_out-clause-refused g c =
-    on_err c.from_residual-in_err-take_out.result (rest_above g.V.PartialEq.eq _ c.as_ref.ensures.value _ _ g.T.Integer.rank c.in_ok-found.found.plan _ _ c.args.entries.now.entries (walked g.V.PartialEq.eq _ _ g.T.Integer.low g.T.Integer.high c.requires.order _ _ c.in_hand.ensures c.requires.table _ c.requires.clones c.in_ok-found.ensures.found) g.T.Integer.low g.T.Integer.high c.requires.order c.in_hand.ensures c.requires.table.canonical
+    if_err c.from_residual-in_err-take_out.result (rest_above g.V.PartialEq.eq _ c.as_ref.ensures.value _ _ g.T.Integer.rank c.in_ok-found.found.plan _ _ c.args.entries.now.entries (walked g.V.PartialEq.eq _ _ g.T.Integer.low g.T.Integer.high c.requires.order _ _ c.in_hand.ensures c.requires.table _ c.requires.clones c.in_ok-found.ensures.found) g.T.Integer.low g.T.Integer.high c.requires.order c.in_hand.ensures c.requires.table.canonical
     c.in_err-take_out.ensures.refused)
 
 pub returns-clause-cut : goal.returns-clause-cut

@@ -1,3 +1,4 @@
+use Rattle.blaze_int.proofs.Options.{if_err}
 use Rattle.std.proofs.Common.{◌≡◌, ◌<ℤ◌, List, true, false, sym, subst, ap}
 use Rattle.std.specs.Option.{option_map}
 use Rattle.std.specs.Prelude.{IfSome, IsSome}
@@ -6,7 +7,6 @@ use Rattle.blaze_entries.specs.Starts.{last_below, start_at}
 use Rattle.blaze_entries.specs.Walked.{IsClonedIf}
 use Rattle.blaze_entries.proofs.Underway.{cloned_above, refused_above}
 use Rattle.blaze_table.specs.Entries.{Entry}
-use Rattle.blaze_table.proofs.Cuts.CutEdits.{on_err}
 use Rattle.blaze_table.proofs.Walks.FewLooks.{looked_again}
 use Rattle.blaze_table.proofs.Walks.Found.{has_ranges, has_keys, left_there, left_value, found_above, found_by_walk}
 use Rattle.blaze_table.proofs.looks.walk_by_looks.Goals as goal
@@ -28,7 +28,7 @@ pub returns-in_err-above-clause-refused : goal.returns-in_err-above-clause-refus
 returns-in_err-above-clause-refused g c =
     let test = λ (w : g.row.V.Denot). g.V.PartialEq.eq w c.args.value.now in
     let es = c.args.entries.now.entries in
-    on_err c.from_residual.result (found_above g.V.PartialEq.eq _ _ g.T.Integer.low g.T.Integer.high c.requires.order _ es c.in_hand.ensures c.requires.table test
+    if_err c.from_residual.result (found_above g.V.PartialEq.eq _ _ g.T.Integer.low g.T.Integer.high c.requires.order _ es c.in_hand.ensures c.requires.table test
     (refused_above g.T.Integer.rank test (g.T.Integer.rank c.args.hi) c.plan.result.0.left (last_below (g.T.Integer.rank c.args.lo) es) c.plan.ensures.plan.left c.in_err-above.ensures.refused))
 
 pub returns-in_err-above-clause-looked : goal.returns-in_err-above-clause-looked

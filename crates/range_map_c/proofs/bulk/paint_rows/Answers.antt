@@ -1,3 +1,4 @@
+use Rattle.blaze_int.proofs.Options.{if_err}
 use Rattle.std.specs.Prelude.{nat_eq}
 use Rattle.std.specs.Range.{range_inclusive_start, range_inclusive_end}
 use Rattle.std.proofs.Common.{◌≡◌, ◌∙◌, ℕ, ℤ, pos, take, slice_index_or, subst, rules, arith}
@@ -6,7 +7,7 @@ use Rattle.blaze_entries.specs.Entries.{entry}
 use Rattle.blaze_table.specs.Painted.{IsPainted}
 use Rattle.range_map_c.specs.Handle.{least_key, greatest_key}
 use Rattle.range_map_c.specs.Tables.{rows}
-use Rattle.range_map_c.proofs.Parts.{none_painted, more_painted, rows_next, part_of, if_err}
+use Rattle.range_map_c.proofs.Parts.{none_painted, more_painted, rows_next, part_of}
 use Rattle.range_map_c.proofs.bulk.paint_rows.Goals as goal
 
 pub loop-i-init : goal.loop-i-init

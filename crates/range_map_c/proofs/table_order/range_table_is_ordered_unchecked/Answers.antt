@@ -1,7 +1,8 @@
+use Rattle.blaze_int.proofs.Naturals.{by_less}
 use Rattle.std.proofs.Common.{◌≡◌, ℕ, suc, ◌-◌, pos, ◌≤ℤ◌, ◌<ℤ◌, slice_index_or, subst, refl, arith}
 use borrow.Author.Count.{below_more}
 use Rattle.std.proofs.lemmas.Int.{ints}
-use Rattle.range_map_c.proofs.InOrder.{by_less, rows_apart, rows_ordered}
+use Rattle.range_map_c.proofs.InOrder.{rows_apart, rows_ordered}
 use Rattle.range_map_c.proofs.table_order.range_table_is_ordered_unchecked.Goals as goal
 use Rattle.range_map_c.proofs.table_order.range_table_is_ordered_unchecked.Goals.{else-i-gt0-via-then-i-gt0+else-lo-i, else-i-gt0-via-else-i-gt0}
 

@@ -1,6 +1,7 @@
+use Rattle.blaze_int.proofs.Options.{is_none}
 use Rattle.std.proofs.Common.{◌∙◌, sym}
 use Rattle.blaze_table.specs.Entries.{at}
-use Rattle.blaze_streams.proofs.LetGo.{left_let_go, no_value, right_let_go, right_none}
+use Rattle.blaze_streams.proofs.LetGo.{left_let_go, right_let_go, right_none}
 use Rattle.blaze_streams.proofs.segmenting.joins.skip.Goals as goal
 
 pub let_go_below-requires-clause-none : goal.let_go_below-requires-clause-none
@@ -9,7 +10,7 @@ let_go_below-requires-clause-none g c =
     right_none c.args.kind (at c.args.left.now t) (at c.args.right.now t) c.requires.alone.not_asked (sym c.is_asked.ensures ∙ c.if-is_asked.true)
 
 pub let_go_below-requires-else-is_asked-clause-none : goal.let_go_below-requires-else-is_asked-clause-none
-let_go_below-requires-else-is_asked-clause-none g c = no_value (at c.args.left.now (g.T.Integer.rank c.args.end)) (sym c.is_asked.ensures ∙ c.if-is_asked.false)
+let_go_below-requires-else-is_asked-clause-none g c = is_none (at c.args.left.now (g.T.Integer.rank c.args.end)) (sym c.is_asked.ensures ∙ c.if-is_asked.false)
 
 pub returns-then-is_asked : goal.returns-then-is_asked
 returns-then-is_asked g c =

@@ -1,10 +1,10 @@
+use Rattle.blaze_int.proofs.Options.{if_err}
 use Rattle.std.proofs.Common.{sym, subst, refl}
 use Rattle.std.specs.Prelude.{IsSome}
-use Rattle.blaze_entries.proofs.Lent.{on_err}
 use Rattle.blaze_table.proofs.edit.place.put_rest.Goals as goal
 
 pub returns-in-Some-above-clause-refused : goal.returns-in-Some-above-clause-refused
-returns-in-Some-above-clause-refused g c = on_err c.insert.result (subst IsSome (sym c.in-Some.is) refl)
+returns-in-Some-above-clause-refused g c = if_err c.insert.result (subst IsSome (sym c.in-Some.is) refl)
 
 pub returns-else-is_below-clause-refused : goal.returns-else-is_below-clause-refused
-returns-else-is_below-clause-refused g c = on_err c.move_start.result (subst IsSome (sym c.in-Some.is) refl)
+returns-else-is_below-clause-refused g c = if_err c.move_start.result (subst IsSome (sym c.in-Some.is) refl)

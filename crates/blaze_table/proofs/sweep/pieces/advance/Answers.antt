@@ -1,4 +1,4 @@
-use Rattle.std.proofs.Common.{sym, subst, ◌∙◌, ◌+ℤ◌, ◌-ℤ◌, pos, arith}
+use Rattle.std.proofs.Common.{sym, subst, ◌∙◌, ◌-ℤ◌, pos, arith}
 use Rattle.std.proofs.lemmas.Int.{ints}
 use Rattle.std.specs.BinaryHeap.{heap_items}
 use Rattle.blaze_int.proofs.Comparisons.{le_fails, le_holds}

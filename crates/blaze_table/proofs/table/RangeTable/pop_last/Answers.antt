@@ -1,17 +1,17 @@
+use Rattle.blaze_int.proofs.Options.{if_err}
 use Rattle.std.proofs.Common.{◌-◌, length, subst, ap, arith}
 use Rattle.std.specs.List.{slice_get}
 use Rattle.blaze_table.specs.Counted.{CountedEntries}
 use Rattle.blaze_table.specs.Cut.{IsLastCut, IsAmongOthers}
 use Rattle.std.specs.Prelude.{IfSome}
 use Rattle.blaze_table.proofs.Canonical.RangeMaps.{cut_map}
-use Rattle.blaze_table.proofs.Cuts.CutEdits.{on_err}
 use Rattle.blaze_table.proofs.Cuts.Ends.{last_refused, last_there}
 use Rattle.blaze_table.proofs.table.RangeTable.pop_last.Goals as goal
 
 pub returns-in_err-key-clause-refused : goal.returns-in_err-key-clause-refused
 returns-in_err-key-clause-refused g c =
     let long = ap (λ (s : CountedEntries g.row.V.Denot). length s.entries) c.self.view_is in
-    on_err c.from_residual.result
+    if_err c.from_residual.result
     (last_refused g.V.PartialEq.eq c.args.self.now.entries (λ z. omega (arith, c.len.ensures, c.if-len-eq0.false, long, z))
     (subst (λ (s : CountedEntries g.row.V.Denot). IfSome (slice_get s.entries (length s.entries - 1)) (λ e. IsAmongOthers e.hi s.entries)) c.self.view_is c.in_err-key.ensures.refused))
 

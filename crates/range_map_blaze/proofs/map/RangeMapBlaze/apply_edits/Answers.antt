@@ -1,3 +1,4 @@
+use Rattle.blaze_int.proofs.Options.{if_err}
 use Rattle.std.proofs.Common.{◌≡◌, [], ◌++◌, ◌∷◌, ◌∙◌, sym, ap, append-nil, append_assoc, subst}
 use Rattle.std.specs.Cmp.Lexicographic.{options_equiv}
 use Rattle.std.specs.Option.{option_eq}
@@ -6,7 +7,6 @@ use Rattle.std.specs.Vec.Iter.{into_iter_items}
 use Rattle.blaze_table.specs.Canonical.{IsCanonical}
 use Rattle.blaze_table.specs.Entries.{shown_entry, shown_list}
 use Rattle.blaze_table.proofs.Canonical.Runs.{canonical}
-use Rattle.blaze_table.proofs.Cuts.CutEdits.{on_err}
 use Rattle.blaze_table.proofs.Walks.Worked.{counted_none, counted_then}
 use Rattle.range_map_blaze.specs.Edits.{AreEdited}
 use Rattle.range_map_blaze.proofs.Edits.Applied.{edited_none, edited_more}
@@ -54,7 +54,7 @@ loop-start-preserved g c =
 pub returns-in_err-apply_edit-clause-err : goal.returns-in_err-apply_edit-clause-err
 returns-in_err-apply_edit-clause-err g c =
     let i = c.loop-start.invariant.2 in
-    on_err c.from_residual.result (record {
+    if_err c.from_residual.result (record {
       done = i.0;
       rest = _;
       parts = i.1;

@@ -1,17 +1,17 @@
+use Rattle.blaze_int.proofs.Options.{if_err}
 use Rattle.std.proofs.Common.{◌≡◌, [], Some, subst}
 use Rattle.std.specs.List.{slice_get}
 use Rattle.std.specs.Prelude.{MatchOption}
 use Rattle.blaze_table.specs.Counted.{CountedEntries}
 use Rattle.blaze_table.specs.Cut.{IsAmongOthers, IsFirstCut}
 use Rattle.blaze_table.specs.Entries.{Entry}
-use Rattle.blaze_table.proofs.Cuts.CutEdits.{on_err}
 use Rattle.range_map_blaze.proofs.Order.EndPairs.{first_of, pops_least}
 use Rattle.range_map_blaze.proofs.map.RangeMapBlaze.pop_first.Goals as goal
 
 pub returns-in_err-popped-clause-refused : goal.returns-in_err-popped-clause-refused
 returns-in_err-popped-clause-refused g c =
     let refused = subst (λ (s : CountedEntries g.row.V.Denot). (first : Entry g.row.V.Denot) × (slice_get s.entries 0 ≡ Some first) × IsAmongOthers first.lo s.entries) c.self.view_is c.in_err-popped.ensures.refused in
-    on_err c.from_residual.result
+    if_err c.from_residual.result
     (refused.0.lo, refused.0.value, first_of c.args.self.now.entries refused.0 c.in_hand.ensures.runs.disjoint c.in_hand.ensures.runs.ascending refused.1, refused.2)
 
 pub returns-clause-ok : goal.returns-clause-ok
