@@ -1,9 +1,5 @@
 -- What equations of options say, the laws of `option_or`, and options whose values are equal.
-use Rattle.std.proofs.Common.{◌≡◌, Bool, Option, Some, None, refl, ◌∙◌, sym, subst}
-use Rattle.std.specs.Prelude.{IsSome}
-use Rattle.std.specs.Option.{is_some, option_map, option_or}
-use Rattle.std.specs.Cmp.{IsEquivalence}
-use Rattle.blaze_entries.specs.Entries.{SameOption}
+use Rattle.blaze_entries.proofs.Words.{◌≡◌, Bool, Option, Some, None, refl, ◌∙◌, sym, subst, IsSome, is_some, option_map, option_or, IsEquivalence, SameOption}
 
 pub none_from_map : {A B : Type 0} (f : A → B) (o : Option A) → None ≡ option_map f o → o ≡ None
 none_from_map f None p = refl

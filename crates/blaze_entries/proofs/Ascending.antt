@@ -1,11 +1,5 @@
 -- Lists in the order of their starts: what the edits keep, and how long they are.
-use Rattle.std.proofs.Common.{◌≡◌, ◌+◌, ℤ, pos, ◌+ℤ◌, ◌≤ℤ◌, ◌<ℤ◌, true, false, cond, List, [], ◌∷◌, ◌++◌, length, Option, Some, None, refl, arith}
-use Rattle.std.specs.Prelude.{IsSome}
-use Rattle.std.specs.Ordering.{int_cmp, int_eq}
-use Rattle.std.specs.declared.cmp.Ordering.TheVariants.{Less, Equal, Greater}
-use Rattle.std.proofs.lemmas.Int.{ints, by_lt_z}
-use Rattle.blaze_entries.specs.Entries.{Entry, entry}
-use Rattle.blaze_entries.specs.Starts.{StartsAscend, start_at, with_entry, without, with_end, with_end_value, with_last_end}
+use Rattle.blaze_entries.proofs.Words.{◌≡◌, ◌+◌, ℤ, pos, ◌+ℤ◌, ◌≤ℤ◌, ◌<ℤ◌, true, false, cond, List, [], ◌∷◌, ◌++◌, length, Option, Some, None, refl, arith, IsSome, int_cmp, int_eq, Less, Equal, Greater, ints, by_lt_z, Entry, entry, StartsAscend, start_at, with_entry, without, with_end, with_end_value, with_last_end}
 
 -- two numbers, by their order
 pub by_order : {P : Type 0} (a b : ℤ)

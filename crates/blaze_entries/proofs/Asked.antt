@@ -1,21 +1,5 @@
 -- Entries that a closure is asked at, one after another, where those at which it answers false go.
-use Rattle.std.proofs.Common.{◌≡◌, ◌<◌, ℤ, pos, negsuc, ◌+ℤ◌, ◌-ℤ◌, ◌≤ℤ◌, ◌<ℤ◌, Bool, true, false, cond, List, [], ◌∷◌, ◌++◌, refl, ◌∙◌, sym, subst, ap, arith, append_assoc}
-use Rattle.std.specs.Borrow.{Bor}
-use Rattle.std.specs.Fn.{Mut, Called}
-use Rattle.std.specs.List.{FoldsTo}
-use Rattle.std.specs.List.Retain.{IsFiltered}
-use Rattle.std.specs.Range.{range_inclusive_start, range_inclusive_end, range_inclusive_exhausted}
-use Rattle.std.specs.declared.ops.RangeInclusive.{RangeInclusive}
-use Rattle.std.proofs.lemmas.Fn.{FoldsTo-push}
-use Rattle.std.proofs.lemmas.Int.{ints}
-use Rattle.std.proofs.lemmas.List.{append-nil}
-use Rattle.blaze_int.specs.Unsigned.{nat_of}
-use Rattle.blaze_entries.specs.Answers.{IsShown, AnswersAt, SomeCallAt, IsCallableAtEach, TakesEntry, KeepsEach, KeepsUpTo}
-use Rattle.blaze_entries.specs.Entries.{Entry, shown_entry}
-use Rattle.blaze_entries.specs.Starts.{StartsAscend, from, start_at, without}
-use Rattle.blaze_int.proofs.Comparisons.{eq_true}
-use Rattle.std.specs.Ordering.{int_eq}
-use Rattle.std.specs.Prelude.{Some, IsSome}
+use Rattle.blaze_entries.proofs.Words.{◌≡◌, ◌<◌, ℤ, pos, negsuc, ◌+ℤ◌, ◌-ℤ◌, ◌≤ℤ◌, ◌<ℤ◌, Bool, true, false, cond, List, [], ◌∷◌, ◌++◌, refl, ◌∙◌, sym, subst, ap, arith, append_assoc, Bor, Mut, Called, FoldsTo, IsFiltered, range_inclusive_start, range_inclusive_end, range_inclusive_exhausted, RangeInclusive, FoldsTo-push, ints, append-nil, nat_of, IsShown, AnswersAt, SomeCallAt, IsCallableAtEach, TakesEntry, KeepsEach, KeepsUpTo, Entry, shown_entry, StartsAscend, from, start_at, without, eq_true, int_eq, Some, IsSome}
 use Rattle.blaze_entries.proofs.Ascending.{by_order}
 use Rattle.blaze_entries.proofs.InTurn.{kept_calls, filtered_kept, filtered_dropped, folds-append}
 use Rattle.blaze_entries.proofs.Halves.{StartsBelow, from_skips, from_all, more_below}

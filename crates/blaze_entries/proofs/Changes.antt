@@ -1,8 +1,5 @@
 -- What a write through a lent node makes of the list.
-use Rattle.std.proofs.Common.{◌≡◌, Bool, true, false, List, [], ◌∷◌, cond, refl, ap}
-use Rattle.std.specs.Prelude.{Some, None}
-use Rattle.std.specs.Map.{lookup, set_value}
-use Rattle.blaze_entries.specs.Changed.{changed}
+use Rattle.blaze_entries.proofs.Words.{◌≡◌, Bool, true, false, List, [], ◌∷◌, cond, refl, ap, Some, None, lookup, set_value, changed}
 
 pub changed_found : {K X : Type 0} (test : K → Bool) (f : X → X) (es : List (K × X)) (v : X) → lookup test es ≡ Some v → set_value test es (f v) ≡ changed test f es
 changed_found test f [] v h = refl

@@ -1,12 +1,5 @@
 -- The nodes of a tree cloned, as entries.
-use Rattle.std.proofs.Common.{◌≡◌, ℤ, pos, ◌+ℤ◌, ◌≤ℤ◌, List, [], ◌∷◌, Option, Some, None, refl, ◌∙◌, sym, subst, ap}
-use Rattle.std.specs.Prelude.{map}
-use Rattle.std.specs.List.{AllZip}
-use Rattle.blaze_entries.specs.Cloned.{AreCloned}
-use Rattle.blaze_entries.specs.Entries.{Entry, entry}
-use Rattle.blaze_entries.specs.Nodes.{shown_nodes, shown_node, held, full, AreHeld}
-use Rattle.blaze_entries.specs.Starts.{StartsAscend}
-use Rattle.blaze_entries.specs.declared.node.EndValue.{EndValue}
+use Rattle.blaze_entries.proofs.Words.{◌≡◌, ℤ, pos, ◌+ℤ◌, ◌≤ℤ◌, List, [], ◌∷◌, Option, Some, None, refl, ◌∙◌, sym, subst, ap, map, AllZip, AreCloned, Entry, entry, shown_nodes, shown_node, held, full, AreHeld, StartsAscend, EndValue}
 use Rattle.blaze_entries.proofs.Held.{are_held, full-held}
 
 -- a clone of the value v

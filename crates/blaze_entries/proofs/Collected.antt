@@ -1,22 +1,6 @@
 -- Nodes collected in one go: they are those of the list that was given, where its starts ascend.
-use Rattle.std.proofs.Common.{◌≡◌, ℤ, pos, ◌+ℤ◌, ◌≤ℤ◌, ◌<ℤ◌, Bool, true, false, cond, List, [], ◌∷◌, map, Option, Some, None, refl, ◌∙◌, sym, subst, ap, arith}
-use Rattle.std.specs.Prelude.{IsSome}
-use Rattle.std.specs.BTreeMap.{is_at, IsFromIterResult, BTreeMap}
-use Rattle.std.specs.Cmp.{IsTotalOrder, int_cmp_is}
-use Rattle.std.specs.List.{AllByRecursion}
+use Rattle.blaze_entries.proofs.Words.{◌≡◌, ℤ, pos, ◌+ℤ◌, ◌≤ℤ◌, ◌<ℤ◌, Bool, true, false, cond, List, [], ◌∷◌, map, Option, Some, None, refl, ◌∙◌, sym, subst, ap, arith, IsSome, is_at, IsFromIterResult, BTreeMap, IsTotalOrder, int_cmp_is, AllByRecursion, lookup, keys_of, option_map, int_cmp, eq_by_cmp, on, Less, Equal, Greater, eq_by_cmp_equiv, int_cmp_total, ints, IsDistinct-from_sorted, update_all_none, Entry, shown_entry, shown_nodes, shown_node_at, held, node_of, StartsAscend, start_at, EndValue}
 use Rattle.std.specs.List.Sorted.{IsStrictlySortedBy}
-use Rattle.std.specs.Map.{lookup, keys_of}
-use Rattle.std.specs.Option.{option_map}
-use Rattle.std.specs.Ordering.{int_cmp, eq_by_cmp, on}
-use Rattle.std.specs.declared.cmp.Ordering.TheVariants.{Less, Equal, Greater}
-use Rattle.std.proofs.lemmas.Cmp.{eq_by_cmp_equiv, int_cmp_total}
-use Rattle.std.proofs.lemmas.Int.{ints}
-use Rattle.std.proofs.lemmas.Map.Keys.{IsDistinct-from_sorted}
-use Rattle.std.proofs.lemmas.Map.Made.{update_all_none}
-use Rattle.blaze_entries.specs.Entries.{Entry, shown_entry}
-use Rattle.blaze_entries.specs.Nodes.{shown_nodes, shown_node_at, held, node_of}
-use Rattle.blaze_entries.specs.Starts.{StartsAscend, start_at}
-use Rattle.blaze_entries.specs.declared.node.EndValue.{EndValue}
 use Rattle.blaze_entries.proofs.Ascending.{by_order, start_none}
 use Rattle.blaze_entries.proofs.NodeLists.{as_entries_lookup}
 

@@ -1,20 +1,5 @@
 -- What std's calls on full nodes are on the entries that they hold.
-use Rattle.std.proofs.Common.{◌≡◌, ℤ, pos, ◌+ℤ◌, List, [], ◌∷◌, ◌++◌, Option, Some, None, refl, ◌∙◌, sym, ap}
-use Rattle.std.specs.Prelude.{map, MatchOption, IfSome}
-use Rattle.std.specs.Option.{option_map}
-use Rattle.std.specs.List.{last_or}
-use Rattle.std.specs.Ordering.{int_cmp, on}
-use Rattle.std.specs.declared.cmp.Ordering.TheVariants.{Less, Equal, Greater}
-use Rattle.std.specs.Map.{remove_entry}
-use Rattle.std.specs.BTreeMap.{insert_entry, is_at}
-use Rattle.std.specs.BTreeMap.Range.{entries_between, entries_below, entries_from}
-use Rattle.std.specs.declared.ops.Bound.TheVariants.{Included, Excluded, Unbounded}
-use denote.Ref.{Bor}
-use Rattle.blaze_entries.specs.Changed.{changed}
-use Rattle.blaze_entries.specs.Entries.{Entry, entry}
-use Rattle.blaze_entries.specs.Nodes.{held, shown_nodes, shown_node_at, shown_lent_node, entries_of, AreHeld}
-use Rattle.blaze_entries.specs.Starts.{below, from, up_to, with_entry, without, with_end, with_end_value, with_last_end}
-use Rattle.blaze_entries.specs.declared.node.EndValue.{EndValue}
+use Rattle.blaze_entries.proofs.Words.{◌≡◌, ℤ, pos, ◌+ℤ◌, List, [], ◌∷◌, ◌++◌, Option, Some, None, refl, ◌∙◌, sym, ap, map, MatchOption, IfSome, option_map, last_or, int_cmp, on, Less, Equal, Greater, remove_entry, insert_entry, is_at, entries_between, entries_below, entries_from, Included, Excluded, Unbounded, Bor, changed, Entry, entry, held, shown_nodes, shown_node_at, shown_lent_node, entries_of, AreHeld, below, from, up_to, with_entry, without, with_end, with_end_value, with_last_end, EndValue}
 use Rattle.blaze_entries.proofs.Ascending.{by_order}
 use Rattle.blaze_entries.proofs.Held.{edited_nodes, nodes_ascend, with_entry-held, without-held, with_end-held, with_end_value-held, with_last_end-held, below-held, from-held, up_to-held}
 use Rattle.blaze_entries.proofs.NodeLists.{as_entries_insert, as_entries_remove, as_entries_end, as_entries_set, as_entries_below, as_entries_from, as_entries_between, as_entries_at_or_above, as_entries_from_up_to, as_entries_all, last_of_append}

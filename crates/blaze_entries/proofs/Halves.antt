@@ -1,9 +1,5 @@
 -- Lists in the order of their starts, in two parts: below a key and from it on.
-use Rattle.std.proofs.Common.{◌≡◌, ℤ, pos, ◌+ℤ◌, ◌≤ℤ◌, ◌<ℤ◌, cond, ◌⊎◌, inl, inr, List, [], ◌∷◌, ◌++◌, refl, ◌∙◌, sym, ap, arith}
-use Rattle.std.proofs.lemmas.Int.{ints, by_lt_z}
-use Rattle.blaze_int.proofs.Comparisons.{lt_true, lt_false, le_true, le_false}
-use Rattle.blaze_entries.specs.Entries.{Entry}
-use Rattle.blaze_entries.specs.Starts.{StartsAscend, below, from}
+use Rattle.blaze_entries.proofs.Words.{◌≡◌, ℤ, pos, ◌+ℤ◌, ◌≤ℤ◌, ◌<ℤ◌, cond, ◌⊎◌, inl, inr, List, [], ◌∷◌, ◌++◌, refl, ◌∙◌, sym, ap, arith, ints, by_lt_z, lt_true, lt_false, le_true, le_false, Entry, StartsAscend, below, from}
 
 -- each start is below k
 abbrev pub StartsBelow : {V : Type 0} → ℤ → List (Entry V) → Type 0

@@ -1,13 +1,5 @@
 -- Entries as full nodes: the searches and edits of the nodes are those of the entries.
-use Rattle.std.proofs.Common.{◌≡◌, ℤ, pos, ◌+ℤ◌, Bool, true, false, cond, List, [], ◌∷◌, Option, Some, None, refl, ◌∙◌, sym, subst, ap}
-use Rattle.std.specs.Prelude.{map, int_lt, int_le, IsSome}
-use Rattle.std.specs.Ordering.{int_cmp, int_eq, match_ordering}
-use Rattle.std.specs.declared.cmp.Ordering.TheVariants.{Less, Equal, Greater}
-use Rattle.std.specs.List.{filter, last_or}
-use Rattle.std.specs.Option.{option_map}
-use Rattle.blaze_entries.specs.Entries.{Entry, entry}
-use Rattle.blaze_entries.specs.Starts.{StartsAscend, below, from, up_to, first_entry, last_below, first_from, start_at, with_entry, without, with_end, with_end_value, with_last_end, IsStartMoved, IsFrontReplaced}
-use Rattle.blaze_entries.specs.Nodes.{held, full, AreFull, AreHeld}
+use Rattle.blaze_entries.proofs.Words.{◌≡◌, ℤ, pos, ◌+ℤ◌, Bool, true, false, cond, List, [], ◌∷◌, Option, Some, None, refl, ◌∙◌, sym, subst, ap, map, int_lt, int_le, IsSome, int_cmp, int_eq, match_ordering, Less, Equal, Greater, filter, last_or, option_map, Entry, entry, StartsAscend, below, from, up_to, first_entry, last_below, first_from, start_at, with_entry, without, with_end, with_end_value, with_last_end, IsStartMoved, IsFrontReplaced, held, full, AreFull, AreHeld}
 
 module _ {V : Type 0} where
   pub full-held : (es : List (Entry V)) → full (map held es) ≡ es

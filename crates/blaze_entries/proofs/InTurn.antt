@@ -1,7 +1,5 @@
 -- A closure asked at one item after another: its answers, and what they keep.
-use Rattle.std.proofs.Common.{◌≡◌, Bool, true, false, List, [], ◌∷◌, ◌++◌, length, refl, sym, subst, ap, arith}
-use Rattle.std.specs.List.{items_where_true, FoldsTo}
-use Rattle.std.specs.List.Retain.{ReturnsInTurn, IsFiltered}
+use Rattle.blaze_entries.proofs.Words.{◌≡◌, Bool, true, false, List, [], ◌∷◌, ◌++◌, length, refl, sym, subst, ap, arith, items_where_true, FoldsTo, ReturnsInTurn, IsFiltered}
 
 module _ {F X : Type 0} (R : F → X → Bool → F → Type 0) where
   -- one item more

@@ -1,15 +1,5 @@
 -- Nodes that a search found, among full nodes.
-use Rattle.std.proofs.Common.{◌≡◌, ℕ, ◌-◌, ◌<◌, length, ℤ, pos, ◌+ℤ◌, true, false, cond, List, [], ◌∷◌, Option, Some, None, Result, Ok, Err, refl, ◌∙◌, sym, subst, ap, arith}
-use Rattle.std.specs.Prelude.{IsSome, IfSome, OnErr, int_lt, ◌↔◌}
-use Rattle.std.specs.Option.{option_map, option_copied}
-use Rattle.std.specs.List.{slice_get}
-use Rattle.std.proofs.lemmas.List.{length-map}
-use Rattle.std.proofs.lemmas.Option.{slice_get-map}
-use denote.Ref.{Bor}
-use Rattle.blaze_entries.specs.Entries.{Entry, entry}
-use Rattle.blaze_entries.specs.Nodes.{held, full, AreHeld, shown_node, shown_node_at, shown_lent_node, shown_nodes}
-use Rattle.blaze_entries.specs.Starts.{last_below, reaching, holder_of, first_from, start_at, with_entry, IsCloneInserted}
-use Rattle.blaze_entries.specs.declared.node.EndValue.{EndValue}
+use Rattle.blaze_entries.proofs.Words.{◌≡◌, ℕ, ◌-◌, ◌<◌, length, ℤ, pos, ◌+ℤ◌, true, false, cond, List, [], ◌∷◌, Option, Some, None, Result, Ok, Err, refl, ◌∙◌, sym, subst, ap, arith, IsSome, IfSome, OnErr, int_lt, ◌↔◌, option_map, option_copied, slice_get, length-map, slice_get-map, Bor, Entry, entry, held, full, AreHeld, shown_node, shown_node_at, shown_lent_node, shown_nodes, last_below, reaching, holder_of, first_from, start_at, with_entry, IsCloneInserted, EndValue}
 use Rattle.blaze_entries.proofs.Held.{last_below-held, first_from-held, start_at-held, none_held, some_held}
 
 module _ {T V : Type 0} (rank : T → ℤ) where
@@ -90,4 +80,3 @@ pub last_node : {T V : Type 0} (rank : T → ℤ) (m : List (T × EndValue T (Op
 last_node rank m r f v low high h =
     let size : length m ≡ length (full (shown_nodes rank m)) = sym (length-map m (shown_node rank)) ∙ ap length h.full.held ∙ length-map (full (shown_nodes rank m)) held in
     node_at_index rank m (length m - 1) r f v low high h ∙ ap (λ n. option_map held (slice_get (full (shown_nodes rank m)) (n - 1))) size
-

@@ -16,3 +16,4 @@ pub mod Underway
 pub mod Scans
 pub mod InTurn
 pub mod Asked
+mod Words

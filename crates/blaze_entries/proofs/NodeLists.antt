@@ -1,24 +1,5 @@
 -- What the map's own edits and searches are on the entries that it shows.
-use Rattle.std.proofs.Common.{◌≡◌, ◌-◌, length, ℤ, pos, ◌+ℤ◌, ◌≤ℤ◌, Bool, true, false, cond, not, ◌&&◌, List, [], ◌∷◌, ◌++◌, Option, Some, None, refl, ◌∙◌, sym, subst, ap, arith}
-use Rattle.std.specs.Prelude.{int_lt, int_le, map}
-use Rattle.std.specs.Ordering.{int_cmp, int_eq, is_gt, is_le, is_lt, match_ordering, on}
-use Rattle.std.specs.declared.cmp.Ordering.{Ordering}
-use Rattle.std.specs.declared.cmp.Ordering.TheVariants.{Less, Equal, Greater}
-use Rattle.std.specs.List.{filter, last_or, slice_get}
-use Rattle.std.specs.Option.{option_map}
-use Rattle.std.specs.Map.{lookup, remove_entry, keys_of, values_of}
-use Rattle.std.specs.Map.Iter.{TakesFirst, TakesLast}
-use Rattle.std.specs.BTreeMap.{insert_entry, is_at}
-use Rattle.std.specs.BTreeMap.Range.{entries_between, entries_below, entries_from}
-use Rattle.std.specs.declared.ops.Bound.TheVariants.{Included, Excluded, Unbounded}
-use Rattle.std.proofs.lemmas.Int.{ints}
-use Rattle.std.proofs.lemmas.List.{length-map}
-use Rattle.std.proofs.lemmas.Option.{slice_get-map}
-use Rattle.blaze_entries.specs.Entries.{Entry, entry}
-use Rattle.blaze_entries.specs.Changed.{changed}
-use Rattle.blaze_entries.specs.declared.node.EndValue.{EndValue}
-use Rattle.blaze_entries.specs.Nodes.{shown_nodes, shown_node, shown_node_at}
-use Rattle.blaze_entries.specs.Starts.{StartsAscend, below, from, up_to, first_entry, last_below, start_at, with_entry, without, with_end, with_end_value, with_last_end}
+use Rattle.blaze_entries.proofs.Words.{◌≡◌, ◌-◌, length, ℤ, pos, ◌+ℤ◌, ◌≤ℤ◌, Bool, true, false, cond, not, ◌&&◌, List, [], ◌∷◌, ◌++◌, Option, Some, None, refl, ◌∙◌, sym, subst, ap, arith, int_lt, int_le, map, int_cmp, int_eq, is_gt, is_le, is_lt, match_ordering, on, Ordering, Less, Equal, Greater, filter, last_or, slice_get, option_map, lookup, remove_entry, keys_of, values_of, TakesFirst, TakesLast, insert_entry, is_at, entries_between, entries_below, entries_from, Included, Excluded, Unbounded, ints, length-map, slice_get-map, Entry, entry, changed, EndValue, shown_nodes, shown_node, shown_node_at, StartsAscend, below, from, up_to, first_entry, last_below, start_at, with_entry, without, with_end, with_end_value, with_last_end}
 use Rattle.blaze_entries.proofs.Ascending.{by_order}
 
 pub last_of_append : {X : Type 0} (o : Option X) (t : List X) (e : X) → last_or o (t ++ e ∷ []) ≡ Some e

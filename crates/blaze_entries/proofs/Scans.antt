@@ -1,15 +1,5 @@
 -- What a look at the last of the nodes that are left says, and what a walk has after it.
-use Rattle.std.proofs.Common.{◌≡◌, ℕ, ◌+◌, ◌<◌, ◌≤◌, length, ℤ, Bool, List, [], ◌∷◌, ◌++◌, Option, Some, None, refl, ◌∙◌, sym, ap, arith, length-append}
-use Rattle.std.specs.Prelude.{MatchOption, int_lt, int_le, not}
-use Rattle.std.specs.List.{filter}
-use Rattle.std.proofs.lemmas.List.{length-map}
-use Rattle.std.proofs.lemmas.List.Filters.{length-filter_both}
-use Rattle.blaze_entries.specs.Entries.{Entry, entry}
-use Rattle.blaze_entries.specs.Found.{IsFoundAt}
-use Rattle.blaze_entries.specs.Nodes.{held, full, shown_nodes, shown_node, AreFull}
-use Rattle.blaze_entries.specs.Starts.{below, from}
-use Rattle.blaze_entries.specs.declared.range_entry.RangeEntry.{RangeEntry}
-use Rattle.blaze_entries.specs.declared.node.EndValue.{EndValue}
+use Rattle.blaze_entries.proofs.Words.{◌≡◌, ℕ, ◌+◌, ◌<◌, ◌≤◌, length, ℤ, Bool, List, [], ◌∷◌, ◌++◌, Option, Some, None, refl, ◌∙◌, sym, ap, arith, length-append, MatchOption, int_lt, int_le, not, filter, length-map, length-filter_both, Entry, entry, IsFoundAt, held, full, shown_nodes, shown_node, AreFull, below, from, RangeEntry, EndValue}
 
 -- what was looked at with its value is the entry
 pub found_entry : {T V : Type 0} {rank : T → ℤ} {test : V → Bool} {f : RangeEntry T Bool} {w : V} {e : Entry V} → IsFoundAt rank test f w e → entry (rank f.start) (rank f.end) w ≡ e

@@ -1,16 +1,5 @@
 -- What was seen of a list's entries, with one more entry in front.
-use Rattle.std.proofs.Common.{◌≡◌, ℕ, ◌+◌, length, ℤ, pos, ◌+ℤ◌, ◌≤ℤ◌, ◌<ℤ◌, Bool, true, false, cond, List, [], ◌∷◌, ◌++◌, Option, Some, None, refl, ◌∙◌, sym, subst, ap, arith}
-use Rattle.std.specs.Prelude.{int_lt, int_le, ◌||◌}
-use Rattle.std.specs.Ordering.{int_eq}
-use Rattle.std.specs.List.{last_or}
-use Rattle.std.specs.Option.{option_map}
-use Rattle.std.proofs.lemmas.Int.{ints, by_lt_z}
-use Rattle.std.proofs.lemmas.List.Elements.{filter-append}
-use Rattle.blaze_int.proofs.Comparisons.{by_bool, lt_true, lt_false, le_true, le_false}
-use Rattle.blaze_entries.specs.Entries.{Entry}
-use Rattle.blaze_entries.specs.Found.{found_in}
-use Rattle.blaze_entries.specs.Starts.{StartsAscend, below, from, last_below, start_at}
-use Rattle.blaze_entries.specs.Walked.{RangesAscend, Seen, end_of, rest_of, inner, moved, IsSeenIn, unseen, seen, seen_end, seen_start, seen_within}
+use Rattle.blaze_entries.proofs.Words.{◌≡◌, ℕ, ◌+◌, length, ℤ, pos, ◌+ℤ◌, ◌≤ℤ◌, ◌<ℤ◌, Bool, true, false, cond, List, [], ◌∷◌, ◌++◌, Option, Some, None, refl, ◌∙◌, sym, subst, ap, arith, int_lt, int_le, ◌||◌, int_eq, last_or, option_map, ints, by_lt_z, filter-append, by_bool, lt_true, lt_false, le_true, le_false, Entry, found_in, StartsAscend, below, from, last_below, start_at, RangesAscend, Seen, end_of, rest_of, inner, moved, IsSeenIn, unseen, seen, seen_end, seen_start, seen_within}
 use Rattle.blaze_entries.proofs.Ascending.{by_order, start_lower, start_none}
 use Rattle.blaze_entries.proofs.Halves.{StartsBelow, below_none, below_skips, below_takes, from_takes, from_skips}
 

@@ -1,14 +1,5 @@
 -- One step of an iterator over full nodes.
-use Rattle.std.proofs.Common.{◌≡◌, ◌+◌, ◌<◌, length, ℤ, pos, ◌+ℤ◌, List, [], ◌∷◌, ◌++◌, Option, Some, None, refl, ◌∙◌, sym, subst, ap, arith, length-append}
-use Rattle.std.specs.Prelude.{map, IsSome, IfSome, IfNone, MatchOption, ◌↔◌}
-use Rattle.std.specs.Iterator.{MakesProgress, item_count}
-use Rattle.std.specs.Map.Iter.{TakesFirst, TakesLast}
-use Rattle.std.specs.Option.{option_map}
-use Rattle.std.proofs.lemmas.Int.{ints}
-use Rattle.blaze_entries.specs.Entries.{Entry}
-use Rattle.blaze_entries.specs.Nodes.{held, full, shown_node, shown_nodes, entries_of, AreFull, AreHeld}
-use Rattle.blaze_entries.specs.Starts.{StartsAscend}
-use Rattle.blaze_entries.specs.declared.node.EndValue.{EndValue}
+use Rattle.blaze_entries.proofs.Words.{◌≡◌, ◌+◌, ◌<◌, length, ℤ, pos, ◌+ℤ◌, List, [], ◌∷◌, ◌++◌, Option, Some, None, refl, ◌∙◌, sym, subst, ap, arith, length-append, map, IsSome, IfSome, IfNone, MatchOption, ◌↔◌, MakesProgress, item_count, TakesFirst, TakesLast, option_map, ints, Entry, held, full, shown_node, shown_nodes, entries_of, AreFull, AreHeld, StartsAscend, EndValue}
 use Rattle.blaze_entries.proofs.Ascending.{start_front, start_lower}
 use Rattle.blaze_entries.proofs.Held.{full-held}
 use Rattle.blaze_entries.proofs.Lent.{no_value}

@@ -1,18 +1,5 @@
 -- A walk down the entries to a range, underway: what it has found of the entries that it has seen.
-use Rattle.std.proofs.Common.{◌≡◌, ℕ, ◌+◌, ◌≤◌, length, ℤ, pos, ◌+ℤ◌, ◌-ℤ◌, ◌≤ℤ◌, ◌<ℤ◌, Bool, true, false, cond, List, [], ◌∷◌, ◌++◌, Option, Some, None, refl, ◌∙◌, sym, subst, ap, arith, append_assoc, length-append}
-use Rattle.std.specs.Prelude.{int_lt, int_le, IfSome, IsSomeAnd}
-use Rattle.std.specs.Int.{int_max, int_min}
-use Rattle.std.specs.List.{last_or}
-use Rattle.std.specs.Option.{option_map}
-use Rattle.std.proofs.lemmas.Int.{ints, by_lt_z}
-use Rattle.std.proofs.lemmas.List.Elements.{filter-append}
-use Rattle.blaze_int.proofs.Comparisons.{le_true, le_false, lt_holds, lt_fails}
-use Rattle.blaze_entries.specs.Entries.{Entry, at}
-use Rattle.blaze_entries.specs.Found.{found_in, shown_found}
-use Rattle.blaze_entries.specs.Overlap.{shared, overlap, covered}
-use Rattle.blaze_entries.specs.Starts.{StartsAscend, below, from, last_below}
-use Rattle.blaze_entries.specs.Walked.{RangesAscend, Seen, IsSeenIn, unseen, seen, seen_value, IsClonedIf}
-use Rattle.blaze_entries.specs.declared.range_entry.RangeEntry.{RangeEntry}
+use Rattle.blaze_entries.proofs.Words.{◌≡◌, ℕ, ◌+◌, ◌≤◌, length, ℤ, pos, ◌+ℤ◌, ◌-ℤ◌, ◌≤ℤ◌, ◌<ℤ◌, Bool, true, false, cond, List, [], ◌∷◌, ◌++◌, Option, Some, None, refl, ◌∙◌, sym, subst, ap, arith, append_assoc, length-append, int_lt, int_le, IfSome, IsSomeAnd, int_max, int_min, last_or, option_map, ints, by_lt_z, filter-append, le_true, le_false, lt_holds, lt_fails, Entry, at, found_in, shown_found, shared, overlap, covered, StartsAscend, below, from, last_below, RangesAscend, Seen, IsSeenIn, unseen, seen, seen_value, IsClonedIf, RangeEntry}
 use Rattle.blaze_entries.proofs.Ascending.{start_lower}
 use Rattle.blaze_entries.proofs.Halves.{StartsBelow, below_none, below_takes, from_takes, starts_from, starts_below, halves}
 use Rattle.blaze_entries.proofs.Scans.{length-below, length-from}

@@ -1,7 +1,5 @@
 -- What contracts see of counted entries after an edit.
-use Rattle.std.proofs.Common.{◌≡◌, ℕ, ◌+◌, List, ap, subst, ◌∙◌}
-use Rattle.blaze_entries.specs.Entries.{Entry}
-use Rattle.blaze_entries.specs.Counted.{CountedEntries, uncounted}
+use Rattle.blaze_entries.proofs.Words.{◌≡◌, ℕ, ◌+◌, List, ap, subst, ◌∙◌, Entry, CountedEntries, uncounted}
 
 abbrev pub counted : {V : Type 0} → List (Entry V) → ℕ → ℕ → ℕ → CountedEntries V
 counted es a b c = record { entries = es; looks = a; put_in = b; taken_out = c }

@@ -6,3 +6,4 @@ pub mod Pairs
 pub mod Walks
 pub mod Sweeping
 pub mod Fills
+mod Words

@@ -1,10 +1,5 @@
 -- A list of clones is the same as its source, position by position.
-use Rattle.std.proofs.Common.{◌∙◌, ℕ, Bool, List, [], ◌∷◌, ◌++◌, ℤ, sym}
-use Rattle.std.specs.Cmp.{IsEquivalence}
-use Rattle.blaze_entries.specs.Cloned.{AreCloned}
-use Rattle.blaze_table.specs.Entries.{Entry, SameEntries, shown_list}
-use Rattle.blaze_table.specs.Painted.{ClonesAreAlike}
-use Rattle.blaze_table.specs.Table.{IsTable}
+use Rattle.blaze_table.proofs.Words.{◌∙◌, ℕ, Bool, List, [], ◌∷◌, ◌++◌, ℤ, sym, IsEquivalence, AreCloned, Entry, SameEntries, shown_list, ClonesAreAlike, IsTable}
 use Rattle.blaze_table.proofs.Paints.Painted.{canonical_as}
 use Rattle.blaze_table.proofs.Canonical.Counted.{are_keys_as, same_keys_in}
 

@@ -1,17 +1,5 @@
 -- How many keys the pieces of a list have.
-use Rattle.std.proofs.Common.{◌≡◌, ℕ, ℤ, pos, ◌+◌, ◌≤◌, ◌+ℤ◌, ◌-ℤ◌, ◌≤ℤ◌, Bool, cond, List, [], ◌∷◌, refl, ◌∙◌, sym, ap, subst, arith}
-use Rattle.std.specs.Cmp.{IsEquivalence}
-use Rattle.std.specs.Int.{int_max, int_min}
-use Rattle.std.specs.Prelude.{int_le}
-use Rattle.std.proofs.lemmas.Int.{ints, by_lt_z}
-use Rattle.blaze_int.proofs.Comparisons.{by_bool, lt_true, lt_false, le_true, max_right}
-use Rattle.blaze_entries.specs.Overlap.{shared}
-use Rattle.blaze_entries.proofs.Underway.{overlap_none, overlap_over}
-use Rattle.blaze_table.specs.Entries.{Entry, SameEntries, entry}
-use Rattle.blaze_table.specs.Canonical.{IsApart, IsCanonical, AreKeys}
-use Rattle.blaze_table.specs.Count.{keys_in}
-use Rattle.blaze_table.specs.Splice.{before, after, glue, IsPaintOf, overlap, covered}
-use Rattle.blaze_table.specs.Table.{IsTable}
+use Rattle.blaze_table.proofs.Words.{◌≡◌, ℕ, ℤ, pos, ◌+◌, ◌≤◌, ◌+ℤ◌, ◌-ℤ◌, ◌≤ℤ◌, Bool, cond, List, [], ◌∷◌, refl, ◌∙◌, sym, ap, subst, arith, IsEquivalence, int_max, int_min, int_le, ints, by_lt_z, by_bool, lt_true, lt_false, le_true, max_right, shared, overlap_none, overlap_over, Entry, SameEntries, entry, IsApart, IsCanonical, AreKeys, keys_in, before, after, glue, IsPaintOf, overlap, covered, IsTable}
 use Rattle.blaze_table.proofs.Canonical.Lookup.{IsAbove, IsAbove-from_apart, above_by}
 use Rattle.blaze_table.proofs.Paints.Splices.{by_before, by_after, by_join, canonical_paint}
 

@@ -1,12 +1,5 @@
 -- A canonical list has the fewest entries.
-use Rattle.blaze_int.proofs.Options.{none_is_not}
-use Rattle.std.proofs.Common.{◌≡◌, ℕ, ◌+◌, ◌≤◌, ℤ, pos, ◌+ℤ◌, ◌-ℤ◌, ◌≤ℤ◌, ◌<ℤ◌, Bool, cond, List, [], ◌∷◌, length, Option, Some, None, refl, sym, subst, arith, inl, inr}
-use Rattle.std.specs.Prelude.{IsSome, int_lt}
-use Rattle.std.proofs.lemmas.Int.{ints, by_lt_z}
-use Rattle.std.specs.Cmp.{IsEquivalence}
-use Rattle.blaze_entries.proofs.Alike.{same_along, same_trans, some_of_same}
-use Rattle.blaze_table.specs.Entries.{Entry, at, SameOption, SameContent}
-use Rattle.blaze_table.specs.Canonical.{IsCanonical, IsRunEnd, HasEnd, IsDisjoint}
+use Rattle.blaze_table.proofs.Words.{none_is_not, ◌≡◌, ℕ, ◌+◌, ◌≤◌, ℤ, pos, ◌+ℤ◌, ◌-ℤ◌, ◌≤ℤ◌, ◌<ℤ◌, Bool, cond, List, [], ◌∷◌, length, Option, Some, None, refl, sym, subst, arith, inl, inr, IsSome, int_lt, ints, by_lt_z, IsEquivalence, same_along, same_trans, some_of_same, Entry, at, SameOption, SameContent, IsCanonical, IsRunEnd, HasEnd, IsDisjoint}
 use Rattle.blaze_table.proofs.Canonical.Lookup.{IsAbove, IsAbove-from_apart, at_in, at_under, at_over, by_place, holds_in, at_clear}
 use Rattle.blaze_table.proofs.Canonical.Unique.{back}
 use Rattle.blaze_table.proofs.Canonical.Runs.{ends_are, end_along}

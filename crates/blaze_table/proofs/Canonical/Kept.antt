@@ -1,10 +1,5 @@
 -- Some entries of a canonical list are canonical.
-use Rattle.std.proofs.Common.{ℤ, ◌<ℤ◌, Bool, true, false, List, [], ◌∷◌, sym, subst, arith}
-use Rattle.std.specs.List.{items_where_true}
-use Rattle.std.specs.List.Retain.{IsFiltered}
-use Rattle.std.proofs.lemmas.Int.{ints}
-use Rattle.blaze_table.specs.Entries.{Entry}
-use Rattle.blaze_table.specs.Canonical.{IsApart, IsCanonical, AreKeys}
+use Rattle.blaze_table.proofs.Words.{ℤ, ◌<ℤ◌, Bool, true, false, List, [], ◌∷◌, sym, subst, arith, items_where_true, IsFiltered, ints, Entry, IsApart, IsCanonical, AreKeys}
 
 module _ {V : Type 0} (eq : V → V → Bool) where
   apart_far : (e f : Entry V) (bs : List Bool) (fs : List (Entry V)) → e.hi <ℤ f.lo → IsCanonical eq (f ∷ fs) → IsApart eq e (items_where_true bs fs)

@@ -1,13 +1,5 @@
 -- The laws in the words of the content.
-use Rattle.blaze_int.specs.Unsigned.{nat_of}
-use Rattle.std.proofs.Common.{◌≡◌, ℤ, pos, negsuc, ◌+ℤ◌, ◌-ℤ◌, ◌≤ℤ◌, Bool, List, [], ◌∷◌, refl, sym, arith}
-use Rattle.std.proofs.lemmas.Int.{ints}
-use Rattle.std.specs.Cmp.{IsEquivalence}
-use Rattle.blaze_table.specs.Entries.{Entry, at}
-use Rattle.blaze_table.specs.Canonical.{IsCanonical, AreKeys}
-use Rattle.blaze_table.specs.Count.{keys_in, mapped_keys}
-use Rattle.blaze_table.specs.Laws.{CanonicalIsUnique, CanonicalIsFewest, LengthsAreMapped}
-use Rattle.blaze_table.specs.Splice.{IsBelow}
+use Rattle.blaze_table.proofs.Words.{nat_of, ◌≡◌, ℤ, pos, negsuc, ◌+ℤ◌, ◌-ℤ◌, ◌≤ℤ◌, Bool, List, [], ◌∷◌, refl, sym, arith, ints, IsEquivalence, Entry, at, IsCanonical, AreKeys, keys_in, mapped_keys, CanonicalIsUnique, CanonicalIsFewest, LengthsAreMapped, IsBelow}
 use Rattle.blaze_table.proofs.Canonical.Lookup.{above_low}
 use Rattle.blaze_table.proofs.Canonical.Unique.{unique}
 use Rattle.blaze_table.proofs.Canonical.Runs.{canonical}

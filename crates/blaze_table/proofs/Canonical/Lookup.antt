@@ -1,9 +1,5 @@
 -- What a list of entries has at a key.
-use Rattle.std.proofs.Common.{◌≡◌, ℤ, pos, ◌-ℤ◌, ◌≤ℤ◌, ◌<ℤ◌, Bool, true, false, List, [], ◌∷◌, ◌++◌, Some, None, refl, ◌∙◌, arith, cond, option_map}
-use Rattle.std.specs.Option.{option_or}
-use Rattle.std.proofs.lemmas.Int.{ints, by_lt_z}
-use Rattle.blaze_table.specs.Entries.{Entry, holds, at, entry_at}
-use Rattle.blaze_table.specs.Canonical.{IsApart, IsCanonical, IsClear, AreKeys}
+use Rattle.blaze_table.proofs.Words.{◌≡◌, ℤ, pos, ◌-ℤ◌, ◌≤ℤ◌, ◌<ℤ◌, Bool, true, false, List, [], ◌∷◌, ◌++◌, Some, None, refl, ◌∙◌, arith, cond, option_map, option_or, ints, by_lt_z, Entry, holds, at, entry_at, IsApart, IsCanonical, IsClear, AreKeys}
 
 -- the first range begins above b
 abbrev pub IsAbove : {V : Type 0} → ℤ → List (Entry V) → Type 0

@@ -1,11 +1,6 @@
 -- The ranges of a canonical list have as many keys as its content has values.
-use Rattle.std.proofs.Common.{◌≡◌, ℕ, zero, suc, ℤ, pos, ◌+ℤ◌, ◌-ℤ◌, ◌≤ℤ◌, Bool, cond, List, [], ◌∷◌, Option, refl, ◌∙◌, sym, subst, ap, arith}
-use Rattle.std.specs.Prelude.{is_some}
-use Rattle.std.proofs.lemmas.Int.{ints, by_lt_z}
-use Rattle.blaze_table.specs.Entries.{Entry, at, entry}
-use Rattle.blaze_table.specs.Canonical.{IsCanonical}
-use Rattle.blaze_table.specs.Count.{keys_in, mapped}
-use Rattle.blaze_table.specs.Splice.{IsBelow}
+use Rattle.blaze_table.proofs.Words.{◌≡◌, ℕ, zero, suc, ℤ, pos, ◌+ℤ◌, ◌-ℤ◌, ◌≤ℤ◌, Bool, cond, List, [], ◌∷◌, Option, refl, ◌∙◌, sym, subst, ap, arith, is_some, ints, by_lt_z, Entry, at, entry, IsCanonical, keys_in, IsBelow}
+use Rattle.blaze_table.specs.Count.{mapped}
 use Rattle.blaze_table.proofs.Canonical.Lookup.{IsAbove, IsAbove-from_apart, at_in, at_over, at_before, above_by}
 
 abbrev pub one_if : {V : Type 0} → Option V → ℕ

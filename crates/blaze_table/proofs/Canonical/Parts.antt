@@ -1,8 +1,5 @@
 -- Parts of a range map's list are range maps' lists.
-use Rattle.std.proofs.Common.{ℤ, Bool, List, [], ◌∷◌, ◌++◌}
-use Rattle.std.specs.Cmp.{IsEquivalence}
-use Rattle.blaze_table.specs.Entries.{Entry}
-use Rattle.blaze_table.specs.Canonical.{IsCanonical, AreKeys, IsRangeMap}
+use Rattle.blaze_table.proofs.Words.{ℤ, Bool, List, [], ◌∷◌, ◌++◌, IsEquivalence, Entry, IsCanonical, AreKeys, IsRangeMap}
 use Rattle.blaze_table.proofs.Canonical.Runs.{canonical, one_per_run}
 
 canonical_front : {V : Type 0} (eq : V → V → Bool) (es : List (Entry V)) (e : Entry V) → IsCanonical eq (es ++ e ∷ []) → IsCanonical eq es

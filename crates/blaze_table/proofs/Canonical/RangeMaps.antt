@@ -1,14 +1,5 @@
 -- From what a table keeps to what its public clauses say.
-use Rattle.std.proofs.Common.{◌≡◌, ℕ, ℤ, pos, ◌+ℤ◌, ◌-ℤ◌, ◌≤ℤ◌, Bool, List, [], ◌∷◌, Option, arith}
-use Rattle.std.proofs.lemmas.Int.{ints}
-use Rattle.std.specs.Cmp.{IsEquivalence}
-use Rattle.blaze_entries.specs.Starts.{StartsAscend}
-use Rattle.blaze_table.specs.Entries.{Entry}
-use Rattle.blaze_table.specs.Canonical.{IsCanonical, AreKeys, IsRangeMap}
-use Rattle.blaze_table.specs.Painted.{IsInside, IsPainted}
-use Rattle.blaze_table.specs.Cut.{IsCut, IsSplit}
-use Rattle.blaze_table.specs.Splice.{IsTablePainted, IsKeyCut, IsListSplit}
-use Rattle.blaze_table.specs.Table.{IsTable}
+use Rattle.blaze_table.proofs.Words.{◌≡◌, ℕ, ℤ, pos, ◌+ℤ◌, ◌-ℤ◌, ◌≤ℤ◌, Bool, List, [], ◌∷◌, Option, arith, ints, IsEquivalence, StartsAscend, Entry, IsCanonical, AreKeys, IsRangeMap, IsInside, IsPainted, IsCut, IsSplit, IsTablePainted, IsKeyCut, IsListSplit, IsTable}
 use Rattle.blaze_table.proofs.Canonical.Lookup.{IsAbove, IsAbove-from_apart, above_by}
 use Rattle.blaze_table.proofs.Canonical.Runs.{one_per_run}
 use Rattle.blaze_table.proofs.Paints.Kept.{kept_alone}

@@ -1,12 +1,5 @@
 -- The entries of a canonical list are the runs of what it has at each key.
-use Rattle.blaze_int.proofs.Options.{none_is_not}
-use Rattle.std.proofs.Common.{◌≡◌, ℤ, pos, ◌+ℤ◌, ◌-ℤ◌, ◌≤ℤ◌, ◌<ℤ◌, Bool, true, false, List, [], ◌∷◌, Option, Some, None, refl, ◌∙◌, sym, subst, ap, arith, inl, inr}
-use Rattle.std.specs.Prelude.{◌⊎◌, ◌↔◌, IsSome}
-use Rattle.std.proofs.lemmas.Int.{ints, by_lt_z}
-use Rattle.std.specs.Cmp.{IsEquivalence}
-use Rattle.blaze_entries.proofs.Alike.{same_along}
-use Rattle.blaze_table.specs.Entries.{Entry, holds, at, SameOption}
-use Rattle.blaze_table.specs.Canonical.{IsApart, IsCanonical, IsRunStart, IsRunEnd, HasStart, HasEnd, IsClear, IsDisjoint, IsAscending, IsOnePerRun}
+use Rattle.blaze_table.proofs.Words.{none_is_not, ◌≡◌, ℤ, pos, ◌+ℤ◌, ◌-ℤ◌, ◌≤ℤ◌, ◌<ℤ◌, Bool, true, false, List, [], ◌∷◌, Option, Some, None, refl, ◌∙◌, sym, subst, ap, arith, inl, inr, ◌⊎◌, ◌↔◌, IsSome, ints, by_lt_z, IsEquivalence, same_along, Entry, holds, at, SameOption, IsApart, IsCanonical, IsRunStart, IsRunEnd, HasStart, HasEnd, IsClear, IsDisjoint, IsAscending, IsOnePerRun}
 use Rattle.blaze_table.proofs.Canonical.Lookup.{IsAbove, IsAbove-from_apart, at_in, at_over, by_place, at_before, holds_in, holds_under, holds_over}
 use Rattle.blaze_table.proofs.Canonical.Unique.{breaks}
 

@@ -1,11 +1,5 @@
 -- When two lists of entries are equal.
-use Rattle.std.proofs.Common.{◌≡◌, ℤ, Bool, true, ◌&&◌, List, [], ◌∷◌, refl, ◌∙◌, sym}
-use Rattle.std.specs.Bool.{Decides}
-use Rattle.std.specs.Cmp.{IsEquivalence, signed_Decides, first_so, second_so}
-use Rattle.std.specs.Ordering.{int_eq}
-use Rattle.blaze_table.specs.Entries.{Entry, SameContent, SameEntries}
-use Rattle.blaze_table.specs.Canonical.{IsRangeMap}
-use Rattle.blaze_table.specs.Equality.{same_entry, same_entries}
+use Rattle.blaze_table.proofs.Words.{◌≡◌, ℤ, Bool, true, ◌&&◌, List, [], ◌∷◌, refl, ◌∙◌, sym, Decides, IsEquivalence, signed_Decides, first_so, second_so, int_eq, Entry, SameContent, SameEntries, IsRangeMap, same_entry, same_entries}
 use Rattle.blaze_table.proofs.Canonical.ListLaws.{canonical_is_unique}
 use Rattle.blaze_table.proofs.Paints.Painted.{content_as}
 

@@ -1,12 +1,5 @@
 -- A canonical list is the only shortest.
-use Rattle.std.proofs.Common.{◌≡◌, ◌+◌, ◌≤◌, ℤ, pos, ◌+ℤ◌, ◌<ℤ◌, Bool, true, false, cond, List, [], ◌∷◌, length, Option, Some, None, refl, ◌∙◌, sym, ⊎_elim, inl, inr, arith}
-use Rattle.std.specs.Prelude.{◌⊎◌}
-use Rattle.std.proofs.lemmas.Int.{ints, by_lt_z}
-use Rattle.std.specs.Cmp.{IsEquivalence}
-use Rattle.blaze_entries.proofs.Alike.{same_along, same_itself, same_trans, none_of_same}
-use Rattle.blaze_table.specs.Entries.{Entry, entry, holds, at, SameOption, SameContent}
-use Rattle.blaze_table.specs.Canonical.{IsCanonical, IsClear, IsDisjoint, IsAscending}
-use Rattle.blaze_table.specs.Laws.{CanonicalIsShortest}
+use Rattle.blaze_table.proofs.Words.{◌≡◌, ◌+◌, ◌≤◌, ℤ, pos, ◌+ℤ◌, ◌<ℤ◌, Bool, true, false, cond, List, [], ◌∷◌, length, Option, Some, None, refl, ◌∙◌, sym, ⊎_elim, inl, inr, arith, ◌⊎◌, ints, by_lt_z, IsEquivalence, same_along, same_itself, same_trans, none_of_same, Entry, entry, holds, at, SameOption, SameContent, IsCanonical, IsClear, IsDisjoint, IsAscending, CanonicalIsShortest}
 use Rattle.blaze_table.proofs.Canonical.Fewest.{fewest}
 use Rattle.blaze_table.proofs.Canonical.Lookup.{at_in, at_under, at_over, by_place, holds_in, at_clear}
 use Rattle.blaze_table.proofs.Canonical.Runs.{canonical, in_order}

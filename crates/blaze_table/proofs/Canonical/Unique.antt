@@ -1,10 +1,5 @@
 -- Two canonical lists with the same content are the same list.
-use Rattle.std.proofs.Common.{◌≡◌, pos, ◌+ℤ◌, ◌-ℤ◌, ◌≤ℤ◌, Bool, true, List, [], ◌∷◌, Some, None, refl, sym, arith}
-use Rattle.std.proofs.lemmas.Int.{ints, by_lt_z}
-use Rattle.std.specs.Cmp.{IsEquivalence}
-use Rattle.blaze_entries.proofs.Alike.{same_along, same_back}
-use Rattle.blaze_table.specs.Entries.{Entry, at, SameOption, SameContent, SameEntries}
-use Rattle.blaze_table.specs.Canonical.{IsCanonical}
+use Rattle.blaze_table.proofs.Words.{◌≡◌, pos, ◌+ℤ◌, ◌-ℤ◌, ◌≤ℤ◌, Bool, true, List, [], ◌∷◌, Some, None, refl, sym, arith, ints, by_lt_z, IsEquivalence, same_along, same_back, Entry, at, SameOption, SameContent, SameEntries, IsCanonical}
 use Rattle.blaze_table.proofs.Canonical.Lookup.{IsAbove-from_apart, at_in, at_over, at_before}
 
 module _ {V : Type 0} (eq : V → V → Bool) where

@@ -1,21 +1,5 @@
 -- The last key taken out of the last entry, as a look at that entry has answered it.
-use Rattle.std.proofs.Common.{◌≡◌, ◌-◌, length, ℤ, pos, ◌+ℤ◌, ◌≤ℤ◌, Bool, List, [], ◌∷◌, ◌++◌, Option, Some, None, refl, ◌∙◌, sym, subst, ap, arith, length-append}
-use Rattle.std.specs.Cmp.{IsEquivalence}
-use Rattle.std.specs.List.{slice_get}
-use Rattle.std.specs.Option.{option_map}
-use Rattle.std.specs.Prelude.{IsSomeAnd}
-use Rattle.std.proofs.lemmas.Int.{ints}
-use Rattle.std.proofs.lemmas.List.{append-nil}
-use Rattle.blaze_entries.specs.Cloned.{IsRangeCloned, IsManyCloned}
-use Rattle.blaze_entries.specs.Found.{range_in}
-use Rattle.blaze_entries.specs.Starts.{StartsAscend, holder_of, start_at, without, with_end, with_last_end, IsLastRemoved}
-use Rattle.blaze_entries.specs.declared.range_entry.RangeEntry.{RangeEntry}
-use Rattle.blaze_entries.proofs.Ascending.{by_order}
-use Rattle.blaze_entries.proofs.Halves.{StartsBelow}
-use Rattle.blaze_table.specs.Canonical.{IsCanonical}
-use Rattle.blaze_table.specs.Entries.{Entry}
-use Rattle.blaze_table.specs.Painted.{ClonesAreAlike}
-use Rattle.blaze_table.specs.Splice.{IsCutOf, IsKeyTaken}
+use Rattle.blaze_table.proofs.Words.{◌≡◌, ◌-◌, length, ℤ, pos, ◌+ℤ◌, ◌≤ℤ◌, Bool, List, [], ◌∷◌, ◌++◌, Option, Some, None, refl, ◌∙◌, sym, subst, ap, arith, length-append, IsEquivalence, slice_get, option_map, IsSomeAnd, ints, append-nil, IsRangeCloned, IsManyCloned, range_in, StartsAscend, holder_of, start_at, without, with_end, with_last_end, IsLastRemoved, RangeEntry, by_order, StartsBelow, IsCanonical, Entry, ClonesAreAlike, IsCutOf, IsKeyTaken}
 use Rattle.blaze_table.proofs.Cuts.CutEdits.{HasKey, has_key, end_taken, value_removed, whole_cut}
 use Rattle.blaze_table.proofs.Cuts.Ends.{last_holder, end_held}
 use Rattle.blaze_table.proofs.Cuts.Splits.{canonical_part}

@@ -1,22 +1,5 @@
 -- A key taken out of the entry that has it: the edits, what they have to know of that entry, and what the cut answers.
-use Rattle.std.proofs.Common.{◌≡◌, ℕ, Bool, ℤ, pos, ◌+ℤ◌, ◌-ℤ◌, ◌≤ℤ◌, ◌<ℤ◌, true, cond, List, [], ◌∷◌, ◌++◌, Option, Some, None, Result, Ok, Err, OnErr, refl, ◌∙◌, sym, subst, ap, arith}
-use Rattle.std.specs.Cmp.{IsEquivalence}
-use Rattle.std.specs.Option.{option_map}
-use Rattle.std.specs.Prelude.{IsSome, IsSomeAnd}
-use Rattle.std.proofs.lemmas.Int.{ints, by_lt_z}
-use Rattle.std.proofs.lemmas.List.{append_assoc}
-use Rattle.blaze_int.proofs.Comparisons.{lt_true, lt_false}
-use Rattle.blaze_entries.specs.Cloned.{IsManyCloned}
-use Rattle.blaze_entries.specs.Found.{range_in}
-use Rattle.blaze_entries.specs.Starts.{StartsAscend, last_below, reaching, holder_of, start_at, with_entry, without, with_end, IsStartMoved}
-use Rattle.blaze_entries.proofs.Alike.{one_value, same_along}
-use Rattle.blaze_entries.proofs.Halves.{more_below}
-use Rattle.blaze_table.specs.Canonical.{IsCanonical}
-use Rattle.blaze_table.specs.Cut.{IsAmongOthers}
-use Rattle.blaze_table.specs.Entries.{Entry, entry, at, entry_at, SameEntries, SameOption}
-use Rattle.blaze_table.specs.Painted.{ClonesAreAlike}
-use Rattle.blaze_table.specs.Splice.{before, after, IsBelow, IsCutOf, IsKeyTaken, IsKeyCut, covered}
-use Rattle.blaze_table.specs.Table.{IsTable}
+use Rattle.blaze_table.proofs.Words.{◌≡◌, ℕ, Bool, ℤ, pos, ◌+ℤ◌, ◌-ℤ◌, ◌≤ℤ◌, ◌<ℤ◌, true, cond, List, [], ◌∷◌, ◌++◌, Option, Some, None, Result, Ok, Err, OnErr, refl, ◌∙◌, sym, subst, ap, arith, IsEquivalence, option_map, IsSome, IsSomeAnd, ints, by_lt_z, append_assoc, lt_true, lt_false, IsManyCloned, range_in, StartsAscend, last_below, reaching, holder_of, start_at, with_entry, without, with_end, IsStartMoved, one_value, same_along, more_below, IsCanonical, IsAmongOthers, Entry, entry, at, entry_at, SameEntries, SameOption, ClonesAreAlike, before, after, IsBelow, IsCutOf, IsKeyTaken, IsKeyCut, covered, IsTable}
 use Rattle.blaze_table.proofs.Canonical.Counted.{overlap_whole}
 use Rattle.blaze_table.proofs.Canonical.Lookup.{IsAbove, at_over, at_before, entry_in, entry_over}
 use Rattle.blaze_table.proofs.Cuts.Cutting.{after_whole, cut_content, cut_table, at_cut, covered_past, covered_fits}

@@ -1,27 +1,11 @@
 -- A list without a range of keys, from its pieces.
-use Rattle.std.specs.Option.{option_or}
-use Rattle.std.proofs.Common.{◌≡◌, ◌⊎◌, inl, inr, ℕ, ℤ, pos, ◌+ℤ◌, ◌≤ℤ◌, ◌<ℤ◌, Bool, false, cond, List, [], ◌∷◌, ◌++◌, Option, Some, None, refl, ◌∙◌, sym, ap, subst, arith}
-use Rattle.std.specs.Cmp.{IsEquivalence}
-use Rattle.std.specs.List.{Contains}
-use Rattle.std.proofs.lemmas.List.Elements.{Contains-append_left}
-use Rattle.std.specs.Ordering.{int_eq}
-use Rattle.std.proofs.lemmas.Int.{ints, by_lt_z}
-use Rattle.std.proofs.lemmas.Bool.{and_left}
-use Rattle.blaze_int.proofs.Comparisons.{eq_true, le_true, le_false}
-use Rattle.blaze_entries.proofs.Alike.{same_along, same_trans, same_or_right}
-use Rattle.blaze_table.specs.Entries.{Entry, at, SameOption, entry}
-use Rattle.blaze_table.specs.Canonical.{IsCanonical, AreKeys}
-use Rattle.blaze_table.specs.Count.{keys_in}
-use Rattle.blaze_table.specs.Splice.{before, after, glue, IsBelow, IsRangeCutOf, IsCutOf, IsTableCut, overlap, covered}
-use Rattle.blaze_table.specs.Cut.{cut_at, cut_range_at, IsRangeCut}
-use Rattle.blaze_table.specs.Table.{IsTable}
+use Rattle.blaze_table.proofs.Words.{option_or, ◌≡◌, ◌⊎◌, inl, inr, ℕ, ℤ, pos, ◌+ℤ◌, ◌≤ℤ◌, ◌<ℤ◌, Bool, false, cond, List, [], ◌∷◌, ◌++◌, Option, Some, None, refl, ◌∙◌, sym, ap, subst, arith, IsEquivalence, Contains, Contains-append_left, int_eq, ints, by_lt_z, and_left, eq_true, le_true, le_false, same_along, same_trans, same_or_right, Entry, at, SameOption, entry, IsCanonical, AreKeys, keys_in, before, after, glue, IsBelow, IsRangeCutOf, IsCutOf, IsTableCut, overlap, covered, cut_at, cut_range_at, IsRangeCut, IsTable, overlap_none}
 use Rattle.blaze_table.proofs.Canonical.Lookup.{IsAbove, above_rest, at_in, at_over, at_before, above_by}
 use Rattle.blaze_table.proofs.Canonical.RangeMaps.{range_map}
 use Rattle.blaze_table.proofs.Canonical.Unique.{back}
 use Rattle.blaze_table.proofs.Paints.Kept.{in_before}
 use Rattle.blaze_table.proofs.Paints.Splices.{by_before, after_skips, by_after, canonical_glue, canonical_before, canonical_after, at_glue, above_after, below_before, at-before_under, at-before_over, at-after_over, below_more}
 use Rattle.blaze_table.proofs.Paints.Painted.{entries_themselves, canonical_as, above_as, content_as}
-use Rattle.blaze_entries.proofs.Underway.{overlap_none}
 use Rattle.blaze_table.proofs.Canonical.Counted.{keys_apart, covered_none, overlap_most, keys_glue, are_keys_glue, are_keys_before, are_keys_after, are_keys_as, same_keys_in}
 
 module _ {V : Type 0} (eq : V → V → Bool) where

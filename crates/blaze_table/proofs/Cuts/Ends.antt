@@ -1,18 +1,5 @@
 -- The first and the last key taken out: the entry that has it is the first, or the last.
-use Rattle.std.proofs.Common.{◌≡◌, ◌-◌, ℤ, pos, ◌+ℤ◌, ◌≤ℤ◌, ◌<ℤ◌, Bool, cond, List, [], ◌∷◌, length, Option, Some, None, refl, ◌∙◌, sym, subst, ap, arith}
-use Rattle.std.specs.Cmp.{IsEquivalence}
-use Rattle.std.specs.List.{slice_get, last_or}
-use Rattle.std.specs.Prelude.{IsSome, IfSome, IsSomeAnd}
-use Rattle.std.proofs.lemmas.Int.{ints}
-use Rattle.blaze_int.proofs.Comparisons.{lt_false}
-use Rattle.blaze_entries.specs.Cloned.{IsRangeCloned, IsManyCloned}
-use Rattle.blaze_entries.specs.Found.{range_in}
-use Rattle.blaze_entries.specs.Starts.{StartsAscend, below, last_below, reaching, holder_of}
-use Rattle.blaze_entries.specs.declared.range_entry.RangeEntry.{RangeEntry}
-use Rattle.blaze_entries.proofs.Halves.{below_takes, below_none}
-use Rattle.blaze_table.specs.Canonical.{IsCanonical}
-use Rattle.blaze_table.specs.Cut.{IsAmongOthers}
-use Rattle.blaze_table.specs.Entries.{Entry}
+use Rattle.blaze_table.proofs.Words.{◌≡◌, ◌-◌, ℤ, pos, ◌+ℤ◌, ◌≤ℤ◌, ◌<ℤ◌, Bool, cond, List, [], ◌∷◌, length, Option, Some, None, refl, ◌∙◌, sym, subst, ap, arith, IsEquivalence, slice_get, last_or, IsSome, IfSome, IsSomeAnd, ints, lt_false, IsRangeCloned, IsManyCloned, range_in, StartsAscend, below, last_below, reaching, holder_of, RangeEntry, below_takes, below_none, IsCanonical, IsAmongOthers, Entry}
 use Rattle.blaze_table.proofs.Cuts.CutEdits.{HasKey, has_key, among_others}
 
 module _ {V : Type 0} (eq : V → V → Bool) where

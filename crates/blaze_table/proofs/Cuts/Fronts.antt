@@ -1,21 +1,5 @@
 -- The first key taken out of the first entry, as a look at that entry has answered it.
-use Rattle.std.proofs.Common.{◌≡◌, ℤ, pos, ◌+ℤ◌, ◌<ℤ◌, Bool, false, cond, List, [], ◌∷◌, ◌++◌, Option, Some, None, refl, ◌∙◌, sym, subst, ap, arith}
-use Rattle.std.specs.Cmp.{IsEquivalence}
-use Rattle.std.specs.List.{slice_get}
-use Rattle.std.specs.Option.{option_map}
-use Rattle.std.specs.Ordering.{int_eq}
-use Rattle.std.specs.Prelude.{IsSome}
-use Rattle.std.proofs.lemmas.Int.{ints}
-use Rattle.blaze_entries.specs.Cloned.{IsRangeCloned, IsManyCloned}
-use Rattle.blaze_entries.specs.Starts.{StartsAscend, start_at, with_entry, IsFirstRemoved}
-use Rattle.blaze_entries.specs.declared.range_entry.RangeEntry.{RangeEntry}
-use Rattle.blaze_entries.proofs.Alike.{same_along}
-use Rattle.blaze_entries.proofs.Ascending.{by_order, start_none}
-use Rattle.blaze_entries.proofs.Moves.{with_entry-first}
-use Rattle.blaze_table.specs.Canonical.{IsCanonical}
-use Rattle.blaze_table.specs.Entries.{Entry, entry, SameEntries}
-use Rattle.blaze_table.specs.Painted.{ClonesAreAlike}
-use Rattle.blaze_table.specs.Splice.{after, IsKeyTaken}
+use Rattle.blaze_table.proofs.Words.{◌≡◌, ℤ, pos, ◌+ℤ◌, ◌<ℤ◌, Bool, false, cond, List, [], ◌∷◌, ◌++◌, Option, Some, None, refl, ◌∙◌, sym, subst, ap, arith, IsEquivalence, slice_get, option_map, int_eq, IsSome, ints, IsRangeCloned, IsManyCloned, StartsAscend, start_at, with_entry, IsFirstRemoved, RangeEntry, same_along, by_order, start_none, with_entry-first, IsCanonical, Entry, entry, SameEntries, ClonesAreAlike, after, IsKeyTaken}
 use Rattle.blaze_table.proofs.Canonical.Lookup.{at_in}
 use Rattle.blaze_table.proofs.Cuts.Cutting.{after_whole}
 use Rattle.blaze_table.proofs.Paints.Painted.{entries_themselves}

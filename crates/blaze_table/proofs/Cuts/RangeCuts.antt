@@ -1,24 +1,5 @@
 -- A range of keys cut by what a walk that looks for no value has found: what the edit has to know of the list, and what it counts.
-use Rattle.std.proofs.Common.{◌≡◌, ℕ, ℤ, pos, ◌+ℤ◌, ◌≤ℤ◌, ◌<ℤ◌, Bool, true, false, cond, List, Option, Some, None, length, length-append, refl, ◌∙◌, subst, ap, arith, inl, inr}
-use Rattle.std.specs.Cmp.{IsEquivalence}
-use Rattle.std.specs.Option.{option_map}
-use Rattle.std.specs.Prelude.{IfSome, IsSome, IsSomeAnd, int_lt}
-use Rattle.std.proofs.lemmas.Int.{ints}
-use Rattle.blaze_int.proofs.Comparisons.{lt_holds, not_both}
-use Rattle.blaze_entries.specs.Counted.{CountedEntries}
-use Rattle.blaze_entries.specs.Found.{found_in, is_sought, range_in, shown_ends}
-use Rattle.blaze_entries.specs.Walked.{shown_plan}
-use Rattle.blaze_entries.specs.Starts.{StartsAscend, last_below}
-use Rattle.blaze_entries.specs.declared.scan.Plan.{Plan}
-use Rattle.blaze_entries.specs.declared.range_entry.RangeEntry.{RangeEntry}
-use Rattle.blaze_table.specs.Canonical.{IsCanonical}
-use Rattle.blaze_table.specs.Cut.{GoesOnAbove}
-use Rattle.blaze_table.specs.Edited.{IsPlace}
-use Rattle.blaze_table.specs.Entries.{Entry}
-use Rattle.blaze_table.specs.Planned.{rest_of, IsLooked, IsWalkOf, IsWorked}
-use Rattle.blaze_table.specs.Splice.{before, after, IsRangeCutOf, IsRangeTaken, IsTableCut}
-use Rattle.blaze_table.specs.Table.{IsTable}
-use Rattle.blaze_table.specs.Work.{IsCountedCut}
+use Rattle.blaze_table.proofs.Words.{◌≡◌, ℕ, ℤ, pos, ◌+ℤ◌, ◌≤ℤ◌, ◌<ℤ◌, Bool, true, false, cond, List, Option, Some, None, length, length-append, refl, ◌∙◌, subst, ap, arith, inl, inr, IsEquivalence, option_map, IfSome, IsSome, IsSomeAnd, int_lt, ints, lt_holds, not_both, CountedEntries, found_in, is_sought, range_in, shown_ends, shown_plan, StartsAscend, last_below, Plan, RangeEntry, IsCanonical, GoesOnAbove, IsPlace, Entry, rest_of, IsLooked, IsWalkOf, IsWorked, before, after, IsRangeCutOf, IsRangeTaken, IsTableCut, IsTable, IsCountedCut}
 use Rattle.blaze_table.proofs.Canonical.Counted.{keys_apart}
 use Rattle.blaze_table.proofs.Cuts.Cutting.{cut_table}
 use Rattle.blaze_table.proofs.Paints.Painted.{length_as}

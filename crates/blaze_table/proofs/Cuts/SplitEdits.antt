@@ -1,20 +1,5 @@
 -- Edits that split a list at a key.
-use Rattle.std.proofs.Common.{◌≡◌, Bool, ℤ, pos, ◌-ℤ◌, ◌≤ℤ◌, ◌<ℤ◌, true, List, [], ◌∷◌, ◌++◌, None, refl, ◌∙◌, sym, subst, ap, arith}
-use Rattle.std.specs.Cmp.{IsEquivalence}
-use Rattle.std.specs.Prelude.{Result, Ok, Err, IfOk, OnOk, IsSome, int_lt, int_le}
-use Rattle.std.specs.Option.{option_map}
-use Rattle.std.proofs.lemmas.Int.{ints}
-use Rattle.std.proofs.lemmas.List.{append-nil, append_assoc}
-use Rattle.std.proofs.lemmas.List.Elements.{filter-append}
-use Rattle.blaze_entries.specs.Counted.{CountedEntries, uncounted}
-use Rattle.blaze_entries.specs.Found.{range_in}
-use Rattle.blaze_entries.specs.Starts.{StartsAscend, below, from, last_below, start_at, with_entry, without, with_end, IsCloneInserted}
-use Rattle.blaze_entries.proofs.Halves.{StartsBelow, below_all, below_none, below_skips, from_all, from_none, from_takes, more_below}
-use Rattle.blaze_entries.proofs.Alike.{none_from_map}
-use Rattle.blaze_table.specs.Entries.{Entry, entry}
-use Rattle.blaze_table.specs.Canonical.{IsCanonical}
-use Rattle.blaze_table.specs.Painted.{ClonesAreAlike}
-use Rattle.blaze_table.specs.Splice.{IsBelow, IsSplitOf}
+use Rattle.blaze_table.proofs.Words.{◌≡◌, Bool, ℤ, pos, ◌-ℤ◌, ◌≤ℤ◌, ◌<ℤ◌, true, List, [], ◌∷◌, ◌++◌, None, refl, ◌∙◌, sym, subst, ap, arith, IsEquivalence, Result, Ok, Err, IfOk, OnOk, IsSome, int_lt, int_le, option_map, ints, append-nil, append_assoc, filter-append, CountedEntries, uncounted, range_in, StartsAscend, below, from, last_below, start_at, with_entry, without, with_end, IsCloneInserted, StartsBelow, below_all, below_none, below_skips, from_all, from_none, from_takes, more_below, none_from_map, Entry, entry, IsCanonical, ClonesAreAlike, IsBelow, IsSplitOf}
 use Rattle.blaze_table.proofs.Neighbours.Holders.{Holder, is_holder, put_inside, starts_behind, end_moved}
 use Rattle.blaze_table.proofs.Paints.Placing.{put_back, put_there}
 use Rattle.blaze_table.proofs.Paints.Splices.{below_more}

@@ -1,15 +1,5 @@
 -- Lists in the order of their starts, taken apart at a key.
-use Rattle.std.proofs.Common.{◌≡◌, ℤ, pos, ◌+ℤ◌, ◌≤ℤ◌, ◌<ℤ◌, Bool, cond, List, [], ◌∷◌, ◌++◌, Option, Some, None, refl, ◌∙◌, sym, subst, ap, arith}
-use Rattle.std.specs.Prelude.{IsSome, int_le}
-use Rattle.std.specs.List.{last_or}
-use Rattle.std.proofs.lemmas.Int.{ints, by_lt_z}
-use Rattle.std.proofs.lemmas.List.Elements.{filter-append}
-use Rattle.blaze_entries.specs.Starts.{StartsAscend, below, from, first_entry, last_below, first_from, start_at}
-use Rattle.blaze_entries.proofs.Ascending.{by_order, start_none}
-use Rattle.blaze_entries.proofs.Halves.{StartsBelow, below_takes, from_takes, from_skips, below_none, from_all, from_none, more_below}
-use Rattle.blaze_table.specs.Entries.{Entry, entry}
-use Rattle.blaze_table.specs.Canonical.{IsApart, IsCanonical}
-use Rattle.blaze_table.specs.Splice.{after, IsBelow}
+use Rattle.blaze_table.proofs.Words.{◌≡◌, ℤ, pos, ◌+ℤ◌, ◌≤ℤ◌, ◌<ℤ◌, Bool, cond, List, [], ◌∷◌, ◌++◌, Option, Some, None, refl, ◌∙◌, sym, subst, ap, arith, IsSome, int_le, last_or, ints, by_lt_z, filter-append, StartsAscend, below, from, first_entry, last_below, first_from, start_at, by_order, start_none, StartsBelow, below_takes, from_takes, from_skips, below_none, from_all, from_none, more_below, Entry, entry, IsApart, IsCanonical, after, IsBelow}
 use Rattle.blaze_table.proofs.Paints.Splices.{after_skips, after_cuts, after_keeps}
 use Rattle.blaze_table.proofs.Paints.Painted.{after_past}
 

@@ -1,16 +1,5 @@
 -- The parts of a list below a key and from it on.
-use Rattle.std.proofs.Common.{◌≡◌, ℕ, ℤ, pos, ◌+ℤ◌, ◌-ℤ◌, ◌≤ℤ◌, ◌<ℤ◌, Bool, true, cond, List, [], ◌∷◌, ◌++◌, None, refl, ◌∙◌, sym, ap, subst, arith}
-use Rattle.std.specs.Cmp.{IsEquivalence}
-use Rattle.std.proofs.lemmas.Int.{ints, by_lt_z}
-use Rattle.std.proofs.lemmas.List.{append-nil}
-use Rattle.blaze_int.proofs.Comparisons.{lt_true, lt_false, le_true, le_false}
-use Rattle.blaze_entries.proofs.Alike.{same_along, same_itself}
-use Rattle.blaze_table.specs.Entries.{Entry, at, SameEntries, entry}
-use Rattle.blaze_table.specs.Canonical.{IsCanonical, AreKeys}
-use Rattle.blaze_table.specs.Count.{keys_in}
-use Rattle.blaze_table.specs.Splice.{before, after, IsBelow, IsSplitOf, IsListSplit}
-use Rattle.blaze_table.specs.Cut.{below_at, from_at}
-use Rattle.blaze_table.specs.Table.{IsTable}
+use Rattle.blaze_table.proofs.Words.{◌≡◌, ℕ, ℤ, pos, ◌+ℤ◌, ◌-ℤ◌, ◌≤ℤ◌, ◌<ℤ◌, Bool, true, cond, List, [], ◌∷◌, ◌++◌, None, refl, ◌∙◌, sym, ap, subst, arith, IsEquivalence, ints, by_lt_z, append-nil, lt_true, lt_false, le_true, le_false, same_along, same_itself, Entry, at, SameEntries, entry, IsCanonical, AreKeys, keys_in, before, after, IsBelow, IsSplitOf, IsListSplit, below_at, from_at, IsTable}
 use Rattle.blaze_table.proofs.Canonical.Lookup.{IsAbove, IsAbove-from_apart, at_before}
 use Rattle.blaze_table.proofs.Canonical.Unique.{back}
 use Rattle.blaze_table.proofs.Paints.Splices.{by_before, by_after, before_cuts, after_skips, after_cuts, canonical_before, canonical_after, above_after, at-before_under, at-before_over, at-after_over}

@@ -1,12 +1,5 @@
 -- What filling gives, key by key.
-use Rattle.std.specs.Option.{option_or}
-use Rattle.std.proofs.Common.{◌≡◌, ℤ, ◌≤ℤ◌, ◌<ℤ◌, Bool, cond, List, Option, Some, None, refl, ◌∙◌, sym, ap}
-use Rattle.std.specs.Prelude.{IsSome}
-use Rattle.std.specs.Cmp.{IsEquivalence}
-use Rattle.blaze_entries.proofs.Alike.{same_along, same_itself, or_none}
-use Rattle.blaze_table.specs.Entries.{Entry, entry, at}
-use Rattle.blaze_table.specs.Canonical.{IsRangeMap}
-use Rattle.blaze_table.specs.Filled.{filled, IsFilled, IsHeldFrom}
+use Rattle.blaze_table.proofs.Words.{option_or, ◌≡◌, ℤ, ◌≤ℤ◌, ◌<ℤ◌, Bool, cond, List, Option, Some, None, refl, ◌∙◌, sym, ap, IsSome, IsEquivalence, same_along, same_itself, or_none, Entry, entry, at, IsRangeMap, filled, IsFilled, IsHeldFrom}
 use Rattle.blaze_table.proofs.Canonical.Lookup.{by_place, holds_in, holds_under, holds_over}
 use Rattle.blaze_table.proofs.Fills.KeptEntries.{all_kept}
 

@@ -1,18 +1,5 @@
 -- A value put on the gaps of a range, one after another.
-use Rattle.blaze_int.proofs.Options.{none_is_not}
-use Rattle.std.specs.Option.{option_or}
-use Rattle.std.proofs.Common.{◌≡◌, ℕ, ℤ, pos, ◌+ℤ◌, ◌-ℤ◌, ◌≤ℤ◌, ◌<ℤ◌, Bool, true, false, cond, List, [], Option, Some, None, refl, ◌∙◌, sym, ap, subst, arith, inl, inr}
-use Rattle.std.specs.Prelude.{◌↔◌, IsSome, IsTrue}
-use Rattle.std.specs.Cmp.{IsEquivalence}
-use Rattle.std.specs.List.{Contains}
-use Rattle.std.proofs.lemmas.Int.{ints, by_lt_z}
-use Rattle.blaze_entries.proofs.Alike.{same_along, same_itself, same_trans, some_of_same, none_of_same}
-use Rattle.blaze_table.specs.Canonical.{AreKeys, IsCanonical}
-use Rattle.blaze_table.specs.Entries.{Entry, entry, at, holds, SameOption, SameContent}
-use Rattle.blaze_table.specs.Filled.{filled, AreStartsKept, IsFilled, IsHeldFrom, IsFirstGap}
-use Rattle.blaze_table.specs.Filling.{never, IsBeside, IsFilledBut, IsFilling, IsGapFilled, IsJoinedBut, IsOrdered, IsOrderedTable}
-use Rattle.blaze_table.specs.Gap.{IsClearFrom}
-use Rattle.blaze_table.specs.Painted.{painted}
+use Rattle.blaze_table.proofs.Words.{none_is_not, option_or, ◌≡◌, ℕ, ℤ, pos, ◌+ℤ◌, ◌-ℤ◌, ◌≤ℤ◌, ◌<ℤ◌, Bool, true, false, cond, List, [], Option, Some, None, refl, ◌∙◌, sym, ap, subst, arith, inl, inr, ◌↔◌, IsSome, IsTrue, IsEquivalence, Contains, ints, by_lt_z, same_along, same_itself, same_trans, some_of_same, none_of_same, AreKeys, IsCanonical, Entry, entry, at, holds, SameOption, SameContent, filled, AreStartsKept, IsFilled, IsHeldFrom, IsFirstGap, never, IsBeside, IsFilledBut, IsFilling, IsGapFilled, IsJoinedBut, IsOrdered, IsOrderedTable, IsClearFrom, painted}
 use Rattle.blaze_table.proofs.Canonical.Counted.{keys_among}
 use Rattle.blaze_table.proofs.Canonical.Lookup.{by_place, holds_in, holds_under, holds_over}
 use Rattle.blaze_table.proofs.Canonical.Runs.{one_per_run}

@@ -1,16 +1,5 @@
 -- The joints of a list after one more gap has an entry of its own.
-use Rattle.blaze_int.proofs.Options.{none_is_not}
-use Rattle.blaze_int.proofs.Comparisons.{by_bool, not_both}
-use Rattle.std.proofs.Common.{◌≡◌, ℤ, pos, ◌+ℤ◌, ◌-ℤ◌, ◌≤ℤ◌, ◌<ℤ◌, Bool, true, false, cond, List, Option, Some, None, refl, ◌∙◌, sym, subst, ap, arith, inl, inr}
-use Rattle.std.specs.Prelude.{◌⊎◌, IsSome}
-use Rattle.std.specs.Cmp.{IsEquivalence}
-use Rattle.std.specs.List.{Contains}
-use Rattle.std.proofs.lemmas.Int.{ints, by_lt_z}
-use Rattle.blaze_entries.proofs.Alike.{same_along, same_back, some_of_same}
-use Rattle.blaze_table.specs.Canonical.{IsRunStart}
-use Rattle.blaze_table.specs.Entries.{Entry, entry, at, SameOption}
-use Rattle.blaze_table.specs.Filling.{IsBeside, IsJoinedBut, IsJoint, IsNoted}
-use Rattle.blaze_table.specs.Gap.{IsClearFrom}
+use Rattle.blaze_table.proofs.Words.{none_is_not, by_bool, not_both, ◌≡◌, ℤ, pos, ◌+ℤ◌, ◌-ℤ◌, ◌≤ℤ◌, ◌<ℤ◌, Bool, true, false, cond, List, Option, Some, None, refl, ◌∙◌, sym, subst, ap, arith, inl, inr, ◌⊎◌, IsSome, IsEquivalence, Contains, ints, by_lt_z, same_along, same_back, some_of_same, IsRunStart, Entry, entry, at, SameOption, IsBeside, IsJoinedBut, IsJoint, IsNoted, IsClearFrom}
 use Rattle.blaze_table.proofs.Canonical.Lookup.{holds_in, holds_under, holds_over}
 use Rattle.blaze_table.proofs.Fills.Puts.{IsPut}
 

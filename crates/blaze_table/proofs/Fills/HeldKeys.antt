@@ -1,15 +1,8 @@
 -- Keys that have values, entry by entry.
-use Rattle.blaze_int.specs.Unsigned.{nat_of}
-use Rattle.std.proofs.Common.{◌≡◌, ◌<◌, ℤ, ◌-ℤ◌, ◌≤ℤ◌, ◌<ℤ◌, Bool, true, false, cond, List, [], ◌∷◌, Some, refl, ◌∙◌, sym, subst, arith}
-use Rattle.std.specs.Prelude.{IsSome}
-use Rattle.std.proofs.lemmas.Int.{ints}
-use Rattle.blaze_int.proofs.Naturals.{nat_of-pos}
-use Rattle.blaze_table.specs.Entries.{Entry, at, entry_at, holds}
-use Rattle.blaze_table.specs.Filled.{IsHeldFrom}
+use Rattle.blaze_table.proofs.Words.{nat_of, ◌≡◌, ◌<◌, ℤ, ◌-ℤ◌, ◌≤ℤ◌, ◌<ℤ◌, Bool, true, false, cond, List, [], ◌∷◌, Some, refl, ◌∙◌, sym, subst, arith, IsSome, ints, nat_of-pos, Entry, at, entry_at, holds, IsHeldFrom}
 use Rattle.blaze_table.proofs.Canonical.Lookup.{by_place, entry_in, entry_under, entry_over, holds_in}
 
 module _ {V : Type 0} where
-
   -- the list has a value at each key of an entry found in it
   pub entry_held : (e : Entry V) (es : List (Entry V)) (k : ℤ) → Some e ≡ entry_at es k → IsHeldFrom (at es) e.lo e.hi
   entry_held e [] k p j l h = cc

@@ -1,20 +1,5 @@
 -- An entry made one with the one before it, which touches it and has an equal value.
-use Rattle.blaze_int.proofs.Options.{none_is_not}
-use Rattle.std.proofs.Common.{◌≡◌, ℤ, pos, ◌+ℤ◌, ◌-ℤ◌, ◌≤ℤ◌, ◌<ℤ◌, Bool, cond, true, false, List, [], ◌∷◌, ◌++◌, Option, Some, None, option_map, refl, ◌∙◌, sym, subst, ap, arith, inl, inr}
-use Rattle.std.specs.Prelude.{IsSome}
-use Rattle.std.proofs.lemmas.Int.{ints, by_lt_z}
-use Rattle.std.proofs.lemmas.List.{append_assoc}
-use Rattle.std.specs.Cmp.{IsEquivalence}
-use Rattle.blaze_entries.specs.Found.{range_in}
-use Rattle.blaze_entries.specs.Starts.{StartsAscend, last_below, start_at, with_end, without}
-use Rattle.blaze_entries.proofs.Alike.{none_from_map, same_along, same_back, same_itself, some_of_same}
-use Rattle.blaze_entries.proofs.Ascending.{by_order, start_none}
-use Rattle.blaze_entries.proofs.Halves.{StartsBelow, more_below}
-use Rattle.blaze_table.specs.Canonical.{AreKeys, HasStart}
-use Rattle.blaze_table.specs.Entries.{Entry, entry, at, entry_at, holds, SameOption, SameContent}
-use Rattle.blaze_table.specs.Filled.{IsKeptIn}
-use Rattle.blaze_table.specs.Filling.{never, IsJoint, IsJoinedAt, IsOrdered}
-use Rattle.blaze_table.specs.LastBelow.{IsLastBelow}
+use Rattle.blaze_table.proofs.Words.{none_is_not, ◌≡◌, ℤ, pos, ◌+ℤ◌, ◌-ℤ◌, ◌≤ℤ◌, ◌<ℤ◌, Bool, cond, true, false, List, [], ◌∷◌, ◌++◌, Option, Some, None, option_map, refl, ◌∙◌, sym, subst, ap, arith, inl, inr, IsSome, ints, by_lt_z, append_assoc, IsEquivalence, range_in, StartsAscend, last_below, start_at, with_end, without, none_from_map, same_along, same_back, same_itself, some_of_same, by_order, start_none, StartsBelow, more_below, AreKeys, HasStart, Entry, entry, at, entry_at, holds, SameOption, SameContent, IsKeptIn, never, IsJoint, IsJoinedAt, IsOrdered, IsLastBelow}
 use Rattle.blaze_table.proofs.Canonical.Lookup.{IsAbove, IsAbove-from_apart, at_in, at_under, at_over, by_place, value-entry_at}
 use Rattle.blaze_table.proofs.Cuts.Splits.{no_last_from}
 use Rattle.blaze_table.proofs.Neighbours.Holders.{Holder, holder, there, end_moved, without-between, starts_behind}

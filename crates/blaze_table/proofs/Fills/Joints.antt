@@ -1,14 +1,5 @@
 -- Joints, joined one after another.
-use Rattle.std.proofs.Common.{◌≡◌, ℤ, pos, ◌-ℤ◌, Bool, List, [], ◌∷◌, ◌++◌, length, Option, Some, map, ◌∙◌, sym, subst, ap, arith, inl, inr}
-use Rattle.std.specs.Prelude.{option_to_list}
-use Rattle.std.specs.Cmp.{IsEquivalence}
-use Rattle.std.specs.List.{Contains}
-use Rattle.std.proofs.lemmas.List.Elements.{Contains-append_left, Contains-push, Contains-push_cases}
-use Rattle.blaze_entries.proofs.Alike.{same_back, same_itself, same_trans, some_of_same}
-use Rattle.blaze_table.specs.Canonical.{IsCanonical, IsRunStart}
-use Rattle.blaze_table.specs.Entries.{Entry, entry, at, SameOption, SameContent}
-use Rattle.blaze_table.specs.Filled.{AreStartsKept}
-use Rattle.blaze_table.specs.Filling.{IsJoint, IsJoinedAt, IsJoinedBut, IsOrdered}
+use Rattle.blaze_table.proofs.Words.{◌≡◌, ℤ, pos, ◌-ℤ◌, Bool, List, [], ◌∷◌, ◌++◌, length, Option, Some, map, ◌∙◌, sym, subst, ap, arith, inl, inr, option_to_list, IsEquivalence, Contains, Contains-append_left, Contains-push, Contains-push_cases, same_back, same_itself, same_trans, some_of_same, IsCanonical, IsRunStart, Entry, entry, at, SameOption, SameContent, AreStartsKept, IsJoint, IsJoinedAt, IsJoinedBut, IsOrdered}
 use Rattle.blaze_table.proofs.Fills.KeptEntries.{kept_further}
 use Rattle.blaze_table.proofs.Fills.Ordered.{canonical_by_starts}
 use Rattle.blaze_table.proofs.Fills.TakenBack.{map_last}

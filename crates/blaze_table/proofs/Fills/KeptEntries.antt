@@ -1,12 +1,5 @@
 -- Entries that a fill keeps, with their very values.
-use Rattle.std.proofs.Common.{◌≡◌, ℤ, pos, ◌+ℤ◌, ◌≤ℤ◌, ◌<ℤ◌, Bool, List, [], ◌∷◌, Option, Some, refl, ◌∙◌, sym, subst, arith}
-use Rattle.std.specs.Cmp.{IsEquivalence}
-use Rattle.std.specs.List.{Contains}
-use Rattle.std.proofs.lemmas.Int.{ints, by_lt_z}
-use Rattle.blaze_entries.proofs.Alike.{same_along, same_back, same_trans}
-use Rattle.blaze_table.specs.Canonical.{IsCanonical}
-use Rattle.blaze_table.specs.Entries.{Entry, entry, at, SameOption}
-use Rattle.blaze_table.specs.Filled.{IsKeptIn, AreStartsKept, AreKept}
+use Rattle.blaze_table.proofs.Words.{◌≡◌, ℤ, pos, ◌+ℤ◌, ◌≤ℤ◌, ◌<ℤ◌, Bool, List, [], ◌∷◌, Option, Some, refl, ◌∙◌, sym, subst, arith, IsEquivalence, Contains, ints, by_lt_z, same_along, same_back, same_trans, IsCanonical, Entry, entry, at, SameOption, IsKeptIn, AreStartsKept, AreKept}
 use Rattle.blaze_table.proofs.Canonical.Lookup.{IsAbove-from_apart, at_in, at_over}
 use Rattle.blaze_table.proofs.Paints.Kept.{by_first, same_in, later_in, over_in}
 

@@ -1,8 +1,5 @@
 -- Joints noted beside a gap.
-use Rattle.std.proofs.Common.{◌≡◌, ℤ, Bool, true, List, [], ◌∷◌, ◌++◌, map, ◌∙◌, sym, subst, ap, inl, inr}
-use Rattle.std.specs.List.{Contains}
-use Rattle.std.proofs.lemmas.List.Elements.{Contains-append_left, Contains-push, Contains-push_cases}
-use Rattle.blaze_table.specs.Filling.{IsNoted}
+use Rattle.blaze_table.proofs.Words.{◌≡◌, ℤ, Bool, true, List, [], ◌∷◌, ◌++◌, map, ◌∙◌, sym, subst, ap, inl, inr, Contains, Contains-append_left, Contains-push, Contains-push_cases, IsNoted}
 use Rattle.blaze_table.proofs.Fills.TakenBack.{map_last}
 
 pub noted_too : {T : Type 0} (rank : T → ℤ) (old new : List T) (x : T) (k : ℤ) (t : Bool) → rank x ≡ k → new ≡ old ++ x ∷ [] → t ≡ true → IsNoted t k (map rank old) (map rank new)

@@ -1,13 +1,5 @@
 -- Ordered lists: what holds of them though touching entries may have equal values.
-use Rattle.blaze_int.proofs.Options.{none_is_not}
-use Rattle.std.proofs.Common.{◌≡◌, ℕ, ℤ, pos, ◌-ℤ◌, ◌<ℤ◌, Bool, true, false, List, [], ◌∷◌, Option, Some, None, refl, ◌∙◌, sym, subst, arith, inl, inr}
-use Rattle.std.specs.Prelude.{IsSome}
-use Rattle.std.proofs.lemmas.Int.{ints, by_lt_z}
-use Rattle.blaze_entries.proofs.Alike.{same_along}
-use Rattle.blaze_table.specs.Canonical.{IsApart, IsCanonical, IsRunStart, HasStart}
-use Rattle.blaze_table.specs.Entries.{Entry, at, SameOption}
-use Rattle.blaze_table.specs.Filling.{never, IsOrdered, IsOrderedTable}
-use Rattle.blaze_table.specs.Table.{IsTable}
+use Rattle.blaze_table.proofs.Words.{none_is_not, ◌≡◌, ℕ, ℤ, pos, ◌-ℤ◌, ◌<ℤ◌, Bool, true, false, List, [], ◌∷◌, Option, Some, None, refl, ◌∙◌, sym, subst, arith, inl, inr, IsSome, ints, by_lt_z, same_along, IsApart, IsCanonical, IsRunStart, HasStart, Entry, at, SameOption, never, IsOrdered, IsOrderedTable, IsTable}
 use Rattle.blaze_table.proofs.Canonical.Lookup.{IsAbove, IsAbove-from_apart, at_in, at_over, at_before}
 
 not_true : (b : Bool) → (b ≡ true → ⊥) → b ≡ false

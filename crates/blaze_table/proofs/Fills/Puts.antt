@@ -1,16 +1,5 @@
 -- An entry put into a gap of an ordered list.
-use Rattle.std.proofs.Common.{◌≡◌, ℤ, pos, ◌+ℤ◌, ◌-ℤ◌, ◌≤ℤ◌, ◌<ℤ◌, Bool, cond, true, false, List, [], ◌∷◌, Option, Some, None, refl, ◌∙◌, sym, ap, arith, inl, inr}
-use Rattle.std.specs.Prelude.{◌⊎◌}
-use Rattle.std.specs.List.{Contains}
-use Rattle.std.proofs.lemmas.Int.{ints, by_lt_z}
-use Rattle.blaze_entries.specs.Starts.{start_at, with_entry}
-use Rattle.blaze_entries.proofs.Ascending.{by_order}
-use Rattle.blaze_table.specs.Canonical.{AreKeys, HasStart}
-use Rattle.blaze_table.specs.Count.{keys_in}
-use Rattle.blaze_table.specs.Entries.{Entry, at, holds}
-use Rattle.blaze_table.specs.Filling.{never, IsOrdered}
-use Rattle.blaze_table.specs.Gap.{IsClearFrom}
-use Rattle.blaze_table.specs.Painted.{painted}
+use Rattle.blaze_table.proofs.Words.{◌≡◌, ℤ, pos, ◌+ℤ◌, ◌-ℤ◌, ◌≤ℤ◌, ◌<ℤ◌, Bool, cond, true, false, List, [], ◌∷◌, Option, Some, None, refl, ◌∙◌, sym, ap, arith, inl, inr, ◌⊎◌, Contains, ints, by_lt_z, start_at, with_entry, by_order, AreKeys, HasStart, keys_in, Entry, at, holds, never, IsOrdered, IsClearFrom, painted}
 use Rattle.blaze_table.proofs.Canonical.Lookup.{IsAbove, IsAbove-from_apart, at_in, at_under, at_over, holds_under, holds_over, above_by}
 use Rattle.blaze_table.proofs.Paints.Kept.{by_first, same_in, later_in}
 use Rattle.blaze_table.proofs.Fills.Ordered.{apart_by}

@@ -1,13 +1,5 @@
 -- A walk upwards over the entries of an ordered list: which keys have values so far, and the first gap.
-use Rattle.std.proofs.Common.{◌≡◌, ℤ, pos, ◌+ℤ◌, ◌-ℤ◌, ◌≤ℤ◌, ◌<ℤ◌, Bool, true, false, List, [], ◌∷◌, Option, Some, None, refl, ◌∙◌, sym, subst, ap, arith, inl, inr}
-use Rattle.std.specs.Prelude.{◌⊎◌, ◌↔◌, IsSome, IsTrue}
-use Rattle.std.proofs.lemmas.Int.{ints, by_lt_z}
-use Rattle.blaze_entries.proofs.Alike.{same_along}
-use Rattle.blaze_table.specs.Canonical.{AreKeys}
-use Rattle.blaze_table.specs.Ending.{ending_from}
-use Rattle.blaze_table.specs.Entries.{Entry, at, SameOption}
-use Rattle.blaze_table.specs.Filled.{IsHeldFrom}
-use Rattle.blaze_table.specs.Filling.{never, IsGapEnd, IsNextGap, IsOrdered}
+use Rattle.blaze_table.proofs.Words.{◌≡◌, ℤ, pos, ◌+ℤ◌, ◌-ℤ◌, ◌≤ℤ◌, ◌<ℤ◌, Bool, true, false, List, [], ◌∷◌, Option, Some, None, refl, ◌∙◌, sym, subst, ap, arith, inl, inr, ◌⊎◌, ◌↔◌, IsSome, IsTrue, ints, by_lt_z, same_along, AreKeys, ending_from, Entry, at, SameOption, IsHeldFrom, never, IsGapEnd, IsNextGap, IsOrdered}
 use Rattle.blaze_table.proofs.Canonical.Lookup.{IsAbove, IsAbove-from_apart, at_in, at_under, at_over, at_before, by_place}
 use Rattle.blaze_table.proofs.Neighbours.Ending.{ending_all, ending_skips, ending_takes}
 

@@ -1,12 +1,5 @@
 -- The entries that end at a key or above it, by the start of the first.
-use Rattle.std.proofs.Common.{◌≡◌, ℤ, ◌≤ℤ◌, ◌<ℤ◌, Bool, cond, List, [], ◌∷◌, Some, None, refl, ◌∙◌, sym, ap, subst, arith, option_map}
-use Rattle.std.proofs.lemmas.Int.{ints}
-use Rattle.blaze_int.proofs.Comparisons.{le_true, le_false}
-use Rattle.blaze_entries.specs.Starts.{from}
-use Rattle.blaze_entries.proofs.Halves.{from_takes, from_skips}
-use Rattle.blaze_table.specs.Canonical.{IsCanonical}
-use Rattle.blaze_table.specs.Ending.{ending_from}
-use Rattle.blaze_table.specs.Entries.{Entry, entry_at}
+use Rattle.blaze_table.proofs.Words.{◌≡◌, ℤ, ◌≤ℤ◌, ◌<ℤ◌, Bool, cond, List, [], ◌∷◌, Some, None, refl, ◌∙◌, sym, ap, subst, arith, option_map, ints, le_true, le_false, from, from_takes, from_skips, IsCanonical, ending_from, Entry, entry_at}
 use Rattle.blaze_table.proofs.Canonical.Lookup.{IsAbove, IsAbove-from_apart, entry_in, entry_under, entry_over, by_place, value-entry_at, at_before}
 
 module _ {V : Type 0} where

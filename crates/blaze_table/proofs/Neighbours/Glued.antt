@@ -1,8 +1,6 @@
 -- Lists glued at their last entry, and longer by one.
-use Rattle.std.proofs.Common.{◌≡◌, ℤ, ◌<ℤ◌, Bool, true, false, cond, List, [], ◌∷◌, ◌++◌, refl, ◌∙◌, sym, ap, append_assoc}
-use Rattle.std.specs.Prelude.{◌&&◌}
-use Rattle.blaze_table.specs.Entries.{Entry, entry}
-use Rattle.blaze_table.specs.Splice.{is_joinable, join, glue, IsBelow}
+use Rattle.blaze_table.proofs.Words.{◌≡◌, ℤ, ◌<ℤ◌, Bool, true, false, cond, List, [], ◌∷◌, ◌++◌, refl, ◌∙◌, sym, ap, ◌&&◌, Entry, entry, is_joinable, join, glue, IsBelow}
+use Rattle.std.proofs.Common.{append_assoc}
 
 -- two tests, by what each answers
 pub and_both : (a b : Bool) → true ≡ a → true ≡ b → (a && b) ≡ true

@@ -1,20 +1,5 @@
 -- The last entry that starts below a key: found by its start, and ended below the key.
-use Rattle.std.proofs.Common.{◌≡◌, ℤ, pos, ◌-ℤ◌, ◌≤ℤ◌, ◌<ℤ◌, Bool, List, [], ◌∷◌, ◌++◌, Option, Some, None, refl, ◌∙◌, sym, ap, arith}
-use Rattle.std.specs.Prelude.{int_lt, int_le}
-use Rattle.std.specs.Option.{option_map}
-use Rattle.std.proofs.lemmas.Int.{ints}
-use Rattle.std.proofs.Common.{subst}
-use Rattle.std.proofs.lemmas.List.{append-nil, append_assoc}
-use Rattle.std.proofs.lemmas.List.Elements.{filter-append}
-use Rattle.blaze_entries.specs.Found.{shown_found, range_in, shown_ends}
-use Rattle.blaze_entries.specs.declared.range_entry.RangeEntry.{RangeEntry}
-use Rattle.blaze_entries.specs.Starts.{StartsAscend, below, from, last_below, start_at, with_end}
-use Rattle.blaze_entries.proofs.Ascending.{by_order}
-use Rattle.blaze_entries.proofs.Halves.{StartsBelow, below_takes, below_skips, below_all, below_none, from_skips, from_none, from_all, more_below, halves}
-use Rattle.blaze_table.specs.Entries.{Entry, entry}
-use Rattle.blaze_table.specs.Canonical.{IsCanonical}
-use Rattle.blaze_table.specs.Edited.{IsLeft}
-use Rattle.blaze_table.specs.Splice.{before, IsBelow}
+use Rattle.blaze_table.proofs.Words.{◌≡◌, ℤ, pos, ◌-ℤ◌, ◌≤ℤ◌, ◌<ℤ◌, Bool, List, [], ◌∷◌, ◌++◌, Option, Some, None, refl, ◌∙◌, sym, ap, arith, int_lt, int_le, option_map, ints, subst, append-nil, append_assoc, filter-append, shown_found, range_in, shown_ends, RangeEntry, StartsAscend, below, from, last_below, start_at, with_end, by_order, StartsBelow, below_takes, below_skips, below_all, below_none, from_skips, from_none, from_all, more_below, halves, Entry, entry, IsCanonical, IsLeft, before, IsBelow}
 use Rattle.blaze_table.proofs.Paints.Splices.{before_cuts, before_keeps, below_more}
 use Rattle.blaze_table.proofs.Paints.Painted.{before_past}
 use Rattle.blaze_table.proofs.Cuts.Splits.{LastAt, last_at, no_last, ends_below}

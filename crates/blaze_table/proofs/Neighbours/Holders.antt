@@ -1,17 +1,5 @@
 -- The last entry that starts below a key, with what stands before and behind it: searches and edits at its start.
-use Rattle.std.proofs.Common.{◌≡◌, Bool, ℤ, pos, ◌+ℤ◌, ◌≤ℤ◌, ◌<ℤ◌, List, [], ◌∷◌, ◌++◌, Option, Some, None, refl, ◌∙◌, sym, subst, ap, arith}
-use Rattle.std.specs.Prelude.{IsSome}
-use Rattle.std.specs.Option.{option_map}
-use Rattle.std.proofs.lemmas.Int.{ints}
-use Rattle.std.proofs.lemmas.List.{append_assoc}
-use Rattle.blaze_entries.specs.Found.{range_in}
-use Rattle.blaze_entries.specs.Starts.{StartsAscend, last_below, start_at, with_entry, without, with_end}
-use Rattle.blaze_entries.proofs.Ascending.{by_order, start_none}
-use Rattle.blaze_entries.proofs.Halves.{StartsBelow, more_below}
-use Rattle.blaze_table.specs.Canonical.{IsApart, IsCanonical}
-use Rattle.blaze_table.specs.Entries.{Entry, entry}
-use Rattle.blaze_table.specs.LastBelow.{IsLastBelow}
-use Rattle.blaze_table.specs.Splice.{IsBelow}
+use Rattle.blaze_table.proofs.Words.{◌≡◌, Bool, ℤ, pos, ◌+ℤ◌, ◌≤ℤ◌, ◌<ℤ◌, List, [], ◌∷◌, ◌++◌, Option, Some, None, refl, ◌∙◌, sym, subst, ap, arith, IsSome, option_map, ints, append_assoc, range_in, StartsAscend, last_below, start_at, with_entry, without, with_end, by_order, start_none, StartsBelow, more_below, IsApart, IsCanonical, Entry, entry, IsLastBelow, IsBelow}
 use Rattle.blaze_table.proofs.Paints.EditLists.{start_skips, end_put}
 use Rattle.blaze_table.proofs.Neighbours.Growing.{found_there}
 use Rattle.blaze_table.proofs.Cuts.Splits.{last_at, canonical_part, ends_below}

@@ -1,18 +1,5 @@
 -- The entries at a key and next to it, by those that start next to it.
-use Rattle.std.proofs.Common.{◌≡◌, ℤ, pos, ◌+ℤ◌, ◌≤ℤ◌, ◌<ℤ◌, Bool, true, false, cond, List, [], ◌∷◌, ◌++◌, Option, Some, None, refl, ◌∙◌, sym, ap, subst, arith}
-use Rattle.std.specs.Prelude.{int_lt, int_le, find, reverse}
-use Rattle.std.specs.List.{filter, last_or}
-use Rattle.std.specs.Option.{option_or}
-use Rattle.std.proofs.lemmas.Int.{ints}
-use Rattle.std.proofs.lemmas.List.{reverse-append, append-nil}
-use Rattle.std.proofs.lemmas.List.Folds.{find-append}
-use Rattle.std.proofs.lemmas.List.Elements.{filter-append}
-use Rattle.blaze_int.proofs.Comparisons.{lt_true, lt_false}
-use Rattle.blaze_entries.specs.Starts.{StartsAscend, below, first_entry, last_below, first_from}
-use Rattle.blaze_entries.proofs.Halves.{below_all, below_none}
-use Rattle.blaze_table.specs.Entries.{Entry, entry_at}
-use Rattle.blaze_table.specs.Canonical.{IsCanonical}
-use Rattle.blaze_table.specs.Splice.{IsBelow}
+use Rattle.blaze_table.proofs.Words.{◌≡◌, ℤ, pos, ◌+ℤ◌, ◌≤ℤ◌, ◌<ℤ◌, Bool, true, false, cond, List, [], ◌∷◌, ◌++◌, Option, Some, None, refl, ◌∙◌, sym, ap, subst, arith, int_lt, int_le, find, reverse, filter, last_or, option_or, ints, reverse-append, append-nil, find-append, filter-append, lt_true, lt_false, StartsAscend, below, first_entry, last_below, first_from, below_all, below_none, Entry, entry_at, IsCanonical, IsBelow}
 use Rattle.blaze_table.proofs.Canonical.Lookup.{entry_in, entry_under, entry_over}
 use Rattle.blaze_table.proofs.Cuts.Splits.{LastAt, last_at, no_last_from, ends_below, canonical_part}
 

@@ -1,21 +1,5 @@
 -- Whether a range lies inside an entry with an equal value, by the entry that starts there or below it.
-use Rattle.std.proofs.Common.{◌≡◌, ◌+◌, ◌≤◌, ℤ, pos, ◌+ℤ◌, ◌≤ℤ◌, ◌<ℤ◌, Bool, true, false, List, [], ◌∷◌, ◌++◌, length, Option, Some, None, refl, ◌∙◌, sym, subst, ap, arith, inl, inr}
-use Rattle.std.specs.Prelude.{◌↔◌, int_le}
-use Rattle.std.specs.List.{last_or}
-use Rattle.std.specs.Option.{option_map, option_or}
-use Rattle.std.proofs.lemmas.Int.{ints}
-use Rattle.std.proofs.lemmas.Bool.{and_parts, and_from}
-use Rattle.blaze_int.proofs.Comparisons.{le_true, le_holds, not_both}
-use Rattle.blaze_entries.specs.Found.{found_in}
-use Rattle.blaze_entries.specs.Walked.{Seen}
-use Rattle.blaze_entries.specs.Starts.{StartsAscend, below, last_below, start_at}
-use Rattle.blaze_entries.proofs.Ascending.{by_order, start_none}
-use Rattle.blaze_entries.proofs.Halves.{below_none, below_takes}
-use Rattle.blaze_table.specs.Entries.{Entry}
-use Rattle.blaze_table.specs.Canonical.{IsCanonical}
-use Rattle.blaze_table.specs.Painted.{IsInside}
-use Rattle.blaze_table.specs.Planned.{IsPlanOf, reaches}
-use Rattle.blaze_table.specs.Splice.{before, after, IsBelow}
+use Rattle.blaze_table.proofs.Words.{◌≡◌, ◌+◌, ◌≤◌, ℤ, pos, ◌+ℤ◌, ◌≤ℤ◌, ◌<ℤ◌, Bool, true, false, List, [], ◌∷◌, ◌++◌, length, Option, Some, None, refl, ◌∙◌, sym, subst, ap, arith, inl, inr, ◌↔◌, int_le, last_or, option_map, option_or, ints, and_parts, and_from, le_true, le_holds, not_both, found_in, Seen, StartsAscend, below, last_below, start_at, by_order, start_none, below_none, below_takes, Entry, IsCanonical, IsInside, IsPlanOf, reaches, before, after, IsBelow}
 use Rattle.blaze_table.proofs.Paints.Inside.{inside_above}
 use Rattle.blaze_table.proofs.Canonical.Lookup.{IsAbove-from_apart, above_by}
 use Rattle.blaze_table.proofs.Paints.Splices.{by_after, before_keeps, after_skips}

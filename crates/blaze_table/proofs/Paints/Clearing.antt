@@ -1,15 +1,5 @@
 -- Entries taken out between two keys, and the parts of parts of a list.
-use Rattle.std.proofs.Common.{◌≡◌, ◌≤◌, ℤ, pos, ◌+ℤ◌, ◌≤ℤ◌, ◌<ℤ◌, cond, List, [], ◌∷◌, length, drop, Option, Some, None, refl, ◌∙◌, sym, subst, ap, arith}
-use Rattle.std.specs.Prelude.{IsSome, int_lt, int_le}
-use Rattle.std.specs.Option.{option_map}
-use Rattle.std.proofs.lemmas.Int.{ints, by_lt_z}
-use Rattle.blaze_int.proofs.Comparisons.{lt_true, lt_false, le_true, le_false}
-use Rattle.blaze_entries.specs.Found.{range_in}
-use Rattle.blaze_entries.specs.Starts.{StartsAscend, below, from, first_entry, first_from, start_at, without}
-use Rattle.blaze_entries.proofs.Ascending.{by_order}
-use Rattle.blaze_entries.proofs.Moves.{absent_next}
-use Rattle.blaze_entries.proofs.Halves.{from_takes, from_skips}
-use Rattle.blaze_table.specs.Entries.{Entry}
+use Rattle.blaze_table.proofs.Words.{◌≡◌, ◌≤◌, ℤ, pos, ◌+ℤ◌, ◌≤ℤ◌, ◌<ℤ◌, cond, List, [], ◌∷◌, length, drop, Option, Some, None, refl, ◌∙◌, sym, subst, ap, arith, IsSome, int_lt, int_le, option_map, ints, by_lt_z, lt_true, lt_false, le_true, le_false, range_in, StartsAscend, below, from, first_entry, first_from, start_at, without, by_order, absent_next, from_takes, from_skips, Entry}
 use Rattle.blaze_table.proofs.Cuts.Splits.{first_there}
 use Rattle.blaze_table.proofs.Paints.EditLists.{below_without}
 

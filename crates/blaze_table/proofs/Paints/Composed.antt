@@ -1,21 +1,5 @@
 -- The steps of a paint in place one after another.
-use Rattle.std.proofs.Common.{◌≡◌, ℤ, pos, ◌+ℤ◌, ◌-ℤ◌, ◌≤ℤ◌, ◌<ℤ◌, Bool, List, [], ◌∷◌, ◌++◌, length, Option, Some, None, refl, ◌∙◌, sym, subst, ap, arith}
-use Rattle.std.specs.Prelude.{int_lt, int_le}
-use Rattle.std.specs.Option.{option_map}
-use Rattle.std.proofs.lemmas.Int.{ints, by_lt_z}
-use Rattle.std.proofs.lemmas.List.{append_assoc, append-nil}
-use Rattle.std.proofs.lemmas.List.Elements.{filter-append}
-use Rattle.std.specs.List.{Contains}
-use Rattle.std.proofs.lemmas.List.Elements.{Contains-append_right}
-use Rattle.blaze_entries.specs.Starts.{StartsAscend, below, from, last_below, start_at, with_end}
-use Rattle.blaze_entries.proofs.Halves.{StartsBelow, below_takes, from_skips, below_all, below_none, from_none, more_below, starts_below, halves}
-use Rattle.blaze_entries.specs.Found.{range_in, shown_ends}
-use Rattle.blaze_entries.specs.declared.range_entry.RangeEntry.{RangeEntry}
-use Rattle.blaze_table.specs.Edited.{IsLeft}
-use Rattle.blaze_table.specs.Entries.{Entry, entry}
-use Rattle.blaze_table.specs.Canonical.{IsCanonical}
-use Rattle.blaze_table.specs.Planned.{inner, IsRestKept, IsStartPut, IsPutAt, IsEndPut}
-use Rattle.blaze_table.specs.Splice.{before, IsRangeTaken}
+use Rattle.blaze_table.proofs.Words.{◌≡◌, ℤ, pos, ◌+ℤ◌, ◌-ℤ◌, ◌≤ℤ◌, ◌<ℤ◌, Bool, List, [], ◌∷◌, ◌++◌, length, Option, Some, None, refl, ◌∙◌, sym, subst, ap, arith, int_lt, int_le, option_map, ints, by_lt_z, append_assoc, append-nil, filter-append, Contains, Contains-append_right, StartsAscend, below, from, last_below, start_at, with_end, StartsBelow, below_takes, from_skips, below_all, below_none, from_none, more_below, starts_below, halves, range_in, shown_ends, RangeEntry, IsLeft, Entry, entry, IsCanonical, inner, IsRestKept, IsStartPut, IsPutAt, IsEndPut, before, IsRangeTaken}
 use Rattle.blaze_table.proofs.Paints.Splices.{by_before, before_ends, before_keeps, before_cuts}
 use Rattle.blaze_table.proofs.Cuts.Splits.{last_at, from_at}
 use Rattle.blaze_table.proofs.Neighbours.Growing.{last_there, below_last, front_last}

@@ -1,20 +1,5 @@
 -- The entries that start above a range's first key, up to its end: how many of them go, and what an edit's steps make of them.
-use Rattle.std.proofs.Common.{◌≡◌, ℕ, ◌+◌, ◌≤◌, ℤ, pos, ◌+ℤ◌, ◌≤ℤ◌, ◌<ℤ◌, Bool, true, false, cond, List, [], ◌∷◌, ◌++◌, length, drop, Option, Some, None, refl, ◌∙◌, sym, subst, ap, arith, ⊎_elim}
-use Rattle.std.specs.Prelude.{IsSome, IfSome, IsSomeAnd, is_some, int_lt, int_le, ◌||◌}
-use Rattle.std.specs.Option.{option_map}
-use Rattle.std.specs.Ordering.{int_eq}
-use Rattle.std.proofs.lemmas.Int.{ints, by_lt_z}
-use Rattle.std.proofs.lemmas.List.Elements.{filter-append}
-use Rattle.blaze_int.proofs.Comparisons.{lt_true, lt_false}
-use Rattle.blaze_entries.specs.Starts.{StartsAscend, below, from, last_below, start_at, with_entry, without, with_end_value, IsStartMoved, IsFrontReplaced}
-use Rattle.blaze_entries.proofs.Ascending.{by_order, start_none}
-use Rattle.blaze_entries.proofs.Halves.{StartsBelow, below_takes, below_skips, below_none, from_takes, from_skips, from_all, from_none, more_below, starts_from}
-use Rattle.blaze_entries.proofs.Scans.{length-below}
-use Rattle.blaze_entries.specs.declared.scan.Plan.{Plan}
-use Rattle.blaze_table.specs.Canonical.{IsCanonical}
-use Rattle.blaze_table.specs.Edited.{IsPlace, IsRestPut, goes}
-use Rattle.blaze_table.specs.Entries.{Entry, entry}
-use Rattle.blaze_table.specs.Planned.{inner, moved, IsRest}
+use Rattle.blaze_table.proofs.Words.{◌≡◌, ℕ, ◌+◌, ◌≤◌, ℤ, pos, ◌+ℤ◌, ◌≤ℤ◌, ◌<ℤ◌, Bool, true, false, cond, List, [], ◌∷◌, ◌++◌, length, drop, Option, Some, None, refl, ◌∙◌, sym, subst, ap, arith, ⊎_elim, IsSome, IfSome, IsSomeAnd, is_some, int_lt, int_le, ◌||◌, option_map, int_eq, ints, by_lt_z, filter-append, lt_true, lt_false, StartsAscend, below, from, last_below, start_at, with_entry, without, with_end_value, IsStartMoved, IsFrontReplaced, by_order, start_none, StartsBelow, below_takes, below_skips, below_none, from_takes, from_skips, from_all, from_none, more_below, starts_from, length-below, Plan, IsCanonical, IsPlace, IsRestPut, goes, Entry, entry, inner, moved, IsRest}
 use Rattle.blaze_table.proofs.Cuts.Splits.{last_at}
 use Rattle.blaze_table.proofs.Neighbours.Growing.{last_there}
 use Rattle.blaze_table.proofs.Paints.Clearing.{from_from}

@@ -1,12 +1,5 @@
 -- A paint inside an entry with an equal value changes nothing.
-use Rattle.std.proofs.Common.{ℤ, ◌≤ℤ◌, ◌<ℤ◌, Bool, List, [], ◌∷◌, length, Some, refl, sym, ap, arith, inl, inr}
-use Rattle.std.specs.Cmp.{IsEquivalence}
-use Rattle.std.proofs.lemmas.Int.{ints}
-use Rattle.blaze_entries.proofs.Alike.{same_along, same_itself}
-use Rattle.blaze_table.specs.Entries.{Entry, at, SameOption}
-use Rattle.blaze_table.specs.Canonical.{IsCanonical}
-use Rattle.blaze_table.specs.Painted.{IsInside}
-use Rattle.blaze_table.specs.Splice.{IsListPainted}
+use Rattle.blaze_table.proofs.Words.{ℤ, ◌≤ℤ◌, ◌<ℤ◌, Bool, List, [], ◌∷◌, length, Some, refl, sym, ap, arith, inl, inr, IsEquivalence, ints, same_along, same_itself, Entry, at, SameOption, IsCanonical, IsInside, IsListPainted}
 use Rattle.blaze_table.proofs.Canonical.Lookup.{IsAbove, IsAbove-from_apart, at_in, at_over, by_place, holds_in, holds_under, holds_over}
 
 module _ {V : Type 0} (eq : V → V → Bool) (l h : ℤ) (v : V) where

@@ -1,15 +1,5 @@
 -- Entries that a paint leaves alone are among those that it makes.
-use Rattle.std.proofs.Common.{◌≡◌, ℤ, pos, ◌+ℤ◌, ◌≤ℤ◌, ◌<ℤ◌, Bool, List, [], ◌∷◌, inl, inr, ⊎_elim, sym, subst, ap, arith}
-use Rattle.std.specs.Cmp.{IsEquivalence}
-use Rattle.std.specs.List.{Contains}
-use Rattle.std.proofs.lemmas.Int.{ints, by_lt_z}
-use Rattle.std.proofs.lemmas.List.Elements.{Contains-append_left, Contains-append_right, Contains-append_cases, Contains-push, Contains-push_cases}
-use Rattle.blaze_entries.specs.Starts.{from}
-use Rattle.blaze_entries.proofs.Halves.{from_takes, from_skips}
-use Rattle.blaze_table.specs.Entries.{Entry}
-use Rattle.blaze_table.specs.Canonical.{IsCanonical}
-use Rattle.blaze_table.specs.Painted.{IsApartFrom, IsAlreadyIn, IsInside, LeavesAlone}
-use Rattle.blaze_table.specs.Splice.{before, after, glue, IsBelow, IsSameAbove}
+use Rattle.blaze_table.proofs.Words.{◌≡◌, ℤ, pos, ◌+ℤ◌, ◌≤ℤ◌, ◌<ℤ◌, Bool, List, [], ◌∷◌, inl, inr, ⊎_elim, sym, subst, ap, arith, IsEquivalence, Contains, ints, by_lt_z, Contains-append_left, Contains-append_right, Contains-append_cases, Contains-push, Contains-push_cases, from, from_takes, from_skips, Entry, IsCanonical, IsApartFrom, IsAlreadyIn, IsInside, LeavesAlone, before, after, glue, IsBelow, IsSameAbove}
 use Rattle.blaze_table.proofs.Canonical.Lookup.{IsAbove, IsAbove-from_apart, above_by}
 use Rattle.blaze_table.proofs.Paints.Splices.{by_before, by_after, by_join, below_left}
 

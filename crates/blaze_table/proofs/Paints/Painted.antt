@@ -1,13 +1,5 @@
 -- A list that is the paint of another, but for values above that are only like the old.
-use Rattle.std.specs.Option.{option_or}
-use Rattle.std.proofs.Common.{◌≡◌, ◌+◌, ◌≤◌, ℤ, ◌≤ℤ◌, ◌<ℤ◌, Bool, true, false, cond, List, [], ◌∷◌, ◌++◌, length, Option, Some, refl, ◌∙◌, sym, ap, arith}
-use Rattle.std.specs.Prelude.{int_le, ◌&&◌}
-use Rattle.std.proofs.lemmas.Int.{ints}
-use Rattle.std.specs.Cmp.{IsEquivalence}
-use Rattle.blaze_entries.proofs.Alike.{same_along, same_itself, same_trans, same_or_right, same_or_left}
-use Rattle.blaze_table.specs.Entries.{Entry, holds, at, SameOption, SameContent, SameEntries}
-use Rattle.blaze_table.specs.Canonical.{IsApart, IsCanonical}
-use Rattle.blaze_table.specs.Splice.{before, after, glue, paint, IsBelow, IsPaintOf, IsListPainted}
+use Rattle.blaze_table.proofs.Words.{option_or, ◌≡◌, ◌+◌, ◌≤◌, ℤ, ◌≤ℤ◌, ◌<ℤ◌, Bool, true, false, cond, List, [], ◌∷◌, ◌++◌, length, Option, Some, refl, ◌∙◌, sym, ap, arith, int_le, ◌&&◌, ints, IsEquivalence, same_along, same_itself, same_trans, same_or_right, same_or_left, Entry, holds, at, SameOption, SameContent, SameEntries, IsApart, IsCanonical, before, after, glue, paint, IsBelow, IsPaintOf, IsListPainted}
 use Rattle.blaze_table.proofs.Canonical.Lookup.{IsAbove, by_place, holds_under, holds_over}
 use Rattle.blaze_table.proofs.Canonical.Unique.{back}
 use Rattle.blaze_table.proofs.Paints.Kept.{in_after, kept_apart}

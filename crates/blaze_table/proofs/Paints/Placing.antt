@@ -1,23 +1,5 @@
 -- The starts of an edit put in, over plain lists.
-use Rattle.std.proofs.Common.{◌≡◌, ℤ, pos, ◌+ℤ◌, ◌-ℤ◌, ◌≤ℤ◌, ◌<ℤ◌, Bool, true, false, cond, List, [], ◌∷◌, Option, Some, None, refl, ◌∙◌, sym, subst, ap, arith, ⊎_elim}
-use Rattle.std.specs.Prelude.{IsSome, IfSome, IsSomeAnd}
-use Rattle.std.specs.List.{Contains, last_or}
-use Rattle.std.specs.Option.{option_map}
-use Rattle.std.specs.Ordering.{int_eq}
-use Rattle.std.specs.Cmp.{IsEquivalence}
-use Rattle.std.proofs.lemmas.Int.{ints, by_lt_z}
-use Rattle.blaze_entries.specs.Found.{shown_ends}
-use Rattle.blaze_entries.specs.Starts.{below, from, last_below, start_at, with_entry, without, with_end_value, IsStartMoved, IsFrontReplaced}
-use Rattle.blaze_entries.specs.declared.scan.Plan.{Plan}
-use Rattle.blaze_entries.specs.declared.range_entry.RangeEntry.{RangeEntry}
-use Rattle.blaze_entries.proofs.Ascending.{by_order}
-use Rattle.blaze_entries.proofs.Alike.{one_value}
-use Rattle.blaze_entries.proofs.Halves.{below_takes, below_skips}
-use Rattle.blaze_table.specs.Entries.{Entry, entry, SameEntries}
-use Rattle.blaze_table.specs.Canonical.{IsCanonical}
-use Rattle.blaze_table.specs.Edited.{HasRoom, IsLikeRest, IsPlace, IsRestPut}
-use Rattle.blaze_table.specs.Planned.{IsRest, IsRestOf, IsRestKept, IsStartPut}
-use Rattle.blaze_table.specs.Splice.{after, IsSameAbove}
+use Rattle.blaze_table.proofs.Words.{◌≡◌, ℤ, pos, ◌+ℤ◌, ◌-ℤ◌, ◌≤ℤ◌, ◌<ℤ◌, Bool, true, false, cond, List, [], ◌∷◌, Option, Some, None, refl, ◌∙◌, sym, subst, ap, arith, ⊎_elim, IsSome, IfSome, IsSomeAnd, Contains, last_or, option_map, int_eq, IsEquivalence, ints, by_lt_z, shown_ends, below, from, last_below, start_at, with_entry, without, with_end_value, IsStartMoved, IsFrontReplaced, Plan, RangeEntry, by_order, one_value, below_takes, below_skips, Entry, entry, SameEntries, IsCanonical, HasRoom, IsLikeRest, IsPlace, IsRestPut, IsRest, IsRestOf, IsRestKept, IsStartPut, after, IsSameAbove}
 use Rattle.blaze_table.proofs.Paints.Clearing.{below_below}
 use Rattle.blaze_table.proofs.Paints.EditLists.{below_with, from_with_under, from_with, start_with, start_beside, without_with, start_beside_without, below_without, from_without, below_replaced, from_replaced, start_replaced, start_beside_replaced, start_below}
 use Rattle.blaze_table.proofs.Canonical.Lookup.{IsAbove, IsAbove-from_apart}

@@ -1,16 +1,5 @@
 -- What a painted list has at each key, that it is canonical, and how long it is.
-use Rattle.std.proofs.Common.{◌≡◌, ◌+◌, ◌≤◌, ℤ, pos, ◌+ℤ◌, ◌-ℤ◌, ◌≤ℤ◌, ◌<ℤ◌, Bool, true, false, cond, List, [], ◌∷◌, length, Option, Some, None, refl, ◌∙◌, sym, ap, arith}
-use Rattle.std.specs.Option.{option_or}
-use Rattle.std.specs.Prelude.{int_lt, int_le}
-use Rattle.std.proofs.lemmas.Int.{ints, by_lt_z}
-use Rattle.std.specs.Cmp.{IsEquivalence}
-use Rattle.std.proofs.lemmas.Bool.{and_parts}
-use Rattle.blaze_int.proofs.Comparisons.{by_bool, lt_true, lt_false, le_true, le_false, eq_holds, eq_true, and_fails}
-use Rattle.blaze_entries.proofs.Alike.{same_along, same_itself, same_trans}
-use Rattle.blaze_table.specs.Entries.{Entry, holds, at, SameOption, entry}
-use Rattle.blaze_table.specs.Canonical.{IsApart, IsCanonical}
-use Rattle.blaze_table.specs.Splice.{before, after, is_joinable, join, glue, paint, IsBelow}
-use Rattle.blaze_table.specs.Painted.{painted}
+use Rattle.blaze_table.proofs.Words.{◌≡◌, ◌+◌, ◌≤◌, ℤ, pos, ◌+ℤ◌, ◌-ℤ◌, ◌≤ℤ◌, ◌<ℤ◌, Bool, true, false, cond, List, [], ◌∷◌, length, Option, Some, None, refl, ◌∙◌, sym, ap, arith, option_or, int_lt, int_le, ints, by_lt_z, IsEquivalence, and_parts, by_bool, lt_true, lt_false, le_true, le_false, eq_holds, eq_true, and_fails, same_along, same_itself, same_trans, Entry, holds, at, SameOption, entry, IsApart, IsCanonical, before, after, is_joinable, join, glue, paint, IsBelow, painted}
 use Rattle.blaze_table.proofs.Canonical.Lookup.{IsAbove, at_in, at_under, at_over, by_place, at_before, holds_in, holds_under, holds_over}
 
 module _ {V : Type 0} where

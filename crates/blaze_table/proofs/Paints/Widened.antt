@@ -1,25 +1,9 @@
 -- A painted range, joined with what lies beside it, is what the paint makes of the list.
-use Rattle.std.proofs.Common.{◌≡◌, ℤ, pos, ◌+ℤ◌, ◌-ℤ◌, ◌≤ℤ◌, ◌<ℤ◌, Bool, true, false, cond, ◌&&◌, ◌||◌, List, [], ◌∷◌, ◌++◌, Option, Some, None, refl, ◌∙◌, sym, subst, ap, arith, inl, inr}
-use Rattle.std.specs.Prelude.{IsSome, int_le, ◌⊎◌}
-use Rattle.std.specs.List.{Contains}
-use Rattle.std.specs.Ordering.{int_eq}
-use Rattle.std.specs.Option.{option_map}
-use Rattle.std.specs.Cmp.{IsEquivalence}
-use Rattle.std.proofs.lemmas.Int.{ints, by_lt_z}
-use Rattle.std.proofs.lemmas.Bool.{and_parts}
-use Rattle.std.proofs.lemmas.List.{append_assoc}
-use Rattle.blaze_int.proofs.Comparisons.{le_holds, eq_holds, le_true, eq_true}
-use Rattle.blaze_entries.proofs.Alike.{one_value}
-use Rattle.blaze_table.specs.Entries.{Entry, entry, SameEntries}
-use Rattle.blaze_table.specs.Canonical.{IsApart, IsCanonical}
-use Rattle.blaze_table.specs.Splice.{before, after, glue, IsPaintOf, IsSameAbove}
+use Rattle.blaze_table.proofs.Words.{◌≡◌, ℤ, pos, ◌+ℤ◌, ◌-ℤ◌, ◌≤ℤ◌, ◌<ℤ◌, Bool, true, false, cond, ◌&&◌, ◌||◌, List, [], ◌∷◌, ◌++◌, Option, Some, None, refl, ◌∙◌, sym, subst, ap, arith, inl, inr, IsSome, int_le, ◌⊎◌, Contains, int_eq, option_map, IsEquivalence, ints, by_lt_z, and_parts, append_assoc, le_holds, eq_holds, le_true, eq_true, one_value, Entry, entry, SameEntries, IsApart, IsCanonical, before, after, glue, IsPaintOf, IsSameAbove, found_in, StartsAscend, below, last_below, start_at, IsEnd, IsUnjoined, joined_start}
 use Rattle.blaze_table.proofs.Paints.Splices.{by_after, by_join, before_keeps, before_cuts, before_ends, below_more, after_skips, after_keeps, canonical_after}
 use Rattle.blaze_table.proofs.Canonical.Lookup.{IsAbove}
 use Rattle.blaze_table.proofs.Paints.Kept.{first_in, later_in, by_first, over_in, in_after}
 use Rattle.blaze_table.proofs.Paints.Painted.{before_past}
-use Rattle.blaze_entries.specs.Found.{found_in}
-use Rattle.blaze_entries.specs.Starts.{StartsAscend, below, last_below, start_at}
-use Rattle.blaze_table.specs.Planned.{IsEnd, IsUnjoined, joined_start}
 use Rattle.blaze_table.proofs.Cuts.Splits.{LastAt, last_at, no_last_from, ends_below, canonical_part}
 use Rattle.blaze_table.proofs.Neighbours.Growing.{last_there, front_last}
 use Rattle.blaze_table.proofs.Neighbours.Glued.{glue-last}

@@ -1,10 +1,5 @@
 -- What holds at each pair of a pair list, taken to the pairs of one entry and to one key.
-use Rattle.std.proofs.Common.{ℕ, zero, suc, ℤ, pos, ◌+ℤ◌, ◌≤ℤ◌, ◌<ℤ◌, List, [], ◌∷◌, ◌++◌, subst, arith}
-use Rattle.std.specs.List.{All}
-use Rattle.std.proofs.lemmas.Int.{ints, by_lt_z}
-use Rattle.std.proofs.lemmas.List.Elements.{All-nil, All-cons, All-head, All-tail}
-use Rattle.blaze_table.specs.Entries.{Entry}
-use Rattle.blaze_table.specs.Pairs.{pairs_from, pairs_of, pair_list}
+use Rattle.blaze_table.proofs.Words.{ℕ, zero, suc, ℤ, pos, ◌+ℤ◌, ◌≤ℤ◌, ◌<ℤ◌, List, [], ◌∷◌, ◌++◌, subst, arith, All, ints, by_lt_z, All-nil, All-cons, All-head, All-tail, Entry, pairs_from, pairs_of, pair_list}
 use Rattle.blaze_table.proofs.Pairs.PairLists.{pair_list-append}
 
 module _ {X : Type 0} (P : X → Type 0) where

@@ -1,6 +1,5 @@
 -- A list that is gone through by index.
-use Rattle.std.proofs.Common.{◌≡◌, ℕ, ◌+◌, suc, ◌<◌, List, ◌∷◌, length, drop, get_or, ◌∙◌, sym, ap, arith}
-use Rattle.std.proofs.Math.Seq.{drop-cons}
+use Rattle.blaze_table.proofs.Words.{◌≡◌, ℕ, ◌+◌, suc, ◌<◌, List, ◌∷◌, length, drop, get_or, ◌∙◌, sym, ap, arith, drop-cons}
 
 -- from an index on there is first the item at it
 pub from_index : {X : Type 0} (xs : List X) (i : ℕ) (x : X) → i < length xs → x ≡ get_or xs i x → drop i xs ≡ x ∷ drop (i + 1) xs

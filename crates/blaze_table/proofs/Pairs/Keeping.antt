@@ -1,22 +1,7 @@
 -- Keys put one after another behind a list: what is kept of the pairs asked at.
-use Rattle.blaze_int.specs.Unsigned.{nat_of}
-use Rattle.std.specs.Option.{option_or}
-use Rattle.std.proofs.Common.{◌≡◌, ℕ, ◌+◌, ℤ, pos, ◌+ℤ◌, ◌-ℤ◌, ◌≤ℤ◌, Bool, true, false, cond, List, [], ◌∷◌, ◌++◌, Some, None, refl, ap, sym, ◌∙◌, subst, arith, append_assoc, append-nil}
-use Rattle.std.specs.Ordering.{int_eq}
-use Rattle.std.specs.Cmp.{IsEquivalence}
-use Rattle.std.specs.List.{items_where_true}
-use Rattle.std.proofs.lemmas.Int.{ints, by_lt_z}
+use Rattle.blaze_table.proofs.Words.{nat_of, option_or, ◌≡◌, ℕ, ◌+◌, ℤ, pos, ◌+ℤ◌, ◌-ℤ◌, ◌≤ℤ◌, Bool, true, false, cond, List, [], ◌∷◌, ◌++◌, Some, None, refl, ap, sym, ◌∙◌, subst, arith, int_eq, IsEquivalence, items_where_true, ints, by_lt_z, nat_of-pos, returns-push, picked-push_true, picked-push_false, same_along, same_trans, same_or, Entry, entry, at, SameOption, IsCanonical, AreKeys, keys_in, AddsKey, IsKept, KeepsMore, pairs_from, pairs_of, pair_list, value_at, glue, IsBelow, IsTable}
+use Rattle.std.proofs.Common.{append_assoc, append-nil}
 use Rattle.std.proofs.lemmas.List.{length-append}
-use Rattle.blaze_int.proofs.Naturals.{nat_of-pos}
-use Rattle.blaze_entries.proofs.InTurn.{returns-push, picked-push_true, picked-push_false}
-use Rattle.blaze_entries.proofs.Alike.{same_along, same_trans, same_or}
-use Rattle.blaze_table.specs.Entries.{Entry, entry, at, SameOption}
-use Rattle.blaze_table.specs.Canonical.{IsCanonical, AreKeys}
-use Rattle.blaze_table.specs.Count.{keys_in}
-use Rattle.blaze_table.specs.Keeping.{AddsKey, IsKept, KeepsMore}
-use Rattle.blaze_table.specs.Pairs.{pairs_from, pairs_of, pair_list, value_at}
-use Rattle.blaze_table.specs.Splice.{glue, IsBelow}
-use Rattle.blaze_table.specs.Table.{IsTable}
 use Rattle.blaze_table.proofs.Canonical.Counted.{keys_glue, are_keys_glue, some_keys}
 use Rattle.blaze_table.proofs.Canonical.Lookup.{IsAbove, IsAbove-from_apart, at_in, at_under, at_over, above_low}
 use Rattle.blaze_table.proofs.Pairs.PairLists.{pairs_append, pair_list-push}

@@ -1,11 +1,5 @@
 -- The set of ranges swept, and when two lists of ranges have the same keys.
-use Rattle.std.specs.Option.{option_or}
-use Rattle.std.proofs.Common.{◌≡◌, ℤ, Bool, true, false, cond, List, [], ◌∷◌, Option, Some, None, refl, ◌∙◌, sym, ap, subst}
-use Rattle.std.specs.Bool.{Decides}
-use Rattle.blaze_table.specs.Entries.{Entry, at, holds, SameOption, SameEntries}
-use Rattle.blaze_table.specs.CanonicalOf.{IsCanonicalOf}
-use Rattle.blaze_table.specs.Painted.{last_at, painted_in_order}
-use Rattle.blaze_table.specs.RangeSets.{IsRangeSet, IsSetOf, same_ranges, unit_eq}
+use Rattle.blaze_table.proofs.Words.{option_or, ◌≡◌, ℤ, Bool, true, false, cond, List, [], ◌∷◌, Option, Some, None, refl, ◌∙◌, sym, ap, subst, Decides, Entry, at, holds, SameOption, SameEntries, IsCanonicalOf, last_at, painted_in_order, IsRangeSet, IsSetOf, same_ranges, unit_eq}
 use Rattle.blaze_table.proofs.Paints.Painted.{entries_themselves}
 use Rattle.blaze_table.proofs.Canonical.SameLists.{same_from_test, test_from_same, content_decides}
 use Rattle.blaze_table.proofs.Pairs.UnitLaws.{unit_laws}

@@ -1,13 +1,6 @@
 -- The last pair that has a key.
-use Rattle.std.specs.Option.{option_or}
-use Rattle.std.proofs.Common.{◌≡◌, ℕ, zero, suc, ◌<◌, ℤ, pos, ◌+ℤ◌, ◌≤ℤ◌, ◌<ℤ◌, Bool, true, false, cond, List, [], ◌∷◌, Option, Some, None, refl, ◌∙◌, ap, arith}
-use Rattle.std.specs.Prelude.{slice_get}
-use Rattle.std.proofs.lemmas.Int.{ints}
-use Rattle.blaze_entries.proofs.Alike.{or_none}
-use Rattle.blaze_table.specs.Entries.{Entry, holds}
-use Rattle.blaze_table.specs.Painted.{last_at}
+use Rattle.blaze_table.proofs.Words.{option_or, ◌≡◌, ℕ, zero, suc, ◌<◌, ℤ, pos, ◌+ℤ◌, ◌≤ℤ◌, ◌<ℤ◌, Bool, true, false, cond, List, [], ◌∷◌, Option, Some, None, refl, ◌∙◌, ap, arith, slice_get, ints, or_none, Entry, holds, last_at, AreApart}
 use Rattle.blaze_table.proofs.Canonical.Lookup.{holds_in, holds_under, holds_over}
-use Rattle.blaze_table.specs.Swept.{AreApart}
 
 module _ {V : Type 0} where
   pub painted_one : (b : Bool) (v : V) (o : Option V) → cond b (Some v) o ≡ option_or (cond b (Some v) None) o

@@ -1,17 +1,6 @@
 -- The pair list of a range map is its content, key by key.
-use Rattle.blaze_int.specs.Unsigned.{nat_of}
-use Rattle.std.specs.Option.{option_or}
-use Rattle.std.proofs.Common.{◌≡◌, ℕ, zero, suc, ℤ, pos, ◌+ℤ◌, ◌-ℤ◌, ◌≤ℤ◌, ◌<ℤ◌, Bool, true, false, cond, List, [], ◌∷◌, ◌++◌, length, Option, Some, None, refl, ap, sym, ◌∙◌, subst, arith}
-use Rattle.std.specs.Ordering.{int_eq}
-use Rattle.std.specs.Cmp.{IsEquivalence}
-use Rattle.std.proofs.lemmas.Int.{ints, by_lt_z}
+use Rattle.blaze_table.proofs.Words.{nat_of, option_or, ◌≡◌, ℕ, zero, suc, ℤ, pos, ◌+ℤ◌, ◌-ℤ◌, ◌≤ℤ◌, ◌<ℤ◌, Bool, true, false, cond, List, [], ◌∷◌, ◌++◌, length, Option, Some, None, refl, ap, sym, ◌∙◌, subst, arith, int_eq, IsEquivalence, ints, by_lt_z, nat_of-pos, Entry, at, IsCanonical, AreKeys, keys_in, PairsAreContent, pairs_from, pairs_of, pair_list, value_at, IsAscendingPairs}
 use Rattle.std.proofs.lemmas.List.{length-append}
-use Rattle.blaze_int.proofs.Naturals.{nat_of-pos}
-use Rattle.blaze_table.specs.Entries.{Entry, at}
-use Rattle.blaze_table.specs.Canonical.{IsCanonical, AreKeys}
-use Rattle.blaze_table.specs.Count.{keys_in}
-use Rattle.blaze_table.specs.Laws.{PairsAreContent}
-use Rattle.blaze_table.specs.Pairs.{pairs_from, pairs_of, pair_list, value_at, IsAscendingPairs}
 use Rattle.blaze_table.proofs.Canonical.Lookup.{IsAbove, IsAbove-from_apart, at_in, at_under, at_over, by_place, above_low}
 use Rattle.blaze_table.proofs.Canonical.Runs.{canonical}
 

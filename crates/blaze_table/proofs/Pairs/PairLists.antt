@@ -1,10 +1,6 @@
 -- Pair lists, taken apart at either end, and their content.
-use Rattle.blaze_int.specs.Unsigned.{nat_of}
-use Rattle.std.proofs.Common.{◌≡◌, ℕ, zero, suc, ◌+◌, ℤ, pos, ◌+ℤ◌, ◌-ℤ◌, ◌≤ℤ◌, ◌<ℤ◌, List, [], ◌∷◌, ◌++◌, refl, ap, sym, ◌∙◌, arith, append_assoc, append-nil}
-use Rattle.std.proofs.lemmas.Int.{ints}
-use Rattle.blaze_int.proofs.Naturals.{nat_of-pos}
-use Rattle.blaze_table.specs.Entries.{Entry}
-use Rattle.blaze_table.specs.Pairs.{pairs_from, pairs_of, pair_list}
+use Rattle.blaze_table.proofs.Words.{nat_of, ◌≡◌, ℕ, zero, suc, ◌+◌, ℤ, pos, ◌+ℤ◌, ◌-ℤ◌, ◌≤ℤ◌, ◌<ℤ◌, List, [], ◌∷◌, ◌++◌, refl, ap, sym, ◌∙◌, arith, ints, nat_of-pos, Entry, pairs_from, pairs_of, pair_list}
+use Rattle.std.proofs.Common.{append_assoc, append-nil}
 
 pub nat_of-next : (z : ℤ) → pos 0 ≤ℤ z → nat_of (z +ℤ pos 1) ≡ suc (nat_of z)
 nat_of-next z h =

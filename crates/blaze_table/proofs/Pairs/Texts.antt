@@ -1,8 +1,5 @@
 -- Texts of which some parts may be unknown.
-use Rattle.std.proofs.Common.{◌≡◌, ℕ, List, ◌++◌, ℤ, refl, Option, Some, None, codes}
-use Rattle.std.specs.Fmt.{option_append, ◌++?◌}
-use Rattle.blaze_table.specs.Entries.{Entry}
-use Rattle.blaze_table.specs.Printed.{range_text}
+use Rattle.blaze_table.proofs.Words.{◌≡◌, ℕ, List, ◌++◌, ℤ, refl, Option, Some, None, codes, option_append, ◌++?◌, Entry, range_text}
 
 -- where two texts together are known, each is
 pub split_some : (o p : Option (List ℕ)) (c : List ℕ) → option_append o p ≡ Some c → (a b : List ℕ) × (o ≡ Some a) × (p ≡ Some b) × (a ++ b ≡ c)

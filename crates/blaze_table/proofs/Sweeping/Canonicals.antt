@@ -1,20 +1,8 @@
 -- A list with all that pairs paint is their canonical list; how long it is.
-use Rattle.std.specs.Option.{option_or}
-use Rattle.std.proofs.Common.{◌≡◌, ℕ, ◌+◌, ◌-◌, ◌*◌, ◌≤◌, ℤ, ◌≤ℤ◌, Bool, cond, List, [], ◌∷◌, length, Some, None, refl, ◌∙◌, sym, ap, subst, arith, inl, inr, ⊎_elim}
-use Rattle.std.specs.Prelude.{int_le, ◌⊎◌}
-use Rattle.std.specs.Cmp.{IsEquivalence}
-use Rattle.std.proofs.lemmas.Int.{by_lt_z}
-use Rattle.blaze_int.proofs.Comparisons.{le_true, le_false}
-use Rattle.blaze_entries.proofs.Alike.{same_along, same_itself, same_trans, same_or_right, same_back, or_none, or_assoc}
-use Rattle.blaze_table.specs.Entries.{Entry, at, holds, SameOption}
-use Rattle.blaze_table.specs.Canonical.{IsCanonical}
-use Rattle.blaze_table.specs.Painted.{last_at, painted_in_order}
-use Rattle.blaze_table.specs.Splice.{IsListPainted, paint}
+use Rattle.blaze_table.proofs.Words.{option_or, ◌≡◌, ℕ, ◌+◌, ◌-◌, ◌*◌, ◌≤◌, ℤ, ◌≤ℤ◌, Bool, cond, List, [], ◌∷◌, length, Some, None, refl, ◌∙◌, sym, ap, subst, arith, inl, inr, ⊎_elim, int_le, ◌⊎◌, IsEquivalence, by_lt_z, le_true, le_false, same_along, same_itself, same_trans, same_or_right, same_back, or_none, or_assoc, Entry, at, holds, SameOption, IsCanonical, last_at, painted_in_order, IsListPainted, paint, keyed, IsCanonicalOf, IsSwept}
 use Rattle.blaze_table.proofs.Paints.Painted.{is_painted, paint_itself, painted_nowhere, length_as}
 use Rattle.blaze_table.proofs.Canonical.Runs.{one_per_run}
 use Rattle.blaze_table.proofs.Canonical.Unique.{unique}
-use Rattle.blaze_table.specs.CanonicalOf.{keyed, IsCanonicalOf}
-use Rattle.blaze_table.specs.Swept.{IsSwept}
 use Rattle.blaze_table.proofs.Pairs.Lasts.{painted_one}
 use Rattle.blaze_table.proofs.Sweeping.Sweeps.{at_past}
 

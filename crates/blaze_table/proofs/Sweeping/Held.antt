@@ -1,14 +1,6 @@
 -- The values of pairs, by where they are, and what is left of them.
-use Rattle.std.proofs.Common.{◌≡◌, ℕ, zero, suc, ◌-◌, ◌<◌, ◌≤◌, ℤ, Bool, List, [], ◌∷◌, length, slice_set, Option, Some, None, refl, ◌∙◌, sym, ap, subst, arith, get_or, option_map}
-use Rattle.std.specs.Prelude.{slice_get, IsSome}
-use Rattle.std.specs.Cmp.{IsEquivalence}
-use Rattle.std.proofs.lemmas.Option.{slice_get-map, slice_get_read}
-use Rattle.blaze_table.specs.Entries.{Entry, SameOption, shown_entry, shown_list}
-use Rattle.blaze_table.specs.Splice.{glue}
+use Rattle.blaze_table.proofs.Words.{◌≡◌, ℕ, zero, suc, ◌-◌, ◌<◌, ◌≤◌, ℤ, Bool, List, [], ◌∷◌, length, slice_set, Option, Some, None, refl, ◌∙◌, sym, ap, subst, arith, get_or, option_map, slice_get, IsSome, IsEquivalence, slice_get-map, slice_get_read, Entry, SameOption, shown_entry, shown_list, glue, Held, Kept, Moved, held_value}
 use Rattle.blaze_table.proofs.Paints.Splices.{by_join}
-use Rattle.blaze_table.specs.declared.sweep.held.Held.{Held}
-use Rattle.blaze_table.specs.declared.sweep.held.Held.TheVariants.{Kept, Moved}
-use Rattle.blaze_table.specs.Held.{held_value}
 
 -- ---- an item of a list replaced
 

@@ -1,12 +1,5 @@
 -- Pairs that are ascending and disjoint, put behind a list one after another.
-use Rattle.std.proofs.Common.{◌≡◌, ℤ, pos, ◌+ℤ◌, ◌≤ℤ◌, Bool, List, [], ◌∷◌, refl, ◌∙◌, sym, subst, arith}
-use Rattle.std.specs.Prelude.{Some}
-use Rattle.std.specs.Cmp.{IsEquivalence}
-use Rattle.std.proofs.lemmas.Int.{ints}
-use Rattle.blaze_table.specs.Entries.{Entry, SameOption}
-use Rattle.blaze_table.specs.Painted.{last_at}
-use Rattle.blaze_table.specs.Splice.{glue}
-use Rattle.blaze_table.specs.Swept.{AreApart, IsSwept}
+use Rattle.blaze_table.proofs.Words.{◌≡◌, ℤ, pos, ◌+ℤ◌, ◌≤ℤ◌, Bool, List, [], ◌∷◌, refl, ◌∙◌, sym, subst, arith, Some, IsEquivalence, ints, Entry, SameOption, last_at, glue, AreApart, IsSwept}
 use Rattle.blaze_table.proofs.Pairs.Lasts.{last_below, last_first, last_over}
 use Rattle.blaze_table.proofs.Sweeping.Sweeps.{swept_none, swept_more}
 

@@ -1,9 +1,5 @@
 -- Steps of one, and what a sort leaves.
-use Rattle.std.proofs.Common.{◌≡◌, suc, ◌+◌, ℤ, pos, ◌+ℤ◌, ◌≤ℤ◌, ◌<ℤ◌, Bool, false, List, ◌∷◌, subst, arith}
-use Rattle.std.specs.Prelude.{slice_index_or}
-use Rattle.std.specs.List.Sorted.{IsSortedBy}
-use Rattle.std.specs.Ordering.{is_lt, int_cmp}
-use Rattle.std.proofs.lemmas.Int.{ints}
+use Rattle.blaze_table.proofs.Words.{◌≡◌, suc, ◌+◌, ℤ, pos, ◌+ℤ◌, ◌≤ℤ◌, ◌<ℤ◌, Bool, false, List, ◌∷◌, subst, arith, slice_index_or, IsSortedBy, is_lt, int_cmp, ints}
 
 pub step_up : (a e n : ℤ) → a ≤ℤ e → n ≡ e +ℤ pos 1 → a ≤ℤ n
 step_up a e n h q = omega (arith, ints)

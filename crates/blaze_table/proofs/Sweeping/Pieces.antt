@@ -1,21 +1,5 @@
 -- Pieces put one after another, each with the value of its pair.
-use Rattle.std.proofs.Common.{◌≡◌, ℕ, zero, suc, ◌-◌, ◌<◌, ℤ, pos, ◌+ℤ◌, ◌≤ℤ◌, Bool, true, false, List, [], ◌∷◌, length, slice_set, Option, Some, None, refl, ◌∙◌, sym, ap, subst, arith, nat_eq, option_map, All}
-use Rattle.std.specs.Prelude.{slice_get, slice_index_or, IsSome}
-use Rattle.std.specs.Cmp.{IsEquivalence}
-use Rattle.std.proofs.lemmas.Int.{ints}
-use Rattle.std.proofs.lemmas.List.{length-map}
-use Rattle.std.proofs.lemmas.Option.{slice_get-map, slice_get_within}
-use Rattle.blaze_int.proofs.Comparisons.{by_bool}
-use Rattle.blaze_entries.proofs.Alike.{same_trans}
-use Rattle.blaze_table.specs.CanonicalOf.{IsCanonicalOf}
-use Rattle.blaze_table.specs.Entries.{Entry, entry, SameOption}
-use Rattle.blaze_table.specs.Painted.{last_at}
-use Rattle.blaze_table.specs.Swept.{IsSwept}
-use Rattle.blaze_table.specs.declared.sweep.held.Held.{Held}
-use Rattle.blaze_table.specs.declared.sweep.held.Held.TheVariants.{Moved}
-use Rattle.blaze_table.specs.declared.sweep.placed.Placed.{Placed}
-use Rattle.blaze_table.specs.Held.{held_value, PutsPiece}
-use Rattle.blaze_table.specs.Pieces.{IsPlaced, ArePlaced, EndsAreKeys, span_of, spans, IsWaiting, IsPiece, IsSweptTo, SweepsOn}
+use Rattle.blaze_table.proofs.Words.{◌≡◌, ℕ, zero, suc, ◌-◌, ◌<◌, ℤ, pos, ◌+ℤ◌, ◌≤ℤ◌, Bool, true, false, List, [], ◌∷◌, length, slice_set, Option, Some, None, refl, ◌∙◌, sym, ap, subst, arith, nat_eq, option_map, All, slice_get, slice_index_or, IsSome, IsEquivalence, ints, length-map, slice_get-map, slice_get_within, by_bool, same_trans, IsCanonicalOf, Entry, entry, SameOption, last_at, IsSwept, Held, Moved, Placed, held_value, PutsPiece, IsPlaced, ArePlaced, EndsAreKeys, span_of, spans, IsWaiting, IsPiece, IsSweptTo, SweepsOn}
 use Rattle.blaze_table.proofs.Sweeping.Canonicals.{canonical_of_swept}
 use Rattle.blaze_table.proofs.Sweeping.Held.{get_set_same, get_set_other, held_keeps, glue_last}
 use Rattle.blaze_table.proofs.Sweeping.Placed.{one_item, item_of, none_at, value_of}

@@ -1,28 +1,8 @@
 -- The pairs with their places.
-use Rattle.std.proofs.Common.{◌≡◌, ℕ, zero, suc, ◌+◌, ◌<◌, ℤ, ◌≤ℤ◌, ◌<ℤ◌, Bool, true, List, [], ◌∷◌, ◌++◌, length, All, IsPermutation, Some, None, drop, option_map, refl, ◌∙◌, sym, ap, subst, arith, inl, inr, ⊎_elim}
-use Rattle.std.specs.Prelude.{slice_get, slice_index_or, ◌⊎◌}
-use Rattle.std.specs.Cmp.{IsEquivalence}
-use Rattle.std.specs.List.{Contains}
-use Rattle.std.specs.List.Sorted.{IsSortedByKey}
-use Rattle.std.specs.Ordering.{is_lt, int_cmp}
-use Rattle.std.specs.declared.cmp.Ordering.{Ordering}
-use Rattle.std.proofs.lemmas.Int.{ints}
-use Rattle.std.proofs.lemmas.List.{map-append}
-use Rattle.std.proofs.lemmas.List.Elements.{All-nil, All-push, All-head, All-tail, All-map, All-weaker, Contains-append_left, Contains-push}
-use Rattle.std.proofs.lemmas.List.Sorted.{All-permutation, Contains-permutation, IsPermutation-map}
-use Rattle.std.proofs.lemmas.Option.{get_or_from_slice_get, slice_get_within}
-use Rattle.blaze_int.proofs.Comparisons.{by_bool}
-use Rattle.blaze_table.specs.Canonical.{AreKeys}
-use Rattle.blaze_table.specs.Entries.{Entry, holds, SameOption}
-use Rattle.blaze_table.specs.Held.{held_value}
-use Rattle.blaze_table.specs.Painted.{last_at}
-use Rattle.blaze_table.specs.Pieces.{IsPlaced, places_of, ArePlacedBelow, ArePlaced, HasKey, EndsAreKeys, AreAscending, span_of, spans, IsPiece}
+use Rattle.blaze_table.proofs.Words.{◌≡◌, ℕ, zero, suc, ◌+◌, ◌<◌, ℤ, ◌≤ℤ◌, ◌<ℤ◌, Bool, true, List, [], ◌∷◌, ◌++◌, length, All, IsPermutation, Some, None, drop, option_map, refl, ◌∙◌, sym, ap, subst, arith, inl, inr, ⊎_elim, slice_get, slice_index_or, ◌⊎◌, IsEquivalence, Contains, IsSortedByKey, is_lt, int_cmp, Ordering, ints, map-append, All-nil, All-push, All-head, All-tail, All-map, All-weaker, Contains-append_left, Contains-push, All-permutation, Contains-permutation, IsPermutation-map, get_or_from_slice_get, slice_get_within, by_bool, AreKeys, Entry, holds, SameOption, held_value, last_at, IsPlaced, places_of, ArePlacedBelow, ArePlaced, HasKey, EndsAreKeys, AreAscending, span_of, spans, IsPiece, Held, Kept, Placed}
 use Rattle.blaze_table.proofs.Pairs.Lasts.{last_none, last_is}
 use Rattle.blaze_table.proofs.Canonical.Lookup.{holds_in, holds_ends}
 use Rattle.blaze_table.proofs.Sweeping.Orders.{tail_sorted, not_less}
-use Rattle.blaze_table.specs.declared.sweep.held.Held.{Held}
-use Rattle.blaze_table.specs.declared.sweep.held.Held.TheVariants.{Kept}
-use Rattle.blaze_table.specs.declared.sweep.placed.Placed.{Placed}
 
 -- ---- items of lists
 

@@ -1,9 +1,5 @@
 -- An entry put behind a list, whose items are seen as entries.
-use Rattle.std.proofs.Common.{◌≡◌, ℕ, ◌+◌, Bool, true, false, List, [], ◌∷◌, ◌++◌, length, take, map, get_or, slice_set, ◌∙◌, sym, ap, arith}
-use Rattle.std.proofs.lemmas.List.{map-append, take_more, length-take-le}
-use Rattle.std.proofs.Math.Seq.{set-append_seam, take-length}
-use Rattle.blaze_table.specs.Entries.{Entry, entry}
-use Rattle.blaze_table.specs.Splice.{is_joinable, glue}
+use Rattle.blaze_table.proofs.Words.{◌≡◌, ℕ, ◌+◌, Bool, true, false, List, [], ◌∷◌, ◌++◌, length, take, map, get_or, slice_set, ◌∙◌, sym, ap, arith, map-append, take_more, length-take-le, set-append_seam, take-length, Entry, entry, is_joinable, glue}
 use Rattle.blaze_table.proofs.Neighbours.Glued.{glue-joined, glue-apart}
 
 -- the list has the item last, behind n others

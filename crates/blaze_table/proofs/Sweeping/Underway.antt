@@ -1,15 +1,6 @@
 -- Pairs that wait or are to come.
-use Rattle.blaze_int.proofs.Naturals.{by_less}
-use Rattle.std.proofs.Common.{◌≡◌, ℕ, zero, suc, ◌+◌, ◌<◌, ◌≤◌, ℤ, pos, ◌-ℤ◌, ◌≤ℤ◌, List, [], ◌∷◌, length, All, IsPermutation, Some, refl, subst, arith}
-use Rattle.std.specs.Prelude.{slice_get}
-use Rattle.std.specs.List.{Contains}
-use Rattle.std.proofs.lemmas.Int.{ints}
-use Rattle.std.proofs.lemmas.List.Elements.{All-nil, All-cons, Contains-append_right}
-use Rattle.std.proofs.lemmas.List.Sorted.{All-permutation, Contains-permutation}
-use Rattle.std.proofs.lemmas.Option.{slice_get_within}
-use Rattle.blaze_table.specs.Pieces.{EndsAreKeys, AreAscending, HasStarted, IsWaiting, KeepsReaching, IsUnderway}
+use Rattle.blaze_table.proofs.Words.{by_less, ◌≡◌, ℕ, zero, suc, ◌+◌, ◌<◌, ◌≤◌, ℤ, pos, ◌-ℤ◌, ◌≤ℤ◌, List, [], ◌∷◌, length, All, IsPermutation, Some, refl, subst, arith, slice_get, Contains, ints, All-nil, All-cons, Contains-append_right, All-permutation, Contains-permutation, slice_get_within, EndsAreKeys, AreAscending, HasStarted, IsWaiting, KeepsReaching, IsUnderway, Placed}
 use Rattle.blaze_table.proofs.Sweeping.Placed.{one_item, item_of, one_more}
-use Rattle.blaze_table.specs.declared.sweep.placed.Placed.{Placed}
 
 contains_head : {X : Type 0} (x : X) (xs : List X) → Contains (x ∷ xs) x
 contains_head x xs = (0, omega arith, refl)

@@ -1,13 +1,6 @@
 -- The pairs that wait: which of them is painted, and what is left of them.
-use Rattle.std.proofs.Common.{◌≡◌, ℕ, zero, suc, ◌<◌, ◌≤◌, ℤ, pos, ◌+ℤ◌, ◌-ℤ◌, ◌≤ℤ◌, ◌<ℤ◌, List, [], ◌∷◌, length, All, IsPermutation, Some, ap, subst, arith, inl, inr, ⊎_elim}
-use Rattle.std.specs.Prelude.{slice_get, slice_index_or, ◌⊎◌}
-use Rattle.std.specs.List.{Contains}
-use Rattle.std.proofs.lemmas.Int.{ints}
-use Rattle.std.proofs.lemmas.List.Elements.{All-contains, All-tail, All-weaker}
-use Rattle.std.proofs.lemmas.List.Sorted.{All-permutation, Contains-permutation}
-use Rattle.blaze_table.specs.Pieces.{HasKey, HasStarted, IsWaiting, IsPiece, KeepsReaching}
+use Rattle.blaze_table.proofs.Words.{◌≡◌, ℕ, zero, suc, ◌<◌, ◌≤◌, ℤ, pos, ◌+ℤ◌, ◌-ℤ◌, ◌≤ℤ◌, ◌<ℤ◌, List, [], ◌∷◌, length, All, IsPermutation, Some, ap, subst, arith, inl, inr, ⊎_elim, slice_get, slice_index_or, ◌⊎◌, Contains, ints, All-contains, All-tail, All-weaker, All-permutation, Contains-permutation, HasKey, HasStarted, IsWaiting, IsPiece, KeepsReaching, Placed}
 use Rattle.blaze_table.proofs.Sweeping.Placed.{one_item, item_of}
-use Rattle.blaze_table.specs.declared.sweep.placed.Placed.{Placed}
 
 pub contains_cases : {X : Type 0} (x y : X) (xs : List X) → Contains (x ∷ xs) y → (x ≡ y) ⊎ Contains xs y
 contains_cases x y xs c = elim_index c.0 c.1 c.2

@@ -1,9 +1,5 @@
 -- A walk down the entries by single looks, each below the start of the entry before.
-use Rattle.std.proofs.Common.{◌≡◌, ℕ, ◌+◌, ◌<◌, ℤ, Bool, List, [], ◌∷◌, ◌++◌, length, Option, Some, None, refl, ◌∙◌, sym, ap, arith, length-append}
-use Rattle.std.specs.Option.{option_map}
-use Rattle.blaze_entries.specs.Found.{found_in}
-use Rattle.blaze_entries.specs.Starts.{StartsAscend, below, last_below}
-use Rattle.blaze_table.specs.Entries.{Entry}
+use Rattle.blaze_table.proofs.Words.{◌≡◌, ℕ, ◌+◌, ◌<◌, ℤ, Bool, List, [], ◌∷◌, ◌++◌, length, Option, Some, None, refl, ◌∙◌, sym, ap, arith, length-append, option_map, found_in, StartsAscend, below, last_below, Entry}
 use Rattle.blaze_table.proofs.Cuts.Splits.{last_at, no_last}
 use Rattle.blaze_table.proofs.Neighbours.Growing.{below_last, front_last}
 

@@ -1,16 +1,5 @@
 -- A walk down to a range looks at no more entries than a paint of the range takes out, but for a few.
-use Rattle.std.proofs.Common.{◌≡◌, ℕ, ◌+◌, ◌≤◌, ℤ, pos, ◌+ℤ◌, ◌≤ℤ◌, Bool, List, [], ◌∷◌, length, ◌∙◌, ap, arith}
-use Rattle.std.specs.Prelude.{Result, Ok, Err, OnOk, IfOk}
-use Rattle.std.proofs.lemmas.Int.{ints, by_lt_z}
-use Rattle.blaze_entries.specs.Counted.{CountedEntries}
-use Rattle.blaze_entries.specs.Starts.{StartsAscend, below, from}
-use Rattle.blaze_entries.specs.Walked.{IsLookedAt}
-use Rattle.blaze_entries.proofs.Halves.{below_takes, below_skips, below_none, from_takes, from_skips, from_all}
-use Rattle.blaze_table.specs.Entries.{Entry, entry}
-use Rattle.blaze_table.specs.Canonical.{IsCanonical}
-use Rattle.blaze_table.specs.Work.{IsCountedPaint, PutsAtMost}
-use Rattle.blaze_table.specs.Planned.{IsLooked, IsWorked}
-use Rattle.blaze_table.specs.Splice.{before, after, IsTablePainted}
+use Rattle.blaze_table.proofs.Words.{◌≡◌, ℕ, ◌+◌, ◌≤◌, ℤ, pos, ◌+ℤ◌, ◌≤ℤ◌, Bool, List, [], ◌∷◌, length, ◌∙◌, ap, arith, Result, Ok, Err, OnOk, IfOk, ints, by_lt_z, CountedEntries, StartsAscend, below, from, IsLookedAt, below_takes, below_skips, below_none, from_takes, from_skips, from_all, Entry, entry, IsCanonical, IsCountedPaint, PutsAtMost, IsLooked, IsWorked, before, after, IsTablePainted}
 use Rattle.blaze_table.proofs.Canonical.Lookup.{IsAbove-from_apart, above_by}
 use Rattle.blaze_table.proofs.Walks.Plans.{from_above}
 use Rattle.blaze_table.proofs.Walks.Worked.{counted_then, counted_looked}

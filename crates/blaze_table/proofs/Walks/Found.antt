@@ -1,24 +1,7 @@
 -- What a walk down to a range, which speaks of the list, tells an edit of the range.
-use Rattle.std.proofs.Common.{◌≡◌, ℤ, pos, ◌+ℤ◌, ◌-ℤ◌, ◌≤ℤ◌, ◌<ℤ◌, Bool, true, false, cond, List, [], ◌∷◌, Option, Some, None, refl, ◌∙◌, sym, subst, ap, arith, ℕ, inl, inr}
-use Rattle.std.specs.List.{last_or}
-use Rattle.std.specs.Option.{option_map}
-use Rattle.std.specs.Ordering.{int_eq}
-use Rattle.std.specs.Prelude.{int_le, ◌&&◌, ◌||◌, IsSome, IfSome, IsSomeAnd}
-use Rattle.std.proofs.lemmas.Int.{ints, by_lt_z}
-use Rattle.blaze_int.proofs.Comparisons.{lt_true, lt_false, le_true, not_both}
-use Rattle.blaze_entries.specs.Counted.{CountedEntries}
-use Rattle.blaze_entries.specs.declared.range_entry.RangeEntry.{RangeEntry}
-use Rattle.blaze_entries.specs.Found.{found_in, shown_found}
+use Rattle.blaze_table.proofs.Words.{◌≡◌, ℤ, pos, ◌+ℤ◌, ◌-ℤ◌, ◌≤ℤ◌, ◌<ℤ◌, Bool, true, false, cond, List, [], ◌∷◌, Option, Some, None, refl, ◌∙◌, sym, subst, ap, arith, ℕ, inl, inr, last_or, option_map, int_eq, int_le, ◌&&◌, ◌||◌, IsSome, IfSome, IsSomeAnd, ints, by_lt_z, lt_true, lt_false, le_true, not_both, CountedEntries, RangeEntry, found_in, shown_found, RangesAscend, end_of, IsSeenIn, IsAboveCloned, GoesOnUnlike, IsClonedIf, IsWalk, StartsAscend, below, last_below, start_at, below_none, below_takes, IsCanonical, AreKeys, Entry, entry, at, entry_at, SameOption, ClonesAreAlike, IsInside, joined_start, IsUnjoined, IsEndAfter, IsEnd, IsLikeAbove, IsUnlikeAbove, GoesOnUnequal, IsLooked, IsWalkOf, after, IsTable}
 use Rattle.blaze_entries.specs.Overlap.{covered}
-use Rattle.blaze_entries.specs.Walked.{RangesAscend, end_of, IsSeenIn, IsAboveCloned, GoesOnUnlike, IsClonedIf, IsWalk}
-use Rattle.blaze_entries.specs.Starts.{StartsAscend, below, last_below, start_at}
-use Rattle.blaze_entries.proofs.Halves.{below_none, below_takes}
-use Rattle.blaze_table.specs.Canonical.{IsCanonical, AreKeys}
-use Rattle.blaze_table.specs.Entries.{Entry, entry, at, entry_at, SameOption}
-use Rattle.blaze_table.specs.Painted.{ClonesAreAlike, IsInside}
-use Rattle.blaze_table.specs.Planned.{Seen, joined_start, IsUnjoined, IsEndAfter, IsEnd, IsLikeAbove, IsUnlikeAbove, GoesOnUnequal, IsLooked, IsWalkOf}
-use Rattle.blaze_table.specs.Splice.{after}
-use Rattle.blaze_table.specs.Table.{IsTable}
+use Rattle.blaze_table.specs.Planned.{Seen}
 use Rattle.blaze_table.proofs.Canonical.Counted.{keys_apart}
 use Rattle.blaze_table.proofs.Canonical.Lookup.{value-entry_at}
 use Rattle.blaze_table.proofs.Cuts.CutEdits.{entry_held}

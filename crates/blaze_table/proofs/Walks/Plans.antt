@@ -1,22 +1,5 @@
 -- What the plan of a paint says of the list.
-use Rattle.std.proofs.Common.{◌≡◌, ℤ, pos, ◌+ℤ◌, ◌≤ℤ◌, ◌<ℤ◌, Bool, true, false, cond, List, [], ◌∷◌, Option, Some, None, refl, ◌∙◌, sym, subst, ap, arith, inl, inr}
-use Rattle.std.specs.Prelude.{IfSome, IsSomeAnd, int_le, ◌&&◌, ◌||◌}
-use Rattle.std.specs.Option.{option_map}
-use Rattle.std.proofs.lemmas.Int.{ints, by_lt_z}
-use Rattle.blaze_int.proofs.Comparisons.{by_bool, lt_true, lt_false, not_both}
-use Rattle.std.specs.Ordering.{int_eq}
-use Rattle.blaze_entries.specs.Found.{found_in, range_in, shown_found, shown_ends}
-use Rattle.blaze_entries.specs.Walked.{Seen, shown_plan}
-use Rattle.blaze_entries.specs.Starts.{StartsAscend, from, last_below, start_at}
-use Rattle.blaze_entries.specs.declared.range_entry.RangeEntry.{RangeEntry}
-use Rattle.blaze_entries.specs.declared.scan.Plan.{Plan}
-use Rattle.blaze_entries.proofs.Alike.{one_value}
-use Rattle.blaze_entries.proofs.Halves.{from_takes, from_skips}
-use Rattle.blaze_table.specs.Entries.{Entry, entry}
-use Rattle.blaze_table.specs.Edited.{IsPlace}
-use Rattle.blaze_table.specs.Canonical.{IsCanonical}
-use Rattle.blaze_table.specs.Planned.{IsLikeAbove, IsUnjoined, IsJoinedTo, IsEnd, rest_of, joined_start, IsPlanOf, IsRestOf, IsRest}
-use Rattle.blaze_table.specs.Splice.{after}
+use Rattle.blaze_table.proofs.Words.{◌≡◌, ℤ, pos, ◌+ℤ◌, ◌≤ℤ◌, ◌<ℤ◌, Bool, true, false, cond, List, [], ◌∷◌, Option, Some, None, refl, ◌∙◌, sym, subst, ap, arith, inl, inr, IfSome, IsSomeAnd, int_le, ◌&&◌, ◌||◌, option_map, ints, by_lt_z, by_bool, lt_true, lt_false, not_both, int_eq, found_in, range_in, shown_found, shown_ends, Seen, shown_plan, StartsAscend, from, last_below, start_at, RangeEntry, Plan, one_value, from_takes, from_skips, Entry, entry, IsPlace, IsCanonical, IsLikeAbove, IsUnjoined, IsJoinedTo, IsEnd, rest_of, joined_start, IsPlanOf, IsRestOf, IsRest, after}
 use Rattle.blaze_table.proofs.Canonical.Lookup.{IsAbove, IsAbove-from_apart, above_by}
 use Rattle.blaze_table.proofs.Paints.Splices.{by_after, after_skips}
 use Rattle.blaze_table.proofs.Cuts.Splits.{LastAt, last_at, after_short, after_long, after_none, none_next}

@@ -1,9 +1,5 @@
 -- What steps count, one after another.
-use Rattle.std.proofs.Common.{◌≡◌, ℕ, ◌+◌, ◌≤◌, List, length, ◌∙◌, ap, arith}
-use Rattle.blaze_entries.specs.Counted.{CountedEntries}
-use Rattle.blaze_table.specs.Entries.{Entry}
-use Rattle.blaze_table.specs.Planned.{IsWorked}
-use Rattle.blaze_table.specs.Work.{IsCounted}
+use Rattle.blaze_table.proofs.Words.{◌≡◌, ℕ, ◌+◌, ◌≤◌, List, length, ◌∙◌, ap, arith, CountedEntries, Entry, IsWorked, IsCounted}
 
 module _ {V : Type 0} where
   pub counted_none : (s : CountedEntries V) → IsCounted s s

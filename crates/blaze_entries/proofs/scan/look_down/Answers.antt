@@ -1,8 +1,4 @@
-use Rattle.std.proofs.Common.{◌≡◌, pos, ◌+ℤ◌, ◌∷◌, refl, arith, ap, sym, ◌∙◌}
-use Rattle.std.specs.Option.{option_copied}
-use Rattle.blaze_entries.specs.Found.{is_sought}
-use Rattle.blaze_entries.specs.Starts.{from}
-use Rattle.blaze_entries.specs.Walked.{seen_value}
+use Rattle.blaze_entries.proofs.Words.{◌≡◌, pos, ◌+ℤ◌, ◌∷◌, refl, arith, ap, sym, ◌∙◌, option_copied, is_sought, from, seen_value}
 use Rattle.blaze_entries.proofs.Halves.{below_next}
 use Rattle.blaze_entries.proofs.Scans.{found_entry}
 use Rattle.blaze_entries.proofs.Underway.{begins, value_begins, fits, has_room, goes_on, stops, value_goes_on, value_stops}

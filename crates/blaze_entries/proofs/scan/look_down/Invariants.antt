@@ -1,8 +1,4 @@
-use Rattle.std.proofs.Common.{◌≡◌, length, pos, List}
-use Rattle.std.specs.Option.{option_copied}
-use Rattle.blaze_entries.specs.Entries.{Entry, at}
-use Rattle.blaze_entries.specs.Found.{is_sought}
-use Rattle.blaze_entries.specs.Walked.{shown_plan}
+use Rattle.blaze_entries.proofs.Words.{◌≡◌, length, pos, List, option_copied, Entry, at, is_sought, shown_plan}
 use Rattle.blaze_entries.proofs.Underway.{IsWalkUnderway}
 use Rattle.blaze_entries.proofs.scan.look_down.Given as goal
 

@@ -1,5 +1,4 @@
-use Rattle.std.proofs.Common.{refl}
-use Rattle.blaze_entries.specs.Entries.{shown_entry}
+use Rattle.blaze_entries.proofs.Words.{refl, shown_entry}
 use Rattle.blaze_entries.proofs.scan.next_found.Goals as goal
 
 pub returns-in-Some-clause-found : goal.returns-in-Some-clause-found

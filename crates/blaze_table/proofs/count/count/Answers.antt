@@ -1,6 +1,4 @@
-use Rattle.std.proofs.Common.{subst, ap}
-use Rattle.blaze_table.specs.Canonical.{IsCanonical}
-use Rattle.blaze_table.specs.Count.{keys_in}
+use Rattle.blaze_table.proofs.Words.{subst, ap, IsCanonical, keys_in}
 use Rattle.blaze_table.proofs.Canonical.Counted.{some_keys, one_fits, one_more}
 use Rattle.blaze_table.proofs.count.count.Goals as goal
 

@@ -1,6 +1,4 @@
-use Rattle.std.proofs.Common.{◌≡◌, pos, ◌+ℤ◌}
-use Rattle.blaze_table.specs.Canonical.{IsCanonical}
-use Rattle.blaze_table.specs.Count.{keys_in}
+use Rattle.blaze_table.proofs.Words.{◌≡◌, pos, ◌+ℤ◌, IsCanonical, keys_in}
 use Rattle.blaze_table.proofs.count.count.Given as goal
 
 -- the sum is that of the entries so far

@@ -1,8 +1,4 @@
-use Rattle.std.proofs.lemmas.Grind.{common_steps}
-use Rattle.std.proofs.Common.{ap, subst, arith}
-use Rattle.blaze_table.specs.Canonical.{IsCanonical}
-use Rattle.blaze_table.specs.Count.{keys_in}
-use Rattle.blaze_table.specs.Entries.{shown_list}
+use Rattle.blaze_table.proofs.Words.{common_steps, ap, subst, arith, IsCanonical, keys_in, shown_list}
 use Rattle.blaze_table.proofs.Canonical.Counted.{some_keys, one_fits, one_more}
 use Rattle.blaze_table.proofs.Pairs.Indexed.{from_index}
 use Rattle.blaze_table.proofs.count.count_list.Goals as goal

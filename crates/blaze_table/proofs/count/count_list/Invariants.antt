@@ -1,7 +1,4 @@
-use Rattle.std.proofs.Common.{◌≡◌, pos, ◌+ℤ◌, drop}
-use Rattle.blaze_table.specs.Canonical.{IsCanonical}
-use Rattle.blaze_table.specs.Count.{keys_in}
-use Rattle.blaze_table.specs.Entries.{shown_list}
+use Rattle.blaze_table.proofs.Words.{◌≡◌, pos, ◌+ℤ◌, drop, IsCanonical, keys_in, shown_list}
 use Rattle.blaze_table.proofs.count.count_list.Given as goal
 
 -- the sum is that of the entries so far

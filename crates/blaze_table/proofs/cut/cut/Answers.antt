@@ -1,10 +1,4 @@
-use Rattle.blaze_int.proofs.Options.{if_err}
-use Rattle.std.proofs.Common.{Some, None, ap, sym, subst}
-use Rattle.blaze_entries.specs.Cloned.{IsRangeCloned}
-use Rattle.blaze_entries.specs.Counted.{CountedEntries}
-use Rattle.blaze_entries.specs.Starts.{holder_of}
-use Rattle.blaze_entries.proofs.Alike.{same_none}
-use Rattle.blaze_table.specs.Splice.{IsKeyCut}
+use Rattle.blaze_table.proofs.Words.{if_err, Some, None, ap, sym, subst, IsRangeCloned, CountedEntries, holder_of, same_none, IsKeyCut}
 use Rattle.blaze_table.proofs.Cuts.CutEdits.{has_key, some_key, no_key, among_others}
 use Rattle.blaze_table.proofs.Cuts.Cutting.{key_absent}
 use Rattle.blaze_table.proofs.cut.cut.Goals as goal

@@ -1,5 +1,4 @@
-use Rattle.std.proofs.Common.{ap}
-use Rattle.blaze_entries.specs.Counted.{CountedEntries}
+use Rattle.blaze_table.proofs.Words.{ap, CountedEntries}
 use Rattle.blaze_table.proofs.Cuts.Backs.{end_moved, last_out}
 use Rattle.blaze_table.proofs.Paints.EditLists.{length-with_last_end}
 use Rattle.blaze_table.proofs.Walks.Worked.{worked_none, worked_edited}

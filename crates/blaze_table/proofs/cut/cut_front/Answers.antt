@@ -1,5 +1,4 @@
-use Rattle.std.proofs.Common.{ap}
-use Rattle.blaze_entries.specs.Counted.{CountedEntries}
+use Rattle.blaze_table.proofs.Words.{ap, CountedEntries}
 use Rattle.blaze_table.proofs.Cuts.Fronts.{none_next, more_cut, one_cut, first_there}
 use Rattle.blaze_table.proofs.cut.cut_front.Goals as goal
 

@@ -1,5 +1,4 @@
-use Rattle.std.proofs.Common.{arith}
-use Rattle.std.proofs.lemmas.Int.{ints}
+use Rattle.blaze_table.proofs.Words.{arith, ints}
 use Rattle.blaze_table.proofs.Cuts.CutEdits.{has_key, key_fits, key_cut}
 use Rattle.blaze_table.proofs.cut.cut_held.Goals as goal
 

@@ -1,9 +1,4 @@
-use Rattle.blaze_int.proofs.Options.{if_err}
-use Rattle.std.proofs.Common.{refl, ap, sym, subst}
-use Rattle.std.specs.Prelude.{IsSome}
-use Rattle.blaze_entries.specs.Cloned.{IsManyCloned}
-use Rattle.blaze_entries.specs.Counted.{CountedEntries}
-use Rattle.blaze_table.specs.Splice.{IsCutOf}
+use Rattle.blaze_table.proofs.Words.{if_err, refl, ap, sym, subst, IsSome, IsManyCloned, CountedEntries, IsCutOf}
 use Rattle.blaze_table.proofs.Cuts.CutEdits.{has_key, among_others, found, value_removed, whole_cut}
 use Rattle.blaze_table.proofs.cut.cut_key.Goals as goal
 

@@ -1,10 +1,4 @@
-use Rattle.blaze_int.proofs.Options.{if_err}
-use Rattle.std.proofs.Common.{◌-◌, length, Some, subst, arith}
-use Rattle.std.proofs.lemmas.Int.{ints}
-use Rattle.std.specs.List.{slice_get}
-use Rattle.blaze_entries.specs.Cloned.{IsRangeCloned}
-use Rattle.blaze_entries.specs.Counted.{CountedEntries}
-use Rattle.blaze_table.specs.Splice.{IsKeyTaken}
+use Rattle.blaze_table.proofs.Words.{if_err, ◌-◌, length, Some, subst, arith, ints, slice_get, IsRangeCloned, CountedEntries, IsKeyTaken}
 use Rattle.blaze_table.proofs.Cuts.Backs.{last_key, last_has}
 use Rattle.blaze_table.proofs.Cuts.CutEdits.{key_fits, key_cut}
 use Rattle.blaze_table.proofs.Cuts.Ends.{last_holder, end_among}

@@ -1,11 +1,4 @@
-use Rattle.blaze_int.proofs.Options.{if_err}
-use Rattle.std.proofs.Common.{◌≡◌, true, false, ap, sym, subst, inl, inr}
-use Rattle.std.specs.Option.{option_copied}
-use Rattle.blaze_entries.specs.Found.{is_sought}
-use Rattle.blaze_table.specs.Planned.{GoesOnUnequal}
-use Rattle.blaze_entries.specs.Counted.{CountedEntries}
-use Rattle.blaze_table.specs.Edited.{IsPlace}
-use Rattle.blaze_table.specs.Splice.{IsRangeCutOf, IsRangeTaken}
+use Rattle.blaze_table.proofs.Words.{if_err, ◌≡◌, true, false, ap, sym, subst, inl, inr, option_copied, is_sought, GoesOnUnequal, CountedEntries, IsPlace, IsRangeCutOf, IsRangeTaken}
 use Rattle.blaze_table.proofs.Cuts.RangeCuts.{end_is, range_place, range_cut, rest_above, counted_cut}
 use Rattle.blaze_table.proofs.Walks.FewLooks.{looked_by_walk}
 use Rattle.blaze_table.proofs.Walks.Found.{has_ranges, has_keys, found_above, walked}

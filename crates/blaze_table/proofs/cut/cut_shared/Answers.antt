@@ -1,6 +1,4 @@
-use Rattle.std.proofs.Common.{sym, ap, ◌∙◌}
-use Rattle.blaze_int.proofs.Comparisons.{lt_holds, lt_fails}
-use Rattle.blaze_entries.specs.Counted.{CountedEntries}
+use Rattle.blaze_table.proofs.Words.{sym, ap, ◌∙◌, lt_holds, lt_fails, CountedEntries}
 use Rattle.blaze_table.proofs.Cuts.CutEdits.{held_there, next_absent, end_taken, start_taken, inside_taken}
 use Rattle.blaze_table.proofs.Paints.EditLists.{length-with_end}
 use Rattle.blaze_table.proofs.Walks.Worked.{worked_none, worked_edited, worked_put}

@@ -1,9 +1,4 @@
-use Rattle.std.proofs.Common.{rules, ◌++◌, None, ap, ◌∙◌, arith}
-use Rattle.std.specs.Option.{option_map}
-use Rattle.std.proofs.lemmas.Int.{ints}
-use Rattle.blaze_entries.specs.Counted.{CountedEntries}
-use Rattle.blaze_entries.specs.Found.{range_in, shown_ends}
-use Rattle.blaze_entries.specs.Starts.{below, start_at}
+use Rattle.blaze_table.proofs.Words.{rules, ◌++◌, None, ap, ◌∙◌, arith, option_map, ints, CountedEntries, range_in, shown_ends, below, start_at}
 use Rattle.blaze_table.proofs.Paints.Composed.{left_at, extended}
 use Rattle.blaze_table.proofs.Paints.EditLists.{length-with_end}
 use Rattle.blaze_table.proofs.Paints.Inner.{both_some, cleared, inner_fits, rest_gone, rest_start, rest_under}

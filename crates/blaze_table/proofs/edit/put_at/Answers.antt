@@ -1,8 +1,4 @@
-use Rattle.std.proofs.Common.{rules, ◌++◌, pos, ◌+ℤ◌, subst, sym, ap, ◌∙◌}
-use Rattle.std.specs.Option.{option_map}
-use Rattle.blaze_entries.specs.Starts.{below}
-use Rattle.blaze_entries.specs.Found.{shown_ends}
-use Rattle.blaze_table.specs.Edited.{IsLeft}
+use Rattle.blaze_table.proofs.Words.{rules, ◌++◌, pos, ◌+ℤ◌, subst, sym, ap, ◌∙◌, option_map, below, shown_ends, IsLeft}
 use Rattle.blaze_table.proofs.Paints.Composed.{under_canonical, trimmed_inner, put_at}
 use Rattle.blaze_table.proofs.Paints.Inner.{inner_fits, cleared}
 use Rattle.blaze_table.proofs.edit.put_at.Goals as goal

@@ -1,10 +1,4 @@
-use Rattle.std.proofs.Common.{◌++◌, subst, sym, ap, ◌∙◌, arith}
-use Rattle.std.specs.Option.{option_map}
-use Rattle.std.specs.Prelude.{is_some}
-use Rattle.std.proofs.lemmas.Int.{ints}
-use Rattle.blaze_entries.specs.Found.{range_in, shown_ends}
-use Rattle.blaze_entries.specs.Starts.{below, start_at}
-use Rattle.blaze_table.specs.Edited.{IsLeft}
+use Rattle.blaze_table.proofs.Words.{◌++◌, subst, sym, ap, ◌∙◌, arith, option_map, is_some, ints, range_in, shown_ends, below, start_at, IsLeft}
 use Rattle.blaze_table.proofs.Paints.Composed.{trimmed_start, trimmed_inner, under_canonical, rest_below, taken_out}
 use Rattle.blaze_table.proofs.Paints.Inner.{both_some, cleared, inner_fits, rest_gone, rest_start, rest_under}
 use Rattle.blaze_table.proofs.Paints.Placing.{has_room, above_there, rest_started}

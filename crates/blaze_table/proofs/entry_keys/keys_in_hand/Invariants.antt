@@ -1,6 +1,4 @@
-use Rattle.std.proofs.Common.{drop}
-use Rattle.blaze_table.specs.Canonical.{AreKeys}
-use Rattle.blaze_table.specs.Entries.{shown_list}
+use Rattle.blaze_table.proofs.Words.{drop, AreKeys, shown_list}
 use Rattle.blaze_table.proofs.entry_keys.keys_in_hand.Given as goal
 
 -- the entries before are keys

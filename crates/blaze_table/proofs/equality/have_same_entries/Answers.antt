@@ -1,5 +1,4 @@
-use Rattle.std.proofs.lemmas.Grind.{common_steps}
-use Rattle.std.proofs.Common.{arith}
+use Rattle.blaze_table.proofs.Words.{common_steps, arith}
 use Rattle.blaze_table.proofs.equality.have_same_entries.Goals as goal
 
 pub returns-then-entries : goal.returns-then-entries

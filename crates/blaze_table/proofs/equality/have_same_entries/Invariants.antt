@@ -1,5 +1,4 @@
-use Rattle.std.proofs.Common.{◌≡◌}
-use Rattle.blaze_table.specs.Equality.{same_entries}
+use Rattle.blaze_table.proofs.Words.{◌≡◌, same_entries}
 use Rattle.blaze_table.proofs.equality.have_same_entries.Given as goal
 
 -- the answer is that for what is left

@@ -1,7 +1,4 @@
-use Rattle.std.proofs.Common.{◌≡◌, ℤ, Bool, true, false, sym, ◌∙◌, arith}
-use Rattle.std.specs.Prelude.{◌&&◌, ◌↔◌, IsTrue}
-use Rattle.std.specs.Ordering.{int_eq}
-use Rattle.std.proofs.lemmas.Int.{ints}
+use Rattle.blaze_table.proofs.Words.{◌≡◌, ℤ, Bool, true, false, sym, ◌∙◌, arith, ◌&&◌, ◌↔◌, IsTrue, int_eq, ints}
 use Rattle.blaze_table.proofs.equality.is_same_entry.Goals.{then-eq, else-eq}
 use Rattle.blaze_table.proofs.equality.is_same_entry.Goals as goal
 

@@ -1,11 +1,4 @@
-use Rattle.std.proofs.Common.{ℕ, ◌+◌, pos, ◌+ℤ◌, ◌∷◌, List, sym, ap, ◌∙◌, arith}
-use Rattle.std.specs.Option.{option_map}
-use Rattle.blaze_entries.specs.Counted.{CountedEntries}
-use Rattle.blaze_entries.specs.Found.{found_in, shown_found}
-use Rattle.blaze_entries.specs.Starts.{from, last_below}
-use Rattle.blaze_entries.proofs.Halves.{below_next}
-use Rattle.blaze_entries.proofs.Underway.{begins, fits, has_room, goes_on, stops, ends}
-use Rattle.blaze_table.specs.Entries.{Entry}
+use Rattle.blaze_table.proofs.Words.{ℕ, ◌+◌, pos, ◌+ℤ◌, ◌∷◌, List, sym, ap, ◌∙◌, arith, option_map, CountedEntries, found_in, shown_found, from, last_below, below_next, begins, fits, has_room, goes_on, stops, ends, Entry}
 use Rattle.blaze_table.proofs.Walks.Descents.{down_to, at_bottom, rounds_fall}
 use Rattle.blaze_table.proofs.looks.plan.Goals as goal
 

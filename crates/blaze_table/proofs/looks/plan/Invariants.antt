@@ -1,10 +1,4 @@
-use Rattle.std.proofs.Common.{◌≡◌, ◌+◌, ℤ, pos, List}
-use Rattle.std.specs.Option.{option_map}
-use Rattle.blaze_entries.specs.Found.{found_in, shown_found}
-use Rattle.blaze_entries.specs.Starts.{below, last_below}
-use Rattle.blaze_entries.specs.Walked.{shown_plan}
-use Rattle.blaze_entries.proofs.Underway.{IsWalkUnderway}
-use Rattle.blaze_table.specs.Entries.{Entry}
+use Rattle.blaze_table.proofs.Words.{◌≡◌, ◌+◌, ℤ, pos, List, option_map, found_in, shown_found, below, last_below, shown_plan, IsWalkUnderway, Entry}
 use Rattle.blaze_table.proofs.Walks.Descents.{rounds}
 use Rattle.blaze_table.proofs.looks.plan.Given as goal
 

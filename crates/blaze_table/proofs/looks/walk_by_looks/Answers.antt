@@ -1,12 +1,4 @@
-use Rattle.blaze_int.proofs.Options.{if_err}
-use Rattle.std.proofs.Common.{◌≡◌, ◌<ℤ◌, List, true, false, sym, subst, ap}
-use Rattle.std.specs.Option.{option_map}
-use Rattle.std.specs.Prelude.{IfSome, IsSome}
-use Rattle.blaze_entries.specs.Counted.{CountedEntries}
-use Rattle.blaze_entries.specs.Starts.{last_below, start_at}
-use Rattle.blaze_entries.specs.Walked.{IsClonedIf}
-use Rattle.blaze_entries.proofs.Underway.{cloned_above, refused_above}
-use Rattle.blaze_table.specs.Entries.{Entry}
+use Rattle.blaze_table.proofs.Words.{if_err, ◌≡◌, ◌<ℤ◌, List, true, false, sym, subst, ap, option_map, IfSome, IsSome, CountedEntries, last_below, start_at, IsClonedIf, cloned_above, refused_above, Entry}
 use Rattle.blaze_table.proofs.Walks.FewLooks.{looked_again}
 use Rattle.blaze_table.proofs.Walks.Found.{has_ranges, has_keys, left_there, left_value, found_above, found_by_walk}
 use Rattle.blaze_table.proofs.looks.walk_by_looks.Goals as goal

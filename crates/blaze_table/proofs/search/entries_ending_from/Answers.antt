@@ -1,6 +1,4 @@
-use Rattle.std.proofs.Common.{◌≡◌, ◌∙◌, subst, option_map}
-use Rattle.blaze_table.specs.Entries.{shown_entry, entry_at}
-use Rattle.blaze_table.specs.Filling.{never}
+use Rattle.blaze_table.proofs.Words.{◌≡◌, ◌∙◌, subst, option_map, shown_entry, entry_at, never}
 use Rattle.blaze_table.proofs.Neighbours.Ending.{ending_clear, ending_held}
 use Rattle.blaze_table.proofs.search.entries_ending_from.Goals as goal
 

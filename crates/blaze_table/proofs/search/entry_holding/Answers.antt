@@ -1,7 +1,4 @@
-use Rattle.std.proofs.Common.{arith, ap, option_map, ◌∙◌, ◌≤ℤ◌, ◌<ℤ◌}
-use Rattle.std.proofs.lemmas.Int.{ints}
-use Rattle.blaze_table.specs.Entries.{shown_entry}
-use Rattle.blaze_table.specs.Filling.{never}
+use Rattle.blaze_table.proofs.Words.{arith, ap, option_map, ◌∙◌, ◌≤ℤ◌, ◌<ℤ◌, ints, shown_entry, never}
 use Rattle.blaze_table.proofs.Neighbours.NextEntries.{holding_none, holding_some, holding_not}
 use Rattle.blaze_table.proofs.search.entry_holding.Goals as goal
 

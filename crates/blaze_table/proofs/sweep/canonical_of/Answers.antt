@@ -1,7 +1,4 @@
-use Rattle.std.proofs.lemmas.Result.{IfOk-weaker}
-use Rattle.std.proofs.Common.{sym, subst, []}
-use Rattle.blaze_table.specs.Entries.{shown_list}
-use Rattle.blaze_table.specs.Pieces.{IsSweptTo}
+use Rattle.blaze_table.proofs.Words.{IfOk-weaker, sym, subst, [], shown_list, IsSweptTo}
 use Rattle.blaze_table.proofs.sweep.canonical_of.Goals as goal
 
 pub entries_of_placed-requires-clause-ascending : goal.entries_of_placed-requires-clause-ascending

@@ -1,10 +1,4 @@
-use Rattle.std.proofs.Common.{◌≡◌, ◌<ℤ◌, true, false, subst}
-use Rattle.std.specs.Prelude.{IfSome}
-use Rattle.std.specs.Option.{option_copied}
-use Rattle.blaze_entries.specs.Counted.{CountedEntries}
-use Rattle.blaze_entries.specs.Entries.{at}
-use Rattle.blaze_entries.specs.Found.{is_sought}
-use Rattle.blaze_entries.specs.Walked.{RangesAscend, shown_plan, IsWalk, IsClonedIf}
+use Rattle.blaze_entries.proofs.Words.{◌≡◌, ◌<ℤ◌, true, false, subst, IfSome, option_copied, CountedEntries, at, is_sought, RangesAscend, shown_plan, IsWalk, IsClonedIf}
 use Rattle.blaze_entries.proofs.Underway.{above_at, cloned_above}
 use Rattle.blaze_entries.proofs.counted.Counted.walk.Goals as goal
 

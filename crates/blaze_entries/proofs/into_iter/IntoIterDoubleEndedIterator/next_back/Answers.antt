@@ -1,4 +1,4 @@
-use Rattle.blaze_entries.specs.Entries.{shown_entry}
+use Rattle.blaze_entries.proofs.Words.{shown_entry}
 use Rattle.blaze_entries.proofs.Steps.{last_node_taken, taken_is_full, answers_taken, goes_last}
 use Rattle.blaze_entries.proofs.into_iter.IntoIterDoubleEndedIterator.next_back.Goals as goal
 

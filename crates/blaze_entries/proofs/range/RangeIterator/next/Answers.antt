@@ -1,5 +1,4 @@
-use Rattle.std.specs.Map.Iter.{deref_pair}
-use Rattle.blaze_entries.specs.Entries.{shown_entry}
+use Rattle.blaze_entries.proofs.Words.{deref_pair, shown_entry}
 use Rattle.blaze_entries.proofs.Steps.{first_node_taken, taken_is_full, answers_taken, goes_first}
 use Rattle.blaze_entries.proofs.range.RangeIterator.next.Goals as goal
 

@@ -1,5 +1,4 @@
-use Rattle.std.proofs.Common.{◌∙◌, ap}
-use Rattle.blaze_entries.specs.Starts.{start_at}
+use Rattle.blaze_entries.proofs.Words.{◌∙◌, ap, start_at}
 use Rattle.blaze_entries.proofs.Edits.{lent_at}
 use Rattle.blaze_entries.proofs.Lent.{full_lent, found_at}
 use Rattle.blaze_entries.proofs.NodeLists.{as_entries_lookup}

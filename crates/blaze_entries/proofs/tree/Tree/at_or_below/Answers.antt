@@ -1,7 +1,4 @@
-use Rattle.std.proofs.Common.{◌∙◌, ap}
-use Rattle.std.specs.Prelude.{None}
-use Rattle.std.specs.List.{last_or}
-use Rattle.blaze_entries.specs.Entries.{shown_entry}
+use Rattle.blaze_entries.proofs.Words.{◌∙◌, ap, None, last_or, shown_entry}
 use Rattle.blaze_entries.proofs.Edits.{last_yielded}
 use Rattle.blaze_entries.proofs.tree.Tree.at_or_below.Goals as goal
 

@@ -1,6 +1,4 @@
-use Rattle.std.proofs.Common.{subst}
-use Rattle.blaze_entries.specs.Cloned.{AreCloned}
-use Rattle.blaze_entries.specs.Nodes.{entries_of}
+use Rattle.blaze_entries.proofs.Words.{subst, AreCloned, entries_of}
 use Rattle.blaze_entries.proofs.Clones.{cloned_held, cloned_entries}
 use Rattle.blaze_entries.proofs.tree.Tree.clone.Goals as goal
 

@@ -1,5 +1,4 @@
-use Rattle.std.proofs.Common.{◌∙◌, ap}
-use Rattle.std.specs.List.{slice_get}
+use Rattle.blaze_entries.proofs.Words.{◌∙◌, ap, slice_get}
 use Rattle.blaze_entries.proofs.Lent.{full_lent, node_at_index}
 use Rattle.blaze_entries.proofs.tree.Tree.first.Goals as goal
 

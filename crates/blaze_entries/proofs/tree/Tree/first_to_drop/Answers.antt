@@ -1,4 +1,4 @@
-use Rattle.std.proofs.Common.{◌∙◌}
+use Rattle.blaze_entries.proofs.Words.{◌∙◌}
 use Rattle.blaze_entries.proofs.Asked.{is_shown, answers_at, kept_none, kept_callable, kept_more, kept_up_to, kept_all}
 use Rattle.blaze_entries.proofs.tree.Tree.first_to_drop.Goals as goal
 

@@ -1,4 +1,4 @@
-use Rattle.blaze_entries.specs.Starts.{from}
+use Rattle.blaze_entries.proofs.Words.{from}
 use Rattle.blaze_entries.proofs.Asked.{IsKeptBefore}
 use Rattle.blaze_entries.proofs.tree.Tree.first_to_drop.Given as goal
 

@@ -1,6 +1,4 @@
-use Rattle.std.proofs.Common.{map, sym, subst, ◌∙◌}
-use Rattle.blaze_entries.specs.Nodes.{node_of}
-use Rattle.blaze_entries.specs.Starts.{StartsAscend}
+use Rattle.blaze_entries.proofs.Words.{map, sym, subst, ◌∙◌, node_of, StartsAscend}
 use Rattle.blaze_entries.proofs.Collected.{collected, as_entries_of_nodes}
 use Rattle.blaze_entries.proofs.Held.{are_held, full_of, starts_of_held}
 use Rattle.blaze_entries.proofs.tree.Tree.from_sorted.Goals as goal

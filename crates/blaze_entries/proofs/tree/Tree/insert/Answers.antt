@@ -1,7 +1,4 @@
-use Rattle.std.proofs.Common.{◌≡◌, ◌+◌, length, ap, sym, subst, ◌∙◌}
-use Rattle.std.specs.Prelude.{None}
-use Rattle.blaze_entries.specs.Entries.{entry}
-use Rattle.blaze_entries.specs.Starts.{with_entry, start_at}
+use Rattle.blaze_entries.proofs.Words.{◌≡◌, ◌+◌, length, ap, sym, subst, ◌∙◌, None, entry, with_entry, start_at}
 use Rattle.blaze_entries.proofs.Ascending.{start_with_entry, length-with_entry}
 use Rattle.blaze_entries.proofs.Edits.{inserted}
 use Rattle.blaze_entries.proofs.Held.{are_held, full_of}

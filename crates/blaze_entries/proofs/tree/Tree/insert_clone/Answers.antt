@@ -1,5 +1,4 @@
-use Rattle.std.proofs.Common.{sym}
-use Rattle.blaze_entries.specs.Entries.{shown_entry}
+use Rattle.blaze_entries.proofs.Words.{sym, shown_entry}
 use Rattle.blaze_entries.proofs.tree.Tree.insert_clone.Goals as goal
 
 pub returns-clause-ok : goal.returns-clause-ok

@@ -1,5 +1,4 @@
-use Rattle.std.proofs.Common.{◌∙◌, ap}
-use Rattle.blaze_entries.specs.Starts.{below}
+use Rattle.blaze_entries.proofs.Words.{◌∙◌, ap, below}
 use Rattle.blaze_entries.proofs.Edits.{ranged_below}
 use Rattle.blaze_entries.proofs.Held.{full_held, full_of}
 use Rattle.blaze_entries.proofs.tree.Tree.iter_below.Goals as goal

@@ -1,5 +1,4 @@
-use Rattle.std.proofs.Common.{◌∙◌, ap}
-use Rattle.blaze_entries.specs.Starts.{from, up_to}
+use Rattle.blaze_entries.proofs.Words.{◌∙◌, ap, from, up_to}
 use Rattle.blaze_entries.proofs.Edits.{ranged_between}
 use Rattle.blaze_entries.proofs.Held.{full_held, full_of}
 use Rattle.blaze_entries.proofs.tree.Tree.iter_between.Goals as goal

@@ -1,5 +1,4 @@
-use Rattle.std.proofs.Common.{◌∙◌, ap}
-use Rattle.blaze_entries.specs.Starts.{from}
+use Rattle.blaze_entries.proofs.Words.{◌∙◌, ap, from}
 use Rattle.blaze_entries.proofs.Edits.{ranged_from}
 use Rattle.blaze_entries.proofs.Held.{full_held, full_of}
 use Rattle.blaze_entries.proofs.tree.Tree.iter_from.Goals as goal

@@ -1,5 +1,4 @@
-use Rattle.std.proofs.Common.{pos, ◌+ℤ◌, ◌∙◌, ap, sym}
-use Rattle.blaze_entries.specs.Starts.{below}
+use Rattle.blaze_entries.proofs.Words.{pos, ◌+ℤ◌, ◌∙◌, ap, sym, below}
 use Rattle.blaze_entries.proofs.Edits.{ranged_below, ranged_all}
 use Rattle.blaze_entries.proofs.Held.{full_held, full_of}
 use Rattle.blaze_entries.proofs.tree.Tree.iter_up_to.Goals as goal

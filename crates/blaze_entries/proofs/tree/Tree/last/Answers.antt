@@ -1,5 +1,4 @@
-use Rattle.std.proofs.Common.{◌-◌, length, ◌∙◌, ap}
-use Rattle.std.specs.List.{slice_get}
+use Rattle.blaze_entries.proofs.Words.{◌-◌, length, ◌∙◌, ap, slice_get}
 use Rattle.blaze_entries.proofs.Lent.{full_lent, last_node}
 use Rattle.blaze_entries.proofs.tree.Tree.last.Goals as goal
 

@@ -1,8 +1,4 @@
-use Rattle.std.proofs.Common.{◌≡◌, ◌+◌, length, ap, sym, subst, ◌∙◌}
-use Rattle.std.specs.Prelude.{Some, IsSome}
-use Rattle.std.specs.Option.{option_map}
-use Rattle.blaze_entries.specs.Nodes.{shown_nodes, shown_node_at, full}
-use Rattle.blaze_entries.specs.Starts.{without, start_at}
+use Rattle.blaze_entries.proofs.Words.{◌≡◌, ◌+◌, length, ap, sym, subst, ◌∙◌, Some, IsSome, option_map, shown_nodes, shown_node_at, full, without, start_at}
 use Rattle.blaze_entries.proofs.Ascending.{start_without, length-without}
 use Rattle.blaze_entries.proofs.Edits.{removed}
 use Rattle.blaze_entries.proofs.Held.{are_held, full_of}

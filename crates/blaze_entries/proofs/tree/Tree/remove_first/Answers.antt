@@ -1,8 +1,4 @@
-use Rattle.std.proofs.Common.{◌≡◌, List, [], ◌∷◌, refl}
-use Rattle.std.specs.List.{slice_get}
-use Rattle.std.specs.Prelude.{IsSome}
-use Rattle.std.proofs.lemmas.Option.{MatchOption-at_some, MatchOption-at_none}
-use Rattle.blaze_entries.specs.Entries.{Entry, shown_entry}
+use Rattle.blaze_entries.proofs.Words.{◌≡◌, List, [], ◌∷◌, refl, slice_get, IsSome, MatchOption-at_some, MatchOption-at_none, Entry, shown_entry}
 use Rattle.blaze_entries.proofs.Steps.{first_node_taken, taken_is_full, answers_taken, rest_is_held, pops_first}
 use Rattle.blaze_entries.proofs.tree.Tree.remove_first.Goals as goal
 

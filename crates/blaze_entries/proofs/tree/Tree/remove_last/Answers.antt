@@ -1,8 +1,4 @@
-use Rattle.std.proofs.Common.{◌≡◌, ◌-◌, length, List, [], ◌∷◌, refl}
-use Rattle.std.specs.List.{slice_get}
-use Rattle.std.specs.Prelude.{IsSome}
-use Rattle.std.proofs.lemmas.Option.{MatchOption-at_some, MatchOption-at_none}
-use Rattle.blaze_entries.specs.Entries.{Entry, shown_entry}
+use Rattle.blaze_entries.proofs.Words.{◌≡◌, ◌-◌, length, List, [], ◌∷◌, refl, slice_get, IsSome, MatchOption-at_some, MatchOption-at_none, Entry, shown_entry}
 use Rattle.blaze_entries.proofs.Steps.{last_node_taken, taken_is_full, answers_taken, front_is_held, pops_last}
 use Rattle.blaze_entries.proofs.tree.Tree.remove_last.Goals as goal
 

@@ -1,7 +1,4 @@
-use Rattle.std.proofs.Common.{◌≡◌, ◌+◌, length, ap, sym, subst, ◌∙◌}
-use Rattle.std.specs.Prelude.{None, IsSome}
-use Rattle.blaze_entries.specs.Nodes.{entries_of}
-use Rattle.blaze_entries.specs.Starts.{start_at, IsFrontReplaced}
+use Rattle.blaze_entries.proofs.Words.{◌≡◌, ◌+◌, length, ap, sym, subst, ◌∙◌, None, IsSome, entries_of, start_at, IsFrontReplaced}
 use Rattle.blaze_entries.proofs.Held.{nodes_ascend, are_held, front_replaced_full}
 use Rattle.blaze_entries.proofs.Lent.{absent_at, present_at}
 use Rattle.blaze_entries.proofs.Moves.{start_front_replaced, length_front_replaced}

@@ -1,5 +1,4 @@
-use Rattle.std.proofs.Common.{refl, arith}
-use Rattle.std.proofs.lemmas.Int.{ints}
+use Rattle.blaze_entries.proofs.Words.{refl, arith, ints}
 use Rattle.blaze_entries.proofs.Asked.{fewer_left, asked_none, asked_callable, asked_all, asked_top, asked_present, next_asked, next_starts, next_is_key}
 use Rattle.blaze_entries.proofs.tree.Tree.retain.Goals as goal
 

@@ -1,5 +1,4 @@
-use Rattle.blaze_int.specs.Unsigned.{nat_of}
-use Rattle.std.proofs.Common.{pos, ◌+ℤ◌, ◌-ℤ◌}
+use Rattle.blaze_entries.proofs.Words.{nat_of, pos, ◌+ℤ◌, ◌-ℤ◌}
 use Rattle.blaze_entries.proofs.Asked.{IsAsked}
 use Rattle.blaze_entries.proofs.tree.Tree.retain.Given as goal
 

@@ -1,5 +1,4 @@
-use Rattle.std.proofs.Common.{ap, ◌∙◌}
-use Rattle.blaze_entries.specs.Starts.{with_end}
+use Rattle.blaze_entries.proofs.Words.{ap, ◌∙◌, with_end}
 use Rattle.blaze_entries.proofs.Ascending.{start_with_end}
 use Rattle.blaze_entries.proofs.Edits.{end_set}
 use Rattle.blaze_entries.proofs.Held.{are_held, full_of}

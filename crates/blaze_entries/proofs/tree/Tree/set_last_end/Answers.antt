@@ -1,5 +1,4 @@
-use Rattle.std.proofs.Common.{ap, ◌∙◌}
-use Rattle.blaze_entries.specs.Starts.{with_last_end}
+use Rattle.blaze_entries.proofs.Words.{ap, ◌∙◌, with_last_end}
 use Rattle.blaze_entries.proofs.Ascending.{start_with_last_end}
 use Rattle.blaze_entries.proofs.Edits.{last_end_set}
 use Rattle.blaze_entries.proofs.Held.{are_held, full_of, nodes_ascend}

@@ -1,5 +1,4 @@
-use Rattle.std.proofs.Common.{ap, ◌∙◌}
-use Rattle.blaze_entries.specs.Starts.{below, from}
+use Rattle.blaze_entries.proofs.Words.{ap, ◌∙◌, below, from}
 use Rattle.blaze_entries.proofs.Ascending.{start_lower}
 use Rattle.blaze_entries.proofs.Edits.{split_below, split_from}
 use Rattle.blaze_entries.proofs.Halves.{starts_from, starts_of_below}

@@ -1,6 +1,4 @@
-use Rattle.std.proofs.Common.{ap, sym, ◌∙◌}
-use Rattle.std.specs.BTreeMap.{is_at}
-use Rattle.std.specs.Ordering.{int_cmp, on}
+use Rattle.blaze_entries.proofs.Words.{ap, sym, ◌∙◌, is_at, int_cmp, on}
 use Rattle.blaze_entries.proofs.Changes.{changed_found, changed_absent}
 use Rattle.blaze_entries.proofs.tree.edits.change_end.Goals as goal
 

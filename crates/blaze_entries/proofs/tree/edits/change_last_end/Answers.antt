@@ -1,4 +1,4 @@
-use Rattle.std.proofs.Common.{sym, ◌∙◌, rules}
+use Rattle.blaze_entries.proofs.Words.{sym, ◌∙◌, rules}
 use Rattle.blaze_entries.proofs.NodeLists.{last_end_written}
 use Rattle.blaze_entries.proofs.tree.edits.change_last_end.Goals as goal
 

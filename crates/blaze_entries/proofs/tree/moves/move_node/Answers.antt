@@ -1,6 +1,4 @@
-use Rattle.std.proofs.Common.{◌∙◌, ap}
-use Rattle.std.specs.Option.{option_map}
-use Rattle.blaze_entries.specs.Nodes.{shown_nodes, shown_node_at}
+use Rattle.blaze_entries.proofs.Words.{◌∙◌, ap, option_map, shown_nodes, shown_node_at}
 use Rattle.blaze_entries.proofs.Moves.{is_start_moved, still_there}
 use Rattle.blaze_entries.proofs.NodeLists.{as_entries_insert, as_entries_remove, as_entries_set, as_entries_lookup}
 use Rattle.blaze_entries.proofs.tree.moves.move_node.Goals as goal

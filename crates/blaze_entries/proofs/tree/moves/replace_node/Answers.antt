@@ -1,5 +1,4 @@
-use Rattle.std.proofs.Common.{◌∙◌, ap}
-use Rattle.blaze_entries.specs.Nodes.{shown_nodes}
+use Rattle.blaze_entries.proofs.Words.{◌∙◌, ap, shown_nodes}
 use Rattle.blaze_entries.proofs.Moves.{is_front_replaced, still_there}
 use Rattle.blaze_entries.proofs.NodeLists.{as_entries_insert, as_entries_set, as_entries_lookup}
 use Rattle.blaze_entries.proofs.tree.moves.replace_node.Goals as goal

@@ -1,7 +1,4 @@
-use Rattle.std.proofs.Common.{ap, sym, ◌∙◌}
-use Rattle.std.specs.Prelude.{is_some}
-use Rattle.blaze_entries.specs.Found.{range_in, shown_ends}
-use Rattle.blaze_entries.specs.Starts.{start_at}
+use Rattle.blaze_table.proofs.Words.{ap, sym, ◌∙◌, is_some, range_in, shown_ends, start_at}
 use Rattle.blaze_table.proofs.Paints.Inner.{both_some, place_over}
 use Rattle.blaze_table.proofs.edit.place.put.Goals as goal
 

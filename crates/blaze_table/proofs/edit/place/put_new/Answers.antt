@@ -1,8 +1,4 @@
-use Rattle.std.proofs.Common.{ap, ◌∙◌}
-use Rattle.std.specs.Option.{option_map}
-use Rattle.blaze_entries.specs.Counted.{CountedEntries}
-use Rattle.blaze_entries.specs.Found.{shown_ends}
-use Rattle.blaze_table.specs.Entries.{entry}
+use Rattle.blaze_table.proofs.Words.{ap, ◌∙◌, option_map, CountedEntries, shown_ends, entry}
 use Rattle.blaze_table.proofs.Paints.Inner.{rest_under, new_gone}
 use Rattle.blaze_table.proofs.Paints.Placing.{put_there, put_back, like_rest, above_there, new_room, new_started}
 use Rattle.blaze_table.proofs.edit.place.put_new.Goals as goal

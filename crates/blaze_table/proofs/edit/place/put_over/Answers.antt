@@ -1,13 +1,4 @@
-use Rattle.std.proofs.Common.{◌≡◌, ◌+◌, length, None, Some, sym, subst, ap, ◌∙◌, refl, arith}
-use Rattle.std.proofs.lemmas.Result.{on_ok_weaker}
-use Rattle.std.specs.Option.{option_map}
-use Rattle.blaze_int.proofs.Comparisons.{lt_holds, lt_fails}
-use Rattle.blaze_entries.specs.Counted.{CountedEntries}
-use Rattle.blaze_entries.specs.Found.{shown_ends}
-use Rattle.blaze_entries.specs.Starts.{IsFrontReplaced}
-use Rattle.blaze_entries.proofs.Moves.{length-with_end_value}
-use Rattle.blaze_table.specs.Planned.{inner, moved, IsRest}
-use Rattle.blaze_table.specs.Edited.{IsRestPut}
+use Rattle.blaze_table.proofs.Words.{◌≡◌, ◌+◌, length, None, Some, sym, subst, ap, ◌∙◌, refl, arith, on_ok_weaker, option_map, lt_holds, lt_fails, CountedEntries, shown_ends, IsFrontReplaced, length-with_end_value, inner, moved, IsRest, IsRestPut}
 use Rattle.blaze_table.proofs.Paints.Inner.{rest_under, over_gone, front_gone}
 use Rattle.blaze_table.proofs.Paints.Placing.{rest_over, over_kept, over_front}
 use Rattle.blaze_table.proofs.Walks.Worked.{worked_none, worked_edited}

@@ -1,6 +1,4 @@
-use Rattle.blaze_int.proofs.Options.{if_err}
-use Rattle.std.proofs.Common.{sym, subst, refl}
-use Rattle.std.specs.Prelude.{IsSome}
+use Rattle.blaze_table.proofs.Words.{if_err, sym, subst, refl, IsSome}
 use Rattle.blaze_table.proofs.edit.place.put_rest.Goals as goal
 
 pub returns-in-Some-above-clause-refused : goal.returns-in-Some-above-clause-refused

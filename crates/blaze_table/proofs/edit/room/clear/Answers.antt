@@ -1,6 +1,4 @@
-use Rattle.std.proofs.Common.{◌++◌, drop, pos, ◌+ℤ◌, length, ap, ◌∙◌, arith}
-use Rattle.std.proofs.lemmas.Int.{ints}
-use Rattle.blaze_entries.specs.Starts.{below, from}
+use Rattle.blaze_table.proofs.Words.{◌++◌, drop, pos, ◌+ℤ◌, length, ap, ◌∙◌, arith, ints, below, from}
 use Rattle.blaze_table.proofs.Paints.EditLists.{from_without}
 use Rattle.blaze_table.proofs.Paints.Inner.{below_gone}
 use Rattle.blaze_table.proofs.Walks.Worked.{worked_then}

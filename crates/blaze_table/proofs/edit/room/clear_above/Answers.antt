@@ -1,6 +1,4 @@
-use Rattle.std.proofs.Common.{◌≡◌, ◌++◌, length, drop, pos, ◌+ℤ◌, ap, sym, ◌∙◌, arith, length-drop, drop-drop}
-use Rattle.blaze_entries.specs.Starts.{below, from}
-use Rattle.blaze_entries.proofs.Halves.{halves}
+use Rattle.blaze_table.proofs.Words.{◌≡◌, ◌++◌, length, drop, pos, ◌+ℤ◌, ap, sym, ◌∙◌, arith, length-drop, drop-drop, below, from, halves}
 use Rattle.blaze_table.proofs.Paints.Clearing.{not_last}
 use Rattle.blaze_table.proofs.Walks.Worked.{worked_then}
 use Rattle.blaze_table.proofs.edit.room.clear_above.Goals as goal

@@ -1,6 +1,4 @@
-use Rattle.std.proofs.Common.{◌≡◌, drop}
-use Rattle.blaze_entries.specs.Starts.{below, from}
-use Rattle.blaze_table.specs.Planned.{IsWorked}
+use Rattle.blaze_table.proofs.Words.{◌≡◌, drop, below, from, IsWorked}
 use Rattle.blaze_table.proofs.edit.room.clear_above.Given as goal
 
 -- so many are taken out

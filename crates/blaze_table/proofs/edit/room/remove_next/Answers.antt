@@ -1,5 +1,4 @@
-use Rattle.std.proofs.Common.{ap, refl}
-use Rattle.blaze_entries.specs.Counted.{CountedEntries}
+use Rattle.blaze_table.proofs.Words.{ap, refl, CountedEntries}
 use Rattle.blaze_table.proofs.Paints.Clearing.{there, none_there, left_from, kept_below}
 use Rattle.blaze_table.proofs.Walks.Worked.{worked_none, worked_out}
 use Rattle.blaze_table.proofs.edit.room.remove_next.Goals as goal

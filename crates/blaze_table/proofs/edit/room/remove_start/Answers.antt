@@ -1,6 +1,4 @@
-use Rattle.blaze_int.proofs.Options.{is_none}
-use Rattle.std.proofs.Common.{◌≡◌, false, Option, Some, None, refl, sym, ◌∙◌}
-use Rattle.std.specs.Prelude.{is_some}
+use Rattle.blaze_table.proofs.Words.{is_none, ◌≡◌, false, Option, Some, None, refl, sym, ◌∙◌, is_some}
 use Rattle.blaze_table.proofs.Paints.Clearing.{none_out}
 use Rattle.blaze_table.proofs.edit.room.remove_start.Goals as goal
 

@@ -1,12 +1,4 @@
-use Rattle.std.proofs.Common.{◌++◌, ◌<ℤ◌, ap, subst, sym, ◌∙◌, arith}
-use Rattle.std.proofs.lemmas.Int.{ints}
-use Rattle.std.specs.Option.{option_map}
-use Rattle.blaze_int.proofs.Comparisons.{le_holds, le_fails}
-use Rattle.blaze_entries.specs.Counted.{CountedEntries}
-use Rattle.blaze_entries.specs.Starts.{below, from}
-use Rattle.blaze_entries.specs.Found.{shown_ends}
-use Rattle.blaze_entries.proofs.Halves.{halves}
-use Rattle.blaze_table.specs.Edited.{IsLeft}
+use Rattle.blaze_table.proofs.Words.{◌++◌, ◌<ℤ◌, ap, subst, sym, ◌∙◌, arith, ints, option_map, le_holds, le_fails, CountedEntries, below, from, shown_ends, halves, IsLeft}
 use Rattle.blaze_table.proofs.Paints.EditLists.{length-with_end}
 use Rattle.blaze_table.proofs.Neighbours.Growing.{trim_short, trim_long, trim_starts}
 use Rattle.blaze_table.proofs.Walks.Worked.{worked_none, worked_edited}

@@ -1,5 +1,4 @@
-use Rattle.std.proofs.lemmas.Grind.{common_steps}
-use Rattle.std.proofs.Common.{arith}
+use Rattle.blaze_table.proofs.Words.{common_steps, arith}
 use Rattle.blaze_table.proofs.set.range_set.entries_of_ranges.Goals as goal
 
 pub returns : goal.returns

@@ -1,7 +1,4 @@
-use Rattle.std.proofs.Common.{◌≡◌, ◌++◌, map}
-use Rattle.std.specs.Vec.Iter.{into_iter_items}
-use Rattle.blaze_table.specs.Entries.{shown_entry}
-use Rattle.blaze_table.specs.RangeSets.{shown_bare_ranges}
+use Rattle.blaze_table.proofs.Words.{◌≡◌, ◌++◌, map, into_iter_items, shown_entry, shown_bare_ranges}
 use Rattle.blaze_table.proofs.set.range_set.entries_of_ranges.Given as goal
 
 -- the entries made, and the ranges that are left, are all

@@ -1,8 +1,4 @@
-use Rattle.std.proofs.lemmas.Grind.{common_steps}
-use Rattle.std.proofs.Common.{◌≡◌, ◌∷◌, true, false, sym, ◌∙◌, subst, rules, arith}
-use Rattle.std.specs.Prelude.{IsTrue}
-use Rattle.blaze_table.specs.Entries.{shown_list}
-use Rattle.blaze_table.specs.Swept.{AreApart, key_after}
+use Rattle.blaze_table.proofs.Words.{common_steps, ◌≡◌, ◌∷◌, true, false, sym, ◌∙◌, subst, rules, arith, IsTrue, shown_list, AreApart, key_after}
 use Rattle.blaze_table.proofs.sweep.ascending.is_ascending.Goals as goal
 
 never : IsTrue false → ⊥

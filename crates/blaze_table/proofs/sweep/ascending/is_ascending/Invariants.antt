@@ -1,7 +1,4 @@
-use Rattle.std.proofs.Common.{length}
-use Rattle.std.specs.Prelude.{◌↔◌}
-use Rattle.blaze_table.specs.Entries.{shown_list}
-use Rattle.blaze_table.specs.Swept.{AreApart, key_after}
+use Rattle.blaze_table.proofs.Words.{length, ◌↔◌, shown_list, AreApart, key_after}
 use Rattle.blaze_table.proofs.sweep.ascending.is_ascending.Given as goal
 
 -- what is left is apart from the last pair exactly where all are

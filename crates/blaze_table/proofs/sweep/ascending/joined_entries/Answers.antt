@@ -1,8 +1,4 @@
-use Rattle.std.proofs.Common.{◌≡◌, [], ◌∷◌, sym, ap, subst, ◌∙◌}
-use Rattle.std.proofs.lemmas.List.{nil_from_length}
-use Rattle.std.specs.Vec.Iter.{into_iter_items}
-use Rattle.blaze_table.specs.Entries.{shown_entry, shown_list}
-use Rattle.blaze_table.specs.Painted.{last_at}
+use Rattle.blaze_table.proofs.Words.{◌≡◌, [], ◌∷◌, sym, ap, subst, ◌∙◌, nil_from_length, into_iter_items, shown_entry, shown_list, last_at}
 use Rattle.blaze_table.proofs.Sweeping.JoinedPieces.{IsJoined, joined_none, joined_more}
 use Rattle.blaze_table.proofs.Sweeping.Canonicals.{canonical_of_swept}
 use Rattle.blaze_table.proofs.sweep.ascending.joined_entries.Goals as goal

@@ -1,5 +1,4 @@
-use Rattle.std.specs.Vec.Iter.{into_iter_items}
-use Rattle.blaze_table.specs.Entries.{shown_list}
+use Rattle.blaze_table.proofs.Words.{into_iter_items, shown_list}
 use Rattle.blaze_table.proofs.Sweeping.JoinedPieces.{IsJoined}
 use Rattle.blaze_table.proofs.sweep.ascending.joined_entries.Given as goal
 

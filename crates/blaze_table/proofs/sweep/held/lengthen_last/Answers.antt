@@ -1,10 +1,4 @@
-use Rattle.std.proofs.Common.{◌≡◌, ◌<◌, ◌-◌, ◌∙◌, ◌+ℤ◌, pos, length, slice_set, Some, sym, ap, subst, arith}
-use Rattle.std.specs.Ordering.{int_eq}
-use Rattle.std.specs.Vec.{vec_len}
-use Rattle.std.proofs.lemmas.List.{length-map, length-set}
-use Rattle.blaze_table.specs.Entries.{entry, SameOption, shown_entry, shown_list}
-use Rattle.blaze_table.specs.declared.sweep.held.Held.TheVariants.{Moved}
-use Rattle.blaze_table.specs.Held.{held_value}
+use Rattle.blaze_table.proofs.Words.{◌≡◌, ◌<◌, ◌-◌, ◌∙◌, ◌+ℤ◌, pos, length, slice_set, Some, sym, ap, subst, arith, int_eq, vec_len, length-map, length-set, entry, SameOption, shown_entry, shown_list, Moved, held_value}
 use Rattle.blaze_table.proofs.Neighbours.Glued.{and_both}
 use Rattle.blaze_table.proofs.Sweeping.Held.{moved_value}
 use Rattle.blaze_table.proofs.Sweeping.Pushed.{has_last, pushed_joined}

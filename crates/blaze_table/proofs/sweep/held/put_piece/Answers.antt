@@ -1,10 +1,4 @@
-use Rattle.std.proofs.Common.{◌≡◌, ◌-◌, [], ◌∷◌, length, ap, sym, subst, ◌∙◌, arith, Some}
-use Rattle.std.specs.Prelude.{IsSome}
-use Rattle.std.proofs.lemmas.List.{length-map}
-use Rattle.blaze_table.specs.Entries.{entry, shown_entry, SameOption, shown_list}
-use Rattle.blaze_table.specs.Splice.{glue}
-use Rattle.blaze_table.specs.Held.{held_value}
-use Rattle.blaze_table.specs.declared.sweep.held.Held.TheVariants.{Moved}
+use Rattle.blaze_table.proofs.Words.{◌≡◌, ◌-◌, [], ◌∷◌, length, ap, sym, subst, ◌∙◌, arith, Some, IsSome, length-map, entry, shown_entry, SameOption, shown_list, glue, held_value, Moved}
 use Rattle.blaze_table.proofs.Sweeping.Held.{glue_some}
 use Rattle.blaze_table.proofs.sweep.held.put_piece.Goals as goal
 

@@ -1,9 +1,4 @@
-use Rattle.std.proofs.Common.{◌≡◌, ◌<◌, ◌∙◌, length, Some, sym, subst, arith}
-use Rattle.std.specs.Prelude.{IsSome}
-use Rattle.std.proofs.lemmas.List.{length-map}
-use Rattle.blaze_table.specs.Entries.{SameOption, shown_entry, shown_list}
-use Rattle.blaze_table.specs.declared.sweep.held.Held.TheVariants.{Moved}
-use Rattle.blaze_table.specs.Held.{held_value}
+use Rattle.blaze_table.proofs.Words.{◌≡◌, ◌<◌, ◌∙◌, length, Some, sym, subst, arith, IsSome, length-map, SameOption, shown_entry, shown_list, Moved, held_value}
 use Rattle.blaze_table.proofs.Sweeping.Held.{within_entries, moved_value}
 use Rattle.blaze_table.proofs.sweep.held.value_of.Goals as goal
 

@@ -1,9 +1,4 @@
-use Rattle.std.proofs.Common.{sym, subst, ◌∙◌, ◌-ℤ◌, pos, arith}
-use Rattle.std.proofs.lemmas.Int.{ints}
-use Rattle.std.specs.BinaryHeap.{heap_items}
-use Rattle.blaze_int.proofs.Comparisons.{le_fails, le_holds}
-use Rattle.blaze_table.specs.Entries.{shown_list}
-use Rattle.blaze_table.specs.Pieces.{IsWaiting, SweepsOn, spans}
+use Rattle.blaze_table.proofs.Words.{sym, subst, ◌∙◌, ◌-ℤ◌, pos, arith, ints, heap_items, le_fails, le_holds, shown_list, IsWaiting, SweepsOn, spans}
 use Rattle.blaze_table.proofs.Sweeping.Pieces.{sweeps_none}
 use Rattle.blaze_table.proofs.Sweeping.Waitings.{waiting_kept, waiting_from, waiting_moved}
 use Rattle.blaze_table.proofs.sweep.pieces.advance.Goals as goal

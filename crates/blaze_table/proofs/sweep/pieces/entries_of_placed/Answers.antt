@@ -1,9 +1,4 @@
-use Rattle.std.proofs.Common.{◌+ℤ◌, ◌-ℤ◌, pos, [], length, sym, ap, subst, arith}
-use Rattle.std.specs.Prelude.{slice_index_or}
-use Rattle.std.specs.BinaryHeap.{heap_items}
-use Rattle.std.proofs.lemmas.List.{length-map}
-use Rattle.blaze_table.specs.Entries.{shown_list}
-use Rattle.blaze_table.specs.Pieces.{IsWaiting, KeepsReaching, span_of, spans}
+use Rattle.blaze_table.proofs.Words.{◌+ℤ◌, ◌-ℤ◌, pos, [], length, sym, ap, subst, arith, slice_index_or, heap_items, length-map, shown_list, IsWaiting, KeepsReaching, span_of, spans}
 use Rattle.blaze_table.proofs.Sweeping.Pieces.{read_pair, sweeps_none, sweeps_on, swept_all}
 use Rattle.blaze_table.proofs.Sweeping.Underway.{underway_none, waits_for, all_wait, underway_more}
 use Rattle.blaze_table.proofs.sweep.pieces.entries_of_placed.Goals as goal

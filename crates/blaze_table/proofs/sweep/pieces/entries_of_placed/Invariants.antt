@@ -1,7 +1,4 @@
-use Rattle.std.proofs.Common.{length, ◌-◌, ◌≤◌, []}
-use Rattle.std.specs.BinaryHeap.{IsHeap, heap_items}
-use Rattle.blaze_table.specs.Entries.{shown_list}
-use Rattle.blaze_table.specs.Pieces.{place_cmp, IsUnderway, SweepsOn, spans}
+use Rattle.blaze_table.proofs.Words.{length, ◌-◌, ◌≤◌, [], IsHeap, heap_items, shown_list, place_cmp, IsUnderway, SweepsOn, spans}
 use Rattle.blaze_table.proofs.sweep.pieces.entries_of_placed.Given as goal
 
 abbrev pub invariant-loop-i : goal.invariant-loop-i

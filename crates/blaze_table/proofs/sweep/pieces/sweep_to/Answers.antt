@@ -1,11 +1,4 @@
-use Rattle.std.proofs.Common.{◌≡◌, ◌<◌, ◌≤ℤ◌, ◌<ℤ◌, ◌+ℤ◌, pos, ◌∙◌, length, slice_set, refl, sym, subst, arith, rules}
-use Rattle.std.specs.Prelude.{◌∷◌, IfSome, IsPermutation, IsSome, slice_index_or}
-use Rattle.std.specs.BinaryHeap.{heap_items}
-use Rattle.std.proofs.lemmas.Int.{ints}
-use Rattle.std.proofs.lemmas.List.{set-get_or}
-use Rattle.blaze_int.proofs.Comparisons.{le_holds, le_fails, lt_holds, lt_fails}
-use Rattle.blaze_table.specs.Entries.{shown_list}
-use Rattle.blaze_table.specs.Pieces.{SweepsOn, span_of, spans}
+use Rattle.blaze_table.proofs.Words.{◌≡◌, ◌<◌, ◌≤ℤ◌, ◌<ℤ◌, ◌+ℤ◌, pos, ◌∙◌, length, slice_set, refl, sym, subst, arith, rules, ◌∷◌, IfSome, IsPermutation, IsSome, slice_index_or, heap_items, ints, set-get_or, le_holds, le_fails, lt_holds, lt_fails, shown_list, SweepsOn, span_of, spans}
 use Rattle.blaze_table.proofs.Sweeping.Orders.{step_up, step_to, step_past, weaker}
 use Rattle.blaze_table.proofs.Sweeping.Pieces.{read_pair, within_spans, value_there, sweeps_none, sweeps_more, sweeps_rest}
 use Rattle.blaze_table.proofs.Sweeping.Waitings.{top_pair, top_piece, waiting_from, waiting_less}

@@ -1,7 +1,4 @@
-use Rattle.std.proofs.Common.{◌≤ℤ◌}
-use Rattle.std.specs.BinaryHeap.{IsHeap, heap_items, heap_len}
-use Rattle.blaze_table.specs.Entries.{shown_list}
-use Rattle.blaze_table.specs.Pieces.{place_cmp, IsWaiting, SweepsOn, spans}
+use Rattle.blaze_table.proofs.Words.{◌≤ℤ◌, IsHeap, heap_items, heap_len, shown_list, place_cmp, IsWaiting, SweepsOn, spans}
 use Rattle.blaze_table.proofs.sweep.pieces.sweep_to.Given as goal
 
 -- what the pairs paint below the key `at` is in the list, and those wait that have a key from there on

@@ -1,12 +1,4 @@
-use Rattle.std.proofs.Common.{◌≡◌, ◌≤ℤ◌, [], ◌∷◌, ◌∙◌, ap, sym, subst, refl, length, option_map, All, arith, rules}
-use Rattle.std.proofs.lemmas.List.{length-map, nil_from_length}
-use Rattle.std.proofs.lemmas.List.Elements.{All-nil, All-push, All-map, All-weaker}
-use Rattle.std.proofs.lemmas.List.Sorted.{answers_always, All-permutation}
-use Rattle.std.specs.Vec.Iter.{into_iter_items}
-use Rattle.blaze_int.proofs.Comparisons.{le_holds, le_fails}
-use Rattle.blaze_table.specs.Entries.{shown_entry, shown_list}
-use Rattle.blaze_table.specs.Pieces.{IsPlaced, EndsAreKeys, span_of}
-use Rattle.blaze_table.specs.declared.sweep.held.Held.TheVariants.{Kept}
+use Rattle.blaze_table.proofs.Words.{◌≡◌, ◌≤ℤ◌, [], ◌∷◌, ◌∙◌, ap, sym, subst, refl, length, option_map, All, arith, rules, length-map, nil_from_length, All-nil, All-push, All-map, All-weaker, answers_always, All-permutation, into_iter_items, le_holds, le_fails, shown_entry, shown_list, IsPlaced, EndsAreKeys, span_of, Kept}
 use Rattle.blaze_table.proofs.Sweeping.Placed.{head_of_drop, placed_none, placed_skip, placed_more, placed_sorted, placed_spans, ends_are_keys, ascends, ascending_spans, IsKept, kept_at}
 use Rattle.blaze_table.proofs.Sweeping.Pieces.{swept_first}
 use Rattle.blaze_table.proofs.sweep.placed.placed_of.Goals as goal

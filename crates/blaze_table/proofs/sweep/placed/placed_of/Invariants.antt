@@ -1,7 +1,4 @@
-use Rattle.std.proofs.Common.{◌≡◌, ◌+◌, length, drop, All}
-use Rattle.std.specs.Vec.Iter.{into_iter_items}
-use Rattle.blaze_table.specs.Entries.{shown_list}
-use Rattle.blaze_table.specs.Pieces.{ArePlacedBelow}
+use Rattle.blaze_table.proofs.Words.{◌≡◌, ◌+◌, length, drop, All, into_iter_items, shown_list, ArePlacedBelow}
 use Rattle.blaze_table.proofs.Sweeping.Placed.{IsKept}
 use Rattle.blaze_table.proofs.sweep.placed.placed_of.Given as goal
 

@@ -1,6 +1,4 @@
-use Rattle.std.proofs.Common.{subst}
-use Rattle.blaze_table.specs.Counted.{CountedEntries}
-use Rattle.blaze_table.specs.Entries.{SameEntries}
+use Rattle.blaze_table.proofs.Words.{subst, CountedEntries, SameEntries}
 use Rattle.blaze_table.proofs.Canonical.Clones.{same_cloned, table_as}
 use Rattle.blaze_table.proofs.table.RangeTable.clone.Goals as goal
 

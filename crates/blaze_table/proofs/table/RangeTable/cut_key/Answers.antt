@@ -1,6 +1,4 @@
-use Rattle.std.proofs.Common.{subst}
-use Rattle.blaze_table.specs.Counted.{CountedEntries}
-use Rattle.blaze_table.specs.Cut.{IsCut}
+use Rattle.blaze_table.proofs.Words.{subst, CountedEntries, IsCut}
 use Rattle.blaze_table.proofs.Canonical.RangeMaps.{cut_map}
 use Rattle.blaze_table.proofs.table.RangeTable.cut_key.Goals as goal
 

@@ -1,6 +1,4 @@
-use Rattle.std.proofs.Common.{subst}
-use Rattle.blaze_table.specs.Counted.{CountedEntries}
-use Rattle.blaze_table.specs.Cut.{IsRangeCut}
+use Rattle.blaze_table.proofs.Words.{subst, CountedEntries, IsRangeCut}
 use Rattle.blaze_table.proofs.Cuts.Cutting.{range_cut_map}
 use Rattle.blaze_table.proofs.table.RangeTable.cut_range.Goals as goal
 

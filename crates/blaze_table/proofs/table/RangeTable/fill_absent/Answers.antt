@@ -1,8 +1,4 @@
-use Rattle.std.proofs.Common.{map, sym, subst, ap, ◌∙◌}
-use Rattle.blaze_table.specs.Counted.{CountedEntries}
-use Rattle.blaze_table.specs.Entries.{entry, at}
-use Rattle.blaze_table.specs.Filled.{IsFilled, IsHeldFrom}
-use Rattle.blaze_table.specs.Work.{IsCounted}
+use Rattle.blaze_table.proofs.Words.{map, sym, subst, ap, ◌∙◌, CountedEntries, entry, at, IsFilled, IsHeldFrom, IsCounted}
 use Rattle.blaze_table.proofs.Canonical.RangeMaps.{range_map}
 use Rattle.blaze_table.proofs.Fills.Filled.{filled_none}
 use Rattle.blaze_table.proofs.Fills.Fillings.{filled_whole, gap_is_not_held}

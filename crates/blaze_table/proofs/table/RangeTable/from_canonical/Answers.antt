@@ -1,9 +1,4 @@
-use Rattle.std.proofs.Common.{◌∙◌, sym, ap, subst, arith}
-use Rattle.std.proofs.lemmas.Int.{ints}
-use Rattle.blaze_table.specs.Canonical.{IsCanonical, AreKeys}
-use Rattle.blaze_table.specs.Count.{keys_in}
-use Rattle.blaze_table.specs.Counted.{CountedEntries}
-use Rattle.blaze_table.specs.Entries.{shown_list}
+use Rattle.blaze_table.proofs.Words.{◌∙◌, sym, ap, subst, arith, ints, IsCanonical, AreKeys, keys_in, CountedEntries, shown_list}
 use Rattle.blaze_table.proofs.Canonical.Counted.{keys_among}
 use Rattle.blaze_table.proofs.Canonical.RangeMaps.{starts_ascend}
 use Rattle.blaze_table.proofs.Canonical.Runs.{canonical}

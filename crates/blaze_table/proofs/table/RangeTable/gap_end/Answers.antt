@@ -1,10 +1,4 @@
-use Rattle.std.proofs.Common.{ℤ, arith, inr, subst, sym}
-use Rattle.std.proofs.lemmas.Int.{ints}
-use Rattle.std.specs.Prelude.{IsSome}
-use Rattle.blaze_entries.specs.Starts.{StartsAscend}
-use Rattle.blaze_table.specs.Canonical.{IsCanonical}
-use Rattle.blaze_table.specs.Counted.{CountedEntries}
-use Rattle.blaze_table.specs.Entries.{at, shown_entry}
+use Rattle.blaze_table.proofs.Words.{ℤ, arith, inr, subst, sym, ints, IsSome, StartsAscend, IsCanonical, CountedEntries, at, shown_entry}
 use Rattle.blaze_table.proofs.Neighbours.Between.{above_gap}
 use Rattle.blaze_table.proofs.table.RangeTable.gap_end.Goals as goal
 

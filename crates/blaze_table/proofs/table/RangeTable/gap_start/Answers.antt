@@ -1,8 +1,4 @@
-use Rattle.std.proofs.Common.{◌≡◌, ℤ, None, arith, inr, subst, sym}
-use Rattle.std.proofs.lemmas.Int.{ints}
-use Rattle.std.specs.Prelude.{IsSome}
-use Rattle.blaze_table.specs.Counted.{CountedEntries}
-use Rattle.blaze_table.specs.Entries.{at, shown_entry}
+use Rattle.blaze_table.proofs.Words.{◌≡◌, ℤ, None, arith, inr, subst, sym, ints, IsSome, CountedEntries, at, shown_entry}
 use Rattle.blaze_table.proofs.Neighbours.Between.{below_clear, below_ends, between, below_there}
 use Rattle.blaze_table.proofs.table.RangeTable.gap_start.Goals as goal
 

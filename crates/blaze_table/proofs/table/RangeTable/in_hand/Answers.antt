@@ -1,6 +1,4 @@
-use Rattle.std.proofs.Common.{subst}
-use Rattle.blaze_table.specs.Canonical.{IsRangeMap}
-use Rattle.blaze_table.specs.Counted.{CountedEntries}
+use Rattle.blaze_table.proofs.Words.{subst, IsRangeMap, CountedEntries}
 use Rattle.blaze_table.proofs.Canonical.RangeMaps.{range_map}
 use Rattle.blaze_table.proofs.table.RangeTable.in_hand.Goals as goal
 

@@ -1,8 +1,4 @@
-use Rattle.std.proofs.Common.{◌≡◌, ◌∙◌, subst, arith}
-use Rattle.std.proofs.lemmas.Int.{ints}
-use Rattle.blaze_table.specs.Count.{mapped_keys}
-use Rattle.blaze_table.specs.Counted.{CountedEntries}
-use Rattle.blaze_table.specs.Entries.{at}
+use Rattle.blaze_table.proofs.Words.{◌≡◌, ◌∙◌, subst, arith, ints, mapped_keys, CountedEntries, at}
 use Rattle.blaze_table.proofs.Canonical.ListLaws.{lengths_mapped}
 use Rattle.blaze_table.proofs.table.RangeTable.len.Goals as goal
 

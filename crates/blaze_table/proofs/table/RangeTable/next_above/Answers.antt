@@ -1,9 +1,4 @@
-use Rattle.std.proofs.Common.{arith, sym, ap, option_map, ◌∙◌}
-use Rattle.std.specs.Prelude.{find, int_lt}
-use Rattle.std.proofs.lemmas.Int.{ints}
-use Rattle.blaze_entries.specs.Starts.{first_from}
-use Rattle.blaze_table.specs.Counted.{CountedEntries}
-use Rattle.blaze_table.specs.Entries.{shown_entry}
+use Rattle.blaze_table.proofs.Words.{arith, sym, ap, option_map, ◌∙◌, find, int_lt, ints, first_from, CountedEntries, shown_entry}
 use Rattle.blaze_table.proofs.Neighbours.NextEntries.{above_is, above_none}
 use Rattle.blaze_table.proofs.table.RangeTable.next_above.Goals as goal
 

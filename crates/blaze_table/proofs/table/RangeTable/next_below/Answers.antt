@@ -1,8 +1,4 @@
-use Rattle.std.proofs.Common.{arith, ap, option_map, ◌≤ℤ◌, ◌<ℤ◌, ◌∙◌}
-use Rattle.std.specs.Prelude.{find, reverse, int_lt}
-use Rattle.std.proofs.lemmas.Int.{ints}
-use Rattle.blaze_table.specs.Counted.{CountedEntries}
-use Rattle.blaze_table.specs.Entries.{shown_entry}
+use Rattle.blaze_table.proofs.Words.{arith, ap, option_map, ◌≤ℤ◌, ◌<ℤ◌, ◌∙◌, find, reverse, int_lt, ints, CountedEntries, shown_entry}
 use Rattle.blaze_table.proofs.Neighbours.NextEntries.{below_none_is, below_here, below_before}
 use Rattle.blaze_table.proofs.table.RangeTable.next_below.Goals as goal
 

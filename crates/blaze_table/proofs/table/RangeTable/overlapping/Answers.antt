@@ -1,10 +1,4 @@
-use Rattle.std.proofs.Common.{◌≡◌, ◌≤ℤ◌, ◌∙◌, arith, ap, subst, option_map}
-use Rattle.std.proofs.lemmas.Int.{ints}
-use Rattle.blaze_entries.specs.Starts.{up_to}
-use Rattle.blaze_table.specs.Counted.{CountedEntries}
-use Rattle.blaze_table.specs.Ending.{overlapping}
-use Rattle.blaze_table.specs.Entries.{shown_entry, entry_at}
-use Rattle.blaze_table.specs.Filling.{never}
+use Rattle.blaze_table.proofs.Words.{◌≡◌, ◌≤ℤ◌, ◌∙◌, arith, ap, subst, option_map, ints, up_to, CountedEntries, overlapping, shown_entry, entry_at, never}
 use Rattle.blaze_table.proofs.Fills.Ordered.{ordered_of}
 use Rattle.blaze_table.proofs.Neighbours.Ending.{ending_clear, ending_held, found_from}
 use Rattle.blaze_table.proofs.table.RangeTable.overlapping.Goals as goal

@@ -1,9 +1,4 @@
-use Rattle.std.proofs.Common.{◌≡◌, true, false, ◌∙◌, ap, sym, subst, inl, inr}
-use Rattle.blaze_table.specs.Counted.{CountedEntries}
-use Rattle.blaze_table.specs.Entries.{entry}
-use Rattle.blaze_table.specs.Painted.{IsPainted, IsInside}
-use Rattle.blaze_table.specs.Planned.{GoesOnUnequal}
-use Rattle.blaze_table.specs.Work.{IsCountedPaint}
+use Rattle.blaze_table.proofs.Words.{◌≡◌, true, false, ◌∙◌, ap, sym, subst, inl, inr, CountedEntries, entry, IsPainted, IsInside, GoesOnUnequal, IsCountedPaint}
 use Rattle.blaze_table.proofs.Canonical.RangeMaps.{painted_map}
 use Rattle.blaze_table.proofs.Walks.FewLooks.{counted, looked_by_walk}
 use Rattle.blaze_table.proofs.Walks.Found.{has_ranges, has_keys, walked, found_above, found_still, not_inside}

@@ -1,8 +1,4 @@
-use Rattle.std.proofs.Common.{◌∙◌, ap, sym, subst}
-use Rattle.blaze_table.specs.Counted.{CountedEntries}
-use Rattle.blaze_table.specs.Entries.{entry}
-use Rattle.blaze_table.specs.Painted.{IsPainted, IsInside}
-use Rattle.blaze_table.specs.Work.{IsCountedPaint}
+use Rattle.blaze_table.proofs.Words.{◌∙◌, ap, sym, subst, CountedEntries, entry, IsPainted, IsInside, IsCountedPaint}
 use Rattle.blaze_table.proofs.Canonical.RangeMaps.{painted_map}
 use Rattle.blaze_table.proofs.Walks.FewLooks.{counted}
 use Rattle.blaze_table.proofs.Walks.Found.{found_still, not_inside}

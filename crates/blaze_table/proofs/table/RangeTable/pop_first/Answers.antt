@@ -1,9 +1,4 @@
-use Rattle.blaze_int.proofs.Options.{if_err}
-use Rattle.std.proofs.Common.{length, subst, ap, arith}
-use Rattle.std.specs.List.{slice_get}
-use Rattle.blaze_table.specs.Counted.{CountedEntries}
-use Rattle.blaze_table.specs.Cut.{IsFirstCut, IsAmongOthers}
-use Rattle.std.specs.Prelude.{IfSome}
+use Rattle.blaze_table.proofs.Words.{if_err, length, subst, ap, arith, slice_get, CountedEntries, IsFirstCut, IsAmongOthers, IfSome}
 use Rattle.blaze_table.proofs.Canonical.RangeMaps.{cut_map}
 use Rattle.blaze_table.proofs.Cuts.Ends.{first_refused, first_there}
 use Rattle.blaze_table.proofs.table.RangeTable.pop_first.Goals as goal

@@ -1,5 +1,4 @@
-use Rattle.std.proofs.Common.{arith}
-use Rattle.std.proofs.lemmas.Int.{ints}
+use Rattle.blaze_table.proofs.Words.{arith, ints}
 use Rattle.blaze_table.proofs.Canonical.Counted.{keys_among}
 use Rattle.blaze_table.proofs.Canonical.Kept.{canonical_filtered, are_keys_filtered}
 use Rattle.blaze_table.proofs.Canonical.RangeMaps.{range_map}

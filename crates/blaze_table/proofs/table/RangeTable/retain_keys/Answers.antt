@@ -1,10 +1,4 @@
-use Rattle.std.proofs.Common.{◌∙◌, refl, sym, subst, ap, pos}
-use Rattle.std.specs.List.{All, items_where_true}
-use Rattle.blaze_table.specs.Counted.{CountedEntries}
-use Rattle.blaze_table.specs.Entries.{shown_list}
-use Rattle.blaze_table.specs.Pairs.{pair_list}
-use Rattle.blaze_table.specs.Retain.{AnswersAtPair, IsKeyRetained, TakesPair}
-use Rattle.blaze_table.specs.Table.{IsTable}
+use Rattle.blaze_table.proofs.Words.{◌∙◌, refl, sym, subst, ap, pos, All, items_where_true, CountedEntries, shown_list, pair_list, AnswersAtPair, IsKeyRetained, TakesPair, IsTable}
 use Rattle.blaze_table.proofs.Pairs.AtPairs.{all_pairs}
 use Rattle.blaze_table.proofs.Pairs.Keeping.{IsReached, reached_none, reached_order, reached_room, reached_more, reached_table, reached_pairs}
 use Rattle.blaze_table.proofs.Canonical.RangeMaps.{range_map, starts_ascend}

@@ -1,6 +1,4 @@
-use Rattle.std.proofs.Common.{pos}
-use Rattle.blaze_table.specs.Entries.{shown_list}
-use Rattle.blaze_table.specs.Retain.{AnswersAtPair}
+use Rattle.blaze_table.proofs.Words.{pos, shown_list, AnswersAtPair}
 use Rattle.blaze_table.proofs.Pairs.Keeping.{IsReached}
 use Rattle.blaze_table.proofs.table.RangeTable.retain_keys.Given as goal
 

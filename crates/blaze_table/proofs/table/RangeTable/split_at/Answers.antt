@@ -1,6 +1,4 @@
-use Rattle.std.proofs.Common.{subst}
-use Rattle.blaze_table.specs.Counted.{CountedEntries}
-use Rattle.blaze_table.specs.Cut.{IsSplit}
+use Rattle.blaze_table.proofs.Words.{subst, CountedEntries, IsSplit}
 use Rattle.blaze_table.proofs.Canonical.RangeMaps.{split_maps}
 use Rattle.blaze_table.proofs.Cuts.Splitting.{is_split, split_counted, split_tables}
 use Rattle.blaze_table.proofs.table.RangeTable.split_at.Goals as goal

@@ -1,6 +1,4 @@
-use Rattle.std.proofs.Common.{sym, subst, refl, arith}
-use Rattle.std.proofs.lemmas.Int.{ints}
-use Rattle.blaze_table.specs.Retain.{AnswersAtPair}
+use Rattle.blaze_table.proofs.Words.{sym, subst, refl, arith, ints, AnswersAtPair}
 use Rattle.blaze_table.proofs.Pairs.Keeping.{keys_added, more_no, more_yes}
 use Rattle.blaze_table.proofs.table.retain.keep_key.Goals as goal
 

@@ -1,13 +1,4 @@
-use Rattle.blaze_int.specs.Unsigned.{nat_of}
-use Rattle.std.proofs.Common.{◌≡◌, ◌<◌, ℤ, refl, sym, ap, subst, pos, ◌+ℤ◌, ◌-ℤ◌, ◌≤ℤ◌, ◌<ℤ◌, arith, ◌∙◌}
-use Rattle.std.proofs.lemmas.Int.{ints}
-use Rattle.blaze_int.proofs.Naturals.{nat_of-pos}
-use Rattle.blaze_int.proofs.Comparisons.{lt_holds, lt_fails}
-use Rattle.blaze_table.specs.Count.{keys_in}
-use Rattle.blaze_table.specs.Keeping.{KeepsMore}
-use Rattle.blaze_table.specs.Pairs.{pairs_from}
-use Rattle.blaze_table.specs.Retain.{AnswersAtPair, TakesPair}
-use Rattle.blaze_table.specs.Entries.{shown_list}
+use Rattle.blaze_table.proofs.Words.{nat_of, ◌≡◌, ◌<◌, ℤ, refl, sym, ap, subst, pos, ◌+ℤ◌, ◌-ℤ◌, ◌≤ℤ◌, ◌<ℤ◌, arith, ◌∙◌, ints, nat_of-pos, lt_holds, lt_fails, keys_in, KeepsMore, pairs_from, AnswersAtPair, TakesPair, shown_list}
 use Rattle.blaze_table.proofs.Pairs.AtPairs.{all_at}
 use Rattle.blaze_table.proofs.Pairs.Keeping.{more_none, more_next}
 use Rattle.blaze_table.proofs.table.retain.keep_keys.Goals as goal

@@ -1,10 +1,4 @@
-use Rattle.blaze_int.specs.Unsigned.{nat_of}
-use Rattle.std.proofs.Common.{◌≡◌, pos, ◌+ℤ◌, ◌-ℤ◌, ◌≤ℤ◌}
-use Rattle.blaze_table.specs.Count.{keys_in}
-use Rattle.blaze_table.specs.Keeping.{KeepsMore}
-use Rattle.blaze_table.specs.Pairs.{pairs_from}
-use Rattle.blaze_table.specs.Retain.{AnswersAtPair}
-use Rattle.blaze_table.specs.Entries.{shown_list}
+use Rattle.blaze_table.proofs.Words.{nat_of, ◌≡◌, pos, ◌+ℤ◌, ◌-ℤ◌, ◌≤ℤ◌, keys_in, KeepsMore, pairs_from, AnswersAtPair, shown_list}
 use Rattle.blaze_table.proofs.table.retain.keep_keys.Given as goal
 
 -- the keys before `key` were asked at

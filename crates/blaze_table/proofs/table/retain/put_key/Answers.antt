@@ -1,6 +1,4 @@
-use Rattle.std.proofs.Common.{ap, ◌∙◌, ◌∷◌, []}
-use Rattle.blaze_table.specs.Entries.{entry, shown_list}
-use Rattle.blaze_table.specs.Splice.{glue}
+use Rattle.blaze_table.proofs.Words.{ap, ◌∙◌, ◌∷◌, [], entry, shown_list, glue}
 use Rattle.blaze_table.proofs.table.retain.put_key.Goals as goal
 
 pub returns-in_ok-push_entry : goal.returns-in_ok-push_entry

@@ -1,5 +1,4 @@
-use Rattle.std.proofs.Common.{arith}
-use Rattle.std.proofs.lemmas.Int.{ints}
+use Rattle.blaze_table.proofs.Words.{arith, ints}
 use Rattle.blaze_table.proofs.Canonical.Counted.{some_keys}
 use Rattle.blaze_table.proofs.table.split.count_parts.Goals as goal
 

@@ -1,7 +1,4 @@
-use Rattle.std.proofs.Common.{◌<ℤ◌, ◌∙◌, ap, arith}
-use Rattle.std.proofs.lemmas.Int.{ints}
-use Rattle.blaze_entries.specs.Counted.{CountedEntries}
-use Rattle.blaze_entries.specs.Starts.{with_end}
+use Rattle.blaze_table.proofs.Words.{◌<ℤ◌, ◌∙◌, ap, arith, ints, CountedEntries, with_end}
 use Rattle.blaze_table.proofs.Neighbours.Holders.{holder, present, absent_inside}
 use Rattle.blaze_table.proofs.Cuts.SplitEdits.{starts_under, split_inside, clone_there, clone_removed}
 use Rattle.blaze_table.proofs.table.split.split_across.Goals as goal

@@ -1,7 +1,4 @@
-use Rattle.std.proofs.Common.{◌∙◌, sym, refl, rules}
-use Rattle.blaze_int.proofs.Comparisons.{le_fails}
-use Rattle.blaze_entries.specs.Starts.{below, from}
-use Rattle.blaze_table.specs.Splice.{IsSplitOf}
+use Rattle.blaze_table.proofs.Words.{◌∙◌, sym, refl, rules, le_fails, below, from, IsSplitOf}
 use Rattle.blaze_table.proofs.Neighbours.Holders.{holder}
 use Rattle.blaze_table.proofs.Cuts.SplitEdits.{split_behind, split_above, if_split}
 use Rattle.blaze_table.proofs.table.split.split_at.Goals as goal

@@ -1,5 +1,4 @@
-use Rattle.std.proofs.Common.{◌≡◌}
-use Rattle.blaze_table.specs.RangeSets.{same_ranges}
+use Rattle.blaze_table.proofs.Words.{◌≡◌, same_ranges}
 use Rattle.blaze_table.proofs.Pairs.KeySets.{ranges_decide, keys_decide}
 use Rattle.blaze_table.proofs.set.compare.RangeSetBlazePartialEq.eq.Goals as goal
 

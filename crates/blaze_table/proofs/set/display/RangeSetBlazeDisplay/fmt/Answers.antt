@@ -1,9 +1,5 @@
-use Rattle.std.proofs.Common.{◌≡◌, ◌++◌, [], Some, rules, refl, append_assoc, ap, ◌∙◌, sym}
-use Rattle.std.proofs.Output.{has_written_append}
-use Rattle.std.specs.Fmt.{HasWritten, ◌++?◌}
-use Rattle.std.specs.Range.{range_inclusive_start, range_inclusive_end}
-use Rattle.blaze_table.specs.Printed.{ranges_text}
-use Rattle.blaze_table.specs.RangeSets.{shown_bare_range}
+use Rattle.blaze_table.proofs.Words.{◌≡◌, ◌++◌, [], Some, rules, refl, ap, ◌∙◌, sym, has_written_append, HasWritten, ◌++?◌, range_inclusive_start, range_inclusive_end, ranges_text, shown_bare_range}
+use Rattle.std.proofs.Common.{append_assoc}
 use Rattle.blaze_table.proofs.Pairs.Texts.{split_some, range_shown}
 use Rattle.blaze_table.proofs.set.display.RangeSetBlazeDisplay.fmt.Goals as goal
 

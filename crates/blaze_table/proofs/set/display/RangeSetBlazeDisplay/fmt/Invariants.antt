@@ -1,8 +1,4 @@
-use Rattle.std.proofs.Common.{◌≡◌, ◌++◌, ℕ, List, Some}
-use Rattle.std.specs.Fmt.{HasWritten, IsPlainFormatter}
-use denote.Text.{Utf8}
-use denote.Shadow.{shadow}
-use Rattle.blaze_table.specs.Printed.{ranges_text, set_text}
+use Rattle.blaze_table.proofs.Words.{◌≡◌, ◌++◌, ℕ, List, Some, HasWritten, IsPlainFormatter, Utf8, shadow, ranges_text, set_text}
 use Rattle.blaze_table.proofs.set.display.RangeSetBlazeDisplay.fmt.Given as goal
 
 -- where the whole text is known, what is written and the text of the other ranges are the whole

@@ -1,8 +1,4 @@
-use Rattle.std.proofs.lemmas.Grind.{common_steps}
-use Rattle.std.proofs.Common.{arith}
-use Rattle.std.proofs.Common.{subst}
-use Rattle.blaze_table.specs.Entries.{shown_list}
-use Rattle.blaze_table.specs.RangeSets.{IsSetOf}
+use Rattle.blaze_table.proofs.Words.{common_steps, arith, subst, shown_list, IsSetOf}
 use Rattle.blaze_table.proofs.Pairs.KeySets.{set_of}
 use Rattle.blaze_table.proofs.set.range_set.RangeSetBlaze.from_ranges.Goals as goal
 

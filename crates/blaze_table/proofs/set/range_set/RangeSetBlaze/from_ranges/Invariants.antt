@@ -1,6 +1,4 @@
-use Rattle.std.proofs.Common.{◌≡◌}
-use Rattle.blaze_table.specs.Entries.{shown_list}
-use Rattle.blaze_table.specs.RangeSets.{shown_bare_ranges}
+use Rattle.blaze_table.proofs.Words.{◌≡◌, shown_list, shown_bare_ranges}
 use Rattle.blaze_table.proofs.set.range_set.RangeSetBlaze.from_ranges.Given as goal
 
 -- the pairs are the ranges so far

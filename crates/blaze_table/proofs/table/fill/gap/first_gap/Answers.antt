@@ -1,9 +1,4 @@
-use Rattle.std.proofs.Common.{◌≡◌, false, arith, sym, subst, ◌∙◌}
-use Rattle.std.proofs.lemmas.Int.{ints}
-use Rattle.blaze_int.proofs.Comparisons.{lt_holds, lt_fails}
-use Rattle.blaze_table.specs.Ending.{ending_from}
-use Rattle.blaze_table.specs.Entries.{Entry, at}
-use Rattle.blaze_table.specs.Filling.{IsNextGap}
+use Rattle.blaze_table.proofs.Words.{◌≡◌, false, arith, sym, subst, ◌∙◌, ints, lt_holds, lt_fails, ending_from, Entry, at, IsNextGap}
 use Rattle.blaze_table.proofs.Fills.Upwards.{IsWalked, walked_first, walked_next, walked_held, walked_gap, end_gap}
 use Rattle.blaze_table.proofs.table.fill.gap.first_gap.Goals as goal
 

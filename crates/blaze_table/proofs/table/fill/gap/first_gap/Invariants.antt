@@ -1,5 +1,4 @@
-use Rattle.std.proofs.Common.{◌≤ℤ◌}
-use Rattle.blaze_table.specs.Entries.{at}
+use Rattle.blaze_table.proofs.Words.{◌≤ℤ◌, at}
 use Rattle.blaze_table.proofs.Fills.Upwards.{IsWalked}
 use Rattle.blaze_table.proofs.table.fill.gap.first_gap.Given as goal
 

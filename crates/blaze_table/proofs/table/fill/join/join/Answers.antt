@@ -1,13 +1,4 @@
-use Rattle.std.proofs.Common.{◌≡◌, ◌+◌, List, ◌≤ℤ◌, ◌<ℤ◌, length, ap, sym, subst, refl, ◌∙◌, arith}
-use Rattle.std.specs.Prelude.{IsSome}
-use Rattle.std.specs.Option.{option_map}
-use Rattle.std.proofs.lemmas.Int.{ints}
-use Rattle.blaze_entries.specs.Counted.{CountedEntries}
-use Rattle.blaze_entries.specs.Found.{range_in}
-use Rattle.blaze_entries.specs.Starts.{last_below, start_at, with_end, without}
-use Rattle.blaze_table.specs.Entries.{Entry}
-use Rattle.blaze_table.specs.LastBelow.{IsLastBelow}
-use Rattle.blaze_table.specs.Work.{IsCounted}
+use Rattle.blaze_table.proofs.Words.{◌≡◌, ◌+◌, List, ◌≤ℤ◌, ◌<ℤ◌, length, ap, sym, subst, refl, ◌∙◌, arith, IsSome, option_map, ints, CountedEntries, range_in, last_below, start_at, with_end, without, Entry, IsLastBelow, IsCounted}
 use Rattle.blaze_table.proofs.Fills.Joins.{joint_above, entry_before, none_last, none_starts, starts_here, joined, not_joined}
 use Rattle.blaze_table.proofs.Paints.EditLists.{length-with_end}
 use Rattle.blaze_table.proofs.table.fill.join.join.Goals as goal

@@ -1,5 +1,4 @@
-use Rattle.std.proofs.Common.{refl, ◌∙◌, arith}
-use Rattle.blaze_table.specs.Entries.{at}
+use Rattle.blaze_table.proofs.Words.{refl, ◌∙◌, arith, at}
 use Rattle.blaze_table.proofs.Fills.Joints.{joint_next, joined_next, joined_all, kept_next, same_then, same_content}
 use Rattle.blaze_table.proofs.Fills.KeptEntries.{starts_same}
 use Rattle.blaze_table.proofs.Walks.Worked.{counted_none, counted_then}

@@ -1,10 +1,4 @@
-use Rattle.std.proofs.Common.{◌≡◌, length, map}
-use Rattle.blaze_table.specs.Canonical.{AreKeys}
-use Rattle.blaze_table.specs.Count.{keys_in}
-use Rattle.blaze_table.specs.Entries.{at, SameContent}
-use Rattle.blaze_table.specs.Filled.{AreStartsKept}
-use Rattle.blaze_table.specs.Filling.{IsJoinedBut, IsOrdered}
-use Rattle.blaze_table.specs.Work.{IsCounted}
+use Rattle.blaze_table.proofs.Words.{◌≡◌, length, map, AreKeys, keys_in, at, SameContent, AreStartsKept, IsJoinedBut, IsOrdered, IsCounted}
 use Rattle.blaze_table.proofs.table.fill.join.join_all.Given as goal
 
 -- what is at the joints left is still to be joined

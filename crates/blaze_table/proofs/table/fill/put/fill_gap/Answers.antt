@@ -1,5 +1,4 @@
-use Rattle.std.proofs.Common.{[], ◌∷◌, map, ap, ◌∙◌}
-use Rattle.std.proofs.lemmas.List.{map-append}
+use Rattle.blaze_table.proofs.Words.{[], ◌∷◌, map, ap, ◌∙◌, map-append}
 use Rattle.blaze_table.proofs.table.fill.put.fill_gap.Goals as goal
 
 pub returns-clause-ok : goal.returns-clause-ok

@@ -1,4 +1,4 @@
-use Rattle.std.proofs.Common.{refl}
+use Rattle.blaze_table.proofs.Words.{refl}
 use Rattle.blaze_table.proofs.Fills.Noted.{noted_too}
 use Rattle.blaze_table.proofs.table.fill.put.note.Goals as goal
 

@@ -1,6 +1,4 @@
-use Rattle.std.proofs.Common.{ap}
-use Rattle.blaze_entries.specs.Counted.{CountedEntries}
-use Rattle.blaze_table.specs.Entries.{entry}
+use Rattle.blaze_table.proofs.Words.{ap, CountedEntries, entry}
 use Rattle.blaze_table.proofs.Paints.Placing.{put_there, put_back}
 use Rattle.blaze_table.proofs.table.fill.put.put.Goals as goal
 

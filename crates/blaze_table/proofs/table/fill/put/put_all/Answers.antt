@@ -1,5 +1,4 @@
-use Rattle.std.proofs.Common.{map, arith, refl}
-use Rattle.std.proofs.lemmas.Int.{ints}
+use Rattle.blaze_table.proofs.Words.{map, arith, refl, ints}
 use Rattle.blaze_table.proofs.Fills.Fillings.{beside_next, filling_first, filling_next, filling_last, room_more, table_more}
 use Rattle.blaze_table.proofs.Fills.HeldKeys.{nearer}
 use Rattle.blaze_table.proofs.Fills.Ordered.{ordered_table}

@@ -1,8 +1,4 @@
-use Rattle.blaze_int.specs.Unsigned.{nat_of}
-use Rattle.std.proofs.Common.{map, ◌-ℤ◌}
-use Rattle.blaze_table.specs.Entries.{at}
-use Rattle.blaze_table.specs.Filling.{IsBeside, IsFilling, IsOrderedTable}
-use Rattle.blaze_table.specs.Work.{IsCounted}
+use Rattle.blaze_table.proofs.Words.{nat_of, map, ◌-ℤ◌, at, IsBeside, IsFilling, IsOrderedTable, IsCounted}
 use Rattle.blaze_table.proofs.table.fill.put.put_all.Given as goal
 
 -- all keys before the gap are filled

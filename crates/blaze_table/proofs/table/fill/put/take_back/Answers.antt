@@ -1,6 +1,4 @@
-use Rattle.std.proofs.Common.{map, ap, sym, subst, ◌∙◌, arith}
-use Rattle.blaze_entries.specs.Counted.{CountedEntries}
-use Rattle.blaze_table.specs.Filling.{AreThere, taken}
+use Rattle.blaze_table.proofs.Words.{map, ap, sym, subst, ◌∙◌, arith, CountedEntries, AreThere, taken}
 use Rattle.blaze_table.proofs.Fills.TakenBack.{there_next, taken_next}
 use Rattle.blaze_table.proofs.Walks.Worked.{counted_then}
 use Rattle.blaze_table.proofs.table.fill.put.take_back.Goals as goal

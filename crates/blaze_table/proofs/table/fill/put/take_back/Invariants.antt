@@ -1,6 +1,4 @@
-use Rattle.std.proofs.Common.{◌≡◌, length, map}
-use Rattle.blaze_table.specs.Filling.{AreThere, taken}
-use Rattle.blaze_table.specs.Work.{IsCounted}
+use Rattle.blaze_table.proofs.Words.{◌≡◌, length, map, AreThere, taken, IsCounted}
 use Rattle.blaze_table.proofs.table.fill.put.take_back.Given as goal
 
 -- the entries that start at the keys left are still to be taken
