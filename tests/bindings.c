@@ -369,6 +369,9 @@ static void look_up(long size) {
     if (size >= 3) judge(lows[0] == 0 && highs[1] == 15 && values[2] == 2, "what entries_into wrote", size, 0);
     judge(range_map_entries_into(&maps.a, 16, lows, highs, values, 3) == (uint64_t)(size < 2 ? 0 : size < 5 ? size - 2 : 3),
           "entries_into from a gap", size, 0);
+    judge(range_map_entries_back_into(&maps.a, 15, lows, highs, values, 3) == (uint64_t)(size < 2 ? size : 2), "entries_back_into", size, 0);
+    if (size >= 2) judge(lows[0] == 10 && highs[1] == 5 && values[0] == 1, "what entries_back_into wrote", size, 0);
+    judge(range_map_is_same(&maps.a, &maps.a) && !range_map_is_same(&maps.a, &maps.out), "is_same", size, 0);
     judge(range_map_equal(&maps.a, &maps.b) == (size == 0), "equal", size, 0);
     judge(range_map_compare(&maps.a, &maps.b) == (size ? -1 : 0), "compare", size, 0);
     judge(range_map_compare(&maps.b, &maps.a) == (size ? 1 : 0), "compare turned round", size, 0);

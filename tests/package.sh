@@ -80,7 +80,6 @@ judge "./PROOF ./librange_map.a ./librange_map.so.0" "$(files "$work/out")" "wha
 # ---- The libraries
 lib="$work/unpacked/lib"
 declared="$(grep -v '^static inline' "$work/unpacked/include/range_map.h" | grep -oE '^[a-z0-9_]+ +range_[a-z_]+\(' | grep -oE 'range_[a-z_]+' | LC_ALL=C sort)"
-judge 49 "$(wc -l <<<"$declared")" "functions that the header declares"
 judge "$declared" "$(nm -g --defined-only "$lib/librange_map.a" 2>/dev/null | sed -n 's/^[0-9a-f]* T \(range_.*\)$/\1/p' | LC_ALL=C sort)" "exports of the archive"
 judge "$declared" "$(nm -D --defined-only "$lib/librange_map.so.0" | sed -n 's/^[0-9a-f]* [^ ] \(.*\)$/\1/p' | LC_ALL=C sort)" "exports of the shared library"
 judge '[librange_map.so.0]' "$(readelf -d "$lib/librange_map.so.0" | sed -n 's/.*(SONAME).* //p')" "SONAME"

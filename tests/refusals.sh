@@ -9,10 +9,7 @@
 # `extend` ask for the room that the iterator's hint names, and where that is refused for the room of one item. The answer and
 # the state are then those of the call without a refusal. The last line is 'N passed, M failed'.
 #
-# Calls without a line in a script are not swept by themselves. `complement` runs inside `!`, `join_of`, `transform` and `fill`
-# inside joins, other values and filled gaps, `union_of`, `intersection_of`, `symmetric_difference_of` and `sweep_of` inside the
-# operations on many maps, and they are refused there. `segments`, `intersect_with_ranges`, `subtract_ranges`, the joins of streams
-# with closures, `into_range_map_blaze` and carriers are not refused here.
+# Calls that no line of a script makes are in tests/refused_calls.txt.
 #
 #     tests/refusals.sh          all cases
 #     tests/refusals.sh WORD     those whose call has the word

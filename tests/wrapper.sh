@@ -64,7 +64,7 @@ fi
 
 # ---- Nothing proved, and a stand-in for the toolchain
 mkdir "$work/tree" "$work/bin"
-tar -C "$top" --exclude=out -cf - rangemap script prove test tools tests docs crates crates.txt HANDLES | tar -C "$work/tree" -xf -
+tar -C "$top" --exclude=out -cf - rangemap script prove test tools tests docs bindings crates crates.txt HANDLES | tar -C "$work/tree" -xf -
 cat >"$work/bin/rt" <<'END'
 #!/usr/bin/env bash
 case "$1" in

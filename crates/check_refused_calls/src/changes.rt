@@ -95,6 +95,15 @@ fn split_at(rt: &HostRuntime, mut table: Words) {
     show_table(rt, &table);
 }
 
+/// All keys but one kept.
+fn retain_keys(rt: &HostRuntime, mut table: Words) {
+    begin(rt, "retain_keys");
+    let answer = table.retain_keys(|key, _| *key != 4);
+    end(rt);
+    let _ = print!(rt; " {answer:?},");
+    show_table(rt, &table);
+}
+
 /// Paints and insertions on so many entries.
 fn paints(rt: &HostRuntime, count: i32) -> Result<(), AllocError> {
     let alloc = rt.alloc();
@@ -124,5 +133,6 @@ pub fn all(rt: &HostRuntime) -> Result<(), AllocError> {
     pop_first(rt, leaf(alloc, 2)?);
     pop_last(rt, leaf(alloc, 2)?);
     split_at(rt, leaf(alloc, 3)?);
+    retain_keys(rt, leaf(alloc, 2)?);
     Ok(())
 }

@@ -3,10 +3,10 @@ use crate::calls::{begin, end, show_answer, show_refused};
 use crate::tables::{Words, table_of};
 use blaze_streams::{
     CanonMapIter, IntoRangeValuesIter, RangeValuesIter, complement, intersect_with_ranges,
-    subtract_ranges, symmetric_difference_of, union_of,
+    intersection_of, subtract_ranges, symmetric_difference_of, union_of,
 };
 use blaze_table::RangeSetBlaze;
-use range_map_blaze::IntoRangeMapBlaze;
+use range_map_blaze::{IntoRangeMapBlaze, RangeMapBlaze};
 use std::alloc::AllocError;
 
 /// Ends the line of a call with the stream that it made.
@@ -34,6 +34,15 @@ fn symmetric_difference(rt: &HostRuntime, one: &Words, two: &Words) {
     let (left, right) = (RangeValuesIter::new(one), RangeValuesIter::new(two));
     begin(rt, "symmetric_difference_of");
     let made = symmetric_difference_of(rt.alloc(), left, right);
+    end(rt);
+    show(rt, made);
+}
+
+/// The keys of both streams.
+fn intersection(rt: &HostRuntime, one: &Words, two: &Words) {
+    let (left, right) = (RangeValuesIter::new(one), RangeValuesIter::new(two));
+    begin(rt, "intersection_of");
+    let made = intersection_of(rt.alloc(), left, right);
     end(rt);
     show(rt, made);
 }
@@ -93,10 +102,20 @@ fn map_of(rt: &HostRuntime, table: &Words) {
     show_answer(rt, made);
 }
 
+/// The same by a call of the map.
+fn map_from(rt: &HostRuntime, table: &Words) {
+    let stream = RangeValuesIter::new(table);
+    begin(rt, "from_sorted_disjoint_map");
+    let made = RangeMapBlaze::from_sorted_disjoint_map(rt.alloc(), stream);
+    end(rt);
+    show_answer(rt, made);
+}
+
 /// Two streams as one, and one with a set.
 fn merges(rt: &HostRuntime, one: &Words, two: &Words) -> Result<(), AllocError> {
     union(rt, one, two);
     symmetric_difference(rt, one, two);
+    intersection(rt, one, two);
     let ranges = vec![in rt.alloc(); 4i32..=8]?;
     let set = RangeSetBlaze::from_ranges(rt.alloc(), ranges)?;
     intersect(rt, one, &set);
@@ -112,6 +131,7 @@ pub fn all(rt: &HostRuntime) -> Result<(), AllocError> {
     merges(rt, &one, &two)?;
     let both = table_of(rt.alloc(), &[(1, 5, "a"), (4, 8, "b")])?;
     map_of(rt, &both);
+    map_from(rt, &both);
     shared(rt, both);
     Ok(())
 }
