@@ -1,5 +1,5 @@
 -- The content of entries whose values are texts.
-use Rattle.std.proofs.Common.{◌≡◌, ℕ, ℤ, List, true, false, Bool, cond, refl, sym, ap, ◌∙◌, Option, Some, None, string_bytes, int_le, ◌&&◌, option_map, Result, Ok, Err, IfOk, OnOk}
+use Rattle.std.proofs.Common.{◌≡◌, ℕ, ℤ, List, true, false, Bool, cond, refl, sym, ap, ◌∙◌, Option, Some, None, string_bytes, int_le, ◌&&◌, option_map}
 use Rattle.std.specs.declared.string.String.{String}
 use Rattle.std.specs.declared.alloc.Global.{Global}
 use Rattle.std.specs.String.{string_eq}
@@ -14,7 +14,7 @@ use Rattle.blaze_table.specs.Cut.{cut_at}
 use Rattle.range_map_cli.specs.States.{content_of}
 
 -- equal texts have the same bytes
-same_words : (a b : Option (String Global)) → SameOption string_eq a b → option_map string_bytes a ≡ option_map string_bytes b
+pub same_words : (a b : Option (String Global)) → SameOption string_eq a b → option_map string_bytes a ≡ option_map string_bytes b
 same_words None None h = refl
 same_words None (Some y) h = absurd h
 same_words (Some x) None h = absurd h
@@ -38,7 +38,7 @@ content_of-painted lo hi text word old new same is k =
     let t = int_le lo k && int_le k hi in
     same_words (at new k) (painted lo hi text (at old) k) (same k) ∙ words_if t text (at old k) ∙ ap (λ w. cond t (Some w) (content_of old k)) is
 
-words_or : (t : Bool) (text : String Global) (old : Option (String Global)) → option_map string_bytes (option_or old (cond t (Some text) None)) ≡ option_or (option_map string_bytes old) (cond t (Some (string_bytes text)) None)
+pub words_or : (t : Bool) (text : String Global) (old : Option (String Global)) → option_map string_bytes (option_or old (cond t (Some text) None)) ≡ option_or (option_map string_bytes old) (cond t (Some (string_bytes text)) None)
 words_or t text (Some old) = refl
 words_or true text None = refl
 words_or false text None = refl
@@ -57,14 +57,3 @@ no_word_if false old = refl
 -- the word at a key is taken out
 pub content_of-cut : (k : ℤ) (old new : List (Entry (String Global))) → ((j : ℤ) → SameOption string_eq (at new j) (cut_at k (at old) j)) → (j : ℤ) → content_of new j ≡ cut_at k (content_of old) j
 content_of-cut k old new same j = same_words (at new j) (cut_at k (at old) j) (same j) ∙ no_word_if (int_eq j k) (at old j)
-
--- the word that a call answers
-pub old_word : {E : Type 0} (es : List (Entry (String Global))) (k key : ℤ) (r : Result (Option (String Global)) E) → k ≡ key → IfOk r (λ old. SameOption string_eq (at es k) old)
-    → IfOk r (λ old. option_map string_bytes old ≡ content_of es key)
-old_word es k key (Ok old) is same = sym (same_words (at es k) old same) ∙ ap (content_of es) is
-old_word es k key (Err e) is same = tt
-
--- what a call ensures of success, by two clauses
-pub both_ok : {T E : Type 0} (r : Result T E) {P : Type 0} {Q R : T → Type 0} → OnOk r P → IfOk r Q → ((x : T) → P → Q x → R x) → IfOk r R
-both_ok (Ok x) p q f = f x p q
-both_ok (Err e) p q f = tt

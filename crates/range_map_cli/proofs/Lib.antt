@@ -1,6 +1,7 @@
 pub mod Sessions
 pub mod Contents
 pub mod Counting
+pub mod Edits
 pub mod Stepping
 pub mod Listing
 pub mod Pieces

@@ -7,4 +7,5 @@ pub mod States
 pub mod Sessions
 pub mod Steps
 pub mod Fills
+pub mod Edits
 pub mod Laws

@@ -1,86 +1,20 @@
 //! What a request answers, by the range map.
-ghost use Rattle.std.specs.Prelude.{◌≡◌, ◌≢◌, ◌↔◌, ℤ, IsTrue, IfOk, OnErr, OnOk, option_map};
+ghost use Rattle.std.specs.Prelude.{◌≡◌, ◌≢◌, ◌++◌, [], ℤ, IfSome, OnErr, OnOk, option_map};
 ghost use Rattle.std.specs.Prelude.{string_bytes};
 ghost use Rattle.std.specs.Option.{option_copied};
-ghost use Rattle.blaze_table.specs.Cut.{cut_at};
-ghost use Rattle.blaze_table.specs.Filled.{filled};
-ghost use Rattle.blaze_table.specs.Painted.{painted};
 ghost use Rattle.range_map_cli.specs.Commands.{asked, Blank};
+ghost use Rattle.range_map_cli.specs.Edits.{answer_text, command_done};
 ghost use Rattle.range_map_cli.specs.Pieces.{IsGreatestPiece};
-ghost use Rattle.range_map_cli.specs.Replies.{content_after_command, greatest_key, mapped_count, least_key};
+ghost use Rattle.range_map_cli.specs.Replies.{content_after_command, greatest_key, least_key};
 ghost use Rattle.range_map_cli.specs.Replies.{word_or_dash as shown_word, Replies};
 ghost use Rattle.range_map_cli.specs.States.{content_of, HasWords};
 
 use crate::request::Request;
-use blaze_table::laws::lengths_are_mapped;
+use crate::step::{Answer, Step};
+use crate::steps::take_step;
 use range_map_blaze::RangeMapBlaze;
 use std::alloc::{AllocError, Global};
 use std::fmt::Write;
-
-/// Puts a word on the keys from one to another, and returns whether the number of keys changed.
-fn paint(
-    map: &mut RangeMapBlaze<i64, String>,
-    alloc: Global,
-    lo: i64,
-    hi: i64,
-    word: &str,
-) -> Result<bool, AllocError>
-    ensures content { OnOk result ((key : ℤ) → content_of map.new.entries key
-        ≡ painted lo hi word.now (content_of map.old.entries) key) }
-    ensures changed { IfOk result
-        (λ changed. IsTrue changed ↔
-        (¬ (mapped_count (painted lo hi word.now (content_of map.old.entries))
-        ≡ mapped_count (content_of map.old.entries)))) }
-{
-    lengths_are_mapped::<String>();
-    map.in_hand();
-    map.ranges_insert(lo..=hi, String::from_str(alloc, word)?)
-}
-
-/// Puts a word on those keys from one to another that have none, and returns whether the number of keys changed.
-fn fill(
-    map: &mut RangeMapBlaze<i64, String>,
-    alloc: Global,
-    lo: i64,
-    hi: i64,
-    word: &str,
-) -> Result<bool, AllocError>
-    ensures content { OnOk result ((key : ℤ) → content_of map.new.entries key
-        ≡ filled lo hi word.now (content_of map.old.entries) key) }
-    ensures changed { IfOk result
-        (λ changed. IsTrue changed ↔
-        (¬ (mapped_count (filled lo hi word.now (content_of map.old.entries))
-        ≡ mapped_count (content_of map.old.entries)))) }
-{
-    lengths_are_mapped::<String>();
-    map.in_hand();
-    map.ranges_insert_absent(lo..=hi, String::from_str(alloc, word)?)
-}
-
-/// Puts a word on a key, and returns the word that was there.
-fn insert(
-    map: &mut RangeMapBlaze<i64, String>,
-    alloc: Global,
-    key: i64,
-    word: &str,
-) -> Result<Option<String>, AllocError>
-    ensures content { OnOk result ((j : ℤ) → content_of map.new.entries j
-        ≡ painted key key word.now (content_of map.old.entries) j) }
-    ensures old { IfOk result (λ old. option_map string_bytes old
-        ≡ content_of map.old.entries key) }
-{
-    map.insert(key, String::from_str(alloc, word)?)
-}
-
-/// Takes a key out, and returns the word that was there.
-fn remove(map: &mut RangeMapBlaze<i64, String>, key: i64) -> Result<Option<String>, AllocError>
-    ensures content { OnOk result ((j : ℤ) → content_of map.new.entries j
-        ≡ cut_at key (content_of map.old.entries) j) }
-    ensures old { IfOk result (λ old. option_map string_bytes old
-        ≡ content_of map.old.entries key) }
-{
-    map.remove(key)
-}
 
 /// A word, or a dash where there is none.
 fn word_or_dash(word: Option<&String>) -> &str
@@ -104,6 +38,37 @@ fn piece_at(map: &RangeMapBlaze<i64, String>, key: i64) -> (i64, i64, &str)
     (start, end, word_or_dash(word))
 }
 
+/// Puts a line with a step's answer behind a text; nothing for a pop or a step that answers nothing.
+fn put_answer(reply: &mut String, answer: Answer<i64, String>) -> Result<(), AllocError>
+    ensures { OnOk result (string_bytes reply.new ≡ string_bytes reply.old ++ answer_text answer) }
+{
+    match answer {
+        Answer::Wrote(changed) => writeln!(reply, "{changed}"),
+        Answer::Old(word) => {
+            let old = word_or_dash(word.as_ref());
+            writeln!(reply, "{old}")
+        }
+        Answer::Popped(_) | Answer::Done => Ok(()),
+    }
+}
+
+/// Does a step, and puts what is printed for its command in the place of an empty reply.
+fn answer_step(
+    map: &mut RangeMapBlaze<i64, String>,
+    reply: &mut String,
+    step: Step<i64, String>,
+) -> Result<(), AllocError>
+    requires empty { string_bytes reply.old ≡ [] }
+    ensures reply { OnOk result (IfSome (command_done step)
+        (λ command. Replies (content_of map.old.entries) command (string_bytes reply.new))) }
+    ensures content { OnOk result (IfSome (command_done step)
+        (λ command. (key : ℤ) → content_of map.new.entries key
+        ≡ content_after_command command (content_of map.old.entries) key)) }
+{
+    let answer = take_step(map, step)?;
+    put_answer(reply, answer)
+}
+
 /// Does what is asked, and puts what is printed for it in the place of the reply.
 pub fn answer(
     map: &mut RangeMapBlaze<i64, String>,
@@ -121,23 +86,18 @@ pub fn answer(
     match request {
         Request::Blank => Ok(()),
         Request::Paint(lo, hi, word) => {
-            let changed = paint(map, alloc, lo, hi, word)?;
-            writeln!(reply, "{changed}")
+            let word = String::from_str(alloc, word)?;
+            answer_step(map, reply, Step::Paint(lo, hi, word))
         }
         Request::Fill(lo, hi, word) => {
-            let changed = fill(map, alloc, lo, hi, word)?;
-            writeln!(reply, "{changed}")
+            let word = String::from_str(alloc, word)?;
+            answer_step(map, reply, Step::Fill(lo, hi, word))
         }
         Request::Insert(key, word) => {
-            let replaced = insert(map, alloc, key, word)?;
-            let old = word_or_dash(replaced.as_ref());
-            writeln!(reply, "{old}")
+            let word = String::from_str(alloc, word)?;
+            answer_step(map, reply, Step::Insert(key, word))
         }
-        Request::Remove(key) => {
-            let removed = remove(map, key)?;
-            let taken = word_or_dash(removed.as_ref());
-            writeln!(reply, "{taken}")
-        }
+        Request::Remove(key) => answer_step(map, reply, Step::Remove(key)),
         Request::Get(key) => {
             let word = word_or_dash(map.get(key));
             writeln!(reply, "{word}")

@@ -1,12 +1,9 @@
 //! Lists of steps.
-ghost use Rattle.std.specs.Prelude.{◌≡◌, ◌≤◌, ◌-◌, ◌*◌, ◌==◌, not, [], length, All, IfOk, IfErr};
-ghost use Rattle.std.specs.Prelude.{OnOk, OnErr};
-ghost use Rattle.blaze_table.specs.Count.{mapped_keys};
-ghost use Rattle.blaze_table.specs.Entries.{entry, at};
-ghost use Rattle.blaze_table.specs.Filled.{filled, IsFilled};
+ghost use Rattle.std.specs.Prelude.{◌≡◌, ◌≤◌, ◌-◌, ◌*◌, [], length, All, IfOk, IfErr, OnOk, OnErr};
+ghost use Rattle.blaze_table.specs.Entries.{at};
 ghost use Rattle.blaze_table.specs.Laws.{IsShortest};
-ghost use Rattle.blaze_table.specs.Painted.{painted, IsPainted, ClonesAreAlike};
-ghost use Rattle.blaze_table.specs.Work.{IsCounted, IsCountedCut, IsCountedPaint, PutsAtMost};
+ghost use Rattle.blaze_table.specs.Painted.{ClonesAreAlike};
+ghost use Rattle.blaze_table.specs.Work.{IsCounted, IsCountedCut, PutsAtMost};
 ghost use Rattle.range_map_cli.specs.Fills.{ranges_in, IsPaintOrFill};
 ghost use Rattle.range_map_cli.specs.Steps.{answer, first_mapped_key, last_mapped_key, key_with_value, answers, Combines};
 ghost use Rattle.range_map_cli.specs.Steps.{IsCountedRun, IsEdit, IsRefusedAt, IsStepped};
@@ -18,52 +15,6 @@ use blaze_int::Integer;
 use blaze_table::laws::{canonical_is_shortest, lengths_are_mapped};
 use range_map_blaze::RangeMapBlaze;
 use std::alloc::{AllocError, Global};
-
-/// Puts a value on the keys from `start` up to `end`, and returns whether the number of keys changed.
-fn paint<T: Integer, V: Eq + Clone>(
-    map: &mut RangeMapBlaze<T, V>,
-    start: T,
-    end: T,
-    value: V,
-) -> Result<bool, AllocError>
-    requires { ClonesAreAlike V.is_clone V.eq }
-    ensures ok { OnOk result (IsPainted V.eq T.low T.high (entry (T.rank start) (T.rank end) value)
-        map.old.entries map.new.entries) }
-    ensures changed { IfOk result (λ changed. changed
-        ≡ not (mapped_keys T.low T.high (painted (T.rank start) (T.rank end) value
-        (at map.old.entries))
-        == mapped_keys T.low T.high (at map.old.entries))) }
-    ensures counted { OnOk result (IsCountedPaint map.old map.new) }
-    ensures err { OnErr result (map.new.entries ≡ map.old.entries) }
-    ensures err_counted { OnErr result (IsCounted map.old map.new) }
-{
-    lengths_are_mapped::<V>();
-    map.in_hand();
-    let changed = map.ranges_insert(start..=end, value)?;
-    Ok(changed)
-}
-
-/// Puts a value on those keys from `start` up to `end` that have none, and returns whether the number of keys changed.
-fn fill<T: Integer, V: Eq + Clone>(
-    map: &mut RangeMapBlaze<T, V>,
-    start: T,
-    end: T,
-    value: V,
-) -> Result<bool, AllocError>
-    requires { ClonesAreAlike V.is_clone V.eq }
-    ensures ok { OnOk result (IsFilled V.eq T.low T.high (entry (T.rank start) (T.rank end) value)
-        map.old.entries map.new.entries) }
-    ensures changed { IfOk result (λ changed. changed
-        ≡ not (mapped_keys T.low T.high (filled (T.rank start) (T.rank end) value
-        (at map.old.entries))
-        == mapped_keys T.low T.high (at map.old.entries))) }
-    ensures err { OnErr result (map.new.entries ≡ map.old.entries) }
-{
-    lengths_are_mapped::<V>();
-    map.in_hand();
-    let changed = map.ranges_insert_absent(start..=end, value)?;
-    Ok(changed)
-}
 
 /// Takes the least key out.
 fn pop_first<T: Integer, V: Eq + Clone>(
@@ -140,7 +91,9 @@ fn change<T: Integer, V: Eq + Clone>(
 {
     match step {
         Step::Fill(start, end, value) => {
-            let changed = fill(map, start, end, value)?;
+            lengths_are_mapped::<V>();
+            map.in_hand();
+            let changed = map.ranges_insert_absent(start..=end, value)?;
             Ok(Answer::Wrote(changed))
         }
         Step::Clear => {
@@ -166,7 +119,7 @@ fn change<T: Integer, V: Eq + Clone>(
 }
 
 /// Does a step. Refused memory leaves the map unchanged.
-fn take_step<T: Integer, V: Eq + Clone>(
+pub fn take_step<T: Integer, V: Eq + Clone>(
     map: &mut RangeMapBlaze<T, V>,
     step: Step<T, V>,
 ) -> Result<Answer<T, V>, AllocError>
@@ -182,7 +135,9 @@ fn take_step<T: Integer, V: Eq + Clone>(
 {
     match step {
         Step::Paint(start, end, value) => {
-            let changed = paint(map, start, end, value)?;
+            lengths_are_mapped::<V>();
+            map.in_hand();
+            let changed = map.ranges_insert(start..=end, value)?;
             Ok(Answer::Wrote(changed))
         }
         Step::Insert(key, value) => {

@@ -6,11 +6,13 @@ use Rattle.std.proofs.lemmas.Bool.{eq-eqb, ne_eqb, cases_eq}
 use Rattle.std.proofs.lemmas.Int.{ints}
 use Rattle.blaze_int.proofs.Naturals.{pos_injective}
 use Rattle.blaze_entries.proofs.Alike.{same_itself, is_some_alike}
-use Rattle.blaze_table.specs.Entries.{Entry, at, SameOption}
+use Rattle.blaze_table.specs.Entries.{Entry, entry, at, SameOption}
 use Rattle.blaze_table.specs.Counted.{CountedEntries}
 use Rattle.blaze_table.specs.Canonical.{IsRangeMap}
 use Rattle.blaze_table.specs.Complement.{absent, IsComplement}
 use Rattle.blaze_table.specs.Count.{keys_in, mapped_keys}
+use Rattle.blaze_table.specs.Filled.{IsFilled}
+use Rattle.blaze_table.specs.Painted.{IsPainted}
 use Rattle.blaze_table.specs.Work.{IsCountedCut, PutsAtMost}
 use Rattle.range_map_blaze.specs.Pairs.{PopsFirst, PopsLast}
 use Rattle.range_map_cli.specs.Steps.{answer, complemented, first_mapped_key, last_mapped_key, key_with_value, pair_of, IsStepped, IsWithout, SameAnswer, SamePair}
@@ -25,6 +27,13 @@ module _ {T V L : Type 0} (eq : V → V → Bool) (rank : T → ℤ) (low high :
 
   pub answered : (s t : Step T V L) (content : ℤ → Option V) (given : Answer T V) → s ≡ t → SameAnswer rank eq given (answer rank low high t content) → SameAnswer rank eq given (answer rank low high s content)
   answered s t content given e p = subst (λ u. SameAnswer rank eq given (answer rank low high u content)) (sym e) p
+
+-- a paint and a fill, by other names of the bounds
+pub paint_at : {V : Type 0} (eq : V → V → Bool) (low high : ℤ) (v : V) (a b l h : ℤ) (old new : List (Entry V)) → l ≡ a → h ≡ b → IsPainted eq low high (entry l h v) old new → IsPainted eq low high (entry a b v) old new
+paint_at eq low high v a b l h old new start end p = subst (λ x. IsPainted eq low high (entry x b v) old new) start (subst (λ y. IsPainted eq low high (entry l y v) old new) end p)
+
+pub fill_at : {V : Type 0} (eq : V → V → Bool) (low high : ℤ) (v : V) (a b l h : ℤ) (old new : List (Entry V)) → l ≡ a → h ≡ b → IsFilled eq low high (entry l h v) old new → IsFilled eq low high (entry a b v) old new
+fill_at eq low high v a b l h old new start end p = subst (λ x. IsFilled eq low high (entry x b v) old new) start (subst (λ y. IsFilled eq low high (entry l y v) old new) end p)
 
 -- whether two numbers differ
 differ_is : (b : Bool) (m n : ℕ) → (IsTrue b ↔ (¬ (m ≡ n))) → b ≡ not (eqb m n)

@@ -1,24 +1,46 @@
-use Rattle.std.proofs.Common.{sym, subst, rules, string_bytes}
+use Rattle.std.proofs.Common.{◌≡◌, sym, subst, rules, string_bytes, to_z, of_z, w64}
 use Rattle.std.proofs.lemmas.Result.{on_ok_weaker}
-use Rattle.blaze_table.specs.Filled.{filled}
-use Rattle.blaze_table.specs.Painted.{painted}
-use Rattle.range_map_cli.specs.Commands.{asked}
+use Rattle.range_map_cli.specs.Commands.{asked, Paint, Fill, Insert}
 use Rattle.range_map_cli.specs.Replies.{Replies}
 use Rattle.range_map_cli.specs.States.{content_of}
-use Rattle.range_map_cli.proofs.Counting.{Replies-changed, Replies-len}
+use Rattle.range_map_cli.proofs.Counting.{Replies-len}
 use Rattle.range_map_cli.proofs.Listing.{Replies-entries}
 use Rattle.range_map_cli.proofs.Pieces.{Replies-at}
 use Rattle.range_map_cli.proofs.answer.answer.Goals as goal
 
-pub returns-in_ok-changed-in-Paint-clause-reply : goal.returns-in_ok-changed-in-Paint-clause-reply
-returns-in_ok-changed-in-Paint-clause-reply c = on_ok_weaker c.writeln.result (λ written words.
-    subst (λ r. Replies (content_of c.args.map.now.entries) (asked r) (string_bytes c.writeln.new.self)) (sym c.in-Paint.is)
-    (Replies-changed c.in_ok-changed-in-Paint.changed (λ lo hi. painted lo hi c.in-Paint.word.now (content_of c.args.map.now.entries)) _ _ _ c.in-Paint.lo c.in-Paint.hi _ _ (search rules) (search rules) c.in_ok-changed-in-Paint.ensures.changed c.clear.ensures.bytes written)) c.writeln.ensures.bytes
+pub returns-in_ok-word-in-Paint-clause-reply : goal.returns-in_ok-word-in-Paint-clause-reply
+returns-in_ok-word-in-Paint-clause-reply c =
+    let content = content_of c.args.map.now.entries in
+    let reply = string_bytes c.answer_step.new.reply in
+    let lo : to_z w64 (of_z w64 c.in-Paint.lo) ≡ c.in-Paint.lo = search rules in
+    let hi : to_z w64 (of_z w64 c.in-Paint.hi) ≡ c.in-Paint.hi = search rules in
+    on_ok_weaker c.answer_step.result (λ replies words.
+    subst (λ r. Replies content (asked r) reply) (sym c.in-Paint.is)
+    (subst (λ a. Replies content (Paint a c.in-Paint.hi c.in-Paint.word.now) reply) lo
+    (subst (λ b. Replies content (Paint (to_z w64 (of_z w64 c.in-Paint.lo)) b c.in-Paint.word.now) reply) hi
+    (subst (λ w. Replies content (Paint (to_z w64 (of_z w64 c.in-Paint.lo)) (to_z w64 (of_z w64 c.in-Paint.hi)) w) reply) c.in_ok-word-in-Paint.ensures.ok replies)))) c.answer_step.ensures.reply
 
-pub returns-in_ok-changed-in-Fill-clause-reply : goal.returns-in_ok-changed-in-Fill-clause-reply
-returns-in_ok-changed-in-Fill-clause-reply c = on_ok_weaker c.writeln-in-Fill.result (λ written words.
-    subst (λ r. Replies (content_of c.args.map.now.entries) (asked r) (string_bytes c.writeln-in-Fill.new.self)) (sym c.in-Fill.is)
-    (Replies-changed c.in_ok-changed-in-Fill.changed (λ lo hi. filled lo hi c.in-Fill.word.now (content_of c.args.map.now.entries)) _ _ _ c.in-Fill.lo c.in-Fill.hi _ _ (search rules) (search rules) c.in_ok-changed-in-Fill.ensures.changed c.clear.ensures.bytes written)) c.writeln-in-Fill.ensures.bytes
+pub returns-in_ok-word-in-Fill-clause-reply : goal.returns-in_ok-word-in-Fill-clause-reply
+returns-in_ok-word-in-Fill-clause-reply c =
+    let content = content_of c.args.map.now.entries in
+    let reply = string_bytes c.answer_step-in-Fill.new.reply in
+    let lo : to_z w64 (of_z w64 c.in-Fill.lo) ≡ c.in-Fill.lo = search rules in
+    let hi : to_z w64 (of_z w64 c.in-Fill.hi) ≡ c.in-Fill.hi = search rules in
+    on_ok_weaker c.answer_step-in-Fill.result (λ replies words.
+    subst (λ r. Replies content (asked r) reply) (sym c.in-Fill.is)
+    (subst (λ a. Replies content (Fill a c.in-Fill.hi c.in-Fill.word.now) reply) lo
+    (subst (λ b. Replies content (Fill (to_z w64 (of_z w64 c.in-Fill.lo)) b c.in-Fill.word.now) reply) hi
+    (subst (λ w. Replies content (Fill (to_z w64 (of_z w64 c.in-Fill.lo)) (to_z w64 (of_z w64 c.in-Fill.hi)) w) reply) c.in_ok-word-in-Fill.ensures.ok replies)))) c.answer_step-in-Fill.ensures.reply
+
+pub returns-in_ok-word-in-Insert-clause-reply : goal.returns-in_ok-word-in-Insert-clause-reply
+returns-in_ok-word-in-Insert-clause-reply c =
+    let content = content_of c.args.map.now.entries in
+    let reply = string_bytes c.answer_step-in-Insert.new.reply in
+    let key : to_z w64 (of_z w64 c.in-Insert.key) ≡ c.in-Insert.key = search rules in
+    on_ok_weaker c.answer_step-in-Insert.result (λ replies words.
+    subst (λ r. Replies content (asked r) reply) (sym c.in-Insert.is)
+    (subst (λ k. Replies content (Insert k c.in-Insert.word.now) reply) key
+    (subst (λ w. Replies content (Insert (to_z w64 (of_z w64 c.in-Insert.key)) w) reply) c.in_ok-word-in-Insert.ensures.ok replies))) c.answer_step-in-Insert.ensures.reply
 
 pub returns-in-At-clause-reply : goal.returns-in-At-clause-reply
 returns-in-At-clause-reply c = on_ok_weaker c.writeln-in-At.result (λ written words.

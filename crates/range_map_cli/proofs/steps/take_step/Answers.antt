@@ -1,17 +1,20 @@
+use Rattle.std.proofs.Common.{rules}
 use Rattle.range_map_cli.specs.declared.step.Step.TheVariants.{Paint, Insert, Remove, PopFirst, PopLast}
 use Rattle.range_map_cli.specs.declared.step.Answer.TheVariants.{Wrote, Old, Popped}
 use Rattle.range_map_cli.proofs.Stepping.Kinds.{no_edit}
-use Rattle.range_map_cli.proofs.Stepping.Stepped.{answered, cut_alone, cut_counted, same_back, stepped}
+use Rattle.range_map_cli.proofs.Stepping.Stepped.{answered, changed_is, cut_alone, cut_counted, paint_at, same_back, stepped}
 use Rattle.range_map_cli.proofs.steps.take_step.Goals as goal
 
 pub returns-in_ok-changed-in-Paint-clause-stepped : goal.returns-in_ok-changed-in-Paint-clause-stepped
 returns-in_ok-changed-in-Paint-clause-stepped g c =
-    let p = c.in_ok-changed-in-Paint.ensures.ok in
+    let p = paint_at g.V.PartialEq.eq _ _ c.in-Paint.value (g.T.Integer.rank c.in-Paint.start) (g.T.Integer.rank c.in-Paint.end) _ _ _ _ (search rules) (search rules) (c.in_ok-changed-in-Paint.ensures.ok c.new.ensures.exhausted) in
     stepped g.V.PartialEq.eq g.T.Integer.rank _ _ _ (Paint c.in-Paint.start c.in-Paint.end c.in-Paint.value) _ _ c.in-Paint.is (record { range_map = p.range_map; content = p.content })
 
 pub returns-in_ok-changed-in-Paint-clause-answer : goal.returns-in_ok-changed-in-Paint-clause-answer
 returns-in_ok-changed-in-Paint-clause-answer g c =
-    answered g.V.PartialEq.eq g.T.Integer.rank _ _ _ (Paint c.in-Paint.start c.in-Paint.end c.in-Paint.value) _ (Wrote c.in_ok-changed-in-Paint.changed) c.in-Paint.is c.in_ok-changed-in-Paint.ensures.changed
+    let p = paint_at g.V.PartialEq.eq _ _ c.in-Paint.value (g.T.Integer.rank c.in-Paint.start) (g.T.Integer.rank c.in-Paint.end) _ _ _ _ (search rules) (search rules) (c.in_ok-changed-in-Paint.ensures.ok c.new.ensures.exhausted) in
+    answered g.V.PartialEq.eq g.T.Integer.rank _ _ _ (Paint c.in-Paint.start c.in-Paint.end c.in-Paint.value) _ (Wrote c.in_ok-changed-in-Paint.changed) c.in-Paint.is
+    (changed_is g.V.PartialEq.eq _ _ c.in_ok-changed-in-Paint.changed _ _ _ (c.lengths_are_mapped.ensures _ _ _ c.in_hand.ensures) (c.lengths_are_mapped.ensures _ _ _ p.range_map) p.content c.in_ok-changed-in-Paint.ensures.changed)
 
 pub returns-in_ok-old-in-Insert-clause-stepped : goal.returns-in_ok-old-in-Insert-clause-stepped
 returns-in_ok-old-in-Insert-clause-stepped g c =
@@ -65,7 +68,7 @@ pub returns-in_ok-changed-in-Paint-clause-counted : goal.returns-in_ok-changed-i
 returns-in_ok-changed-in-Paint-clause-counted g c = λ edit. c.in_ok-changed-in-Paint.ensures.counted
 
 pub returns-in_ok-changed-in-Paint-clause-alone : goal.returns-in_ok-changed-in-Paint-clause-alone
-returns-in_ok-changed-in-Paint-clause-alone g c = λ edit empty. c.in_ok-changed-in-Paint.ensures.ok.alone empty
+returns-in_ok-changed-in-Paint-clause-alone g c = λ edit empty. (c.in_ok-changed-in-Paint.ensures.ok c.new.ensures.exhausted).alone empty
 
 pub returns-in_ok-old-in-Insert-clause-counted : goal.returns-in_ok-old-in-Insert-clause-counted
 returns-in_ok-old-in-Insert-clause-counted g c = λ edit. c.in_ok-old-in-Insert.ensures.counted
