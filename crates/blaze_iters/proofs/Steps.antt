@@ -1,19 +1,5 @@
 -- A step over the keys of ranges, from either end.
-use Rattle.blaze_int.specs.Unsigned.{nat_of}
-use Rattle.std.proofs.Common.{◌≡◌, ℕ, suc, zero, ◌+◌, ◌≤◌, ℤ, pos, ◌+ℤ◌, ◌-ℤ◌, ◌≤ℤ◌, ◌<ℤ◌, List, [], ◌∷◌, ◌++◌, length, Option, Some, None, refl, sym, ap, ◌∙◌, arith, append_assoc, append-nil, length-append}
-use Rattle.std.specs.Prelude.{option_map}
-use Rattle.std.specs.Option.{option_to_list}
-use Rattle.std.specs.Iterator.{MakesProgress, item_count}
-use Rattle.std.proofs.lemmas.Int.{ints}
-use Rattle.std.proofs.lemmas.List.{reverse-append}
-use Rattle.blaze_int.proofs.Naturals.{nat_of-pos}
-use Rattle.blaze_entries.specs.declared.range_entry.RangeEntry.{RangeEntry}
-use Rattle.blaze_table.specs.Entries.{Entry, entry, shown_range_entry}
-use Rattle.blaze_table.specs.Canonical.{IsDisjoint, IsClear}
-use Rattle.blaze_table.specs.Pairs.{pairs_from, pairs_of, pair_list}
-use Rattle.blaze_table.proofs.Pairs.PairLists.{pairs_first, pairs_last, pairs_one, pair_list-append}
-use Rattle.blaze_iters.specs.Left.{RangesLeft, ranges_left, pairs_left, shown_left, OpensFirst, OpensLast, IsRestAfter, IsRestBefore}
-use Rattle.blaze_iters.specs.Owned.{OwnedLeft, owned_ranges, HasSeveralFirst, HasSeveralLast}
+use Rattle.blaze_iters.proofs.Words.{nat_of, ◌≡◌, ℕ, suc, zero, ◌+◌, ◌≤◌, ℤ, pos, ◌+ℤ◌, ◌-ℤ◌, ◌≤ℤ◌, ◌<ℤ◌, List, [], ◌∷◌, ◌++◌, length, Option, Some, None, refl, sym, ap, ◌∙◌, arith, append_assoc, append-nil, length-append, option_map, option_to_list, MakesProgress, item_count, ints, reverse-append, nat_of-pos, RangeEntry, Entry, entry, shown_range_entry, IsDisjoint, IsClear, pairs_from, pairs_of, pair_list, pairs_first, pairs_last, pairs_one, pair_list-append, RangesLeft, ranges_left, pairs_left, shown_left, OpensFirst, OpensLast, IsRestAfter, IsRestBefore, OwnedLeft, owned_ranges, HasSeveralFirst, HasSeveralLast}
 
 module _ {K V : Type 0} (of_rank : ℤ → K) where
   -- the first of several keys

@@ -1,11 +1,5 @@
 -- The lists of a slice advanced one after another.
-use Rattle.std.proofs.Common.{◌≡◌, ℕ, ◌+◌, ◌<◌, ℤ, List, [], ◌∷◌, ◌++◌, length, slice_index_or, slice_set, refl, ◌∙◌, sym, ap, append_assoc, arith}
-use Rattle.std.proofs.lemmas.List.{append-nil, length_push}
-use Rattle.std.proofs.lemmas.Grind.{common_steps}
-use Rattle.std.proofs.Math.Seq.{set-append_seam, get_or-append_seam}
-use Rattle.blaze_table.specs.Entries.{Entry}
-use Rattle.blaze_table.specs.Splice.{after}
-use Rattle.blaze_streams.specs.Cursors.{all_after}
+use Rattle.blaze_streams.proofs.Words.{◌≡◌, ℕ, ◌+◌, ◌<◌, ℤ, List, [], ◌∷◌, ◌++◌, length, slice_index_or, slice_set, refl, ◌∙◌, sym, ap, append_assoc, arith, append-nil, length_push, common_steps, set-append_seam, get_or-append_seam, Entry, after, all_after}
 
 module _ {A : Type 0} (t : ℤ) where
   length-all_after : (Ls : List (List (Entry A))) → length (all_after t Ls) ≡ length Ls

@@ -1,23 +1,5 @@
 -- What a closure answered so far at the entries of a list, and one answer more.
-use Rattle.std.specs.Bool.{⊤}
-use Rattle.std.specs.Option.{option_or}
-use Rattle.std.proofs.Common.{◌≡◌, ℤ, pos, ◌+ℤ◌, ◌-ℤ◌, Bool, List, [], ◌∷◌, ◌++◌, Some, length, map, refl, ◌∙◌, sym, ap, subst, append_assoc, arith}
-use Rattle.std.specs.List.{FoldsTo, zip}
-use Rattle.std.specs.Fn.{Mut}
-use Rattle.std.specs.Cmp.{IsEquivalence}
-use Rattle.std.proofs.lemmas.Fn.{FoldsTo-push}
-use Rattle.std.proofs.lemmas.Int.{ints}
-use Rattle.std.proofs.lemmas.List.{map-append, append-nil}
-use Rattle.blaze_entries.proofs.Alike.{same_along, same_trans, same_or_left}
-use Rattle.blaze_table.specs.Entries.{Entry, entry, at, SameOption}
-use Rattle.blaze_table.specs.Canonical.{IsCanonical, IsRangeMap, AreKeys}
-use Rattle.blaze_table.specs.Splice.{glue, IsBelow}
-use Rattle.blaze_table.proofs.Canonical.Counted.{are_keys_glue}
-use Rattle.blaze_table.proofs.Canonical.Runs.{canonical, one_per_run}
-use Rattle.blaze_table.proofs.Paints.Splices.{canonical_glue, at_glue, below_glue, below_more}
-use Rattle.blaze_table.proofs.Canonical.Lookup.{at_append}
-use Rattle.blaze_streams.specs.Answers.{values, answered, EachValue, AnswersAtValue, SomeCallAtValue, TakesValue, IsCallableAtEachValue, IsTransformed}
-use Rattle.blaze_streams.specs.Cursors.{first_key}
+use Rattle.blaze_streams.proofs.Words.{⊤, option_or, ◌≡◌, ℤ, pos, ◌+ℤ◌, ◌-ℤ◌, Bool, List, [], ◌∷◌, ◌++◌, Some, length, map, refl, ◌∙◌, sym, ap, subst, append_assoc, arith, FoldsTo, zip, Mut, IsEquivalence, FoldsTo-push, ints, map-append, append-nil, same_along, same_trans, same_or_left, Entry, entry, at, SameOption, IsCanonical, IsRangeMap, AreKeys, glue, IsBelow, are_keys_glue, canonical, one_per_run, canonical_glue, at_glue, below_glue, below_more, at_append, values, answered, EachValue, AnswersAtValue, SomeCallAtValue, TakesValue, IsCallableAtEachValue, IsTransformed, first_key}
 use Rattle.blaze_streams.proofs.Steady.{same_some}
 
 -- the entries of calls, each with its answer

@@ -1,22 +1,5 @@
 -- The segments of two lists with values that are carried: those found so far, and what they have of the exact ones.
-use Rattle.std.proofs.Common.{◌≡◌, ℤ, Bool, true, ◌&&◌, cond, List, [], ◌∷◌, ◌++◌, Option, Some, None, refl, ◌∙◌, sym, ap, subst, ⊎_elim}
-use Rattle.std.specs.Option.{option_eq, is_some}
-use Rattle.std.specs.Cmp.{IsEquivalence}
-use Rattle.std.proofs.lemmas.List.{append-nil}
-use Rattle.std.proofs.lemmas.List.Elements.{AllZip-push}
-use Rattle.blaze_entries.specs.Cloned.{AreCloned}
-use Rattle.blaze_table.specs.Entries.{Entry, entry, SameEntries}
-use Rattle.blaze_table.specs.Canonical.{IsCanonical, IsRangeMap}
-use Rattle.blaze_table.specs.Painted.{ClonesAreAlike}
-use Rattle.blaze_table.proofs.Canonical.Clones.{same_cloned}
-use Rattle.blaze_table.proofs.Canonical.Counted.{are_keys_as}
-use Rattle.blaze_table.proofs.Canonical.Runs.{canonical, one_per_run}
-use Rattle.blaze_table.proofs.Paints.Painted.{canonical_as}
-use Rattle.blaze_streams.specs.declared.segmenting.joins.JoinKind.{JoinKind}
-use Rattle.blaze_streams.specs.declared.segmenting.joins.JoinKind.TheVariants.{Inner, Left, Full}
-use Rattle.blaze_streams.specs.Carried.{shown_option, AreOptions, IsItOrCarried, ArePairsCarried}
-use Rattle.blaze_streams.specs.Cursors.{first_key, lesser}
-use Rattle.blaze_streams.specs.Joins.{is_joined, pair_eq, piece_of, IsJoinOf, IsCarriedJoin, IsSegmentPut}
+use Rattle.blaze_streams.proofs.Words.{◌≡◌, ℤ, Bool, true, ◌&&◌, cond, List, [], ◌∷◌, ◌++◌, Option, Some, None, refl, ◌∙◌, sym, ap, subst, ⊎_elim, option_eq, is_some, IsEquivalence, append-nil, AllZip-push, AreCloned, Entry, entry, SameEntries, IsCanonical, IsRangeMap, ClonesAreAlike, same_cloned, are_keys_as, canonical, one_per_run, canonical_as, JoinKind, Inner, Left, Full, shown_option, AreOptions, IsItOrCarried, ArePairsCarried, first_key, lesser, is_joined, pair_eq, piece_of, IsJoinOf, IsCarriedJoin, IsSegmentPut}
 use Rattle.blaze_streams.proofs.Paired.{pair_at, pair_laws, IsPairedSoFar, paired_none, paired_more, paired_all}
 
 -- ---- what is carried is equal, and where it is the value itself it is the same

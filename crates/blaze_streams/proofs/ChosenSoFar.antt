@@ -1,20 +1,5 @@
 -- What is chosen so far from two streams, and one step more.
-use Rattle.std.specs.Option.{option_or}
-use Rattle.std.proofs.Common.{◌≡◌, ℤ, pos, ◌+ℤ◌, ◌-ℤ◌, ◌≤ℤ◌, ◌<ℤ◌, Bool, List, [], ◌∷◌, Option, Some, None, refl, ◌∙◌, sym, ap, arith, ⊎_elim}
-use Rattle.std.specs.Cmp.{IsEquivalence}
-use Rattle.std.proofs.lemmas.Int.{ints, by_lt_z}
-use Rattle.blaze_entries.proofs.Alike.{same_along, same_itself, same_trans, same_or_left, same_or_right, same_back, or_assoc, or_none, none_or}
-use Rattle.blaze_table.specs.Entries.{Entry, entry, at, SameOption}
-use Rattle.blaze_table.specs.Canonical.{IsCanonical, AreKeys}
-use Rattle.blaze_table.specs.Chosen.{IsChosen}
-use Rattle.blaze_table.specs.Splice.{glue, after, IsBelow}
-use Rattle.blaze_table.proofs.Canonical.Counted.{are_keys_glue}
-use Rattle.blaze_table.proofs.Canonical.Lookup.{IsAbove, at_in, at_under, at_over}
-use Rattle.blaze_table.proofs.Paints.Painted.{glue-nil}
-use Rattle.blaze_table.proofs.Canonical.Runs.{one_per_run}
-use Rattle.blaze_table.proofs.Paints.Splices.{canonical_glue, at_glue, below_glue, below_more, above_after, at-after_over}
-use Rattle.blaze_streams.specs.Choosing.{IsTaken, PutsValue, PutsAlike}
-use Rattle.blaze_streams.specs.Cursors.{first_key, IsFrom, lesser}
+use Rattle.blaze_streams.proofs.Words.{option_or, ◌≡◌, ℤ, pos, ◌+ℤ◌, ◌-ℤ◌, ◌≤ℤ◌, ◌<ℤ◌, Bool, List, [], ◌∷◌, Option, Some, None, refl, ◌∙◌, sym, ap, arith, ⊎_elim, IsEquivalence, ints, by_lt_z, same_along, same_itself, same_trans, same_or_left, same_or_right, same_back, or_assoc, or_none, none_or, Entry, entry, at, SameOption, IsCanonical, AreKeys, IsChosen, glue, after, IsBelow, are_keys_glue, IsAbove, at_in, at_under, at_over, glue-nil, one_per_run, canonical_glue, at_glue, below_glue, below_more, above_after, at-after_over, IsTaken, PutsValue, PutsAlike, first_key, IsFrom, lesser}
 use Rattle.blaze_streams.proofs.Steady.{same_some, from_first, at_below_from, at-after_under}
 use Rattle.blaze_streams.proofs.Lesser.{at_most_both, at_most_itself, lesser_one, some_lesser}
 

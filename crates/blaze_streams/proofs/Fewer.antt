@@ -1,12 +1,5 @@
 -- Fewer keys are left of two streams after a step.
-use Rattle.std.proofs.Common.{◌≡◌, ◌+◌, ◌<◌, ◌≤◌, ℤ, ◌≤ℤ◌, Bool, List, [], ◌∷◌, Option, Some, refl, arith, ⊎_elim}
-use Rattle.std.proofs.lemmas.Int.{ints, by_lt_z}
-use Rattle.blaze_table.specs.Entries.{Entry}
-use Rattle.blaze_table.specs.Canonical.{IsCanonical}
-use Rattle.blaze_table.specs.Splice.{after}
-use Rattle.blaze_table.proofs.Paints.Splices.{after_keeps}
-use Rattle.blaze_streams.specs.Choosing.{IsTaken}
-use Rattle.blaze_streams.specs.Cursors.{first_key, lesser}
+use Rattle.blaze_streams.proofs.Words.{◌≡◌, ◌+◌, ◌<◌, ◌≤◌, ℤ, ◌≤ℤ◌, Bool, List, [], ◌∷◌, Option, Some, refl, arith, ⊎_elim, ints, by_lt_z, Entry, IsCanonical, after, after_keeps, IsTaken, first_key, lesser}
 use Rattle.blaze_streams.proofs.LengthsLeft.{lengths_left, all_less}
 use Rattle.blaze_streams.proofs.Lesser.{lesser_one}
 

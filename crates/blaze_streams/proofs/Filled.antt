@@ -1,15 +1,5 @@
 -- A list's ranges, and between them the value `None`.
-use Rattle.std.proofs.Common.{◌≡◌, ℤ, pos, ◌+ℤ◌, ◌-ℤ◌, ◌≤ℤ◌, ◌<ℤ◌, Bool, List, [], ◌∷◌, ◌++◌, map, Option, Some, None, refl, ◌∙◌, sym, ap, subst, append_assoc, arith}
-use Rattle.std.specs.Option.{option_eq}
-use Rattle.std.specs.Cmp.{IsEquivalence}
-use Rattle.std.specs.Cmp.Lexicographic.{options_equiv}
-use Rattle.std.proofs.lemmas.Int.{ints}
-use Rattle.std.proofs.lemmas.List.{map-append}
-use Rattle.blaze_table.specs.Entries.{Entry, entry, at}
-use Rattle.blaze_table.specs.Canonical.{IsApart, IsCanonical, AreKeys, IsRangeMap}
-use Rattle.blaze_table.proofs.Canonical.Lookup.{IsAbove, IsAbove-from_apart, at_in, at_under, at_over, at_before, by_place, above_low, above_rest}
-use Rattle.blaze_table.proofs.Canonical.Runs.{canonical, one_per_run}
-use Rattle.blaze_streams.specs.Fills.{with_none, none_before, filled_entries, IsFilledWithNone}
+use Rattle.blaze_streams.proofs.Words.{◌≡◌, ℤ, pos, ◌+ℤ◌, ◌-ℤ◌, ◌≤ℤ◌, ◌<ℤ◌, Bool, List, [], ◌∷◌, ◌++◌, map, Option, Some, None, refl, ◌∙◌, sym, ap, subst, append_assoc, arith, option_eq, IsEquivalence, options_equiv, ints, map-append, Entry, entry, at, IsApart, IsCanonical, AreKeys, IsRangeMap, IsAbove, IsAbove-from_apart, at_in, at_under, at_over, at_before, by_place, above_low, above_rest, canonical, one_per_run, with_none, none_before, filled_entries, IsFilledWithNone}
 use Rattle.blaze_streams.proofs.GapLists.{by_gap}
 
 module _ {V : Type 0} (eq : V → V → Bool) (high : ℤ) where

@@ -1,14 +1,5 @@
 -- The first violation of a list, looked for from the front.
-use Rattle.std.proofs.Common.{◌≡◌, ℕ, zero, suc, ◌+◌, ◌<◌, ℤ, pos, ◌+ℤ◌, ◌≤ℤ◌, ◌<ℤ◌, Bool, true, false, List, [], ◌∷◌, length, Option, Some, None, refl, ◌∙◌, ap, arith, if◌then◌else◌}
-use Rattle.std.specs.Prelude.{int_le, int_lt, ◌&&◌, ◌||◌, option_map}
-use Rattle.std.specs.Ordering.{int_eq}
-use Rattle.std.specs.Cmp.{IsEquivalence}
-use Rattle.std.proofs.lemmas.Int.{ints}
-use Rattle.blaze_int.proofs.Comparisons.{lt_false, le_false, eq_true, eq_holds, and_fails}
-use Rattle.blaze_table.specs.Entries.{Entry}
-use Rattle.blaze_table.specs.Canonical.{IsApart, IsCanonical, IsOnePerRun, AreKeys, IsRangeMap}
-use Rattle.blaze_table.proofs.Canonical.Runs.{canonical, one_per_run}
-use Rattle.blaze_streams.specs.Violations.{violates, ViolatesAfter, IsFirstViolation}
+use Rattle.blaze_streams.proofs.Words.{◌≡◌, ℕ, zero, suc, ◌+◌, ◌<◌, ℤ, pos, ◌+ℤ◌, ◌≤ℤ◌, ◌<ℤ◌, Bool, true, false, List, [], ◌∷◌, length, Option, Some, None, refl, ◌∙◌, ap, arith, if◌then◌else◌, int_le, int_lt, ◌&&◌, ◌||◌, option_map, int_eq, IsEquivalence, ints, lt_false, le_false, eq_true, eq_holds, and_fails, Entry, IsApart, IsCanonical, IsOnePerRun, AreKeys, IsRangeMap, canonical, one_per_run, violates, ViolatesAfter, IsFirstViolation}
 
 -- ---- tests
 

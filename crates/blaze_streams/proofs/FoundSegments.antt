@@ -1,22 +1,5 @@
 -- The segments that were found so far, and one more.
-use Rattle.std.proofs.Common.{◌≡◌, ℕ, ◌<◌, ℤ, pos, ◌+ℤ◌, ◌≤ℤ◌, ◌<ℤ◌, Bool, true, false, cond, nat_eq, List, [], ◌∷◌, ◌++◌, Option, Some, None, refl, ◌∙◌, sym, ap, arith, ⊎_elim}
-use Rattle.std.specs.Option.{option_eq, is_some, option_or}
-use Rattle.std.specs.List.{list_any}
-use Rattle.std.specs.Cmp.{IsEquivalence, first_so, second_so, nat_eq_equiv}
-use Rattle.std.specs.Cmp.Lexicographic.{lists_equiv, options_equiv}
-use Rattle.std.proofs.lemmas.Bool.{false_from_ne_true}
-use Rattle.std.proofs.lemmas.Int.{ints}
-use Rattle.blaze_entries.proofs.Alike.{same_along, or_none, or_assoc}
-use Rattle.blaze_table.specs.Entries.{Entry, at, SameOption}
-use Rattle.blaze_table.specs.Canonical.{IsCanonical}
-use Rattle.blaze_table.specs.Splice.{IsBelow}
-use Rattle.blaze_table.proofs.Canonical.Lookup.{at_in, at_under, at_over, by_place, at_append}
-use Rattle.blaze_table.proofs.Canonical.Runs.{one_per_run}
-use Rattle.blaze_table.proofs.Neighbours.Glued.{IsBelow-push}
-use Rattle.blaze_table.proofs.Paints.Splices.{below_more}
-use Rattle.blaze_streams.specs.declared.segmenting.list_segments.Segment.{Segment}
-use Rattle.blaze_streams.specs.Segments.{row, present, row_eq, shown_segment, shown_segments, IsSegmentsOf}
-use Rattle.blaze_streams.specs.Cursors.{AllCanonical, first_keys, all_after, IsNextSegment}
+use Rattle.blaze_streams.proofs.Words.{◌≡◌, ℕ, ◌<◌, ℤ, pos, ◌+ℤ◌, ◌≤ℤ◌, ◌<ℤ◌, Bool, true, false, cond, nat_eq, List, [], ◌∷◌, ◌++◌, Option, Some, None, refl, ◌∙◌, sym, ap, arith, ⊎_elim, option_eq, is_some, option_or, list_any, IsEquivalence, first_so, second_so, nat_eq_equiv, lists_equiv, options_equiv, false_from_ne_true, ints, same_along, or_none, or_assoc, Entry, at, SameOption, IsCanonical, IsBelow, at_in, at_under, at_over, by_place, at_append, one_per_run, IsBelow-push, below_more, Segment, row, present, row_eq, shown_segment, shown_segments, IsSegmentsOf, AllCanonical, first_keys, all_after, IsNextSegment}
 use Rattle.blaze_streams.proofs.Steady.{changes}
 use Rattle.blaze_streams.proofs.LengthsLeft.{all_lengths_left, all_less}
 use Rattle.blaze_streams.proofs.Rows.{AnyStops, IsFirstSegment, is_first, rows_low, rows_under, rows_over, firsts_after, none_left, all_canonical_after}

@@ -1,18 +1,5 @@
 -- The ranges between a list's ranges are its complement.
-use Rattle.std.proofs.Common.{◌≡◌, ℤ, pos, ◌+ℤ◌, ◌-ℤ◌, ◌≤ℤ◌, ◌<ℤ◌, Bool, cond, List, [], ◌∷◌, ◌++◌, Option, Some, None, refl, ◌∙◌, sym, ap, subst, append_assoc, arith}
-use Rattle.std.proofs.lemmas.Int.{ints, by_lt_z}
-use Rattle.std.specs.Cmp.{IsEquivalence}
-use Rattle.blaze_int.proofs.Comparisons.{lt_true, lt_false}
-use Rattle.blaze_entries.proofs.Alike.{same_itself}
-use Rattle.blaze_table.specs.Entries.{Entry, entry, at, SameOption}
-use Rattle.blaze_table.specs.Canonical.{IsApart, IsCanonical, AreKeys, IsRangeMap}
-use Rattle.blaze_table.specs.Complement.{absent, IsComplement}
-use Rattle.blaze_table.specs.RangeSets.{unit_eq}
-use Rattle.blaze_table.proofs.Canonical.Lookup.{IsAbove, IsAbove-from_apart, at_in, at_under, at_over, at_before, by_place, above_low, above_rest}
-use Rattle.blaze_table.proofs.Canonical.Runs.{canonical, one_per_run}
-use Rattle.blaze_table.proofs.Pairs.UnitLaws.{unit_laws}
-use Rattle.blaze_int.specs.Ranked.{IsNextKey}
-use Rattle.blaze_streams.specs.Gaps.{gap_before, gaps, rank_or_end}
+use Rattle.blaze_streams.proofs.Words.{◌≡◌, ℤ, pos, ◌+ℤ◌, ◌-ℤ◌, ◌≤ℤ◌, ◌<ℤ◌, Bool, cond, List, [], ◌∷◌, ◌++◌, Option, Some, None, refl, ◌∙◌, sym, ap, subst, append_assoc, arith, ints, by_lt_z, IsEquivalence, lt_true, lt_false, same_itself, Entry, entry, at, SameOption, IsApart, IsCanonical, AreKeys, IsRangeMap, absent, IsComplement, unit_eq, IsAbove, IsAbove-from_apart, at_in, at_under, at_over, at_before, by_place, above_low, above_rest, canonical, one_per_run, unit_laws, IsNextKey, gap_before, gaps, rank_or_end}
 
 -- ---- one gap
 

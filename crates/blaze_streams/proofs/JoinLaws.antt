@@ -1,21 +1,5 @@
 -- The laws of joins and of what closures answer.
-use Rattle.blaze_int.proofs.Options.{same_value}
-use Rattle.std.proofs.Common.{◌≡◌, ℤ, ◌≤ℤ◌, Bool, true, false, ◌&&◌, cond, List, [], ◌∷◌, length, map, Option, Some, None, refl, ◌∙◌, sym, subst, ap, arith}
-use Rattle.std.specs.Option.{option_eq, option_map, is_some}
-use Rattle.std.specs.Cmp.{IsEquivalence}
-use Rattle.std.specs.Cmp.Lexicographic.{lists_equiv, options_equiv}
-use Rattle.blaze_entries.proofs.Alike.{same_itself, is_some_alike}
-use Rattle.blaze_table.specs.Entries.{Entry, entry, holds, at, SameOption, SameEntries}
-use Rattle.blaze_table.specs.Canonical.{IsApart, IsCanonical}
-use Rattle.blaze_table.proofs.Canonical.ListLaws.{canonical_is_unique}
-use Rattle.blaze_table.proofs.Canonical.Lookup.{IsAbove-from_apart, at_in, at_over, at_before}
-use Rattle.std.proofs.lemmas.Int.{ints, by_lt_z}
-use Rattle.blaze_table.proofs.Canonical.Runs.{canonical, one_per_run}
-use Rattle.blaze_streams.specs.declared.segmenting.joins.JoinKind.TheVariants.{Inner, Left, Full}
-use Rattle.blaze_streams.specs.Answers.{answered}
-use Rattle.blaze_streams.specs.JoinLaws.{as_row, AnswersKeepKeys, LeftJoinHasLeftKeys, FullJoinIsOfListOfTwo, FullJoinIsInner}
-use Rattle.blaze_streams.specs.Joins.{paired, pair_eq}
-use Rattle.blaze_streams.specs.Segments.{present, row_eq}
+use Rattle.blaze_streams.proofs.Words.{same_value, ◌≡◌, ℤ, ◌≤ℤ◌, Bool, true, false, ◌&&◌, cond, List, [], ◌∷◌, length, map, Option, Some, None, refl, ◌∙◌, sym, subst, ap, arith, option_eq, option_map, is_some, IsEquivalence, lists_equiv, options_equiv, same_itself, is_some_alike, Entry, entry, holds, at, SameOption, SameEntries, IsApart, IsCanonical, canonical_is_unique, IsAbove-from_apart, at_in, at_over, at_before, ints, by_lt_z, canonical, one_per_run, Inner, Left, Full, answered, as_row, AnswersKeepKeys, LeftJoinHasLeftKeys, FullJoinIsOfListOfTwo, FullJoinIsInner, paired, pair_eq, present, row_eq}
 use Rattle.blaze_streams.proofs.Paired.{pair_laws}
 
 either_some : {V W : Type 0} (b : Bool) (v : V) (w : W) (x : Option V) (y : Option W) → is_some y ≡ is_some x → is_some (cond b (Some w) y) ≡ is_some (cond b (Some v) x)

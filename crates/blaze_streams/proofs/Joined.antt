@@ -1,18 +1,5 @@
 -- Entries joined where they touch have their keys, and are a set's.
-use Rattle.std.proofs.Common.{◌≡◌, ℤ, pos, ◌+ℤ◌, ◌≤ℤ◌, ◌<ℤ◌, Bool, true, false, List, [], ◌∷◌, length, min, ℕ, ◌≤◌, Option, Some, None, refl, sym, ◌∙◌, ap, arith, if◌then◌else◌}
-use Rattle.std.specs.Prelude.{int_le, ◌&&◌, ◌||◌, is_some}
-use Rattle.std.specs.Ordering.{int_eq}
-use Rattle.std.specs.Cmp.{IsEquivalence}
-use Rattle.std.proofs.lemmas.Int.{ints}
-use Rattle.std.proofs.lemmas.Bool.Decides.{Decides-int_eq}
-use Rattle.blaze_table.specs.Entries.{Entry, entry, at}
-use Rattle.blaze_table.specs.Canonical.{IsApart, IsCanonical, AreKeys, IsRangeMap}
-use Rattle.blaze_table.proofs.Canonical.Lookup.{IsAbove, IsAbove-from_apart}
-use Rattle.blaze_table.proofs.Canonical.Runs.{canonical, one_per_run}
-use Rattle.blaze_table.specs.RangeSets.{unit_eq, IsRangeSet}
-use Rattle.blaze_streams.specs.KeyRanges.{AreKeyRanges, TakesEnds, joined_ranges, joined_left}
-use Rattle.blaze_table.proofs.Canonical.Parts.{IsRangeMap-rest}
-use Rattle.blaze_table.proofs.Pairs.UnitLaws.{unit_laws}
+use Rattle.blaze_streams.proofs.Words.{◌≡◌, ℤ, pos, ◌+ℤ◌, ◌≤ℤ◌, ◌<ℤ◌, Bool, true, false, List, [], ◌∷◌, length, min, ℕ, ◌≤◌, Option, Some, None, refl, sym, ◌∙◌, ap, arith, if◌then◌else◌, int_le, ◌&&◌, ◌||◌, is_some, int_eq, IsEquivalence, ints, Decides-int_eq, Entry, entry, at, IsApart, IsCanonical, AreKeys, IsRangeMap, IsAbove, IsAbove-from_apart, canonical, one_per_run, unit_eq, IsRangeSet, AreKeyRanges, TakesEnds, joined_ranges, joined_left, IsRangeMap-rest, unit_laws}
 
 pick : {A : Type 0} (P : A → Type 0) (b : Bool) (x y : A) → (b ≡ true → P x) → (b ≡ false → P y) → P (if b then x else y)
 pick P true x y p q = p refl

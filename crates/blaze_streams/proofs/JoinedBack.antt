@@ -1,10 +1,5 @@
 -- Ranges joined where they touch, taken from the back.
-use Rattle.std.proofs.Common.{◌≡◌, ℤ, pos, ◌+ℤ◌, true, false, List, [], ◌∷◌, ◌++◌, Option, Some, None, refl, sym, ◌∙◌, ap, append_assoc}
-use Rattle.std.specs.Ordering.{int_eq}
-use Rattle.std.proofs.lemmas.List.{map-append}
-use Rattle.blaze_int.proofs.Comparisons.{by_bool}
-use Rattle.blaze_table.specs.Entries.{Entry, entry}
-use Rattle.blaze_streams.specs.KeyRanges.{TakesLastEnds, joined_ranges, joined_left, bare_entries, ranges_then}
+use Rattle.blaze_streams.proofs.Words.{◌≡◌, ℤ, pos, ◌+ℤ◌, true, false, List, [], ◌∷◌, ◌++◌, Option, Some, None, refl, sym, ◌∙◌, ap, append_assoc, int_eq, map-append, by_bool, Entry, entry, TakesLastEnds, joined_ranges, joined_left, bare_entries, ranges_then}
 
 -- ---- the ranges alone
 

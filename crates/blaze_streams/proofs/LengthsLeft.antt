@@ -1,13 +1,5 @@
 -- How many keys are left.
-use Rattle.blaze_int.specs.Unsigned.{nat_of}
-use Rattle.std.proofs.Common.{◌≡◌, ℕ, ◌+◌, ◌<◌, ◌≤◌, ℤ, pos, ◌+ℤ◌, ◌-ℤ◌, ◌≤ℤ◌, Bool, List, [], ◌∷◌, Some, arith, ⊎_elim}
-use Rattle.std.proofs.lemmas.Int.{ints}
-use Rattle.blaze_int.proofs.Naturals.{nat_of-pos}
-use Rattle.blaze_table.specs.Entries.{Entry}
-use Rattle.blaze_table.specs.Canonical.{IsCanonical}
-use Rattle.blaze_table.specs.Splice.{after}
-use Rattle.blaze_table.proofs.Paints.Splices.{by_after}
-use Rattle.blaze_streams.specs.Cursors.{first_key, AllCanonical, first_keys, all_after}
+use Rattle.blaze_streams.proofs.Words.{nat_of, ◌≡◌, ℕ, ◌+◌, ◌<◌, ◌≤◌, ℤ, pos, ◌+ℤ◌, ◌-ℤ◌, ◌≤ℤ◌, Bool, List, [], ◌∷◌, Some, arith, ⊎_elim, ints, nat_of-pos, Entry, IsCanonical, after, by_after, first_key, AllCanonical, first_keys, all_after}
 use Rattle.blaze_streams.proofs.Steady.{same_some}
 use Rattle.blaze_streams.proofs.Lesser.{lesser_one}
 

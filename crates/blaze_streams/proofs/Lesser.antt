@@ -1,9 +1,5 @@
 -- The lesser of two keys.
-use Rattle.std.proofs.Common.{◌≡◌, ℤ, ◌≤ℤ◌, cond, Option, Some, None, refl, ◌∙◌, sym, subst, ap, arith, inl, inr}
-use Rattle.std.specs.Prelude.{◌⊎◌}
-use Rattle.std.proofs.lemmas.Int.{ints, by_lt_z}
-use Rattle.blaze_int.proofs.Comparisons.{le_true, le_false}
-use Rattle.blaze_streams.specs.Cursors.{lesser}
+use Rattle.blaze_streams.proofs.Words.{◌≡◌, ℤ, ◌≤ℤ◌, cond, Option, Some, None, refl, ◌∙◌, sym, subst, ap, arith, inl, inr, ◌⊎◌, ints, by_lt_z, le_true, le_false, lesser}
 use Rattle.blaze_streams.proofs.Steady.{AtMost, same_some}
 
 pub at_most_both : (p q : Option ℤ) (t : ℤ) → AtMost t (lesser p q) → AtMost t p × AtMost t q

@@ -1,17 +1,5 @@
 -- Keys of one list that are let go, since another list has none of them.
-use Rattle.blaze_int.proofs.Options.{is_none}
-use Rattle.std.proofs.Common.{◌≡◌, ℤ, pos, ◌+ℤ◌, ◌≤ℤ◌, Bool, true, false, ◌||◌, List, [], ◌∷◌, Option, Some, None, refl, ◌∙◌, sym, ap, arith}
-use Rattle.std.specs.Option.{is_some}
-use Rattle.std.proofs.lemmas.Int.{ints, by_lt_z}
-use Rattle.blaze_table.specs.Entries.{Entry, at}
-use Rattle.blaze_table.specs.Canonical.{IsCanonical}
-use Rattle.blaze_table.specs.Splice.{after}
-use Rattle.blaze_table.proofs.Canonical.Lookup.{at_in}
-use Rattle.blaze_table.proofs.Paints.Splices.{after_keeps}
-use Rattle.blaze_streams.specs.Cursors.{first_key, IsFrom, Reaches}
-use Rattle.blaze_streams.specs.declared.segmenting.joins.JoinKind.{JoinKind}
-use Rattle.blaze_streams.specs.declared.segmenting.joins.JoinKind.TheVariants.{Inner, Left, Full}
-use Rattle.blaze_streams.specs.Joins.{is_joined, paired, IsLetGo, IsNotAsked, IsSkipped}
+use Rattle.blaze_streams.proofs.Words.{is_none, ◌≡◌, ℤ, pos, ◌+ℤ◌, ◌≤ℤ◌, Bool, true, false, ◌||◌, List, [], ◌∷◌, Option, Some, None, refl, ◌∙◌, sym, ap, arith, is_some, ints, by_lt_z, Entry, at, IsCanonical, after, at_in, after_keeps, first_key, IsFrom, Reaches, JoinKind, Inner, Left, Full, is_joined, paired, IsLetGo, IsNotAsked, IsSkipped}
 use Rattle.blaze_streams.proofs.Steady.{at_first, same_some}
 
 -- a list that has nothing at a key, and whose first range does not end below it, starts above it
@@ -22,7 +10,6 @@ absent_above t (e ∷ es) r n = by_lt_z t e.lo
     (λ l. let is : Some e.value ≡ None = sym (at_in e es t l r) ∙ n in cc)
 
 module _ {A B : Type 0} (eq : B → B → Bool) (s high : ℤ) (L L' : List (Entry A)) (R : List (Entry B)) where
-
   pub let_go_to : (r t : ℤ) → Some r ≡ first_key R → IsCanonical eq R → IsFrom (s +ℤ pos 1) R → r ≤ℤ high → t +ℤ pos 1 ≡ r → L' ≡ after t L → IsLetGo s high L L' R
   let_go_to r t p c from to is list_is = go R p c from
     where

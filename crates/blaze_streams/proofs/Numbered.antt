@@ -1,16 +1,5 @@
 -- Lists of ranges that are in order are canonical with their places as values, also where they touch.
-use Rattle.std.proofs.Common.{◌≡◌, ℕ, ◌+◌, ℤ, ◌≤ℤ◌, nat_eq, List, [], ◌∷◌, ◌++◌, drop, ◌∙◌, sym, ap, subst, append_assoc}
-use Rattle.std.proofs.lemmas.List.{map-append}
-use Rattle.std.specs.declared.ops.RangeInclusive.{RangeInclusive}
-use Rattle.std.specs.Global.{Vec}
-use Rattle.blaze_int.proofs.Naturals.{next_differs}
-use Rattle.blaze_table.specs.Entries.{Entry, entry}
-use Rattle.blaze_table.specs.Canonical.{IsCanonical, IsDisjoint, IsAscending, AreKeys}
-use Rattle.blaze_table.proofs.Canonical.Runs.{in_order}
-use Rattle.blaze_streams.specs.Segments.{numbered, all_numbered, AreInOrder}
-use Rattle.blaze_streams.specs.Cursors.{AllCanonical}
-use Rattle.blaze_streams.specs.RangeLists.{shown_ranges}
-use Rattle.blaze_streams.specs.Ranges.{shown_range}
+use Rattle.blaze_streams.proofs.Words.{◌≡◌, ℕ, ◌+◌, ℤ, ◌≤ℤ◌, nat_eq, List, [], ◌∷◌, ◌++◌, drop, ◌∙◌, sym, ap, subst, append_assoc, map-append, RangeInclusive, Vec, next_differs, Entry, entry, IsCanonical, IsDisjoint, IsAscending, AreKeys, in_order, numbered, all_numbered, AreInOrder, AllCanonical, shown_ranges, shown_range}
 
 -- a range among the keys behind a list
 pub keys_push : {A : Type 0} (low high : ℤ) (es : List (Entry A)) (e : Entry A) → AreKeys low high es → low ≤ℤ e.lo → e.hi ≤ℤ high → AreKeys low high (es ++ e ∷ [])

@@ -1,26 +1,5 @@
 -- The segments of two lists that were found so far, and one more.
-use Rattle.std.proofs.Common.{◌≡◌, ◌+◌, ◌<◌, ℤ, pos, ◌+ℤ◌, ◌≤ℤ◌, ◌<ℤ◌, Bool, true, false, ◌&&◌, ◌||◌, cond, List, [], ◌∷◌, ◌++◌, Option, Some, None, refl, ◌∙◌, sym, ap, subst, arith, ⊎_elim}
-use Rattle.std.specs.Option.{option_eq, option_or, is_some}
-use Rattle.std.specs.Prelude.{MatchOption}
-use Rattle.std.specs.Cmp.{IsEquivalence, first_so, second_so}
-use Rattle.std.specs.Cmp.Lexicographic.{options_equiv}
-use Rattle.std.proofs.lemmas.Cmp.{and_equiv, on_equiv}
-use Rattle.std.proofs.lemmas.Int.{ints, by_lt_z}
-use Rattle.std.proofs.lemmas.List.{append-nil}
-use Rattle.blaze_entries.proofs.Alike.{or_none, or_assoc}
-use Rattle.blaze_table.specs.Entries.{Entry, entry, at, SameOption}
-use Rattle.blaze_table.specs.Canonical.{IsCanonical, AreKeys}
-use Rattle.blaze_table.specs.Splice.{IsBelow, after}
-use Rattle.blaze_table.proofs.Neighbours.Glued.{IsBelow-push}
-use Rattle.blaze_table.proofs.Canonical.Lookup.{IsAbove-from_apart, at_in, at_under, at_over, at_before, at_append}
-use Rattle.blaze_table.proofs.Canonical.Runs.{canonical, one_per_run}
-use Rattle.blaze_table.proofs.Paints.Splices.{below_more, at-after_over}
-use Rattle.blaze_streams.specs.declared.segmenting.joins.JoinKind.{JoinKind}
-use Rattle.blaze_streams.specs.declared.segmenting.joins.JoinKind.TheVariants.{Inner, Left, Full}
-use Rattle.blaze_streams.specs.Carried.{AreOptions, ArePairsCarried}
-use Rattle.blaze_streams.specs.Cursors.{first_key, steady_to, lesser}
-use Rattle.blaze_streams.specs.Joins.{is_joined, paired, pair_eq, IsJoinOf, IsNotAsked, piece_of, IsSegmentPut, IsSkipped}
-use Rattle.blaze_streams.specs.Answers.{EachValue}
+use Rattle.blaze_streams.proofs.Words.{◌≡◌, ◌+◌, ◌<◌, ℤ, pos, ◌+ℤ◌, ◌≤ℤ◌, ◌<ℤ◌, Bool, true, false, ◌&&◌, ◌||◌, cond, List, [], ◌∷◌, ◌++◌, Option, Some, None, refl, ◌∙◌, sym, ap, subst, arith, ⊎_elim, option_eq, option_or, is_some, MatchOption, IsEquivalence, first_so, second_so, options_equiv, and_equiv, on_equiv, ints, by_lt_z, append-nil, or_none, or_assoc, Entry, entry, at, SameOption, IsCanonical, AreKeys, IsBelow, after, IsBelow-push, IsAbove-from_apart, at_in, at_under, at_over, at_before, at_append, canonical, one_per_run, below_more, at-after_over, JoinKind, Inner, Left, Full, AreOptions, ArePairsCarried, first_key, steady_to, lesser, is_joined, paired, pair_eq, IsJoinOf, IsNotAsked, piece_of, IsSegmentPut, IsSkipped, EachValue}
 use Rattle.blaze_streams.proofs.ChosenSoFar.{both_from, none_there, no_first, first_above}
 use Rattle.blaze_streams.proofs.Fewer.{both_less}
 use Rattle.blaze_streams.proofs.FoundSegments.{option_same, EndsApart, canonical_push, apart_push}

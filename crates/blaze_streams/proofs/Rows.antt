@@ -1,16 +1,5 @@
 -- How far many lists stay as they are, and their first segment.
-use Rattle.std.proofs.Common.{◌≡◌, ℤ, ◌≤ℤ◌, ◌<ℤ◌, Bool, true, false, List, [], ◌∷◌, Option, Some, None, Bor, refl, ◌∙◌, sym, ap, arith, inl, inr, ⊎_elim}
-use Rattle.std.specs.Prelude.{◌⊎◌}
-use Rattle.std.specs.Option.{is_some, option_copied}
-use Rattle.std.specs.List.{list_any}
-use Rattle.std.proofs.lemmas.Int.{ints}
-use Rattle.blaze_table.specs.Entries.{Entry, at}
-use Rattle.blaze_table.specs.Splice.{after}
-use Rattle.blaze_table.proofs.Canonical.Lookup.{IsAbove}
-use Rattle.blaze_table.proofs.Paints.Splices.{above_after, canonical_after, at-after_over}
-use Rattle.blaze_streams.specs.Carried.{shown_option}
-use Rattle.blaze_streams.specs.Segments.{row}
-use Rattle.blaze_streams.specs.Cursors.{first_key, steady_to, AllCanonical, first_keys, AllFrom, all_steady_to, AllReach, all_after, IsNextSegment}
+use Rattle.blaze_streams.proofs.Words.{◌≡◌, ℤ, ◌≤ℤ◌, ◌<ℤ◌, Bool, true, false, List, [], ◌∷◌, Option, Some, None, Bor, refl, ◌∙◌, sym, ap, arith, inl, inr, ⊎_elim, ◌⊎◌, is_some, option_copied, list_any, ints, Entry, at, after, IsAbove, above_after, canonical_after, at-after_over, shown_option, row, first_key, steady_to, AllCanonical, first_keys, AllFrom, all_steady_to, AllReach, all_after, IsNextSegment}
 use Rattle.blaze_streams.proofs.Steady.{AtMost, Stops, same_some, steady, from_first, stops_steady, steady_far, starts_there, at_below_from, at-after_under}
 use Rattle.blaze_streams.proofs.Lesser.{at_most_both, at_most_itself, lesser_one, some_lesser}
 

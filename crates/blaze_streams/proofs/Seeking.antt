@@ -1,18 +1,5 @@
 -- Ranges passed over up to a key by a search.
-use Rattle.std.specs.Int.{int_max}
-use Rattle.std.proofs.Common.{◌≡◌, ◌≤◌, ℤ, ◌≤ℤ◌, Bool, List, [], ◌∷◌, ◌++◌, length, refl, ◌∙◌, sym, ap, subst, append_assoc, arith}
-use Rattle.std.specs.Cmp.{IsEquivalence}
-use Rattle.std.proofs.lemmas.Int.{ints, by_lt_z}
-use Rattle.std.proofs.lemmas.List.{length-append}
-use Rattle.blaze_table.specs.Canonical.{AreKeys, IsCanonical, IsRangeMap}
-use Rattle.blaze_table.specs.Ending.{ending_from}
-use Rattle.blaze_table.specs.Entries.{Entry}
-use Rattle.blaze_table.specs.Splice.{after, IsBelow}
-use Rattle.blaze_table.proofs.Canonical.Lookup.{IsAbove-from_apart}
-use Rattle.blaze_table.proofs.Canonical.Parts.{IsRangeMap-rest}
-use Rattle.blaze_table.proofs.Neighbours.Ending.{ending_all, ending_skips, ending_takes}
-use Rattle.blaze_table.proofs.Paints.Splices.{after_skips, below_more}
-use Rattle.blaze_streams.specs.LastParts.{IsLastPart, IsSought}
+use Rattle.blaze_streams.proofs.Words.{int_max, ◌≡◌, ◌≤◌, ℤ, ◌≤ℤ◌, Bool, List, [], ◌∷◌, ◌++◌, length, refl, ◌∙◌, sym, ap, subst, append_assoc, arith, IsEquivalence, ints, by_lt_z, length-append, AreKeys, IsCanonical, IsRangeMap, ending_from, Entry, after, IsBelow, IsAbove-from_apart, IsRangeMap-rest, ending_all, ending_skips, ending_takes, after_skips, below_more, IsLastPart, IsSought}
 
 -- a last part without its first one is a last part
 pub part_rest : {A : Type 0} (list rest : List A) (x : A) → IsLastPart list (x ∷ rest) → IsLastPart list rest

@@ -1,21 +1,5 @@
 -- The keys that the first ranges of two lists share.
-use Rattle.std.specs.Int.{int_max, int_min}
-use Rattle.std.specs.Prelude.{◌⊎◌, int_le}
-use Rattle.std.specs.Option.{option_map}
-use Rattle.std.proofs.Common.{◌≡◌, ℤ, pos, ◌+ℤ◌, ◌≤ℤ◌, ◌<ℤ◌, Bool, cond, List, [], ◌∷◌, Option, Some, None, refl, ◌∙◌, sym, subst, ap, arith, ⊎_elim}
-use Rattle.std.proofs.lemmas.Int.{ints, by_lt_z}
-use Rattle.blaze_int.proofs.Comparisons.{le_true, le_false}
-use Rattle.blaze_entries.specs.Found.{range_in}
-use Rattle.blaze_entries.specs.Starts.{first_entry}
-use Rattle.blaze_entries.proofs.Alike.{same_along, same_none}
-use Rattle.blaze_table.specs.Entries.{Entry, at, SameOption}
-use Rattle.blaze_table.specs.Canonical.{IsCanonical}
-use Rattle.blaze_table.specs.Chosen.{left_with_right}
-use Rattle.blaze_table.specs.Splice.{after}
-use Rattle.blaze_table.proofs.Canonical.Lookup.{at_in}
-use Rattle.blaze_table.proofs.Paints.Splices.{after_keeps}
-use Rattle.blaze_streams.specs.Choosing.{IsTaken}
-use Rattle.blaze_streams.specs.Cursors.{first_key, FirstHas, lesser, Reaches}
+use Rattle.blaze_streams.proofs.Words.{int_max, int_min, ◌⊎◌, int_le, option_map, ◌≡◌, ℤ, pos, ◌+ℤ◌, ◌≤ℤ◌, ◌<ℤ◌, Bool, cond, List, [], ◌∷◌, Option, Some, None, refl, ◌∙◌, sym, subst, ap, arith, ⊎_elim, ints, by_lt_z, le_true, le_false, range_in, first_entry, same_along, same_none, Entry, at, SameOption, IsCanonical, left_with_right, after, at_in, after_keeps, IsTaken, first_key, FirstHas, lesser, Reaches}
 use Rattle.blaze_streams.proofs.ChosenSoFar.{chosen_at}
 use Rattle.blaze_streams.proofs.Steady.{at_first}
 use Rattle.blaze_streams.proofs.Lesser.{lesser_exchanged, lesser_first}

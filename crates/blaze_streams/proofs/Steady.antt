@@ -1,17 +1,5 @@
 -- How far a list stays as it is.
-use Rattle.std.proofs.Common.{◌≡◌, ℤ, pos, ◌+ℤ◌, ◌-ℤ◌, ◌≤ℤ◌, ◌<ℤ◌, Bool, cond, List, [], ◌∷◌, Option, Some, None, refl, ◌∙◌, sym, subst, ap, arith, inl, inr, ⊎_elim}
-use Rattle.std.specs.Prelude.{◌⊎◌}
-use Rattle.std.specs.Cmp.{IsEquivalence}
-use Rattle.std.proofs.lemmas.Int.{ints, by_lt_z}
-use Rattle.blaze_int.proofs.Comparisons.{le_true, le_false}
-use Rattle.blaze_entries.proofs.Alike.{same_along}
-use Rattle.blaze_table.specs.Entries.{Entry, at, SameOption}
-use Rattle.blaze_table.specs.Canonical.{IsCanonical}
-use Rattle.blaze_table.specs.Splice.{after}
-use Rattle.blaze_table.proofs.Canonical.Lookup.{at_in, at_over, at_before}
-use Rattle.blaze_table.proofs.Canonical.Unique.{breaks}
-use Rattle.blaze_table.proofs.Paints.Splices.{above_after, canonical_after}
-use Rattle.blaze_streams.specs.Cursors.{first_key, steady_to, IsFrom, Reaches}
+use Rattle.blaze_streams.proofs.Words.{◌≡◌, ℤ, pos, ◌+ℤ◌, ◌-ℤ◌, ◌≤ℤ◌, ◌<ℤ◌, Bool, cond, List, [], ◌∷◌, Option, Some, None, refl, ◌∙◌, sym, subst, ap, arith, inl, inr, ⊎_elim, ◌⊎◌, IsEquivalence, ints, by_lt_z, le_true, le_false, same_along, Entry, at, SameOption, IsCanonical, after, at_in, at_over, at_before, breaks, above_after, canonical_after, first_key, steady_to, IsFrom, Reaches}
 
 -- t is at most the number, where there is one
 abbrev pub AtMost : ℤ → Option ℤ → Type 0

@@ -1,23 +1,7 @@
 -- The events of a sweep, put one after another and sorted.
-use Rattle.std.proofs.Common.{◌≡◌, ℕ, ◌+◌, ℤ, pos, ◌+ℤ◌, ◌≤ℤ◌, Bool, true, false, List, [], ◌∷◌, ◌++◌, All, IsPermutation, refl, ◌∙◌, sym, ap, subst, arith, append-nil}
-use Rattle.std.specs.List.Sorted.{IsSortedByKey}
-use Rattle.std.specs.Ordering.{is_lt, int_cmp, bool_cmp, ordering_then}
-use Rattle.std.specs.declared.cmp.Ordering.{Ordering}
-use Rattle.std.specs.declared.cmp.Ordering.TheVariants.{Less, Equal, Greater}
-use Rattle.std.specs.declared.ops.RangeInclusive.{RangeInclusive}
-use Rattle.std.specs.Range.{range_inclusive_start, range_inclusive_end}
-use Rattle.std.proofs.lemmas.Int.{ints, by_lt_z}
-use Rattle.std.proofs.lemmas.List.{map-append, append_assoc}
-use Rattle.std.proofs.lemmas.List.Elements.{All-nil, All-cons, All-head, All-tail, All-append}
-use Rattle.std.proofs.lemmas.List.Sorted.{IsPermutation-map, All-permutation}
-use Rattle.blaze_table.specs.Canonical.{IsDisjoint, AreKeys, IsRangeMap}
-use Rattle.blaze_table.specs.Entries.{Entry}
-use Rattle.blaze_table.proofs.Sweeping.Orders.{tail_sorted, not_less}
-use Rattle.blaze_streams.specs.Events.{Event, Starts, Ends}
-use Rattle.blaze_streams.specs.Ranges.{shown_range}
-use Rattle.blaze_streams.specs.Sweeps.{time, AscendInTime, events_of, all_events, IsSweep, shown_event, shown_events, instant}
-use Rattle.blaze_streams.specs.declared.events.sweep_event.SweepEvent.{SweepEvent}
-use Rattle.blaze_streams.specs.declared.events.sweep_event.SweepEvent.TheVariants.{Start, End}
+use Rattle.blaze_streams.proofs.Words.{◌≡◌, ℕ, ◌+◌, ℤ, pos, ◌+ℤ◌, ◌≤ℤ◌, Bool, true, false, List, [], ◌∷◌, ◌++◌, All, IsPermutation, refl, ◌∙◌, sym, ap, subst, arith, IsSortedByKey, is_lt, int_cmp, bool_cmp, ordering_then, Ordering, Less, Equal, Greater, RangeInclusive, range_inclusive_start, range_inclusive_end, ints, by_lt_z, map-append, All-nil, All-cons, All-head, All-tail, All-append, IsPermutation-map, All-permutation, IsDisjoint, AreKeys, IsRangeMap, Entry, tail_sorted, not_less, Event, Starts, Ends, shown_range, time, AscendInTime, events_of, all_events, IsSweep, shown_event, shown_events, instant, SweepEvent, Start, End}
+use Rattle.std.proofs.Common.{append-nil}
+use Rattle.std.proofs.lemmas.List.{append_assoc}
 
 -- the key at which an event is
 abbrev pub key_of : {V : Type 0} → Event V → ℤ

@@ -1,19 +1,5 @@
 -- What is taken of two lists.
-use Rattle.std.proofs.Common.{◌≡◌, ℤ, pos, ◌+ℤ◌, ◌≤ℤ◌, ◌<ℤ◌, Bool, List, [], ◌∷◌, Option, Some, None, refl, ◌∙◌, sym, subst, ap, arith}
-use Rattle.std.specs.Int.{int_min}
-use Rattle.std.specs.Option.{option_map, option_xor}
-use Rattle.std.proofs.lemmas.Int.{ints}
-use Rattle.blaze_entries.specs.Found.{range_in}
-use Rattle.blaze_entries.specs.Starts.{first_entry}
-use Rattle.blaze_entries.proofs.Alike.{same_along, same_none}
-use Rattle.blaze_table.specs.Entries.{Entry, at, SameOption}
-use Rattle.blaze_table.specs.Canonical.{IsCanonical}
-use Rattle.blaze_table.specs.Chosen.{left_alone}
-use Rattle.blaze_table.specs.Splice.{after}
-use Rattle.blaze_table.proofs.Canonical.Lookup.{at_in}
-use Rattle.blaze_table.proofs.Paints.Splices.{after_keeps}
-use Rattle.blaze_streams.specs.Choosing.{IsTaken, IsTakenAlone}
-use Rattle.blaze_streams.specs.Cursors.{first_key, FirstHas, Reaches, lesser}
+use Rattle.blaze_streams.proofs.Words.{◌≡◌, ℤ, pos, ◌+ℤ◌, ◌≤ℤ◌, ◌<ℤ◌, Bool, List, [], ◌∷◌, Option, Some, None, refl, ◌∙◌, sym, subst, ap, arith, int_min, option_map, option_xor, ints, range_in, first_entry, same_along, same_none, Entry, at, SameOption, IsCanonical, left_alone, after, at_in, after_keeps, IsTaken, IsTakenAlone, first_key, FirstHas, Reaches, lesser}
 use Rattle.blaze_streams.proofs.ChosenSoFar.{chosen_at, none_there}
 use Rattle.blaze_streams.proofs.Lesser.{at_most_less, lesser_exchanged, lesser_first, not_less}
 use Rattle.blaze_streams.proofs.Steady.{AtMost, at_below_from, from_first}

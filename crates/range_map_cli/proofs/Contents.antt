@@ -1,17 +1,5 @@
 -- The content of entries whose values are texts.
-use Rattle.std.proofs.Common.{◌≡◌, ℕ, ℤ, List, true, false, Bool, cond, refl, sym, ap, ◌∙◌, Option, Some, None, string_bytes, int_le, ◌&&◌, option_map}
-use Rattle.std.specs.declared.string.String.{String}
-use Rattle.std.specs.declared.alloc.Global.{Global}
-use Rattle.std.specs.String.{string_eq}
-use Rattle.std.specs.Cmp.Lexicographic.{bytes_decides}
-use Rattle.std.specs.Option.{option_or}
-use Rattle.std.specs.Ordering.{int_eq}
-use Rattle.std.proofs.lemmas.Option.{same_Some}
-use Rattle.blaze_table.specs.Entries.{Entry, at, SameOption}
-use Rattle.blaze_table.specs.Filled.{filled}
-use Rattle.blaze_table.specs.Painted.{painted}
-use Rattle.blaze_table.specs.Cut.{cut_at}
-use Rattle.range_map_cli.specs.States.{content_of}
+use Rattle.range_map_cli.proofs.Words.{◌≡◌, ℕ, ℤ, List, true, false, Bool, cond, refl, sym, ap, ◌∙◌, Option, Some, None, string_bytes, int_le, ◌&&◌, option_map, String, Global, string_eq, bytes_decides, option_or, int_eq, same_Some, Entry, at, SameOption, filled, painted, cut_at, content_of}
 
 -- equal texts have the same bytes
 pub same_words : (a b : Option (String Global)) → SameOption string_eq a b → option_map string_bytes a ≡ option_map string_bytes b

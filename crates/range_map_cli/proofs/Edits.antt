@@ -1,20 +1,5 @@
 -- A command that a step does: the step's answer is what is printed, and the content is the command's.
-use Rattle.std.proofs.Common.{◌≡◌, ◌∙◌, ℤ, List, Bool, true, false, cond, not, eqb, codes, refl, sym, ap, Option, Some, None, IfSome, string_bytes, option_map, int_le, ◌&&◌}
-use Rattle.std.specs.String.{string_eq}
-use Rattle.std.specs.declared.string.String.{String}
-use Rattle.std.specs.declared.alloc.Global.{Global}
-use Rattle.blaze_table.specs.Count.{mapped_keys}
-use Rattle.blaze_table.specs.Entries.{Entry, at}
-use Rattle.blaze_table.specs.Filled.{filled}
-use Rattle.blaze_table.specs.Painted.{painted}
-use Rattle.range_map_cli.specs.Edits.{answer_text, command_done}
-use Rattle.range_map_cli.specs.Replies.{changed_text, content_after_command, greatest_key, least_key, line, Content, Replies, word_or_dash}
-use Rattle.range_map_cli.specs.States.{content_of}
-use Rattle.range_map_cli.specs.Steps.{answer, IsStepped, SameAnswer}
-use Rattle.range_map_cli.specs.declared.step.Step.{Step}
-use Rattle.range_map_cli.specs.declared.step.Step.TheVariants.{Paint, Fill, Insert, Remove, PopFirst, PopLast, Clear, KeepBelow, KeepFrom, Or, And, Minus, Xor, AndSet, MinusSet, ComplementWith}
-use Rattle.range_map_cli.specs.declared.step.Answer.{Answer}
-use Rattle.range_map_cli.specs.declared.step.Answer.TheVariants.{Wrote, Old, Popped, Done}
+use Rattle.range_map_cli.proofs.Words.{◌≡◌, ◌∙◌, ℤ, List, Bool, true, false, cond, not, eqb, codes, refl, sym, ap, Option, Some, None, IfSome, string_bytes, option_map, int_le, ◌&&◌, string_eq, String, Global, mapped_keys, Entry, at, filled, painted, answer_text, command_done, changed_text, content_after_command, greatest_key, least_key, line, Content, Replies, word_or_dash, content_of, answer, IsStepped, SameAnswer, Step, Paint, Fill, Insert, Remove, PopFirst, PopLast, Clear, KeepBelow, KeepFrom, Or, And, Minus, Xor, AndSet, MinusSet, ComplementWith, Answer, Wrote, Old, Popped, Done}
 use Rattle.range_map_cli.proofs.Contents.{content_of-cut, content_of-filled, content_of-painted, same_words, words_if, words_or}
 use Rattle.range_map_cli.proofs.Counting.{mapped_count-is}
 

@@ -1,19 +1,5 @@
 -- Range maps that agree at every key are equal.
-use Rattle.std.proofs.Common.{◌≡◌, ◌≤ℤ◌, ℤ, Bool, List, Option, Some, None, refl, sym, subst, arith}
-use Rattle.std.proofs.lemmas.Int.{ints, by_lt_z}
-use Rattle.std.specs.Cmp.{IsEquivalence, IsTotalOrder}
-use Rattle.std.specs.Ordering.{is_eq}
-use Rattle.std.specs.declared.cmp.Ordering.{Ordering}
-use Rattle.blaze_int.specs.Ranked.{IsKey}
-use Rattle.blaze_entries.proofs.Alike.{same_along}
-use Rattle.blaze_table.specs.Canonical.{AreKeys}
-use Rattle.blaze_table.specs.Entries.{Entry, at, SameContent, SameOption}
-use Rattle.blaze_table.specs.Equality.{same_entries}
-use Rattle.blaze_table.proofs.Canonical.SameLists.{content_decides}
-use Rattle.range_map_blaze.specs.Order.{map_cmp}
-use Rattle.range_map_blaze.specs.OrderLaws.{map_cmp_total}
-use Rattle.range_map_blaze.proofs.Order.MapOrder.{order_of_pairs, ties_where_equal}
-use Rattle.range_map_cli.specs.Laws.{EqualWhereGetsAre, IsOrderOfMaps}
+use Rattle.range_map_cli.proofs.Words.{◌≡◌, ◌≤ℤ◌, ℤ, Bool, List, Option, Some, None, refl, sym, subst, arith, ints, by_lt_z, IsEquivalence, IsTotalOrder, is_eq, Ordering, IsKey, same_along, AreKeys, Entry, at, SameContent, SameOption, same_entries, content_decides, map_cmp, map_cmp_total, order_of_pairs, ties_where_equal, EqualWhereGetsAre, IsOrderOfMaps}
 use Rattle.range_map_cli.proofs.Stepping.EndKeys.{at_key}
 
 -- what is no key has no value

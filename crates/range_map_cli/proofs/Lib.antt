@@ -8,3 +8,4 @@ pub mod Pieces
 pub mod Operators
 pub mod Equals
 pub mod Paints
+mod Words

@@ -1,22 +1,7 @@
 -- The printed text of entries whose values are words.
-use Rattle.std.proofs.Common.{◌≡◌, ◌↔◌, ℕ, ℤ, pos, ◌+ℤ◌, ◌-ℤ◌, ◌≤ℤ◌, List, [], ◌∷◌, ◌++◌, map, true, false, Bool, cond, refl, sym, ap, ◌∙◌, subst, Option, Some, None, IfSome, IsSome, string_bytes, int_le, ◌&&◌, option_map, bytes_eq, arith, codes, ◌⊎◌, length, nat_le, append_assoc, append-nil}
-use mathlib.Core.Path.{fun_ext}
-use Rattle.std.proofs.lemmas.Bool.Decides.{nat_tests}
-use Rattle.std.proofs.lemmas.Int.{ints}
-use Rattle.std.specs.declared.string.String.{String}
-use Rattle.std.specs.declared.alloc.Global.{Global}
-use Rattle.std.specs.String.{string_eq}
-use Rattle.std.specs.List.{list_all, flat_map}
-use Rattle.std.specs.Char.{is_ascii_alphanumeric, is_ascii}
-use Rattle.std.specs.Fmt.{debug_escape, debug_str, signed_decimal, option_append, AppendsText}
-use Rattle.std.proofs.lemmas.Bool.{and_parts}
-use Rattle.blaze_table.specs.Entries.{Entry, entry, at, holds, SameOption}
-use Rattle.blaze_table.specs.Canonical.{IsOnePerRun, IsDisjoint, IsAscending, IsClear, HasStart, HasEnd, IsRunStart, IsRunEnd}
-use Rattle.blaze_table.proofs.Canonical.Lookup.{at_clear}
+use Rattle.range_map_cli.proofs.Words.{◌≡◌, ◌↔◌, ℕ, ℤ, pos, ◌+ℤ◌, ◌-ℤ◌, ◌≤ℤ◌, List, [], ◌∷◌, ◌++◌, map, true, false, Bool, cond, refl, sym, ap, ◌∙◌, subst, Option, Some, None, IfSome, IsSome, string_bytes, int_le, ◌&&◌, option_map, bytes_eq, arith, codes, ◌⊎◌, length, nat_le, append_assoc, append-nil, fun_ext, nat_tests, ints, String, Global, string_eq, list_all, flat_map, is_ascii_alphanumeric, is_ascii, debug_str, signed_decimal, option_append, AppendsText, and_parts, Entry, entry, at, holds, SameOption, IsOnePerRun, IsDisjoint, IsAscending, IsClear, HasStart, HasEnd, IsRunStart, IsRunEnd, at_clear, is_word, Entries, Replies, listed_entry, listed_entries, content_of, HasWords}
+use Rattle.std.specs.Fmt.{debug_escape}
 use Rattle.range_map_blaze.specs.Printed as printed
-use Rattle.range_map_cli.specs.Commands.{is_word, Entries}
-use Rattle.range_map_cli.specs.Replies.{Replies, listed_entry, listed_entries}
-use Rattle.range_map_cli.specs.States.{content_of, HasWords}
 use Rattle.range_map_cli.proofs.Contents.{words_if}
 
 -- the entry with its word, without where it lies

@@ -1,23 +1,5 @@
 -- Maps that were painted in several ways to the same content are equal.
-use Rattle.std.specs.Option.{option_or}
-use Rattle.std.proofs.Common.{◌≡◌, ℤ, ◌≤ℤ◌, ◌<ℤ◌, Bool, true, false, cond, List, [], ◌∷◌, map, Option, Some, None, refl, ◌∙◌, sym, ap, subst, arith}
-use Rattle.std.proofs.lemmas.Int.{ints, by_lt_z}
-use Rattle.std.specs.Cmp.{IsEquivalence, signed_Decides}
-use Rattle.std.specs.Ordering.{int_eq}
-use Rattle.blaze_entries.proofs.Alike.{same_along, same_itself, same_trans, same_or_right, or_assoc}
-use Rattle.blaze_table.specs.Canonical.{IsRangeMap}
-use Rattle.blaze_table.specs.Chosen.{right_first, IsChosen}
-use Rattle.blaze_table.specs.Cut.{below_at, from_at}
-use Rattle.blaze_table.specs.Entries.{Entry, entry, at, holds, SameEntries, SameOption}
-use Rattle.blaze_table.specs.Painted.{last_at, painted_in_order}
-use Rattle.blaze_table.specs.Pairs.{value_at, IsAscendingPairs}
-use Rattle.blaze_table.proofs.Pairs.Lasts.{painted_one}
-use Rattle.blaze_table.proofs.Canonical.ListLaws.{canonical_is_unique}
-use Rattle.blaze_table.proofs.Pairs.PairLaws.{pairs_are_content}
-use Rattle.blaze_table.proofs.Canonical.Runs.{canonical}
-use Rattle.range_map_blaze.specs.Order.{ranked_pairs}
-use Rattle.range_map_blaze.proofs.Paints.PaintedOver.{last_is_first, painted_over, turned}
-use Rattle.range_map_cli.specs.Laws.{points_of, AppendUndoesSplit, AreAllPainted, UnionIsPainting}
+use Rattle.range_map_cli.proofs.Words.{option_or, ◌≡◌, ℤ, ◌≤ℤ◌, ◌<ℤ◌, Bool, true, false, cond, List, [], ◌∷◌, map, Option, Some, None, refl, ◌∙◌, sym, ap, subst, arith, ints, by_lt_z, IsEquivalence, signed_Decides, int_eq, same_along, same_itself, same_trans, same_or_right, or_assoc, IsRangeMap, right_first, IsChosen, below_at, from_at, Entry, entry, at, holds, SameEntries, SameOption, last_at, painted_in_order, value_at, IsAscendingPairs, painted_one, canonical_is_unique, pairs_are_content, canonical, ranked_pairs, last_is_first, painted_over, turned, points_of, AppendUndoesSplit, AreAllPainted, UnionIsPainting}
 use Rattle.range_map_cli.proofs.Stepping.Stepped.{same_back}
 
 -- ---- points

@@ -1,20 +1,5 @@
 -- The entry that holds a key is a run of the words, and the gap round a key is one of the words.
-use Rattle.std.proofs.Common.{◌≡◌, ℕ, ℤ, pos, ◌+ℤ◌, ◌-ℤ◌, ◌≤ℤ◌, ◌<ℤ◌, List, [], ◌∷◌, ◌++◌, refl, sym, ap, ◌∙◌, subst, Option, Some, None, MatchOption, string_bytes, option_map, arith, codes, append_assoc}
-use Rattle.std.specs.Option.{option_copied}
-use Rattle.std.specs.Borrow.{Bor}
-use Rattle.std.specs.Fmt.{signed_decimal}
-use Rattle.std.specs.declared.string.String.{String}
-use Rattle.std.specs.declared.alloc.Global.{Global}
-use Rattle.std.specs.String.{string_eq}
-use Rattle.std.proofs.lemmas.Int.{ints, by_lt_z}
-use Rattle.blaze_table.specs.Entries.{Entry, entry, at, entry_at}
-use Rattle.blaze_table.specs.Canonical.{IsRunStart, IsRunEnd, IsRangeMap}
-use Rattle.blaze_table.specs.Gap.{IsGap}
-use Rattle.blaze_table.proofs.Canonical.Lookup.{holds_in, holds_ends}
-use Rattle.range_map_cli.specs.Commands.{At}
-use Rattle.range_map_cli.specs.Pieces.{IsSameFrom, IsGreatestPiece}
-use Rattle.range_map_cli.specs.Replies.{Content, greatest_key, least_key, line, Replies, word_or_dash}
-use Rattle.range_map_cli.specs.States.{content_of}
+use Rattle.range_map_cli.proofs.Words.{◌≡◌, ℕ, ℤ, pos, ◌+ℤ◌, ◌-ℤ◌, ◌≤ℤ◌, ◌<ℤ◌, List, [], ◌∷◌, ◌++◌, refl, sym, ap, ◌∙◌, subst, Option, Some, None, MatchOption, string_bytes, option_map, arith, codes, append_assoc, option_copied, Bor, signed_decimal, String, Global, string_eq, ints, by_lt_z, Entry, entry, at, entry_at, IsRunStart, IsRunEnd, IsRangeMap, IsGap, holds_in, holds_ends, At, IsSameFrom, IsGreatestPiece, Content, greatest_key, least_key, line, Replies, word_or_dash, content_of}
 use Rattle.range_map_cli.proofs.Contents.{alike_words}
 use Rattle.range_map_cli.proofs.Stepping.EntryAt.{entry_holds, entry_starts, entry_ends, entry_keys, entry_value}
 

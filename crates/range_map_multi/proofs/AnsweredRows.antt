@@ -1,23 +1,5 @@
 -- What a closure answered so far at the segments of many lists, and one answer more.
-use Rattle.std.proofs.Common.{◌≡◌, ℕ, suc, ◌<◌, ℤ, ◌≤ℤ◌, Bool, true, false, cond, List, [], ◌∷◌, length, Option, Some, None, refl, ◌∙◌, sym, ap, subst, arith}
-use Rattle.std.specs.Option.{is_some}
-use Rattle.std.specs.List.{list_any}
-use Rattle.std.specs.Fn.{Mut}
-use Rattle.std.specs.Cmp.{IsEquivalence}
-use Rattle.std.proofs.lemmas.Int.{ints}
-use Rattle.blaze_table.specs.Entries.{Entry, entry}
-use Rattle.blaze_table.specs.Splice.{glue}
-use Rattle.blaze_table.proofs.Canonical.Lookup.{at_in}
-use Rattle.blaze_table.proofs.Canonical.Runs.{canonical, one_per_run}
-use Rattle.blaze_streams.specs.Answers.{AnswersAtValue, TakesValue}
-use Rattle.blaze_streams.specs.Cursors.{AllCanonical, first_keys, all_after, IsNextSegment}
-use Rattle.blaze_streams.specs.Segments.{row, row_eq}
-use Rattle.blaze_streams.proofs.Answering.{IsAnsweredSoFar, answered_none, takes_next, answered_more, answered_all}
-use Rattle.blaze_streams.proofs.FoundSegments.{next_less}
-use Rattle.blaze_streams.proofs.LengthsLeft.{all_lengths_left}
-use Rattle.blaze_streams.proofs.Rows.{all_canonical_after, is_first}
-use Rattle.range_map_multi.specs.ManyJoins.{IsJoinOfMany, IsCallableAtRows, IsManyJoined}
-use Rattle.range_map_multi.specs.Parts.{AllPlaced, AllRangeMaps, picked}
+use Rattle.range_map_multi.proofs.Words.{◌≡◌, ℕ, suc, ◌<◌, ℤ, ◌≤ℤ◌, Bool, true, false, cond, List, [], ◌∷◌, length, Option, Some, None, refl, ◌∙◌, sym, ap, subst, arith, is_some, list_any, Mut, IsEquivalence, ints, Entry, entry, glue, at_in, canonical, one_per_run, AnswersAtValue, TakesValue, AllCanonical, first_keys, all_after, IsNextSegment, row, row_eq, IsAnsweredSoFar, answered_none, takes_next, answered_more, answered_all, next_less, all_lengths_left, all_canonical_after, is_first, IsJoinOfMany, IsCallableAtRows, IsManyJoined, AllPlaced, AllRangeMaps, picked}
 use Rattle.range_map_multi.proofs.Many.{row_length}
 use Rattle.range_map_multi.proofs.Placed.{alike, with_row, next_alike}
 use Rattle.range_map_multi.proofs.RowSegments.{entries_where, AreSegments, AllKeys, next_is, none_is, segments_exist, rows_equiv, asked_segments}

@@ -1,18 +1,5 @@
 -- One list among many: those before it, it, and those behind it.
-use Rattle.std.proofs.Common.{◌≡◌, ◌<◌, ◌+◌, ℕ, ℤ, Bool, true, false, cond, ◌&&◌, List, [], ◌∷◌, ◌++◌, length, map, take, drop, get_or, Option, Some, None, is_some, refl, ◌∙◌, sym, ap, subst, arith, length-drop}
-use Rattle.std.specs.List.{list_all}
-use Rattle.std.specs.Cmp.{IsEquivalence}
-use Rattle.std.proofs.lemmas.List.{map-append, take-append-drop}
-use Rattle.std.proofs.lemmas.List.Folds.{list_all-append}
-use Rattle.blaze_entries.proofs.Alike.{same_trans, same_itself, same_or, or_assoc}
-use Rattle.blaze_table.specs.Entries.{Entry, at, SameOption}
-use Rattle.blaze_table.specs.Canonical.{IsRangeMap}
-use Rattle.blaze_table.specs.Chosen.{right_first, left_with_right, IsChosen}
-use Rattle.blaze_table.proofs.Pairs.Indexed.{from_index}
-use Rattle.blaze_streams.specs.Segments.{row}
-use Rattle.range_map_blaze.specs.Union.{IsUnion}
-use Rattle.range_map_multi.specs.Many.{last_value, last_of_all, IsChosenOfMany}
-use Rattle.range_map_multi.specs.Merges.{with_all, IsOnAll}
+use Rattle.range_map_multi.proofs.Words.{◌≡◌, ◌<◌, ◌+◌, ℕ, ℤ, Bool, true, false, cond, ◌&&◌, List, [], ◌∷◌, ◌++◌, length, map, take, drop, get_or, Option, Some, None, is_some, refl, ◌∙◌, sym, ap, subst, arith, length-drop, list_all, IsEquivalence, map-append, take-append-drop, list_all-append, same_trans, same_itself, same_or, or_assoc, Entry, at, SameOption, IsRangeMap, right_first, left_with_right, IsChosen, from_index, row, IsUnion, last_value, last_of_all, IsChosenOfMany, with_all, IsOnAll}
 use Rattle.range_map_multi.proofs.Many.{row_append, last_append, with_alike}
 
 -- what a function gives for the items in front of the one at an index, for it, and for those behind it

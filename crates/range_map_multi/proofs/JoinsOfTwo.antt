@@ -1,26 +1,5 @@
 -- The joins of many maps, where there are two.
-use Rattle.std.proofs.Common.{◌≡◌, ℤ, Bool, List, [], ◌∷◌, map, Option, Some, None, option_map, is_some, refl, ◌∙◌, sym, ap, subst}
-use Rattle.std.specs.Fn.{Mut}
-use Rattle.std.specs.List.{list_all, list_any}
-use Rattle.std.specs.Cmp.{IsEquivalence}
-use Rattle.std.proofs.lemmas.Int.{by_lt_z}
-use Rattle.blaze_entries.proofs.Alike.{same_itself}
-use Rattle.blaze_table.specs.Entries.{Entry, entry, at, SameOption, SameEntries}
-use Rattle.blaze_table.specs.Canonical.{AreKeys, IsRangeMap}
-use Rattle.blaze_table.proofs.Canonical.ListLaws.{canonical_is_unique}
-use Rattle.blaze_table.proofs.Canonical.Runs.{canonical, one_per_run}
-use Rattle.blaze_streams.specs.declared.segmenting.joins.JoinKind.{JoinKind}
-use Rattle.blaze_streams.specs.declared.segmenting.joins.JoinKind.TheVariants.{Inner, Full}
-use Rattle.blaze_streams.specs.Answers.{answered}
-use Rattle.blaze_streams.specs.JoinAnswers.{IsJoined}
-use Rattle.blaze_streams.specs.JoinLaws.{as_row}
-use Rattle.blaze_streams.specs.Joins.{paired, pair_eq, IsJoinOf}
-use Rattle.blaze_streams.specs.Segments.{row_eq}
-use Rattle.blaze_streams.proofs.JoinLaws.{as_list, at_rows, canonical_rows}
-use Rattle.blaze_streams.proofs.Paired.{pair_laws}
-use Rattle.range_map_blaze.proofs.JoinedKeys.{below_all, above_all}
-use Rattle.range_map_multi.specs.ManyJoins.{asked_row, IsJoinOfMany, IsManyJoined}
-use Rattle.range_map_multi.specs.ManyLaws.{InnerJoinOfTwoIsInnerJoin, FullJoinOfTwoIsFullJoin}
+use Rattle.range_map_multi.proofs.Words.{◌≡◌, ℤ, Bool, List, [], ◌∷◌, map, Option, Some, None, option_map, is_some, refl, ◌∙◌, sym, ap, subst, Mut, list_all, list_any, IsEquivalence, by_lt_z, same_itself, Entry, entry, at, SameOption, SameEntries, AreKeys, IsRangeMap, canonical_is_unique, canonical, one_per_run, JoinKind, Inner, Full, answered, IsJoined, as_row, paired, pair_eq, IsJoinOf, row_eq, as_list, at_rows, canonical_rows, pair_laws, below_all, above_all, asked_row, IsJoinOfMany, IsManyJoined, InnerJoinOfTwoIsInnerJoin, FullJoinOfTwoIsFullJoin}
 use Rattle.range_map_multi.proofs.OfTwo.{one_list}
 use Rattle.range_map_multi.proofs.RowSegments.{rows_equiv}
 

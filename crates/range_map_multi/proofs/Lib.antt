@@ -6,3 +6,4 @@ pub mod OfTwo
 pub mod Pickings
 pub mod Placed
 pub mod RowSegments
+mod Words

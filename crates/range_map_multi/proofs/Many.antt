@@ -1,19 +1,5 @@
 -- What is chosen from many lists, by two parts of them.
-use Rattle.std.specs.Option.{option_xor}
-use Rattle.std.proofs.Common.{◌≡◌, ◌<◌, ℕ, ℤ, Bool, true, false, not, cond, ◌&&◌, suc, List, [], ◌∷◌, ◌++◌, length, map, take, drop, append_assoc, append-nil, Option, Some, None, is_some, refl, arith, ◌∙◌, sym, ap, subst}
-use Rattle.std.specs.List.{list_all}
-use Rattle.std.specs.Cmp.{IsEquivalence}
-use Rattle.std.proofs.lemmas.List.{map-append, take-append-drop}
-use Rattle.std.proofs.lemmas.List.Folds.{list_all-append}
-use Rattle.blaze_entries.proofs.Alike.{same_trans, same_or, or_none, or_assoc, is_some_alike}
-use Rattle.blaze_table.specs.Entries.{Entry, at, SameOption, SameEntries}
-use Rattle.blaze_table.specs.Chosen.{right_first, left_with_right, IsChosen}
-use Rattle.blaze_table.proofs.Paints.Painted.{content_as}
-use Rattle.blaze_table.proofs.Canonical.Unique.{back}
-use Rattle.blaze_streams.specs.Segments.{row}
-use Rattle.range_map_blaze.proofs.Streams.{range_map_as}
-use Rattle.range_map_multi.specs.Many.{last_value, last_of_all, has_odd, last_of_odd, IsChosenOfMany}
-use Rattle.range_map_multi.specs.Merges.{GivesEach, GivesBoth}
+use Rattle.range_map_multi.proofs.Words.{option_xor, ◌≡◌, ◌<◌, ℕ, ℤ, Bool, true, false, not, cond, ◌&&◌, suc, List, [], ◌∷◌, ◌++◌, length, map, take, drop, append_assoc, append-nil, Option, Some, None, is_some, refl, arith, ◌∙◌, sym, ap, subst, list_all, IsEquivalence, map-append, take-append-drop, list_all-append, same_trans, same_or, or_none, or_assoc, is_some_alike, Entry, at, SameOption, SameEntries, right_first, left_with_right, IsChosen, content_as, back, row, range_map_as, last_value, last_of_all, has_odd, last_of_odd, IsChosenOfMany, GivesEach, GivesBoth}
 
 -- ---- lists
 

@@ -1,15 +1,5 @@
 -- The operations between many maps, where there are two.
-use Rattle.std.specs.Option.{option_xor}
-use Rattle.std.proofs.Common.{◌≡◌, ℤ, Bool, List, [], ◌∷◌, Option, Some, None, refl, subst}
-use Rattle.std.specs.Cmp.{IsEquivalence}
-use Rattle.blaze_entries.proofs.Alike.{same_trans, same_back}
-use Rattle.blaze_table.specs.Entries.{Entry, at, SameOption, SameEntries}
-use Rattle.blaze_table.specs.Canonical.{IsRangeMap}
-use Rattle.blaze_table.specs.Chosen.{left_with_right}
-use Rattle.blaze_table.proofs.Canonical.Runs.{canonical}
-use Rattle.blaze_table.proofs.Canonical.Unique.{unique}
-use Rattle.range_map_multi.specs.Many.{last_of_all, last_of_odd}
-use Rattle.range_map_multi.specs.ManyLaws.{UnionOfTwoIsOr, IntersectionOfTwoIsAnd, SymmetricDifferenceOfTwoIsXor}
+use Rattle.range_map_multi.proofs.Words.{option_xor, ◌≡◌, ℤ, Bool, List, [], ◌∷◌, Option, Some, None, refl, subst, IsEquivalence, same_trans, same_back, Entry, at, SameOption, SameEntries, IsRangeMap, left_with_right, canonical, unique, last_of_all, last_of_odd, UnionOfTwoIsOr, IntersectionOfTwoIsAnd, SymmetricDifferenceOfTwoIsXor}
 
 module _ {V : Type 0} where
   all_of_two : (x y : Option V) → last_of_all (x ∷ y ∷ []) ≡ left_with_right y x

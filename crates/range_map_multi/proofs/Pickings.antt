@@ -1,14 +1,5 @@
 -- The rows of what is picked from lists.
-use Rattle.std.proofs.Common.{◌≡◌, ℕ, ◌<◌, ℤ, Bool, true, false, nat_eq, List, [], ◌∷◌, length, map, Option, Some, None, is_some, refl, ◌∙◌, sym, ap, option_map, arith}
-use Rattle.std.specs.List.{slice_get, list_all, list_any}
-use Rattle.std.specs.Option.{option_and_then}
-use Rattle.std.proofs.lemmas.List.{nil_from_length}
-use Rattle.std.proofs.lemmas.Option.{slice_get-map}
-use Rattle.blaze_table.specs.Entries.{Entry}
-use Rattle.blaze_streams.specs.Carried.{shown_option}
-use Rattle.blaze_streams.specs.Segments.{row}
-use Rattle.range_map_multi.specs.ManyJoins.{shown_row, shown_full_row}
-use Rattle.range_map_multi.specs.Parts.{AllPlaced, all_valued, picked}
+use Rattle.range_map_multi.proofs.Words.{◌≡◌, ℕ, ◌<◌, ℤ, Bool, true, false, nat_eq, List, [], ◌∷◌, length, map, Option, Some, None, is_some, refl, ◌∙◌, sym, ap, option_map, arith, slice_get, list_all, list_any, option_and_then, nil_from_length, slice_get-map, Entry, shown_option, row, shown_row, shown_full_row, AllPlaced, all_valued, picked}
 use Rattle.range_map_multi.proofs.Many.{row_length}
 use Rattle.range_map_multi.proofs.Placed.{alike}
 

@@ -1,23 +1,5 @@
 -- Lists that are gone through by the places of their ranges.
-use Rattle.blaze_int.specs.Unsigned.{nat_of}
-use Rattle.std.proofs.Common.{◌≡◌, ℕ, ◌+◌, ℤ, pos, ◌+ℤ◌, ◌-ℤ◌, Bool, true, false, not, cond, nat_eq, suc, List, [], ◌∷◌, ◌++◌, length, map, Option, Some, None, is_some, refl, ◌∙◌, sym, ap, option_map, append_assoc, append-nil, subst, arith}
-use Rattle.std.specs.Prelude.{int_le}
-use Rattle.std.specs.List.{slice_get}
-use Rattle.std.specs.Option.{option_and_then}
-use Rattle.std.specs.Cmp.{IsEquivalence, nat_eq_equiv}
-use Rattle.std.proofs.lemmas.List.{length_push}
-use Rattle.std.proofs.lemmas.Simd.{map-map}
-use Rattle.blaze_int.proofs.Naturals.{next_differs}
-use Rattle.blaze_table.specs.Entries.{Entry, entry, at, holds}
-use Rattle.blaze_table.specs.Canonical.{AreKeys, IsCanonical, IsRangeMap}
-use Rattle.blaze_table.specs.Splice.{after}
-use Rattle.blaze_table.proofs.Canonical.Runs.{canonical, one_per_run}
-use Rattle.blaze_streams.specs.Answers.{values}
-use Rattle.blaze_streams.specs.Cursors.{first_key, steady_to, lesser, first_keys, all_steady_to, all_after, IsNextSegment}
-use Rattle.blaze_streams.specs.Segments.{row}
-use Rattle.blaze_streams.proofs.LengthsLeft.{lengths_left, all_lengths_left}
-use Rattle.range_map_multi.specs.Many.{has_odd}
-use Rattle.range_map_multi.specs.Parts.{with_values, in_places, HasPlacedValues, AllPlaced, with_valued_range, valued, all_valued, picked, AllRangeMaps}
+use Rattle.range_map_multi.proofs.Words.{nat_of, ◌≡◌, ℕ, ◌+◌, ℤ, pos, ◌+ℤ◌, ◌-ℤ◌, Bool, true, false, not, cond, nat_eq, suc, List, [], ◌∷◌, ◌++◌, length, map, Option, Some, None, is_some, refl, ◌∙◌, sym, ap, option_map, append_assoc, append-nil, subst, arith, int_le, slice_get, option_and_then, IsEquivalence, nat_eq_equiv, length_push, map-map, next_differs, Entry, entry, at, holds, AreKeys, IsCanonical, IsRangeMap, after, canonical, one_per_run, values, first_key, steady_to, lesser, first_keys, all_steady_to, all_after, IsNextSegment, row, lengths_left, all_lengths_left, has_odd, with_values, in_places, HasPlacedValues, AllPlaced, with_valued_range, valued, all_valued, picked, AllRangeMaps}
 
 -- ---- other values on the same ranges
 

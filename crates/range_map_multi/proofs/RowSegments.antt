@@ -1,25 +1,5 @@
 -- The segments of lists, one after another, and those of them that a join is asked for.
-use Rattle.std.proofs.Common.{◌≡◌, ℕ, zero, suc, ◌<◌, ℤ, pos, ◌+ℤ◌, ◌≤ℤ◌, ◌<ℤ◌, Bool, true, false, cond, List, [], ◌∷◌, ◌++◌, Option, Some, None, refl, ◌∙◌, sym, ap, subst, append_assoc, append-nil, arith, ⊎_elim}
-use Rattle.std.specs.Option.{is_some, option_or}
-use Rattle.std.specs.List.{list_any}
-use Rattle.std.specs.Cmp.{IsEquivalence}
-use Rattle.std.specs.Cmp.Lexicographic.{lists_equiv, options_equiv}
-use Rattle.std.proofs.lemmas.Int.{ints}
-use Rattle.blaze_int.proofs.Comparisons.{by_bool}
-use Rattle.blaze_entries.proofs.Alike.{or_none}
-use Rattle.blaze_table.specs.Entries.{Entry, entry, at, holds}
-use Rattle.blaze_table.specs.Canonical.{IsApart, IsCanonical, AreKeys}
-use Rattle.blaze_table.proofs.Canonical.Counted.{are_keys_after}
-use Rattle.blaze_table.proofs.Canonical.Lookup.{IsAbove, IsAbove-from_apart, at_in, at_under, at_over, at_before, by_place}
-use Rattle.blaze_table.proofs.Canonical.Runs.{one_per_run}
-use Rattle.blaze_streams.specs.Cursors.{first_key, steady_to, AllCanonical, first_keys, all_steady_to, all_after, IsNextSegment}
-use Rattle.blaze_streams.specs.Segments.{row, present, row_eq}
-use Rattle.blaze_streams.proofs.FoundSegments.{IsFound, found_none, found_more, next_less, absent}
-use Rattle.blaze_streams.proofs.LengthsLeft.{all_lengths_left}
-use Rattle.blaze_streams.proofs.Lesser.{lesser_one}
-use Rattle.blaze_streams.proofs.Rows.{steady_none, none_left, all_canonical_after}
-use Rattle.blaze_streams.proofs.Steady.{same_some, stops_steady}
-use Rattle.range_map_multi.specs.ManyJoins.{asked_row, IsJoinOfMany}
+use Rattle.range_map_multi.proofs.Words.{◌≡◌, ℕ, zero, suc, ◌<◌, ℤ, pos, ◌+ℤ◌, ◌≤ℤ◌, ◌<ℤ◌, Bool, true, false, cond, List, [], ◌∷◌, ◌++◌, Option, Some, None, refl, ◌∙◌, sym, ap, subst, append_assoc, append-nil, arith, ⊎_elim, is_some, option_or, list_any, IsEquivalence, lists_equiv, options_equiv, ints, by_bool, or_none, Entry, entry, at, holds, IsApart, IsCanonical, AreKeys, are_keys_after, IsAbove, IsAbove-from_apart, at_in, at_under, at_over, at_before, by_place, one_per_run, first_key, steady_to, AllCanonical, first_keys, all_steady_to, all_after, IsNextSegment, row, present, row_eq, IsFound, found_none, found_more, next_less, absent, all_lengths_left, lesser_one, steady_none, none_left, all_canonical_after, same_some, stops_steady, asked_row, IsJoinOfMany}
 
 by_option : {A P : Type 0} (o : Option A) → (o ≡ None → P) → ((x : A) → o ≡ Some x → P) → P
 by_option None f g = f refl

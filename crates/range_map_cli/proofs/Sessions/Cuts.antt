@@ -1,9 +1,5 @@
 -- Where lines end in a text.
-use Rattle.std.proofs.Common.{◌≡◌, ℕ, ◌+◌, List, [], ◌∷◌, ◌++◌, take, Bool, true, false, cond, eqb, refl, sym, ap, ◌∙◌, zero-add, length, arith}
-use Rattle.std.proofs.lemmas.List.Elements.{All-cons, All-head, All-tail}
-use Rattle.std.proofs.lemmas.List.Sums.{sum_by-append, sum_by-cons}
-use Rattle.std.specs.List.{onto_first}
-use Rattle.range_map_cli.specs.Lines.{lines_of, ends_in, Lacks}
+use Rattle.range_map_cli.proofs.Words.{◌≡◌, ℕ, ◌+◌, List, [], ◌∷◌, ◌++◌, take, Bool, true, false, cond, eqb, refl, sym, ap, ◌∙◌, zero-add, length, arith, All-cons, All-head, All-tail, sum_by-append, sum_by-cons, onto_first, lines_of, ends_in, Lacks}
 
 -- the first byte is not the one that lacks
 pub other_head : (b byte : ℕ) (bs : List ℕ) → Lacks byte (b ∷ bs) → eqb b byte ≡ false

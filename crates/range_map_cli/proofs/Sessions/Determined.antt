@@ -1,18 +1,7 @@
 -- A text has one output: the content and the command determine a reply.
-use Rattle.std.proofs.Common.{◌≡◌, ℕ, ◌+◌, ◌-◌, ◌^◌, min, decimal, ℤ, Bool, true, false, append-nil, List, [], ◌∷◌, ◌++◌, refl, sym, ap, ◌∙◌, subst, arith, append_assoc, cond, codes, ◌⊎◌, inl, inr, length}
-use Rattle.std.proofs.lemmas.Cmp.{nat_list_eq_equiv}
-use Rattle.std.proofs.lemmas.Int.{ints}
-use Rattle.std.specs.Cmp.Lexicographic.{bytes_decides}
+use Rattle.range_map_cli.proofs.Words.{◌≡◌, ℕ, ◌+◌, ◌-◌, ◌^◌, min, decimal, ℤ, Bool, true, false, append-nil, List, [], ◌∷◌, ◌++◌, refl, sym, ap, ◌∙◌, subst, arith, append_assoc, cond, codes, ◌⊎◌, inl, inr, length, nat_list_eq_equiv, ints, bytes_decides, same_along, same_itself, Entry, at, entry, SameEntries, canonical_is_unique, Command, Blank, Get, At, Len, Entries, lines_of, IsGreatestPiece, Content, nothing, content_after_command, greatest_key, least_key, listed_entries, line, Lists, piece_text, Replies, commands_of, has_bad, Answers, error_line, IsOutput, content_after_commands}
 use Rattle.std.specs.Str.{bytes_eq}
-use Rattle.blaze_entries.proofs.Alike.{same_along, same_itself}
-use Rattle.blaze_table.specs.Entries.{Entry, at, entry, SameEntries}
-use Rattle.blaze_table.proofs.Canonical.ListLaws.{canonical_is_unique}
-use Rattle.range_map_cli.specs.Commands.{Command, Blank, Paint, Fill, Insert, Remove, Get, At, Len, Entries}
-use Rattle.range_map_cli.specs.Lines.{lines_of}
-use Rattle.range_map_cli.specs.Pieces.{IsGreatestPiece}
-use Rattle.range_map_cli.specs.Replies.{Content, nothing, content_after_command, greatest_key, least_key, listed_entries, line, Lists, piece_text, Replies}
-use Rattle.range_map_cli.specs.Output.{commands_of, has_bad, Answers, error_line, IsOutput}
-use Rattle.range_map_cli.specs.Sessions.{content_after_commands}
+use Rattle.range_map_cli.specs.Commands.{Paint, Fill, Insert, Remove}
 use Rattle.range_map_cli.proofs.Sessions.Forwarding.{front_none}
 
 same_entry : (e f : Entry (List ℕ)) → e.lo ≡ f.lo → e.hi ≡ f.hi → bytes_eq e.value f.value ≡ true → e ≡ f

@@ -1,16 +1,6 @@
 -- What a session has printed where it ends.
-use Rattle.std.proofs.Common.{◌≡◌, ℕ, suc, ◌+◌, ◌-◌, ◌^◌, List, [], ◌∷◌, ◌++◌, length, take, true, false, cond, refl, sym, ap, ◌∙◌, subst, arith, append_assoc, append-nil, add-one, length-append, Option, Some, None, min, codes, decimal}
-use Rattle.std.proofs.KnownBytes.{Appends-trans}
-use Rattle.std.specs.Io.KnownBytes.{Appends}
-use Rattle.range_map_cli.specs.declared.session.Session.{Session}
-use Rattle.range_map_cli.specs.declared.End.{End}
+use Rattle.range_map_cli.proofs.Words.{◌≡◌, ℕ, suc, ◌+◌, ◌-◌, ◌^◌, List, [], ◌∷◌, ◌++◌, length, take, true, false, cond, refl, sym, ap, ◌∙◌, subst, arith, append_assoc, append-nil, add-one, length-append, Option, Some, None, min, codes, decimal, Appends-trans, Appends, Session, End, lines_of, ends_in, Blank, Command, command_of, nothing, Replies, commands_of, has_bad, with_command, bad_or, Answers, AnswersFirst, error_line, no_memory, IsOutput, Prints, Closes, content_of, HasWords, Forwards, IsAt}
 use Rattle.range_map_cli.specs.declared.End.TheVariants as ends
-use Rattle.range_map_cli.specs.Lines.{lines_of, ends_in}
-use Rattle.range_map_cli.specs.Commands.{Blank, Command, command_of}
-use Rattle.range_map_cli.specs.Replies.{nothing, Replies}
-use Rattle.range_map_cli.specs.Output.{commands_of, has_bad, with_command, bad_or, Answers, AnswersFirst, error_line, no_memory, IsOutput, Prints, Closes}
-use Rattle.range_map_cli.specs.States.{content_of, HasWords}
-use Rattle.range_map_cli.specs.Sessions.{Forwards, IsAt}
 use Rattle.range_map_cli.proofs.Sessions.Cuts.{nothing_kept, ends_in-append}
 use Rattle.range_map_cli.proofs.Sessions.Determined.{bad_text, output_from, some_error, some_reply}
 use Rattle.range_map_cli.proofs.Sessions.Faults.{ends_lost, no_more}

@@ -1,10 +1,6 @@
 -- What is written where the writer fails is not the whole output.
-use Rattle.std.proofs.Common.{◌≡◌, ℕ, List, [], ◌∷◌, ◌++◌, take, drop, take-append-drop, refl, sym, ap, ◌∙◌, subst, append_assoc, append-nil, codes, inl, inr}
-use Rattle.std.proofs.lemmas.List.{append_cancel_left}
-use Rattle.range_map_cli.specs.declared.End.{End}
+use Rattle.range_map_cli.proofs.Words.{◌≡◌, ℕ, List, [], ◌∷◌, ◌++◌, take, drop, take-append-drop, refl, sym, ap, ◌∙◌, subst, append_assoc, append-nil, codes, inl, inr, append_cancel_left, End, lines_of, Lacks, commands_of, no_memory, Ends, IsOutput, Prints}
 use Rattle.range_map_cli.specs.declared.End.TheVariants as ends
-use Rattle.range_map_cli.specs.Lines.{lines_of, Lacks}
-use Rattle.range_map_cli.specs.Output.{commands_of, no_memory, Ends, IsOutput, Prints}
 use Rattle.range_map_cli.proofs.Sessions.Cuts.{Lacks-ends_in, other_head, other_tail}
 use Rattle.range_map_cli.proofs.Sessions.Forwarding.{front_none}
 use Rattle.range_map_cli.proofs.Sessions.Determined.{bad_text, IsWhole, one_output, output_from, whole_rest}

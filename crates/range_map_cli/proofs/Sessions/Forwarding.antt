@@ -1,8 +1,5 @@
 -- What a writer took and what waits, from one step to the next.
-use Rattle.std.proofs.Common.{◌≡◌, ℕ, List, [], ◌∷◌, ◌++◌, refl, sym, ap, ◌∙◌, append_assoc, append-nil, Option}
-use Rattle.std.proofs.KnownBytes.{Appends-trans}
-use Rattle.std.specs.Io.KnownBytes.{Appends}
-use Rattle.range_map_cli.specs.Sessions.{Forwards}
+use Rattle.range_map_cli.proofs.Words.{◌≡◌, ℕ, List, [], ◌∷◌, ◌++◌, refl, sym, ap, ◌∙◌, append_assoc, append-nil, Option, Appends-trans, Appends, Forwards}
 
 -- where nothing is behind nothing
 pub front_none : (xs ys : List ℕ) → xs ++ ys ≡ [] → xs ≡ []

@@ -1,12 +1,6 @@
 -- The word of a good line is a word.
-use Rattle.std.proofs.Common.{◌≡◌, ℕ, ℤ, List, [], ◌∷◌, true, false, cond, refl, subst, Option, Some, None, Bool, ◌&&◌, codes, option_map, bytes_eq, IfSome, int_le}
-use Rattle.std.specs.Ordering.{int_eq}
-use Rattle.std.specs.Option.{option_or}
-use Rattle.range_map_cli.specs.Commands.{Command, Blank, Paint, Fill, Insert, Remove, Get, At, Len, Entries, command_of, command_of_words, range_of, insert_of, words_of, written_number, is_word}
-use Rattle.blaze_table.specs.Filled.{filled}
-use Rattle.blaze_table.specs.Painted.{painted}
-use Rattle.range_map_cli.specs.Replies.{Content, content_after_command}
-use Rattle.range_map_cli.specs.States.{HasWords}
+use Rattle.range_map_cli.proofs.Words.{◌≡◌, ℕ, ℤ, List, [], ◌∷◌, true, false, cond, refl, subst, Option, Some, None, Bool, ◌&&◌, codes, option_map, bytes_eq, IfSome, int_le, int_eq, option_or, Command, Blank, Get, At, Len, Entries, command_of, command_of_words, range_of, insert_of, words_of, written_number, is_word, filled, painted, Content, content_after_command, HasWords}
+use Rattle.range_map_cli.specs.Commands.{Paint, Fill, Insert, Remove}
 
 abbrev IsGood : Command → Type 0
 IsGood Blank = Unit {0}

@@ -1,13 +1,6 @@
 -- A good line is short.
-use Rattle.std.proofs.Common.{◌≡◌, ℕ, suc, ◌+◌, ◌<◌, ◌≤◌, List, [], ◌∷◌, length, take, true, false, cond, eqb, leb, refl, sym, ap, ◌∙◌, arith, Option, Some, None, length-take, Bool, ◌&&◌, codes, ℤ, option_map, bytes_eq, ⊎_elim}
-use Rattle.std.proofs.lemmas.List.{take_all}
-use Rattle.std.proofs.lemmas.Bool.Decides.{nat_tests}
-use Rattle.std.specs.Cmp.Lexicographic.{bytes_decides}
-use Rattle.std.specs.List.{onto_first, list_all}
-use Rattle.std.specs.Char.{is_ascii_alphanumeric, is_ascii_digit}
-use Rattle.std.proofs.str.Laws.{order}
-use Rattle.std.proofs.lemmas.Bool.{and_parts}
-use Rattle.range_map_cli.specs.Commands.{Command, Paint, Fill, Insert, Remove, Get, At, Len, Entries, command_of, command_of_words, range_of, insert_of, words_of, written_number, is_word, is_digits}
+use Rattle.range_map_cli.proofs.Words.{◌≡◌, ℕ, suc, ◌+◌, ◌<◌, ◌≤◌, List, [], ◌∷◌, length, take, true, false, cond, eqb, leb, refl, sym, ap, ◌∙◌, arith, Option, Some, None, length-take, Bool, ◌&&◌, codes, ℤ, option_map, bytes_eq, ⊎_elim, take_all, nat_tests, bytes_decides, onto_first, list_all, is_ascii_alphanumeric, is_ascii_digit, order, and_parts, Command, Get, At, Len, Entries, command_of, command_of_words, range_of, insert_of, words_of, written_number, is_word, is_digits}
+use Rattle.range_map_cli.specs.Commands.{Paint, Fill, Insert, Remove}
 
 -- the bytes of the words, with one more for each
 total : List (List ℕ) → ℕ

@@ -1,16 +1,5 @@
 -- What the steps of a session do to where it is in its text.
-use Rattle.std.proofs.Common.{◌≡◌, ◌==◌, false, ℕ, ◌+◌, ◌-◌, ◌^◌, ℤ, List, [], ◌∷◌, ◌++◌, length, take, refl, sym, ap, ◌∙◌, subst, arith, append_assoc, append-nil, Option, Some, min, length-append}
-use mathlib.Core.Path.{fun_ext}
-use Rattle.std.proofs.lemmas.List.{take_at}
-use Rattle.std.proofs.lemmas.List.Elements.{All-append, All-nil}
-use Rattle.std.specs.Io.KnownBytes.{Appends}
-use Rattle.range_map_cli.specs.declared.session.Session.{Session}
-use Rattle.range_map_cli.specs.Lines.{lines_of, ends_in, Lacks}
-use Rattle.range_map_cli.specs.Commands.{Command, command_of}
-use Rattle.range_map_cli.specs.Replies.{Content, nothing, content_after_command, Replies}
-use Rattle.range_map_cli.specs.Output.{commands_of, has_bad, with_command, bad_or, Answers, AnswersFirst}
-use Rattle.range_map_cli.specs.States.{content_of, HasWords}
-use Rattle.range_map_cli.specs.Sessions.{content_after_commands, with_line, Forwards, IsAt}
+use Rattle.range_map_cli.proofs.Words.{◌≡◌, ◌==◌, false, ℕ, ◌+◌, ◌-◌, ◌^◌, ℤ, List, [], ◌∷◌, ◌++◌, length, take, refl, sym, ap, ◌∙◌, subst, arith, append_assoc, append-nil, Option, Some, min, length-append, fun_ext, take_at, All-append, All-nil, Appends, Session, lines_of, ends_in, Lacks, Command, command_of, Content, nothing, content_after_command, Replies, commands_of, has_bad, with_command, bad_or, Answers, AnswersFirst, content_of, HasWords, content_after_commands, with_line, Forwards, IsAt}
 use Rattle.range_map_cli.proofs.Sessions.Kept.{take_again}
 use Rattle.range_map_cli.proofs.Sessions.Lengths.{command_of-take}
 use Rattle.range_map_cli.proofs.Sessions.Cuts.{lines_end, lines_last, ends_in-Lacks, ends_in-append}

@@ -1,15 +1,6 @@
 -- Where a session is, where the bytes of its reader are known.
-use Rattle.std.proofs.Common.{◌≡◌, ℕ, zero, suc, ◌+◌, ◌≤◌, List, [], ◌∷◌, ◌++◌, take, length, length-append, refl, sym, ap, ◌∙◌, subst, arith, append-nil, Option, Some, None, IfSome, false, inl, inr}
-use Rattle.std.proofs.KnownBytes.{Appends-nil, Consumes-kept, Consumes-trans}
-use Rattle.std.specs.Io.KnownBytes.{Appends, Consumes, IsAtEnd, Keeps}
-use Rattle.range_map_cli.specs.declared.session.Session.{Session}
-use Rattle.range_map_cli.specs.declared.End.{End}
+use Rattle.range_map_cli.proofs.Words.{◌≡◌, ℕ, zero, suc, ◌+◌, ◌≤◌, List, [], ◌∷◌, ◌++◌, take, length, length-append, refl, sym, ap, ◌∙◌, subst, arith, append-nil, Option, Some, None, IfSome, false, inl, inr, Appends-nil, Consumes-kept, Consumes-trans, Appends, Consumes, IsAtEnd, Keeps, Session, End, lines_of, ends_in, Command, command_of, AnswersFirst, AreRead, Closes, Serves, Streams, commands_of, has_bad, with_command, bad_or, content_of, ClosesBefore, Forwards, IsAt, IsServing}
 use Rattle.range_map_cli.specs.declared.End.TheVariants as ends
-use Rattle.range_map_cli.specs.Lines.{lines_of, ends_in}
-use Rattle.range_map_cli.specs.Commands.{Command, command_of}
-use Rattle.range_map_cli.specs.Output.{AnswersFirst, AreRead, Closes, Serves, Streams, commands_of, has_bad, with_command, bad_or}
-use Rattle.range_map_cli.specs.States.{content_of}
-use Rattle.range_map_cli.specs.Sessions.{ClosesBefore, Forwards, IsAt, IsServing}
 use Rattle.range_map_cli.proofs.Sessions.Cuts.{ends_in-append}
 use Rattle.range_map_cli.proofs.Sessions.Progress.{answers_first, next_flush}
 use Rattle.range_map_cli.proofs.Sessions.Endings.{closes_waiting}

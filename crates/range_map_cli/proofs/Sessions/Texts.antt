@@ -1,13 +1,5 @@
 -- Facts on digits and letters.
-use Rattle.std.proofs.Common.{◌≡◌, ℕ, ◌+◌, ◌*◌, ◌^◌, ◌<◌, ◌≤◌, List, [], ◌∷◌, length, take, true, IsAscii, arith, add-one, Fits, w64, IsUtf8}
-use Rattle.std.proofs.Math.Nat.{pow-le-pow_right, pow-suc}
-use Rattle.std.specs.List.{list_all}
-use Rattle.std.specs.Char.{is_ascii_alphanumeric, is_ascii_digit, digit_value}
-use Rattle.std.proofs.lemmas.List.{take_all}
-use Rattle.std.proofs.lemmas.Bool.Decides.{nat_tests}
-use Rattle.std.proofs.lemmas.Str.Ascii.{IsAscii-cons, IsAscii-nil}
-use Rattle.std.proofs.lemmas.Str.{IsUtf8-from_ascii}
-use Rattle.std.proofs.lemmas.Bool.{and_parts}
+use Rattle.range_map_cli.proofs.Words.{◌≡◌, ℕ, ◌+◌, ◌*◌, ◌^◌, ◌<◌, ◌≤◌, List, [], ◌∷◌, length, take, true, IsAscii, arith, add-one, Fits, w64, IsUtf8, pow-le-pow_right, pow-suc, list_all, is_ascii_alphanumeric, is_ascii_digit, digit_value, take_all, nat_tests, IsAscii-cons, IsAscii-nil, IsUtf8-from_ascii, and_parts}
 
 -- one more digit fits
 pub room : (v d i : ℕ) → v < 10 ^ i → d < 10 → v * 10 + d < 10 ^ (i + 1)

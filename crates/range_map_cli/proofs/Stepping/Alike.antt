@@ -1,21 +1,5 @@
 -- What steps make of contents that are alike at each key.
-use Rattle.std.specs.Option.{option_xor}
-use Rattle.std.proofs.Common.{◌≡◌, ℤ, Bool, true, false, not, eqb, cond, List, [], ◌∷◌, ◌++◌, Option, Some, None, refl, ◌∙◌, ap, subst}
-use Rattle.std.specs.Prelude.{int_le, int_lt, ◌&&◌}
-use Rattle.std.specs.Ordering.{int_eq}
-use Rattle.std.specs.Cmp.{IsEquivalence}
-use Rattle.blaze_entries.proofs.Alike.{same_itself, same_trans, same_or_left, is_some_alike}
-use Rattle.blaze_table.specs.Entries.{at, SameOption}
-use Rattle.blaze_table.specs.Chosen.{right_first, left_with_right, left_alone}
-use Rattle.blaze_table.specs.Complement.{absent}
-use Rattle.blaze_table.specs.Count.{mapped_keys}
-use Rattle.blaze_table.specs.Filled.{filled}
-use Rattle.blaze_table.specs.Painted.{painted}
-use Rattle.range_map_cli.specs.Steps.{content_after, after_all, answer, answers, first_mapped_key, last_mapped_key, pair_of, key_with_value, without_key, SameAnswer, SameAnswers, SamePair}
-use Rattle.range_map_cli.specs.declared.step.Step.{Step}
-use Rattle.range_map_cli.specs.declared.step.Step.TheVariants.{Paint, Fill, Insert, Remove, PopFirst, PopLast, Clear, KeepBelow, KeepFrom, Or, And, Minus, Xor, AndSet, MinusSet, ComplementWith}
-use Rattle.range_map_cli.specs.declared.step.Answer.{Answer}
-use Rattle.range_map_cli.specs.declared.step.Answer.TheVariants.{Wrote, Old, Popped, Done}
+use Rattle.range_map_cli.proofs.Words.{option_xor, ◌≡◌, ℤ, Bool, true, false, not, eqb, cond, List, [], ◌∷◌, ◌++◌, Option, Some, None, refl, ◌∙◌, ap, subst, int_le, int_lt, ◌&&◌, int_eq, IsEquivalence, same_itself, same_trans, same_or_left, is_some_alike, at, SameOption, right_first, left_with_right, left_alone, absent, mapped_keys, filled, painted, content_after, after_all, answer, answers, first_mapped_key, last_mapped_key, pair_of, key_with_value, without_key, SameAnswer, SameAnswers, SamePair, Step, Paint, Fill, Insert, Remove, PopFirst, PopLast, Clear, KeepBelow, KeepFrom, Or, And, Minus, Xor, AndSet, MinusSet, ComplementWith, Answer, Wrote, Old, Popped, Done}
 use Rattle.range_map_cli.proofs.Stepping.EndKeys.{first_alike, last_alike, mapped_alike}
 
 module _ {V : Type 0} (eq : V → V → Bool) (laws : IsEquivalence eq) where

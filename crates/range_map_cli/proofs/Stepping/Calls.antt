@@ -1,8 +1,5 @@
 -- Calls of an iterator from both ends.
-use Rattle.std.proofs.Common.{◌≡◌, Bool, true, false, List, [], ◌∷◌, ◌++◌, map, Option, Some, None, refl, ◌∙◌, sym, ap, append_assoc, append-nil}
-use Rattle.std.specs.List.{All}
-use Rattle.std.proofs.lemmas.List.Elements.{All-cons, All-nil}
-use Rattle.range_map_cli.specs.Laws.{from_front, from_back, given_in_front, given_behind, AreNoneFromNone, EachOnce, TakeAll, Takes}
+use Rattle.range_map_cli.proofs.Words.{◌≡◌, Bool, true, false, List, [], ◌∷◌, ◌++◌, map, Option, Some, None, refl, ◌∙◌, sym, ap, append_assoc, append-nil, All, All-cons, All-nil, from_front, from_back, given_in_front, given_behind, AreNoneFromNone, EachOnce, TakeAll, Takes}
 
 pub not_behind : {A P : Type 0} (xs : List A) (x : A) → [] ≡ xs ++ x ∷ [] → P
 not_behind [] x p = absurd cc

@@ -1,21 +1,5 @@
 -- What paints and fills in any order leave.
-use Rattle.std.specs.Option.{option_or}
-use Rattle.std.proofs.Common.{◌≡◌, ◌+◌, ◌-◌, ◌*◌, ◌≤◌, ℤ, Bool, cond, List, [], ◌∷◌, length, Option, Some, None, ◌∙◌, sym, ap, subst, arith}
-use Rattle.std.specs.List.{All}
-use Rattle.std.specs.Cmp.{IsEquivalence}
-use Rattle.std.proofs.lemmas.List.Elements.{All-head, All-tail}
-use Rattle.blaze_entries.proofs.Alike.{or_assoc, or_none}
-use Rattle.blaze_table.specs.CanonicalOf.{keyed}
-use Rattle.blaze_table.specs.Entries.{Entry, entry, at, holds, SameOption}
-use Rattle.blaze_table.specs.Filled.{filled}
-use Rattle.blaze_table.specs.Painted.{last_at, painted, painted_in_order}
-use Rattle.blaze_table.proofs.Canonical.Runs.{canonical}
-use Rattle.blaze_table.proofs.Pairs.Lasts.{painted_one}
-use Rattle.blaze_table.proofs.Sweeping.Canonicals.{few_painted}
-use Rattle.range_map_cli.specs.Fills.{fills_of, painted_and_filled, paints_of, ranges_in, IsPaintOrFill, PaintsAloneAreInOrder, StepsPaintAndFill}
-use Rattle.range_map_cli.specs.Steps.{IsSteppedAll}
-use Rattle.range_map_cli.specs.declared.step.Step.{Step}
-use Rattle.range_map_cli.specs.declared.step.Step.TheVariants.{Paint, Fill, Insert, Remove, PopFirst, PopLast, Clear, KeepBelow, KeepFrom, Or, And, Minus, Xor, AndSet, MinusSet, ComplementWith}
+use Rattle.range_map_cli.proofs.Words.{option_or, ◌≡◌, ◌+◌, ◌-◌, ◌*◌, ◌≤◌, ℤ, Bool, cond, List, [], ◌∷◌, length, Option, Some, None, ◌∙◌, sym, ap, subst, arith, All, IsEquivalence, All-head, All-tail, or_assoc, or_none, keyed, Entry, entry, at, holds, SameOption, filled, last_at, painted, painted_in_order, canonical, painted_one, few_painted, fills_of, painted_and_filled, paints_of, ranges_in, IsPaintOrFill, PaintsAloneAreInOrder, StepsPaintAndFill, IsSteppedAll, Step, Paint, Fill, Insert, Remove, PopFirst, PopLast, Clear, KeepBelow, KeepFrom, Or, And, Minus, Xor, AndSet, MinusSet, ComplementWith}
 
 module _ {V : Type 0} where
   -- one entry is painted first

@@ -1,9 +1,5 @@
 -- Which steps are left where others are taken.
-use Rattle.std.proofs.Common.{◌≡◌, ℤ, Bool, Option, refl}
-use Rattle.range_map_cli.specs.Steps.{answer, Combines, IsEdit, SameAnswer}
-use Rattle.range_map_cli.specs.declared.step.Step.{Step}
-use Rattle.range_map_cli.specs.declared.step.Step.TheVariants.{Paint, Fill, Insert, Remove, PopFirst, PopLast, Clear, KeepBelow, KeepFrom, Or, And, Minus, Xor, AndSet, MinusSet, ComplementWith}
-use Rattle.range_map_cli.specs.declared.step.Answer.TheVariants.{Done}
+use Rattle.range_map_cli.proofs.Words.{◌≡◌, ℤ, Bool, Option, refl, answer, Combines, IsEdit, SameAnswer, Step, Paint, Fill, Insert, Remove, PopFirst, PopLast, Clear, KeepBelow, KeepFrom, Or, And, Minus, Xor, AndSet, MinusSet, ComplementWith, Done}
 
 module _ {T V L : Type 0} where
   -- a step of none of the five kinds of edits is no edit

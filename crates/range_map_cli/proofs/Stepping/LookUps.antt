@@ -1,13 +1,5 @@
 -- Look-ups of an entry or a gap, each behind the one before.
-use Rattle.std.proofs.Common.{◌≡◌, ℤ, pos, ◌+ℤ◌, ◌-ℤ◌, ◌≤ℤ◌, ◌<ℤ◌, Bool, List, [], ◌∷◌, Option, Some, None, ◌∙◌, sym, ap, arith}
-use Rattle.std.proofs.lemmas.Int.{ints, by_lt_z}
-use Rattle.std.specs.Cmp.{IsEquivalence}
-use Rattle.blaze_entries.proofs.Alike.{same_along}
-use Rattle.blaze_table.specs.Canonical.{IsRangeMap}
-use Rattle.blaze_table.specs.Entries.{Entry, entry, at, entry_at}
-use Rattle.blaze_table.proofs.Canonical.Lookup.{holds_in, holds_ends}
-use Rattle.range_map_cli.specs.Laws.{AreRangesOrGapsFrom, CoverFrom, IsRangeOrGapAt, LookUpsCover}
-use Rattle.range_map_cli.specs.Pieces.{IsSameFrom, IsGreatestPiece}
+use Rattle.range_map_cli.proofs.Words.{◌≡◌, ℤ, pos, ◌+ℤ◌, ◌-ℤ◌, ◌≤ℤ◌, ◌<ℤ◌, Bool, List, [], ◌∷◌, Option, Some, None, ◌∙◌, sym, ap, arith, ints, by_lt_z, IsEquivalence, same_along, IsRangeMap, Entry, entry, at, entry_at, holds_in, holds_ends, AreRangesOrGapsFrom, CoverFrom, IsRangeOrGapAt, LookUpsCover, IsSameFrom, IsGreatestPiece}
 use Rattle.range_map_cli.proofs.Stepping.EntryAt.{entry_holds, entry_starts, entry_ends, entry_keys, entry_value}
 
 module _ {V : Type 0} (eq : V → V → Bool) (laws : IsEquivalence eq) (low high : ℤ) (es : List (Entry V)) (map : IsRangeMap eq low high es) where

@@ -1,15 +1,5 @@
 -- Calls of an iterator by value, from both ends.
-use Rattle.blaze_int.specs.Unsigned.{nat_of}
-use Rattle.std.proofs.Common.{◌≡◌, ℕ, zero, suc, ◌≤◌, Bool, true, false, ℤ, pos, negsuc, ◌+ℤ◌, ◌-ℤ◌, ◌≤ℤ◌, ◌<ℤ◌, arith, List, [], ◌∷◌, ◌++◌, Option, Some, None, Result, Ok, Err, refl, ◌∙◌, sym, ap, append_assoc, append-nil}
-use Rattle.std.proofs.lemmas.Int.{ints}
-use Rattle.std.specs.List.{All}
-use Rattle.std.proofs.lemmas.List.Elements.{All-cons, All-head, All-nil, All-tail}
-use Rattle.std.specs.declared.alloc.AllocError.{AllocError}
-use Rattle.blaze_iters.specs.Left.{pairs_left, unopened}
-use Rattle.blaze_iters.specs.Owned.{HasSeveralFirst, HasSeveralLast, IsLikePair, OwnedLeft, owned_ranges}
-use Rattle.blaze_table.specs.Entries.{Entry}
-use Rattle.blaze_table.specs.Pairs.{pairs_from, pairs_of, pair_list}
-use Rattle.range_map_cli.specs.Laws.{from_front, from_back, AreItems, AreNoneFromEnd, EachOnceOwned, HasEnded, IsEachOnceOwned, IsItem, IsNotRefused, TakeAllOwned, TakesOwned}
+use Rattle.range_map_cli.proofs.Words.{nat_of, ◌≡◌, ℕ, zero, suc, ◌≤◌, Bool, true, false, ℤ, pos, negsuc, ◌+ℤ◌, ◌-ℤ◌, ◌≤ℤ◌, ◌<ℤ◌, arith, List, [], ◌∷◌, ◌++◌, Option, Some, None, Result, Ok, Err, refl, ◌∙◌, sym, ap, append_assoc, append-nil, ints, All, All-cons, All-head, All-nil, All-tail, AllocError, pairs_left, unopened, HasSeveralFirst, HasSeveralLast, IsLikePair, OwnedLeft, owned_ranges, Entry, pairs_from, pairs_of, pair_list, from_front, from_back, AreItems, AreNoneFromEnd, EachOnceOwned, HasEnded, IsEachOnceOwned, IsItem, IsNotRefused, TakeAllOwned, TakesOwned}
 use Rattle.range_map_cli.proofs.Stepping.Calls.{not_behind}
 
 module _ {V A B : Type 0} (left : OwnedLeft V → List B) (IsGiven : A → B → Type 0) (empty : left (unopened []) ≡ [])

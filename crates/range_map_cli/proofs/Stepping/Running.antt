@@ -1,19 +1,6 @@
 -- A run of steps under way.
-use Rattle.std.proofs.Common.{◌≡◌, ℕ, zero, suc, ◌+◌, ◌-◌, ◌*◌, ◌≤◌, ℤ, Bool, List, [], ◌∷◌, ◌++◌, length, take, append-nil, append_assoc, refl, ⊎_elim, inl, inr, ◌<◌, ◌⊎◌, ◌∙◌, sym, ap, subst, arith}
-use Rattle.std.specs.List.{All}
-use Rattle.std.specs.Cmp.{IsEquivalence}
-use Rattle.std.proofs.lemmas.List.Elements.{All-cons, All-head, All-tail, All-nil}
-use Rattle.std.proofs.Math.Seq.{take-append_seam}
-use Rattle.std.proofs.lemmas.List.{length-append, nil_from_length}
-use Rattle.blaze_entries.proofs.Alike.{same_itself, same_trans}
-use Rattle.blaze_table.specs.Entries.{at, SameOption}
-use Rattle.blaze_table.specs.Counted.{CountedEntries}
-use Rattle.blaze_table.specs.Canonical.{IsRangeMap}
-use Rattle.blaze_table.specs.Work.{IsCounted, PutsAtMost}
-use Rattle.blaze_table.proofs.Walks.Worked.{counted_none, counted_then}
-use Rattle.range_map_cli.specs.Steps.{content_after, after_all, answer, answers, IsCountedRun, IsEdit, IsRefusedAt, IsStepped, IsSteppedAll, SameAnswer, SameAnswers}
-use Rattle.range_map_cli.specs.declared.step.Step.{Step}
-use Rattle.range_map_cli.specs.declared.step.Answer.{Answer}
+use Rattle.range_map_cli.proofs.Words.{◌≡◌, ℕ, zero, suc, ◌+◌, ◌-◌, ◌*◌, ◌≤◌, ℤ, Bool, List, [], ◌∷◌, ◌++◌, length, take, append-nil, append_assoc, refl, ⊎_elim, inl, inr, ◌<◌, ◌⊎◌, ◌∙◌, sym, ap, subst, arith, All, IsEquivalence, All-cons, All-head, All-tail, All-nil, take-append_seam, nil_from_length, same_itself, same_trans, at, SameOption, CountedEntries, IsRangeMap, IsCounted, PutsAtMost, counted_none, counted_then, content_after, after_all, answer, answers, IsCountedRun, IsEdit, IsRefusedAt, IsStepped, IsSteppedAll, SameAnswer, SameAnswers, Step, Answer}
+use Rattle.std.proofs.lemmas.List.{length-append}
 use Rattle.range_map_cli.proofs.Stepping.Alike.{after_alike, after_more, answer_alike, answer_trans, answers_more}
 
 -- the work of n edits

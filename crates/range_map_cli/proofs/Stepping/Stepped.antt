@@ -1,23 +1,5 @@
 -- What a step does, from what the call that takes it does.
-use Rattle.std.proofs.Common.{◌≡◌, ◌↔◌, ◌≤◌, ℕ, ℤ, pos, ◌≤ℤ◌, Bool, true, false, not, eqb, cond, IsTrue, List, [], length, Option, Some, None, MatchOption, refl, ◌∙◌, sym, ap, subst, arith, ⊎_elim}
-use Rattle.std.specs.Prelude.{int_le, ◌&&◌}
-use Rattle.std.specs.Cmp.{IsEquivalence}
-use Rattle.std.proofs.lemmas.Bool.{eq-eqb, ne_eqb, cases_eq}
-use Rattle.std.proofs.lemmas.Int.{ints}
-use Rattle.blaze_int.proofs.Naturals.{pos_injective}
-use Rattle.blaze_entries.proofs.Alike.{same_itself, is_some_alike}
-use Rattle.blaze_table.specs.Entries.{Entry, entry, at, SameOption}
-use Rattle.blaze_table.specs.Counted.{CountedEntries}
-use Rattle.blaze_table.specs.Canonical.{IsRangeMap}
-use Rattle.blaze_table.specs.Complement.{absent, IsComplement}
-use Rattle.blaze_table.specs.Count.{keys_in, mapped_keys}
-use Rattle.blaze_table.specs.Filled.{IsFilled}
-use Rattle.blaze_table.specs.Painted.{IsPainted}
-use Rattle.blaze_table.specs.Work.{IsCountedCut, PutsAtMost}
-use Rattle.range_map_blaze.specs.Pairs.{PopsFirst, PopsLast}
-use Rattle.range_map_cli.specs.Steps.{answer, complemented, first_mapped_key, last_mapped_key, key_with_value, pair_of, IsStepped, IsWithout, SameAnswer, SamePair}
-use Rattle.range_map_cli.specs.declared.step.Step.{Step}
-use Rattle.range_map_cli.specs.declared.step.Answer.{Answer}
+use Rattle.range_map_cli.proofs.Words.{◌≡◌, ◌↔◌, ◌≤◌, ℕ, ℤ, pos, ◌≤ℤ◌, Bool, true, false, not, eqb, cond, IsTrue, List, [], length, Option, Some, None, MatchOption, refl, ◌∙◌, sym, ap, subst, arith, ⊎_elim, int_le, ◌&&◌, IsEquivalence, eq-eqb, ne_eqb, cases_eq, ints, pos_injective, same_itself, is_some_alike, Entry, entry, at, SameOption, CountedEntries, IsRangeMap, absent, IsComplement, keys_in, mapped_keys, IsFilled, IsPainted, IsCountedCut, PutsAtMost, PopsFirst, PopsLast, answer, complemented, first_mapped_key, last_mapped_key, key_with_value, pair_of, IsStepped, IsWithout, SameAnswer, SamePair, Step, Answer}
 use Rattle.range_map_cli.proofs.Stepping.EndKeys.{at_key, first_key_is, first_none, last_key_is, last_none, mapped_alike}
 
 module _ {T V L : Type 0} (eq : V → V → Bool) (rank : T → ℤ) (low high : ℤ) where

@@ -1,4 +1,4 @@
-use Rattle.std.proofs.Common.{refl}
+use Rattle.blaze_iters.proofs.Words.{refl}
 use Rattle.blaze_iters.proofs.Steps.{moved_first, opens_first}
 use Rattle.blaze_iters.proofs.iter_map.take_first.Goals as goal
 

@@ -1,4 +1,4 @@
-use Rattle.std.proofs.Common.{refl}
+use Rattle.blaze_iters.proofs.Words.{refl}
 use Rattle.blaze_iters.proofs.Steps.{last_full, moved_last, opens_last}
 use Rattle.blaze_iters.proofs.iter_map.take_last.Goals as goal
 

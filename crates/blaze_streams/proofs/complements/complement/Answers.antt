@@ -1,8 +1,4 @@
-use Rattle.std.proofs.Common.{refl, sym, ap, subst}
-use Rattle.std.specs.Iterator.{IsFinite}
-use Rattle.blaze_table.specs.RangeSets.{shown_bare_range, unit_eq}
-use Rattle.blaze_table.specs.Complement.{IsComplement}
-use Rattle.blaze_table.proofs.Pairs.UnitLaws.{unit_laws}
+use Rattle.blaze_streams.proofs.Words.{refl, sym, ap, subst, IsFinite, shown_bare_range, unit_eq, IsComplement, unit_laws}
 use Rattle.blaze_streams.proofs.GapLists.{rank_of_next, gap_more, complement_made}
 use Rattle.blaze_streams.proofs.complements.complement.Goals as goal
 

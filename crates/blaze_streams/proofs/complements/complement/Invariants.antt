@@ -1,6 +1,4 @@
-use Rattle.std.proofs.Common.{◌≡◌, ◌++◌}
-use Rattle.blaze_table.specs.RangeSets.{shown_bare_ranges}
-use Rattle.blaze_streams.specs.Gaps.{gaps, rank_or_end}
+use Rattle.blaze_streams.proofs.Words.{◌≡◌, ◌++◌, shown_bare_ranges, gaps, rank_or_end}
 use Rattle.blaze_streams.proofs.complements.complement.Given as goal
 
 -- the gaps so far, and those of what is left, are all

@@ -1,5 +1,4 @@
-use Rattle.std.proofs.Common.{◌≡◌, length}
-use Rattle.blaze_table.specs.Splice.{after}
+use Rattle.blaze_streams.proofs.Words.{◌≡◌, length, after}
 use Rattle.blaze_streams.proofs.cursor.take_above.Given as goal
 
 -- the same lies above

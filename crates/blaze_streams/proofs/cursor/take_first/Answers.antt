@@ -1,4 +1,4 @@
-use Rattle.std.proofs.Common.{sym}
+use Rattle.blaze_streams.proofs.Words.{sym}
 use Rattle.blaze_streams.proofs.cursor.take_first.Goals as goal
 
 pub next-requires : goal.next-requires

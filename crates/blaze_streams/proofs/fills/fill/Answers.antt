@@ -1,8 +1,4 @@
-use Rattle.std.proofs.Common.{sym, ap, subst}
-use Rattle.std.specs.Iterator.{IsFinite}
-use Rattle.blaze_streams.specs.Carried.{shown_option}
-use Rattle.blaze_streams.specs.Fills.{IsFilledWithNone}
-use Rattle.blaze_streams.specs.Ranges.{shown_range}
+use Rattle.blaze_streams.proofs.Words.{sym, ap, subst, IsFinite, shown_option, IsFilledWithNone, shown_range}
 use Rattle.blaze_streams.proofs.Filled.{seen_more, filled_more, fill_made}
 use Rattle.blaze_streams.proofs.GapLists.{rank_of_next}
 use Rattle.blaze_streams.proofs.fills.fill.Goals as goal

@@ -1,8 +1,4 @@
-use Rattle.std.proofs.Common.{◌≡◌, ◌++◌}
-use Rattle.blaze_streams.specs.Carried.{shown_option}
-use Rattle.blaze_streams.specs.Fills.{filled_entries}
-use Rattle.blaze_streams.specs.Gaps.{rank_or_end}
-use Rattle.blaze_streams.specs.RangeLists.{shown_ranges}
+use Rattle.blaze_streams.proofs.Words.{◌≡◌, ◌++◌, shown_option, filled_entries, rank_or_end, shown_ranges}
 use Rattle.blaze_streams.proofs.fills.fill.Given as goal
 
 -- what is filled so far, and what is left, are all

@@ -1,7 +1,4 @@
-use Rattle.std.proofs.Common.{sym, ap, subst}
-use Rattle.std.specs.Iterator.{IsFinite}
-use Rattle.blaze_streams.specs.Answers.{EachValue, IsTransformed}
-use Rattle.blaze_streams.specs.Ranges.{shown_range}
+use Rattle.blaze_streams.proofs.Words.{sym, ap, subst, IsFinite, EachValue, IsTransformed, shown_range}
 use Rattle.blaze_streams.proofs.Answering.{asked, answered_none, takes_next, answered_more, answered_all, each_next}
 use Rattle.blaze_streams.proofs.transforms.answers_of.Goals as goal
 

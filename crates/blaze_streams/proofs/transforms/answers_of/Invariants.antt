@@ -1,4 +1,4 @@
-use Rattle.blaze_streams.specs.RangeLists.{shown_ranges}
+use Rattle.blaze_streams.proofs.Words.{shown_ranges}
 use Rattle.blaze_streams.proofs.Answering.{IsAnsweredSoFar}
 use Rattle.blaze_streams.proofs.transforms.answers_of.Given as goal
 

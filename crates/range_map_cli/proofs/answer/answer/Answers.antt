@@ -1,8 +1,5 @@
-use Rattle.std.proofs.Common.{◌≡◌, sym, subst, rules, string_bytes, to_z, of_z, w64}
-use Rattle.std.proofs.lemmas.Result.{on_ok_weaker}
-use Rattle.range_map_cli.specs.Commands.{asked, Paint, Fill, Insert}
-use Rattle.range_map_cli.specs.Replies.{Replies}
-use Rattle.range_map_cli.specs.States.{content_of}
+use Rattle.range_map_cli.proofs.Words.{◌≡◌, sym, subst, rules, string_bytes, to_z, of_z, w64, on_ok_weaker, asked, Replies, content_of}
+use Rattle.range_map_cli.specs.Commands.{Paint, Fill, Insert}
 use Rattle.range_map_cli.proofs.Counting.{Replies-len}
 use Rattle.range_map_cli.proofs.Listing.{Replies-entries}
 use Rattle.range_map_cli.proofs.Pieces.{Replies-at}

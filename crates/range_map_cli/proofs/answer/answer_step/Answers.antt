@@ -1,8 +1,4 @@
-use Rattle.std.proofs.Common.{◌∙◌, ◌++◌, ap, sym, subst, string_bytes, IfSome}
-use Rattle.std.proofs.lemmas.Result.{on_ok_weaker}
-use Rattle.range_map_cli.specs.Edits.{answer_text, command_done}
-use Rattle.range_map_cli.specs.Replies.{Replies}
-use Rattle.range_map_cli.specs.States.{content_of}
+use Rattle.range_map_cli.proofs.Words.{◌∙◌, ◌++◌, ap, sym, subst, string_bytes, IfSome, on_ok_weaker, answer_text, command_done, Replies, content_of}
 use Rattle.range_map_cli.proofs.Edits.{left, replied}
 use Rattle.range_map_cli.proofs.answer.answer_step.Goals as goal
 

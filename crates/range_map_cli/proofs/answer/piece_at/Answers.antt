@@ -1,9 +1,4 @@
-use Rattle.std.proofs.Common.{◌≡◌, ◌∙◌, sym, ap, subst, arith, rules, to_z, of_z, w64}
-use Rattle.std.proofs.lemmas.Int.{ints}
-use Rattle.std.specs.Range.{range_inclusive_start, range_inclusive_end}
-use Rattle.range_map_cli.specs.Pieces.{IsGreatestPiece}
-use Rattle.range_map_cli.specs.Replies.{least_key, greatest_key, word_or_dash}
-use Rattle.range_map_cli.specs.States.{content_of}
+use Rattle.range_map_cli.proofs.Words.{◌≡◌, ◌∙◌, sym, ap, subst, arith, rules, to_z, of_z, w64, ints, range_inclusive_start, range_inclusive_end, IsGreatestPiece, least_key, greatest_key, word_or_dash, content_of}
 use Rattle.range_map_cli.proofs.Pieces.{looked_up}
 use Rattle.range_map_cli.proofs.answer.piece_at.Goals as goal
 

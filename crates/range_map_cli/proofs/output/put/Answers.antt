@@ -1,5 +1,4 @@
-use Rattle.std.proofs.Common.{◌++◌}
-use Rattle.std.proofs.lemmas.Result.{err_from_is_err_and, on_ok_weaker, on_err_weaker}
+use Rattle.range_map_cli.proofs.Words.{◌++◌, err_from_is_err_and, on_ok_weaker, on_err_weaker}
 use Rattle.range_map_cli.proofs.Sessions.Forwarding.{front_none, Forwards-push, Forwards-then, Forwards-both}
 use Rattle.range_map_cli.proofs.output.put.Goals as goal
 

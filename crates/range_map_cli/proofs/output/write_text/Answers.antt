@@ -1,5 +1,4 @@
-use Rattle.std.proofs.Common.{◌++◌, take, sym, ap, ◌∙◌, append_assoc, take-append-drop}
-use Rattle.std.proofs.KnownBytes.{Appends-trans}
+use Rattle.range_map_cli.proofs.Words.{◌++◌, take, sym, ap, ◌∙◌, append_assoc, take-append-drop, Appends-trans}
 use Rattle.range_map_cli.proofs.output.write_text.Goals as goal
 
 pub loop-rest-preserved : goal.loop-rest-preserved

@@ -1,5 +1,4 @@
-use Rattle.std.proofs.Common.{length}
-use Rattle.range_map_cli.specs.Sessions.{Forwards}
+use Rattle.range_map_cli.proofs.Words.{length, Forwards}
 use Rattle.range_map_cli.proofs.output.write_text.Given as goal
 
 -- a beginning of the text is written, and the rest is left

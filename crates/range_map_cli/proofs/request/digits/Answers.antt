@@ -1,10 +1,4 @@
-use Rattle.std.proofs.Common.{◌≡◌, ◌+◌, ◌*◌, ◌<◌, ◌≤◌, true, get_or, length, sym, refl, ap, ◌∙◌, arith, rules}
-use Rattle.std.specs.List.{list_all}
-use Rattle.std.specs.Char.{is_ascii_digit, digit_value}
-use Rattle.std.specs.Str.Parse.{digits_value}
-use Rattle.std.proofs.lemmas.List.Folds.{list_all_more}
-use Rattle.std.proofs.lemmas.Int.Digits.{digits_value_more}
-use Rattle.std.proofs.lemmas.Bool.Decides.{nat_tests}
+use Rattle.range_map_cli.proofs.Words.{◌≡◌, ◌+◌, ◌*◌, ◌<◌, ◌≤◌, true, get_or, length, sym, refl, ap, ◌∙◌, arith, rules, list_all, is_ascii_digit, digit_value, digits_value, list_all_more, digits_value_more, nat_tests}
 use Rattle.range_map_cli.proofs.Sessions.Texts.{room, top, take_whole, digit_is, digit_from_test, fits_19}
 use Rattle.range_map_cli.proofs.request.digits.Goals as goal
 

@@ -1,7 +1,4 @@
-use Rattle.std.proofs.Common.{◌≡◌, ◌<◌, ◌^◌, take, true}
-use Rattle.std.specs.List.{list_all}
-use Rattle.std.specs.Char.{is_ascii_digit}
-use Rattle.std.specs.Str.Parse.{digits_value}
+use Rattle.range_map_cli.proofs.Words.{◌≡◌, ◌<◌, ◌^◌, take, true, list_all, is_ascii_digit, digits_value}
 use Rattle.range_map_cli.proofs.request.digits.Given as goal
 
 -- the bytes so far are digits, and write the value

@@ -1,6 +1,4 @@
-use Rattle.std.proofs.Common.{◌≡◌, take, true}
-use Rattle.std.specs.List.{list_all}
-use Rattle.std.specs.Char.{is_ascii_alphanumeric}
+use Rattle.range_map_cli.proofs.Words.{◌≡◌, take, true, list_all, is_ascii_alphanumeric}
 use Rattle.range_map_cli.proofs.request.is_alphanumeric.Given as goal
 
 abbrev pub invariant-loop-byte : goal.invariant-loop-byte

@@ -1,4 +1,4 @@
-use Rattle.std.proofs.Common.{◌<◌, length, sym, ◌∙◌, arith, false-eqb}
+use Rattle.range_map_cli.proofs.Words.{◌<◌, length, sym, ◌∙◌, arith, false-eqb}
 use Rattle.range_map_cli.proofs.Sessions.Words.{one_word, two_words, three_words, four_words, many_words}
 use Rattle.range_map_cli.proofs.request.read.Goals as goal
 

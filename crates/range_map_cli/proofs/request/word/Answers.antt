@@ -1,6 +1,4 @@
-use Rattle.std.proofs.Common.{◌≡◌, true, sym}
-use Rattle.std.specs.List.{list_all}
-use Rattle.std.specs.Char.{is_ascii_alphanumeric}
+use Rattle.range_map_cli.proofs.Words.{◌≡◌, true, sym, list_all, is_ascii_alphanumeric}
 use Rattle.range_map_cli.proofs.Sessions.Texts.{word_utf8}
 use Rattle.range_map_cli.proofs.request.word.Goals as goal
 

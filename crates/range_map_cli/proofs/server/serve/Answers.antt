@@ -1,6 +1,5 @@
-use Rattle.std.proofs.Common.{◌≡◌, ◌++◌, [], ap, refl, take, arith}
+use Rattle.range_map_cli.proofs.Words.{◌≡◌, ◌++◌, [], ap, refl, take, arith, Consumes-nil, Consumes-trans, Keeps-refl}
 use Rattle.std.proofs.lemmas.List.{length-take}
-use Rattle.std.proofs.KnownBytes.{Consumes-nil, Consumes-trans, Keeps-refl}
 use Rattle.range_map_cli.proofs.Sessions.Serving.{serving_start, serving_more, serving_stop, serving_done, serving_lost, serving_read, serving_good, streams_at}
 use Rattle.range_map_cli.proofs.server.serve.Goals as goal
 

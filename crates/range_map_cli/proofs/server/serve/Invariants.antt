@@ -1,6 +1,4 @@
-use Rattle.std.proofs.Common.{◌≡◌, ℕ, List, []}
-use Rattle.std.specs.Io.KnownBytes.{Consumes}
-use Rattle.range_map_cli.specs.Sessions.{IsServing}
+use Rattle.range_map_cli.proofs.Words.{◌≡◌, ℕ, List, [], Consumes, IsServing}
 use Rattle.range_map_cli.proofs.server.serve.Given as goal
 
 -- what was read is answered, and nothing waits

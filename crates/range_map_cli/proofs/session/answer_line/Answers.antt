@@ -1,7 +1,5 @@
-use Rattle.std.proofs.Common.{◌≡◌, ◌++◌, ◌+◌, ◌-◌, ◌^◌, ◌∙◌, length, arith, ap, refl, subst, sym, min, codes, decimal, Err, string_bytes}
+use Rattle.range_map_cli.proofs.Words.{◌≡◌, ◌++◌, ◌+◌, ◌-◌, ◌^◌, ◌∙◌, length, arith, ap, refl, subst, sym, min, codes, decimal, Err, string_bytes, no_memory, Prints, Forwards, with_line}
 use Rattle.range_map_cli.specs.declared.End.TheVariants as ends
-use Rattle.range_map_cli.specs.Output.{no_memory, Prints}
-use Rattle.range_map_cli.specs.Sessions.{Forwards, with_line}
 use Rattle.range_map_cli.proofs.Sessions.Lengths.{command_of-take}
 use Rattle.range_map_cli.proofs.Sessions.Progress.{next_line}
 use Rattle.range_map_cli.proofs.Sessions.Endings.{one_more, prints_no_memory, prints_bad, closes_reply, behind}

@@ -1,4 +1,4 @@
-use Rattle.std.proofs.Common.{◌++◌, [], refl}
+use Rattle.range_map_cli.proofs.Words.{◌++◌, [], refl}
 use Rattle.range_map_cli.proofs.Sessions.Forwarding.{Forwards-trans, Forwards-all}
 use Rattle.range_map_cli.proofs.Sessions.Endings.{closes_all, closes_lost}
 use Rattle.range_map_cli.proofs.session.close.Goals as goal

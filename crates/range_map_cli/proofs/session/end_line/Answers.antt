@@ -1,7 +1,4 @@
-use Rattle.std.proofs.Common.{◌≡◌, ◌++◌, [], ◌∷◌, refl, ap, sym, ◌∙◌, take}
-use Rattle.std.proofs.lemmas.Bool.{eqb-true}
-use Rattle.std.proofs.lemmas.Result.{on_ok_weaker, IfErr-weaker}
-use Rattle.range_map_cli.specs.Sessions.{with_line}
+use Rattle.range_map_cli.proofs.Words.{◌≡◌, ◌++◌, [], ◌∷◌, refl, ap, sym, ◌∙◌, take, eqb-true, on_ok_weaker, IfErr-weaker, with_line}
 use Rattle.range_map_cli.proofs.Sessions.Cuts.{empty_list}
 use Rattle.range_map_cli.proofs.Sessions.Kept.{kept_again}
 use Rattle.range_map_cli.proofs.Sessions.Progress.{next_part, without_line}

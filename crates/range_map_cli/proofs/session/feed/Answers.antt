@@ -1,6 +1,4 @@
-use Rattle.std.proofs.Common.{◌≡◌, ◌++◌, ◌∷◌, ◌∙◌, arith, refl, ap, subst, append_assoc}
-use Rattle.std.proofs.lemmas.Result.{err_from_is_err_and}
-use Rattle.range_map_cli.specs.Sessions.{IsAt}
+use Rattle.range_map_cli.proofs.Words.{◌≡◌, ◌++◌, ◌∷◌, ◌∙◌, arith, refl, ap, subst, append_assoc, err_from_is_err_and, IsAt}
 use Rattle.range_map_cli.proofs.Sessions.Cuts.{ends_in-append}
 use Rattle.range_map_cli.proofs.Sessions.Progress.{next_part}
 use Rattle.range_map_cli.proofs.session.feed.Goals as goal

@@ -1,5 +1,4 @@
-use Rattle.std.proofs.Common.{◌++◌, ℕ, List, Option, length}
-use Rattle.range_map_cli.specs.Sessions.{IsAt}
+use Rattle.range_map_cli.proofs.Words.{◌++◌, ℕ, List, Option, length, IsAt}
 use Rattle.range_map_cli.proofs.session.feed.Given as goal
 
 -- where the session was before all of the bytes, it is now before the rest

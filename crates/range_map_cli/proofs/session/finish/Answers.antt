@@ -1,7 +1,5 @@
-use Rattle.std.proofs.Common.{◌≡◌, ◌+◌, [], length, arith, refl, ap, sym, false-eqb}
-use Rattle.std.proofs.lemmas.Bool.{eqb-true}
+use Rattle.range_map_cli.proofs.Words.{◌≡◌, ◌+◌, [], length, arith, refl, ap, sym, false-eqb, eqb-true, ends_in, Lacks}
 use Rattle.range_map_cli.specs.declared.End.TheVariants as ends
-use Rattle.range_map_cli.specs.Lines.{ends_in, Lacks}
 use Rattle.range_map_cli.proofs.Sessions.Cuts.{empty_list}
 use Rattle.range_map_cli.proofs.Sessions.Progress.{last_line}
 use Rattle.range_map_cli.proofs.Sessions.Endings.{prints_done, behind}

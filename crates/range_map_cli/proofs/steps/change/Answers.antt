@@ -1,6 +1,4 @@
-use Rattle.std.proofs.Common.{rules}
-use Rattle.range_map_cli.specs.declared.step.Step.TheVariants.{Fill, KeepBelow, KeepFrom}
-use Rattle.range_map_cli.specs.declared.step.Answer.TheVariants.{Wrote}
+use Rattle.range_map_cli.proofs.Words.{rules, Fill, KeepBelow, KeepFrom, Wrote}
 use Rattle.range_map_cli.proofs.Stepping.Kinds.{combined_answer, combines}
 use Rattle.range_map_cli.proofs.Stepping.Stepped.{answered, changed_is, fill_at, stepped}
 use Rattle.range_map_cli.proofs.steps.change.Goals as goal

@@ -1,5 +1,4 @@
-use Rattle.std.proofs.lemmas.Result.{IfOk-weaker}
-use Rattle.range_map_cli.specs.declared.step.Step.TheVariants.{ComplementWith}
+use Rattle.range_map_cli.proofs.Words.{IfOk-weaker, ComplementWith}
 use Rattle.range_map_cli.proofs.Stepping.Stepped.{complement_is, stepped}
 use Rattle.range_map_cli.proofs.steps.combined.Goals as goal
 

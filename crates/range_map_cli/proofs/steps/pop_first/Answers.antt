@@ -1,4 +1,4 @@
-use Rattle.std.proofs.Common.{rules}
+use Rattle.range_map_cli.proofs.Words.{rules}
 use Rattle.range_map_cli.proofs.Stepping.Stepped.{first_pair, without_first}
 use Rattle.range_map_cli.proofs.steps.pop_first.Goals as goal
 

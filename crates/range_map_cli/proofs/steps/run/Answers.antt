@@ -1,8 +1,6 @@
-use Rattle.std.proofs.Common.{rules, ◌≡◌, ◌++◌, ◌∷◌, ◌∙◌, [], length, inl, inr, refl, sym, ap, subst, arith, append_assoc}
-use Rattle.std.proofs.lemmas.List.{length-append, nil_from_length}
-use Rattle.std.specs.Vec.Iter.{into_iter_items}
+use Rattle.range_map_cli.proofs.Words.{rules, ◌≡◌, ◌++◌, ◌∷◌, ◌∙◌, [], length, inl, inr, refl, sym, ap, subst, arith, append_assoc, nil_from_length, into_iter_items, counted_none}
+use Rattle.std.proofs.lemmas.List.{length-append}
 use Rattle.range_map_cli.proofs.Stepping.Filling.{few_filled}
-use Rattle.blaze_table.proofs.Walks.Worked.{counted_none}
 use Rattle.range_map_cli.proofs.Stepping.Running.{IsRunning, all_done, counted_run, refused_at, refused_counted, running_more, running_none}
 use Rattle.range_map_cli.proofs.steps.run.Goals as goal
 

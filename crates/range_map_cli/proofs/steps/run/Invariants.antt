@@ -1,7 +1,4 @@
-use Rattle.std.proofs.Common.{◌≡◌, ◌≤◌, ◌++◌, List, length}
-use Rattle.std.specs.Vec.{vec_capacity, vec_len}
-use Rattle.std.specs.Vec.Iter.{into_iter_items}
-use Rattle.range_map_cli.specs.declared.step.Step.{Step}
+use Rattle.range_map_cli.proofs.Words.{◌≡◌, ◌≤◌, ◌++◌, List, length, vec_capacity, vec_len, into_iter_items, Step}
 use Rattle.range_map_cli.proofs.Stepping.Running.{IsRunning}
 use Rattle.range_map_cli.proofs.steps.run.Given as goal
 

@@ -1,6 +1,4 @@
-use Rattle.std.proofs.Common.{rules}
-use Rattle.range_map_cli.specs.declared.step.Step.TheVariants.{Paint, Insert, Remove, PopFirst, PopLast}
-use Rattle.range_map_cli.specs.declared.step.Answer.TheVariants.{Wrote, Old, Popped}
+use Rattle.range_map_cli.proofs.Words.{rules, Paint, Insert, Remove, PopFirst, PopLast, Wrote, Old, Popped}
 use Rattle.range_map_cli.proofs.Stepping.Kinds.{no_edit}
 use Rattle.range_map_cli.proofs.Stepping.Stepped.{answered, changed_is, cut_alone, cut_counted, paint_at, same_back, stepped}
 use Rattle.range_map_cli.proofs.steps.take_step.Goals as goal

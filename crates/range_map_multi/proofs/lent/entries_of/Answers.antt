@@ -1,4 +1,4 @@
-use Rattle.std.proofs.Common.{◌∙◌, ap}
+use Rattle.range_map_multi.proofs.Words.{◌∙◌, ap}
 use Rattle.range_map_multi.proofs.lent.entries_of.Goals as goal
 
 pub returns : goal.returns

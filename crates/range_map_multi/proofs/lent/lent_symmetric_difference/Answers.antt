@@ -1,10 +1,4 @@
-use Rattle.std.proofs.Common.{◌≡◌, ◌∙◌, subst}
-use Rattle.std.proofs.lemmas.List.{map-id}
-use Rattle.std.proofs.lemmas.Result.{IfOk-weaker}
-use Rattle.std.specs.Option.{is_some}
-use Rattle.blaze_table.specs.Entries.{SameOption}
-use Rattle.range_map_multi.specs.Many.{last_value, has_odd, last_of_odd}
-use Rattle.range_map_multi.specs.Merges.{GivesEach}
+use Rattle.range_map_multi.proofs.Words.{◌≡◌, ◌∙◌, subst, map-id, IfOk-weaker, is_some, SameOption, last_value, has_odd, last_of_odd, GivesEach}
 use Rattle.range_map_multi.proofs.Many.{difference_of, many_as}
 use Rattle.range_map_multi.proofs.lent.lent_symmetric_difference.Goals as goal
 

@@ -1,4 +1,4 @@
-use Rattle.std.proofs.Common.{◌≡◌, ◌++◌, drop, map}
+use Rattle.range_map_multi.proofs.Words.{◌≡◌, ◌++◌, drop, map}
 use Rattle.range_map_multi.proofs.lent.streams_of.Given as goal
 
 -- the streams made, and those of the maps that are left, are all

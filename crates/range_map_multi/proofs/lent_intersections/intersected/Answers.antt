@@ -1,9 +1,4 @@
-use Rattle.std.proofs.Common.{◌∙◌, subst}
-use Rattle.std.proofs.lemmas.List.{map-id}
-use Rattle.std.proofs.lemmas.Result.{IfOk-weaker}
-use Rattle.blaze_table.specs.Entries.{SameOption}
-use Rattle.range_map_multi.specs.Many.{last_of_all}
-use Rattle.range_map_multi.specs.Merges.{GivesEach}
+use Rattle.range_map_multi.proofs.Words.{◌∙◌, subst, map-id, IfOk-weaker, SameOption, last_of_all, GivesEach}
 use Rattle.range_map_multi.proofs.Many.{many_as}
 use Rattle.range_map_multi.proofs.lent_intersections.intersected.Goals as goal
 

@@ -1,7 +1,4 @@
-use Rattle.std.proofs.Common.{◌∙◌, ◌+◌, length, map, take, refl, arith}
-use Rattle.std.specs.List.{between}
-use Rattle.std.proofs.lemmas.Slice.{between_to_end}
-use Rattle.std.proofs.lemmas.Result.{IfOk-weaker}
+use Rattle.range_map_multi.proofs.Words.{◌∙◌, ◌+◌, length, map, take, refl, arith, between, between_to_end, IfOk-weaker}
 use Rattle.range_map_multi.proofs.Around.{parted, intersection_around}
 use Rattle.range_map_multi.proofs.lent_intersections.intersected_from.Goals as goal
 

@@ -1,10 +1,4 @@
-use Rattle.std.proofs.Common.{◌∙◌, ◌+◌, ◌∷◌, map, drop, sym, ap, subst, arith}
-use Rattle.std.proofs.lemmas.List.{drop_all}
-use Rattle.blaze_entries.proofs.Alike.{same_itself}
-use Rattle.blaze_table.specs.Entries.{at, SameOption}
-use Rattle.blaze_table.proofs.Pairs.Indexed.{from_index}
-use Rattle.blaze_streams.specs.Segments.{row}
-use Rattle.range_map_multi.specs.Merges.{with_all}
+use Rattle.range_map_multi.proofs.Words.{◌∙◌, ◌+◌, ◌∷◌, map, drop, sym, ap, subst, arith, drop_all, same_itself, at, SameOption, from_index, row, with_all}
 use Rattle.range_map_multi.proofs.Around.{on_more}
 use Rattle.range_map_multi.proofs.lent_intersections.on_all.Goals as goal
 

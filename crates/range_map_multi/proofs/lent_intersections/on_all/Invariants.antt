@@ -1,7 +1,4 @@
-use Rattle.std.proofs.Common.{ℤ, drop, map}
-use Rattle.blaze_table.specs.Entries.{at, SameOption}
-use Rattle.blaze_streams.specs.Segments.{row}
-use Rattle.range_map_multi.specs.Merges.{with_all}
+use Rattle.range_map_multi.proofs.Words.{ℤ, drop, map, at, SameOption, row, with_all}
 use Rattle.range_map_multi.proofs.lent_intersections.on_all.Given as goal
 
 -- the list on the keys that the maps that are left have is what is wanted

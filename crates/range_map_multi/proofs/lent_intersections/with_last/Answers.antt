@@ -1,7 +1,4 @@
-use Rattle.std.proofs.Common.{◌+◌, [], map, take, refl, ap, sym, arith}
-use Rattle.std.proofs.lemmas.List.{nil_from_length, drop_all}
-use Rattle.std.proofs.lemmas.Result.{IfOk-weaker}
-use Rattle.range_map_multi.specs.Many.{last_of_all}
+use Rattle.range_map_multi.proofs.Words.{◌+◌, [], map, take, refl, ap, sym, arith, nil_from_length, drop_all, IfOk-weaker, last_of_all}
 use Rattle.range_map_multi.proofs.Many.{many_as}
 use Rattle.range_map_multi.proofs.Around.{parted, last_alone, last_on}
 use Rattle.range_map_multi.proofs.lent_intersections.with_last.Goals as goal

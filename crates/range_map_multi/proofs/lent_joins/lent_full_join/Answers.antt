@@ -1,12 +1,4 @@
-use Rattle.std.proofs.Common.{◌∙◌, List, map, Bor, sym, ap, subst}
-use Rattle.std.specs.Global.{Vec}
-use Rattle.std.specs.Option.{is_some}
-use Rattle.std.specs.List.{list_any}
-use Rattle.std.proofs.lemmas.List.{map-id}
-use Rattle.std.proofs.lemmas.Result.{IfOk-weaker}
-use Rattle.range_map_blaze.proofs.Made.{made_of}
-use Rattle.range_map_multi.specs.ManyJoins.{shown_row, IsCallableAtRows, IsManyJoined}
-use Rattle.range_map_multi.specs.Parts.{AllRangeMaps}
+use Rattle.range_map_multi.proofs.Words.{◌∙◌, List, map, Bor, sym, ap, subst, Vec, is_some, list_any, map-id, IfOk-weaker, made_of, shown_row, IsCallableAtRows, IsManyJoined, AllRangeMaps}
 use Rattle.range_map_multi.proofs.Placed.{given_lists, given_placed}
 use Rattle.range_map_multi.proofs.lent_joins.lent_full_join.Goals as goal
 

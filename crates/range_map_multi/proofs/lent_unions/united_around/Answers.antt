@@ -1,7 +1,4 @@
-use Rattle.std.proofs.Common.{◌∙◌, ◌+◌, length, map, take, refl, ap, arith}
-use Rattle.std.specs.List.{between}
-use Rattle.std.proofs.lemmas.Slice.{between_to_end}
-use Rattle.std.proofs.lemmas.Result.{IfOk-weaker}
+use Rattle.range_map_multi.proofs.Words.{◌∙◌, ◌+◌, length, map, take, refl, ap, arith, between, between_to_end, IfOk-weaker}
 use Rattle.range_map_multi.proofs.Around.{parted, union_around}
 use Rattle.range_map_multi.proofs.lent_unions.united_around.Goals as goal
 

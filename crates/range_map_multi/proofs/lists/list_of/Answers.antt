@@ -1,8 +1,4 @@
-use Rattle.std.proofs.Common.{◌∙◌, sym, subst}
-use Rattle.std.specs.Iterator.{IsFinite}
-use Rattle.blaze_table.specs.Canonical.{IsRangeMap}
-use Rattle.blaze_streams.specs.Ranges.{shown_range}
-use Rattle.range_map_blaze.proofs.Taken.{taken_more, taken_all}
+use Rattle.range_map_multi.proofs.Words.{◌∙◌, sym, subst, IsFinite, IsRangeMap, shown_range, taken_more, taken_all}
 use Rattle.range_map_multi.proofs.lists.list_of.Goals as goal
 
 pub loop-item-init-derived : goal.loop-item-init-derived

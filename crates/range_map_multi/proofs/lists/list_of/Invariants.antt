@@ -1,5 +1,4 @@
-use Rattle.std.proofs.Common.{◌≡◌, ◌++◌}
-use Rattle.blaze_streams.specs.RangeLists.{shown_ranges}
+use Rattle.range_map_multi.proofs.Words.{◌≡◌, ◌++◌, shown_ranges}
 use Rattle.range_map_multi.proofs.lists.list_of.Given as goal
 
 -- what was taken, and what is left, are all

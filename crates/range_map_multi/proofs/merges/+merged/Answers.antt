@@ -1,6 +1,4 @@
-use Rattle.std.proofs.Common.{◌<◌, length, map, arith}
-use Rattle.std.proofs.lemmas.List.{length-map}
-use Rattle.std.proofs.lemmas.Result.{IfOk-weaker}
+use Rattle.range_map_multi.proofs.Words.{◌<◌, length, map, arith, length-map, IfOk-weaker}
 use Rattle.range_map_multi.proofs.Many.{halves, both_given}
 use Rattle.range_map_multi.proofs.merges.+merged.Goals as goal
 

@@ -1,4 +1,4 @@
-use Rattle.std.proofs.Common.{length}
+use Rattle.range_map_multi.proofs.Words.{length}
 use Rattle.range_map_multi.proofs.merges.+merged.Given as goal
 
 abbrev pub decreases-merged : goal.decreases-merged

@@ -1,7 +1,4 @@
-use Rattle.std.proofs.Common.{◌≡◌, ◌∙◌, ◌++◌, [], ◌∷◌, List, map, refl, ap, sym, arith}
-use Rattle.std.proofs.lemmas.List.{nil_from_length}
-use Rattle.std.proofs.lemmas.Result.{IfOk-weaker}
-use Rattle.range_map_multi.specs.Merges.{GivesEach}
+use Rattle.range_map_multi.proofs.Words.{◌≡◌, ◌∙◌, ◌++◌, [], ◌∷◌, List, map, refl, ap, sym, arith, nil_from_length, IfOk-weaker, GivesEach}
 use Rattle.range_map_multi.proofs.Many.{both_given}
 use Rattle.range_map_multi.proofs.merges.merged_few.Goals as goal
 

@@ -1,5 +1,4 @@
-use Rattle.std.proofs.Common.{◌∙◌}
-use Rattle.std.proofs.lemmas.Result.{IfOk-weaker}
+use Rattle.range_map_multi.proofs.Words.{◌∙◌, IfOk-weaker}
 use Rattle.range_map_multi.proofs.Around.{parted_at, union_around}
 use Rattle.range_map_multi.proofs.owned_unions.united_into.Goals as goal
 

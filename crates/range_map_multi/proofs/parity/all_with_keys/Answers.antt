@@ -1,8 +1,4 @@
-use Rattle.std.proofs.Common.{◌≡◌, ◌∙◌, [], ◌∷◌, map, sym, ap, rules}
-use Rattle.std.proofs.lemmas.List.{nil_from_length}
-use Rattle.std.specs.Vec.Iter.{into_iter_items}
-use Rattle.range_map_multi.specs.Parts.{in_places}
-use Rattle.range_map_blaze.proofs.Taken.{taken_all}
+use Rattle.range_map_multi.proofs.Words.{◌≡◌, ◌∙◌, [], ◌∷◌, map, sym, ap, rules, nil_from_length, into_iter_items, in_places, taken_all}
 use Rattle.range_map_multi.proofs.Many.{made_more}
 use Rattle.range_map_multi.proofs.parity.all_with_keys.Goals as goal
 

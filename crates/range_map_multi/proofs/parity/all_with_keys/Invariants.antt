@@ -1,6 +1,4 @@
-use Rattle.std.proofs.Common.{◌≡◌, ◌++◌, map}
-use Rattle.std.specs.Vec.Iter.{into_iter_items}
-use Rattle.range_map_multi.specs.Parts.{in_places}
+use Rattle.range_map_multi.proofs.Words.{◌≡◌, ◌++◌, map, into_iter_items, in_places}
 use Rattle.range_map_multi.proofs.parity.all_with_keys.Given as goal
 
 -- the lists made, and those of the streams that are left, are all; of the ranges too

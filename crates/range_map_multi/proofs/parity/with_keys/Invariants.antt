@@ -1,6 +1,4 @@
-use Rattle.std.proofs.Common.{◌≡◌, ◌++◌, length}
-use Rattle.blaze_streams.specs.RangeLists.{shown_ranges}
-use Rattle.range_map_multi.specs.Parts.{in_places}
+use Rattle.range_map_multi.proofs.Words.{◌≡◌, ◌++◌, length, shown_ranges, in_places}
 use Rattle.range_map_multi.proofs.parity.with_keys.Given as goal
 
 -- what was taken, and what is left, are all; of the ranges too

@@ -1,6 +1,4 @@
-use Rattle.std.proofs.Common.{◌≡◌, ◌∙◌, [], ◌∷◌, map, sym, ap, subst, rules}
-use Rattle.std.proofs.lemmas.List.{map-append, nil_from_length}
-use Rattle.std.specs.Vec.Iter.{into_iter_items}
+use Rattle.range_map_multi.proofs.Words.{◌≡◌, ◌∙◌, [], ◌∷◌, map, sym, ap, subst, rules, map-append, nil_from_length, into_iter_items}
 use Rattle.range_map_multi.proofs.Placed.{AreTakenApart, apart_none, apart_more, apart_all}
 use Rattle.range_map_multi.proofs.parts.all_parts_of.Goals as goal
 

@@ -1,5 +1,4 @@
-use Rattle.std.proofs.Common.{map}
-use Rattle.std.specs.Vec.Iter.{into_iter_items}
+use Rattle.range_map_multi.proofs.Words.{map, into_iter_items}
 use Rattle.range_map_multi.proofs.Placed.{AreTakenApart}
 use Rattle.range_map_multi.proofs.parts.all_parts_of.Given as goal
 

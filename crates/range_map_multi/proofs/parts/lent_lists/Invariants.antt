@@ -1,4 +1,4 @@
-use Rattle.std.proofs.Common.{◌≡◌, ◌++◌, drop, map}
+use Rattle.range_map_multi.proofs.Words.{◌≡◌, ◌++◌, drop, map}
 use Rattle.range_map_multi.proofs.parts.lent_lists.Given as goal
 
 abbrev pub invariant-loop-list : goal.invariant-loop-list

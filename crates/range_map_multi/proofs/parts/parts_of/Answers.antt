@@ -1,11 +1,4 @@
-use Rattle.std.proofs.Common.{◌≡◌, ◌∙◌, ◌+◌, length, nat_eq, refl, sym, ap, subst, arith}
-use Rattle.std.specs.Iterator.{IsFinite}
-use Rattle.std.proofs.lemmas.List.{length_push}
-use Rattle.blaze_table.specs.Canonical.{IsRangeMap}
-use Rattle.blaze_streams.specs.Answers.{values}
-use Rattle.blaze_streams.specs.Ranges.{shown_range}
-use Rattle.range_map_multi.specs.Parts.{in_places}
-use Rattle.range_map_blaze.proofs.Taken.{taken_more, taken_all}
+use Rattle.range_map_multi.proofs.Words.{◌≡◌, ◌∙◌, ◌+◌, length, nat_eq, refl, sym, ap, subst, arith, IsFinite, length_push, IsRangeMap, values, shown_range, in_places, taken_more, taken_all}
 use Rattle.range_map_multi.proofs.Placed.{place_more, placed_all, range_map_places}
 use Rattle.range_map_multi.proofs.parts.parts_of.Goals as goal
 

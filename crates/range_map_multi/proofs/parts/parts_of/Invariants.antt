@@ -1,7 +1,4 @@
-use Rattle.std.proofs.Common.{◌≡◌, ◌++◌, length, map}
-use Rattle.blaze_streams.specs.Answers.{values}
-use Rattle.blaze_streams.specs.RangeLists.{shown_ranges}
-use Rattle.range_map_multi.specs.Parts.{in_places}
+use Rattle.range_map_multi.proofs.Words.{◌≡◌, ◌++◌, length, map, values, shown_ranges, in_places}
 use Rattle.range_map_multi.proofs.parts.parts_of.Given as goal
 
 -- what was taken, and what is left, are all; of the carriers too

@@ -1,10 +1,4 @@
-use Rattle.std.proofs.Common.{◌∙◌, length, map, ap, arith}
-use Rattle.std.specs.Option.{is_some}
-use Rattle.std.specs.List.{list_any}
-use Rattle.std.proofs.lemmas.List.{length-map}
-use Rattle.blaze_streams.specs.Segments.{shown_segment}
-use Rattle.range_map_multi.specs.ManyJoins.{shown_row}
-use Rattle.range_map_multi.specs.Parts.{picked}
+use Rattle.range_map_multi.proofs.Words.{◌∙◌, length, map, ap, arith, is_some, list_any, length-map, shown_segment, shown_row, picked}
 use Rattle.range_map_multi.proofs.AnsweredRows.{asked_none, asked_all, asked_count, asked_some, asked_less, asked_takes, asked_more}
 use Rattle.range_map_multi.proofs.Pickings.{picked_shown}
 use Rattle.range_map_multi.proofs.row_answers.full_answers.Goals as goal

@@ -1,10 +1,4 @@
-use Rattle.std.proofs.Common.{map}
-use Rattle.std.specs.Option.{is_some}
-use Rattle.std.specs.List.{list_any}
-use Rattle.blaze_streams.specs.RangeLists.{shown_ranges}
-use Rattle.blaze_streams.proofs.LengthsLeft.{all_lengths_left}
-use Rattle.range_map_multi.specs.ManyJoins.{shown_row}
-use Rattle.range_map_multi.specs.Parts.{all_valued}
+use Rattle.range_map_multi.proofs.Words.{map, is_some, list_any, shown_ranges, all_lengths_left, shown_row, all_valued}
 use Rattle.range_map_multi.proofs.AnsweredRows.{IsAskedSoFar}
 use Rattle.range_map_multi.proofs.row_answers.full_answers.Given as goal
 

@@ -1,8 +1,4 @@
-use Rattle.std.proofs.Common.{◌∙◌, map, sym, ap, subst, IfOk}
-use Rattle.std.specs.Option.{is_some}
-use Rattle.std.specs.List.{list_all}
-use Rattle.range_map_multi.specs.ManyJoins.{shown_full_row, IsCallableAtRows, IsManyJoined}
-use Rattle.range_map_multi.specs.Parts.{all_valued}
+use Rattle.range_map_multi.proofs.Words.{◌∙◌, map, sym, ap, subst, IfOk, is_some, list_all, shown_full_row, IsCallableAtRows, IsManyJoined, all_valued}
 use Rattle.range_map_multi.proofs.Pickings.{none_from_empty, valued_none}
 use Rattle.range_map_multi.proofs.row_answers.inner_answers.Goals as goal
 

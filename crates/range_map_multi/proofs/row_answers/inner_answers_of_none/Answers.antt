@@ -1,11 +1,4 @@
-use Rattle.std.proofs.Common.{◌∙◌, ◌≤ℤ◌, [], ◌∷◌, refl, ap, arith}
-use Rattle.std.specs.Option.{is_some}
-use Rattle.std.specs.List.{list_all}
-use Rattle.std.proofs.lemmas.Int.{ints}
-use Rattle.blaze_table.specs.Entries.{entry}
-use Rattle.blaze_table.specs.Splice.{glue}
-use Rattle.blaze_streams.specs.RangeLists.{shown_ranges}
-use Rattle.range_map_multi.specs.ManyJoins.{shown_full_row}
+use Rattle.range_map_multi.proofs.Words.{◌∙◌, ◌≤ℤ◌, [], ◌∷◌, refl, ap, arith, is_some, list_all, ints, entry, glue, shown_ranges, shown_full_row}
 use Rattle.range_map_multi.proofs.AnsweredRows.{none_takes, none_joined}
 use Rattle.range_map_multi.proofs.row_answers.inner_answers_of_none.Goals as goal
 

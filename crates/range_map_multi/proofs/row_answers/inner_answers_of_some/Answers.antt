@@ -1,10 +1,4 @@
-use Rattle.std.proofs.Common.{◌∙◌, length, map, ap, arith}
-use Rattle.std.specs.Option.{is_some}
-use Rattle.std.specs.List.{list_all}
-use Rattle.std.proofs.lemmas.List.{length-map}
-use Rattle.blaze_streams.specs.Segments.{shown_segment}
-use Rattle.range_map_multi.specs.ManyJoins.{shown_full_row}
-use Rattle.range_map_multi.specs.Parts.{picked}
+use Rattle.range_map_multi.proofs.Words.{◌∙◌, length, map, ap, arith, is_some, list_all, length-map, shown_segment, shown_full_row, picked}
 use Rattle.range_map_multi.proofs.AnsweredRows.{asked_none, asked_all, asked_count, asked_less, asked_takes, asked_more, asked_not}
 use Rattle.range_map_multi.proofs.Pickings.{picked_full, asked_full, asked_not_full, full_has_some, row_of_some}
 use Rattle.range_map_multi.proofs.row_answers.inner_answers_of_some.Goals as goal

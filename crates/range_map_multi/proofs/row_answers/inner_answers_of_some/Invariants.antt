@@ -1,10 +1,4 @@
-use Rattle.std.proofs.Common.{map}
-use Rattle.std.specs.Option.{is_some}
-use Rattle.std.specs.List.{list_all}
-use Rattle.blaze_streams.specs.RangeLists.{shown_ranges}
-use Rattle.blaze_streams.proofs.LengthsLeft.{all_lengths_left}
-use Rattle.range_map_multi.specs.ManyJoins.{shown_full_row}
-use Rattle.range_map_multi.specs.Parts.{all_valued}
+use Rattle.range_map_multi.proofs.Words.{map, is_some, list_all, shown_ranges, all_lengths_left, shown_full_row, all_valued}
 use Rattle.range_map_multi.proofs.AnsweredRows.{IsAskedSoFar}
 use Rattle.range_map_multi.proofs.row_answers.inner_answers_of_some.Given as goal
 

@@ -1,4 +1,4 @@
-use Rattle.std.proofs.Common.{◌≡◌, ◌++◌, drop, map, Some}
+use Rattle.range_map_multi.proofs.Words.{◌≡◌, ◌++◌, drop, map, Some}
 use Rattle.range_map_multi.proofs.rows.fill_full_row.Given as goal
 
 -- what was found, and what is left, are all

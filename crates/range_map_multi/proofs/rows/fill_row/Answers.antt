@@ -1,7 +1,4 @@
-use Rattle.std.proofs.Common.{◌∙◌, drop, map, ap, arith}
-use Rattle.std.proofs.lemmas.List.{drop_all}
-use Rattle.range_map_multi.specs.Parts.{picked}
-use Rattle.range_map_blaze.proofs.Taken.{taken_all}
+use Rattle.range_map_multi.proofs.Words.{◌∙◌, drop, map, ap, arith, drop_all, picked, taken_all}
 use Rattle.range_map_multi.proofs.Pickings.{picked_none}
 use Rattle.range_map_multi.proofs.rows.fill_row.Goals as goal
 

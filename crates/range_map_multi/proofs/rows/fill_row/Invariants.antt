@@ -1,5 +1,4 @@
-use Rattle.std.proofs.Common.{◌≡◌, ◌++◌, drop, map}
-use Rattle.range_map_multi.specs.Parts.{picked}
+use Rattle.range_map_multi.proofs.Words.{◌≡◌, ◌++◌, drop, map, picked}
 use Rattle.range_map_multi.proofs.rows.fill_row.Given as goal
 
 -- what was picked, and what is to be picked, are all

@@ -1,4 +1,4 @@
-use Rattle.std.proofs.Common.{◌<◌, length}
+use Rattle.range_map_multi.proofs.Words.{◌<◌, length}
 use Rattle.range_map_multi.proofs.sizes.place_of_smallest.Given as goal
 
 -- the place is one of the list

@@ -1,6 +1,4 @@
-use Rattle.std.proofs.Common.{[], ◌∷◌, ◌∙◌, ap, map}
-use Rattle.std.proofs.lemmas.List.{map-append}
-use Rattle.std.specs.Prelude.{unwrap_or}
+use Rattle.blaze_iters.proofs.Words.{[], ◌∷◌, ◌∙◌, ap, map, map-append, unwrap_or}
 use Rattle.blaze_iters.proofs.Steps.{takes_last, opened_last}
 use Rattle.blaze_iters.proofs.into_iter_map.IntoIterMap.next_back_key.Goals as goal
 

@@ -1,5 +1,4 @@
-use Rattle.std.proofs.Common.{[], ap, map}
-use Rattle.std.specs.Prelude.{unwrap_or}
+use Rattle.blaze_iters.proofs.Words.{[], ap, map, unwrap_or}
 use Rattle.blaze_iters.proofs.Steps.{takes_first, opened_first}
 use Rattle.blaze_iters.proofs.into_iter_map.IntoIterMap.next_key.Goals as goal
 

@@ -1,6 +1,4 @@
-use Rattle.std.proofs.Common.{◌≡◌, [], length, ap}
-use Rattle.std.specs.Prelude.{unwrap_or}
-use Rattle.blaze_iters.specs.Left.{shown_left}
+use Rattle.blaze_iters.proofs.Words.{◌≡◌, [], length, ap, unwrap_or, shown_left}
 use Rattle.blaze_iters.proofs.Steps.{whole_within}
 use Rattle.blaze_iters.proofs.into_iter_map.IntoIterMap.whole_len.Goals as goal
 

@@ -1,6 +1,4 @@
-use Rattle.std.proofs.Common.{[], None, Some, refl, ◌<ℤ◌, arith}
-use Rattle.std.specs.Prelude.{unwrap_or}
-use Rattle.std.proofs.lemmas.Int.{ints}
+use Rattle.blaze_iters.proofs.Words.{[], None, Some, refl, ◌<ℤ◌, arith, unwrap_or, ints}
 use Rattle.blaze_iters.proofs.Steps.{takes_last, several_last, some_of_last, goes_last, goes_refused, opened_last}
 use Rattle.blaze_iters.proofs.into_iter_map.IntoIterMapDoubleEndedIterator.next_back.Goals as goal
 

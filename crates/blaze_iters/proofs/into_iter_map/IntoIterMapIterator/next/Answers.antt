@@ -1,6 +1,4 @@
-use Rattle.std.proofs.Common.{[], None, Some, refl, ◌<ℤ◌, arith}
-use Rattle.std.specs.Prelude.{unwrap_or}
-use Rattle.std.proofs.lemmas.Int.{ints}
+use Rattle.blaze_iters.proofs.Words.{[], None, Some, refl, ◌<ℤ◌, arith, unwrap_or, ints}
 use Rattle.blaze_iters.proofs.Steps.{takes_first, several_first, some_of_first, goes_first, goes_refused, opened_first}
 use Rattle.blaze_iters.proofs.into_iter_map.IntoIterMapIterator.next.Goals as goal
 

@@ -1,4 +1,4 @@
-use Rattle.std.proofs.Common.{ap, map}
+use Rattle.blaze_iters.proofs.Words.{ap, map}
 use Rattle.blaze_iters.proofs.into_values.IntoValues.new.Goals as goal
 
 pub returns-clause-values : goal.returns-clause-values

@@ -1,5 +1,4 @@
-use Rattle.std.proofs.Common.{arith}
-use Rattle.blaze_iters.specs.Left.{shown_left}
+use Rattle.blaze_iters.proofs.Words.{arith, shown_left}
 use Rattle.blaze_iters.proofs.Steps.{whole_within}
 use Rattle.blaze_iters.proofs.iter_map.IterMapIterator.size_hint.Goals as goal
 

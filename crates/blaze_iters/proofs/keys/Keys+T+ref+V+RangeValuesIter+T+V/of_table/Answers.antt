@@ -1,4 +1,4 @@
-use Rattle.std.proofs.Common.{ap, map}
+use Rattle.blaze_iters.proofs.Words.{ap, map}
 use Rattle.blaze_iters.proofs.keys.Keys+T+ref+V+RangeValuesIter+T+V.of_table.Goals as goal
 
 pub returns-clause-keys : goal.returns-clause-keys

@@ -1,5 +1,4 @@
-use Rattle.std.proofs.Common.{ap, map, ◌∙◌}
-use Rattle.std.proofs.lemmas.List.{map-append}
+use Rattle.blaze_iters.proofs.Words.{ap, map, ◌∙◌, map-append}
 use Rattle.blaze_iters.proofs.Steps.{goes_last}
 use Rattle.blaze_iters.proofs.keys.KeysDoubleEndedIterator.next_back.Goals as goal
 

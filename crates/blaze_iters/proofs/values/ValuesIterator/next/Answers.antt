@@ -1,4 +1,4 @@
-use Rattle.std.proofs.Common.{ap, map}
+use Rattle.blaze_iters.proofs.Words.{ap, map}
 use Rattle.blaze_iters.proofs.Steps.{goes_first}
 use Rattle.blaze_iters.proofs.values.ValuesIterator.next.Goals as goal
 

@@ -1,5 +1,4 @@
-use Rattle.std.proofs.Common.{◌∙◌, Some, sym, ap}
-use Rattle.blaze_streams.specs.Carried.{shown_option}
+use Rattle.blaze_streams.proofs.Words.{◌∙◌, Some, sym, ap, shown_option}
 use Rattle.blaze_streams.proofs.asks.BothAsksTuple2OptionOption.ask.Goals as goal
 
 pub returns : goal.returns

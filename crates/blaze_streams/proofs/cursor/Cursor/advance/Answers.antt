@@ -1,7 +1,4 @@
-use Rattle.std.proofs.Common.{◌∙◌, sym, ap, subst}
-use Rattle.blaze_table.specs.Canonical.{IsCanonical}
-use Rattle.blaze_table.proofs.Paints.Splices.{canonical_after}
-use Rattle.blaze_streams.specs.Choosing.{ahead_of}
+use Rattle.blaze_streams.proofs.Words.{◌∙◌, sym, ap, subst, IsCanonical, canonical_after, ahead_of}
 use Rattle.blaze_streams.proofs.cursor.Cursor.advance.Goals as goal
 
 pub invariant_of-self-2 : goal.invariant_of-self-2

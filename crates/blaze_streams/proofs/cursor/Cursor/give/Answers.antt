@@ -1,8 +1,4 @@
-use Rattle.std.proofs.Common.{rules, ◌∙◌, None, sym, ap, subst}
-use Rattle.blaze_table.specs.Entries.{at, SameOption}
-use Rattle.blaze_table.specs.Canonical.{IsCanonical}
-use Rattle.blaze_streams.specs.Carried.{AreOptions, IsItOrCarried}
-use Rattle.blaze_streams.specs.Choosing.{ahead_of}
+use Rattle.blaze_streams.proofs.Words.{rules, ◌∙◌, None, sym, ap, subst, at, SameOption, IsCanonical, AreOptions, IsItOrCarried, ahead_of}
 use Rattle.blaze_streams.proofs.Steady.{at_first}
 use Rattle.blaze_streams.proofs.cursor.Cursor.give.Goals as goal
 

@@ -1,8 +1,4 @@
-use Rattle.std.proofs.Common.{◌∙◌, sym, ap, subst, arith, ◌<ℤ◌}
-use Rattle.std.proofs.lemmas.Int.{ints}
-use Rattle.blaze_table.specs.Entries.{at}
-use Rattle.blaze_table.specs.Canonical.{IsCanonical}
-use Rattle.blaze_streams.specs.Choosing.{ahead_of}
+use Rattle.blaze_streams.proofs.Words.{◌∙◌, sym, ap, subst, arith, ◌<ℤ◌, ints, at, IsCanonical, ahead_of}
 use Rattle.blaze_streams.proofs.Steady.{at_first}
 use Rattle.blaze_streams.proofs.cursor.Cursor.here.Goals as goal
 

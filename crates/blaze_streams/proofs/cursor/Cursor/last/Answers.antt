@@ -1,4 +1,4 @@
-use Rattle.std.proofs.Common.{rules}
+use Rattle.blaze_streams.proofs.Words.{rules}
 use Rattle.blaze_streams.proofs.cursor.Cursor.last.Goals as goal
 
 pub returns-then-is_at_most : goal.returns-then-is_at_most

@@ -1,4 +1,4 @@
-use Rattle.blaze_table.proofs.Canonical.Runs.{canonical}
+use Rattle.blaze_streams.proofs.Words.{canonical}
 use Rattle.blaze_streams.proofs.cursor.Cursor.new.Goals as goal
 
 pub invariant_of-result : goal.invariant_of-result

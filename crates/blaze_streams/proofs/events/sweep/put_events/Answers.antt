@@ -1,5 +1,4 @@
-use Rattle.std.proofs.Common.{subst, sym}
-use Rattle.std.specs.Iterator.{IsFinite}
+use Rattle.blaze_streams.proofs.Words.{subst, sym, IsFinite}
 use Rattle.blaze_streams.proofs.Sweeps.{put_more}
 use Rattle.blaze_streams.proofs.events.sweep.put_events.Goals as goal
 

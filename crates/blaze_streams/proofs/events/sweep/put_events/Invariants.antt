@@ -1,5 +1,4 @@
-use Rattle.std.proofs.Common.{◌≡◌, ◌++◌}
-use Rattle.blaze_streams.specs.Sweeps.{events_of, shown_events}
+use Rattle.blaze_streams.proofs.Words.{◌≡◌, ◌++◌, events_of, shown_events}
 use Rattle.blaze_streams.proofs.events.sweep.put_events.Given as goal
 
 -- the events put, and those of what is left, are all

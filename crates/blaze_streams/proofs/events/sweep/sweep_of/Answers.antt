@@ -1,8 +1,4 @@
-use Rattle.std.proofs.Common.{◌≡◌, ◌++◌, [], ◌∷◌, sym, ap, ◌∙◌, length, map, arith, rules}
-use Rattle.std.proofs.lemmas.List.{nil_from_length}
-use Rattle.std.proofs.lemmas.List.Sorted.{answers_always}
-use Rattle.std.specs.Vec.Iter.{into_iter_items}
-use Rattle.blaze_streams.specs.Sweeps.{all_events, shown_events, instant}
+use Rattle.blaze_streams.proofs.Words.{◌≡◌, ◌++◌, [], ◌∷◌, sym, ap, ◌∙◌, length, map, arith, rules, nil_from_length, answers_always, into_iter_items, all_events, shown_events, instant}
 use Rattle.blaze_streams.proofs.Sweeps.{all_more, keys_more, swept}
 use Rattle.blaze_streams.proofs.events.sweep.sweep_of.Goals as goal
 

@@ -1,6 +1,4 @@
-use Rattle.std.proofs.Common.{◌≡◌, ◌+◌, ◌++◌, length, map, All}
-use Rattle.std.specs.Vec.Iter.{into_iter_items}
-use Rattle.blaze_streams.specs.Sweeps.{all_events, shown_events}
+use Rattle.blaze_streams.proofs.Words.{◌≡◌, ◌+◌, ◌++◌, length, map, All, into_iter_items, all_events, shown_events}
 use Rattle.blaze_streams.proofs.Sweeps.{HasKey}
 use Rattle.blaze_streams.proofs.events.sweep.sweep_of.Given as goal
 

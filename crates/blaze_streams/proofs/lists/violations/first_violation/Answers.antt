@@ -1,6 +1,4 @@
-use Rattle.std.proofs.Common.{sym, ◌∙◌, ap}
-use Rattle.std.specs.Prelude.{map}
-use Rattle.std.proofs.lemmas.List.{length-map}
+use Rattle.blaze_streams.proofs.Words.{sym, ◌∙◌, ap, map, length-map}
 use Rattle.blaze_streams.proofs.FirstViolation.{found, ended}
 use Rattle.blaze_streams.proofs.lists.violations.first_violation.Goals as goal
 

@@ -1,7 +1,4 @@
-use Rattle.std.proofs.Common.{◌≡◌, ◌+◌, length, None}
-use Rattle.std.specs.Prelude.{map, option_map}
-use Rattle.std.specs.Option.{option_copied}
-use Rattle.blaze_table.specs.Canonical.{AreKeys}
+use Rattle.blaze_streams.proofs.Words.{◌≡◌, ◌+◌, length, None, map, option_map, option_copied, AreKeys}
 use Rattle.blaze_streams.proofs.FirstViolation.{first_violation_after}
 use Rattle.blaze_streams.proofs.lists.violations.first_violation.Given as goal
 

@@ -1,4 +1,4 @@
-use Rattle.std.proofs.Common.{rules}
+use Rattle.blaze_streams.proofs.Words.{rules}
 use Rattle.blaze_streams.proofs.lists.violations.is_violation.Goals as goal
 
 pub returns-then-is_next-clause-law : goal.returns-then-is_next-clause-law

@@ -1,4 +1,4 @@
-use Rattle.std.proofs.lemmas.Option.{MatchOption-at_none, MatchOption-at_some}
+use Rattle.blaze_streams.proofs.Words.{MatchOption-at_none, MatchOption-at_some}
 use Rattle.blaze_streams.proofs.ChosenSoFar.{chosen_none, chosen_more, chosen_all}
 use Rattle.blaze_streams.proofs.Fewer.{step_less}
 use Rattle.blaze_streams.proofs.merge.chosen.put_chosen.Goals as goal

@@ -1,4 +1,4 @@
-use Rattle.std.proofs.Common.{◌+◌}
+use Rattle.blaze_streams.proofs.Words.{◌+◌}
 use Rattle.blaze_streams.proofs.ChosenSoFar.{IsChosenSoFar}
 use Rattle.blaze_streams.proofs.LengthsLeft.{lengths_left}
 use Rattle.blaze_streams.proofs.merge.chosen.put_chosen.Given as goal

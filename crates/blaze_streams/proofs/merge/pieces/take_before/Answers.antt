@@ -1,6 +1,4 @@
-use Rattle.std.proofs.Common.{◌∙◌, sym, ap}
-use Rattle.std.specs.Option.{option_map}
-use Rattle.blaze_int.proofs.Comparisons.{le_fails}
+use Rattle.blaze_streams.proofs.Words.{◌∙◌, sym, ap, option_map, le_fails}
 use Rattle.blaze_streams.proofs.Taken.{end_bounded, end_whole, has_end, taken_alone}
 use Rattle.blaze_streams.proofs.merge.pieces.take_before.Goals.{in-None, in-Some-bound+else-is_at_most}
 use Rattle.blaze_streams.proofs.merge.pieces.take_before.Goals as goal

@@ -1,9 +1,5 @@
-use Rattle.std.specs.Option.{option_map}
-use Rattle.std.proofs.Common.{Some, refl, ◌∙◌, sym, ap, inl, inr}
-use Rattle.blaze_int.proofs.Comparisons.{lt_fails, lt_holds}
-use Rattle.blaze_entries.specs.Found.{shown_ends}
+use Rattle.blaze_streams.proofs.Words.{option_map, Some, refl, ◌∙◌, sym, ap, inl, inr, lt_fails, lt_holds, shown_ends, left_with_right}
 use Rattle.blaze_streams.proofs.Shared.{left_gone, left_has, none_with, nothing_shared, right_gone, right_reaches, shared_taken}
-use Rattle.blaze_table.specs.Chosen.{left_with_right}
 use Rattle.blaze_streams.proofs.merge.pieces.take_both.Goals.{in_default-via-in-Some+in_default, in_default-via-in_default}
 use Rattle.blaze_streams.proofs.merge.pieces.take_both.Goals as goal
 

@@ -1,11 +1,4 @@
-use Rattle.std.proofs.Common.{◌-◌, arith, slice_set, sym, ap, ◌∙◌, ◌+ℤ◌, pos, refl}
-use Rattle.std.proofs.lemmas.List.{set-get_or}
-use Rattle.std.specs.Ordering.{int_eq}
-use Rattle.std.specs.Vec.{vec_len, vec_items}
-use Rattle.std.proofs.lemmas.Bool.{and_left, and_right}
-use Rattle.blaze_table.proofs.Neighbours.Glued.{and_both}
-use Rattle.blaze_table.specs.Entries.{entry, shown_entry}
-use Rattle.blaze_table.proofs.Sweeping.Pushed.{has_last, pushed_joined, pushed_apart}
+use Rattle.blaze_streams.proofs.Words.{◌-◌, arith, slice_set, sym, ap, ◌∙◌, ◌+ℤ◌, pos, refl, set-get_or, int_eq, vec_len, vec_items, and_left, and_right, and_both, entry, shown_entry, has_last, pushed_joined, pushed_apart}
 use Rattle.blaze_streams.proofs.merge.push.lengthen_entry.Goals as goal
 use Rattle.blaze_streams.proofs.merge.push.lengthen_entry.Goals.{then-not-is_next-via-then-not-is_next, then-not-is_next-via-else-not-is_next+then-not-has_value}
 

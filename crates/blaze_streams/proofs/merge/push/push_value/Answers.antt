@@ -1,6 +1,4 @@
-use Rattle.std.proofs.Common.{◌≡◌, ◌∷◌, ◌++◌, [], Some, ap, sym, ◌∙◌}
-use Rattle.std.proofs.lemmas.List.{map-append}
-use Rattle.blaze_table.specs.Entries.{entry, shown_entry, shown_list}
+use Rattle.blaze_streams.proofs.Words.{◌≡◌, ◌∷◌, ◌++◌, [], Some, ap, sym, ◌∙◌, map-append, entry, shown_entry, shown_list}
 use Rattle.blaze_streams.proofs.merge.push.push_value.Goals as goal
 
 pub returns-in_ok-push-clause-ok : goal.returns-in_ok-push-clause-ok

@@ -1,4 +1,4 @@
-use Rattle.std.proofs.Common.{length}
+use Rattle.blaze_streams.proofs.Words.{length}
 use Rattle.blaze_streams.proofs.segmenting.cursors.+segment_end.Given as goal
 
 abbrev pub decreases-segment_end : goal.decreases-segment_end

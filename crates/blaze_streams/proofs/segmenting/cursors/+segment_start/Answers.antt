@@ -1,6 +1,4 @@
-use Rattle.std.proofs.Common.{◌∙◌, ap, nat_eq, subst, sym}
-use Rattle.std.specs.Option.{option_map}
-use Rattle.blaze_streams.specs.Cursors.{AllCanonical, first_key, first_keys, lesser}
+use Rattle.blaze_streams.proofs.Words.{◌∙◌, ap, nat_eq, subst, sym, option_map, AllCanonical, first_key, first_keys, lesser}
 use Rattle.blaze_streams.proofs.segmenting.cursors.+segment_start.Goals as goal
 
 pub returns-in-Some-clause-first : goal.returns-in-Some-clause-first

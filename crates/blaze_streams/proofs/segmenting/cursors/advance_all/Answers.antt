@@ -1,4 +1,4 @@
-use Rattle.std.proofs.Common.{arith}
+use Rattle.blaze_streams.proofs.Words.{arith}
 use Rattle.blaze_streams.proofs.Advanced.{partly_none, partly_more, partly_all}
 use Rattle.blaze_streams.proofs.segmenting.cursors.advance_all.Goals as goal
 

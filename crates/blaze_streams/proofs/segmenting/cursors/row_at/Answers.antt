@@ -1,8 +1,4 @@
-use Rattle.std.proofs.Common.{◌≡◌, ◌∙◌, ◌++◌, ◌+◌, [], ◌∷◌, ap, drop, refl, sym, subst, append_assoc}
-use Rattle.blaze_table.specs.Entries.{at}
-use Rattle.blaze_table.proofs.Pairs.Indexed.{from_index}
-use Rattle.blaze_streams.specs.Cursors.{AllReach}
-use Rattle.blaze_streams.specs.Segments.{row}
+use Rattle.blaze_streams.proofs.Words.{◌≡◌, ◌∙◌, ◌++◌, ◌+◌, [], ◌∷◌, ap, drop, refl, sym, subst, append_assoc, at, from_index, AllReach, row}
 use Rattle.blaze_streams.proofs.Rows.{shown_copied}
 use Rattle.blaze_streams.proofs.segmenting.cursors.row_at.Goals as goal
 

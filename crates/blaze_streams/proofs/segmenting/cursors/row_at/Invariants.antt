@@ -1,6 +1,4 @@
-use Rattle.std.proofs.Common.{◌≡◌, ◌++◌, drop}
-use Rattle.blaze_streams.specs.Segments.{row}
-use Rattle.blaze_streams.specs.Cursors.{AllReach}
+use Rattle.blaze_streams.proofs.Words.{◌≡◌, ◌++◌, drop, row, AllReach}
 use Rattle.blaze_streams.proofs.segmenting.cursors.row_at.Given as goal
 
 abbrev pub invariant-loop-list : goal.invariant-loop-list

@@ -1,6 +1,4 @@
-use Rattle.std.proofs.Common.{◌∙◌, ap}
-use Rattle.std.specs.Option.{option_map}
-use Rattle.blaze_streams.specs.Cursors.{first_key, lesser}
+use Rattle.blaze_streams.proofs.Words.{◌∙◌, ap, option_map, first_key, lesser}
 use Rattle.blaze_streams.proofs.segmenting.joins.first_of.Goals as goal
 
 pub returns-clause-first : goal.returns-clause-first

@@ -1,4 +1,4 @@
-use Rattle.std.proofs.Common.{◌∙◌}
+use Rattle.blaze_streams.proofs.Words.{◌∙◌}
 use Rattle.blaze_streams.proofs.CarriedJoins.{joined_as_shown}
 use Rattle.blaze_streams.proofs.segmenting.joins.is_asked.Goals as goal
 

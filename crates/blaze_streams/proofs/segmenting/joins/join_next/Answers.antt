@@ -1,10 +1,4 @@
-use Rattle.std.proofs.Common.{◌∙◌, ◌++◌, ◌∷◌, [], Option, Some, sym, ap}
-use Rattle.std.proofs.lemmas.List.{map-append}
-use Rattle.blaze_table.specs.Entries.{at, entry}
-use Rattle.blaze_streams.specs.Carried.{shown_option, shown_pair}
-use Rattle.blaze_streams.specs.Joins.{is_joined}
-use Rattle.blaze_streams.specs.Ranges.{shown_range}
-use Rattle.blaze_streams.specs.RangeLists.{shown_ranges}
+use Rattle.blaze_streams.proofs.Words.{◌∙◌, ◌++◌, ◌∷◌, [], Option, Some, sym, ap, map-append, at, entry, shown_option, shown_pair, is_joined, shown_range, shown_ranges}
 use Rattle.blaze_streams.proofs.CarriedJoins.{given_there}
 use Rattle.blaze_streams.proofs.Paired.{in_order, not_asked, skipped}
 use Rattle.blaze_streams.proofs.segmenting.joins.join_next.Goals as goal

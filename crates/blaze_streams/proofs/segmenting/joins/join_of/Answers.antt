@@ -1,6 +1,4 @@
-use Rattle.std.proofs.Common.{sym}
-use Rattle.blaze_streams.specs.Carried.{shown_pair}
-use Rattle.blaze_streams.specs.RangeLists.{shown_ranges}
+use Rattle.blaze_streams.proofs.Words.{sym, shown_pair, shown_ranges}
 use Rattle.blaze_streams.proofs.CarriedJoins.{carried_none, carried_more, carried_all, carried_range_map}
 use Rattle.blaze_streams.proofs.Paired.{paired_less}
 use Rattle.blaze_streams.proofs.segmenting.joins.join_of.Goals as goal

@@ -1,6 +1,4 @@
-use Rattle.std.proofs.Common.{◌+◌}
-use Rattle.blaze_streams.specs.Carried.{shown_pair}
-use Rattle.blaze_streams.specs.RangeLists.{shown_ranges}
+use Rattle.blaze_streams.proofs.Words.{◌+◌, shown_pair, shown_ranges}
 use Rattle.blaze_streams.proofs.CarriedJoins.{IsCarriedSoFar}
 use Rattle.blaze_streams.proofs.LengthsLeft.{lengths_left}
 use Rattle.blaze_streams.proofs.segmenting.joins.join_of.Given as goal

@@ -1,6 +1,4 @@
-use Rattle.blaze_int.proofs.Options.{is_none}
-use Rattle.std.proofs.Common.{◌∙◌, sym}
-use Rattle.blaze_table.specs.Entries.{at}
+use Rattle.blaze_streams.proofs.Words.{is_none, ◌∙◌, sym, at}
 use Rattle.blaze_streams.proofs.LetGo.{left_let_go, right_let_go, right_none}
 use Rattle.blaze_streams.proofs.segmenting.joins.skip.Goals as goal
 

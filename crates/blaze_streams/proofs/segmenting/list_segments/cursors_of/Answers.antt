@@ -1,7 +1,4 @@
-use Rattle.std.proofs.Common.{◌≡◌, ◌∙◌, ◌++◌, ◌+◌, [], ◌∷◌, nat_eq, ap, drop, refl, sym, subst, append_assoc}
-use Rattle.blaze_table.proofs.Pairs.Indexed.{from_index}
-use Rattle.blaze_streams.specs.Cursors.{AllCanonical}
-use Rattle.blaze_streams.specs.Segments.{all_numbered, numbered}
+use Rattle.blaze_streams.proofs.Words.{◌≡◌, ◌∙◌, ◌++◌, ◌+◌, [], ◌∷◌, nat_eq, ap, drop, refl, sym, subst, append_assoc, from_index, AllCanonical, all_numbered, numbered}
 use Rattle.blaze_streams.proofs.segmenting.list_segments.cursors_of.Goals as goal
 
 pub loop-list-init : goal.loop-list-init

@@ -1,6 +1,4 @@
-use Rattle.std.proofs.Common.{◌≡◌, ◌++◌, drop, nat_eq}
-use Rattle.blaze_streams.specs.Segments.{all_numbered}
-use Rattle.blaze_streams.specs.Cursors.{AllCanonical}
+use Rattle.blaze_streams.proofs.Words.{◌≡◌, ◌++◌, drop, nat_eq, all_numbered, AllCanonical}
 use Rattle.blaze_streams.proofs.segmenting.list_segments.cursors_of.Given as goal
 
 abbrev pub invariant-loop-list : goal.invariant-loop-list

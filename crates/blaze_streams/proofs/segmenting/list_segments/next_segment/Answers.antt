@@ -1,4 +1,4 @@
-use Rattle.std.proofs.Common.{nat_eq, sym}
+use Rattle.blaze_streams.proofs.Words.{nat_eq, sym}
 use Rattle.blaze_streams.proofs.Lesser.{at_most_itself}
 use Rattle.blaze_streams.proofs.Rows.{from_firsts, reach_from, steady_none}
 use Rattle.blaze_streams.proofs.segmenting.list_segments.next_segment.Goals as goal

@@ -1,13 +1,4 @@
-use Rattle.std.proofs.Common.{◌≡◌, ◌∙◌, ◌++◌, ap, nat_eq, sym, subst}
-use Rattle.std.proofs.lemmas.List.{append-nil, drop_all}
-use Rattle.std.specs.Cmp.{nat_eq_equiv}
-use Rattle.blaze_table.specs.Canonical.{IsCanonical}
-use Rattle.blaze_table.specs.Entries.{entry}
-use Rattle.blaze_table.proofs.Pairs.Indexed.{from_index}
-use Rattle.blaze_table.proofs.Canonical.Runs.{one_per_run}
-use Rattle.blaze_streams.specs.RangeLists.{shown_ranges}
-use Rattle.blaze_streams.specs.Ranges.{shown_range}
-use Rattle.blaze_streams.specs.Segments.{numbered}
+use Rattle.blaze_streams.proofs.Words.{◌≡◌, ◌∙◌, ◌++◌, ap, nat_eq, sym, subst, append-nil, drop_all, nat_eq_equiv, IsCanonical, entry, from_index, one_per_run, shown_ranges, shown_range, numbered}
 use Rattle.blaze_streams.proofs.Numbered.{placed_more, keys_more}
 use Rattle.blaze_streams.proofs.segmenting.list_segments.places_of.Goals as goal
 

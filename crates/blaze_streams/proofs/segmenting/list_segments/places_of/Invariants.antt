@@ -1,7 +1,4 @@
-use Rattle.std.proofs.Common.{◌≡◌, ◌++◌, drop}
-use Rattle.blaze_table.specs.Canonical.{AreKeys}
-use Rattle.blaze_streams.specs.RangeLists.{shown_ranges}
-use Rattle.blaze_streams.specs.Segments.{numbered}
+use Rattle.blaze_streams.proofs.Words.{◌≡◌, ◌++◌, drop, AreKeys, shown_ranges, numbered}
 use Rattle.blaze_streams.proofs.segmenting.list_segments.places_of.Given as goal
 
 abbrev pub invariant-loop-i : goal.invariant-loop-i

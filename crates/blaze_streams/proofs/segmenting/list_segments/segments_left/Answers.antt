@@ -1,6 +1,4 @@
-use Rattle.std.proofs.Common.{nat_eq}
-use Rattle.std.specs.Cmp.{nat_eq_equiv}
-use Rattle.blaze_streams.specs.Segments.{shown_segment, shown_segments}
+use Rattle.blaze_streams.proofs.Words.{nat_eq, nat_eq_equiv, shown_segment, shown_segments}
 use Rattle.blaze_streams.proofs.FoundSegments.{entries_more, found_none, found_more, found_all, next_less}
 use Rattle.blaze_streams.proofs.segmenting.list_segments.segments_left.Goals as goal
 

@@ -1,5 +1,4 @@
-use Rattle.std.proofs.Common.{nat_eq}
-use Rattle.blaze_streams.specs.Segments.{shown_segments}
+use Rattle.blaze_streams.proofs.Words.{nat_eq, shown_segments}
 use Rattle.blaze_streams.proofs.LengthsLeft.{all_lengths_left}
 use Rattle.blaze_streams.proofs.FoundSegments.{IsFound}
 use Rattle.blaze_streams.proofs.segmenting.list_segments.segments_left.Given as goal

@@ -1,5 +1,5 @@
-use Rattle.std.proofs.Common.{append-nil, append_assoc, sym, ◌∙◌}
-use Rattle.std.proofs.lemmas.List.{map-append}
+use Rattle.blaze_streams.proofs.Words.{append_assoc, sym, ◌∙◌, map-append}
+use Rattle.std.proofs.Common.{append-nil}
 use Rattle.blaze_streams.proofs.tables.into_range_values.shared_entries.Goals as goal
 
 pub loop-entry-preserved : goal.loop-entry-preserved

@@ -1,6 +1,4 @@
-use Rattle.std.proofs.Common.{◌≡◌, ◌++◌, map}
-use Rattle.std.specs.Rc.{rc_value}
-use Rattle.blaze_table.specs.Entries.{shown_entry}
+use Rattle.blaze_streams.proofs.Words.{◌≡◌, ◌++◌, map, rc_value, shown_entry}
 use Rattle.blaze_streams.proofs.tables.into_range_values.shared_entries.Given as goal
 
 -- the entries made, and those that are left, are all

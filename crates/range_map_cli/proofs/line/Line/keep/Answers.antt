@@ -1,6 +1,5 @@
-use Rattle.std.proofs.Common.{◌≡◌, ◌+◌, ◌++◌, length, take, sym, ap, ◌∙◌, arith, length-take}
+use Rattle.range_map_cli.proofs.Words.{◌≡◌, ◌+◌, ◌++◌, length, take, sym, ap, ◌∙◌, arith, length-take, take-put_mid}
 use Rattle.std.proofs.lemmas.List.{append-nil}
-use Rattle.std.proofs.lemmas.Slice.{take-put_mid}
 use Rattle.range_map_cli.proofs.Sessions.Kept.{keep_room}
 use Rattle.range_map_cli.proofs.line.Line.keep.Goals as goal
 

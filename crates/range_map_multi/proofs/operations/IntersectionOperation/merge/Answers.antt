@@ -1,4 +1,4 @@
-use Rattle.std.proofs.lemmas.Result.{IfOk-weaker}
+use Rattle.range_map_multi.proofs.Words.{IfOk-weaker}
 use Rattle.range_map_multi.proofs.Many.{intersection_given}
 use Rattle.range_map_multi.proofs.operations.IntersectionOperation.merge.Goals as goal
 

@@ -1,4 +1,4 @@
-use Rattle.std.proofs.lemmas.Result.{IfOk-weaker}
+use Rattle.range_map_multi.proofs.Words.{IfOk-weaker}
 use Rattle.range_map_multi.proofs.Many.{union_given}
 use Rattle.range_map_multi.proofs.operations.UnionOperation.merge.Goals as goal
 

@@ -1,9 +1,4 @@
-use Rattle.std.proofs.Common.{◌∙◌, List, map, Bor, IfOk, sym, ap, subst}
-use Rattle.std.specs.Global.{Vec}
-use Rattle.std.specs.Option.{is_some}
-use Rattle.std.specs.List.{list_all}
-use Rattle.range_map_multi.specs.ManyJoins.{shown_full_row, IsCallableAtRows, IsManyJoined}
-use Rattle.range_map_multi.specs.Parts.{AllRangeMaps}
+use Rattle.range_map_multi.proofs.Words.{◌∙◌, List, map, Bor, IfOk, sym, ap, subst, Vec, is_some, list_all, shown_full_row, IsCallableAtRows, IsManyJoined, AllRangeMaps}
 use Rattle.range_map_multi.proofs.Placed.{given_lists, given_placed, lent_shown}
 use Rattle.range_map_multi.proofs.streams.VecMultiwaySortedDisjointMap.inner_join.Goals as goal
 

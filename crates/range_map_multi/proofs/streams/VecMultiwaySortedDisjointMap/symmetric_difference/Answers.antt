@@ -1,9 +1,4 @@
-use Rattle.std.proofs.Common.{◌≡◌, ◌∙◌, ℤ, ap, map, is_some, subst}
-use Rattle.std.proofs.lemmas.List.{map-id}
-use Rattle.blaze_table.specs.Entries.{at, SameOption}
-use Rattle.blaze_streams.specs.Segments.{row}
-use Rattle.range_map_multi.specs.Many.{last_value, has_odd}
-use Rattle.range_map_multi.specs.Merges.{GivesEach}
+use Rattle.range_map_multi.proofs.Words.{◌≡◌, ◌∙◌, ℤ, ap, map, is_some, subst, map-id, at, SameOption, row, last_value, has_odd, GivesEach}
 use Rattle.range_map_multi.proofs.Placed.{odd_in_places}
 use Rattle.range_map_multi.proofs.Many.{difference_of}
 use Rattle.range_map_multi.proofs.streams.VecMultiwaySortedDisjointMap.symmetric_difference.Goals as goal

@@ -1,8 +1,4 @@
-use Rattle.std.proofs.Common.{Some, ap, map, sym, ◌∙◌}
-use Rattle.blaze_entries.proofs.Steps.{goes_first}
-use Rattle.blaze_table.specs.RangeSets.{shown_bare_range, unit_eq}
-use Rattle.blaze_table.proofs.Canonical.Parts.{IsRangeMap-rest}
-use Rattle.blaze_table.proofs.Pairs.UnitLaws.{unit_laws}
+use Rattle.blaze_streams.proofs.Words.{Some, ap, map, sym, ◌∙◌, goes_first, shown_bare_range, unit_eq, IsRangeMap-rest, unit_laws}
 use Rattle.blaze_streams.proofs.lists.canon.CanonIterIterator.next.Goals as goal
 
 pub invariant_of-self-2 : goal.invariant_of-self-2

@@ -1,7 +1,4 @@
-use Rattle.std.proofs.Common.{Some, ap, map, sym, ◌∙◌}
-use Rattle.blaze_entries.proofs.Steps.{goes_first}
-use Rattle.blaze_streams.specs.Ranges.{shown_range}
-use Rattle.blaze_table.proofs.Canonical.Parts.{IsRangeMap-rest}
+use Rattle.blaze_streams.proofs.Words.{Some, ap, map, sym, ◌∙◌, goes_first, shown_range, IsRangeMap-rest}
 use Rattle.blaze_streams.proofs.lists.canon_map.CanonMapIterIterator.next.Goals as goal
 
 pub invariant_of-self-2 : goal.invariant_of-self-2

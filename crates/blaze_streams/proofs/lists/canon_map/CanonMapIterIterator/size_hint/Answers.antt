@@ -1,5 +1,4 @@
-use Rattle.std.proofs.Common.{◌∙◌, ℕ, Option, Some, ap, arith, length, sym}
-use Rattle.std.proofs.lemmas.List.{length-map}
+use Rattle.blaze_streams.proofs.Words.{◌∙◌, ℕ, Option, Some, ap, arith, length, sym, length-map}
 use Rattle.blaze_streams.proofs.lists.canon_map.CanonMapIterIterator.size_hint.Goals as goal
 
 pub returns-clause-exact : goal.returns-clause-exact

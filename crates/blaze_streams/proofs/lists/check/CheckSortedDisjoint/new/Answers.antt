@@ -1,6 +1,5 @@
-use Rattle.blaze_table.specs.RangeSets.{unit_eq}
+use Rattle.blaze_streams.proofs.Words.{unit_eq, unit_laws}
 use Rattle.blaze_streams.proofs.FirstViolation.{broken}
-use Rattle.blaze_table.proofs.Pairs.UnitLaws.{unit_laws}
 use Rattle.blaze_streams.proofs.lists.check.CheckSortedDisjoint.new.Goals as goal
 
 pub returns-in-Some-clause-accepted : goal.returns-in-Some-clause-accepted

@@ -1,10 +1,4 @@
-use Rattle.std.proofs.Common.{◌≡◌, ◌∙◌, ap, subst}
-use Rattle.std.specs.Option.{option_map, option_xor}
-use Rattle.std.proofs.lemmas.Option.{MatchOption-at_none, MatchOption-at_some}
-use Rattle.blaze_entries.specs.Found.{range_in}
-use Rattle.blaze_entries.specs.Starts.{first_entry}
-use Rattle.blaze_table.specs.Splice.{after}
-use Rattle.blaze_streams.specs.Cursors.{first_key, lesser}
+use Rattle.blaze_streams.proofs.Words.{◌≡◌, ◌∙◌, ap, subst, option_map, option_xor, MatchOption-at_none, MatchOption-at_some, range_in, first_entry, after, first_key, lesser}
 use Rattle.blaze_streams.proofs.Taken.{at_most_min, both_skipped, left_taken, none_xor, reaches_end, right_taken, xor_none}
 use Rattle.blaze_streams.proofs.merge.choice.ExactlyOneChoice.take.Goals as goal
 

@@ -1,12 +1,4 @@
-use Rattle.std.proofs.Common.{arith, None, refl, ◌∙◌, ap, sym}
-use Rattle.std.specs.Option.{option_map}
-use Rattle.std.proofs.lemmas.Int.{ints}
-use Rattle.std.proofs.lemmas.Option.{MatchOption-at_none, MatchOption-at_some}
-use Rattle.blaze_int.proofs.Comparisons.{lt_holds}
-use Rattle.blaze_entries.specs.Found.{range_in, shown_ends}
-use Rattle.blaze_entries.specs.Starts.{first_entry}
-use Rattle.blaze_table.specs.Chosen.{left_alone}
-use Rattle.blaze_table.specs.Splice.{after}
+use Rattle.blaze_streams.proofs.Words.{arith, None, refl, ◌∙◌, ap, sym, option_map, ints, MatchOption-at_none, MatchOption-at_some, lt_holds, range_in, shown_ends, first_entry, left_alone, after}
 use Rattle.blaze_streams.proofs.Shared.{right_gone}
 use Rattle.blaze_streams.proofs.Taken.{left_taken, none_alone, nothing_alone, nothing_left, reaches_end, right_first_taken}
 use Rattle.blaze_streams.proofs.merge.choice.LeftAloneChoice.take.Goals.{in_default-2-via-in-Some+in_default, in_default-2-via-in_default}

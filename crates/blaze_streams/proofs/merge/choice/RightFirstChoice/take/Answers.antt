@@ -1,8 +1,4 @@
-use Rattle.std.proofs.Common.{Some, refl, ◌∙◌, ap}
-use Rattle.std.proofs.lemmas.Option.{MatchOption-at_none, MatchOption-at_some}
-use Rattle.blaze_entries.proofs.Alike.{same_along}
-use Rattle.blaze_table.specs.Chosen.{right_first}
-use Rattle.blaze_table.specs.Splice.{after}
+use Rattle.blaze_streams.proofs.Words.{Some, refl, ◌∙◌, ap, MatchOption-at_none, MatchOption-at_some, same_along, right_first, after}
 use Rattle.blaze_streams.proofs.Taken.{left_taken, right_first_taken}
 use Rattle.blaze_streams.proofs.merge.choice.RightFirstChoice.take.Goals as goal
 

@@ -1,4 +1,4 @@
-use Rattle.std.specs.Prelude.{Some}
+use Rattle.blaze_streams.proofs.Words.{Some}
 use Rattle.blaze_streams.proofs.merge.piece_list.VecTuple2RangeInclusivePieceList.put.Goals as goal
 
 pub returns : goal.returns

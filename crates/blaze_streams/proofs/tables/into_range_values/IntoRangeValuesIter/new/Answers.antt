@@ -1,7 +1,4 @@
-use Rattle.std.proofs.Common.{ap, map, subst, sym, ◌∙◌}
-use Rattle.std.specs.Rc.{rc_value}
-use Rattle.blaze_table.specs.Canonical.{IsRangeMap}
-use Rattle.blaze_table.specs.Entries.{shown_entry}
+use Rattle.blaze_streams.proofs.Words.{ap, map, subst, sym, ◌∙◌, rc_value, IsRangeMap, shown_entry}
 use Rattle.blaze_streams.proofs.tables.into_range_values.IntoRangeValuesIter.new.Goals as goal
 
 pub returns : goal.returns

@@ -1,11 +1,4 @@
-use Rattle.std.proofs.Common.{Some, ap, map, subst, sym, ◌∙◌}
-use Rattle.std.proofs.lemmas.List.{map-append}
-use Rattle.std.specs.Rc.{rc_value}
-use Rattle.blaze_entries.proofs.Steps.{goes_last}
-use Rattle.blaze_streams.specs.Ranges.{shown_range}
-use Rattle.blaze_table.specs.Canonical.{IsRangeMap}
-use Rattle.blaze_table.specs.Entries.{shown_entry}
-use Rattle.blaze_table.proofs.Canonical.Parts.{IsRangeMap-front}
+use Rattle.blaze_streams.proofs.Words.{Some, ap, map, subst, sym, ◌∙◌, map-append, rc_value, goes_last, shown_range, IsRangeMap, shown_entry, IsRangeMap-front}
 use Rattle.blaze_streams.proofs.tables.into_range_values.IntoRangeValuesIterDoubleEndedIterator.next_back.Goals as goal
 
 pub invariant_of-self-2 : goal.invariant_of-self-2

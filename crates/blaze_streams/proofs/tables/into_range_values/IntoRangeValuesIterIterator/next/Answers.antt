@@ -1,9 +1,4 @@
-use Rattle.std.proofs.Common.{Some, ap, map, sym, ◌∙◌}
-use Rattle.std.specs.Rc.{rc_value}
-use Rattle.blaze_entries.proofs.Steps.{goes_first}
-use Rattle.blaze_streams.specs.Ranges.{shown_range}
-use Rattle.blaze_table.specs.Entries.{shown_entry}
-use Rattle.blaze_table.proofs.Canonical.Parts.{IsRangeMap-rest}
+use Rattle.blaze_streams.proofs.Words.{Some, ap, map, sym, ◌∙◌, rc_value, goes_first, shown_range, shown_entry, IsRangeMap-rest}
 use Rattle.blaze_streams.proofs.tables.into_range_values.IntoRangeValuesIterIterator.next.Goals as goal
 
 pub invariant_of-self-2 : goal.invariant_of-self-2

@@ -1,6 +1,4 @@
-use Rattle.std.proofs.Common.{sym, subst}
-use Rattle.blaze_table.specs.RangeSets.{IsRangeSet}
-use Rattle.blaze_streams.specs.KeyRanges.{AreKeyRanges}
+use Rattle.blaze_streams.proofs.Words.{sym, subst, IsRangeSet, AreKeyRanges}
 use Rattle.blaze_streams.proofs.Joined.{left_of}
 use Rattle.blaze_streams.proofs.JoinedBack.{joined_none}
 use Rattle.blaze_streams.proofs.tables.key_ranges.KeyRanges.of_entries.Goals as goal

@@ -1,8 +1,4 @@
-use Rattle.std.proofs.Common.{Some, sym, subst, ◌∙◌}
-use Rattle.blaze_entries.proofs.Steps.{goes_last}
-use Rattle.blaze_table.specs.RangeSets.{unit_eq, IsRangeSet, shown_bare_range}
-use Rattle.blaze_table.proofs.Canonical.Parts.{IsRangeMap-front}
-use Rattle.blaze_table.proofs.Pairs.UnitLaws.{unit_laws}
+use Rattle.blaze_streams.proofs.Words.{Some, sym, subst, ◌∙◌, goes_last, unit_eq, IsRangeSet, shown_bare_range, IsRangeMap-front, unit_laws}
 use Rattle.blaze_streams.proofs.JoinedBack.{back_joined, back_apart, back_alone}
 use Rattle.blaze_streams.proofs.tables.key_ranges.KeyRangesDoubleEndedIterator.next_back.Goals as goal
 

@@ -1,6 +1,4 @@
-use Rattle.std.proofs.Common.{◌≡◌, ◌∷◌, ◌++◌, [], Some, None, length}
-use Rattle.blaze_table.specs.Entries.{entry}
-use Rattle.blaze_streams.specs.KeyRanges.{joined_ranges, bare_entries}
+use Rattle.blaze_streams.proofs.Words.{◌≡◌, ◌∷◌, ◌++◌, [], Some, None, length, entry, joined_ranges, bare_entries}
 use Rattle.blaze_streams.proofs.tables.key_ranges.KeyRangesDoubleEndedIterator.next_back.Given as goal
 
 -- the entries that are left end with a range from `start` up to `end`

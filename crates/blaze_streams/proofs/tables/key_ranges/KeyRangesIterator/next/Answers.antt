@@ -1,4 +1,4 @@
-use Rattle.std.proofs.Common.{sym, ◌∙◌}
+use Rattle.blaze_streams.proofs.Words.{sym, ◌∙◌}
 use Rattle.blaze_streams.proofs.Joined.{after_gap}
 use Rattle.blaze_streams.proofs.tables.key_ranges.KeyRangesIterator.next.Goals as goal
 

@@ -1,5 +1,4 @@
-use Rattle.std.proofs.Common.{◌≡◌, None, length}
-use Rattle.blaze_streams.specs.KeyRanges.{joined_ranges, ranges_then}
+use Rattle.blaze_streams.proofs.Words.{◌≡◌, None, length, joined_ranges, ranges_then}
 use Rattle.blaze_streams.proofs.tables.key_ranges.KeyRangesIterator.next.Given as goal
 
 abbrev pub invariant-loop-next_start : goal.invariant-loop-next_start

@@ -1,5 +1,4 @@
-use Rattle.std.proofs.Common.{◌≤◌, length, None, ap, subst}
-use Rattle.blaze_streams.specs.KeyRanges.{ranges_then}
+use Rattle.blaze_streams.proofs.Words.{◌≤◌, length, None, ap, subst, ranges_then}
 use Rattle.blaze_streams.proofs.Joined.{some_left, one_of}
 use Rattle.blaze_streams.proofs.tables.key_ranges.KeyRangesIterator.size_hint.Goals as goal
 

@@ -1,4 +1,4 @@
-use Rattle.blaze_table.proofs.Canonical.Parts.{IsRangeMap-rest}
+use Rattle.blaze_streams.proofs.Words.{IsRangeMap-rest}
 use Rattle.blaze_streams.proofs.tables.owned_range_values.OwnedRangeValuesIterIterator.next.Goals as goal
 
 pub invariant_of-self-2 : goal.invariant_of-self-2

@@ -1,4 +1,4 @@
-use Rattle.blaze_table.proofs.Canonical.Parts.{IsRangeMap-front}
+use Rattle.blaze_streams.proofs.Words.{IsRangeMap-front}
 use Rattle.blaze_streams.proofs.tables.range_values.RangeValuesIterDoubleEndedIterator.next_back.Goals as goal
 
 pub invariant_of-self-2 : goal.invariant_of-self-2

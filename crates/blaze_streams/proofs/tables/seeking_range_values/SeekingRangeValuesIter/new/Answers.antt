@@ -1,6 +1,4 @@
-use Rattle.std.proofs.Common.{[], ◌∙◌, sym, ap}
-use Rattle.blaze_table.specs.Ending.{ending_from}
-use Rattle.blaze_table.proofs.Canonical.Runs.{canonical}
+use Rattle.blaze_streams.proofs.Words.{[], ◌∙◌, sym, ap, ending_from, canonical}
 use Rattle.blaze_streams.proofs.Seeking.{ending_from_low}
 use Rattle.blaze_streams.proofs.tables.seeking_range_values.SeekingRangeValuesIter.new.Goals as goal
 

@@ -1,5 +1,4 @@
-use Rattle.std.proofs.Common.{subst}
-use Rattle.blaze_streams.specs.LastParts.{IsLastPart}
+use Rattle.blaze_streams.proofs.Words.{subst, IsLastPart}
 use Rattle.blaze_streams.proofs.Seeking.{part_rest}
 use Rattle.blaze_streams.proofs.tables.seeking_range_values.SeekingRangeValuesIterIterator.next.Goals as goal
 

@@ -1,5 +1,4 @@
-use Rattle.std.proofs.Common.{subst}
-use Rattle.blaze_table.specs.Canonical.{IsRangeMap}
+use Rattle.blaze_streams.proofs.Words.{subst, IsRangeMap}
 use Rattle.blaze_streams.proofs.Seeking.{range_map_part}
 use Rattle.blaze_streams.proofs.tables.seeking_range_values.SeekingRangeValuesIterSortedDisjointMapRef.in_hand.Goals as goal
 

@@ -1,7 +1,4 @@
-use Rattle.std.proofs.Common.{rules, ◌≡◌, ◌∙◌, sym, subst}
-use Rattle.blaze_table.specs.Entries.{shown_entry}
-use Rattle.blaze_table.proofs.Canonical.Runs.{canonical}
-use Rattle.blaze_streams.specs.LastParts.{IsLastPart, IsSought}
+use Rattle.blaze_streams.proofs.Words.{rules, ◌≡◌, ◌∙◌, sym, subst, shown_entry, canonical, IsLastPart, IsSought}
 use Rattle.blaze_streams.proofs.Seeking.{all_sought, sought, sought_part}
 use Rattle.blaze_streams.proofs.tables.seeking_range_values.SeekingRangeValuesIterSortedDisjointMapRef.seek.Goals as goal
 
