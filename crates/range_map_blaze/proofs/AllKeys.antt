@@ -1,15 +1,5 @@
 -- A map with its gaps filled, of a stream of every key.
-use Rattle.std.proofs.Common.{ℤ, ◌≤ℤ◌, Bool, List, Option, Some, None, refl}
-use Rattle.std.specs.Prelude.{IsSome}
-use Rattle.std.specs.Option.{option_eq}
-use Rattle.std.specs.Cmp.{IsEquivalence}
-use Rattle.std.specs.Cmp.Lexicographic.{options_equiv}
-use Rattle.blaze_entries.proofs.Alike.{same_along}
-use Rattle.blaze_table.specs.Entries.{Entry, at, SameOption, SameEntries}
-use Rattle.blaze_table.proofs.Paints.Painted.{content_as}
-use Rattle.blaze_table.proofs.Canonical.Unique.{back}
-use Rattle.blaze_streams.specs.Fills.{IsFilledWithNone}
-use Rattle.range_map_blaze.specs.GapsFilled.{AreGapsFilled}
+use Rattle.range_map_blaze.proofs.Words.{ℤ, ◌≤ℤ◌, Bool, List, Option, Some, None, refl, IsSome, option_eq, IsEquivalence, options_equiv, same_along, Entry, at, SameOption, SameEntries, content_as, back, IsFilledWithNone, AreGapsFilled}
 use Rattle.range_map_blaze.proofs.Streams.{range_map_as}
 
 module _ {V : Type 0} (eq : V → V → Bool) (laws : IsEquivalence eq) (low high : ℤ) (entries : List (Entry V)) where

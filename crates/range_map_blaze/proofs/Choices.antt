@@ -1,13 +1,5 @@
 -- What is chosen from two lists, carried along lists that are alike.
-use Rattle.std.proofs.Common.{◌≡◌, ℤ, Bool, List, Option, Some, None, is_some, refl, subst, ◌∙◌}
-use Rattle.std.specs.Option.{option_xor}
-use Rattle.std.specs.Cmp.{IsEquivalence}
-use Rattle.blaze_entries.proofs.Alike.{same_trans}
-use Rattle.blaze_table.specs.Entries.{Entry, at, SameOption, SameEntries}
-use Rattle.blaze_table.specs.Chosen.{right_first, left_alone, IsChosen}
-use Rattle.blaze_table.specs.Complement.{absent, IsComplement}
-use Rattle.blaze_table.proofs.Paints.Painted.{content_as}
-use Rattle.blaze_table.proofs.Canonical.Unique.{back}
+use Rattle.range_map_blaze.proofs.Words.{◌≡◌, ℤ, Bool, List, Option, Some, None, is_some, refl, subst, ◌∙◌, option_xor, IsEquivalence, same_trans, Entry, at, SameOption, SameEntries, right_first, left_alone, IsChosen, absent, IsComplement, content_as, back}
 use Rattle.range_map_blaze.proofs.Streams.{range_map_as}
 
 -- the choice looks at the right one's presence alone

@@ -1,25 +1,7 @@
 -- The entries that share a key with a range, each cut to it, are the entries on the keys of the range; and their lengths are how
 -- many keys of the range have a value.
-use Rattle.std.proofs.Common.{◌≡◌, ℕ, zero, suc, ℤ, pos, negsuc, ◌+ℤ◌, ◌-ℤ◌, ◌≤ℤ◌, ◌<ℤ◌, Bool, List, [], ◌∷◌, refl, ◌∙◌, sym, ap, subst, Option, arith}
-use Rattle.std.specs.Cmp.{IsEquivalence}
-use Rattle.std.proofs.lemmas.Int.{ints, by_lt_z}
-use Rattle.blaze_int.proofs.Naturals.{nat_of-pos, pos_injective}
-use Rattle.blaze_int.specs.Unsigned.{nat_of}
-use Rattle.blaze_entries.specs.Starts.{up_to}
-use Rattle.blaze_table.specs.Canonical.{IsCanonical, IsRangeMap}
-use Rattle.blaze_table.specs.Chosen.{left_with_right}
-use Rattle.blaze_table.specs.Count.{keys_in, mapped, mapped_keys}
-use Rattle.blaze_table.specs.Ending.{ending_from, overlapping}
-use Rattle.blaze_table.specs.Entries.{Entry, entry, at}
-use Rattle.blaze_table.specs.Splice.{after}
-use Rattle.blaze_table.proofs.Canonical.ListLaws.{lengths_are_mapped}
-use Rattle.blaze_table.proofs.Canonical.Lookup.{above_rest, at_in, at_under, at_over}
-use Rattle.blaze_table.proofs.Canonical.Mapped.{one_if}
-use Rattle.blaze_table.proofs.Canonical.Runs.{canonical, one_per_run}
-use Rattle.blaze_table.proofs.Paints.Splices.{above_after, canonical_after}
-use Rattle.range_map_blaze.specs.EntriesWithin.{IsWithin}
-use Rattle.range_map_blaze.specs.OneRange.{one_range}
-use Rattle.range_map_blaze.specs.Within.{within, cut_each, cut_to}
+use Rattle.range_map_blaze.proofs.Words.{◌≡◌, ℕ, zero, suc, ℤ, pos, negsuc, ◌+ℤ◌, ◌-ℤ◌, ◌≤ℤ◌, ◌<ℤ◌, Bool, List, [], ◌∷◌, refl, ◌∙◌, sym, ap, subst, Option, arith, IsEquivalence, ints, by_lt_z, nat_of-pos, pos_injective, nat_of, up_to, IsCanonical, IsRangeMap, left_with_right, keys_in, mapped_keys, ending_from, overlapping, Entry, entry, at, after, lengths_are_mapped, above_rest, at_in, at_under, at_over, one_if, canonical, one_per_run, above_after, canonical_after, IsWithin, one_range, within, cut_each, cut_to}
+use Rattle.blaze_table.specs.Count.{mapped}
 use Rattle.range_map_blaze.proofs.GapsWithin.{up_to_takes, up_to_skips, up_to_none, keys_between}
 use Rattle.range_map_blaze.proofs.Paints.Following.{IsOnward, whole_first, within_next, within_over, onward_next, content_within, within_chosen}
 

@@ -1,16 +1,5 @@
 -- A walk over the gaps of a range, from both ends.
-use Rattle.std.proofs.Common.{◌≡◌, ℤ, pos, ◌+ℤ◌, ◌-ℤ◌, ◌≤ℤ◌, ◌<ℤ◌, Bool, true, false, cond, List, [], ◌∷◌, ◌++◌, Option, Some, None, IfSome, ◌∙◌, sym, ap, subst, arith, append_assoc}
-use Rattle.std.specs.Prelude.{int_lt}
-use Rattle.std.proofs.lemmas.Int.{ints, by_lt_z}
-use Rattle.blaze_int.proofs.Comparisons.{lt_true, lt_false}
-use Rattle.blaze_entries.specs.Starts.{up_to}
-use Rattle.blaze_table.specs.Canonical.{IsCanonical}
-use Rattle.blaze_table.specs.Ending.{ending_from, overlapping}
-use Rattle.blaze_table.specs.Entries.{Entry, entry}
-use Rattle.blaze_table.proofs.Canonical.Lookup.{IsAbove, IsAbove-from_apart, above_by}
-use Rattle.blaze_streams.specs.Gaps.{gap_before}
-use Rattle.blaze_streams.proofs.GapLists.{no_gap}
-use Rattle.range_map_blaze.specs.Within.{gaps_within, gaps_left, AreKeysFrom, IsUpTo, IsAcross, IsGapWalk}
+use Rattle.range_map_blaze.proofs.Words.{◌≡◌, ℤ, pos, ◌+ℤ◌, ◌-ℤ◌, ◌≤ℤ◌, ◌<ℤ◌, Bool, true, false, cond, List, [], ◌∷◌, ◌++◌, Option, Some, None, IfSome, ◌∙◌, sym, ap, subst, arith, append_assoc, int_lt, ints, by_lt_z, lt_true, lt_false, up_to, IsCanonical, ending_from, overlapping, Entry, entry, IsAbove, IsAbove-from_apart, above_by, gap_before, no_gap, gaps_within, gaps_left, AreKeysFrom, IsUpTo, IsAcross, IsGapWalk}
 use Rattle.range_map_blaze.proofs.GapsWithin.{up_to_takes, up_to_skips, up_to_none}
 use Rattle.range_map_blaze.proofs.Paints.Following.{EndsFrom, whole_first}
 
@@ -111,7 +100,6 @@ module _ {T : Type 0} (rank : T → ℤ) where
 
     -- the first entry has keys from s up to t: `under` are the keys below it that are left, `over` those above
     module _ (l h s t : ℤ) (e : Entry V) (es old : List (Entry V)) (under over : Option (T × T)) where
-
       -- the same of the last entry
       pub back_gaps : old ≡ es ++ e ∷ [] → s ≡ e.lo → t ≡ e.hi → IsGapWalk l h old → AreKeysFrom rank l (s -ℤ pos 1) under → AreKeysFrom rank (t +ℤ pos 1) h over
           → gaps_within l h old ≡ gaps_left rank under es ++ keys_list rank over

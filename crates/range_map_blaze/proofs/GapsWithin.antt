@@ -1,29 +1,5 @@
 -- The gaps of entries within a range, as a walk meets them, are the keys of the range that no entry has.
-use Rattle.std.proofs.Common.{◌≡◌, ℤ, pos, ◌+ℤ◌, ◌-ℤ◌, ◌≤ℤ◌, ◌<ℤ◌, Bool, cond, List, [], ◌∷◌, ◌++◌, Option, Some, None, refl, ◌∙◌, sym, ap, subst, arith}
-use Rattle.std.specs.Cmp.{IsEquivalence}
-use Rattle.std.specs.Int.{int_max, int_min}
-use Rattle.std.specs.Prelude.{int_lt}
-use Rattle.std.proofs.lemmas.Int.{ints, by_lt_z}
-use Rattle.blaze_int.proofs.Comparisons.{lt_true, lt_false, le_true, le_false}
-use Rattle.blaze_entries.specs.Starts.{up_to}
-use Rattle.blaze_entries.proofs.Alike.{same_itself}
-use Rattle.blaze_table.specs.Canonical.{IsCanonical, AreKeys, IsRangeMap}
-use Rattle.blaze_table.specs.Chosen.{left_alone, left_with_right, IsChosen}
-use Rattle.blaze_table.specs.Complement.{absent}
-use Rattle.blaze_table.specs.Ending.{ending_from, overlapping}
-use Rattle.blaze_table.specs.Entries.{Entry, entry, at, SameOption}
-use Rattle.blaze_table.specs.RangeSets.{unit_eq}
-use Rattle.blaze_table.specs.Splice.{before, after}
-use Rattle.blaze_table.proofs.Canonical.Counted.{before_none}
-use Rattle.blaze_table.proofs.Canonical.Lookup.{IsAbove, above_rest, at_in, at_under, at_over, by_place}
-use Rattle.blaze_table.proofs.Canonical.Runs.{canonical, one_per_run}
-use Rattle.blaze_table.proofs.Cuts.Cutting.{after_all}
-use Rattle.blaze_table.proofs.Paints.Splices.{by_before, canonical_after, canonical_before, above_after}
-use Rattle.blaze_table.proofs.Pairs.UnitLaws.{unit_laws}
-use Rattle.blaze_streams.specs.Gaps.{gap_before, gaps}
-use Rattle.blaze_streams.proofs.GapLists.{no_gap, gaps_complement}
-use Rattle.range_map_blaze.specs.OneRange.{one_range}
-use Rattle.range_map_blaze.specs.Within.{within, gaps_within}
+use Rattle.range_map_blaze.proofs.Words.{◌≡◌, ℤ, pos, ◌+ℤ◌, ◌-ℤ◌, ◌≤ℤ◌, ◌<ℤ◌, Bool, cond, List, [], ◌∷◌, ◌++◌, Option, Some, None, refl, ◌∙◌, sym, ap, subst, arith, IsEquivalence, int_max, int_min, int_lt, ints, by_lt_z, lt_true, lt_false, le_true, le_false, up_to, same_itself, IsCanonical, AreKeys, IsRangeMap, left_alone, left_with_right, IsChosen, absent, ending_from, overlapping, Entry, entry, at, SameOption, unit_eq, before, after, before_none, IsAbove, above_rest, at_in, at_under, at_over, by_place, canonical, one_per_run, after_all, by_before, canonical_after, canonical_before, above_after, unit_laws, gap_before, gaps, no_gap, gaps_complement, one_range, within, gaps_within}
 use Rattle.range_map_blaze.proofs.JoinedKeys.{below_all, above_all}
 use Rattle.range_map_blaze.proofs.Paints.Following.{IsOnward, EndsFrom, whole_first, within_next, within_over, content_within}
 

@@ -1,21 +1,6 @@
 -- The keys of joins of maps, and of maps with what a closure answers at their values.
-use Rattle.blaze_int.specs.Unsigned.{nat_of}
-use Rattle.std.proofs.Common.{◌≡◌, ℕ, zero, suc, ◌+◌, ℤ, pos, ◌+ℤ◌, ◌-ℤ◌, ◌<ℤ◌, Bool, cond, List, [], ◌∷◌, Option, None, refl, ◌∙◌, sym, ap, subst, arith}
-use Rattle.std.specs.Option.{is_some}
-use Rattle.std.specs.Cmp.{IsEquivalence}
-use Rattle.std.specs.Fn.{Mut}
-use Rattle.std.proofs.lemmas.Int.{ints, by_lt_z}
-use Rattle.std.proofs.lemmas.List.{length-map}
-use Rattle.blaze_entries.proofs.Alike.{same_trans}
-use Rattle.blaze_table.specs.Entries.{Entry, at, SameOption}
-use Rattle.blaze_table.specs.Canonical.{AreKeys}
+use Rattle.range_map_blaze.proofs.Words.{nat_of, ◌≡◌, ℕ, zero, suc, ◌+◌, ℤ, pos, ◌+ℤ◌, ◌-ℤ◌, ◌<ℤ◌, Bool, cond, List, [], ◌∷◌, Option, None, refl, ◌∙◌, sym, ap, subst, arith, is_some, IsEquivalence, Mut, ints, by_lt_z, length-map, same_trans, Entry, at, SameOption, AreKeys, canonical_is_unique, at_under, at_over, back, answered, answers_keep_keys, left_join_has_left_keys, full_join_is_inner, AnswersAreOnItsKeys, FullJoinIsInnerJoin, HaveSameKeys, IsUniversalMap, LeftJoinIsOnTheLeftKeys}
 use Rattle.blaze_table.specs.Count.{mapped}
-use Rattle.blaze_table.proofs.Canonical.ListLaws.{canonical_is_unique}
-use Rattle.blaze_table.proofs.Canonical.Lookup.{at_under, at_over}
-use Rattle.blaze_table.proofs.Canonical.Unique.{back}
-use Rattle.blaze_streams.specs.Answers.{answered}
-use Rattle.blaze_streams.proofs.JoinLaws.{answers_keep_keys, left_join_has_left_keys, full_join_is_inner}
-use Rattle.range_map_blaze.specs.MapLaws.{AnswersAreOnItsKeys, FullJoinIsInnerJoin, HaveSameKeys, IsUniversalMap, LeftJoinIsOnTheLeftKeys}
 
 same_mapped : {V W : Type 0} (c : ℤ → Option V) (d : ℤ → Option W) → ((k : ℤ) → is_some (d k) ≡ is_some (c k)) → (a : ℤ) (n : ℕ) → mapped d a n ≡ mapped c a n
 unfolding mapped

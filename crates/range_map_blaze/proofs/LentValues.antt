@@ -1,18 +1,5 @@
 -- Entries whose values are lent, and the entries with the values themselves.
-use Rattle.std.specs.Option.{option_or}
-use Rattle.std.proofs.Common.{◌≡◌, ◌+◌, ℤ, Bool, true, false, cond, List, [], ◌∷◌, ◌++◌, length, map, Option, Some, None, refl, ◌∙◌, sym, ap, subst, arith}
-use Rattle.std.specs.Prelude.{int_le}
-use Rattle.std.specs.Cmp.{IsEquivalence}
-use Rattle.std.proofs.lemmas.List.{map-append}
-use denote.Ref.{Bor}
-use Rattle.blaze_entries.proofs.Alike.{same_along, same_trans}
-use Rattle.blaze_table.specs.Entries.{Entry, at, holds, shown_entry, SameOption, SameEntries, shown_list}
-use Rattle.blaze_table.specs.Canonical.{IsApart, IsCanonical, AreKeys, IsRangeMap}
-use Rattle.blaze_table.specs.Painted.{last_at, painted_in_order}
-use Rattle.blaze_table.proofs.Paints.Painted.{content_as, length_as}
-use Rattle.blaze_table.proofs.Canonical.Runs.{canonical, one_per_run}
-use Rattle.blaze_table.proofs.Canonical.Unique.{back}
-use Rattle.blaze_table.specs.CanonicalOf.{keyed, IsCanonicalOf}
+use Rattle.range_map_blaze.proofs.Words.{option_or, ◌≡◌, ◌+◌, ℤ, Bool, true, false, cond, List, [], ◌∷◌, ◌++◌, length, map, Option, Some, None, refl, ◌∙◌, sym, ap, subst, arith, int_le, IsEquivalence, map-append, Bor, same_along, same_trans, Entry, at, holds, shown_entry, SameOption, SameEntries, shown_list, IsApart, IsCanonical, AreKeys, IsRangeMap, last_at, painted_in_order, content_as, length_as, canonical, one_per_run, back, keyed, IsCanonicalOf}
 use Rattle.range_map_blaze.proofs.Streams.{range_map_as, same-push}
 
 -- the entry with the value itself

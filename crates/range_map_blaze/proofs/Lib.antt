@@ -19,3 +19,4 @@ pub mod Edits
 pub mod TryLaws
 pub mod SharedKeys
 pub mod TakenBack
+mod Words

@@ -1,8 +1,5 @@
 -- A map that is made of a table.
-use Rattle.std.proofs.Common.{◌≡◌, List, ◌∙◌, sym, ap, subst}
-use Rattle.blaze_table.specs.Counted.{CountedEntries, uncounted}
-use Rattle.blaze_table.specs.Entries.{Entry}
-use Rattle.range_map_blaze.specs.Made.{IsMade}
+use Rattle.range_map_blaze.proofs.Words.{◌≡◌, List, ◌∙◌, sym, ap, subst, CountedEntries, uncounted, Entry, IsMade}
 
 module _ {V : Type 0} where
   -- of a list on which nothing is counted

@@ -1,14 +1,5 @@
 -- The nearest entries of a key: the first that ends there or above, and the last that starts there or below.
-use Rattle.blaze_int.proofs.Options.{some_none}
-use Rattle.blaze_int.proofs.Comparisons.{by_bool}
-use Rattle.std.specs.Prelude.{int_lt, int_le, find, reverse}
-use Rattle.std.proofs.Common.{◌≡◌, ℤ, pos, ◌+ℤ◌, ◌≤ℤ◌, ◌<ℤ◌, Bool, true, false, List, [], ◌∷◌, Option, Some, None, refl, ◌∙◌, sym, arith}
-use Rattle.std.proofs.lemmas.Int.{ints}
-use Rattle.blaze_entries.specs.Starts.{StartsAscend, last_below}
-use Rattle.blaze_table.specs.Canonical.{IsCanonical}
-use Rattle.blaze_table.specs.Entries.{Entry, entry_at}
-use Rattle.blaze_table.proofs.Canonical.Lookup.{entry_in, entry_under, entry_over}
-use Rattle.blaze_table.proofs.Neighbours.NextEntries.{holding_none, holding_some, holding_not, below_none_is, below_here}
+use Rattle.range_map_blaze.proofs.Words.{some_none, by_bool, int_lt, int_le, find, reverse, ◌≡◌, ℤ, pos, ◌+ℤ◌, ◌≤ℤ◌, ◌<ℤ◌, Bool, true, false, List, [], ◌∷◌, Option, Some, None, refl, ◌∙◌, sym, arith, ints, StartsAscend, last_below, IsCanonical, Entry, entry_at, entry_in, entry_under, entry_over, holding_none, holding_some, holding_not, below_none_is, below_here}
 
 module _ {V : Type 0} (eq : V → V → Bool) (k : ℤ) where
   -- ---- the first that ends at the key or above

@@ -1,20 +1,5 @@
 -- Keys that two lists share, and keys of one list that the other has, where both are gone through together.
-use Rattle.blaze_int.proofs.Options.{some_is_not}
-use Rattle.std.proofs.Common.{◌≡◌, ℕ, ◌+◌, ◌<◌, ℤ, pos, ◌+ℤ◌, ◌≤ℤ◌, ◌<ℤ◌, Bool, true, false, List, [], ◌∷◌, Option, Some, None, refl, ◌∙◌, sym, subst, arith, inl, inr, ⊎_elim, option_map}
-use Rattle.std.specs.Prelude.{◌⊎◌, ◌↔◌, IsSome, IsTrue}
-use Rattle.std.proofs.lemmas.Int.{ints, by_lt_z}
-use Rattle.blaze_entries.specs.Found.{range_in}
-use Rattle.blaze_entries.specs.Starts.{first_entry}
-use Rattle.blaze_table.specs.Canonical.{IsCanonical}
-use Rattle.blaze_table.specs.Entries.{Entry, at}
-use Rattle.blaze_table.specs.Splice.{after}
-use Rattle.blaze_table.proofs.Canonical.Lookup.{at_in}
-use Rattle.blaze_table.proofs.Paints.Splices.{at-after_over}
-use Rattle.blaze_streams.specs.Cursors.{IsFrom}
-use Rattle.blaze_streams.proofs.LengthsLeft.{lengths_left, all_less}
-use Rattle.blaze_streams.proofs.Steady.{at-after_under, at_below_from}
-use Rattle.blaze_streams.proofs.Taken.{ends}
-use Rattle.range_map_blaze.specs.Relations.{ShareNoKey, HasKeysOf}
+use Rattle.range_map_blaze.proofs.Words.{some_is_not, ◌≡◌, ℕ, ◌+◌, ◌<◌, ℤ, pos, ◌+ℤ◌, ◌≤ℤ◌, ◌<ℤ◌, Bool, true, false, List, [], ◌∷◌, Option, Some, None, refl, ◌∙◌, sym, subst, arith, inl, inr, ⊎_elim, option_map, ◌⊎◌, ◌↔◌, IsSome, IsTrue, ints, by_lt_z, range_in, first_entry, IsCanonical, Entry, at, after, at_in, at-after_over, IsFrom, lengths_left, all_less, at-after_under, at_below_from, ends, ShareNoKey, HasKeysOf}
 
 -- ---- lists by the ends of their first ranges
 

@@ -1,12 +1,5 @@
 -- The entries taken from a stream.
-use Rattle.std.proofs.Common.{◌≡◌, ◌++◌, ◌∷◌, [], List, ◌∙◌, sym, ap, subst, Bool, true, ℤ, map, append_assoc}
-use Rattle.std.specs.Cmp.{IsEquivalence}
-use Rattle.std.proofs.lemmas.List.{map-append}
-use Rattle.blaze_table.specs.Entries.{Entry, SameEntries, shown_entry}
-use Rattle.blaze_table.specs.Canonical.{IsRangeMap}
-use Rattle.blaze_table.proofs.Paints.Painted.{canonical_as}
-use Rattle.blaze_table.proofs.Canonical.Counted.{are_keys_as}
-use Rattle.blaze_table.proofs.Canonical.Runs.{canonical, one_per_run}
+use Rattle.range_map_blaze.proofs.Words.{◌≡◌, ◌++◌, ◌∷◌, [], List, ◌∙◌, sym, ap, subst, Bool, true, ℤ, map, append_assoc, IsEquivalence, map-append, Entry, SameEntries, shown_entry, IsRangeMap, canonical_as, are_keys_as, canonical, one_per_run}
 
 -- an entry more on both lists
 pub same-push : {V : Type 0} (eq : V → V → Bool) (es fs : List (Entry V)) (e f : Entry V) → SameEntries eq es fs → e.lo ≡ f.lo → e.hi ≡ f.hi → eq e.value f.value ≡ true → SameEntries eq (es ++ e ∷ []) (fs ++ f ∷ [])

@@ -1,6 +1,5 @@
 -- A list that is made of the items of another, one by one.
-use Rattle.std.proofs.Common.{◌≡◌, List, [], ◌∷◌, ◌++◌, ◌∙◌, map, append_assoc, append-nil, sym, ap}
-use Rattle.std.proofs.lemmas.List.{map-append}
+use Rattle.range_map_blaze.proofs.Words.{◌≡◌, List, [], ◌∷◌, ◌++◌, ◌∙◌, map, append_assoc, append-nil, sym, ap, map-append}
 
 -- one item more taken from what is left
 pub taken_more : {A B : Type 0} (f : A → B) (out new : List A) (item : A) (left next all : List B) → new ≡ out ++ item ∷ [] → left ≡ f item ∷ next → map f out ++ left ≡ all → map f new ++ next ≡ all

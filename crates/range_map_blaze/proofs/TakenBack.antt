@@ -1,23 +1,5 @@
 -- Keys that are taken out of a list, and painted back.
-use Rattle.std.specs.Prelude.{◌↔◌, IsTrue, find, int_le, int_lt}
-use Rattle.std.specs.Option.{option_or}
-use Rattle.std.specs.Cmp.{IsEquivalence}
-use Rattle.std.proofs.Common.{◌≡◌, ℤ, ◌≤ℤ◌, ◌<ℤ◌, Bool, true, false, cond, List, [], ◌∷◌, Option, Some, None, refl, ◌∙◌, sym, subst, arith}
-use Rattle.std.proofs.lemmas.Int.{ints, by_lt_z}
-use Rattle.blaze_int.proofs.Comparisons.{lt_fails, lt_holds}
-use Rattle.blaze_entries.proofs.Alike.{same_along, same_back, same_itself, same_or, same_trans}
-use Rattle.blaze_table.specs.Gap.{IsClearFrom}
-use Rattle.blaze_table.specs.Canonical.{IsCanonical, IsRangeMap}
-use Rattle.blaze_table.specs.Chosen.{left_with_right, right_first, IsChosen}
-use Rattle.blaze_table.specs.Cut.{cut_range_at}
-use Rattle.blaze_table.specs.Entries.{Entry, at, holds, SameOption}
-use Rattle.blaze_table.proofs.Canonical.Lookup.{at_in, at_over, holds_ends}
-use Rattle.blaze_table.proofs.Canonical.Runs.{canonical, one_per_run}
-use Rattle.blaze_table.proofs.Canonical.Unique.{unique}
-use Rattle.blaze_streams.proofs.Steady.{at_first}
-use Rattle.range_map_blaze.specs.MapLaws.{TakingIsUndone}
-use Rattle.range_map_blaze.specs.OneRange.{one_range}
-use Rattle.range_map_blaze.specs.KeysTaken.{AreKeysTaken}
+use Rattle.range_map_blaze.proofs.Words.{◌↔◌, IsTrue, find, int_le, int_lt, option_or, IsEquivalence, ◌≡◌, ℤ, ◌≤ℤ◌, ◌<ℤ◌, Bool, true, false, cond, List, [], ◌∷◌, Option, Some, None, refl, ◌∙◌, sym, subst, arith, ints, by_lt_z, lt_fails, lt_holds, same_along, same_back, same_itself, same_or, same_trans, IsClearFrom, IsCanonical, IsRangeMap, left_with_right, right_first, IsChosen, cut_range_at, Entry, at, holds, SameOption, at_in, at_over, holds_ends, canonical, one_per_run, unique, at_first, TakingIsUndone, one_range, AreKeysTaken}
 use Rattle.range_map_blaze.proofs.Nearest.{ends_above, ends_below}
 use Rattle.range_map_blaze.proofs.Paints.PaintedOver.{painted_over}
 use Rattle.range_map_blaze.proofs.Paints.Paintings.{in_turn}

@@ -1,9 +1,5 @@
 -- The text of an entry, and a text that may be known.
-use Rattle.std.proofs.Common.{◌≡◌, ℕ, List, ℤ, refl, Option, Some, None, codes}
-use Rattle.std.specs.Fmt.{◌++?◌}
-use Rattle.std.specs.Prelude.{IfSome}
-use Rattle.blaze_table.specs.Entries.{Entry}
-use Rattle.range_map_blaze.specs.Printed.{entry_text}
+use Rattle.range_map_blaze.proofs.Words.{◌≡◌, ℕ, List, ℤ, refl, Option, Some, None, codes, ◌++?◌, IfSome, Entry, entry_text}
 
 -- an entry's text by its two keys
 pub entry_shown : {K V : Type 0} (key_text : K → Option (List ℕ)) (of_rank : ℤ → K) (value_text : V → Option (List ℕ)) (e : Entry V) (start last : K) → of_rank e.lo ≡ start → of_rank e.hi ≡ last

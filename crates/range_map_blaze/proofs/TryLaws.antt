@@ -1,11 +1,5 @@
 -- Closures that may fail.
-use Rattle.std.proofs.Common.{ℤ, Bool, List, [], ◌∷◌, ap}
-use Rattle.std.specs.Fn.{Mut}
-use Rattle.std.specs.List.{FoldsTo, zip}
-use Rattle.std.specs.Prelude.{Result}
-use Rattle.blaze_streams.specs.Answers.{values, AnswersAtValue}
-use Rattle.blaze_streams.specs.Fallible.{ok_calls}
-use Rattle.range_map_blaze.specs.TryLaws.{ReturnsInOk, TryIsPlain}
+use Rattle.range_map_blaze.proofs.Words.{ℤ, Bool, List, [], ◌∷◌, ap, Mut, FoldsTo, zip, Result, values, AnswersAtValue, ok_calls, ReturnsInOk, TryIsPlain}
 
 module _ {F G A V W E : Type 0} (shows : A → V) (tries : Mut F A (Result W E)) (plain : Mut G A W) where
   -- the calls of the one that return `Ok` are calls of the other

@@ -1,19 +1,6 @@
 -- A union has few entries: no more than a list that is made by painting the right list's entries over the left list.
-use Rattle.std.specs.Option.{option_or}
-use Rattle.std.proofs.Common.{◌+◌, ◌*◌, ◌≤◌, ℤ, Bool, cond, List, [], ◌∷◌, length, Some, None, ◌∙◌, sym, ap, subst, arith}
-use Rattle.std.specs.Cmp.{IsEquivalence}
-use Rattle.blaze_entries.proofs.Alike.{same_itself, same_trans, same_back, same_or, or_assoc}
-use Rattle.blaze_table.specs.Entries.{Entry, at, holds, SameOption, SameContent}
-use Rattle.blaze_table.specs.Canonical.{IsCanonical, IsRangeMap}
-use Rattle.blaze_table.specs.Chosen.{right_first, IsChosen}
-use Rattle.blaze_table.specs.Painted.{last_at, painted_in_order}
-use Rattle.blaze_table.specs.Splice.{paint}
-use Rattle.blaze_table.proofs.Canonical.Fewest.{fewest}
-use Rattle.blaze_table.proofs.Paints.Painted.{is_painted, paint_itself}
-use Rattle.blaze_table.proofs.Canonical.Runs.{canonical, one_per_run}
-use Rattle.range_map_blaze.specs.Union.{IsUnion}
+use Rattle.range_map_blaze.proofs.Words.{option_or, ◌+◌, ◌*◌, ◌≤◌, ℤ, Bool, cond, List, [], ◌∷◌, length, Some, None, ◌∙◌, sym, ap, subst, arith, IsEquivalence, same_itself, same_trans, same_back, same_or, or_assoc, Entry, at, holds, SameOption, SameContent, IsCanonical, IsRangeMap, right_first, IsChosen, last_at, painted_in_order, paint, fewest, is_painted, paint_itself, canonical, one_per_run, IsUnion, painted_one}
 use Rattle.range_map_blaze.proofs.Paints.PaintedOver.{last_is_first, turned}
-use Rattle.blaze_table.proofs.Pairs.Lasts.{painted_one}
 
 -- a list with the content after the entries are painted in their order, with at most two entries more for each
 record IsManyPainted {V : Type 0} (eq : V → V → Bool) (ps old new : List (Entry V)) : Type 0 where

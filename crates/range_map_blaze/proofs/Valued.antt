@@ -1,15 +1,5 @@
 -- One value on the ranges of a set.
-use Rattle.std.proofs.Common.{◌≡◌, ℤ, Bool, true, false, cond, List, [], ◌∷◌, ◌++◌, Option, Some, None, refl, ap}
-use Rattle.std.specs.Cmp.{IsEquivalence}
-use Rattle.blaze_entries.proofs.Alike.{same_trans}
-use Rattle.blaze_table.specs.Entries.{Entry, entry, at, holds, SameOption, SameEntries}
-use Rattle.blaze_table.specs.Canonical.{IsCanonical, IsApart, AreKeys, IsRangeMap}
-use Rattle.blaze_table.specs.Complement.{absent, IsComplement}
-use Rattle.blaze_table.specs.RangeSets.{unit_eq, IsRangeSet}
-use Rattle.blaze_table.proofs.Paints.Painted.{content_as}
-use Rattle.blaze_table.proofs.Canonical.Runs.{canonical, one_per_run}
-use Rattle.blaze_table.proofs.Canonical.Unique.{back}
-use Rattle.blaze_table.proofs.Pairs.UnitLaws.{unit_laws}
+use Rattle.range_map_blaze.proofs.Words.{◌≡◌, ℤ, Bool, true, false, cond, List, [], ◌∷◌, ◌++◌, Option, Some, None, refl, ap, IsEquivalence, same_trans, Entry, entry, at, holds, SameOption, SameEntries, IsCanonical, IsApart, AreKeys, IsRangeMap, absent, IsComplement, unit_eq, IsRangeSet, content_as, canonical, one_per_run, back, unit_laws}
 use Rattle.range_map_blaze.proofs.Streams.{range_map_as}
 
 -- the ranges with a value

@@ -1,25 +1,5 @@
 -- Edits made one after another, and what a range map has once they are made, all of them or a first part.
-use Rattle.std.specs.declared.alloc.AllocError.{AllocError}
-use Rattle.std.proofs.Common.{◌≡◌, ◌⊎◌, ℤ, pos, ◌+ℤ◌, ◌-ℤ◌, ◌≤ℤ◌, ◌<ℤ◌, Bool, cond, List, [], ◌∷◌, ◌++◌, Option, Some, None, Result, Ok, Err, OnOk, OnErr, refl, ◌∙◌, sym, ap, subst, arith, inl, inr}
-use Rattle.std.proofs.lemmas.Int.{ints, by_lt_z}
-use Rattle.std.specs.Cmp.{IsEquivalence}
-use Rattle.std.specs.Cmp.Lexicographic.{options_equiv}
-use Rattle.std.specs.Fn.{Mut}
-use Rattle.std.specs.Option.{option_eq, option_or}
-use Rattle.blaze_int.proofs.Comparisons.{le_true, le_false}
-use Rattle.blaze_entries.proofs.Alike.{same_along, same_itself, same_trans, or_none}
-use Rattle.blaze_table.specs.Canonical.{IsCanonical, IsRangeMap, AreKeys, HasEnd}
-use Rattle.blaze_table.specs.Cut.{IsRangeCut}
-use Rattle.blaze_table.specs.Entries.{Entry, entry, at, holds, SameOption}
-use Rattle.blaze_table.specs.Painted.{IsPainted}
-use Rattle.blaze_table.specs.Splice.{IsBelow}
-use Rattle.blaze_table.proofs.Canonical.Lookup.{IsAbove, IsAbove-from_apart, above_low, at_append, at_before, holds_in, holds_under, holds_over, at_in, at_under, at_over, by_place}
-use Rattle.blaze_table.proofs.Canonical.Runs.{canonical, one_per_run}
-use Rattle.blaze_table.proofs.Cuts.Splits.{ends_below}
-use Rattle.blaze_table.proofs.Sweeping.Sweeps.{at_past}
-use Rattle.range_map_blaze.specs.Edits.{AreAside, AreEdits, AreEdited, AreEndsOf, IsEdited, IsPartEdited}
-use Rattle.range_map_blaze.specs.Somewhere.{IsUpdatedSomewhere}
-use Rattle.range_map_blaze.specs.Updated.{answer_or, updated, IsAside, IsPartUpdated, IsUpdated}
+use Rattle.range_map_blaze.proofs.Words.{AllocError, ◌≡◌, ◌⊎◌, ℤ, pos, ◌+ℤ◌, ◌-ℤ◌, ◌≤ℤ◌, ◌<ℤ◌, Bool, cond, List, [], ◌∷◌, ◌++◌, Option, Some, None, Result, Ok, Err, OnOk, OnErr, refl, ◌∙◌, sym, ap, subst, arith, inl, inr, ints, by_lt_z, IsEquivalence, options_equiv, Mut, option_eq, option_or, le_true, le_false, same_along, same_itself, same_trans, or_none, IsCanonical, IsRangeMap, AreKeys, HasEnd, IsRangeCut, Entry, entry, at, holds, SameOption, IsPainted, IsBelow, IsAbove, IsAbove-from_apart, above_low, at_append, at_before, holds_in, holds_under, holds_over, at_in, at_under, at_over, by_place, canonical, one_per_run, ends_below, at_past, AreAside, AreEdits, AreEdited, AreEndsOf, IsEdited, IsPartEdited, IsUpdatedSomewhere, answer_or, updated, IsAside, IsPartUpdated, IsUpdated}
 
 module _ {V : Type 0} (eq : V → V → Bool) (laws : IsEquivalence eq) (low high : ℤ) where
   -- ---- one edit

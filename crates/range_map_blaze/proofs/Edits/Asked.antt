@@ -1,26 +1,5 @@
 -- A function that was called at pieces, one after another: its answers, and the edits that bring them into a map.
-use Rattle.blaze_int.proofs.Options.{some_none}
-use Rattle.std.specs.declared.alloc.AllocError.{AllocError}
-use Rattle.std.proofs.Common.{◌≡◌, ℤ, pos, ◌+ℤ◌, ◌-ℤ◌, ◌≤ℤ◌, Bool, true, false, cond, List, [], ◌∷◌, ◌++◌, length, map, Option, Some, None, Ok, refl, ◌∙◌, sym, ap, subst, arith}
-use Rattle.std.proofs.lemmas.Int.{ints}
-use Rattle.std.specs.Cmp.{IsEquivalence}
-use Rattle.std.specs.Cmp.Lexicographic.{options_equiv}
-use Rattle.std.specs.Fn.{Mut}
-use Rattle.std.specs.List.{FoldsTo, zip}
-use Rattle.std.specs.Option.{option_eq, option_or}
-use Rattle.std.specs.Prelude.{Result}
-use Rattle.blaze_entries.proofs.Alike.{same_along, same_back, same_itself, same_or_left, same_trans, or_assoc, or_none}
-use Rattle.blaze_table.specs.Canonical.{IsCanonical, AreKeys, HasEnd}
-use Rattle.blaze_table.specs.Entries.{Entry, entry, at, SameEntries, SameOption}
-use Rattle.blaze_table.specs.Splice.{glue, IsBelow}
-use Rattle.blaze_table.proofs.Canonical.Counted.{are_keys_glue}
-use Rattle.blaze_table.proofs.Canonical.Lookup.{IsAbove, IsAbove-from_apart, at_append, at_before, at_in, at_over, at_under, by_place}
-use Rattle.blaze_table.proofs.Paints.Splices.{at_glue, below_glue, below_more, canonical_glue}
-use Rattle.blaze_table.proofs.Sweeping.Sweeps.{at_past}
-use Rattle.blaze_streams.specs.Answers.{values, answered, AnswersAtValue, SomeCallAtValue}
-use Rattle.blaze_streams.proofs.FoundSegments.{option_same}
-use Rattle.range_map_blaze.specs.Edits.{AreEndsOf, ArePiecesAsked, IsPieceAsked}
-use Rattle.range_map_blaze.specs.Updated.{answer_or}
+use Rattle.range_map_blaze.proofs.Words.{some_none, AllocError, ◌≡◌, ℤ, pos, ◌+ℤ◌, ◌-ℤ◌, ◌≤ℤ◌, Bool, true, false, cond, List, [], ◌∷◌, ◌++◌, length, map, Option, Some, None, Ok, refl, ◌∙◌, sym, ap, subst, arith, ints, IsEquivalence, options_equiv, Mut, FoldsTo, zip, option_eq, option_or, Result, same_along, same_back, same_itself, same_or_left, same_trans, or_assoc, or_none, IsCanonical, AreKeys, HasEnd, Entry, entry, at, SameEntries, SameOption, glue, IsBelow, are_keys_glue, IsAbove, IsAbove-from_apart, at_append, at_before, at_in, at_over, at_under, by_place, at_glue, below_glue, below_more, canonical_glue, at_past, values, answered, AnswersAtValue, SomeCallAtValue, option_same, AreEndsOf, ArePiecesAsked, IsPieceAsked, answer_or}
 
 -- a piece with its answer in place of what it has
 abbrev pub with_answer : {V : Type 0} → Entry (Option V) → Option V → Entry (Option V)

@@ -1,21 +1,5 @@
 -- What a range changed by a function has key by key, where the function's answers are those of a plain function.
-use Rattle.std.specs.declared.alloc.AllocError.{AllocError}
-use Rattle.std.proofs.Common.{◌≡◌, ℤ, ◌≤ℤ◌, ◌<ℤ◌, Bool, true, false, ◌&&◌, cond, List, [], ◌∷◌, map, Option, Some, None, Result, refl, ◌∙◌, sym, ap}
-use Rattle.std.specs.Cmp.{IsEquivalence}
-use Rattle.std.specs.Cmp.Lexicographic.{options_equiv}
-use Rattle.std.specs.Fn.{Mut}
-use Rattle.std.specs.Option.{option_eq, option_map, option_or}
-use Rattle.std.specs.Prelude.{int_le}
-use Rattle.blaze_int.proofs.Comparisons.{le_true, le_false}
-use Rattle.blaze_entries.proofs.Alike.{same_along, same_back, same_itself, same_trans}
-use Rattle.blaze_table.specs.Canonical.{IsRangeMap}
-use Rattle.blaze_table.specs.Entries.{Entry, entry, at, SameEntries, SameOption}
-use Rattle.blaze_table.proofs.Canonical.ListLaws.{canonical_is_unique}
-use Rattle.blaze_table.proofs.Canonical.Lookup.{at_in, at_over, at_under, by_place}
-use Rattle.blaze_table.proofs.Paints.Painted.{content_as}
-use Rattle.blaze_streams.specs.Fills.{IsFilledWithNone}
-use Rattle.range_map_blaze.specs.UpdateLaws.{changed, AreGivenBy, UpdatingIsByKeys, PartUpdatingIsByKeys, InsertingIsUpdating, InsertingAbsentIsUpdating, RemovingIsUpdating}
-use Rattle.range_map_blaze.specs.Updated.{answer_or, updated}
+use Rattle.range_map_blaze.proofs.Words.{AllocError, ◌≡◌, ℤ, ◌≤ℤ◌, ◌<ℤ◌, Bool, true, false, ◌&&◌, cond, List, [], ◌∷◌, map, Option, Some, None, Result, refl, ◌∙◌, sym, ap, IsEquivalence, options_equiv, Mut, option_eq, option_map, option_or, int_le, le_true, le_false, same_along, same_back, same_itself, same_trans, IsRangeMap, Entry, entry, at, SameEntries, SameOption, canonical_is_unique, at_in, at_over, at_under, by_place, content_as, IsFilledWithNone, changed, AreGivenBy, UpdatingIsByKeys, PartUpdatingIsByKeys, InsertingIsUpdating, InsertingAbsentIsUpdating, RemovingIsUpdating, answer_or, updated}
 use Rattle.range_map_blaze.proofs.JoinedKeys.{below_all, above_all}
 use Rattle.range_map_blaze.proofs.Edits.Asked.{same_answer}
 

@@ -1,30 +1,5 @@
 -- The pieces of a range, as a walk over the entries meets them, and the edits that a function's answers at all of them give.
-use Rattle.std.specs.declared.alloc.AllocError.{AllocError}
-use Rattle.std.proofs.Common.{◌≡◌, ℤ, pos, ◌+ℤ◌, ◌-ℤ◌, ◌≤ℤ◌, ◌<ℤ◌, Bool, cond, List, [], ◌∷◌, ◌++◌, map, Option, Some, None, Result, refl, ◌∙◌, sym, ap, subst, append_assoc, append-nil, arith, inl}
-use Rattle.std.proofs.lemmas.Int.{ints}
-use Rattle.std.proofs.lemmas.List.{map-append}
-use Rattle.std.proofs.lemmas.Option.{same_Some}
-use Rattle.std.specs.Cmp.{IsEquivalence}
-use Rattle.std.specs.Cmp.Lexicographic.{options_equiv}
-use Rattle.std.specs.Fn.{Mut}
-use Rattle.std.specs.Int.{int_max, int_min}
-use Rattle.std.specs.Option.{option_eq, option_or}
-use Rattle.blaze_table.specs.Canonical.{IsRangeMap, HasEnd}
-use Rattle.blaze_table.specs.Chosen.{left_with_right}
-use Rattle.blaze_table.specs.Entries.{Entry, entry, at, SameOption}
-use Rattle.blaze_table.specs.Splice.{after}
-use Rattle.blaze_table.proofs.Canonical.Lookup.{above_low, at_in, by_place}
-use Rattle.blaze_table.proofs.Canonical.Runs.{canonical, one_per_run}
-use Rattle.blaze_table.proofs.Paints.Splices.{canonical_after, canonical_before, above_after}
-use Rattle.blaze_streams.specs.Answers.{values, TakesValue}
-use Rattle.blaze_streams.specs.Fills.{none_before, filled_entries, IsFilledWithNone}
-use Rattle.blaze_streams.specs.Gaps.{gap_before}
-use Rattle.blaze_int.proofs.Comparisons.{lt_true}
-use Rattle.blaze_streams.proofs.Filled.{fill_made}
-use Rattle.blaze_streams.proofs.GapLists.{no_gap}
-use Rattle.range_map_blaze.specs.Edits.{AreEdits, AreEndsOf, AreEntriesAsked, ArePiecesAsked, IsPieceAsked}
-use Rattle.range_map_blaze.specs.Updated.{answer_or, updated, IsCallableAtPieces}
-use Rattle.range_map_blaze.specs.Within.{within}
+use Rattle.range_map_blaze.proofs.Words.{AllocError, ◌≡◌, ℤ, pos, ◌+ℤ◌, ◌-ℤ◌, ◌≤ℤ◌, ◌<ℤ◌, Bool, cond, List, [], ◌∷◌, ◌++◌, map, Option, Some, None, Result, refl, ◌∙◌, sym, ap, subst, append_assoc, append-nil, arith, inl, ints, map-append, same_Some, IsEquivalence, options_equiv, Mut, int_max, int_min, option_eq, option_or, IsRangeMap, HasEnd, left_with_right, Entry, entry, at, SameOption, after, above_low, at_in, by_place, canonical, one_per_run, canonical_after, canonical_before, above_after, values, TakesValue, none_before, filled_entries, IsFilledWithNone, gap_before, lt_true, fill_made, no_gap, AreEdits, AreEndsOf, AreEntriesAsked, ArePiecesAsked, IsPieceAsked, answer_or, updated, IsCallableAtPieces, within}
 use Rattle.range_map_blaze.proofs.GapsWithin.{keys_between}
 use Rattle.range_map_blaze.proofs.JoinedKeys.{below_all, above_all}
 use Rattle.range_map_blaze.proofs.Paints.Following.{content_within, within_next, IsOnward}

@@ -1,16 +1,5 @@
 -- The first and the last entry have the least and the greatest key.
-use Rattle.std.proofs.Common.{◌≡◌, ℕ, zero, suc, ◌-◌, ◌≤◌, ℤ, ◌≤ℤ◌, ◌<ℤ◌, Bool, List, [], ◌∷◌, length, Option, Some, None, refl, ◌∙◌, subst, arith}
-use Rattle.std.specs.List.{slice_get}
-use Rattle.std.specs.Prelude.{MatchOption}
-use Rattle.std.specs.Option.{option_map}
-use Rattle.std.proofs.lemmas.Int.{ints}
-use Rattle.blaze_table.specs.Counted.{CountedEntries}
-use Rattle.blaze_table.specs.Cut.{IsFirstCut, IsLastCut}
-use Rattle.blaze_table.specs.Entries.{Entry, at}
-use Rattle.blaze_table.specs.Canonical.{IsDisjoint, IsAscending}
-use Rattle.blaze_table.proofs.Canonical.Lookup.{at_in, at_under, at_over}
-use Rattle.blaze_table.proofs.Canonical.Runs.{in_order}
-use Rattle.range_map_blaze.specs.Pairs.{IsFirstPair, IsLastPair, PopsFirst, PopsLast}
+use Rattle.range_map_blaze.proofs.Words.{◌≡◌, ℕ, zero, suc, ◌-◌, ◌≤◌, ℤ, ◌≤ℤ◌, ◌<ℤ◌, Bool, List, [], ◌∷◌, length, Option, Some, None, refl, ◌∙◌, subst, arith, slice_get, MatchOption, option_map, ints, CountedEntries, IsFirstCut, IsLastCut, Entry, at, IsDisjoint, IsAscending, at_in, at_under, at_over, in_order, IsFirstPair, IsLastPair, PopsFirst, PopsLast}
 
 module _ {V : Type 0} where
   none_some : (v : V) → None ≡ Some v → ⊥

@@ -1,7 +1,5 @@
 -- The writes of one entry.
-use Rattle.std.proofs.Common.{◌≡◌, ℕ, List, ◌++◌, refl}
-use Rattle.std.specs.Hash.{fed_then}
-use Rattle.std.specs.List.{fold}
+use Rattle.range_map_blaze.proofs.Words.{◌≡◌, ℕ, List, ◌++◌, refl, fed_then, fold}
 
 -- three writes, and then the rest
 pub fed_entry : {S : Type 0} (write : S → List ℕ → S) (s t u v : S) (start end value rest : List (List ℕ)) → t ≡ fold write s start → u ≡ fold write t end → v ≡ fold write u value → fold write v rest ≡ fold write s ((start ++ end ++ value) ++ rest)

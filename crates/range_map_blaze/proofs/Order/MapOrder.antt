@@ -1,21 +1,5 @@
 -- The order of range maps is that of their pairs, and ties exactly where they have the same content.
-use Rattle.std.proofs.Common.{◌≡◌, ℤ, Bool, true, false, cond, List, [], ◌∷◌, Option, Some, refl, ◌∙◌, sym, ap}
-use Rattle.std.specs.declared.cmp.Ordering.{Ordering}
-use Rattle.std.specs.declared.cmp.Ordering.TheVariants.{Less, Equal, Greater}
-use Rattle.std.specs.Ordering.{int_cmp, int_eq, is_eq, ordering_then}
-use Rattle.std.specs.Bool.{Decides}
-use Rattle.std.specs.Cmp.{IsEquivalence, Equal-is, signed_Decides}
-use Rattle.std.specs.Cmp.Lexicographic.{slice_cmp}
-use Rattle.std.specs.Prelude.{◌↔◌}
-use Rattle.blaze_entries.proofs.Alike.{same_along}
-use Rattle.blaze_table.specs.Canonical.{IsRangeMap}
-use Rattle.blaze_table.specs.Entries.{Entry, SameContent, SameOption}
-use Rattle.blaze_table.specs.Equality.{same_entries}
-use Rattle.blaze_table.specs.Pairs.{value_at}
-use Rattle.blaze_table.proofs.Pairs.PairLaws.{pairs_are_content}
-use Rattle.blaze_table.proofs.Canonical.SameLists.{content_decides}
-use Rattle.range_map_blaze.specs.Order.{ranked_pairs, pair_cmp, pairs_cmp, entry_cmp, map_cmp}
-use Rattle.range_map_blaze.specs.OrderLaws.{equal_pairs_tie, equal_entries_tie}
+use Rattle.range_map_blaze.proofs.Words.{◌≡◌, ℤ, Bool, true, false, cond, List, [], ◌∷◌, Option, Some, refl, ◌∙◌, sym, ap, Ordering, Less, Equal, Greater, int_cmp, int_eq, is_eq, ordering_then, Decides, IsEquivalence, Equal-is, signed_Decides, slice_cmp, ◌↔◌, same_along, IsRangeMap, Entry, SameContent, SameOption, same_entries, value_at, pairs_are_content, content_decides, ranked_pairs, pair_cmp, pairs_cmp, entry_cmp, map_cmp, equal_pairs_tie, equal_entries_tie}
 use Rattle.range_map_blaze.proofs.Order.PairOrder.{both_Equal}
 
 alone : (o p : Ordering) → (o ≡ Equal → p ≡ Equal) → o ≡ ordering_then o p

@@ -1,27 +1,5 @@
 -- How two lists compare from their first entries on.
-use Rattle.blaze_int.proofs.Options.{same_value}
-use Rattle.blaze_int.specs.Unsigned.{nat_of}
-use Rattle.std.proofs.Common.{◌≡◌, ◌+◌, ◌≤◌, ℤ, pos, ◌+ℤ◌, ◌-ℤ◌, ◌≤ℤ◌, Bool, List, [], ◌∷◌, ◌++◌, length, Some, None, true, false, refl, ◌∙◌, sym, ap, subst, arith, append_assoc, inl, inr, ⊎_elim}
-use Rattle.std.specs.Prelude.{◌⊎◌}
-use Rattle.std.proofs.lemmas.Int.{ints, by_lt_z}
-use Rattle.std.specs.declared.cmp.Ordering.{Ordering}
-use Rattle.std.specs.declared.cmp.Ordering.TheVariants.{Less, Equal, Greater}
-use Rattle.std.specs.List.{slice_get}
-use Rattle.std.specs.Ordering.{int_cmp, is_eq, is_ne, ordering_then}
-use Rattle.std.specs.Cmp.{signed_Decides}
-use Rattle.std.specs.Cmp.Lexicographic.{slice_cmp}
-use Rattle.blaze_int.proofs.Naturals.{nat_of-pos}
-use Rattle.blaze_table.specs.Canonical.{IsCanonical}
-use Rattle.blaze_table.specs.Entries.{Entry}
-use Rattle.blaze_table.specs.Pairs.{pairs_from}
-use Rattle.std.specs.Int.{int_min}
-use Rattle.blaze_table.specs.Splice.{after}
-use Rattle.blaze_table.proofs.Pairs.PairLists.{nat_of-next, pairs_append}
-use Rattle.blaze_table.proofs.Cuts.Cutting.{after_whole}
-use Rattle.blaze_table.proofs.Paints.Splices.{after_cuts}
-use Rattle.blaze_streams.specs.Cursors.{Reaches}
-use Rattle.range_map_blaze.specs.Order.{ranked_pairs, pair_cmp, pairs_cmp, first_cmp, IsComparedOn}
-use Rattle.range_map_blaze.specs.OrderLaws.{tied_keys}
+use Rattle.range_map_blaze.proofs.Words.{same_value, nat_of, ◌≡◌, ◌+◌, ◌≤◌, ℤ, pos, ◌+ℤ◌, ◌-ℤ◌, ◌≤ℤ◌, Bool, List, [], ◌∷◌, ◌++◌, length, Some, None, true, false, refl, ◌∙◌, sym, ap, subst, arith, append_assoc, inl, inr, ⊎_elim, ◌⊎◌, ints, by_lt_z, Ordering, Less, Equal, Greater, slice_get, int_cmp, is_eq, is_ne, ordering_then, signed_Decides, slice_cmp, nat_of-pos, IsCanonical, Entry, pairs_from, int_min, after, nat_of-next, pairs_append, after_whole, after_cuts, Reaches, ranked_pairs, pair_cmp, pairs_cmp, first_cmp, IsComparedOn, tied_keys}
 
 decided : (o p : Ordering) → (o ≡ Equal → ⊥) → ordering_then o p ≡ o
 decided Less p n = refl

@@ -1,13 +1,5 @@
 -- The content of a list that ranges are cut from, one after another.
-use Rattle.std.specs.Option.{option_or}
-use Rattle.std.proofs.Common.{◌≡◌, ℤ, Bool, true, false, List, [], ◌∷◌, ◌++◌, Option, Some, None, if◌then◌else◌, refl, sym, ap, subst}
-use Rattle.std.specs.Cmp.{IsEquivalence}
-use Rattle.blaze_entries.proofs.Alike.{same_along, same_itself, same_trans}
-use Rattle.blaze_table.specs.Entries.{Entry, at, holds, SameOption}
-use Rattle.blaze_table.specs.Canonical.{IsRangeMap}
-use Rattle.blaze_table.specs.Chosen.{left_alone, IsChosen}
-use Rattle.blaze_table.specs.Cut.{IsRangeCut}
-use Rattle.blaze_table.proofs.Canonical.Lookup.{at_append}
+use Rattle.range_map_blaze.proofs.Words.{option_or, ◌≡◌, ℤ, Bool, true, false, List, [], ◌∷◌, ◌++◌, Option, Some, None, if◌then◌else◌, refl, sym, ap, subst, IsEquivalence, same_along, same_itself, same_trans, Entry, at, holds, SameOption, IsRangeMap, left_alone, IsChosen, IsRangeCut, at_append}
 
 -- what is left at a key when one range more is cut out, which has the key or not
 less : {V A : Type 0} (eq : V → V → Bool) (has : Bool) (unit : A) (x left : Option V) (cut : Option A) → SameOption eq left (left_alone x cut) → SameOption eq (if has then None else left) (left_alone x (option_or cut (if has then Some unit else None)))

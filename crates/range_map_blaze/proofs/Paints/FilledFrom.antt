@@ -1,24 +1,5 @@
 -- One map's entries filled into the gaps of another.
-use Rattle.std.specs.Option.{option_or}
-use Rattle.std.proofs.Common.{◌≡◌, ℤ, pos, ◌-ℤ◌, ◌<ℤ◌, Bool, true, false, cond, List, [], ◌∷◌, ◌++◌, Option, Some, None, refl, ◌∙◌, sym, ap, subst, arith, inr, Result, Ok, Err, OnOk}
-use Rattle.std.specs.Prelude.{IsSome}
-use Rattle.std.specs.Cmp.{IsEquivalence}
-use Rattle.std.specs.List.{Contains}
-use Rattle.std.proofs.lemmas.Int.{ints}
-use Rattle.blaze_entries.proofs.Alike.{same_along, same_back, same_itself, same_trans, same_or, or_none, or_assoc}
-use Rattle.blaze_table.specs.Entries.{Entry, entry, at, holds, SameOption}
-use Rattle.blaze_table.specs.Canonical.{IsCanonical, IsRangeMap, IsRunStart}
-use Rattle.blaze_table.specs.Filled.{filled, IsFilled}
-use Rattle.blaze_table.proofs.Canonical.Lookup.{above_low, at_append}
-use Rattle.blaze_table.proofs.Canonical.Runs.{canonical, start_along}
-use Rattle.blaze_table.proofs.Canonical.Unique.{unique}
-use Rattle.blaze_table.proofs.Fills.Joints.{run_start_as}
-use Rattle.blaze_table.proofs.Fills.KeptEntries.{all_kept, are_kept, kept_further, value_in}
-use Rattle.blaze_table.proofs.Paints.Kept.{over_in}
-use Rattle.range_map_blaze.specs.FilledFrom.{IsFilledFrom}
-use Rattle.range_map_blaze.specs.MapLaws.{FillingIsUnion}
-use Rattle.range_map_blaze.specs.Somewhere.{IsFilledSomewhere}
-use Rattle.range_map_blaze.specs.Union.{IsUnion}
+use Rattle.range_map_blaze.proofs.Words.{option_or, ◌≡◌, ℤ, pos, ◌-ℤ◌, ◌<ℤ◌, Bool, true, false, cond, List, [], ◌∷◌, ◌++◌, Option, Some, None, refl, ◌∙◌, sym, ap, subst, arith, inr, Result, Ok, Err, OnOk, IsSome, IsEquivalence, Contains, ints, same_along, same_back, same_itself, same_trans, same_or, or_none, or_assoc, Entry, entry, at, holds, SameOption, IsCanonical, IsRangeMap, IsRunStart, filled, IsFilled, above_low, at_append, canonical, start_along, unique, run_start_as, all_kept, are_kept, kept_further, value_in, over_in, IsFilledFrom, FillingIsUnion, IsFilledSomewhere, IsUnion}
 use Rattle.range_map_blaze.proofs.Paints.Nowhere.{no_key}
 use Rattle.range_map_blaze.proofs.Paints.PaintedOver.{turned}
 use Rattle.range_map_blaze.proofs.Unions.{union_of}

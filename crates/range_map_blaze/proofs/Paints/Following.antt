@@ -1,26 +1,6 @@
 -- The entries on the keys of a range, as a walk meets them.
-use Rattle.std.proofs.Common.{◌≡◌, ℤ, pos, ◌+ℤ◌, ◌-ℤ◌, ◌≤ℤ◌, ◌<ℤ◌, Bool, true, cond, List, [], ◌∷◌, ◌++◌, None, refl, ◌∙◌, sym, ap, subst, arith, append_assoc, append-nil}
-use Rattle.std.specs.Cmp.{IsEquivalence}
-use Rattle.std.proofs.lemmas.Int.{ints, by_lt_z}
-use Rattle.std.proofs.lemmas.List.{map-append}
-use Rattle.blaze_int.proofs.Comparisons.{lt_true, lt_false, max_right}
-use Rattle.blaze_entries.proofs.Alike.{same_itself}
-use Rattle.blaze_table.specs.Canonical.{IsCanonical, IsRangeMap}
-use Rattle.blaze_table.specs.Chosen.{left_with_right, IsChosen}
-use Rattle.blaze_table.specs.Ending.{ending_from}
-use Rattle.blaze_table.specs.Entries.{Entry, entry, at, shown_entry, SameEntries, SameOption, shown_list}
-use Rattle.std.specs.Int.{int_max, int_min}
-use Rattle.blaze_table.specs.Splice.{before, after}
-use Rattle.blaze_table.proofs.Canonical.Clones.{IsCopied}
-use Rattle.blaze_table.proofs.Canonical.Counted.{before_none, are_keys_before, are_keys_after}
-use Rattle.blaze_table.proofs.Canonical.Lookup.{IsAbove-from_apart, at_before, at_in, at_under, at_over, by_place, above_by}
-use Rattle.blaze_table.proofs.Canonical.Runs.{canonical, one_per_run}
-use Rattle.blaze_table.proofs.Cuts.Cutting.{after_all}
-use Rattle.blaze_table.proofs.Neighbours.Ending.{ending_takes, ending_skips, ending_all}
-use Rattle.blaze_table.proofs.Paints.Splices.{after_skips, after_keeps, before_keeps, before_cuts, by_after, canonical_after, canonical_before, above_after, at-after_over, at-before_over, at-before_under}
+use Rattle.range_map_blaze.proofs.Words.{◌≡◌, ℤ, pos, ◌+ℤ◌, ◌-ℤ◌, ◌≤ℤ◌, ◌<ℤ◌, Bool, true, cond, List, [], ◌∷◌, ◌++◌, None, refl, ◌∙◌, sym, ap, subst, arith, append_assoc, append-nil, IsEquivalence, ints, by_lt_z, map-append, lt_true, lt_false, max_right, same_itself, IsCanonical, IsRangeMap, left_with_right, IsChosen, ending_from, Entry, entry, at, shown_entry, SameEntries, SameOption, shown_list, int_max, int_min, before, after, IsCopied, before_none, are_keys_before, are_keys_after, IsAbove-from_apart, at_before, at_in, at_under, at_over, by_place, above_by, canonical, one_per_run, after_all, ending_takes, ending_skips, ending_all, after_skips, after_keeps, before_keeps, before_cuts, by_after, canonical_after, canonical_before, above_after, at-after_over, at-before_over, at-before_under, one_range, within}
 use Rattle.range_map_blaze.proofs.Choices.{chosen_as}
-use Rattle.range_map_blaze.specs.OneRange.{one_range}
-use Rattle.range_map_blaze.specs.Within.{within}
 
 pub by_earlier : {P : Type 0} (a b : ℤ) → (a ≤ℤ b → int_min b a ≡ a → P) → (b <ℤ a → int_min b a ≡ b → P) → P
 by_earlier a b l r = by_lt_z a b

@@ -1,14 +1,5 @@
 -- Pairs painted one by one.
-use Rattle.std.proofs.Common.{◌≡◌, ℤ, ◌≤ℤ◌, ◌<ℤ◌, Bool, true, false, ◌&&◌, cond, List, [], ◌∷◌, ◌++◌, map, Some, refl, ◌∙◌, sym, subst, arith}
-use Rattle.std.specs.Prelude.{int_le}
-use Rattle.std.specs.Cmp.{IsEquivalence}
-use Rattle.std.proofs.lemmas.Int.{ints}
-use Rattle.std.proofs.lemmas.List.{map-append}
-use Rattle.blaze_entries.proofs.Alike.{same_itself, same_trans}
-use Rattle.blaze_table.specs.Entries.{Entry, at, holds, SameOption}
-use Rattle.blaze_table.specs.Canonical.{IsRangeMap}
-use Rattle.blaze_table.specs.Painted.{IsInside, IsPainted, painted}
-use Rattle.range_map_blaze.specs.Extended.{ArePaintedInTurn, IsPairPainted}
+use Rattle.range_map_blaze.proofs.Words.{◌≡◌, ℤ, ◌≤ℤ◌, ◌<ℤ◌, Bool, true, false, ◌&&◌, cond, List, [], ◌∷◌, ◌++◌, map, Some, refl, ◌∙◌, sym, subst, arith, int_le, IsEquivalence, ints, map-append, same_itself, same_trans, Entry, at, holds, SameOption, IsRangeMap, IsInside, IsPainted, painted, ArePaintedInTurn, IsPairPainted}
 use Rattle.range_map_blaze.proofs.Paints.Insides.{inside_equal}
 use Rattle.range_map_blaze.proofs.Paints.LeftAlone.{alone_equal}
 use Rattle.range_map_blaze.proofs.Paints.Nowhere.{painted_nowhere}

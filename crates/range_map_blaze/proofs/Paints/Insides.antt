@@ -1,17 +1,5 @@
 -- Pairs that lie inside entries with equal values.
-use Rattle.std.proofs.Common.{◌≡◌, ℤ, pos, ◌+ℤ◌, ◌-ℤ◌, ◌≤ℤ◌, ◌⊎◌, Bool, true, List, [], ◌∷◌, ◌++◌, Some, refl, ◌∙◌, subst, arith, inl, inr}
-use Rattle.std.specs.Cmp.{IsEquivalence}
-use Rattle.std.proofs.lemmas.Int.{ints, by_lt_z}
-use Rattle.blaze_entries.proofs.Alike.{same_along}
-use Rattle.blaze_table.specs.Entries.{Entry, at, SameOption}
-use Rattle.blaze_table.specs.Canonical.{IsCanonical, IsRangeMap}
-use Rattle.blaze_table.specs.Painted.{IsInside}
-use Rattle.blaze_table.proofs.Paints.Inside.{inside_at}
-use Rattle.blaze_table.proofs.Canonical.Lookup.{at_before, at_in, at_over}
-use Rattle.blaze_table.proofs.Canonical.Runs.{canonical}
-use Rattle.blaze_table.proofs.Cuts.Splits.{canonical_part}
-use Rattle.blaze_table.proofs.Canonical.Unique.{breaks}
-use Rattle.range_map_blaze.specs.Extended.{AreInside}
+use Rattle.range_map_blaze.proofs.Words.{◌≡◌, ℤ, pos, ◌+ℤ◌, ◌-ℤ◌, ◌≤ℤ◌, ◌⊎◌, Bool, true, List, [], ◌∷◌, ◌++◌, Some, refl, ◌∙◌, subst, arith, inl, inr, IsEquivalence, ints, by_lt_z, same_along, Entry, at, SameOption, IsCanonical, IsRangeMap, IsInside, inside_at, at_before, at_in, at_over, canonical, canonical_part, breaks, AreInside}
 
 module _ {V : Type 0} (eq : V → V → Bool) where
   pub inside_parts : (ps qs es : List (Entry V)) → AreInside eq (ps ++ qs) es → AreInside eq ps es × AreInside eq qs es

@@ -1,22 +1,6 @@
 -- Painting a joined pair is painting its parts.
-use Rattle.std.proofs.Common.{◌≡◌, ℤ, pos, ◌+ℤ◌, ◌≤ℤ◌, ◌<ℤ◌, Bool, true, false, ◌&&◌, ◌||◌, cond, List, [], ◌∷◌, ◌++◌, map, Option, Some, None, ◌⊎◌, inl, inr, refl, ◌∙◌, sym, ap, subst, arith, append_assoc, append-nil}
-use Rattle.std.specs.Prelude.{int_le, int_lt}
-use Rattle.std.specs.Cmp.{IsEquivalence}
-use Rattle.std.specs.Iterator.{Yields, Drains, ExtendsWithItems}
-use Rattle.std.specs.Result.{IsErr}
+use Rattle.range_map_blaze.proofs.Words.{◌≡◌, ℤ, pos, ◌+ℤ◌, ◌≤ℤ◌, ◌<ℤ◌, Bool, true, false, ◌&&◌, ◌||◌, cond, List, [], ◌∷◌, ◌++◌, map, Option, Some, None, ◌⊎◌, inl, inr, refl, ◌∙◌, sym, ap, subst, arith, append_assoc, append-nil, int_le, int_lt, IsEquivalence, Yields, Drains, ExtendsWithItems, IsErr, option_to_list, option_or, ints, by_lt_z, length-append, map-append, MatchResult-from_err, and_parts, le_holds, same_itself, Entry, holds, SameOption, IsCanonical, IsRangeMap, IsInside, last_at, AreInside, IsExtended, are_one_pair, joined_pair, IsUnderway}
 use Rattle.std.specs.declared.result.Result.{Result}
-use Rattle.std.specs.Option.{option_to_list, option_or}
-use Rattle.std.proofs.lemmas.Int.{ints, by_lt_z}
-use Rattle.std.proofs.lemmas.List.{length-append, map-append}
-use Rattle.std.proofs.lemmas.Result.{MatchResult-from_err}
-use Rattle.std.proofs.lemmas.Bool.{and_parts}
-use Rattle.blaze_int.proofs.Comparisons.{le_holds}
-use Rattle.blaze_entries.proofs.Alike.{same_itself}
-use Rattle.blaze_table.specs.Entries.{Entry, holds, SameOption}
-use Rattle.blaze_table.specs.Canonical.{IsCanonical, IsRangeMap}
-use Rattle.blaze_table.specs.Painted.{IsInside, last_at}
-use Rattle.range_map_blaze.specs.Extended.{AreInside, IsExtended}
-use Rattle.range_map_blaze.specs.Underway.{are_one_pair, joined_pair, IsUnderway}
 use Rattle.range_map_blaze.proofs.Paints.Insides.{inside_both, inside_parts}
 use Rattle.range_map_blaze.proofs.Paints.LeftAlone.{alone_parts, alone_joined}
 use Rattle.range_map_blaze.proofs.Paints.Paintings.{last_append, extended_none, extended_more}

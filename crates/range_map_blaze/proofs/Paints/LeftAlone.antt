@@ -1,15 +1,5 @@
 -- Pairs that leave an entry alone.
-use Rattle.std.proofs.Common.{◌≡◌, ℤ, pos, ◌+ℤ◌, ◌-ℤ◌, ◌≤ℤ◌, Bool, true, cond, List, [], ◌∷◌, ◌++◌, ◌∙◌, arith, inl, inr}
-use Rattle.std.specs.Prelude.{int_lt}
-use Rattle.std.specs.Cmp.{IsEquivalence}
-use Rattle.std.specs.List.{AllByRecursion, Contains}
-use Rattle.std.proofs.lemmas.Int.{ints, by_lt_z}
-use Rattle.std.proofs.lemmas.List.Elements.{All-contains, All-from_recursion}
-use Rattle.blaze_table.specs.Canonical.{IsCanonical}
-use Rattle.blaze_table.specs.Entries.{Entry}
-use Rattle.blaze_table.specs.Painted.{LeavesAlone}
-use Rattle.range_map_blaze.specs.Extended.{AreLeftAlone}
-use Rattle.range_map_blaze.specs.Underway.{joined_pair}
+use Rattle.range_map_blaze.proofs.Words.{◌≡◌, ℤ, pos, ◌+ℤ◌, ◌-ℤ◌, ◌≤ℤ◌, Bool, true, cond, List, [], ◌∷◌, ◌++◌, ◌∙◌, arith, inl, inr, int_lt, IsEquivalence, AllByRecursion, Contains, ints, by_lt_z, All-contains, All-from_recursion, IsCanonical, Entry, LeavesAlone, AreLeftAlone, joined_pair}
 
 greater_under : (a b c : ℤ) → a ≤ℤ c → b ≤ℤ c → cond (int_lt a b) b a ≤ℤ c
 greater_under a b c x y = by_lt_z a b (λ u. grind (arith, ints)) (λ u. grind (arith, ints))

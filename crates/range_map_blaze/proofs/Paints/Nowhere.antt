@@ -1,12 +1,5 @@
 -- A paint of no key changes nothing.
-use Rattle.std.proofs.Common.{◌≡◌, ℤ, ◌<ℤ◌, Bool, false, ◌&&◌, cond, List, length, Some, sym, subst, ap, arith}
-use Rattle.std.specs.Prelude.{int_le}
-use Rattle.std.specs.Cmp.{IsEquivalence}
-use Rattle.std.proofs.lemmas.Int.{ints}
-use Rattle.blaze_entries.proofs.Alike.{same_itself}
-use Rattle.blaze_table.specs.Entries.{Entry, at, SameOption}
-use Rattle.blaze_table.specs.Canonical.{IsRangeMap}
-use Rattle.blaze_table.specs.Painted.{IsPainted}
+use Rattle.range_map_blaze.proofs.Words.{◌≡◌, ℤ, ◌<ℤ◌, Bool, false, ◌&&◌, cond, List, length, Some, sym, subst, ap, arith, int_le, IsEquivalence, ints, same_itself, Entry, at, SameOption, IsRangeMap, IsPainted}
 
 pub no_key : (l h k : ℤ) → h <ℤ l → (int_le l k && int_le k h) ≡ false
 no_key l h k w = grind (arith, ints)

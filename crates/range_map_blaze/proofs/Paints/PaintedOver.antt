@@ -1,15 +1,5 @@
 -- A range map's list painted over another.
-use Rattle.std.specs.Option.{option_or}
-use Rattle.std.proofs.Common.{◌≡◌, ℤ, Bool, true, false, cond, List, [], ◌∷◌, Option, Some, None, refl, ◌∙◌, ap}
-use Rattle.std.specs.Cmp.{IsEquivalence}
-use Rattle.blaze_entries.proofs.Alike.{same_along}
-use Rattle.blaze_table.specs.Entries.{Entry, at, holds}
-use Rattle.blaze_table.specs.Canonical.{IsCanonical, IsRangeMap}
-use Rattle.blaze_table.specs.Chosen.{right_first, IsChosen}
-use Rattle.blaze_table.specs.Painted.{last_at}
-use Rattle.blaze_table.proofs.Canonical.Lookup.{IsAbove-from_apart, at_before, by_place, holds_under, holds_over}
-use Rattle.blaze_table.proofs.Canonical.Runs.{canonical}
-use Rattle.range_map_blaze.specs.Extended.{IsExtended}
+use Rattle.range_map_blaze.proofs.Words.{option_or, ◌≡◌, ℤ, Bool, true, false, cond, List, [], ◌∷◌, Option, Some, None, refl, ◌∙◌, ap, IsEquivalence, same_along, Entry, at, holds, IsCanonical, IsRangeMap, right_first, IsChosen, last_at, IsAbove-from_apart, at_before, by_place, holds_under, holds_over, canonical, IsExtended}
 
 -- the value where the key is held, else what was there
 abbrev over : {V : Type 0} → Bool → V → Option V → Option V

@@ -1,16 +1,5 @@
 -- Pairs painted in parts, one part after another.
-use Rattle.std.specs.Option.{option_or}
-use Rattle.std.proofs.Common.{◌≡◌, ◌-◌, ◌*◌, ◌≤◌, ℤ, ◌≤ℤ◌, ◌<ℤ◌, Bool, false, cond, List, [], ◌∷◌, ◌++◌, length, Some, None, refl, ◌∙◌, sym, ap, subst, arith, inl, inr, Result, Ok, Err, OnOk}
-use Rattle.std.specs.Cmp.{IsEquivalence}
-use Rattle.std.proofs.lemmas.Int.{ints, by_lt_z}
-use Rattle.std.proofs.lemmas.List.{length-append}
-use Rattle.blaze_entries.proofs.Alike.{same_itself, same_trans, same_or, or_none, or_assoc}
-use Rattle.blaze_table.specs.Entries.{Entry, at, holds, SameOption}
-use Rattle.blaze_table.specs.Painted.{IsInside, IsPainted, last_at, painted_in_order}
-use Rattle.blaze_table.proofs.Pairs.Lasts.{painted_one}
-use Rattle.blaze_table.specs.Canonical.{IsCanonical, IsRangeMap}
-use Rattle.blaze_table.proofs.Canonical.Runs.{canonical}
-use Rattle.range_map_blaze.specs.Extended.{AreInside, AreLeftAlone, ArePaintedInTurn, IsExtended, IsPairPainted}
+use Rattle.range_map_blaze.proofs.Words.{option_or, ◌≡◌, ◌-◌, ◌*◌, ◌≤◌, ℤ, ◌≤ℤ◌, ◌<ℤ◌, Bool, false, cond, List, [], ◌∷◌, ◌++◌, length, Some, None, refl, ◌∙◌, sym, ap, subst, arith, inl, inr, Result, Ok, Err, OnOk, IsEquivalence, ints, by_lt_z, length-append, same_itself, same_trans, same_or, or_none, or_assoc, Entry, at, holds, SameOption, IsInside, IsPainted, last_at, painted_in_order, painted_one, IsCanonical, IsRangeMap, canonical, AreInside, AreLeftAlone, ArePaintedInTurn, IsExtended, IsPairPainted}
 use Rattle.range_map_blaze.proofs.Paints.Insides.{inside_parts}
 use Rattle.range_map_blaze.proofs.Paints.LeftAlone.{alone_parts, has_key}
 

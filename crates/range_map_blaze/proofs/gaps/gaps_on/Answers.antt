@@ -1,4 +1,4 @@
-use Rattle.blaze_table.proofs.Canonical.Runs.{canonical}
+use Rattle.range_map_blaze.proofs.Words.{canonical}
 use Rattle.range_map_blaze.proofs.GapsWithin.{gaps_made}
 use Rattle.range_map_blaze.proofs.GapWalks.{walk_first}
 use Rattle.range_map_blaze.proofs.gaps.gaps_on.Goals as goal

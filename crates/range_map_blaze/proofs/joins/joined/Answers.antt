@@ -1,8 +1,4 @@
-use Rattle.std.proofs.Common.{◌≡◌, true}
-use Rattle.std.proofs.lemmas.Result.{IfOk-weaker}
-use Rattle.blaze_streams.specs.Joins.{is_joined}
-use Rattle.blaze_streams.proofs.Answering.{each_then}
-use Rattle.blaze_streams.proofs.Paired.{joined_all}
+use Rattle.range_map_blaze.proofs.Words.{◌≡◌, true, IfOk-weaker, is_joined, each_then, joined_all}
 use Rattle.range_map_blaze.proofs.joins.joined.Goals as goal
 
 pub answers_of-requires-clause-have : goal.answers_of-requires-clause-have

@@ -1,9 +1,4 @@
-use Rattle.std.proofs.Common.{◌∙◌, ◌++◌, ◌∷◌, [], refl, sym, ap, subst, append_assoc, append-nil}
-use Rattle.std.proofs.lemmas.List.{map-append}
-use Rattle.std.specs.Range.{range_inclusive_start}
-use Rattle.blaze_table.specs.Canonical.{IsRangeMap}
-use Rattle.blaze_table.specs.Counted.{uncounted}
-use Rattle.blaze_table.specs.Entries.{Entry, entry, shown_entry, shown_list}
+use Rattle.range_map_blaze.proofs.Words.{◌∙◌, ◌++◌, ◌∷◌, [], refl, sym, ap, subst, append_assoc, append-nil, map-append, range_inclusive_start, IsRangeMap, uncounted, Entry, entry, shown_entry, shown_list}
 use Rattle.range_map_blaze.proofs.joins.map_of.Goals as goal
 
 pub loop-item-init : goal.loop-item-init

@@ -1,5 +1,4 @@
-use Rattle.std.proofs.Common.{◌≡◌, ◌++◌}
-use Rattle.blaze_table.specs.Entries.{shown_list}
+use Rattle.range_map_blaze.proofs.Words.{◌≡◌, ◌++◌, shown_list}
 use Rattle.range_map_blaze.proofs.joins.map_of.Given as goal
 
 -- the entries are those taken from the stream, and the rest is left

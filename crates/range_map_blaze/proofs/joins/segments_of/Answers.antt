@@ -1,5 +1,4 @@
-use Rattle.std.proofs.lemmas.Result.{IfOk-weaker}
-use Rattle.blaze_streams.proofs.CarriedJoins.{itself_alike, exact_join}
+use Rattle.range_map_blaze.proofs.Words.{IfOk-weaker, itself_alike, exact_join}
 use Rattle.range_map_blaze.proofs.joins.segments_of.Goals as goal
 
 pub join_of-requires-clause-left : goal.join_of-requires-clause-left

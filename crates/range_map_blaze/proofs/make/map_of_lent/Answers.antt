@@ -1,4 +1,4 @@
-use Rattle.std.proofs.lemmas.Result.{IfOk-weaker}
+use Rattle.range_map_blaze.proofs.Words.{IfOk-weaker}
 use Rattle.range_map_blaze.proofs.make.map_of_lent.Goals as goal
 
 pub returns : goal.returns

@@ -1,5 +1,4 @@
-use Rattle.std.proofs.Common.{refl}
-use denote.Ref.{Bor}
+use Rattle.range_map_blaze.proofs.Words.{refl, Bor}
 use Rattle.range_map_blaze.proofs.LentValues.{cloned_more}
 use Rattle.range_map_blaze.proofs.pairs.cloned.Goals as goal
 

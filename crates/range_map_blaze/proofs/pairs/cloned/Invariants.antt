@@ -1,5 +1,4 @@
-use Rattle.std.proofs.Common.{map}
-use Rattle.blaze_table.specs.Entries.{SameEntries, shown_entry, shown_list}
+use Rattle.range_map_blaze.proofs.Words.{map, SameEntries, shown_entry, shown_list}
 use Rattle.range_map_blaze.proofs.pairs.cloned.Given as goal
 
 -- the entries so far are those of the lent values so far

@@ -1,6 +1,4 @@
-use Rattle.std.proofs.Common.{[], ◌∷◌, ◌++◌, ◌∙◌, sym, ap, map}
-use Rattle.std.proofs.lemmas.List.{map-append}
-use Rattle.blaze_table.specs.Entries.{shown_entry}
+use Rattle.range_map_blaze.proofs.Words.{[], ◌∷◌, ◌++◌, ◌∙◌, sym, ap, map, map-append, shown_entry}
 use Rattle.range_map_blaze.proofs.pairs.lent_pairs_of.Goals as goal
 
 pub loop-item-init-derived : goal.loop-item-init-derived

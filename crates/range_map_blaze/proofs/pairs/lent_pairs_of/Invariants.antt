@@ -1,5 +1,4 @@
-use Rattle.std.proofs.Common.{◌≡◌, map}
-use Rattle.blaze_table.specs.Entries.{shown_entry}
+use Rattle.range_map_blaze.proofs.Words.{◌≡◌, map, shown_entry}
 use Rattle.range_map_blaze.proofs.pairs.lent_pairs_of.Given as goal
 
 abbrev pub invariant-loop-item : goal.invariant-loop-item

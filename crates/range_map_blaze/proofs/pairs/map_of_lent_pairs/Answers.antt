@@ -1,6 +1,4 @@
-use Rattle.std.proofs.Common.{map}
-use Rattle.blaze_table.specs.CanonicalOf.{IsCanonicalOf}
-use Rattle.blaze_table.specs.Entries.{shown_entry}
+use Rattle.range_map_blaze.proofs.Words.{map, IsCanonicalOf, shown_entry}
 use Rattle.range_map_blaze.proofs.LentValues.{cloned_is}
 use Rattle.range_map_blaze.proofs.Made.{made_of}
 use Rattle.range_map_blaze.proofs.pairs.map_of_lent_pairs.Goals as goal

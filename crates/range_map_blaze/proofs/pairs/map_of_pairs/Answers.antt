@@ -1,5 +1,4 @@
-use Rattle.blaze_table.specs.CanonicalOf.{IsCanonicalOf}
-use Rattle.blaze_table.specs.Entries.{shown_list}
+use Rattle.range_map_blaze.proofs.Words.{IsCanonicalOf, shown_list}
 use Rattle.range_map_blaze.proofs.Made.{made_of}
 use Rattle.range_map_blaze.proofs.pairs.map_of_pairs.Goals as goal
 

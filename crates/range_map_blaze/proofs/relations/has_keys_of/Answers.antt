@@ -1,8 +1,4 @@
-use Rattle.std.specs.Option.{option_map}
-use Rattle.std.proofs.Common.{◌∙◌, ap, sym}
-use Rattle.blaze_int.proofs.Comparisons.{lt_fails, lt_holds}
-use Rattle.blaze_entries.specs.Found.{shown_ends}
-use Rattle.blaze_streams.proofs.LengthsLeft.{lengths_left}
+use Rattle.range_map_blaze.proofs.Words.{option_map, ◌∙◌, ap, sym, lt_fails, lt_holds, shown_ends, lengths_left}
 use Rattle.range_map_blaze.proofs.SharedKeys.{fewer_below, fewer_left, nothing_covers, own_passed, shorter_left, shorter_right, starts_before, their_passed}
 use Rattle.range_map_blaze.proofs.relations.has_keys_of.Goals as goal
 

@@ -1,7 +1,4 @@
-use Rattle.std.proofs.Common.{◌+◌}
-use Rattle.std.specs.Prelude.{◌↔◌}
-use Rattle.blaze_streams.proofs.LengthsLeft.{lengths_left}
-use Rattle.range_map_blaze.specs.Relations.{HasKeysOf}
+use Rattle.range_map_blaze.proofs.Words.{◌+◌, ◌↔◌, lengths_left, HasKeysOf}
 use Rattle.range_map_blaze.proofs.relations.has_keys_of.Given as goal
 
 -- the left table has the keys of the right one exactly where what is left of it has those of what is left there

@@ -1,6 +1,4 @@
-use Rattle.std.proofs.Common.{◌∙◌, sym}
-use Rattle.blaze_int.proofs.Comparisons.{lt_fails, lt_holds}
-use Rattle.blaze_streams.proofs.LengthsLeft.{lengths_left}
+use Rattle.range_map_blaze.proofs.Words.{◌∙◌, sym, lt_fails, lt_holds, lengths_left}
 use Rattle.range_map_blaze.proofs.SharedKeys.{fewer_below, left_passed, right_passed, shared, shorter_left, shorter_right, whole_lists}
 use Rattle.range_map_blaze.proofs.relations.share_no_key.Goals as goal
 

@@ -1,7 +1,4 @@
-use Rattle.std.proofs.Common.{◌+◌}
-use Rattle.std.specs.Prelude.{◌↔◌}
-use Rattle.blaze_streams.proofs.LengthsLeft.{lengths_left}
-use Rattle.range_map_blaze.specs.Relations.{ShareNoKey}
+use Rattle.range_map_blaze.proofs.Words.{◌+◌, ◌↔◌, lengths_left, ShareNoKey}
 use Rattle.range_map_blaze.proofs.relations.share_no_key.Given as goal
 
 -- the tables share no key exactly where what is left of them shares none

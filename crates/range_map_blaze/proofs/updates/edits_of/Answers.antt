@@ -1,7 +1,4 @@
-use Rattle.std.proofs.Common.{ap}
-use Rattle.blaze_streams.specs.Carried.{shown_option}
-use Rattle.blaze_streams.specs.Gaps.{rank_or_end}
-use Rattle.blaze_table.specs.Entries.{shown_list}
+use Rattle.range_map_blaze.proofs.Words.{ap, shown_option, rank_or_end, shown_list}
 use Rattle.range_map_blaze.proofs.Edits.Pieces.{all_asked, edits_made, takes_last}
 use Rattle.range_map_blaze.proofs.updates.edits_of.Goals as goal
 

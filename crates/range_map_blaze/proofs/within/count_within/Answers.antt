@@ -1,10 +1,4 @@
-use Rattle.std.proofs.Common.{◌≡◌, pos, ◌∙◌, sym, ap, subst, arith}
-use Rattle.std.proofs.lemmas.Int.{ints}
-use Rattle.blaze_table.specs.Canonical.{IsCanonical}
-use Rattle.blaze_table.specs.Count.{keys_in}
-use Rattle.blaze_table.proofs.Canonical.Counted.{some_keys, one_fits, one_more, keys_among}
-use Rattle.blaze_table.proofs.Canonical.Runs.{canonical}
-use Rattle.range_map_blaze.specs.Within.{cut_each, within}
+use Rattle.range_map_blaze.proofs.Words.{◌≡◌, pos, ◌∙◌, sym, ap, subst, arith, ints, IsCanonical, keys_in, some_keys, one_fits, one_more, keys_among, canonical, cut_each, within}
 use Rattle.range_map_blaze.proofs.CutEach.{cut_is_within, is_within, count_is_mapped}
 use Rattle.range_map_blaze.proofs.within.count_within.Goals as goal
 

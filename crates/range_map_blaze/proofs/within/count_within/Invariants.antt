@@ -1,7 +1,4 @@
-use Rattle.std.proofs.Common.{◌≡◌, pos, ◌+ℤ◌}
-use Rattle.blaze_table.specs.Canonical.{IsCanonical}
-use Rattle.blaze_table.specs.Count.{keys_in}
-use Rattle.range_map_blaze.specs.Within.{cut_each, within}
+use Rattle.range_map_blaze.proofs.Words.{◌≡◌, pos, ◌+ℤ◌, IsCanonical, keys_in, cut_each, within}
 use Rattle.range_map_blaze.proofs.within.count_within.Given as goal
 
 -- the sum is that of the cut entries so far

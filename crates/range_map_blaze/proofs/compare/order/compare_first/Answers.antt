@@ -1,4 +1,4 @@
-use Rattle.std.proofs.Common.{rules}
+use Rattle.range_map_blaze.proofs.Words.{rules}
 use Rattle.range_map_blaze.proofs.compare.order.compare_first.Goals as goal
 
 pub returns-clause-order : goal.returns-clause-order

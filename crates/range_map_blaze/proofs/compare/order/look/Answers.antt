@@ -1,8 +1,4 @@
-use Rattle.std.proofs.Common.{◌≡◌, ◌∙◌, ◌≤ℤ◌, List, sym, ap, subst}
-use Rattle.blaze_table.specs.Entries.{Entry, shown_range_entry}
-use Rattle.std.specs.Int.{int_min}
-use Rattle.blaze_table.specs.Splice.{after}
-use Rattle.range_map_blaze.specs.Order.{IsComparedOn}
+use Rattle.range_map_blaze.proofs.Words.{◌≡◌, ◌∙◌, ◌≤ℤ◌, List, sym, ap, subst, Entry, shown_range_entry, int_min, after, IsComparedOn}
 use Rattle.range_map_blaze.proofs.Order.PairOrder.{not_Equal, is_Equal, both_at_end, left_at_end, other_at_end, decided_at_first, compared_after, reaches_first, earlier_left, earlier_right}
 use Rattle.range_map_blaze.proofs.compare.order.look.Goals as goal
 

@@ -1,10 +1,4 @@
-use Rattle.std.proofs.Common.{◌≡◌, ◌++◌, ℕ, List, [], Some, Ok, rules, refl, append-nil, append_assoc, ap, ◌∙◌, sym}
-use Rattle.std.proofs.Output.{has_written_append}
-use Rattle.std.specs.Fmt.{HasWritten, WritesOnOk, ◌++?◌}
-use Rattle.std.specs.Range.{range_inclusive_start, range_inclusive_end}
-use Rattle.blaze_table.specs.Entries.{Entry}
-use Rattle.range_map_blaze.specs.Printed.{entries_text, map_text}
-use Rattle.blaze_table.proofs.Pairs.Texts.{split_some}
+use Rattle.range_map_blaze.proofs.Words.{◌≡◌, ◌++◌, ℕ, List, [], Some, Ok, rules, refl, append-nil, append_assoc, ap, ◌∙◌, sym, has_written_append, HasWritten, WritesOnOk, ◌++?◌, range_inclusive_start, range_inclusive_end, Entry, entries_text, map_text, split_some}
 use Rattle.range_map_blaze.proofs.Texts.{entry_shown, where_known}
 use Rattle.range_map_blaze.proofs.display.RangeMapBlazeDisplay.fmt.Goals as goal
 

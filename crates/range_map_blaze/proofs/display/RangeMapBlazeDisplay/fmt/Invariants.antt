@@ -1,8 +1,4 @@
-use Rattle.std.proofs.Common.{◌≡◌, ◌++◌, ℕ, List, Some}
-use Rattle.std.specs.Fmt.{HasWritten, IsPlainFormatter}
-use denote.Text.{Utf8}
-use denote.Shadow.{shadow}
-use Rattle.range_map_blaze.specs.Printed.{entries_text, map_text}
+use Rattle.range_map_blaze.proofs.Words.{◌≡◌, ◌++◌, ℕ, List, Some, HasWritten, IsPlainFormatter, Utf8, shadow, entries_text, map_text}
 use Rattle.range_map_blaze.proofs.display.RangeMapBlazeDisplay.fmt.Given as goal
 
 -- where the whole text is known, what is written and the text of the other entries are the whole

@@ -1,8 +1,4 @@
-use Rattle.std.proofs.Common.{Some, sym, ap, ◌∙◌, append-nil}
-use Rattle.blaze_entries.proofs.Steps.{goes_last}
-use Rattle.blaze_streams.specs.Ranges.{shown_range}
-use Rattle.blaze_table.specs.RangeSets.{shown_bare_range}
-use Rattle.range_map_blaze.specs.Within.{gaps_left}
+use Rattle.range_map_blaze.proofs.Words.{Some, sym, ap, ◌∙◌, append-nil, goes_last, shown_range, shown_bare_range, gaps_left}
 use Rattle.range_map_blaze.proofs.GapWalks.{back_gaps, back_walk}
 use Rattle.range_map_blaze.proofs.gaps.GapsDoubleEndedIterator.next_back.Goals as goal
 

@@ -1,5 +1,4 @@
-use Rattle.std.proofs.Common.{◌≡◌, IfSome, length}
-use Rattle.range_map_blaze.specs.Within.{gaps_left, IsGapWalk}
+use Rattle.range_map_blaze.proofs.Words.{◌≡◌, IfSome, length, gaps_left, IsGapWalk}
 use Rattle.range_map_blaze.proofs.gaps.GapsIterator.next.Given as goal
 
 -- the same gaps are left as at the start

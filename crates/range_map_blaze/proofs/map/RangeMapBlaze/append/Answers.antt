@@ -1,4 +1,4 @@
-use Rattle.std.proofs.Common.{Ok, Err, Result, OnErr, refl}
+use Rattle.range_map_blaze.proofs.Words.{Ok, Err, Result, OnErr, refl}
 use Rattle.range_map_blaze.proofs.map.RangeMapBlaze.append.Goals as goal
 
 on_err : {A E : Type 0} {P : Type 0} (r : Result A E) → P → OnErr r P

@@ -1,8 +1,4 @@
-use Rattle.std.proofs.Common.{OnOk, subst}
-use Rattle.blaze_table.specs.Counted.{CountedEntries}
-use Rattle.blaze_table.specs.Cut.{IsRangeCut}
-use Rattle.blaze_table.specs.Entries.{entry}
-use Rattle.blaze_table.specs.Painted.{IsPainted}
+use Rattle.range_map_blaze.proofs.Words.{OnOk, subst, CountedEntries, IsRangeCut, entry, IsPainted}
 use Rattle.range_map_blaze.proofs.Edits.Applied.{cut_where, painted_edit}
 use Rattle.range_map_blaze.proofs.map.RangeMapBlaze.apply_edit.Goals as goal
 

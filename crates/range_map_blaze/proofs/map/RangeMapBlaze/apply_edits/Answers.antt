@@ -1,14 +1,4 @@
-use Rattle.blaze_int.proofs.Options.{if_err}
-use Rattle.std.proofs.Common.{◌≡◌, [], ◌++◌, ◌∷◌, ◌∙◌, sym, ap, append-nil, append_assoc, subst}
-use Rattle.std.specs.Cmp.Lexicographic.{options_equiv}
-use Rattle.std.specs.Option.{option_eq}
-use Rattle.std.proofs.lemmas.List.{nil_from_length}
-use Rattle.std.specs.Vec.Iter.{into_iter_items}
-use Rattle.blaze_table.specs.Canonical.{IsCanonical}
-use Rattle.blaze_table.specs.Entries.{shown_entry, shown_list}
-use Rattle.blaze_table.proofs.Canonical.Runs.{canonical}
-use Rattle.blaze_table.proofs.Walks.Worked.{counted_none, counted_then}
-use Rattle.range_map_blaze.specs.Edits.{AreEdited}
+use Rattle.range_map_blaze.proofs.Words.{if_err, ◌≡◌, [], ◌++◌, ◌∷◌, ◌∙◌, sym, ap, append-nil, append_assoc, subst, options_equiv, option_eq, nil_from_length, into_iter_items, IsCanonical, shown_entry, shown_list, canonical, counted_none, counted_then, AreEdited}
 use Rattle.range_map_blaze.proofs.Edits.Applied.{edited_none, edited_more}
 use Rattle.range_map_blaze.proofs.Paints.Insides.{with_key}
 use Rattle.range_map_blaze.proofs.map.RangeMapBlaze.apply_edits.Goals as goal

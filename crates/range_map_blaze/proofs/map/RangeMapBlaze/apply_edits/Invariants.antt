@@ -1,8 +1,4 @@
-use Rattle.std.proofs.Common.{◌≡◌, ◌++◌, List, Option}
-use Rattle.std.specs.Vec.Iter.{into_iter_items}
-use Rattle.blaze_table.specs.Entries.{Entry, shown_list}
-use Rattle.blaze_table.specs.Work.{IsCounted}
-use Rattle.range_map_blaze.specs.Edits.{AreEdited}
+use Rattle.range_map_blaze.proofs.Words.{◌≡◌, ◌++◌, List, Option, into_iter_items, Entry, shown_list, IsCounted, AreEdited}
 use Rattle.range_map_blaze.proofs.map.RangeMapBlaze.apply_edits.Given as goal
 
 -- the edits that were taken are made

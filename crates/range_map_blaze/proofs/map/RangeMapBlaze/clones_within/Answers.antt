@@ -1,12 +1,4 @@
-use Rattle.std.proofs.Common.{◌≤ℤ◌, ◌<ℤ◌, ◌∙◌, refl, ap, sym, subst, arith}
-use Rattle.std.proofs.lemmas.Int.{ints}
-use Rattle.std.specs.Int.{int_max, int_min}
-use Rattle.blaze_table.specs.Counted.{CountedEntries}
-use Rattle.blaze_table.specs.Ending.{ending_from}
-use Rattle.blaze_table.specs.Entries.{entry, shown_entry}
-use Rattle.blaze_table.proofs.Canonical.Clones.{IsCopied}
-use Rattle.blaze_table.proofs.Canonical.Runs.{canonical}
-use Rattle.range_map_blaze.specs.Within.{within}
+use Rattle.range_map_blaze.proofs.Words.{◌≤ℤ◌, ◌<ℤ◌, ◌∙◌, refl, ap, sym, subst, arith, ints, int_max, int_min, CountedEntries, ending_from, entry, shown_entry, IsCopied, canonical, within}
 use Rattle.range_map_blaze.proofs.Paints.Following.{IsOnward, whole_first, within_next, within_over, onward_next, copied_none, copied_more, copied_all}
 use Rattle.range_map_blaze.proofs.map.RangeMapBlaze.clones_within.Goals as goal
 

@@ -1,5 +1,4 @@
-use Rattle.blaze_table.proofs.Canonical.Clones.{IsCopied}
-use Rattle.range_map_blaze.specs.Within.{within}
+use Rattle.range_map_blaze.proofs.Words.{IsCopied, within}
 use Rattle.range_map_blaze.proofs.Paints.Following.{IsOnward}
 use Rattle.range_map_blaze.proofs.map.RangeMapBlaze.clones_within.Given as goal
 

@@ -1,5 +1,4 @@
-use Rattle.std.proofs.Common.{◌≡◌, ◌+◌, ◌≤◌, length}
-use Rattle.range_map_blaze.specs.Order.{pairs_cmp}
+use Rattle.range_map_blaze.proofs.Words.{◌≡◌, ◌+◌, ◌≤◌, length, pairs_cmp}
 use Rattle.range_map_blaze.proofs.map.RangeMapBlaze.cmp_counted.Given as goal
 
 -- what is left compares as the maps do, and each turn so far took at least one entry

@@ -1,8 +1,4 @@
-use Rattle.std.proofs.Common.{[], ◌++◌, ◌∷◌, ◌∙◌, sym, ap, subst, append-nil, append_assoc, map}
-use Rattle.std.proofs.lemmas.List.{map-append}
-use Rattle.blaze_table.specs.Complement.{IsComplement}
-use Rattle.blaze_table.specs.Entries.{entry, SameEntries, shown_entry}
-use Rattle.blaze_table.specs.RangeSets.{shown_bare_range, unit_eq}
+use Rattle.range_map_blaze.proofs.Words.{[], ◌++◌, ◌∷◌, ◌∙◌, sym, ap, subst, append-nil, append_assoc, map, map-append, IsComplement, entry, SameEntries, shown_entry, shown_bare_range, unit_eq}
 use Rattle.range_map_blaze.proofs.Choices.{complement_of}
 use Rattle.range_map_blaze.proofs.Made.{made_of}
 use Rattle.range_map_blaze.proofs.Streams.{same-push, range_map_as}

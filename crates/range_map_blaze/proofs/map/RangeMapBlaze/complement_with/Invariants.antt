@@ -1,7 +1,4 @@
-use Rattle.std.proofs.Common.{◌≡◌, ◌++◌, List, map}
-use Rattle.blaze_table.specs.Complement.{IsComplement}
-use Rattle.blaze_table.specs.Entries.{Entry, SameEntries, shown_entry}
-use Rattle.blaze_table.specs.RangeSets.{unit_eq}
+use Rattle.range_map_blaze.proofs.Words.{◌≡◌, ◌++◌, List, map, IsComplement, Entry, SameEntries, shown_entry, unit_eq}
 use Rattle.range_map_blaze.proofs.Valued.{valued}
 use Rattle.range_map_blaze.proofs.map.RangeMapBlaze.complement_with.Given as goal
 

@@ -1,9 +1,4 @@
-use Rattle.std.proofs.Common.{subst}
-use Rattle.std.specs.Prelude.{IfOk}
-use Rattle.blaze_streams.specs.Carried.{shown_option}
-use Rattle.blaze_table.specs.Counted.{CountedEntries}
-use Rattle.blaze_table.specs.Entries.{shown_list}
-use Rattle.range_map_blaze.specs.Edits.{AreEdits}
+use Rattle.range_map_blaze.proofs.Words.{subst, IfOk, shown_option, CountedEntries, shown_list, AreEdits}
 use Rattle.range_map_blaze.proofs.map.RangeMapBlaze.edits_between.Goals as goal
 
 pub returns : goal.returns

@@ -1,7 +1,4 @@
-use Rattle.std.specs.Prelude.{find, int_lt}
-use Rattle.std.proofs.Common.{◌≡◌, ◌∙◌, Some, None, subst, option_map}
-use Rattle.blaze_table.specs.Entries.{shown_entry, entry_at}
-use Rattle.blaze_table.proofs.Canonical.Runs.{canonical}
+use Rattle.range_map_blaze.proofs.Words.{find, int_lt, ◌≡◌, ◌∙◌, Some, None, subst, option_map, shown_entry, entry_at, canonical}
 use Rattle.range_map_blaze.proofs.Nearest.{first_with_key, first_above}
 use Rattle.range_map_blaze.proofs.map.RangeMapBlaze.entry_at_or_above.Goals as goal
 

@@ -1,8 +1,4 @@
-use Rattle.std.specs.Prelude.{find, int_lt, reverse}
-use Rattle.std.proofs.Common.{◌≡◌, ◌∙◌, Some, None, subst, option_map}
-use Rattle.blaze_table.specs.Entries.{shown_entry, entry_at}
-use Rattle.blaze_table.proofs.Canonical.RangeMaps.{starts_ascend}
-use Rattle.blaze_table.proofs.Canonical.Runs.{canonical}
+use Rattle.range_map_blaze.proofs.Words.{find, int_lt, reverse, ◌≡◌, ◌∙◌, Some, None, subst, option_map, shown_entry, entry_at, starts_ascend, canonical}
 use Rattle.range_map_blaze.proofs.Nearest.{last_with_key, last_under_key}
 use Rattle.range_map_blaze.proofs.map.RangeMapBlaze.entry_at_or_below.Goals as goal
 

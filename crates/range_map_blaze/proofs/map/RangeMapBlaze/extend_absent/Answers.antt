@@ -1,5 +1,4 @@
-use Rattle.std.proofs.Common.{rules, sym, subst}
-use Rattle.range_map_blaze.specs.FilledFrom.{IsFilledFrom}
+use Rattle.range_map_blaze.proofs.Words.{rules, sym, subst, IsFilledFrom}
 use Rattle.range_map_blaze.proofs.Paints.FilledFrom.{filled_from_none}
 use Rattle.range_map_blaze.proofs.map.RangeMapBlaze.extend_absent.Goals as goal
 

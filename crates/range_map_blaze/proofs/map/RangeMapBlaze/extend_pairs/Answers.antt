@@ -1,4 +1,4 @@
-use Rattle.blaze_table.proofs.Walks.Worked.{counted_none, counted_then}
+use Rattle.range_map_blaze.proofs.Words.{counted_none, counted_then}
 use Rattle.range_map_blaze.proofs.Paints.Joinings.{underway_begun, underway_painted, underway_item, front_painted}
 use Rattle.range_map_blaze.proofs.map.RangeMapBlaze.extend_pairs.Goals as goal
 

@@ -1,8 +1,4 @@
-use Rattle.std.proofs.Common.{map}
-use Rattle.std.specs.Prelude.{option_map}
-use Rattle.blaze_table.specs.Entries.{shown_range_entry}
-use Rattle.blaze_table.specs.Work.{IsCounted}
-use Rattle.range_map_blaze.specs.Underway.{IsUnderway}
+use Rattle.range_map_blaze.proofs.Words.{map, option_map, shown_range_entry, IsCounted, IsUnderway}
 use Rattle.range_map_blaze.proofs.map.RangeMapBlaze.extend_pairs.Given as goal
 
 abbrev pub invariant-loop-item : goal.invariant-loop-item

@@ -1,6 +1,4 @@
-use Rattle.std.proofs.Common.{ap, refl}
-use Rattle.blaze_streams.specs.Ranges.{shown_range}
-use Rattle.blaze_table.proofs.Walks.Worked.{counted_none, counted_then}
+use Rattle.range_map_blaze.proofs.Words.{ap, refl, shown_range, counted_none, counted_then}
 use Rattle.range_map_blaze.proofs.Paints.InTurn.{in_turn_item}
 use Rattle.range_map_blaze.proofs.map.RangeMapBlaze.extend_simple.Goals as goal
 

@@ -1,7 +1,4 @@
-use Rattle.std.proofs.Common.{map}
-use Rattle.blaze_table.specs.Work.{IsCounted}
-use Rattle.blaze_streams.specs.Ranges.{shown_range}
-use Rattle.range_map_blaze.specs.Extended.{ArePaintedInTurn}
+use Rattle.range_map_blaze.proofs.Words.{map, IsCounted, shown_range, ArePaintedInTurn}
 use Rattle.range_map_blaze.proofs.map.RangeMapBlaze.extend_simple.Given as goal
 
 abbrev pub invariant-loop-range : goal.invariant-loop-range

@@ -1,5 +1,4 @@
-use Rattle.std.proofs.Common.{rules, refl, sym, subst}
-use Rattle.range_map_blaze.specs.Extended.{ArePaintedInTurn}
+use Rattle.range_map_blaze.proofs.Words.{rules, refl, sym, subst, ArePaintedInTurn}
 use Rattle.range_map_blaze.proofs.map.RangeMapBlaze.extend_with.Goals as goal
 
 pub returns-then-is_empty-clause-ok : goal.returns-then-is_empty-clause-ok

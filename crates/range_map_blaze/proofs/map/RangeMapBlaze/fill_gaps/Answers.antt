@@ -1,6 +1,4 @@
-use Rattle.std.proofs.Common.{subst}
-use Rattle.range_map_blaze.specs.GapsFilled.{AreGapsFilled}
-use Rattle.range_map_blaze.specs.Made.{IsMade}
+use Rattle.range_map_blaze.proofs.Words.{subst, AreGapsFilled, IsMade}
 use Rattle.range_map_blaze.proofs.AllKeys.{gaps_filled, every_key}
 use Rattle.range_map_blaze.proofs.map.RangeMapBlaze.fill_gaps.Goals as goal
 

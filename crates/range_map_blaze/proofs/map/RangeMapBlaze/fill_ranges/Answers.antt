@@ -1,8 +1,4 @@
-use Rattle.std.proofs.Common.{[], ◌++◌, ◌∷◌, ◌∙◌, sym, ap, append-nil, append_assoc, subst}
-use Rattle.std.specs.Iterator.{IsFinite}
-use Rattle.blaze_streams.specs.Ranges.{shown_range}
-use Rattle.blaze_table.proofs.Walks.Worked.{counted_none, counted_then}
-use Rattle.range_map_blaze.specs.FilledFrom.{IsFilledFrom}
+use Rattle.range_map_blaze.proofs.Words.{[], ◌++◌, ◌∷◌, ◌∙◌, sym, ap, append-nil, append_assoc, subst, IsFinite, shown_range, counted_none, counted_then, IsFilledFrom}
 use Rattle.range_map_blaze.proofs.Paints.FilledFrom.{filled_from_none, filled_from_more}
 use Rattle.range_map_blaze.proofs.Paints.Insides.{with_key}
 use Rattle.range_map_blaze.proofs.map.RangeMapBlaze.fill_ranges.Goals as goal

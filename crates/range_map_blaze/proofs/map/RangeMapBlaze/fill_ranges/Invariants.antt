@@ -1,7 +1,4 @@
-use Rattle.std.proofs.Common.{◌≡◌, ◌++◌, List}
-use Rattle.blaze_table.specs.Entries.{Entry}
-use Rattle.blaze_table.specs.Work.{IsCounted}
-use Rattle.range_map_blaze.specs.FilledFrom.{IsFilledFrom}
+use Rattle.range_map_blaze.proofs.Words.{◌≡◌, ◌++◌, List, Entry, IsCounted, IsFilledFrom}
 use Rattle.range_map_blaze.proofs.map.RangeMapBlaze.fill_ranges.Given as goal
 
 -- the ranges that were taken are filled in

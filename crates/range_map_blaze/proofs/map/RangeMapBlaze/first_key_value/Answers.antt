@@ -1,5 +1,4 @@
-use Rattle.std.proofs.Common.{◌∙◌, sym, ap}
-use Rattle.std.specs.List.{slice_get}
+use Rattle.range_map_blaze.proofs.Words.{◌∙◌, sym, ap, slice_get}
 use Rattle.range_map_blaze.proofs.Order.EndPairs.{first_of, none_first}
 use Rattle.range_map_blaze.proofs.map.RangeMapBlaze.first_key_value.Goals as goal
 

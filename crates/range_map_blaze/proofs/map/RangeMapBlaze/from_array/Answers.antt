@@ -1,9 +1,4 @@
-use Rattle.std.proofs.Common.{◌∙◌, map, subst, sym}
-use Rattle.std.proofs.lemmas.Iterator.{items_from_drains}
-use Rattle.std.proofs.lemmas.Iterator.Adapters.{YieldsList-from_vec}
-use Rattle.std.proofs.lemmas.List.{map-id}
-use Rattle.blaze_table.specs.CanonicalOf.{IsCanonicalOf}
-use Rattle.range_map_blaze.specs.Extended.{shown_point}
+use Rattle.range_map_blaze.proofs.Words.{◌∙◌, map, subst, sym, items_from_drains, YieldsList-from_vec, map-id, IsCanonicalOf, shown_point}
 use Rattle.range_map_blaze.proofs.map.RangeMapBlaze.from_array.Goals as goal
 
 pub returns : goal.returns

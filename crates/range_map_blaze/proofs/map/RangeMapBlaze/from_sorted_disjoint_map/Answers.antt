@@ -1,7 +1,4 @@
-use Rattle.std.proofs.Common.{[], ◌++◌, ◌∷◌, ◌∙◌, sym, ap, subst, map, append-nil}
-use Rattle.std.specs.Iterator.{IsFinite}
-use Rattle.blaze_table.specs.Entries.{SameEntries, shown_entry}
-use Rattle.blaze_streams.specs.Ranges.{shown_range}
+use Rattle.range_map_blaze.proofs.Words.{[], ◌++◌, ◌∷◌, ◌∙◌, sym, ap, subst, map, append-nil, IsFinite, SameEntries, shown_entry, shown_range}
 use Rattle.range_map_blaze.proofs.Made.{made_of}
 use Rattle.range_map_blaze.proofs.Streams.{range_map_as, taken_more}
 use Rattle.range_map_blaze.proofs.map.RangeMapBlaze.from_sorted_disjoint_map.Goals as goal

@@ -1,5 +1,4 @@
-use Rattle.std.proofs.Common.{◌≡◌, ◌++◌, List, map}
-use Rattle.blaze_table.specs.Entries.{Entry, SameEntries, shown_entry}
+use Rattle.range_map_blaze.proofs.Words.{◌≡◌, ◌++◌, List, map, Entry, SameEntries, shown_entry}
 use Rattle.range_map_blaze.proofs.map.RangeMapBlaze.from_sorted_disjoint_map.Given as goal
 
 -- the entries are those taken from the stream, and the rest is left

@@ -1,6 +1,4 @@
-use Rattle.std.proofs.Common.{None, refl}
-use Rattle.blaze_table.specs.Entries.{shown_entry}
-use Rattle.blaze_table.proofs.Canonical.Runs.{canonical}
+use Rattle.range_map_blaze.proofs.Words.{None, refl, shown_entry, canonical}
 use Rattle.range_map_blaze.proofs.TakenBack.{free_before, free_decided}
 use Rattle.range_map_blaze.proofs.map.RangeMapBlaze.is_free.Goals as goal
 

@@ -1,6 +1,4 @@
-use Rattle.std.proofs.Common.{arith}
-use Rattle.std.proofs.lemmas.Int.{ints}
-use Rattle.blaze_table.specs.Entries.{at}
+use Rattle.range_map_blaze.proofs.Words.{arith, ints, at}
 use Rattle.range_map_blaze.proofs.Universal.{universal}
 use Rattle.range_map_blaze.proofs.map.RangeMapBlaze.is_universal.Goals as goal
 

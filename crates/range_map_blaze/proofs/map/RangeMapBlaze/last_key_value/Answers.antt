@@ -1,5 +1,4 @@
-use Rattle.std.proofs.Common.{◌-◌, ◌∙◌, length, sym, ap, refl}
-use Rattle.std.specs.List.{slice_get}
+use Rattle.range_map_blaze.proofs.Words.{◌-◌, ◌∙◌, length, sym, ap, refl, slice_get}
 use Rattle.range_map_blaze.proofs.Order.EndPairs.{last_of, none_of}
 use Rattle.range_map_blaze.proofs.map.RangeMapBlaze.last_key_value.Goals as goal
 

@@ -1,5 +1,4 @@
-use Rattle.std.proofs.Common.{[], sym, ap, pos, ◌∙◌, arith}
-use Rattle.std.proofs.lemmas.Int.{ints}
+use Rattle.range_map_blaze.proofs.Words.{[], sym, ap, pos, ◌∙◌, arith, ints}
 use Rattle.range_map_blaze.proofs.CutEach.{none_within, none_between}
 use Rattle.range_map_blaze.proofs.map.RangeMapBlaze.len_within.Goals as goal
 

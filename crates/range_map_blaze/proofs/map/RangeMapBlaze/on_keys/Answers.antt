@@ -1,4 +1,4 @@
-use Rattle.blaze_table.specs.Entries.{shown_list}
+use Rattle.range_map_blaze.proofs.Words.{shown_list}
 use Rattle.range_map_blaze.proofs.Paints.Following.{clones_chosen}
 use Rattle.range_map_blaze.proofs.map.RangeMapBlaze.on_keys.Goals as goal
 

@@ -1,7 +1,4 @@
-use Rattle.std.proofs.Common.{subst, arith}
-use Rattle.std.proofs.lemmas.Int.{ints}
-use Rattle.blaze_table.specs.Entries.{shown_range_entry}
-use Rattle.range_map_blaze.specs.Extended.{IsPairPainted}
+use Rattle.range_map_blaze.proofs.Words.{subst, arith, ints, shown_range_entry, IsPairPainted}
 use Rattle.range_map_blaze.proofs.Paints.InTurn.{pair_nowhere, pair_painted}
 use Rattle.range_map_blaze.proofs.map.RangeMapBlaze.paint_pair.Goals as goal
 

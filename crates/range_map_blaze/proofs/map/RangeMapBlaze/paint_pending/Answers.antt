@@ -1,8 +1,4 @@
-use Rattle.std.proofs.Common.{ap, sym, subst}
-use Rattle.std.specs.Prelude.{option_map}
-use Rattle.std.specs.Option.{option_to_list}
-use Rattle.blaze_table.specs.Entries.{shown_range_entry}
-use Rattle.range_map_blaze.specs.Extended.{IsExtended}
+use Rattle.range_map_blaze.proofs.Words.{ap, sym, subst, option_map, option_to_list, shown_range_entry, IsExtended}
 use Rattle.range_map_blaze.proofs.Paints.Paintings.{extended_none, pair_extended}
 use Rattle.range_map_blaze.proofs.map.RangeMapBlaze.paint_pending.Goals as goal
 

@@ -1,9 +1,4 @@
-use Rattle.std.proofs.Common.{[], ◌++◌, ◌∷◌, ◌∙◌, refl, sym, ap, append-nil, append_assoc, subst}
-use Rattle.std.specs.Iterator.{IsFinite}
-use Rattle.blaze_streams.specs.Ranges.{shown_range}
-use Rattle.blaze_table.specs.Entries.{entry}
-use Rattle.blaze_table.proofs.Walks.Worked.{counted_none, counted_then}
-use Rattle.range_map_blaze.specs.Extended.{ArePaintedInTurn}
+use Rattle.range_map_blaze.proofs.Words.{[], ◌++◌, ◌∷◌, ◌∙◌, refl, sym, ap, append-nil, append_assoc, subst, IsFinite, shown_range, entry, counted_none, counted_then, ArePaintedInTurn}
 use Rattle.range_map_blaze.proofs.Paints.InTurn.{in_turn_by}
 use Rattle.range_map_blaze.proofs.map.RangeMapBlaze.paint_ranges.Goals as goal
 

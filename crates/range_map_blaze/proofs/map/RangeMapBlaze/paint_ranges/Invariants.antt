@@ -1,7 +1,4 @@
-use Rattle.std.proofs.Common.{◌≡◌, ◌++◌, List}
-use Rattle.blaze_table.specs.Entries.{Entry}
-use Rattle.blaze_table.specs.Work.{IsCounted}
-use Rattle.range_map_blaze.specs.Extended.{ArePaintedInTurn}
+use Rattle.range_map_blaze.proofs.Words.{◌≡◌, ◌++◌, List, Entry, IsCounted, ArePaintedInTurn}
 use Rattle.range_map_blaze.proofs.map.RangeMapBlaze.paint_ranges.Given as goal
 
 -- the ranges that were taken are painted

@@ -1,10 +1,4 @@
-use Rattle.blaze_int.proofs.Options.{if_err}
-use Rattle.std.proofs.Common.{◌≡◌, [], Some, subst}
-use Rattle.std.specs.List.{slice_get}
-use Rattle.std.specs.Prelude.{MatchOption}
-use Rattle.blaze_table.specs.Counted.{CountedEntries}
-use Rattle.blaze_table.specs.Cut.{IsAmongOthers, IsFirstCut}
-use Rattle.blaze_table.specs.Entries.{Entry}
+use Rattle.range_map_blaze.proofs.Words.{if_err, ◌≡◌, [], Some, subst, slice_get, MatchOption, CountedEntries, IsAmongOthers, IsFirstCut, Entry}
 use Rattle.range_map_blaze.proofs.Order.EndPairs.{first_of, pops_least}
 use Rattle.range_map_blaze.proofs.map.RangeMapBlaze.pop_first.Goals as goal
 

@@ -1,10 +1,4 @@
-use Rattle.blaze_int.proofs.Options.{if_err}
-use Rattle.std.proofs.Common.{◌≡◌, ◌-◌, length, [], Some, subst}
-use Rattle.std.specs.List.{slice_get}
-use Rattle.std.specs.Prelude.{MatchOption}
-use Rattle.blaze_table.specs.Counted.{CountedEntries}
-use Rattle.blaze_table.specs.Cut.{IsAmongOthers, IsLastCut}
-use Rattle.blaze_table.specs.Entries.{Entry}
+use Rattle.range_map_blaze.proofs.Words.{if_err, ◌≡◌, ◌-◌, length, [], Some, subst, slice_get, MatchOption, CountedEntries, IsAmongOthers, IsLastCut, Entry}
 use Rattle.range_map_blaze.proofs.Order.EndPairs.{last_of, pops_greatest}
 use Rattle.range_map_blaze.proofs.map.RangeMapBlaze.pop_last.Goals as goal
 

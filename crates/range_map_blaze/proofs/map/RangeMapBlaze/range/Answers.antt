@@ -1,4 +1,4 @@
-use Rattle.std.proofs.Common.{rules}
+use Rattle.range_map_blaze.proofs.Words.{rules}
 use Rattle.range_map_blaze.proofs.map.RangeMapBlaze.range.Goals as goal
 
 pub returns-clause-within : goal.returns-clause-within

@@ -1,7 +1,4 @@
-use Rattle.std.proofs.Common.{◌≡◌, sym, subst, None}
-use Rattle.std.specs.Range.{range_inclusive_end}
-use Rattle.blaze_table.specs.Entries.{at}
-use Rattle.blaze_table.specs.Gap.{IsGap}
+use Rattle.range_map_blaze.proofs.Words.{◌≡◌, sym, subst, None, range_inclusive_end, at, IsGap}
 use Rattle.range_map_blaze.proofs.map.RangeMapBlaze.range_or_gap_at.Goals as goal
 
 pub returns-in-None-clause-entry : goal.returns-in-None-clause-entry

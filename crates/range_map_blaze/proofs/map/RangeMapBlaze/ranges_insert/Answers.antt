@@ -1,13 +1,4 @@
-use Rattle.std.proofs.Common.{◌≡◌, ℤ, Bool, List, Result, Ok, Err, OnOk, IfOk, rules, arith, refl, ap, subst, inl, inr}
-use Rattle.std.specs.Prelude.{◌↔◌, IsTrue}
-use Rattle.std.proofs.lemmas.Int.{ints}
-use Rattle.blaze_table.specs.Count.{keys_in}
-use Rattle.blaze_table.specs.Counted.{CountedEntries}
-use Rattle.blaze_table.specs.Entries.{Entry}
-use Rattle.blaze_table.specs.Painted.{IsPainted}
-use Rattle.blaze_table.specs.Work.{IsCountedPaint}
-use Rattle.blaze_table.proofs.Walks.Worked.{counted_none}
-use Rattle.range_map_blaze.specs.Somewhere.{IsPaintedSomewhere}
+use Rattle.range_map_blaze.proofs.Words.{◌≡◌, ℤ, Bool, List, Result, Ok, Err, OnOk, IfOk, rules, arith, refl, ap, subst, inl, inr, ◌↔◌, IsTrue, ints, keys_in, CountedEntries, Entry, IsPainted, IsCountedPaint, counted_none, IsPaintedSomewhere}
 use Rattle.range_map_blaze.proofs.Paints.Nowhere.{painted_nowhere}
 use Rattle.range_map_blaze.proofs.map.RangeMapBlaze.ranges_insert.Goals as goal
 

@@ -1,8 +1,4 @@
-use Rattle.std.proofs.Common.{◌≡◌, ap, subst, arith, IfOk}
-use Rattle.std.specs.Prelude.{◌↔◌, IsTrue}
-use Rattle.std.proofs.lemmas.Int.{ints}
-use Rattle.blaze_table.specs.Count.{keys_in}
-use Rattle.blaze_table.specs.Counted.{CountedEntries}
+use Rattle.range_map_blaze.proofs.Words.{◌≡◌, ap, subst, arith, IfOk, ◌↔◌, IsTrue, ints, keys_in, CountedEntries}
 use Rattle.range_map_blaze.proofs.Paints.FilledFrom.{filled_nowhere, filled_somewhere}
 use Rattle.range_map_blaze.proofs.map.RangeMapBlaze.ranges_insert_absent.Goals as goal
 

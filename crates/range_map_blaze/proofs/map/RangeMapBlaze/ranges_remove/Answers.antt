@@ -1,12 +1,4 @@
-use Rattle.std.proofs.Common.{rules, ◌≡◌, ℤ, ◌<ℤ◌, Bool, true, false, ◌&&◌, cond, List, None, refl, ◌∙◌, ap, sym, subst, arith}
-use Rattle.std.specs.Cmp.{IsEquivalence}
-use Rattle.std.specs.Prelude.{int_le}
-use Rattle.std.proofs.lemmas.Int.{ints, by_lt_z}
-use Rattle.blaze_int.proofs.Comparisons.{le_false}
-use Rattle.blaze_entries.proofs.Alike.{same_itself}
-use Rattle.blaze_table.specs.Canonical.{IsRangeMap}
-use Rattle.blaze_table.specs.Cut.{IsRangeCut}
-use Rattle.blaze_table.specs.Entries.{Entry, at, SameOption}
+use Rattle.range_map_blaze.proofs.Words.{rules, ◌≡◌, ℤ, ◌<ℤ◌, Bool, true, false, ◌&&◌, cond, List, None, refl, ◌∙◌, ap, sym, subst, arith, IsEquivalence, int_le, ints, by_lt_z, le_false, same_itself, IsRangeMap, IsRangeCut, Entry, at, SameOption}
 use Rattle.range_map_blaze.proofs.map.RangeMapBlaze.ranges_remove.Goals as goal
 
 never : (a : Bool) → (a && false) ≡ false

@@ -1,10 +1,4 @@
-use Rattle.std.specs.Prelude.{IfOk}
-use Rattle.std.proofs.Common.{ℤ, Bool, List, Result, Ok, Err, inr, sym, subst, arith}
-use Rattle.std.proofs.lemmas.Int.{ints}
-use Rattle.blaze_int.specs.Bounds.{start_rank, end_rank}
-use Rattle.blaze_table.specs.Counted.{CountedEntries}
-use Rattle.blaze_table.specs.Entries.{Entry}
-use Rattle.range_map_blaze.specs.KeysTaken.{AreKeysTaken, IsTakenOutSomewhere}
+use Rattle.range_map_blaze.proofs.Words.{IfOk, ℤ, Bool, List, Result, Ok, Err, inr, sym, subst, arith, ints, start_rank, end_rank, CountedEntries, Entry, AreKeysTaken, IsTakenOutSomewhere}
 use Rattle.range_map_blaze.proofs.TakenBack.{nothing_taken}
 use Rattle.range_map_blaze.proofs.map.RangeMapBlaze.ranges_take.Goals as goal
 

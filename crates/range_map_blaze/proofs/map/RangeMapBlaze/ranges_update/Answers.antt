@@ -1,7 +1,4 @@
-use Rattle.std.proofs.Common.{◌≡◌, ◌⊎◌, ℤ, OnOk, OnErr, subst, arith}
-use Rattle.std.proofs.lemmas.Int.{ints}
-use Rattle.blaze_streams.specs.Carried.{shown_option}
-use Rattle.range_map_blaze.specs.Updated.{IsPartUpdated, IsUpdated}
+use Rattle.range_map_blaze.proofs.Words.{◌≡◌, ◌⊎◌, ℤ, OnOk, OnErr, subst, arith, ints, shown_option, IsPartUpdated, IsUpdated}
 use Rattle.range_map_blaze.proofs.Edits.Applied.{updated_nowhere, updated_somewhere}
 use Rattle.range_map_blaze.proofs.map.RangeMapBlaze.ranges_update.Goals as goal
 

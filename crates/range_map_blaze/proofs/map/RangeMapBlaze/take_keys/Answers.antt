@@ -1,6 +1,4 @@
-use Rattle.std.proofs.Common.{sym, subst}
-use Rattle.blaze_table.specs.Counted.{CountedEntries}
-use Rattle.range_map_blaze.specs.KeysTaken.{AreKeysTaken}
+use Rattle.range_map_blaze.proofs.Words.{sym, subst, CountedEntries, AreKeysTaken}
 use Rattle.range_map_blaze.proofs.TakenBack.{nothing_taken}
 use Rattle.range_map_blaze.proofs.map.RangeMapBlaze.take_keys.Goals as goal
 

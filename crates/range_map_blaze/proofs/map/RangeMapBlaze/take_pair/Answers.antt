@@ -1,7 +1,4 @@
-use Rattle.std.proofs.Common.{Some, [], ◌++◌, ◌∷◌, ◌∙◌, sym, subst}
-use Rattle.std.specs.Prelude.{option_map}
-use Rattle.blaze_table.specs.Entries.{shown_range_entry}
-use Rattle.range_map_blaze.specs.Underway.{IsUnderway}
+use Rattle.range_map_blaze.proofs.Words.{Some, [], ◌++◌, ◌∷◌, ◌∙◌, sym, subst, option_map, shown_range_entry, IsUnderway}
 use Rattle.range_map_blaze.proofs.Paints.Paintings.{extended_nowhere, extended_pair}
 use Rattle.range_map_blaze.proofs.Paints.Joinings.{reversed, ordered, underway_none, underway_one, underway_joined, underway_painted, underway_ended}
 use Rattle.range_map_blaze.proofs.map.RangeMapBlaze.take_pair.Goals as goal

@@ -1,5 +1,4 @@
-use Rattle.std.proofs.Common.{refl}
-use Rattle.std.proofs.lemmas.Result.{IfOk-weaker}
+use Rattle.range_map_blaze.proofs.Words.{refl, IfOk-weaker}
 use Rattle.range_map_blaze.proofs.map.RangeMapBlaze.try_left_join.Goals as goal
 
 pub returns : goal.returns

@@ -1,6 +1,4 @@
-use Rattle.std.proofs.Common.{rules, refl}
-use Rattle.std.proofs.lemmas.Result.{IfOk-weaker}
-use Rattle.blaze_streams.proofs.Answering.{each_any}
+use Rattle.range_map_blaze.proofs.Words.{rules, refl, IfOk-weaker, each_any}
 use Rattle.range_map_blaze.proofs.map.RangeMapBlaze.try_transform_values.Goals as goal
 
 pub transformed-requires : goal.transformed-requires

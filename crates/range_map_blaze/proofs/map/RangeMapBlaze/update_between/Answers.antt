@@ -1,4 +1,4 @@
-use Rattle.blaze_streams.specs.Carried.{shown_option}
+use Rattle.range_map_blaze.proofs.Words.{shown_option}
 use Rattle.range_map_blaze.proofs.Edits.Applied.{edits_wider, part_where, updated_where}
 use Rattle.range_map_blaze.proofs.map.RangeMapBlaze.update_between.Goals as goal
 

@@ -1,6 +1,4 @@
-use Rattle.std.proofs.Common.{◌∙◌, ap, map}
-use Rattle.blaze_table.specs.Counted.{CountedEntries}
-use Rattle.blaze_table.specs.Pairs.{pair_list}
+use Rattle.range_map_blaze.proofs.Words.{◌∙◌, ap, map, CountedEntries, pair_list}
 use Rattle.range_map_blaze.proofs.map.RangeMapBlaze.values.Goals as goal
 
 pub returns-clause-values : goal.returns-clause-values

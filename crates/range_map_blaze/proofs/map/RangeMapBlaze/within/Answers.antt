@@ -1,5 +1,4 @@
-use Rattle.std.proofs.Common.{arith}
-use Rattle.std.proofs.lemmas.Int.{ints}
+use Rattle.range_map_blaze.proofs.Words.{arith, ints}
 use Rattle.range_map_blaze.proofs.CutEach.{none_within}
 use Rattle.range_map_blaze.proofs.map.RangeMapBlaze.within.Goals as goal
 

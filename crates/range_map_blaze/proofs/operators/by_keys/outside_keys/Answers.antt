@@ -1,4 +1,4 @@
-use Rattle.std.proofs.lemmas.Result.{IfOk-weaker}
+use Rattle.range_map_blaze.proofs.Words.{IfOk-weaker}
 use Rattle.range_map_blaze.proofs.Choices.{chosen_off}
 use Rattle.range_map_blaze.proofs.operators.by_keys.outside_keys.Goals as goal
 

@@ -1,4 +1,4 @@
-use Rattle.std.proofs.lemmas.Result.{IfOk-weaker}
+use Rattle.range_map_blaze.proofs.Words.{IfOk-weaker}
 use Rattle.range_map_blaze.proofs.Choices.{chosen_without}
 use Rattle.range_map_blaze.proofs.operators.by_keys.outside_keys_by_value.Goals as goal
 

@@ -1,5 +1,4 @@
-use Rattle.std.proofs.Common.{◌≡◌, ◌∙◌, ap}
-use Rattle.blaze_table.specs.Counted.{CountedEntries}
+use Rattle.range_map_blaze.proofs.Words.{◌≡◌, ◌∙◌, ap, CountedEntries}
 use Rattle.range_map_blaze.proofs.operators.chosen.owned_chosen.Goals as goal
 
 pub from_canonical-requires : goal.from_canonical-requires

@@ -1,7 +1,4 @@
-use Rattle.std.proofs.Common.{sym, subst}
-use Rattle.std.proofs.lemmas.Result.{IfOk-weaker}
-use Rattle.blaze_table.specs.Complement.{IsComplement}
-use Rattle.blaze_table.specs.RangeSets.{unit_eq}
+use Rattle.range_map_blaze.proofs.Words.{sym, subst, IfOk-weaker, IsComplement, unit_eq}
 use Rattle.range_map_blaze.proofs.Choices.{complement_of}
 use Rattle.range_map_blaze.proofs.operators.complements.unmapped_keys.Goals as goal
 

@@ -1,8 +1,4 @@
-use Rattle.std.proofs.Common.{[], ◌++◌, ◌∷◌, ◌∙◌, sym, ap, append-nil, append_assoc, subst}
-use Rattle.std.specs.Iterator.{IsFinite}
-use Rattle.blaze_table.proofs.Pairs.UnitLaws.{unit_laws}
-use Rattle.blaze_table.specs.Chosen.{left_alone, IsChosen}
-use Rattle.blaze_table.specs.RangeSets.{shown_bare_range, unit_eq}
+use Rattle.range_map_blaze.proofs.Words.{[], ◌++◌, ◌∷◌, ◌∙◌, sym, ap, append-nil, append_assoc, subst, IsFinite, unit_laws, left_alone, IsChosen, shown_bare_range, unit_eq}
 use Rattle.range_map_blaze.proofs.Paints.CutRanges.{cut_none, cut_more}
 use Rattle.range_map_blaze.proofs.Paints.Insides.{with_key}
 use Rattle.range_map_blaze.proofs.operators.cut.cut_ranges.Goals as goal

@@ -1,6 +1,4 @@
-use Rattle.std.proofs.Common.{◌≡◌, ◌++◌, List}
-use Rattle.blaze_table.specs.Chosen.{left_alone, IsChosen}
-use Rattle.blaze_table.specs.Entries.{Entry}
+use Rattle.range_map_blaze.proofs.Words.{◌≡◌, ◌++◌, List, left_alone, IsChosen, Entry}
 use Rattle.range_map_blaze.proofs.operators.cut.cut_ranges.Given as goal
 
 -- the table lacks the keys of the ranges that were taken, and the others are left

@@ -1,6 +1,4 @@
-use Rattle.std.proofs.Common.{◌≡◌, ap}
-use Rattle.std.proofs.lemmas.Result.{IfOk-weaker}
-use Rattle.blaze_table.specs.Counted.{CountedEntries}
+use Rattle.range_map_blaze.proofs.Words.{◌≡◌, ap, IfOk-weaker, CountedEntries}
 use Rattle.range_map_blaze.proofs.Choices.{both_alone}
 use Rattle.range_map_blaze.proofs.operators.exactly_one.alone_under.Goals as goal
 

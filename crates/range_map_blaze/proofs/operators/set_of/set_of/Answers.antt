@@ -1,7 +1,4 @@
-use Rattle.std.proofs.Common.{◌∙◌, sym, subst}
-use Rattle.std.proofs.lemmas.Result.{IfOk-weaker}
-use Rattle.std.specs.Iterator.{IsFinite}
-use Rattle.blaze_table.specs.RangeSets.{shown_bare_range, IsRangeSet}
+use Rattle.range_map_blaze.proofs.Words.{◌∙◌, sym, subst, IfOk-weaker, IsFinite, shown_bare_range, IsRangeSet}
 use Rattle.range_map_blaze.proofs.Taken.{taken_more, taken_all}
 use Rattle.range_map_blaze.proofs.operators.set_of.set_of.Goals as goal
 

@@ -1,5 +1,4 @@
-use Rattle.std.proofs.Common.{◌≡◌, ◌++◌}
-use Rattle.blaze_table.specs.RangeSets.{shown_bare_ranges}
+use Rattle.range_map_blaze.proofs.Words.{◌≡◌, ◌++◌, shown_bare_ranges}
 use Rattle.range_map_blaze.proofs.operators.set_of.set_of.Given as goal
 
 -- what was taken, and what is left, are all

@@ -1,4 +1,4 @@
-use Rattle.std.proofs.lemmas.Result.{IfOk-weaker}
+use Rattle.range_map_blaze.proofs.Words.{IfOk-weaker}
 use Rattle.range_map_blaze.proofs.Choices.{chosen_into, chosen_over}
 use Rattle.range_map_blaze.proofs.Unions.{union_of}
 use Rattle.range_map_blaze.proofs.operators.union.union_on.Goals as goal

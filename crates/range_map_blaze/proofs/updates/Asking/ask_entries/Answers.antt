@@ -1,11 +1,4 @@
-use Rattle.std.proofs.Common.{◌≤ℤ◌, ◌<ℤ◌, ◌∙◌, ap, sym, subst, arith}
-use Rattle.std.proofs.lemmas.Int.{ints}
-use Rattle.blaze_streams.specs.Carried.{shown_option}
-use Rattle.blaze_streams.specs.Fills.{filled_entries}
-use Rattle.blaze_streams.proofs.GapLists.{rank_of_next}
-use Rattle.blaze_table.specs.Entries.{entry, shown_entry, shown_list}
-use Rattle.blaze_table.proofs.Canonical.Runs.{canonical}
-use Rattle.range_map_blaze.specs.Within.{within}
+use Rattle.range_map_blaze.proofs.Words.{◌≤ℤ◌, ◌<ℤ◌, ◌∙◌, ap, sym, subst, arith, ints, shown_option, filled_entries, rank_of_next, entry, shown_entry, shown_list, canonical, within}
 use Rattle.range_map_blaze.proofs.Edits.Pieces.{pieces, are_pieces, IsUnderway, entries_asked, next_piece, takes_entry, takes_gap, underway_more, underway_none}
 use Rattle.range_map_blaze.proofs.Paints.Following.{IsOnward, whole_first, within_over, onward_next}
 use Rattle.range_map_blaze.proofs.updates.Asking.ask_entries.Goals as goal

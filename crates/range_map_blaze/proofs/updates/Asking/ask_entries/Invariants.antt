@@ -1,7 +1,4 @@
-use Rattle.blaze_streams.specs.Carried.{shown_option}
-use Rattle.blaze_streams.specs.Gaps.{rank_or_end}
-use Rattle.blaze_table.specs.Entries.{shown_list}
-use Rattle.range_map_blaze.specs.Within.{within}
+use Rattle.range_map_blaze.proofs.Words.{shown_option, rank_or_end, shown_list, within}
 use Rattle.range_map_blaze.proofs.Edits.Pieces.{pieces, IsUnderway}
 use Rattle.range_map_blaze.proofs.Paints.Following.{IsOnward}
 use Rattle.range_map_blaze.proofs.updates.Asking.ask_entries.Given as goal

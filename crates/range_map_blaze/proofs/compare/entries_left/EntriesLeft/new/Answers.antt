@@ -1,4 +1,4 @@
-use Rattle.blaze_table.proofs.Canonical.Runs.{canonical}
+use Rattle.range_map_blaze.proofs.Words.{canonical}
 use Rattle.range_map_blaze.proofs.compare.entries_left.EntriesLeft.new.Goals as goal
 
 pub invariant_of-result : goal.invariant_of-result

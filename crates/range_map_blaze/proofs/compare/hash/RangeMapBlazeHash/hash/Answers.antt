@@ -1,6 +1,4 @@
-use Rattle.std.proofs.Common.{◌≡◌, ◌∙◌, ap, sym}
-use Rattle.std.specs.List.{flat_map, fold}
-use Rattle.range_map_blaze.specs.Hashed.{entry_input}
+use Rattle.range_map_blaze.proofs.Words.{◌≡◌, ◌∙◌, ap, sym, flat_map, fold, entry_input}
 use Rattle.range_map_blaze.proofs.Order.Hashes.{fed_entry}
 use Rattle.range_map_blaze.proofs.compare.hash.RangeMapBlazeHash.hash.Goals as goal
 

@@ -1,6 +1,4 @@
-use Rattle.std.proofs.Common.{◌≡◌}
-use Rattle.std.specs.List.{flat_map, fold}
-use Rattle.range_map_blaze.specs.Hashed.{entry_input}
+use Rattle.range_map_blaze.proofs.Words.{◌≡◌, flat_map, fold, entry_input}
 use Rattle.range_map_blaze.proofs.compare.hash.RangeMapBlazeHash.hash.Given as goal
 
 -- the state after the writes for what is left is that for all entries

@@ -1,4 +1,4 @@
-use Rattle.std.proofs.Common.{◌∙◌}
+use Rattle.range_map_blaze.proofs.Words.{◌∙◌}
 use Rattle.range_map_blaze.proofs.Order.MapOrder.{order_of_pairs, ties_where_equal}
 use Rattle.range_map_blaze.proofs.compare.order.RangeMapBlazeOrd.cmp.Goals as goal
 
