@@ -100,4 +100,3 @@ ok_by (Err e) f p = tt
 pub err_by : {A E P Q : Type 0} (r : Result A E) → (P → Q) → OnErr r P → OnErr r Q
 err_by (Ok x) f p = tt
 err_by (Err e) f p = f p
-

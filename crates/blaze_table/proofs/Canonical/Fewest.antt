@@ -35,7 +35,7 @@ module _ {V : Type 0} (eq : V → V → Bool) (laws : IsEquivalence eq) where
 
   -- where a run ends, an entry of a disjoint list ends
   end_in : (ds : List (Entry V)) (k : ℤ) → IsDisjoint ds → IsRunEnd eq (at ds) k → HasEnd ds k
-  end_in [] k d r = absurd (none_is_not eq laws None refl r.0)
+  end_in [] k d r = absurd (none_is_not {X = V} None refl r.0)
   end_in (e ∷ es) k d r = by_place e k
       (λ l h. by_lt_z k e.hi
       (λ m. absurd (r.1 (same_along eq (sym (at_in e es k l h)) (sym (at_in e es (k +ℤ pos 1) (omega (arith, ints)) (omega (arith, ints)))) (laws.refl e.value))))
@@ -46,7 +46,7 @@ module _ {V : Type 0} (eq : V → V → Bool) (laws : IsEquivalence eq) where
       (λ h. inr (end_in es k d.2 (end_along eq laws (at (e ∷ es)) (at es) k (at_over e es k h) (at_over e es (k +ℤ pos 1) (omega (arith, ints))) r)))
     where
       ends_before : (a b : Option V) → b ≡ None → IsSome a → IsSome a × (¬ SameOption eq a b)
-      ends_before None b p s = absurd (none_is_not eq laws None refl s)
+      ends_before None b p s = absurd (none_is_not {X = V} None refl s)
       ends_before (Some x) None p s = (s, λ q. q)
       ends_before (Some x) (Some y) p s = cc
 

@@ -32,7 +32,7 @@ module _ {V : Type 0} (eq : V → V → Bool) (laws : IsEquivalence eq) where
       (subst (λ o. IsSome o) o s.0, λ q. none_against (at es (k -ℤ pos 1)) (at es k) n (subst (λ o. IsSome o) o s.0) q))))
     where
       none_against : (a b : Option V) → a ≡ None → IsSome b → SameOption eq a b → ⊥
-      none_against None None p h q = none_is_not None refl h
+      none_against None None p h q = none_is_not {X = V} None refl h
       none_against None (Some y) p h q = q
       none_against (Some x) b p h q = cc
 
@@ -78,7 +78,7 @@ module _ {V : Type 0} (eq : V → V → Bool) (laws : IsEquivalence eq) where
       end_along (at es) (at (e ∷ es)) k (sym (at_over e es k over)) (sym (at_over e es (k +ℤ pos 1) (omega (arith, ints)))) s
 
   starts_are : (es : List (Entry V)) → IsCanonical eq es → (k : ℤ) → HasStart es k ↔ IsRunStart eq (at es) k
-  starts_are [] c k = (λ h. absurd h, λ s. none_is_not None refl s.0)
+  starts_are [] c k = (λ h. absurd h, λ s. none_is_not {X = V} None refl s.0)
   starts_are (e ∷ es) c k =
       let r = starts_are es c.2 k in (
         λ h. start_later e es k c (elim h [ inl p ↦ inl p | inr q ↦ inr (r.0 q) ]),
@@ -86,7 +86,7 @@ module _ {V : Type 0} (eq : V → V → Bool) (laws : IsEquivalence eq) where
       )
 
   pub ends_are : (es : List (Entry V)) → IsCanonical eq es → (k : ℤ) → HasEnd es k ↔ IsRunEnd eq (at es) k
-  ends_are [] c k = (λ h. absurd h, λ s. none_is_not None refl s.0)
+  ends_are [] c k = (λ h. absurd h, λ s. none_is_not {X = V} None refl s.0)
   ends_are (e ∷ es) c k =
       let r = ends_are es c.2 k in (
         λ h. end_later e es k c (elim h [ inl p ↦ inl p | inr q ↦ inr (r.0 q) ]),

@@ -51,6 +51,6 @@ module _ {V : Type 0} where
           )
         where
           none_against : (a b : Option V) → a ≡ None → IsSome b → SameOption eq a b → ⊥
-          none_against None None p h q = none_is_not None refl h
+          none_against None None p h q = none_is_not {X = V} None refl h
           none_against None (Some y) p h q = q
           none_against (Some x) b p h q = cc

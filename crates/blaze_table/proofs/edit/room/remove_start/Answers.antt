@@ -4,4 +4,3 @@ use Rattle.blaze_table.proofs.edit.room.remove_start.Goals as goal
 
 pub returns-else-goes-clause-entries : goal.returns-else-goes-clause-entries
 returns-else-goes-clause-entries g c = sym (none_out (g.T.Integer.rank c.args.lo) c.args.entries.now.entries (is_none _ (sym c.requires ∙ c.if-goes.false)))
-  where
