@@ -9,6 +9,7 @@ pub mod NodeLists
 pub mod Views
 pub mod Steps
 pub mod Clones
+pub mod EditLists
 pub mod Edits
 pub mod Collected
 pub mod Seen

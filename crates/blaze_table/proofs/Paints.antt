@@ -2,7 +2,6 @@ pub mod Splices
 pub mod Kept
 pub mod Painted
 pub mod Inside
-pub mod EditLists
 pub mod Clearing
 pub mod Inner
 pub mod Placing

@@ -6,7 +6,7 @@ use Rattle.blaze_table.proofs.Cuts.Cutting.{after_whole, cut_content, cut_table,
 use Rattle.blaze_table.proofs.Cuts.Splits.{LastAt, last_at, no_last_from, parted, rest_canonical, ends_below, none_next}
 use Rattle.blaze_table.proofs.Neighbours.Growing.{last_there}
 use Rattle.blaze_table.proofs.Neighbours.Holders.{starts_behind, starts_over, with_entry-between, without-between}
-use Rattle.blaze_table.proofs.Paints.EditLists.{end_put}
+use Rattle.blaze_entries.proofs.EditLists.{end_put}
 use Rattle.blaze_table.proofs.Paints.Painted.{before_past, after_past, entries_themselves}
 use Rattle.blaze_table.proofs.Paints.Splices.{before_cuts, before_ends, after_cuts, below_more}
 

@@ -4,7 +4,7 @@ use Rattle.blaze_table.proofs.Canonical.Lookup.{IsAbove, IsAbove-from_apart, at_
 use Rattle.blaze_table.proofs.Cuts.Splits.{no_last_from}
 use Rattle.blaze_table.proofs.Neighbours.Holders.{Holder, holder, there, end_moved, without-between, starts_behind}
 use Rattle.blaze_table.proofs.Neighbours.NextEntries.{holding_none, holding_some, holding_not}
-use Rattle.blaze_table.proofs.Paints.EditLists.{start_skips}
+use Rattle.blaze_entries.proofs.EditLists.{start_skips}
 use Rattle.blaze_table.proofs.Paints.Kept.{by_first, first_in, later_in}
 use Rattle.blaze_table.proofs.Fills.KeptEntries.{kept_first, kept_later, kept_same}
 use Rattle.blaze_table.proofs.Fills.Upwards.{none_under}

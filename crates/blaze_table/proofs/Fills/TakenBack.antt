@@ -1,6 +1,6 @@
 -- Entries put in, remembered by their starts, and taken back.
 use Rattle.blaze_table.proofs.Words.{◌≡◌, ℤ, List, [], ◌∷◌, ◌++◌, Some, None, map, refl, ◌∙◌, sym, subst, ap, IsSome, option_to_list, start_at, with_entry, without, Entry, AreThere, GoesBack, taken}
-use Rattle.blaze_table.proofs.Paints.EditLists.{start_with, without_with}
+use Rattle.blaze_entries.proofs.EditLists.{start_with, without_with}
 
 pub map_last : {A B : Type 0} (f : A → B) (xs : List A) (x : A) → map f (xs ++ x ∷ []) ≡ map f xs ++ f x ∷ []
 map_last f [] x = refl

@@ -3,7 +3,7 @@ use Rattle.blaze_table.proofs.Words.{◌≡◌, ℤ, pos, ◌-ℤ◌, ◌≤ℤ�
 use Rattle.blaze_table.proofs.Paints.Splices.{before_cuts, before_keeps, below_more}
 use Rattle.blaze_table.proofs.Paints.Painted.{before_past}
 use Rattle.blaze_table.proofs.Cuts.Splits.{LastAt, last_at, no_last, ends_below}
-use Rattle.blaze_table.proofs.Paints.EditLists.{end_put}
+use Rattle.blaze_entries.proofs.EditLists.{end_put}
 
 module _ {V : Type 0} where
   pub found_there : (k : ℤ) (e : Entry V) (xs ys : List (Entry V)) → e.lo ≡ k → StartsBelow k xs → start_at k (xs ++ e ∷ ys) ≡ Some e

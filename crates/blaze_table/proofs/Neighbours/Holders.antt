@@ -1,6 +1,6 @@
 -- The last entry that starts below a key, with what stands before and behind it: searches and edits at its start.
 use Rattle.blaze_table.proofs.Words.{◌≡◌, Bool, ℤ, pos, ◌+ℤ◌, ◌≤ℤ◌, ◌<ℤ◌, List, [], ◌∷◌, ◌++◌, Option, Some, None, refl, ◌∙◌, sym, subst, ap, arith, IsSome, option_map, ints, append_assoc, range_in, StartsAscend, last_below, start_at, with_entry, without, with_end, by_order, start_none, StartsBelow, more_below, IsApart, IsCanonical, Entry, entry, IsLastBelow, IsBelow}
-use Rattle.blaze_table.proofs.Paints.EditLists.{start_skips, end_put}
+use Rattle.blaze_entries.proofs.EditLists.{start_skips, end_put}
 use Rattle.blaze_table.proofs.Neighbours.Growing.{found_there}
 use Rattle.blaze_table.proofs.Cuts.Splits.{last_at, canonical_part, ends_below}
 

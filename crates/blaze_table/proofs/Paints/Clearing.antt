@@ -1,7 +1,7 @@
 -- Entries taken out between two keys, and the parts of parts of a list.
 use Rattle.blaze_table.proofs.Words.{◌≡◌, ◌≤◌, ℤ, pos, ◌+ℤ◌, ◌≤ℤ◌, ◌<ℤ◌, cond, List, [], ◌∷◌, length, drop, Option, Some, None, refl, ◌∙◌, sym, subst, ap, arith, IsSome, int_lt, int_le, option_map, ints, by_lt_z, lt_true, lt_false, le_true, le_false, range_in, StartsAscend, below, from, first_entry, first_from, start_at, without, by_order, absent_next, from_takes, from_skips, Entry}
 use Rattle.blaze_table.proofs.Cuts.Splits.{first_there}
-use Rattle.blaze_table.proofs.Paints.EditLists.{below_without}
+use Rattle.blaze_entries.proofs.EditLists.{below_without}
 
 module _ {V : Type 0} where
   pub from_from : (j k : ℤ) (es : List (Entry V)) → j ≤ℤ k → from k (from j es) ≡ from k es

@@ -3,7 +3,7 @@ use Rattle.blaze_table.proofs.Words.{◌≡◌, ℤ, pos, ◌+ℤ◌, ◌-ℤ◌
 use Rattle.blaze_table.proofs.Paints.Splices.{by_before, before_ends, before_keeps, before_cuts}
 use Rattle.blaze_table.proofs.Cuts.Splits.{last_at, from_at}
 use Rattle.blaze_table.proofs.Neighbours.Growing.{last_there, below_last, front_last}
-use Rattle.blaze_table.proofs.Paints.EditLists.{end_put}
+use Rattle.blaze_entries.proofs.EditLists.{end_put}
 use Rattle.blaze_table.proofs.Paints.Clearing.{below_from, from_from}
 use Rattle.blaze_table.proofs.Paints.Inner.{inner_same, from_trimmed, start_trimmed}
 

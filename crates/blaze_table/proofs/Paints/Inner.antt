@@ -4,7 +4,7 @@ use Rattle.blaze_table.proofs.Cuts.Splits.{last_at}
 use Rattle.blaze_table.proofs.Neighbours.Growing.{last_there}
 use Rattle.blaze_table.proofs.Paints.Clearing.{from_from}
 use Rattle.blaze_table.proofs.Paints.Placing.{ends_before}
-use Rattle.blaze_table.proofs.Paints.EditLists.{below_with, from_with_under, from_without, from_replaced, start_skips, start_beside, start_beside_without}
+use Rattle.blaze_entries.proofs.EditLists.{below_with, from_with_under, from_without, from_replaced, start_skips, start_beside, start_beside_without}
 
 -- both are there, or neither is
 pub both_some : {A B C : Type 0} (f : A → C) (g : B → C) (a : Option A) (b : Option B) → option_map f a ≡ option_map g b → is_some a ≡ is_some b

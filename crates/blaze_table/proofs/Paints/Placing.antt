@@ -1,7 +1,7 @@
 -- The starts of an edit put in, over plain lists.
 use Rattle.blaze_table.proofs.Words.{◌≡◌, ℤ, pos, ◌+ℤ◌, ◌-ℤ◌, ◌≤ℤ◌, ◌<ℤ◌, Bool, true, false, cond, List, [], ◌∷◌, Option, Some, None, refl, ◌∙◌, sym, subst, ap, arith, ⊎_elim, IsSome, IfSome, IsSomeAnd, Contains, last_or, option_map, int_eq, IsEquivalence, ints, by_lt_z, shown_ends, below, from, last_below, start_at, with_entry, without, with_end_value, IsStartMoved, IsFrontReplaced, Plan, RangeEntry, by_order, one_value, below_takes, below_skips, Entry, entry, SameEntries, IsCanonical, HasRoom, IsLikeRest, IsPlace, IsRestPut, IsRest, IsRestOf, IsRestKept, IsStartPut, after, IsSameAbove}
 use Rattle.blaze_table.proofs.Paints.Clearing.{below_below}
-use Rattle.blaze_table.proofs.Paints.EditLists.{below_with, from_with_under, from_with, start_with, start_beside, without_with, start_beside_without, below_without, from_without, below_replaced, from_replaced, start_replaced, start_beside_replaced, start_below}
+use Rattle.blaze_entries.proofs.EditLists.{below_with, from_with_under, from_with, start_with, start_beside, without_with, start_beside_without, below_without, from_without, below_replaced, from_replaced, start_replaced, start_beside_replaced, start_below}
 use Rattle.blaze_table.proofs.Canonical.Lookup.{IsAbove, IsAbove-from_apart}
 use Rattle.blaze_table.proofs.Paints.Kept.{in_from, later_in}
 use Rattle.blaze_table.proofs.Paints.Painted.{entries_themselves}

@@ -1,6 +1,6 @@
 use Rattle.blaze_table.proofs.Words.{ap, CountedEntries}
 use Rattle.blaze_table.proofs.Cuts.Backs.{end_moved, last_out}
-use Rattle.blaze_table.proofs.Paints.EditLists.{length-with_last_end}
+use Rattle.blaze_entries.proofs.EditLists.{length-with_last_end}
 use Rattle.blaze_table.proofs.Walks.Worked.{worked_none, worked_edited}
 use Rattle.blaze_table.proofs.cut.cut_back.Goals as goal
 

@@ -1,6 +1,6 @@
 use Rattle.blaze_table.proofs.Words.{sym, ap, ◌∙◌, lt_holds, lt_fails, CountedEntries}
 use Rattle.blaze_table.proofs.Cuts.CutEdits.{held_there, next_absent, end_taken, start_taken, inside_taken}
-use Rattle.blaze_table.proofs.Paints.EditLists.{length-with_end}
+use Rattle.blaze_entries.proofs.EditLists.{length-with_end}
 use Rattle.blaze_table.proofs.Walks.Worked.{worked_none, worked_edited, worked_put}
 use Rattle.blaze_table.proofs.cut.cut_shared.Goals as goal
 

@@ -1,6 +1,6 @@
 use Rattle.blaze_table.proofs.Words.{rules, ◌++◌, None, ap, ◌∙◌, arith, option_map, ints, CountedEntries, range_in, shown_ends, below, start_at}
 use Rattle.blaze_table.proofs.Paints.Composed.{left_at, extended}
-use Rattle.blaze_table.proofs.Paints.EditLists.{length-with_end}
+use Rattle.blaze_entries.proofs.EditLists.{length-with_end}
 use Rattle.blaze_table.proofs.Paints.Inner.{both_some, cleared, inner_fits, rest_gone, rest_start, rest_under}
 use Rattle.blaze_table.proofs.Paints.Placing.{has_room, above_there, rest_started}
 use Rattle.blaze_table.proofs.Walks.Worked.{worked_edited, worked_then}

@@ -1,5 +1,5 @@
 use Rattle.blaze_table.proofs.Words.{◌++◌, drop, pos, ◌+ℤ◌, length, ap, ◌∙◌, arith, ints, below, from}
-use Rattle.blaze_table.proofs.Paints.EditLists.{from_without}
+use Rattle.blaze_entries.proofs.EditLists.{from_without}
 use Rattle.blaze_table.proofs.Paints.Inner.{below_gone}
 use Rattle.blaze_table.proofs.Walks.Worked.{worked_then}
 use Rattle.blaze_table.proofs.edit.room.clear.Goals as goal

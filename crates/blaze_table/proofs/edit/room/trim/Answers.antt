@@ -1,5 +1,5 @@
 use Rattle.blaze_table.proofs.Words.{◌++◌, ◌<ℤ◌, ap, subst, sym, ◌∙◌, arith, ints, option_map, le_holds, le_fails, CountedEntries, below, from, shown_ends, halves, IsLeft}
-use Rattle.blaze_table.proofs.Paints.EditLists.{length-with_end}
+use Rattle.blaze_entries.proofs.EditLists.{length-with_end}
 use Rattle.blaze_table.proofs.Neighbours.Growing.{trim_short, trim_long, trim_starts}
 use Rattle.blaze_table.proofs.Walks.Worked.{worked_none, worked_edited}
 use Rattle.blaze_table.proofs.edit.room.trim.Goals as goal

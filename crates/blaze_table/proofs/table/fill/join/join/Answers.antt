@@ -1,6 +1,6 @@
 use Rattle.blaze_table.proofs.Words.{◌≡◌, ◌+◌, List, ◌≤ℤ◌, ◌<ℤ◌, length, ap, sym, subst, refl, ◌∙◌, arith, IsSome, option_map, ints, CountedEntries, range_in, last_below, start_at, with_end, without, Entry, IsLastBelow, IsCounted}
 use Rattle.blaze_table.proofs.Fills.Joins.{joint_above, entry_before, none_last, none_starts, starts_here, joined, not_joined}
-use Rattle.blaze_table.proofs.Paints.EditLists.{length-with_end}
+use Rattle.blaze_entries.proofs.EditLists.{length-with_end}
 use Rattle.blaze_table.proofs.table.fill.join.join.Goals as goal
 
 pub sub_one-requires : goal.sub_one-requires

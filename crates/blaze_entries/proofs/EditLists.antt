@@ -1,5 +1,8 @@
 -- Edits of lists in the order of their starts, in the parts below a key and from it on.
-use Rattle.blaze_table.proofs.Words.{◌≡◌, ℤ, pos, ◌+ℤ◌, ◌≤ℤ◌, ◌<ℤ◌, Bool, true, false, cond, List, [], ◌∷◌, ◌++◌, length, Some, None, refl, ◌∙◌, sym, ap, arith, IsSome, int_lt, int_le, int_eq, ints, eq_true, below, from, start_at, with_entry, without, with_end, with_end_value, with_last_end, by_order, StartsBelow, below_takes, below_skips, from_takes, from_skips, absent_next, Entry, entry}
+use Rattle.blaze_entries.proofs.Words.{◌≡◌, ℤ, pos, ◌+ℤ◌, ◌≤ℤ◌, ◌<ℤ◌, Bool, true, false, cond, List, [], ◌∷◌, ◌++◌, length, Some, None, refl, ◌∙◌, sym, ap, arith, IsSome, int_lt, int_le, int_eq, ints, eq_true, below, from, start_at, with_entry, without, with_end, with_end_value, with_last_end, Entry, entry}
+use Rattle.blaze_entries.proofs.Ascending.{by_order}
+use Rattle.blaze_entries.proofs.Halves.{StartsBelow, below_takes, below_skips, from_takes, from_skips}
+use Rattle.blaze_entries.proofs.Moves.{absent_next}
 
 module _ {V : Type 0} where
   none_some : (e : Entry V) → Some e ≡ None → ⊥
