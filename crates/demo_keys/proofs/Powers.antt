@@ -8,6 +8,13 @@ use Rattle.std.proofs.lemmas.Bool.{cases_lt}
 use Rattle.std.proofs.lemmas.Bool.Decides.{Decides-eqb}
 use Rattle.demo_keys.specs.Blocks.{BeginsBlock, IsBlockWithin}
 
+-- the mask of the free digits tells whether a block begins
+pub masked : (n mask k : ℕ) → mask + 1 ≡ 2 ^ k → IsTrue (bit_and n mask == 0) ↔ BeginsBlock n k
+masked n mask k e =
+    let is : mask ≡ 2 ^ k - 1 = omega (arith, e) in
+    let rest : bit_and n mask ≡ n % 2 ^ k = ap (bit_and n) is ∙ and_mask n k in
+    subst (λ r. IsTrue (r == 0) ↔ BeginsBlock n k) (sym rest) (Decides-eqb (n % 2 ^ k) 0)
+
 -- a block that begins below a power of two ends below it
 pub ends_below : (n k j : ℕ) → BeginsBlock n k → n < 2 ^ (j + k) → n + 2 ^ k ≤ 2 ^ (j + k)
 ends_below n k j begins below =
