@@ -37,8 +37,6 @@ module _ {V : Type 0} (eq : V → V → Bool) (laws : IsEquivalence eq) (low hig
     content = λ k. subst (SameOption eq (at new k)) (without_keys (at left k) (at ranges k) (at right k) (same k)) (c.content k);
   }
 
-  }
-
   -- painted over a map that is like the left one
   over_like : (x y z : Option V) → SameOption eq x y → SameOption eq (right_first y z) (right_first x z)
   over_like None None None s = s

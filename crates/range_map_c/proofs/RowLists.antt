@@ -18,6 +18,13 @@ or_none : {V : Type 0} (o : Option V) → option_or o None ≡ o
 or_none None = refl
 or_none (Some x) = refl
 
+pub rows_painted : (table over old new : List (Entry ℕ)) → IsCanonicalOf nat_eq least_key greatest_key table over → IsUnion nat_eq least_key greatest_key old over new
+    → AreRowsPainted least_key greatest_key table old new
+rows_painted table over old new made united = record {
+  range_map = united.chosen.range_map;
+  content = λ k.
+      let is : at over k ≡ last_at table k = sym (same_is _ _ (made.content k)) ∙ or_none (last_at table k) in
+      subst (λ o. SameOption nat_eq (at new k) (option_or o (at old k))) is (united.chosen.content k);
 }
 
 module _ {V : Type 0} where
