@@ -37,8 +37,8 @@ fn change_last_end<T: Integer, V>(nodes: &mut Nodes<T, V>, end: T)
     }
 }
 
-/// Puts a node in at a start. The map's `insert`, which answers more, is compiled into this function, and in the methods it would
-/// not be: that took one part in fifty more of an insertion.
+/// Puts a node in at a start. The map's `insert`, which answers more, is compiled into this function. Called from the methods it is
+/// not, and paints and insertions take one part in a hundred more.
 pub(super) fn put<T: Integer, V: Drop>(
     nodes: &mut Nodes<T, V>,
     start: T,
