@@ -37,6 +37,21 @@ module _ {V : Type 0} (eq : V → V → Bool) (laws : IsEquivalence eq) (low hig
     content = λ k. subst (SameOption eq (at new k)) (without_keys (at left k) (at ranges k) (at right k) (same k)) (c.content k);
   }
 
+  -- cut out of a map that is like the left one
+  off_like : {A : Type 0} (x y : Option V) (z : Option A) → SameOption eq x y → SameOption eq (left_alone y z) (left_alone x z)
+  off_like None None None s = tt
+  off_like None None (Some z) s = tt
+  off_like None (Some y) z s = absurd s
+  off_like (Some x) None z s = absurd s
+  off_like (Some x) (Some y) None s = laws.symm y x ∙ s
+  off_like (Some x) (Some y) (Some z) s = tt
+
+  pub chosen_off : {A : Type 0} (left old : List (Entry V)) (right : List (Entry A)) (new : List (Entry V)) → SameEntries eq left old → IsChosen eq low high left_alone old right new → IsChosen eq low high left_alone left right new
+  chosen_off left old right new s c = record {
+    range_map = c.range_map;
+    content = λ k. same_trans eq laws (at new k) (left_alone (at old k) (at right k)) _ (c.content k) (off_like (at left k) (at old k) (at right k) (content_as eq laws left old s k));
+  }
+
   -- painted over a map that is like the left one
   over_like : (x y z : Option V) → SameOption eq x y → SameOption eq (right_first y z) (right_first x z)
   over_like None None None s = s

@@ -17,3 +17,11 @@ Forwards-push a b all waits text h = (h.0, h.1, ap (λ l. l ++ text) h.2 ∙ app
 pub Forwards-trans : (a b c : Option (List ℕ)) (all waits rest : List ℕ) → Forwards a b all waits → Forwards b c waits rest → Forwards a c all rest
 Forwards-trans a b c all waits rest h k =
     (h.0 ++ k.0, Appends-trans a b c h.0 k.0 h.1 k.1, h.2 ∙ ap (λ l. h.0 ++ l) k.2 ∙ sym (append_assoc h.0 k.0 rest))
+
+-- all that waited was written, and then of another text a beginning
+pub Forwards-then : (a b c : Option (List ℕ)) (all text rest : List ℕ) → Appends a b all → Forwards b c text rest → Forwards a c (all ++ text) rest
+Forwards-then a b c all text rest h k = (all ++ k.0, Appends-trans a b c all k.0 h k.1, ap (λ l. all ++ l) k.2 ∙ sym (append_assoc all k.0 rest))
+
+-- and then all of another text
+pub Forwards-both : (a b c : Option (List ℕ)) (all text waits : List ℕ) → Appends a b all → Appends b c text → waits ≡ [] → Forwards a c (all ++ text) waits
+Forwards-both a b c all text waits h k none = Forwards-all a c (all ++ text) waits (Appends-trans a b c all text h k) none
