@@ -139,7 +139,6 @@ module _ {F A V : Type 0} (shows : A → Option V) (g : Mut F A (Result (Option 
         (λ l u. absurd (some_none (sym (at_in x xs k l u) ∙ p)))
         (λ u. at_under (with_answer x r) (answered xs rs) k u ∙ none_answered xs rs k (sym (at_under x xs k u) ∙ p))
         (λ u. at_over (with_answer x r) (answered xs rs) k u ∙ none_answered xs rs k (sym (at_over x xs k u) ∙ p))
-      where
 
     pub made : (xs : List (Entry (Option V))) (b : ℤ) (f f' : F) (edits new : List (Entry (Option V))) (p : ArePiecesAsked shows g eq xs f f' edits new)
         → IsCanonical same xs → AreKeys low high xs → IsAbove (b -ℤ pos 1) xs → Has old xs → AreBelow b edits → AreMade edits new (answers_at xs f f' edits new p)
