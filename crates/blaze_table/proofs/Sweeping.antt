@@ -6,5 +6,6 @@ pub mod Pushed
 pub mod Placed
 pub mod Underway
 pub mod Waitings
+pub mod Filling
 pub mod JoinedPieces
 pub mod Orders

@@ -64,7 +64,7 @@ pub use Rattle.blaze_table.specs.LastBelow.{IsLastBelow}
 pub use Rattle.blaze_table.specs.Laws.{PairsAreContent, CanonicalIsShortest, CanonicalIsUnique, CanonicalIsFewest, LengthsAreMapped}
 pub use Rattle.blaze_table.specs.Painted.{ClonesAreAlike, IsApartFrom, IsAlreadyIn, IsInside, LeavesAlone, painted, last_at, painted_in_order, IsPainted}
 pub use Rattle.blaze_table.specs.Pairs.{pairs_from, pairs_of, pair_list, value_at, IsAscendingPairs}
-pub use Rattle.blaze_table.specs.Pieces.{place_cmp, IsUnderway, SweepsOn, spans, IsWaiting, KeepsReaching, span_of, IsSweptTo, ArePlacedBelow, IsPlaced, EndsAreKeys, ArePlaced, IsPiece, HasKey, HasStarted, places_of, AreAscending}
+pub use Rattle.blaze_table.specs.Pieces.{place_cmp, IsWaiting, KeepsReaching, ArePlacedBelow, IsPlaced, EndsAreKeys, ArePlaced, IsPiece, HasKey, HasStarted, places_of, AreAscending}
 pub use Rattle.blaze_table.specs.Planned.{rest_of, IsLooked, IsWalkOf, IsWorked, inner, moved, IsRest, IsRestKept, IsStartPut, IsPutAt, IsEndPut, IsRestOf, IsEnd, IsUnjoined, joined_start, IsPlanOf, reaches, IsLikeAbove, IsJoinedTo, IsEndAfter, IsUnlikeAbove, GoesOnUnequal}
 pub use Rattle.blaze_table.specs.Printed.{range_text, ranges_text, set_text}
 pub use Rattle.blaze_table.specs.RangeSets.{unit_eq, IsRangeSet, IsSetOf, same_ranges, shown_bare_range, shown_bare_ranges}

@@ -1,23 +1,32 @@
 -- The values of pairs, by where they are: the words of this crate's own functions. No public clause names them.
-use Rattle.std.specs.Prelude.{◌≡◌, ◌-◌, length, ℤ, Bool, List, [], ◌∷◌, Option, Some, slice_get, MatchBool}
+use Rattle.std.specs.Prelude.{◌≡◌, ℕ, ◌-◌, length, ℤ, Bool, List, [], ◌∷◌, Option, Some, None, slice_get, slice_set}
 use Rattle.std.specs.Option.{option_map}
 use Rattle.blaze_table.specs.Entries.{Entry, entry, SameOption}
 use Rattle.blaze_table.specs.Splice.{glue}
 use Rattle.blaze_table.specs.declared.sweep.held.Held.{Held}
 use Rattle.blaze_table.specs.declared.sweep.held.Held.TheVariants.{Kept, Moved}
+use Rattle.blaze_table.specs.declared.sweep.placed.Placed.{Placed}
+
+-- the value that was not moved
+abbrev pub kept_value : {T V : Type 0} → Placed T V → Held V
+kept_value p = Kept p.value
 
 -- the value: the one that was not moved, or that of the entry
-abbrev pub held_value : {V : Type 0} → List (Entry V) → Held V → Option V
-held_value entries (Kept v) = Some v
-held_value entries (Moved i) = option_map (λ e. e.value) (slice_get entries i)
+abbrev pub held_value : {V : Type 0} → List (Entry V) → Option (Held V) → Option V
+held_value entries None = None
+held_value entries (Some (Kept v)) = Some v
+held_value entries (Some (Moved i)) = option_map (λ e. e.value) (slice_get entries i)
 
--- the value is put behind the entries, and is in the last one
-pub record PutsPiece {V : Type 0} (eq : V → V → Bool) (l h : ℤ) (old new : List (Entry V)) (held left : Held V) : Type 0 where
+abbrev pub value_in : {V : Type 0} → List (Entry V) → List (Held V) → ℕ → Option V
+value_in entries held index = held_value entries (slice_get held index)
+
+-- the value at the index is in the entry n
+abbrev pub moved_to : {V : Type 0} → ℕ → List (Held V) → ℕ → List (Held V)
+moved_to n held index = slice_set held index (Moved n)
+
+-- the value at the index is put behind the entries, and is in the last one
+pub record PutsPiece {V : Type 0} (eq : V → V → Bool) (l h : ℤ) (index : ℕ) (old new : List (Entry V)) (held left : List (Held V)) : Type 0 where
   pub value : V
-  pub alike : SameOption eq (Some value) (held_value old held)
+  pub alike : SameOption eq (Some value) (value_in old held index)
   pub glued : new ≡ glue eq old (entry l h value ∷ [])
-  pub moved : left ≡ Moved (length new - 1)
-
--- the value is put behind the entries by the last one, which has it and goes on; or the entries stay
-abbrev pub GoesOn : {V : Type 0} → (V → V → Bool) → Bool → ℤ → ℤ → Held V → List (Entry V) → List (Entry V) → Type 0
-GoesOn eq goes l h held old new = MatchBool goes (PutsPiece eq l h old new held held) (new ≡ old)
+  pub moved : left ≡ moved_to (length new - 1) held index

@@ -1,6 +1,15 @@
 -- The values of pairs, by where they are, and what is left of them.
-use Rattle.blaze_table.proofs.Words.{◌≡◌, ℕ, zero, suc, ◌-◌, ◌<◌, ◌≤◌, ℤ, Bool, List, [], ◌∷◌, length, slice_set, Option, Some, None, refl, ◌∙◌, sym, ap, subst, arith, get_or, option_map, slice_get, IsSome, IsEquivalence, slice_get-map, slice_get_read, Entry, SameOption, shown_entry, shown_list, glue, Held, Kept, Moved, held_value}
+use Rattle.std.proofs.Common.{◌≡◌, ℕ, zero, suc, ◌-◌, ◌<◌, ◌≤◌, ℤ, Bool, List, [], ◌∷◌, length, slice_set, Some, refl, ◌∙◌, sym, ap, subst, arith, get_or, option_map}
+use Rattle.std.specs.Prelude.{slice_get, IsSome}
+use Rattle.std.specs.Cmp.{IsEquivalence}
+use Rattle.std.proofs.lemmas.List.{length-map}
+use Rattle.std.proofs.lemmas.Option.{slice_get-map, slice_get_read}
+use Rattle.blaze_table.specs.Entries.{Entry, SameOption, shown_entry, shown_list}
+use Rattle.blaze_table.specs.Splice.{glue}
 use Rattle.blaze_table.proofs.Paints.Splices.{by_join}
+use Rattle.blaze_table.specs.declared.sweep.held.Held.{Held}
+use Rattle.blaze_table.specs.declared.sweep.held.Held.TheVariants.{Moved}
+use Rattle.blaze_table.specs.Held.{held_value, value_in}
 
 -- ---- an item of a list replaced
 
@@ -16,18 +25,26 @@ get_set_other (z ∷ xs) zero (suc j) x n = refl
 get_set_other (z ∷ xs) (suc i) zero x n = refl
 get_set_other (z ∷ xs) (suc i) (suc j) x n = get_set_other xs i j x (λ q. n (ap suc q))
 
--- ---- the value of a pair
+-- ---- the value at a place
 
 module _ {V : Type 0} where
+  pub within_held : (es : List (Entry V)) (held : List (Held V)) (place : ℕ) → IsSome (value_in es held place) → place < length held
+  within_held es [] place h = cc
+  within_held es (w ∷ held) zero h = omega arith
+  within_held es (w ∷ held) (suc place) h = let l = within_held es held place h in omega (arith, l)
+
   pub within_entries : (es : List (Entry V)) (at : ℕ) → IsSome (option_map (λ (e : Entry V). e.value) (slice_get es at)) → at < length es
   within_entries [] at h = cc
   within_entries (e ∷ es) zero h = omega arith
   within_entries (e ∷ es) (suc at) h = let l = within_entries es at h in omega (arith, l)
 
   -- that of an entry, as the code reads it
-  pub moved_value : {T : Type 0} (rank : T → ℤ) (xs : List (T × T × V)) (at : ℕ) (x : T × T × V) → at < length xs → x ≡ get_or xs at x → held_value (shown_list rank xs) (Moved at) ≡ Some x.2
-  moved_value rank xs at x l q =
-      ap (option_map (λ (e : Entry V). e.value)) (slice_get-map (shown_entry rank (λ v. v)) xs at ∙ ap (option_map (shown_entry rank (λ v. v))) (slice_get_read xs (length xs) at x refl l q))
+  pub moved_value : {T : Type 0} (rank : T → ℤ) (xs : List (T × T × V)) (held : List (Held V)) (place at : ℕ) (x : T × T × V) → slice_get held place ≡ Some (Moved at) → IsSome (value_in (shown_list rank xs) held place) → x ≡ get_or xs at x → value_in (shown_list rank xs) held place ≡ Some x.2
+  moved_value rank xs held place at x m h q =
+      let w = within_entries (shown_list rank xs) at (subst (λ o. IsSome (held_value (shown_list rank xs) o)) m h) in
+      let l : at < length xs = omega (arith, w, length-map xs (shown_entry rank (λ (v : V). v))) in
+      ap (held_value (shown_list rank xs)) m
+      ∙ ap (option_map (λ (e : Entry V). e.value)) (slice_get-map (shown_entry rank (λ v. v)) xs at ∙ ap (option_map (shown_entry rank (λ v. v))) (slice_get_read xs (length xs) at x refl l q))
 
   -- an entry keeps its value
   pub glue_keeps : (eq : V → V → Bool) (es : List (Entry V)) (p : Entry V) (i : ℕ) (v : V) → option_map (λ (e : Entry V). e.value) (slice_get es i) ≡ Some v → option_map (λ (e : Entry V). e.value) (slice_get (glue eq es (p ∷ [])) i) ≡ Some v
@@ -55,12 +72,3 @@ module _ {V : Type 0} where
       let some = glue_some eq (f ∷ es) p in
       let step : suc (length tail) - 1 ≡ suc (length tail - 1) = omega (arith, some) in
       subst (λ n. SameOption eq (option_map (λ (x : Entry V). x.value) (slice_get (e ∷ tail) n)) (Some p.value)) (sym step) (glue_last eq laws (f ∷ es) p)
-
-  -- a value that is in hand is still so when one more is put
-  pub held_keeps : (eq : V → V → Bool) (out : List (Entry V)) (p : Entry V) (held : Held V) (w : V) → SameOption eq (held_value out held) (Some w) → SameOption eq (held_value (glue eq out (p ∷ [])) held) (Some w)
-  held_keeps eq out p (Kept v) w s = s
-  held_keeps eq out p (Moved i) w s = of (option_map (λ (e : Entry V). e.value) (slice_get out i)) refl s
-    where
-      of : (o : Option V) → option_map (λ (e : Entry V). e.value) (slice_get out i) ≡ o → SameOption eq o (Some w) → SameOption eq (option_map (λ (e : Entry V). e.value) (slice_get (glue eq out (p ∷ [])) i)) (Some w)
-      of None q t = absurd t
-      of (Some v) q t = subst (λ o. SameOption eq o (Some w)) (sym (glue_keeps eq out p i v q)) t

@@ -1,8 +1,24 @@
 -- The pairs with their places.
-use Rattle.blaze_table.proofs.Words.{◌≡◌, ℕ, zero, suc, ◌+◌, ◌<◌, ℤ, ◌≤ℤ◌, ◌<ℤ◌, Bool, true, List, [], ◌∷◌, ◌++◌, length, All, IsPermutation, Some, None, drop, option_map, refl, ◌∙◌, sym, ap, subst, arith, inl, inr, ⊎_elim, slice_get, slice_index_or, ◌⊎◌, IsEquivalence, Contains, IsSortedByKey, is_lt, int_cmp, Ordering, ints, map-append, All-nil, All-push, All-head, All-tail, All-map, All-weaker, Contains-append_left, Contains-push, All-permutation, Contains-permutation, IsPermutation-map, get_or_from_slice_get, slice_get_within, by_bool, AreKeys, Entry, holds, SameOption, held_value, last_at, IsPlaced, places_of, ArePlacedBelow, ArePlaced, HasKey, EndsAreKeys, AreAscending, span_of, spans, IsPiece, Held, Kept, Placed}
+use Rattle.std.proofs.Common.{◌≡◌, ℕ, zero, suc, ◌+◌, ◌<◌, ℤ, ◌≤ℤ◌, ◌<ℤ◌, true, List, [], ◌∷◌, ◌++◌, length, All, IsPermutation, Some, None, drop, refl, ◌∙◌, sym, ap, subst, arith, inl, inr, ⊎_elim}
+use Rattle.std.specs.Prelude.{slice_get, slice_index_or, ◌⊎◌}
+use Rattle.std.specs.List.{Contains}
+use Rattle.std.specs.List.Sorted.{IsSortedByKey}
+use Rattle.std.specs.Ordering.{is_lt, int_cmp}
+use Rattle.std.specs.declared.cmp.Ordering.{Ordering}
+use Rattle.std.proofs.lemmas.Int.{ints}
+use Rattle.std.proofs.lemmas.List.{map-append}
+use Rattle.std.proofs.lemmas.List.Elements.{All-nil, All-push, All-head, All-tail, All-weaker, Contains-append_left, Contains-push}
+use Rattle.std.proofs.lemmas.List.Sorted.{All-permutation, Contains-permutation, IsPermutation-map}
+use Rattle.std.proofs.lemmas.Option.{get_or_from_slice_get, slice_get_within}
+use Rattle.blaze_int.proofs.Comparisons.{by_bool}
+use Rattle.blaze_table.specs.Canonical.{AreKeys}
+use Rattle.blaze_table.specs.Entries.{Entry, entry, holds}
+use Rattle.blaze_table.specs.Painted.{last_at}
+use Rattle.blaze_table.specs.Pieces.{IsPlaced, places_of, ArePlacedBelow, ArePlaced, HasKey, EndsAreKeys, AreAscending, IsPiece}
 use Rattle.blaze_table.proofs.Pairs.Lasts.{last_none, last_is}
 use Rattle.blaze_table.proofs.Canonical.Lookup.{holds_in, holds_ends}
 use Rattle.blaze_table.proofs.Sweeping.Orders.{tail_sorted, not_less}
+use Rattle.blaze_table.specs.declared.sweep.placed.Placed.{Placed}
 
 -- ---- items of lists
 
@@ -45,14 +61,14 @@ one_more P n below here j l = by_case (nat_case j n l)
 
 -- ---- pairs placed one after another
 
-module _ {T W V : Type 0} (rank : T → ℤ) (ps : List (Entry V)) where
-  pub placed_none : ArePlacedBelow {T = T} {W = W} rank ps 0 []
+module _ {T V : Type 0} (rank : T → ℤ) (ps : List (Entry V)) where
+  pub placed_none : ArePlacedBelow rank ps 0 []
   placed_none = record {
-    known = All-nil (IsPlaced {T = T} {W = W} rank ps);
+    known = All-nil (IsPlaced rank ps);
     complete = λ j l e q w. absurd (omega arith);
   }
 
-  module _ (n : ℕ) (placed : List (Placed T W)) (c : ArePlacedBelow rank ps n placed) (e : Entry V) (is : slice_get ps n ≡ Some e) where
+  module _ (n : ℕ) (placed : List (Placed T V)) (c : ArePlacedBelow rank ps n placed) (e : Entry V) (is : slice_get ps n ≡ Some e) where
     -- a pair that has no key
     pub placed_skip : e.hi <ℤ e.lo → ArePlacedBelow rank ps (n + 1) placed
     placed_skip w = record {
@@ -62,36 +78,25 @@ module _ {T W V : Type 0} (rank : T → ℤ) (ps : List (Entry V)) where
     }
 
     -- a pair that has one
-    pub placed_more : (s t : T) (w : W) (new : List (Placed T W)) → new ≡ placed ++ (record { start = s; end = t; place = n; value = w }) ∷ [] → rank s ≡ e.lo → rank t ≡ e.hi → rank s ≤ℤ rank t → ArePlacedBelow rank ps (n + 1) new
-    placed_more s t w new is_new r u o =
-        let places : places_of new ≡ places_of placed ++ n ∷ [] = ap places_of is_new ∙ map-append (λ (p : Placed T W). p.place) placed ((record { start = s; end = t; place = n; value = w }) ∷ []) in
+    pub placed_more : (s t : T) (v : V) (new : List (Placed T V)) → new ≡ placed ++ (record { start = s; end = t; place = n; value = v }) ∷ [] → e ≡ entry (rank s) (rank t) v → rank s ≤ℤ rank t → ArePlacedBelow rank ps (n + 1) new
+    placed_more s t v new is_new r o =
+        let places : places_of new ≡ places_of placed ++ n ∷ [] = ap places_of is_new ∙ map-append (λ (p : Placed T V). p.place) placed ((record { start = s; end = t; place = n; value = v }) ∷ []) in
         record {
-          known = subst (All (IsPlaced rank ps)) (sym is_new) (All-push (IsPlaced rank ps) placed (record { start = s; end = t; place = n; value = w }) c.known (record { pair = e; is = is; start = r; end = u; order = o }));
+          known = subst (All (IsPlaced rank ps)) (sym is_new) (All-push (IsPlaced rank ps) placed (record { start = s; end = t; place = n; value = v }) c.known (record { is = is ∙ ap Some r; order = o }));
           complete = one_more (λ j. (f : Entry V) → slice_get ps j ≡ Some f → f.lo ≤ℤ f.hi → Contains (places_of new) j) n
               (λ j l f q h. subst (λ m. Contains m j) (sym places) (Contains-append_left (places_of placed) (n ∷ []) j (c.complete j l f q h)))
               (λ f q h. subst (λ m. Contains m n) (sym places) (Contains-push (places_of placed) n));
         }
 
   -- the same pairs in another order
-  pub placed_sorted : (n : ℕ) (placed new : List (Placed T W)) → ArePlacedBelow rank ps n placed → n ≡ length ps → IsPermutation placed new → ArePlaced rank ps new
+  pub placed_sorted : (n : ℕ) (placed new : List (Placed T V)) → ArePlacedBelow rank ps n placed → n ≡ length ps → IsPermutation placed new → ArePlaced rank ps new
   placed_sorted n placed new c l p = record {
     known = All-permutation (IsPlaced rank ps) placed new p c.known;
-    complete = λ j w e q h. Contains-permutation (places_of placed) (places_of new) j (IsPermutation-map (λ (p : Placed T W). p.place) placed new p) (c.complete j (omega (arith, w, l)) e q h);
+    complete = λ j w e q h. Contains-permutation (places_of placed) (places_of new) j (IsPermutation-map (λ (p : Placed T V). p.place) placed new p) (c.complete j (omega (arith, w, l)) e q h);
   }
 
-  pub ends_are_keys : (low high : ℤ) (placed : List (Placed T W)) → AreKeys low high ps → All (IsPlaced rank ps) placed → All (EndsAreKeys rank low high) placed
-  ends_are_keys low high placed are known = All-weaker (IsPlaced rank ps) (EndsAreKeys rank low high) (λ p h. let k = keys_at low high ps p.place h.pair are h.is in (omega (arith, ints, k.0, h.start), omega (arith, ints, k.1, h.end))) placed known
-
-  -- without their values
-  pub placed_spans : (n : ℕ) (placed : List (Placed T W)) → ArePlacedBelow rank ps n placed → ArePlacedBelow rank ps n (spans placed)
-  placed_spans n placed c = record {
-    known = All-map (IsPlaced rank ps) span_of placed (All-weaker (IsPlaced rank ps) (λ p. IsPlaced rank ps (span_of p)) (λ p h. record { pair = h.pair; is = h.is; start = h.start; end = h.end; order = h.order }) placed c.known);
-    complete = λ j l e q h. subst (λ m. Contains m j) (sym (places_spans placed)) (c.complete j l e q h);
-  }
-    where
-      places_spans : (xs : List (Placed T W)) → places_of (spans xs) ≡ places_of xs
-      places_spans [] = refl
-      places_spans (x ∷ xs) = ap (λ ys. x.place ∷ ys) (places_spans xs)
+  pub ends_are_keys : (low high : ℤ) (placed : List (Placed T V)) → AreKeys low high ps → All (IsPlaced rank ps) placed → All (EndsAreKeys rank low high) placed
+  ends_are_keys low high placed are known = All-weaker (IsPlaced rank ps) (EndsAreKeys rank low high) (λ p h. keys_at low high ps p.place (entry (rank p.start) (rank p.end) p.value) are h.is) placed known
 
 -- ---- what a sort by the first keys leaves
 
@@ -123,35 +128,6 @@ module _ {T V : Type 0} (rank : T → ℤ) (low high : ℤ) (cmp : T → T → O
   ascends (x ∷ xs) keys have up (suc i) (suc j) p q l r s =
       ascends xs (All-tail (EndsAreKeys rank low high) x xs keys) (All-tail (λ (p : Placed T V). rank p.start ≤ℤ rank p.end) x xs have) (tail_sorted (λ (x y : Placed T V). is_lt (cmp x.start y.start)) x xs up) i j p q (omega arith) r s
 
--- ---- pairs without their values
-
-module _ {T W : Type 0} where
-  -- the pair at an index
-  span_back : (placed : List (Placed T W)) (i : ℕ) (s : Placed T (Unit {0})) → slice_get (spans placed) i ≡ Some s → (p : Placed T W) × (slice_get placed i ≡ Some p) × (span_of p ≡ s)
-  span_back [] i s q = cc
-  span_back (x ∷ xs) zero s q = (x, refl, cc)
-  span_back (x ∷ xs) (suc i) s q = span_back xs i s q
-
-  pub ascending_spans : (rank : T → ℤ) (placed : List (Placed T W)) → AreAscending rank placed → AreAscending rank (spans placed)
-  ascending_spans rank placed up i j s t l q r =
-      let a = span_back placed i s q in
-      let b = span_back placed j t r in
-      let h = up i j a.0 b.0 l a.1 b.1 in
-      omega (arith, ints, h, ap (λ (x : Placed T (Unit {0})). rank x.start) a.2, ap (λ (x : Placed T (Unit {0})). rank x.start) b.2)
-
--- ---- the values that were not moved
-
-abbrev pub IsKept : {T V : Type 0} → List (Entry V) → Placed T (Held V) → Type 0
-IsKept ps p = option_map (λ e. Kept e.value) (slice_get ps p.place) ≡ Some p.value
-
-pub kept_at : {T V : Type 0} (eq : V → V → Bool) → IsEquivalence eq → (ps : List (Entry V)) (placed : List (Placed T (Held V))) → All (IsKept ps) placed
-    → (j : ℕ) (p : Placed T (Held V)) → slice_get placed j ≡ Some p → (e : Entry V) → slice_get ps p.place ≡ Some e → SameOption eq (held_value [] p.value) (Some e.value)
-kept_at eq laws ps placed kept j p q e is =
-    let known = item_of (IsKept ps) placed j p kept q in
-    let one : Some (Kept e.value) ≡ Some p.value = sym (ap (option_map (λ (e : Entry _). Kept e.value)) is) ∙ known in
-    let same : Kept e.value ≡ p.value = cc in
-    subst (λ h. SameOption eq (held_value [] h) (Some e.value)) same (laws.refl e.value)
-
 -- ---- what the placed pairs paint
 
 -- a pair with the place, at its index
@@ -169,22 +145,24 @@ found {T = T} {V = V} placed place c = at_index placed c.0 c.1 c.2
     at_index (x ∷ xs) zero l q = record { index = 0; pair = x; is = refl; place_is = q }
     at_index (x ∷ xs) (suc k) l q = let f = at_index xs k (omega arith) q in record { index = suc f.index; pair = f.pair; is = f.is; place_is = f.place_is }
 
-module _ {T W V : Type 0} (rank : T → ℤ) (ps : List (Entry V)) (placed : List (Placed T W)) (c : ArePlaced rank ps placed) where
+module _ {T V : Type 0} (rank : T → ℤ) (ps : List (Entry V)) (placed : List (Placed T V)) (c : ArePlaced rank ps placed) where
   -- a pair that has a key is placed
-  by_place : {P : Type 0} (j : ℕ) (e : Entry V) (k : ℤ) → slice_get ps j ≡ Some e → holds e k ≡ true → ((i : ℕ) (p : Placed T W) → slice_get placed i ≡ Some p → p.place ≡ j → HasKey rank p k → P) → P
+  by_place : {P : Type 0} (j : ℕ) (e : Entry V) (k : ℤ) → slice_get ps j ≡ Some e → holds e k ≡ true → ((i : ℕ) (p : Placed T V) → slice_get placed i ≡ Some p → p.place ≡ j → HasKey rank p k → P) → P
   by_place j e k q h f =
       let ends = holds_ends e k h in
       let it = found placed j (c.complete j (slice_get_within ps j e q) e q (omega (arith, ints, ends.0, ends.1))) in
       let known = item_of (IsPlaced rank ps) placed it.index it.pair c.known it.is in
-      let same : known.pair ≡ e = one_item ps j known.pair e (subst (λ m. slice_get ps m ≡ Some known.pair) it.place_is known.is) q in
-      f it.index it.pair it.is it.place_is (omega (arith, ints, ends.0, known.start, ap (λ (x : Entry V). x.lo) same), omega (arith, ints, ends.1, known.end, ap (λ (x : Entry V). x.hi) same))
+      let same : entry (rank it.pair.start) (rank it.pair.end) it.pair.value ≡ e = one_item ps j (entry (rank it.pair.start) (rank it.pair.end) it.pair.value) e (subst (λ m. slice_get ps m ≡ Some (entry (rank it.pair.start) (rank it.pair.end) it.pair.value)) it.place_is known.is) q in
+      f it.index it.pair it.is it.place_is (omega (arith, ints, ends.0, ap (λ (x : Entry V). x.lo) same), omega (arith, ints, ends.1, ap (λ (x : Entry V). x.hi) same))
 
   -- no pair has the key
-  pub none_at : (k : ℤ) → ((i : ℕ) (p : Placed T W) → slice_get placed i ≡ Some p → HasKey rank p k → ⊥) → last_at ps k ≡ None
+  pub none_at : (k : ℤ) → ((i : ℕ) (p : Placed T V) → slice_get placed i ≡ Some p → HasKey rank p k → ⊥) → last_at ps k ≡ None
   none_at k none = last_none ps k (λ j e q. by_bool (holds e k) (λ h. by_place j e k q h (λ i p r s w. absurd (none i p r w))) (λ b. b))
 
   -- a piece has the value of its pair
-  pub value_of : (p : Placed T W) (l h : ℤ) (piece : IsPiece rank placed p l h) (known : IsPlaced rank ps p) (k : ℤ) → l ≤ℤ k → k ≤ℤ h → last_at ps k ≡ Some known.pair.value
-  value_of p l h piece known k f u =
-      last_is ps p.place known.pair k known.is (holds_in known.pair k (omega (arith, ints, piece.start, known.start, f)) (omega (arith, ints, piece.end, known.end, u)))
-      (λ i e g r. by_bool (holds e k) (λ w. by_place i e k r w (λ m q s t v. let n = piece.last m q s k f u v in absurd (omega (arith, g, n, t)))) (λ b. b))
+  pub value_of : (x : Entry ℕ) (piece : IsPiece rank placed x) (k : ℤ) → x.lo ≤ℤ k → k ≤ℤ x.hi → last_at ps k ≡ Some piece.pair.value
+  value_of x piece k l u =
+      let pair = piece.pair in
+      let e = entry (rank pair.start) (rank pair.end) pair.value in
+      last_is ps pair.place e k (item_of (IsPlaced rank ps) placed x.value pair c.known piece.is).is (holds_in e k (omega (arith, ints, piece.start)) (omega (arith, ints, piece.end)))
+      (λ i f g r. by_bool (holds f k) (λ h. by_place i f k r h (λ m p s t w. let n = piece.last m p s k l u w in absurd (omega (arith, g, n, t)))) (λ b. b))

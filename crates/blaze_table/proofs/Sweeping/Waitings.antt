@@ -1,6 +1,14 @@
 -- The pairs that wait: which of them is painted, and what is left of them.
-use Rattle.blaze_table.proofs.Words.{◌≡◌, ℕ, zero, suc, ◌<◌, ◌≤◌, ℤ, pos, ◌+ℤ◌, ◌-ℤ◌, ◌≤ℤ◌, ◌<ℤ◌, List, [], ◌∷◌, length, All, IsPermutation, Some, ap, subst, arith, inl, inr, ⊎_elim, slice_get, slice_index_or, ◌⊎◌, Contains, ints, All-contains, All-tail, All-weaker, All-permutation, Contains-permutation, HasKey, HasStarted, IsWaiting, IsPiece, KeepsReaching, Placed}
+use Rattle.std.proofs.Common.{◌≡◌, ℕ, zero, suc, ◌<◌, ◌≤◌, ℤ, pos, ◌+ℤ◌, ◌-ℤ◌, ◌≤ℤ◌, ◌<ℤ◌, List, [], ◌∷◌, length, All, IsPermutation, Some, refl, ap, subst, arith, get_or, inl, inr, ⊎_elim}
+use Rattle.std.specs.Prelude.{slice_get, slice_index_or, ◌⊎◌}
+use Rattle.std.specs.List.{Contains}
+use Rattle.std.proofs.lemmas.Int.{ints}
+use Rattle.std.proofs.lemmas.List.Elements.{All-contains, All-tail, All-weaker}
+use Rattle.std.proofs.lemmas.List.Sorted.{All-permutation, Contains-permutation}
+use Rattle.std.proofs.lemmas.Option.{slice_get_read, slice_get_within}
+use Rattle.blaze_table.specs.Pieces.{HasKey, HasStarted, IsWaiting, KeepsReaching}
 use Rattle.blaze_table.proofs.Sweeping.Placed.{one_item, item_of}
+use Rattle.blaze_table.specs.declared.sweep.placed.Placed.{Placed}
 
 pub contains_cases : {X : Type 0} (x y : X) (xs : List X) → Contains (x ∷ xs) y → (x ≡ y) ⊎ Contains xs y
 contains_cases x y xs c = elim_index c.0 c.1 c.2
@@ -18,22 +26,13 @@ module _ {T V : Type 0} (rank : T → ℤ) (placed : List (Placed T V)) where
     pub top_pair : (top : ℕ × ℕ) → slice_get waits 0 ≡ Some top → HasStarted rank placed a top
     top_pair top first = item_of (HasStarted rank placed a) waits 0 top w.started first
 
+    -- as the code reads it
+    pub top_read : (top : ℕ × ℕ) (p : Placed T V) → slice_get waits 0 ≡ Some top → p ≡ get_or placed top.1 p → slice_get placed top.1 ≡ Some p
+    top_read top p first q = let begun = top_pair top first in slice_get_read placed (length placed) top.1 p refl (slice_get_within placed top.1 begun.pair begun.is) q
+
     -- no pair that has a key from a up to `to` has a later place than those that wait
     pub top_is_last : (top : ℕ) → All (λ x. x.0 ≤ top) waits → (j : ℕ) (p : Placed T V) → slice_get placed j ≡ Some p → (k : ℤ) → a ≤ℤ k → k ≤ℤ to → HasKey rank p k → p.place ≤ top
     top_is_last top greatest j p q k l u h = All-contains (λ x. x.0 ≤ top) waits (p.place, j) greatest (w.complete j p q (omega (arith, ints, h.1)) (omega (arith, ints, h.0)))
-
-    -- the top, which waits with the greatest place, has the keys up to t
-    pub top_piece : (top : ℕ × ℕ) (e : Placed T V) → slice_get waits 0 ≡ Some top → All (λ x. x.0 ≤ top.0) waits → slice_get placed top.1 ≡ Some e
-        → (t : ℤ) → a ≤ℤ t → t ≤ℤ to → t ≤ℤ rank e.end → IsPiece rank placed e a t
-    top_piece top e first greatest is t f u h =
-        let begun = top_pair top first in
-        let same : begun.pair ≡ e = one_item placed top.1 begun.pair e begun.is is in
-        record {
-          order = f;
-          start = omega (arith, ints, begun.start, ap (λ (y : Placed T V). rank y.start) same);
-          end = h;
-          last = λ j p q k l v k_in. let n = top_is_last top.0 greatest j p q k l (omega (arith, ints)) k_in in omega (arith, n, begun.place, ap (λ (y : Placed T V). y.place) same);
-        }
 
     -- where none waits, no pair has a key from a up to `to`
     pub none_is : waits ≡ [] → (j : ℕ) (p : Placed T V) → slice_get placed j ≡ Some p → (k : ℤ) → a ≤ℤ k → k ≤ℤ to → HasKey rank p k → ⊥

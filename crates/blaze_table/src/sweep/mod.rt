@@ -6,12 +6,14 @@ ghost use Rattle.blaze_table.specs.CanonicalOf.{IsCanonicalOf};
 
 use crate::entry_keys::keys_in_hand;
 use crate::sweep::ascending::{is_ascending, joined_entries};
-use crate::sweep::pieces::entries_of_placed;
+use crate::sweep::fill::entries_of_pieces;
+use crate::sweep::pieces::pieces_of;
 use crate::sweep::placed::placed_of;
 use blaze_int::Integer;
 use std::alloc::{AllocError, Global};
 
 mod ascending;
+mod fill;
 mod held;
 mod pieces;
 mod placed;
@@ -39,6 +41,7 @@ pub fn canonical_of<T: Integer, V: Eq + Clone>(
         return joined_entries(alloc, pairs);
     }
     keys_in_hand(pairs.as_slice());
-    let mut placed = placed_of(alloc, pairs)?;
-    entries_of_placed(alloc, placed.as_mut_slice())
+    let placed = placed_of(alloc, pairs)?;
+    let pieces = pieces_of(alloc, placed.as_slice())?;
+    entries_of_pieces(alloc, placed, pieces)
 }

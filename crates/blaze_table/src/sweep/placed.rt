@@ -1,15 +1,14 @@
 //! Pairs with their places, ascending by first key.
-ghost use Rattle.std.specs.Prelude.{[], IfOk};
+ghost use Rattle.std.specs.Prelude.{All, IfOk};
 ghost use Rattle.blaze_table.specs.Canonical.{AreKeys};
 ghost use Rattle.blaze_table.specs.Entries.{shown_list};
-ghost use Rattle.blaze_table.specs.Pieces.{AreAscending, IsSweptTo, spans};
+ghost use Rattle.blaze_table.specs.Pieces.{ArePlaced, AreAscending, EndsAreKeys};
 
-use crate::sweep::held::Held;
 use blaze_int::Integer;
 use blaze_int::compare::is_at_most;
 use std::alloc::{AllocError, Global};
 
-/// A pair: its first and last key, its place in the list, and its value, or where that is.
+/// A pair: its first and last key, its place in the list, and its value.
 #[derive(Drop)]
 pub(crate) struct Placed<T, V> {
     pub start: T,
@@ -22,11 +21,12 @@ pub(crate) struct Placed<T, V> {
 pub(crate) fn placed_of<T: Integer, V: Eq + Clone>(
     alloc: Global,
     pairs: Vec<(T, T, V)>,
-) -> Result<Vec<Placed<T, Held<V>>>, AllocError>
+) -> Result<Vec<Placed<T, V>>, AllocError>
     requires { AreKeys T.low T.high (shown_list T.rank pairs.items) }
-    ensures placed { IfOk result (λ placed. IsSweptTo V.eq T.rank T.low T.high
-        (shown_list T.rank pairs.items) placed.items T.low []) }
-    ensures ascending { IfOk result (λ placed. AreAscending T.rank (spans placed.items)) }
+    ensures placed { IfOk result (λ placed. ArePlaced T.rank (shown_list T.rank pairs.items)
+        placed.items) }
+    ensures ascending { IfOk result (λ placed. AreAscending T.rank placed.items) }
+    ensures keys { IfOk result (λ placed. All (EndsAreKeys T.rank T.low T.high) placed.items) }
 {
     let mut placed = Vec::new(alloc);
     let mut count = 0;
@@ -40,7 +40,7 @@ pub(crate) fn placed_of<T: Integer, V: Eq + Clone>(
             start,
             end,
             place,
-            value: Held::Kept(value),
+            value,
         })?;
     }
     placed.sort_unstable_by_key(|pair| pair.start);

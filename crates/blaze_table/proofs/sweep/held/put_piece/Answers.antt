@@ -1,27 +1,32 @@
-use Rattle.blaze_table.proofs.Words.{◌≡◌, ◌-◌, [], ◌∷◌, length, ap, sym, subst, ◌∙◌, arith, Some, IsSome, length-map, entry, shown_entry, SameOption, shown_list, glue, held_value, Moved}
-use Rattle.blaze_table.proofs.Sweeping.Held.{glue_some}
+use Rattle.std.proofs.Common.{◌≡◌, ◌-◌, length, ap, subst, ◌∙◌, arith, slice_set, Some}
+use Rattle.std.proofs.lemmas.List.{length-map, length-set, set-set}
+use Rattle.blaze_table.specs.Entries.{entry, shown_entry, SameOption, shown_list}
+use Rattle.blaze_table.specs.Held.{moved_to, value_in}
+use Rattle.blaze_table.specs.declared.sweep.held.Held.TheVariants.{Moved}
+use Rattle.blaze_table.proofs.Sweeping.Held.{within_held, glue_some}
 use Rattle.blaze_table.proofs.sweep.held.put_piece.Goals as goal
-
-pub value_of-requires-clause-there : goal.value_of-requires-clause-there
-value_of-requires-clause-there g c =
-    subst (λ es. IsSome (held_value es c.args.held.now)) (sym c.if-lengthen_last.ensures ∙ ap (shown_list g.T.Integer.rank) (sym c.deref.ensures.value)) c.requires.there
 
 pub overflow_sub-len : goal.overflow_sub-len
 overflow_sub-len g c =
     let rank = g.T.Integer.rank in
-    let some = glue_some g.V.PartialEq.eq (shown_list rank c.lengthen_last.new.entries.items) (entry (rank c.args.start) (rank c.args.end) c.in_ok-value.value) in
+    let some = glue_some g.V.PartialEq.eq (shown_list rank c.args.entries.now.items) (entry (rank c.args.start) (rank c.args.end) c.in_ok-value.value) in
     let long = ap length c.in_ok-push_entry.ensures.ok in
     omega (arith, some, long, c.len.ensures, c.push_entry.new.out.ok.0, length-map c.push_entry.new.out.items (shown_entry rank (λ v. v)))
+
+pub index_mut-requires : goal.index_mut-requires
+index_mut-requires g c =
+    let l = within_held (shown_list g.T.Integer.rank c.args.entries.now.items) c.args.held.now.items c.args.index c.requires.there in
+    let same = ap length c.in_ok-value.ensures.held in
+    omega (arith, l, same, c.value_at.new.held.ok.0, length-set c.args.held.now.items c.args.index (Moved 0))
 
 pub returns : goal.returns
 returns g c =
     let rank = g.T.Integer.rank in
-    let eq = g.V.PartialEq.eq in
-    let value = c.in_ok-value.value in
+    let held = c.args.held.now.items in
     let n : c.len.result - 1 ≡ length (shown_list rank c.push_entry.new.out.items) - 1 = omega (arith, c.len.ensures, c.push_entry.new.out.ok.0, length-map c.push_entry.new.out.items (shown_entry rank (λ v. v))) in
     record {
-      value = value;
-      alike = subst (λ es. SameOption eq (Some value) (held_value es c.args.held.now)) (ap (shown_list rank) c.deref.ensures.value ∙ c.if-lengthen_last.ensures) c.in_ok-value.ensures;
-      glued = c.in_ok-push_entry.ensures.ok ∙ ap (λ l. glue eq l (entry (rank c.args.start) (rank c.args.end) value ∷ [])) c.if-lengthen_last.ensures;
-      moved = ap Moved n;
+      value = c.in_ok-value.value;
+      alike = subst (λ xs. SameOption g.V.PartialEq.eq (Some c.in_ok-value.value) (value_in (shown_list rank xs) held c.args.index)) c.deref.ensures.value c.in_ok-value.ensures.value;
+      glued = c.in_ok-push_entry.ensures.ok;
+      moved = ap (λ l. slice_set l c.args.index (Moved (c.len.result - 1))) c.in_ok-value.ensures.held ∙ set-set held c.args.index (Moved 0) (Moved (c.len.result - 1)) ∙ ap (λ i. moved_to i held c.args.index) n;
     }

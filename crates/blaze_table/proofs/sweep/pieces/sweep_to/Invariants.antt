@@ -1,15 +1,18 @@
-use Rattle.blaze_table.proofs.Words.{◌≤ℤ◌, IsHeap, heap_items, heap_len, shown_list, place_cmp, IsWaiting, SweepsOn, spans}
+use Rattle.std.proofs.Common.{◌≤ℤ◌}
+use Rattle.std.specs.BinaryHeap.{IsHeap, heap_items, heap_len}
+use Rattle.blaze_table.specs.Entries.{shown_list}
+use Rattle.blaze_table.specs.Pieces.{place_cmp, IsWaiting, ArePieces}
 use Rattle.blaze_table.proofs.sweep.pieces.sweep_to.Given as goal
 
--- what the pairs paint below the key `at` is in the list, and those wait that have a key from there on
+-- the pieces below the key `at` are made, and those wait that have a key from there on
 abbrev pub invariant-loop-top : goal.invariant-loop-top
 invariant-loop-top g l =
     let rank = g.T.Integer.rank in
     record {
       order : rank l.at ≤ℤ rank l.fn.to;
       heap : IsHeap place_cmp (heap_items l.waiting);
-      waits : IsWaiting rank (spans l.fn.placed) (rank l.at) (rank l.fn.to) (heap_items l.waiting);
-      made : SweepsOn g.V.PartialEq.eq rank g.T.Integer.low g.T.Integer.high (rank l.fn.from) (rank l.at) l.fn.placed l.placed (shown_list rank l.fn.entries.items) (shown_list rank l.entries.items);
+      waits : IsWaiting rank l.placed (rank l.at) (rank l.fn.to) (heap_items l.waiting);
+      made : ArePieces rank l.placed g.T.Integer.low (rank l.at) (shown_list rank l.pieces.items);
     }
 
 abbrev pub decreases-loop-top : goal.decreases-loop-top
