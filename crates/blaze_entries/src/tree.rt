@@ -166,7 +166,8 @@ impl<T: Integer, V: Drop> IntoIterator for Tree<T, V> {
 }
 
 impl<T: Integer, V: Clone> Tree<T, V> {
-    /// The same ranges, each with a clone of its value. Refused memory leaves these entries.
+    /// The same ranges, each with a clone of its value. If an allocation fails, these are
+    /// unchanged.
     pub fn clone(&self) -> Result<Self, AllocError>
         ensures { IfOk result (λ copy. AreCloned V.is_clone self.now copy) }
     {

@@ -27,7 +27,8 @@ fn collect<T: Integer, V: Drop>(
 }
 
 impl<T: Integer, V: Drop> Tree<T, V> {
-    /// The tree of entries whose starts ascend: first key, last key and value. Refused memory drops the list.
+    /// The tree of entries whose starts ascend: first key, last key and value. If an allocation fails, the
+    /// list is dropped.
     pub fn from_sorted(alloc: Global, entries: Vec<(T, T, V)>) -> Result<Self, AllocError>
         requires { StartsAscend T.low T.high (shown_list T.rank entries.items) }
         ensures { IfOk result (λ tree. tree ≡ shown_list T.rank entries.items) }

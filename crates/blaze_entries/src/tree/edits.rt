@@ -83,7 +83,8 @@ impl<T: Integer, V> Tree<T, V> {
         change_last_end(&mut self.nodes, end);
     }
 
-    /// Keeps the entries that start below a key, and returns the others. Refused memory leaves the entries.
+    /// Keeps the entries that start below a key, and returns the others. If an allocation fails, the entries
+    /// are unchanged.
     pub fn split_off(&mut self, key: T) -> Result<Self, AllocError>
         ensures below { OnOk result (self.new ≡ below (T.rank key) self.old) }
         ensures from { IfOk result (λ others. others ≡ from (T.rank key) self.old) }
@@ -104,7 +105,7 @@ impl<T: Integer, V: Drop> Tree<T, V> {
         exchange(&mut self.nodes, start, EndValue { end, value });
     }
 
-    /// Puts an entry in, at a start where none is. Refused memory leaves the entries.
+    /// Puts an entry in, at a start where none is. If an allocation fails, the entries are unchanged.
     pub fn insert(&mut self, start: T, end: T, value: V) -> Result<(), AllocError>
         requires absent { start_at (T.rank start) self.old ≡ None }
         ensures ok { OnOk result
@@ -160,7 +161,7 @@ impl<T: Integer, V: Drop> Tree<T, V> {
 
 impl<T: Integer, V: Clone + Drop> Tree<T, V> {
     /// Puts an entry in that starts at `start`, where none is, ends where the entry at `of` ends and has a clone of its
-    /// value. Refused memory leaves the entries.
+    /// value. If an allocation fails, the entries are unchanged.
     pub fn insert_clone(&mut self, of: T, start: T) -> Result<(), AllocError>
         requires present { IsSome (start_at (T.rank of) self.old) }
         requires absent { start_at (T.rank start) self.old ≡ None }

@@ -1,4 +1,4 @@
-//! Entries that get another start. A place for the entry is made there first, since that may be refused memory: a node without a
+//! Entries that get another start. A place for the entry is made there first, since that allocation may fail: a node without a
 //! value, which is filled before a call returns.
 ghost use Rattle.std.specs.Prelude.{◌≡◌, ◌+◌, length, Some, None, IsSome, OnOk, OnErr};
 ghost use Rattle.blaze_entries.specs.Nodes.{shown_nodes};
@@ -57,7 +57,8 @@ fn replace_node<T: Integer, V: Drop>(
 }
 
 impl<T: Integer, V: Drop> Tree<T, V> {
-    /// Moves the entry at a start to another start, where none is, with its end and value. Refused memory leaves it.
+    /// Moves the entry at a start to another start, where none is, with its end and value. If an allocation
+    /// fails, it is unchanged.
     pub fn move_start(&mut self, from: T, to: T) -> Result<(), AllocError>
         requires present { IsSome (start_at (T.rank from) self.old) }
         requires absent { start_at (T.rank to) self.old ≡ None }
@@ -75,7 +76,7 @@ impl<T: Integer, V: Drop> Tree<T, V> {
     }
 
     /// Replaces the front of the entry at a start: it has another end and value, and what it had is an entry from another
-    /// start on, where none is. Refused memory leaves the entries.
+    /// start on, where none is. If an allocation fails, the entries are unchanged.
     pub fn replace_front(&mut self, start: T, end: T, value: V, to: T) -> Result<(), AllocError>
         requires present { IsSome (start_at (T.rank start) self.old) }
         requires absent { start_at (T.rank to) self.old ≡ None }
