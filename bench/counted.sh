@@ -1,7 +1,25 @@
 # Counts the instructions of works by callgrind. bench/growth.sh and bench/instructions.sh read this file, each in the folder that it
-# stands in, after sides.sh. `out/count SIDE WORK SIZE COUNT` is what callgrind runs: a WORK by the number that driver.cpp and
-# `library_run` give it, COUNT times on maps of SIZE entries.
+# stands in, after they have said in a function `works` which works there are, each by `work NAME ..`. Their words pick some of these.
+# `out/count SIDE WORK SIZE COUNT` is what callgrind runs: a WORK by the number that driver.cpp and `library_run` give it, COUNT times on
+# maps of SIZE entries.
+words=("$@")
+
+# A word that fits no work is an error, before anything is proved.
+names=()
+work() { names+=("$1"); }
+works
+for word in "${words[@]}"; do
+    if [[ "$(printf '%s\n' "${names[@]}")" != *"$word"* ]]; then
+        echo "bench: no row has '$word' in its name; the rows are" >&2
+        printf '    %s\n' "${names[@]}" >&2
+        exit 2
+    fi
+done
+
+declare -A needed=([valgrind]=valgrind)
+source ./sides.sh
 link count count.cpp
+say "counting"
 
 counted() { # side, work, entries, calls
     valgrind --tool=callgrind --callgrind-out-file=/dev/null out/count "$@" 2>&1 | sed -n 's/.*Collected : //p'
@@ -21,7 +39,6 @@ grouped() { # a number
 
 folder="$(mktemp -d)"
 trap 'rm -rf "$folder"' EXIT
-words=("$@")
 number=100
 
 # Counts a row beside others, where its name has one of the words.
@@ -32,4 +49,11 @@ work() { # name, what `row` takes
     number=$((number + 1))
     while [ "$(jobs -rp | wc -l)" -ge "$(nproc)" ]; do wait -n; done
     row "$@" >"$folder/$number" &
+}
+
+# All rows, in their order.
+count_works() {
+    works
+    wait
+    cat "$folder"/*
 }

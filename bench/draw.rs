@@ -9,12 +9,12 @@ impl Draw {
         self.0 >> 33
     }
 
-    /// A number below a limit.
+    /// A number below a limit; 0 where the limit is 0.
     pub fn below(&mut self, limit: u64) -> u64 {
-        self.next() % limit
+        self.next().checked_rem(limit).unwrap_or(0)
     }
 
-    /// A key from 0 up to below a limit.
+    /// A key from 0 up to below a limit; 0 where the limit is 0.
     pub fn key(&mut self, limit: u64) -> i64 {
         self.below(limit) as i64
     }

@@ -3,18 +3,17 @@
 # of plain Rust the Rust crate's way, as a table in Markdown. They are counted by callgrind, with the work done and not done; the
 # difference, for one call, is what is printed. They do not change with what else the machine does.
 #
-#     bench/growth.sh             every work: some minutes
+#     bench/growth.sh             every work: some minutes, and first the proof of the library, some 20 to 40
 #     bench/growth.sh WORD..      the works whose names have one of the words, as paint, append or `-`
 #
-# It needs what bench/run.sh needs, and valgrind.
+# It needs `rt`, rustc, g++ and valgrind, and first proves and builds the library where that is not built yet. Status 2: a word fits no
+# row; 70: something that it needs is missing, or a proof failed.
 set -euo pipefail
 cd "$(dirname "$(readlink -f "${BASH_SOURCE[0]}")")"
 if [ "${1:-}" = --help ]; then
     sed -n '2,/^set/ s/^# \?//p' growth.sh
     exit
 fi
-source ./sides.sh
-source ./counted.sh
 
 # The row of a work.
 row() { # name, work, calls, sides
@@ -31,38 +30,43 @@ row() { # name, work, calls, sides
     echo "| $1$cells |"
 }
 
-work 'paint' 0 500 'library plain crate'
-work 'insert' 1 500 'library plain crate'
-work 'remove' 2 500 'library plain crate'
-work 'get' 4 500 'library plain'
-work 'pop_first' 7 500 'library plain crate'
-work 'pop_last' 26 500 'library plain crate'
-work 'split_off in the middle' 5 4 'library plain'
-work 'append of as many entries' 6 4 'library plain crate'
-work 'ranges_retain, all kept' 27 4 'library plain'
-work 'a range of the lower half' 24 4 'library plain'
-work 'a pass over the keys of entries of one key' 16 4 'library plain'
-work '`a \| b`, equal sizes' 8 4 'library plain crate'
-work '`a \| b`, b of 100, lent' 10 4 'library plain crate'
-work '`a \| b`, b of 100, by value' 11 4 'library plain crate'
-work '`a & b`, equal sizes' 12 4 'library plain'
-work '`a & b`, a of 100, lent' 21 4 'library plain'
-work '`a - b`, equal sizes' 13 4 'library plain'
-work '`a - b`, b of 100, lent' 22 4 'library plain'
-work '`a - b`, b of 100, by value' 23 4 'library plain'
-work '`a ^ b`, equal sizes' 14 4 'library plain'
-work '`a ^ b`, b of 100, lent' 28 4 'library plain'
-work '`a ^ b`, b of 100, by value' 29 4 'library plain'
-work '`a \| b`, b of n / 16 ranges that cover nearly all' 35 4 'library'
-work '`a.inner_join(b, ..)`, equal sizes' 30 4 'library'
-work '`a.inner_join(b, ..)`, b of 100' 31 4 'library'
-work '`b.left_join(a, ..)`, b of 100' 32 4 'library'
-work '`[&a, &b].union`, b of 100' 33 4 'library'
-work 'the union of a `Vec` of a and b, b of 100' 36 4 'library'
-work '`[&a, &b].intersection`, b of 100' 34 4 'library'
-work 'a map of unsorted ranges; plain Rust paints them' 17 4 'library plain'
-work 'a map of sorted ranges; plain Rust copies them' 18 4 'library plain'
-wait
+works() {
+    work 'paint' 0 500 'library plain crate'
+    work 'insert' 1 500 'library plain crate'
+    work 'remove' 2 500 'library plain crate'
+    work 'get' 4 500 'library plain'
+    work 'pop_first' 7 500 'library plain crate'
+    work 'pop_last' 26 500 'library plain crate'
+    work 'split_off in the middle' 5 4 'library plain'
+    work 'append of as many entries' 6 4 'library plain crate'
+    work 'ranges_retain, all kept' 27 4 'library plain'
+    work 'a range of the lower half' 24 4 'library plain'
+    work 'a pass over the keys of entries of one key' 16 4 'library plain'
+    work '`a \| b`, equal sizes' 8 4 'library plain crate'
+    work '`a \| b`, b of 100, lent' 10 4 'library plain crate'
+    work '`a \| b`, b of 100, by value' 11 4 'library plain crate'
+    work '`a & b`, equal sizes' 12 4 'library plain'
+    work '`a & b`, a of 100, lent' 21 4 'library plain'
+    work '`a - b`, equal sizes' 13 4 'library plain'
+    work '`a - b`, b of 100, lent' 22 4 'library plain'
+    work '`a - b`, b of 100, by value' 23 4 'library plain'
+    work '`a ^ b`, equal sizes' 14 4 'library plain'
+    work '`a ^ b`, b of 100, lent' 28 4 'library plain'
+    work '`a ^ b`, b of 100, by value' 29 4 'library plain'
+    work '`a \| b`, b of n / 16 ranges that cover nearly all' 35 4 'library plain'
+    work '`a - b`, the same b' 39 4 'library plain'
+    work '`a ^ b`, the same b' 41 4 'library plain'
+    work '`a.inner_join(b, ..)`, equal sizes' 30 4 'library'
+    work '`a.inner_join(b, ..)`, b of 100' 31 4 'library'
+    work '`b.left_join(a, ..)`, b of 100' 32 4 'library'
+    work '`[&a, &b].union`, b of 100' 33 4 'library'
+    work 'the union of a `Vec` of a and b, b of 100' 36 4 'library'
+    work '`[&a, &b].intersection`, b of 100' 34 4 'library'
+    work 'a map of unsorted ranges; plain Rust paints them' 17 4 'library plain'
+    work 'a map of sorted ranges; plain Rust copies them' 18 4 'library plain'
+}
+source ./counted.sh
+
 echo "| instructions of a call | library, n | 4n | 16n | plain Rust, n | 4n | 16n | the crate's way, n | 4n | 16n |"
 echo "|---|---|---|---|---|---|---|---|---|---|"
-cat "$folder"/*
+count_works

@@ -3,18 +3,17 @@
 # way, as a table in Markdown. They are counted by callgrind, with the work done and not done. They do not change with what else the
 # machine does.
 #
-#     bench/instructions.sh             every work: some minutes
+#     bench/instructions.sh             every work: some minutes, and first the proof of the library, some 20 to 40
 #     bench/instructions.sh WORD..      the works whose names have one of the words, as paint, append or `-`
 #
-# It needs what bench/run.sh needs, and valgrind.
+# It needs `rt`, rustc, g++ and valgrind, and first proves and builds the library where that is not built yet. Status 2: a word fits no
+# row; 70: something that it needs is missing, or a proof failed.
 set -euo pipefail
 cd "$(dirname "$(readlink -f "${BASH_SOURCE[0]}")")"
 if [ "${1:-}" = --help ]; then
     sed -n '2,/^set/ s/^# \?//p' instructions.sh
     exit
 fi
-source ./sides.sh
-source ./counted.sh
 
 ratio() { # instructions of the library, of another side
     awk -v one="$1" -v other="$2" 'BEGIN { printf "%.2f", one / other }'
@@ -35,35 +34,51 @@ row() { # name, work, entries, calls, parts of a call, sides
     echo "| $1 | $(grouped "$library")$cells |"
 }
 
-work 'a paint, 10^4 entries' 0 10000 100000 1 'plain crate'
-work 'a paint, 10^5 entries' 0 100000 100000 1 'plain crate'
-work 'an insertion, 10^4 entries' 1 10000 100000 1 'plain crate'
-work 'a removal, 10^4 entries' 2 10000 100000 1 'plain crate'
-work 'a clumpy paint, of 5 * 10^4: sixteen at a time among the same 64 keys' 3 0 50000 1 'plain crate'
-work '`append`, for each of 2 * 10^4 entries of each map' 6 20000 4 20000 'plain crate'
-work 'a pop of the first key, 2 * 10^4 entries of 1 to 16 keys' 7 20000 100000 1 'plain crate'
-work 'a pop of the last key' 26 20000 100000 1 'plain crate'
-work '`ranges_retain` that keeps all, for each of 2 * 10^4 entries' 27 20000 4 20000 'plain crate'
-work '`a \| b`, for each of 2 * 10^4 entries of each map' 8 20000 4 20000 'plain crate'
-work '`a & b`' 12 20000 4 20000 'plain'
-work '`a - b`' 13 20000 4 20000 'plain'
-work '`a ^ b`' 14 20000 4 20000 'plain'
-work 'a look-up, 10^4 entries' 4 10000 100000 1 'plain'
-work 'a key of 2 * 10^4 entries of one key, by `iter`' 16 20000 4 20000 'plain'
-work 'a range of half of 2 * 10^4 entries, for each within it' 24 20000 4 10000 'plain'
-work '`a & b`, `a` of 100 entries, `b` of 10^5, lent, a call' 21 100000 4 1 'plain'
-work '`a - b`, `a` of 10^5 entries, `b` of 100, lent, a call; plain Rust cuts a clone' 22 100000 4 1 'plain'
-work 'the same, both by value' 23 100000 100 1 'plain'
-work '`a \| b`, both by value, `a` of 10^5 entries, `b` of 100, a call' 11 100000 100 1 'plain crate'
-work '`a ^ b`, both by value, the same; plain Rust goes through both' 29 100000 100 1 'plain'
-work 'a map of 2 * 10^4 sorted ranges, for each; plain Rust copies them' 18 20000 4 20000 'plain'
-work 'a map of 2 * 10^4 unsorted ranges, for each; plain Rust paints them' 17 20000 4 20000 'plain'
-work 'the union of 2 maps of 10^5 entries in all, for each' 20 2 4 100000 'plain'
-work 'the union of 16' 20 16 4 100000 'plain'
-work 'a filled range of one gap, 10^5 entries; plain Rust looks up and paints' 25 1 10000 1 'plain'
-work 'the same of ten gaps, for each' 25 10 1000 10 'plain'
-work 'the same of 1,000 gaps, for each' 25 1000 10 1000 'plain'
-wait
+works() {
+    work 'a paint, 10^4 entries' 0 10000 100000 1 'plain crate'
+    work 'a paint, 10^5 entries' 0 100000 100000 1 'plain crate'
+    work 'an insertion, 10^4 entries' 1 10000 100000 1 'plain crate'
+    work 'a removal, 10^4 entries' 2 10000 100000 1 'plain crate'
+    work 'a clumpy paint, of 5 * 10^4: sixteen at a time among the same 64 keys' 3 0 50000 1 'plain crate'
+    work '`append`, for each of 2 * 10^4 entries of each map' 6 20000 4 20000 'plain crate'
+    work 'a pop of the first key, 2 * 10^4 entries of 1 to 16 keys' 7 20000 100000 1 'plain crate'
+    work 'a pop of the last key' 26 20000 100000 1 'plain crate'
+    work '`ranges_retain` that keeps all, for each of 2 * 10^4 entries' 27 20000 4 20000 'plain crate'
+    work '`ranges_retain` that keeps half, the same' 37 20000 4 20000 'plain crate'
+    work '`ranges_retain` that keeps none, the same' 38 20000 4 20000 'plain crate'
+    work '`a \| b`, for each of 2 * 10^4 entries of each map' 8 20000 4 20000 'plain crate'
+    work '`a & b`' 12 20000 4 20000 'plain'
+    work '`a - b`' 13 20000 4 20000 'plain'
+    work '`a ^ b`' 14 20000 4 20000 'plain'
+    work 'a look-up, 10^4 entries' 4 10000 100000 1 'plain'
+    work 'a key of 2 * 10^4 entries of one key, by `iter`' 16 20000 4 20000 'plain'
+    work 'a key of 2 * 10^4 entries of 1 to 16 keys, by `iter`' 42 20000 4 170000 'crate'
+    work 'the same, by `keys`' 43 20000 4 170000 'crate'
+    work 'the same, by `values`' 44 20000 4 170000 'crate'
+    work 'the same, by `iter` from behind' 45 20000 4 170000 'crate'
+    work 'the same, by `keys` from behind' 46 20000 4 170000 'crate'
+    work 'the same, by `values` from behind' 47 20000 4 170000 'crate'
+    work 'the same, by value' 48 20000 4 170000 'crate'
+    work 'a range of half of 2 * 10^4 entries, for each within it' 24 20000 4 10000 'plain'
+    work '`a & b`, `a` of 100 entries, `b` of 10^5, lent, a call' 21 100000 4 1 'plain'
+    work '`a - b`, `a` of 10^5 entries, `b` of 100, lent, a call; plain Rust cuts a clone' 22 100000 4 1 'plain'
+    work 'the same, both by value' 23 100000 100 1 'plain'
+    work '`a \| b`, both by value, `a` of 10^5 entries, `b` of 100, a call' 11 100000 100 1 'plain crate'
+    work '`a ^ b`, both by value, the same; plain Rust goes through both' 29 100000 100 1 'plain'
+    work '`a - b`, `b` of 1,250 ranges that cover nearly all of 2 * 10^4 entries of `a`, lent, for each of these' 39 20000 4 20000 'plain'
+    work 'the same, both by value' 40 20000 4 20000 'plain'
+    work '`a ^ b`, the same, lent' 41 20000 4 20000 'plain'
+    work '`a \| b`, the same, lent' 35 20000 4 20000 'plain'
+    work 'a map of 2 * 10^4 sorted ranges, for each; plain Rust copies them' 18 20000 4 20000 'plain'
+    work 'a map of 2 * 10^4 unsorted ranges, for each; plain Rust paints them' 17 20000 4 20000 'plain'
+    work 'the union of 2 maps of 10^5 entries in all, for each' 20 2 4 100000 'plain'
+    work 'the union of 16' 20 16 4 100000 'plain'
+    work 'a filled range of one gap, 10^5 entries; plain Rust looks up and paints' 25 1 10000 1 'plain'
+    work 'the same of ten gaps, for each' 25 10 1000 10 'plain'
+    work 'the same of 1,000 gaps, for each' 25 1000 10 1000 'plain'
+}
+source ./counted.sh
+
 echo "| instructions | library | plain Rust | library / plain | the crate's way | library / the crate's way |"
 echo "|---|---|---|---|---|---|"
-cat "$folder"/*
+count_works

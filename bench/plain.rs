@@ -1,4 +1,6 @@
 //! The works of `driver.cpp` over the plain Rust map, as a static library.
+#[cfg(as_crate)]
+mod by_keys;
 mod draw;
 mod ranges;
 
@@ -198,6 +200,19 @@ fn retain(check: bool, size: u64, count: u64) -> u64 {
     checksum(check, 0, &map)
 }
 
+/// The entries kept whose value is below a limit, of four maps.
+fn retain_below(check: bool, size: u64, count: u64, limit: u64) -> u64 {
+    let map = prepared(1, size, 16, 0);
+    let mut sum = 0;
+    for (place, mut map) in (0..).zip(vec![map; 4]) {
+        if place < count {
+            map.ranges_retain(|_, value| *value < limit);
+        }
+        sum = checksum(check, sum, &map);
+    }
+    sum
+}
+
 /// An operation on two lent maps, again and again.
 fn combine(check: bool, size: u64, other: u64, count: u64, operation: fn(&Map, &Map) -> Map) -> u64 {
     let map = prepared(1, size, 16, 0);
@@ -205,6 +220,29 @@ fn combine(check: bool, size: u64, other: u64, count: u64, operation: fn(&Map, &
     let mut sum = 0;
     for _ in 0..count {
         sum = checksum(check, sum, &operation(&map, &other));
+    }
+    sum
+}
+
+/// The same with a map whose entries, one for each sixteen, cover nearly all of the other's.
+fn combine_wide(check: bool, size: u64, count: u64, operation: fn(&Map, &Map) -> Map) -> u64 {
+    let map = prepared(1, size, 16, 0);
+    let other = prepared(3, size / 16, 0, 16 * SPACING);
+    let mut sum = 0;
+    for _ in 0..count {
+        sum = checksum(check, sum, &operation(&map, &other));
+    }
+    sum
+}
+
+/// The same, of four maps by value.
+fn combine_wide_by_value(check: bool, size: u64, count: u64, operation: fn(Map, Map) -> Map) -> u64 {
+    let map = prepared(1, size, 16, 0);
+    let other = prepared(3, size / 16, 0, 16 * SPACING);
+    let mut sum = 0;
+    for (place, (map, other)) in (0..).zip(vec![(map, other); 4]) {
+        let left = if place < count { operation(map, other) } else { map };
+        sum = checksum(check, sum, &left);
     }
     sum
 }
@@ -309,7 +347,7 @@ fn union_of_many(check: bool, maps: u64, count: u64) -> u64 {
 pub extern "C" fn plain_run(work: u32, size: u64, count: u64) -> u64 {
     let check = work >= CHECKED;
     // (only what the Rust crate's way differs in)
-    if cfg!(as_crate) && !matches!(work % CHECKED, 0..=3 | 6..=11 | 19 | 26 | 27) {
+    if cfg!(as_crate) && !matches!(work % CHECKED, 0..=3 | 6..=11 | 19 | 26 | 27 | 37 | 38 | 42..=48) {
         return 0;
     }
     let sum = match work % CHECKED {
@@ -342,6 +380,16 @@ pub extern "C" fn plain_run(work: u32, size: u64, count: u64) -> u64 {
         25 => fill(check, size, count),
         26 => pop_last(check, size, count),
         27 => retain(check, size, count),
+        35 => combine_wide(check, size, count, Map::union),
+        37 => retain_below(check, size, count, 2),
+        38 => retain_below(check, size, count, 0),
+        39 => combine_wide(check, size, count, Map::difference),
+        40 => combine_wide_by_value(check, size, count, |map, other| map.difference_by_value(&other)),
+        41 => combine_wide(check, size, count, Map::symmetric_difference),
+        #[cfg(as_crate)]
+        number @ 42..=47 => by_keys::walk(number - 42, size, count),
+        #[cfg(as_crate)]
+        48 => by_keys::walk_by_value(size, count),
         _ => return 0,
     };
     sum | 1

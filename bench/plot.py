@@ -3,10 +3,11 @@
 
     bench/run.sh paint get 'equal sizes' | bench/plot.py >docs/speed.svg
 
-Both scales are logarithmic. Where a side was not measured, as Boost without its headers, it has no line.
+Both scales are logarithmic. A side that did few operations has no point there, and one that was not measured, as Boost without its
+headers, has no line.
 
->>> nanoseconds("1,234 (fewer)"), nanoseconds("-"), entries("10^4"), entries("2000")
-(1234.0, None, 10000, 2000)
+>>> nanoseconds("1,234"), nanoseconds("1,234 (fewer)"), nanoseconds("-"), entries("10^4"), entries("2000")
+(1234.0, None, None, 10000, 2000)
 """
 import math
 import sys
@@ -14,7 +15,8 @@ from collections.abc import Iterable, Iterator
 from html import escape
 from typing import NamedTuple
 
-SIDES = {"library": "#1f5fa8", "plain Rust": "#6f6f6f", "the crate's way": "#b3541e", "Boost": "#3f7d3a"}
+# The colour of each side, and how its line is dashed, so that one that lies on another is seen.
+SIDES = {"library": ("#1f5fa8", "none"), "plain Rust": ("#6f6f6f", "2 4"), "the crate's way": ("#b3541e", "8 4"), "Boost": ("#3f7d3a", "12 3 2 3")}
 PANELS = {"paint": "a paint", "get": "a look-up", "`a \\| b`, equal sizes": "a | b, for each entry of both"}
 WIDTH, HEIGHT, LEFT, RIGHT, TOP, BOTTOM = 340, 300, 64, 32, 64, 40
 
@@ -29,15 +31,15 @@ class Point(NamedTuple):
 
 
 def nanoseconds(cell: str) -> float | None:
-    """The time that a cell of the driver's table says."""
-    text = cell.split(" ")[0].replace(",", "")
-    return None if text == "-" else float(text)
+    """The time that a cell of the driver's table says, if the side did as many operations as the others."""
+    return None if cell == "-" or cell.endswith("(fewer)") else float(cell.replace(",", ""))
 
 
 def entries(cell: str) -> int:
     """The number of entries that a cell says."""
     base, _, power = cell.partition("^")
-    return int(base) ** int(power or 1)
+    number: int = int(base) ** int(power or 1)
+    return number
 
 
 def read(lines: Iterable[str]) -> Iterator[Point]:
@@ -86,11 +88,11 @@ def panel(left: float, title: str, points: list[Point]) -> Iterator[str]:
     for time in (step for step in steps if low <= step <= high):
         yield f'<path d="M{left + LEFT:.1f} {up(time):.1f}h{wide}" stroke="#dddddd"/>'
         yield text(left + LEFT - 6, up(time) + 4, f"{time:,g} ns", "end", size=11)
-    for side, colour in SIDES.items():
+    for side, (colour, dashes) in SIDES.items():
         mine = sorted((p.entries, p.time) for p in points if p.side == side)
         if mine:
             way = "L".join(f"{across(count):.1f} {up(time):.1f}" for count, time in mine)
-            yield f'<path d="M{way}" fill="none" stroke="{colour}" stroke-width="2"/>'
+            yield f'<path d="M{way}" fill="none" stroke="{colour}" stroke-width="2" stroke-dasharray="{dashes}"/>'
             yield from (f'<circle cx="{across(count):.1f}" cy="{up(time):.1f}" r="3" fill="{colour}"/>' for count, time in mine)
 
 
@@ -101,11 +103,12 @@ def picture(points: list[Point]) -> Iterator[str]:
     yield f'<svg xmlns="http://www.w3.org/2000/svg" viewBox="0 0 {width} {HEIGHT}" font-family="sans-serif">'
     yield f'<rect width="{width}" height="{HEIGHT}" fill="#ffffff"/>'
     for number, side in enumerate(side for side in SIDES if any(p.side == side for p in points)):
-        yield f'<path d="M{LEFT + 150 * number} 20h24" stroke="{SIDES[side]}" stroke-width="3"/>'
+        colour, dashes = SIDES[side]
+        yield f'<path d="M{LEFT + 150 * number} 20h24" stroke="{colour}" stroke-width="3" stroke-dasharray="{dashes}"/>'
         yield text(LEFT + 150 * number + 30, 24, side, "start")
     for number, work in enumerate(works):
         yield from panel(WIDTH * number, PANELS[work], [p for p in points if p.work == work])
-    yield text(width / 2, HEIGHT - 4, "entries of the map", size=11)
+    yield text(width / 2, HEIGHT - 4, "entries of the map; both scales are logarithmic", size=11)
     yield "</svg>"
 
 

@@ -3,6 +3,9 @@
 #[cfg_attr(as_crate, path = "as_crate.rs")]
 #[cfg_attr(not(any(planned, as_crate)), path = "one_pass.rs")]
 mod splice;
+#[cfg(as_crate)]
+#[path = "pairs.rs"]
+mod pairs;
 #[cfg_attr(as_crate, path = "streamed.rs")]
 #[cfg_attr(not(as_crate), path = "unite.rs")]
 mod unite;
@@ -72,15 +75,14 @@ impl<V: Eq + Clone> RangeMap<V> {
 
     /// Keeps the entries at which a closure answers true.
     pub fn ranges_retain(&mut self, mut keeps: impl FnMut(&RangeInclusive<i64>, &V) -> bool) {
-        let mut len = 0;
+        let len = &mut self.len;
         self.tree.retain(|start, (end, value)| {
             let keeps = keeps(&(*start..=*end), held(value));
-            if keeps {
-                len += length(*start, *end);
+            if !keeps {
+                *len -= length(*start, *end);
             }
             keeps
         });
-        self.len = len;
     }
 
     /// The value at a key.

@@ -3,7 +3,7 @@
 # `as_crate.rs` is the Rust crate's way of a paint in plain Rust, `streamed.rs` a union as a stream; `planned.rs` is the
 # library's way of a paint: places are made first, and an end is moved by a search.
 #
-#     bench/run.sh                    every work: some minutes on a machine that does nothing else
+#     bench/run.sh                    every work: some minutes on a machine that does nothing else, and first the proofs, 20 to 60
 #     bench/run.sh --quick            few operations and rounds: a look, no result
 #     bench/run.sh [--quick] WORD..   the works whose names have one of the words, as paint, append or program
 #
@@ -16,13 +16,17 @@
 # (Debian: libboost-dev) it leaves Boost out. It is no part of the merge gate, and no test rests on a time.
 set -euo pipefail
 cd "$(dirname "$(readlink -f "${BASH_SOURCE[0]}")")"
+if [ "${1:-}" = --help ]; then
+    sed -n '2,/^set/ s/^# \?//p' run.sh
+    exit
+fi
 source ./sides.sh
 "$root/prove" rangemap
 "${rust[@]}" -o out/plain_lines plain_lines.rs
 if echo '#include <boost/icl/interval_map.hpp>' | g++ -E -x c++ - >/dev/null 2>&1; then
     g++ -std=c++17 -O2 -Wall -Wextra -c -o out/boost.o boost.cpp
 else
-    echo "bench: no headers of Boost: left out" >&2
+    say "no headers of Boost: left out"
     echo 'extern "C" unsigned long long boost_run(unsigned, unsigned long long, unsigned long long) { return 0; }' \
         | g++ -O2 -c -o out/boost.o -x c++ -
 fi

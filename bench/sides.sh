@@ -1,18 +1,40 @@
-# Proves and builds the library, and builds the sides in plain Rust. bench/run.sh and bench/growth.sh read this file, each in the
-# folder that it stands in.
-root="$(cd .. && pwd)"
+# Proves and builds the library, and builds the sides in plain Rust. bench/run.sh, bench/growth.sh and bench/instructions.sh read this
+# file, each in the folder that it stands in. Before it they may name in `needed` what else they need, a command with its Debian package.
+# Standard error says how far it is. Without what is needed it ends with one line and status 70, before any proof.
+source ../tools/made_of.sh
+
+say() { echo "bench: $1" >&2; }
+
+need() { # command, where it comes from
+    if ! command -v "$1" >/dev/null; then
+        say "there is no $1 here ($2)"
+        exit 70
+    fi
+}
+need rt 'the toolchain'
+need rustc 'Rust'
+need g++ 'Debian: g++'
+for command in "${!needed[@]}"; do need "$command" "Debian: ${needed[$command]}"; done
 kit="$(dirname "$(rt doc)")"
 mkdir -p out
 
-echo "bench: proving and building the library" >&2
-for crate in blaze_int blaze_entries blaze_table blaze_streams blaze_iters range_map_blaze range_map_multi bench_library; do
-    if ! (cd "$root/crates/$crate" && rt lib) >out/log 2>&1; then
-        cat out/log >&2
-        exit 1
+# ---- The library
+log="$PWD/out/log"
+mapfile -t crates < <(crates_of bench_library)
+say "proving the library: from nothing, ${proof_takes[rangemap]}"
+for at in "${!crates[@]}"; do
+    crate="${crates[at]}"
+    say "$crate ($((at + 1)) of ${#crates[@]})"
+    : >"$log"
+    if ! (cd "$root/crates/$crate" && rt lib </dev/null 2>&1) | watch "$crate"; then
+        grep -v ': proved$' "$log" >&2 || true
+        say "$crate was not proved: what \`rt lib\` said in crates/$crate stands above"
+        exit 70
     fi
 done
 
-echo "bench: building the other sides" >&2
+# ---- The other sides
+say "building the other sides"
 rust=(rustc --edition 2024 -O -C target-cpu=x86-64-v2 -C panic=abort -A dead_code)
 for way in one_pass planned as_crate; do
     rustc --edition 2024 -O -C debug-assertions -A dead_code --cfg "$way" --test -o out/plain_test plain.rs

@@ -148,3 +148,19 @@ pub fn retain(work: Work) -> Result<u64, AllocError> {
     }
     Ok(checksum(work.check, 0, &map))
 }
+
+/// The entries kept whose value is below a limit, of four maps.
+pub fn retain_below(work: Work, limit: u64) -> Result<u64, AllocError> {
+    let map = even(work, 1)?;
+    let mut sum = 0;
+    let mut left = work.count;
+    for map in copies(work.alloc, &map, 4)? {
+        let mut map = map;
+        if left > 0 {
+            left -= 1;
+            map.ranges_retain(|_, value| *value < limit);
+        }
+        sum = checksum(work.check, sum, &map);
+    }
+    Ok(sum)
+}

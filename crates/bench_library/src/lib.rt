@@ -6,14 +6,19 @@ mod draw;
 mod makes;
 mod many;
 mod prepared;
+mod walks;
 mod whole;
 
-use crate::changes::{Change, change_maps, clumps, fill, get, pop_first, pop_last, retain};
+use crate::changes::{
+    Change, change_maps, clumps, fill, get, pop_first, pop_last, retain, retain_below,
+};
 use crate::makes::{make, paint_one_by_one};
 use crate::many::union_of_many;
 use crate::prepared::Work;
+use crate::walks::{Walk, walk, walk_by, walk_by_value};
 use crate::whole::{
-    Combination, append, combine, combine_by_value, combined, cover, split_off, walk, within,
+    Combination, append, combine, combine_by_value, combine_wide, combine_wide_by_value, combined,
+    split_off, within,
 };
 use std::alloc::{AllocError, Global};
 
@@ -46,12 +51,28 @@ fn on_keys(work: Work, number: u32) -> Option<Result<u64, AllocError>> {
         3 => Some(clumps(work)),
         4 => Some(get(work)),
         7 => Some(pop_first(work)),
-        15 => Some(walk(work, 100)),
-        16 => Some(walk(work, 1)),
         24 => Some(within(work)),
         25 => Some(fill(work)),
         26 => Some(pop_last(work)),
         27 => Some(retain(work)),
+        37 => Some(retain_below(work, 2)),
+        38 => Some(retain_below(work, 0)),
+        _ => on_all_keys(work, number),
+    }
+}
+
+/// A work that goes over all keys, or else one on whole maps.
+fn on_all_keys(work: Work, number: u32) -> Option<Result<u64, AllocError>> {
+    match number {
+        15 => Some(walk(work, 100)),
+        16 => Some(walk(work, 1)),
+        42 => Some(walk_by(work, Walk::Pairs)),
+        43 => Some(walk_by(work, Walk::Keys)),
+        44 => Some(walk_by(work, Walk::Values)),
+        45 => Some(walk_by(work, Walk::PairsFromBehind)),
+        46 => Some(walk_by(work, Walk::KeysFromBehind)),
+        47 => Some(walk_by(work, Walk::ValuesFromBehind)),
+        48 => Some(walk_by_value(work)),
         _ => on_maps(work, number),
     }
 }
@@ -68,8 +89,11 @@ fn on_maps(work: Work, number: u32) -> Option<Result<u64, AllocError>> {
         20 => Some(union_of_many(work)),
         23 => Some(combine_by_value(work, Combination::Difference)),
         29 => Some(combine_by_value(work, Combination::SymmetricDifference)),
-        35 => Some(cover(work)),
+        35 => Some(combine_wide(work, Combination::Union)),
         36 => Some(combine_by_value(work, Combination::UnionOfMany)),
+        39 => Some(combine_wide(work, Combination::Difference)),
+        40 => Some(combine_wide_by_value(work, Combination::Difference)),
+        41 => Some(combine_wide(work, Combination::SymmetricDifference)),
         _ => {
             let (combination, other) = combined(number, work.size)?;
             Some(combine(work, combination, other))

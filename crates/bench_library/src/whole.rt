@@ -156,13 +156,36 @@ pub fn combine(work: Work, combination: Combination, other: u64) -> Result<u64, 
     Ok(sum)
 }
 
-/// A map under another one whose entries, one for each sixteen of its own, cover nearly all of them, again and again.
-pub fn cover(work: Work) -> Result<u64, AllocError> {
+/// A map whose entries, one for each sixteen of another one's, cover nearly all of that one's.
+fn wide(work: Work) -> Result<Map, AllocError> {
+    prepared(work.alloc, 3, work.size / 16, 0, spread(16))
+}
+
+/// A map made of a lent map and such a wide one, again and again.
+pub fn combine_wide(work: Work, combination: Combination) -> Result<u64, AllocError> {
     let map = even(work, 1)?;
-    let other = prepared(work.alloc, 3, work.size / 16, 0, spread(16))?;
+    let other = wide(work)?;
     let mut sum = 0;
     for _ in 0..work.count {
-        sum = checksum(work.check, sum, &(&map | &other)?);
+        sum = checksum(work.check, sum, &combination.of(work.alloc, &map, &other)?);
+    }
+    Ok(sum)
+}
+
+/// The same of maps by value, of four.
+pub fn combine_wide_by_value(work: Work, combination: Combination) -> Result<u64, AllocError> {
+    let mut others = copies(work.alloc, &wide(work)?, 4)?;
+    let mut sum = 0;
+    let mut left = work.count;
+    for map in copies(work.alloc, &even(work, 1)?, 4)? {
+        let mut map = map;
+        if let Some(other) = others.pop() {
+            if left > 0 {
+                left -= 1;
+                map = combination.of_values(work.alloc, map, other)?;
+            }
+        }
+        sum = checksum(work.check, sum, &map);
     }
     Ok(sum)
 }
@@ -184,16 +207,4 @@ pub fn combine_by_value(work: Work, combination: Combination) -> Result<u64, All
         map = combination.of_values(work.alloc, map, other)?;
     }
     Ok(checksum(work.check, 0, &map))
-}
-
-/// Each key with its value, again and again, of entries of so many keys.
-pub fn walk(work: Work, keys: u64) -> Result<u64, AllocError> {
-    let map = prepared(work.alloc, 1, work.size, 16, keys)?;
-    let mut sum = 0u64;
-    for _ in 0..work.count {
-        for (key, value) in map.iter() {
-            sum = (sum ^ key.cast_unsigned()).wrapping_add(*value);
-        }
-    }
-    Ok(sum)
 }

@@ -1,0 +1,92 @@
+//! Walks over the keys of a map, one by one.
+use crate::prepared::{Work, copies, even, mix, prepared};
+use std::alloc::AllocError;
+
+/// What is gone over.
+#[derive(Clone, Copy)]
+pub enum Walk {
+    Pairs,
+    Keys,
+    Values,
+    PairsFromBehind,
+    KeysFromBehind,
+    ValuesFromBehind,
+}
+
+/// Each key with its value, again and again, of entries of so many keys.
+pub fn walk(work: Work, keys: u64) -> Result<u64, AllocError> {
+    let map = prepared(work.alloc, 1, work.size, 16, keys)?;
+    let mut sum = 0u64;
+    for _ in 0..work.count {
+        for (key, value) in map.iter() {
+            sum = both(sum, key, *value);
+        }
+    }
+    Ok(sum)
+}
+
+fn both(sum: u64, key: i64, value: u64) -> u64 {
+    (sum ^ key.cast_unsigned()).wrapping_add(value)
+}
+
+/// All keys of a map, again and again.
+pub fn walk_by(work: Work, walk: Walk) -> Result<u64, AllocError> {
+    let map = even(work, 1)?;
+    let mut sum = 0;
+    for _ in 0..work.count {
+        let mut part = 0u64;
+        match walk {
+            Walk::Pairs => {
+                for (key, value) in map.iter() {
+                    part = both(part, key, *value);
+                }
+            }
+            Walk::Keys => {
+                for key in map.keys() {
+                    part = part.wrapping_add(key.cast_unsigned());
+                }
+            }
+            Walk::Values => {
+                for value in map.values() {
+                    part = part.wrapping_add(*value);
+                }
+            }
+            Walk::PairsFromBehind => {
+                for (key, value) in map.iter().rev() {
+                    part = both(part, key, *value);
+                }
+            }
+            Walk::KeysFromBehind => {
+                for key in map.keys().rev() {
+                    part = part.wrapping_add(key.cast_unsigned());
+                }
+            }
+            Walk::ValuesFromBehind => {
+                for value in map.values().rev() {
+                    part = part.wrapping_add(*value);
+                }
+            }
+        }
+        sum = mix(sum, part);
+    }
+    Ok(sum)
+}
+
+/// All keys of maps by value, of four.
+pub fn walk_by_value(work: Work) -> Result<u64, AllocError> {
+    let mut sum = 0;
+    let mut left = work.count;
+    for map in copies(work.alloc, &even(work, 1)?, 4)? {
+        if left == 0 {
+            break;
+        }
+        left -= 1;
+        let mut part = 0u64;
+        for pair in map {
+            let (key, value) = pair?;
+            part = both(part, key, value);
+        }
+        sum = mix(sum, part);
+    }
+    Ok(sum)
+}
