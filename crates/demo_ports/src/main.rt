@@ -4,6 +4,7 @@
 
 use demo_lines::{Fault, Table, content, decimal, length, run};
 use range_map_blaze::RangeMapBlaze;
+use std::ops::RangeInclusive;
 use std::process::ExitCode;
 
 type Names = RangeMapBlaze<u16, String>;
@@ -55,6 +56,20 @@ fn print_uses(rt: &HostRuntime, tcp: &Names, udp: &Names) -> Result<(), Fault> {
     Ok(())
 }
 
+/// The gaps from `FIRST` on that are longer than each gap before them. The first gap that has room for so many ports is among them.
+fn longer_gaps(rt: &HostRuntime, used: &Names) -> Result<Vec<RangeInclusive<u16>>, Fault> {
+    let mut longer = Vec::new(rt.alloc());
+    let mut longest = 0;
+    for gap in used.gaps(FIRST..) {
+        let ports = length(&gap);
+        if longest < ports {
+            longest = ports;
+            longer.push(gap)?;
+        }
+    }
+    Ok(longer)
+}
+
 impl Table for Ports {
     fn add(&mut self, rt: &HostRuntime, line: &str) -> Result<(), Fault> {
         if let Some(count) = line.strip_prefix("? ") {
@@ -77,9 +92,9 @@ impl Table for Ports {
         let free = (!&used)?;
         let (ports, ranges) = (free.len(), free.ranges_len());
         println!(rt; "{ports} ports are free, in {ranges} ranges")?;
+        let gaps = longer_gaps(rt, &used)?;
         for count in self.counts.iter() {
-            let mut gaps = used.gaps(FIRST..);
-            match gaps.find(|gap| *count <= u64::from(length(gap))) {
+            match gaps.iter().find(|gap| *count <= u64::from(length(gap))) {
                 Some(gap) => println!(rt; "{count} free ports: {gap:?}")?,
                 None => println!(rt; "{count} free ports: none")?,
             }
