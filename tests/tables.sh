@@ -83,7 +83,8 @@ for name in "${built[@]}"; do
 done
 if [ -x "$(program_of picture)" ]; then
     judge 0 "$(printf 'svg\n1 9 a\n99 99 b\n' | "$(program_of picture)" | grep -c '></text>')" "a gap in a picture has no text"
-    judge "$(cat docs/example.svg)" "$(printf 'svg\n2 5 a\n3 4 b\n' | "$(program_of picture)")" "docs/example.svg"
+    judge "$(cat docs/before.svg)" "$(printf 'svg\n10 49 north\n' | "$(program_of picture)")" "docs/before.svg"
+    judge "$(cat docs/after.svg)" "$(printf 'svg\n10 49 north\n20 29 south\n' | "$(program_of picture)")" "docs/after.svg"
 fi
 
 # ---- Faults

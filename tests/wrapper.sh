@@ -38,16 +38,26 @@ judge '' "$told" "help: standard error"
 while IFS= read -r line; do
     judge yes "$(grep -q -F "    $line  " "$top/tools/rangemap.help" && echo yes || echo no)" "'$line' in the help"
 done < <(sed -n '/^| line | prints |$/,/^$/{s/^| `\([^`]*\)` .*/\1/p; s/^| \(an empty line\) .*/\1/p}' "$top/README.md")
-for program in rangemap script prove; do
+for program in rangemap script prove test; do
     run "$program with a wrong argument" 2 '' "$top/$program" lines
     tells "$program with a wrong argument" "'lines' is not understood" "usage: ./$program"
     run "$program with a word after --help" 2 '' "$top/$program" --help me
 done
 run "script's help" 0 "$(cat "$top/tools/script.help")" "$top/script" --help
+run "test's help" 0 "$(sed -n '2,/^set/ s/^# \?//p' "$top/test")" "$top/test" --help
 run "prove's help" 0 'usage: ./prove [NAME], NAME one of rangemap script scripts regions ports calendar routes picture; without it rangemap and script' "$top/prove" --help
+
+# ---- The lines of README.md: the first block of code is in first_map, and prints what the block behind it says
+block() { # the number of an indented block of README.md
+    awk -v wanted="$1" '/^    / { if (!inside) count++; inside = 1; if (count == wanted) print substr($0, 5); next } { inside = 0 }' "$top/README.md"
+}
+sed -n '/^```rust$/,/^```$/{/^```/d; s/^/    /; p}' "$top/README.md" | sed -n '/^        ensures/q; /^    pub fn/q; p' >"$work/first"
+judge yes "$(grep -c . "$work/first" | grep -qx 10 && python3 -c 'import sys; sys.exit(open(sys.argv[1]).read() not in open(sys.argv[2]).read())' "$work/first" "$top/crates/first_map/src/main.rt" && echo yes || echo no)" "the first code of README.md is in first_map"
+judge "$(cat "$top/crates/first_map/stdout")" "$(block 1)" "what README.md says that it prints"
 
 # ---- Answers of the proved program
 if [ "$with_proof" ]; then
+    judge "$(block 3)" "$(cd "$top" && bash -c "$(block 2)")" "the line of README.md to try"
     run "an answer" 0 "$answers" "$top/rangemap" <"$work/lines"
     judge '' "$told" "an answer: standard error"
     run "an answer to a pipe" 0 "$answers" "$top/rangemap" < <(cat "$work/lines")
@@ -168,6 +178,16 @@ tells "a proof that fails" "an open goal" "blaze_int was not proved"
 # ---- Nothing proved, and the toolchain itself
 rm -r "$work/tree/crates/rangemap/out"
 sed -i '$d' "$work/tree/crates/blaze_int/src/lib.rt"
+# (a copy of the library for another repository, made twice)
+mkdir "$work/other"
+run "a copy of the library" 0 '' "$work/tree/tools/vendor" "$work/other"
+echo 'first_map: range_map_blaze' >>"$work/other/crates.txt"
+cp -r "$top/crates/first_map" "$work/other/crates/"
+run "a second copy" 0 '' "$work/tree/tools/vendor" "$work/other"
+judge "$(grep -E '^(blaze_(int|entries|table|streams|iters)|range_map_blaze|first_map):' "$top/crates.txt")" "$(cat "$work/other/crates.txt")" "the lines of the copy"
+judge '' "$(cd "$work/other" && find . -name out -o -name must-fail)" "what is not copied"
+run "first_map over the copy" 0 "$(cat "$top/crates/first_map/stdout")" env -C "$work/other/crates/first_map" rt try
+run "no such folder" 2 '' "$work/tree/tools/vendor" "$work/nowhere"
 run "an answer without a proof" 2 "$bad_answers" "$work/tree/rangemap" <"$work/bad"
 tells "an answer without a proof" "not proved yet" "line 2 is bad: 'get 4 '" "not proved: built without a proof"
 

@@ -1,4 +1,5 @@
-# What the programs and the library for C are made of. tools/run, tools/prove, tools/noted and bindings/build.sh read this file.
+# What the programs and the library for C are made of. tools/run, tools/prove, tools/noted, tools/vendor, bindings/build.sh and bench/ read
+# this file.
 #
 # Beside a proved program, crates/CRATE/out/CRATE, the file made_of keeps what it was made of: the toolchain, the crates with what
 # they stand on, and the sum of each source file. The program fits as long as that is what stands there.
@@ -52,6 +53,13 @@ is_proved() {
     [ -x "$(program_of "$1")" ] && [ -f "$(note_of "$1")" ] && [ "$(made_of "$1")" = "$(cat "$(note_of "$1")")" ]
 }
 
+# The start of a line: all of it up to 100 characters, or its whole words.
+start_of() {
+    local start="${1:0:100}"
+    if [ "$start" != "$1" ]; then start="${start% *} .."; fi
+    echo "$start"
+}
+
 # Copies what rt prints to the file $log, and says each half minute how far it is: functions, or else its last line, and the time.
 # What reads this file has a function `say`.
 watch() { # the crate
@@ -62,7 +70,7 @@ watch() { # the crate
         if ((status == 0)); then
             line="$part$line" part=''
             printf '%s\n' "$line" >>"$log"
-            far="${line:0:100}"
+            far="$(start_of "$line")"
             if [[ "$line" =~ ^so\ far:\ ([0-9]+\ of\ [0-9]+\ functions) ]]; then far="${BASH_REMATCH[1]}"; fi
         else
             part+="$line"
