@@ -1,203 +1,143 @@
--- Entries that a closure is asked at, one after another, where those at which it answers false go.
-use Rattle.blaze_entries.proofs.Words.{◌≡◌, ◌<◌, ℤ, pos, negsuc, ◌+ℤ◌, ◌-ℤ◌, ◌≤ℤ◌, ◌<ℤ◌, Bool, true, false, cond, List, [], ◌∷◌, ◌++◌, refl, ◌∙◌, sym, subst, ap, arith, append_assoc, Bor, Mut, Called, FoldsTo, IsFiltered, range_inclusive_start, range_inclusive_end, range_inclusive_exhausted, RangeInclusive, FoldsTo-push, ints, append-nil, nat_of, IsShown, AnswersAt, SomeCallAt, IsCallableAtEach, TakesEntry, KeepsEach, KeepsUpTo, Entry, shown_entry, StartsAscend, from, start_at, without, eq_true, int_eq, Some, IsSome}
-use Rattle.blaze_entries.proofs.Ascending.{by_order}
-use Rattle.blaze_entries.proofs.InTurn.{kept_calls, filtered_kept, filtered_dropped, folds-append}
-use Rattle.blaze_entries.proofs.Halves.{StartsBelow, from_skips, from_all, more_below}
+-- A closure that a map's `retain` asks at one node after another: what is kept of the nodes, and of their entries.
+use Rattle.blaze_entries.proofs.Words.{◌≡◌, ℤ, pos, ◌+ℤ◌, Bool, true, false, cond, List, [], ◌∷◌, ◌++◌, Option, Some, refl, ◌∙◌, sym, subst, ap, arith, ints, None, map, Bor, Mut, Called, FoldsTo, IsFiltered, items_where_true, RangeInclusive, CallableOnEachPair, RetainsPairs, SomeCallAtPair, IsShown, AnswersAt, SomeCallAt, IsCallableAtEach, TakesNode, AnswersAtNode, Entry, entry, StartsAscend, EndValue, shown_nodes, entries_of, node_before, held, AreFull, AreHeld}
+use Rattle.blaze_entries.proofs.Ascending.{start_lower}
+use Rattle.blaze_entries.proofs.Held.{are_held}
 
--- less is left up to high from a greater key on
-pub fewer_left : (high a b : ℤ) → a <ℤ b → a ≤ℤ high → nat_of (high +ℤ pos 1 -ℤ b) < nat_of (high +ℤ pos 1 -ℤ a)
-fewer_left high a b l m = less (high +ℤ pos 1 -ℤ b) (high +ℤ pos 1 -ℤ a) (omega (arith, ints)) (omega (arith, ints))
-  where
-    less : (x y : ℤ) → x <ℤ y → pos 0 <ℤ y → nat_of x < nat_of y
-    less (pos m) (pos n) p q = let r : m < n = omega (arith, ints) in r
-    less (negsuc m) (pos n) p q = let r : 0 < n = omega (arith, ints) in r
-    less x (negsuc n) p q = absurd (omega (arith, ints))
+-- the steps of one test as those of another, which it is seen as
+module _ {F P K X : Type 0} (R : F → K → X → Bool → X → F → Type 0) (S : P → K → X → Bool → X → P → Type 0) (seen : F → P)
+    (told : (f : F) (k : K) (v : X) (b : Bool) (w : X) (h : F) → R f k v b w h → S (seen f) k v b w (seen h)) where
+  pub retains_seen : (f : F) (es kept : List (K × X)) → RetainsPairs R f es kept → RetainsPairs S (seen f) es kept
+  retains_seen f [] kept r = r
+  retains_seen f (e ∷ es) kept r = (r.0, r.1, seen r.2, r.3, told f e.0 e.1 r.0 r.1 r.2 r.4, retains_seen r.2 es r.3 r.5, r.6)
+
+  folds_seen : (f h : F) (es : List (K × X)) → FoldsTo (SomeCallAtPair R) f es h → FoldsTo (SomeCallAtPair S) (seen f) es (seen h)
+  folds_seen f h [] q = ap seen q
+  folds_seen f h (e ∷ es) s = (seen s.0, (s.1.0, s.1.1, told f e.0 e.1 s.1.0 s.1.1 s.0 s.1.2), folds_seen s.0 h es s.2)
+
+  pub callable_seen : (Q : F → K → X → Type 0) (U : P → K → X → Type 0) → ((f : F) (k : K) (v : X) → U (seen f) k v → Q f k v)
+      → (f : F) (es : List (K × X)) → CallableOnEachPair S U (seen f) es → CallableOnEachPair R Q f es
+  callable_seen Q U takes f es c = record {
+    at = λ before after h k v q s. takes h k v (c.at before after (seen h) k v q (folds_seen f h before s));
+  }
 
 module _ {V : Type 0} where
-  from_past : (k : ℤ) (xs ys : List (Entry V)) → StartsBelow k xs → from k (xs ++ ys) ≡ from k ys
-  from_past k [] ys h = refl
-  from_past k (x ∷ xs) ys h = from_skips k x (xs ++ ys) h.0 ∙ from_past k xs ys h.1
+  -- each node has a value
+  abbrev AllFull : List (Entry (Option V)) → Type 0
+  AllFull [] = Unit {0}
+  AllFull (p ∷ ps) = (v : V) × (p.value ≡ Some v) × AllFull ps
 
-  -- without the first that starts at or above its start
-  without_past : (xs : List (Entry V)) (e : Entry V) (ys : List (Entry V)) → StartsBelow e.lo xs → without e.lo (xs ++ e ∷ ys) ≡ xs ++ ys
-  without_past [] e ys h = by_order e.lo e.lo (λ o p q. absurd (omega (arith, ints))) (λ o p q. rw q refl) (λ o p q. absurd (omega (arith, ints)))
-  without_past (x ∷ xs) e ys h = by_order e.lo x.lo
-      (λ o p q. absurd (omega (arith, ints, h.0)))
-      (λ o p q. absurd (omega (arith, ints, h.0)))
-      (λ o p q. rw q (ap (λ l. x ∷ l) (without_past xs e ys h.1)))
+  all_full : (ps : List (Entry (Option V))) (es : List (Entry V)) → ps ≡ map held es → AllFull ps
+  all_full [] es q = tt
+  all_full (p ∷ ps) [] q = cc
+  all_full (p ∷ ps) (e ∷ es) q =
+      let first : p ≡ held e = cc in
+      let others : ps ≡ map held es = cc in
+      (e.value, ap (λ (x : Entry (Option V)). x.value) first, all_full ps es others)
 
-  below_both : (k : ℤ) (xs ys : List (Entry V)) → StartsBelow k xs → StartsBelow k ys → StartsBelow k (xs ++ ys)
-  below_both k [] ys h i = i
-  below_both k (x ∷ xs) ys h i = (h.0, below_both k xs ys h.1 i)
+  before-append : (l h : ℤ) (o : Option V) (es fs : List (Entry V)) → node_before l h o (es ++ fs) ≡ node_before l h o es ++ fs
+  before-append l h None es fs = refl
+  before-append l h (Some v) es fs = refl
 
-  -- an entry among others in order
-  record IsPlaced (k high : ℤ) (xs : List (Entry V)) (e : Entry V) (ys : List (Entry V)) : Type 0 where
-    starts : k ≤ℤ e.lo
-    is_key : e.lo ≤ℤ high
-    below : StartsBelow e.lo xs
-    above : StartsAscend (e.lo +ℤ pos 1) high ys
+  -- a full node before full ones
+  full_before : (l h : ℤ) (o : Option V) (v : V) (ps : List (Entry (Option V))) (es : List (Entry V)) → o ≡ Some v → ps ≡ map held es
+      → entry l h o ∷ ps ≡ map held (node_before l h o es)
+  full_before l h o v ps es q r =
+      subst (λ (o : Option V). entry l h o ∷ ps ≡ map held (node_before l h o es)) (sym q) (ap (λ t. entry l h (Some v) ∷ t) r)
 
-  placed : (k high : ℤ) (xs : List (Entry V)) (e : Entry V) (ys : List (Entry V)) → StartsAscend k high (xs ++ e ∷ ys) → IsPlaced k high xs e ys
-  placed k high [] e ys h = record { starts = h.0; is_key = h.1; below = tt; above = h.2 }
-  placed k high (x ∷ xs) e ys h =
-      let p = placed (x.lo +ℤ pos 1) high xs e ys h.2 in
-      record { starts = omega (arith, ints, h.0, p.starts); is_key = p.is_key; below = (omega (arith, ints, p.starts), p.below); above = p.above }
-
-module _ {F T V : Type 0} (rank : T → ℤ) (g : Mut F (Bor (RangeInclusive T) × (Bor V × Unit {0})) Bool) where
-  -- f was asked at the entries of es before `rest`, keeps each of them, and is now h
-  pub record IsKeptBefore (f : F) (es rest : List (Entry V)) (h : F) : Type 0 where
-    pub done : List (Entry V)
-    pub parts : es ≡ done ++ rest
-    pub kept : KeepsEach rank g f done h
-
-  -- f was asked at those of the entries `old` that start below k, and is now h: es has what is kept of them, and then the others
-  pub record IsAsked (f : F) (high : ℤ) (old : List (Entry V)) (k : ℤ) (es : List (Entry V)) (h : F) : Type 0 where
-    pub done : List (Entry V)
-    pub others : List (Entry V)
-    pub parts : es ≡ done ++ others
-    pub below : StartsBelow k done
-    pub above : StartsAscend k high others
-    pub callable : IsCallableAtEach rank g h others
-    pub filtered : (kept : List (Entry V)) → IsFiltered (AnswersAt rank g) h others kept
-        → IsFiltered (AnswersAt rank g) f old (done ++ kept)
-
-  -- what may be called at entries in turn may be called at the later ones after the calls at the others
-  callable_after : (f h : F) (xs ys : List (Entry V)) → IsCallableAtEach rank g f (xs ++ ys)
-      → FoldsTo (SomeCallAt rank g) f xs h → IsCallableAtEach rank g h ys
-  callable_after f h xs ys c p = record {
-    at = λ before after e i q r. c.at (xs ++ before) after e i (ap (λ l. xs ++ l) q ∙ sym (append_assoc xs before (e ∷ after)))
-        (folds-append (SomeCallAt rank g) f h i xs before p r);
-  }
+  -- a part of the list, in its order
+  starts_of_part : (b high : ℤ) (bs : List Bool) (es : List (Entry V)) → StartsAscend b high es → StartsAscend b high (items_where_true bs es)
+  starts_of_part b high [] es s = tt
+  starts_of_part b high (c ∷ bs) [] s = tt
+  starts_of_part b high (true ∷ bs) (e ∷ es) s = (s.0, s.1, starts_of_part (e.lo +ℤ pos 1) high bs es s.2)
+  starts_of_part b high (false ∷ bs) (e ∷ es) s = start_lower (e.lo +ℤ pos 1) b high (items_where_true bs es) (omega (arith, ints, s.0)) (starts_of_part (e.lo +ℤ pos 1) high bs es s.2)
 
 module _ {F T V : Type 0} {rank : T → ℤ} {g : Mut F (Bor (RangeInclusive T) × (Bor V × Unit {0})) Bool} where
-  -- a range from an entry's first key up to its last, beside its value
-  pub is_shown : {start end : T} {range : Bor (RangeInclusive T)} {value : Bor V} → range_inclusive_start range.now ≡ start
-      → range_inclusive_end range.now ≡ end → range_inclusive_exhausted range.now ≡ false
-      → IsShown rank g (shown_entry rank (λ v. v.now) (start, end, value)) range value
-  is_shown s e w = record { starts = ap rank s; ends = ap rank e; whole = w; stored = refl }
+  -- a call at a range from an entry's first key up to its last, and at its value
+  pub answers_at : {f h : F} {e : Entry V} {range : Bor (RangeInclusive T)} {value : Bor V} {r : Bool}
+      → Called g f (range, (value, tt)) r h → IsShown rank g e range value → AnswersAt rank g f e r h
+  answers_at c i = record { range = _; value = _; shown = i; called = c }
 
-  pub answers_at : {f h : F} {e : Entry V} {range : Bor (RangeInclusive T)} {value : Bor V} {r b : Bool}
-      → Called g f (range, (value, tt)) r h → IsShown rank g e range value → r ≡ b → AnswersAt rank g f e b h
-  answers_at {f} {h} {e} c i q = subst (λ r. AnswersAt rank g f e r h) q (record { range = _; value = _; shown = i; called = c })
+module _ {F T V : Type 0} (rank : T → ℤ) (g : Mut F (Bor (RangeInclusive T) × (Bor V × Unit {0})) Bool) where
+  entries-append : (xs ys : List (T × EndValue T (Option V))) → entries_of rank (xs ++ ys) ≡ entries_of rank xs ++ entries_of rank ys
+  entries-append [] ys = refl
+  entries-append (x ∷ xs) ys =
+      ap (node_before (rank x.0) (rank x.1.end) x.1.value) (entries-append xs ys)
+      ∙ before-append (rank x.0) (rank x.1.end) x.1.value (entries_of rank xs) (entries_of rank ys)
 
-  pub kept_none : (f : F) (es rest : List (Entry V)) → rest ≡ es → IsKeptBefore rank g f es rest f
-  kept_none f es rest q = record { done = []; parts = sym q; kept = refl }
+  -- the entry of a full node, and the others
+  entries-node : (k : T) (n : EndValue T (Option V)) (v : V) (ns : List (T × EndValue T (Option V))) → n.value ≡ Some v
+      → entries_of rank ((k, n) ∷ ns) ≡ entry (rank k) (rank n.end) v ∷ entries_of rank ns
+  entries-node k n v ns q = ap (λ o. node_before (rank k) (rank n.end) o (entries_of rank ns)) q
 
-  module _ {f : F} {es left : List (Entry V)} {h : F} (k : IsKeptBefore rank g f es left h) where
-    pub kept_all : left ≡ [] → KeepsEach rank g f es h
-    kept_all q = subst (λ l. KeepsEach rank g f l h) (sym (k.parts ∙ ap (λ l. k.done ++ l) q ∙ append-nil k.done)) k.kept
+  folds_at_entries : (f h : F) (ns : List (T × EndValue T (Option V))) → FoldsTo (SomeCallAtPair (AnswersAtNode rank g)) f ns h
+      → FoldsTo (SomeCallAt rank g) f (entries_of rank ns) h
+  folds_at_entries f h [] q = q
+  folds_at_entries f h (n ∷ ns) s =
+      subst (λ l. FoldsTo (SomeCallAt rank g) f l h) (sym (entries-node n.0 n.1 s.1.2.value ns s.1.2.full))
+      (s.0, (s.1.0, s.1.2.answers), folds_at_entries s.0 h ns s.2)
 
-    module _ {e : Entry V} {rest : List (Entry V)} (next : left ≡ e ∷ rest) where
-      parts : es ≡ k.done ++ e ∷ rest
-      parts = k.parts ∙ ap (λ l. k.done ++ l) next
+  value_at : (before after : List (T × EndValue T (Option V))) (k : T) (n : EndValue T (Option V))
+      → AllFull (shown_nodes rank (before ++ (k, n) ∷ after)) → (v : V) × (n.value ≡ Some v)
+  value_at [] after k n a = (a.0, a.1)
+  value_at (b ∷ before) after k n a = value_at before after k n a.2
 
-      pub kept_callable : IsCallableAtEach rank g f es → TakesEntry rank g h e
-      kept_callable c = c.at k.done rest e h parts (kept_calls (AnswersAt rank g) f h k.done k.kept)
-
-      pub kept_more : {i : F} → AnswersAt rank g h e true i → IsKeptBefore rank g f es rest i
-      kept_more {i} a = record {
-        done = k.done ++ e ∷ [];
-        parts = parts ∙ sym (append_assoc k.done (e ∷ []) rest);
-        kept = FoldsTo-push (λ s e t. AnswersAt rank g s e true t) f k.done h e i k.kept a;
-      }
-
-      pub kept_up_to : {i : F} → AnswersAt rank g h e false i → KeepsUpTo rank g f es e.lo i
-      kept_up_to a = record {
-        before = k.done;
-        first = e;
-        after = rest;
-        parts = parts;
-        starts = refl;
-        between = h;
-        kept = k.kept;
-        dropped = a;
-      }
-
-  pub asked_none : {f : F} {low high : ℤ} {old : List (Entry V)} {k : ℤ} → k ≡ low → StartsAscend low high old
-      → IsCallableAtEach rank g f old → IsAsked rank g f high old k old f
-  asked_none {f} {low} {high} {old} q a c = record {
-    done = [];
-    others = old;
-    parts = refl;
-    below = tt;
-    above = subst (λ k. StartsAscend k high old) (sym q) a;
-    callable = c;
-    filtered = λ kept i. i;
+  -- what may be called at the entries in turn may be called at their nodes
+  pub callable_at_nodes : (f : F) (ns : List (T × EndValue T (Option V))) → AreFull (shown_nodes rank ns) → IsCallableAtEach rank g f (entries_of rank ns)
+      → CallableOnEachPair (AnswersAtNode rank g) (TakesNode rank g) f ns
+  callable_at_nodes f ns full c = record {
+    at = λ before after h k n q s.
+        let v = value_at before after k n (subst (λ l. AllFull (shown_nodes rank l)) q (all_full (shown_nodes rank ns) _ full.held)) in
+        record {
+          value = v.0;
+          full = v.1;
+          taken = c.at (entries_of rank before) (entries_of rank after) (entry (rank k) (rank n.end) v.0) h
+              (ap (entries_of rank) q ∙ entries-append before ((k, n) ∷ after) ∙ ap (λ l. entries_of rank before ++ l) (entries-node k n v.0 after v.1))
+              (folds_at_entries f h before s);
+        };
   }
 
-  module _ {f : F} {high : ℤ} {old : List (Entry V)} {k : ℤ} {es : List (Entry V)} {h : F} (a : IsAsked rank g f high old k es h) where
-    others_are : a.others ≡ from k es
-    others_are =
-        sym (ap (from k) a.parts ∙ from_past k a.done a.others a.below ∙ from_all k k high a.others (omega (arith, ints)) a.above)
+  -- the entries of the nodes that are kept are kept
+  pub filtered_at_nodes : (f : F) (ns new : List (T × EndValue T (Option V))) → RetainsPairs (AnswersAtNode rank g) f ns new
+      → IsFiltered (AnswersAt rank g) f (entries_of rank ns) (entries_of rank new)
+  filtered_at_nodes f [] new r = ([], f, refl, refl, ap (entries_of rank) r)
+  filtered_at_nodes f (n ∷ ns) new r =
+      let v = r.4.value in
+      let e = entry (rank n.0) (rank n.1.end) v in
+      let i = filtered_at_nodes r.2 ns r.3 r.5 in
+      subst (λ l. IsFiltered (AnswersAt rank g) f l (entries_of rank new)) (sym (entries-node n.0 n.1 v ns r.4.full)) (
+        r.0 ∷ i.0,
+        i.1,
+        omega (arith, i.2),
+        (r.2, r.4.answers, i.3),
+        ap (entries_of rank) r.6 ∙ chosen r.1 r.3 e i.0 (entries_of rank ns) r.0 (ap (λ m. entries_of rank ((n.0, m) ∷ r.3)) r.4.stays ∙ entries-node n.0 n.1 v r.3 r.4.full) i.4,
+      )
+    where
+      chosen : (w : EndValue T (Option V)) (rest : List (T × EndValue T (Option V))) (e : Entry V) (bs : List Bool) (es : List (Entry V)) (b : Bool)
+          → entries_of rank ((n.0, w) ∷ rest) ≡ e ∷ entries_of rank rest → entries_of rank rest ≡ items_where_true bs es
+          → entries_of rank (cond b ((n.0, w) ∷ rest) rest) ≡ items_where_true (b ∷ bs) (e ∷ es)
+      chosen w rest e bs es true p q = p ∙ ap (λ l. e ∷ l) q
+      chosen w rest e bs es false p q = q
 
-    pub asked_callable : IsCallableAtEach rank g h (from k es)
-    asked_callable = subst (IsCallableAtEach rank g h) others_are a.callable
+  -- the nodes are those of entries
+  abbrev AreShown : List (T × EndValue T (Option V)) → Type 0
+  AreShown ns = shown_nodes rank ns ≡ map held (entries_of rank ns)
 
-    keeps_others : (i : F) → KeepsEach rank g h a.others i → IsFiltered (AnswersAt rank g) f old es
-    keeps_others i e =
-        let all = filtered_kept (AnswersAt rank g) h i a.others [] [] e ([], i, refl, refl, refl) in
-        subst (IsFiltered (AnswersAt rank g) f old) (sym a.parts)
-        (a.filtered a.others (subst (λ l. IsFiltered (AnswersAt rank g) h l l) (append-nil a.others) all))
+  full_nodes : (f : F) (ns new : List (T × EndValue T (Option V))) → RetainsPairs (AnswersAtNode rank g) f ns new → AreShown new
+  full_nodes f [] new r = subst AreShown (sym r) refl
+  full_nodes f (n ∷ ns) new r =
+      let rest = full_nodes r.2 ns r.3 r.5 in
+      let first = full_before (rank n.0) (rank r.1.end) r.1.value r.4.value (shown_nodes rank r.3) (entries_of rank r.3)
+      (ap (λ (m : EndValue T (Option V)). m.value) r.4.stays ∙ r.4.full) rest in
+      subst AreShown (sym r.6) (chosen r.1 r.3 r.0 first rest)
+    where
+      chosen : (w : EndValue T (Option V)) (rest : List (T × EndValue T (Option V))) (b : Bool) → AreShown ((n.0, w) ∷ rest) → AreShown rest → AreShown (cond b ((n.0, w) ∷ rest) rest)
+      chosen w rest true p q = p
+      chosen w rest false p q = q
 
-    -- each of the others is kept
-    pub asked_all : (i : F) → KeepsEach rank g h (from k es) i → IsFiltered (AnswersAt rank g) f old es
-    asked_all i e = keeps_others i (subst (λ l. KeepsEach rank g h l i) (sym others_are) e)
-
-    -- none is left above the greatest key
-    pub asked_top : high <ℤ k → IsFiltered (AnswersAt rank g) f old es
-    asked_top l = by_others a.others a.above refl
-      where
-        by_others : (xs : List (Entry V)) → StartsAscend k high xs → a.others ≡ xs → IsFiltered (AnswersAt rank g) f old es
-        by_others [] s q = keeps_others h (subst (λ l. KeepsEach rank g h l h) (sym q) refl)
-        by_others (x ∷ xs) s q = absurd (omega (arith, ints, s.0, s.1))
-
-    -- the others are kept up to one that goes
-    module _ {start : ℤ} {i : F} (u : KeepsUpTo rank g h (from k es) start i) where
-      split : a.others ≡ u.before ++ u.first ∷ u.after
-      split = others_are ∙ u.parts
-
-      here : IsPlaced k high u.before u.first u.after
-      here = placed k high u.before u.first u.after (subst (StartsAscend k high) split a.above)
-
-      pub next_starts : k ≤ℤ start
-      next_starts = omega (arith, ints, here.starts, u.starts)
-
-      pub next_is_key : start ≤ℤ high
-      next_is_key = omega (arith, ints, here.is_key, u.starts)
-
-      -- the one that goes is there
-      pub asked_present : IsSome (start_at start es)
-      asked_present =
-          subst (λ l. IsSome (start_at start l)) (sym (a.parts ∙ ap (λ l. a.done ++ l) split ∙ sym (append_assoc a.done u.before (u.first ∷ u.after))))
-          (some_among (a.done ++ u.before))
-        where
-          some_among : (xs : List (Entry V)) → IsSome (start_at start (xs ++ u.first ∷ u.after))
-          some_among [] = rw (eq_true start u.first.lo u.starts) refl
-          some_among (x ∷ xs) = elim (int_eq start x.lo) as (λ b. IsSome (cond b (Some x) (start_at start (xs ++ u.first ∷ u.after)))) [
-            | true ↦ refl
-            | false ↦ some_among xs
-          ]
-
-      pub next_asked : {new : List (Entry V)} {j : ℤ} → new ≡ without start es → j ≡ start +ℤ pos 1 → IsAsked rank g f high old j new i
-      next_asked {new} {j} q n =
-          let below = below_both u.first.lo a.done u.before (more_below k u.first.lo a.done here.starts a.below) here.below in
-          let next : u.first.lo +ℤ pos 1 ≡ j = omega (arith, ints, n, u.starts) in
-          record {
-            done = a.done ++ u.before;
-            others = u.after;
-            parts = q ∙ ap (λ s. without s es) u.starts
-                ∙ ap (without u.first.lo)
-                (a.parts ∙ ap (λ l. a.done ++ l) split ∙ sym (append_assoc a.done u.before (u.first ∷ u.after)))
-                ∙ without_past (a.done ++ u.before) u.first u.after below;
-            below = more_below u.first.lo j (a.done ++ u.before) (omega (arith, ints, next)) below;
-            above = subst (λ s. StartsAscend s high u.after) next here.above;
-            callable = callable_after rank g u.between i (u.first ∷ []) u.after
-                (callable_after rank g h u.between u.before (u.first ∷ u.after) (subst (IsCallableAtEach rank g h) split a.callable)
-                (kept_calls (AnswersAt rank g) h u.between u.before u.kept))
-                (i, (false, u.dropped), refl);
-            filtered = λ kept t.
-                let dropped = filtered_dropped (AnswersAt rank g) u.between i u.first u.after kept u.dropped t in
-                let others = filtered_kept (AnswersAt rank g) h u.between u.before (u.first ∷ u.after) kept u.kept dropped in
-                subst (IsFiltered (AnswersAt rank g) f old) (sym (append_assoc a.done u.before kept))
-                (a.filtered (u.before ++ kept) (subst (λ l. IsFiltered (AnswersAt rank g) h l (u.before ++ kept)) (sym split) others));
-          }
+  -- the nodes that are kept are full, and their starts ascend
+  pub held_nodes : (low high : ℤ) (f : F) (ns new : List (T × EndValue T (Option V))) → AreHeld low high (shown_nodes rank ns)
+      → RetainsPairs (AnswersAtNode rank g) f ns new → AreHeld low high (shown_nodes rank new)
+  held_nodes low high f ns new h r =
+      let i = filtered_at_nodes f ns new r in
+      are_held low high (shown_nodes rank new) (entries_of rank new) (full_nodes f ns new r)
+      (subst (StartsAscend low high) (sym i.4) (starts_of_part low high i.0 (entries_of rank ns) h.ascend))

@@ -1,9 +1,8 @@
 -- The words of this crate's proofs that come from elsewhere: a file of proofs takes those that it needs from here.
-pub use Rattle.std.proofs.Common.{◌≡◌, ◌+◌, length, ℤ, pos, ◌+ℤ◌, ◌≤ℤ◌, ◌<ℤ◌, true, false, cond, List, [], ◌∷◌, Option, Some, None, refl, ◌∙◌, sym, subst, ap, arith, Bool, ℕ, ◌++◌, ◌⊎◌, inl, inr, ◌≤◌, ◌-ℤ◌, append_assoc, length-append, ◌<◌, negsuc, ◌-◌, not, ◌&&◌, Result, Ok, Err, rules}
+pub use Rattle.std.proofs.Common.{◌≡◌, ◌+◌, length, ℤ, pos, ◌+ℤ◌, ◌≤ℤ◌, ◌<ℤ◌, true, false, cond, List, [], ◌∷◌, Option, Some, None, refl, ◌∙◌, sym, subst, ap, arith, Bool, ℕ, ◌++◌, ◌⊎◌, inl, inr, ◌≤◌, ◌-ℤ◌, append_assoc, length-append, ◌<◌, ◌-◌, not, ◌&&◌, Result, Ok, Err, rules}
 pub use Rattle.std.proofs.lemmas.Cmp.{eq_by_cmp_equiv, int_cmp_total}
-pub use Rattle.std.proofs.lemmas.Fn.{FoldsTo-push}
 pub use Rattle.std.proofs.lemmas.Int.{ints, by_lt_z}
-pub use Rattle.std.proofs.lemmas.List.{append-nil, length-map}
+pub use Rattle.std.proofs.lemmas.List.{length-map}
 pub use Rattle.std.proofs.lemmas.List.Elements.{filter-append}
 pub use Rattle.std.proofs.lemmas.List.Filters.{length-filter_both}
 pub use Rattle.std.proofs.lemmas.Map.Keys.{IsDistinct-from_sorted}
@@ -18,27 +17,27 @@ pub use Rattle.std.specs.Iterator.{MakesProgress, item_count}
 pub use Rattle.std.specs.List.{AllByRecursion, last_or, AllZip, filter, FoldsTo, items_where_true, slice_get}
 pub use Rattle.std.specs.List.Retain.{IsFiltered, ReturnsInTurn}
 pub use Rattle.std.specs.Map.{lookup, keys_of, remove_entry, values_of, set_value}
+pub use Rattle.std.specs.Map.Calls.{CallableOnEachPair, RetainsPairs, SomeCallAtPair}
 pub use Rattle.std.specs.Map.Iter.{TakesFirst, TakesLast, deref_pair}
 pub use Rattle.std.specs.Option.{option_map, is_some, option_or, option_copied}
 pub use Rattle.std.specs.Ordering.{int_eq, int_cmp, eq_by_cmp, on, match_ordering, is_gt, is_le, is_lt}
 pub use Rattle.std.specs.Prelude.{IsSome, map, int_lt, int_le, ◌||◌, IfSome, IsSomeAnd, OnErr, ◌↔◌, MatchOption, IfNone}
-pub use Rattle.std.specs.Range.{range_inclusive_start, range_inclusive_end, range_inclusive_exhausted}
 pub use Rattle.std.specs.declared.cmp.Ordering.{Ordering}
 pub use Rattle.std.specs.declared.cmp.Ordering.TheVariants.{Less, Equal, Greater}
 pub use Rattle.std.specs.declared.ops.Bound.TheVariants.{Included, Excluded, Unbounded}
 pub use Rattle.std.specs.declared.ops.RangeInclusive.{RangeInclusive}
 pub use denote.Ref.{Bor}
-pub use Rattle.blaze_entries.specs.Answers.{IsShown, AnswersAt, SomeCallAt, IsCallableAtEach, TakesEntry, KeepsEach, KeepsUpTo}
+pub use Rattle.blaze_entries.specs.Answers.{IsShown, AnswersAt, SomeCallAt, IsCallableAtEach}
 pub use Rattle.blaze_entries.specs.Changed.{changed}
 pub use Rattle.blaze_entries.specs.Cloned.{AreCloned}
 pub use Rattle.blaze_entries.specs.Counted.{CountedEntries, uncounted}
 pub use Rattle.blaze_entries.specs.Entries.{Entry, entry, shown_entry, at, SameOption}
 pub use Rattle.blaze_entries.specs.Found.{found_in, shown_found, IsFoundAt, is_sought}
-pub use Rattle.blaze_entries.specs.Nodes.{shown_nodes, shown_node_at, held, node_of, shown_node, full, AreHeld, AreFull, shown_lent_node, entries_of}
+pub use Rattle.blaze_entries.specs.NodeAnswers.{AnswersAtNode, TakesNode}
+pub use Rattle.blaze_entries.specs.Nodes.{shown_nodes, shown_node_at, held, node_of, shown_node, full, AreHeld, AreFull, shown_lent_node, entries_of, node_before}
 pub use Rattle.blaze_entries.specs.Overlap.{shared, overlap, covered}
 pub use Rattle.blaze_entries.specs.Starts.{StartsAscend, start_at, with_entry, without, with_end_value, IsStartMoved, IsFrontReplaced, below, from, last_below, up_to, first_entry, first_from, with_end, with_last_end, reaching, holder_of, IsCloneInserted}
 pub use Rattle.blaze_entries.specs.Walked.{RangesAscend, Seen, end_of, rest_of, inner, moved, IsSeenIn, unseen, seen, seen_end, seen_start, seen_within, seen_value, IsClonedIf, shown_plan, IsWalk}
 pub use Rattle.blaze_entries.specs.declared.node.EndValue.{EndValue}
 pub use Rattle.blaze_entries.specs.declared.range_entry.RangeEntry.{RangeEntry}
 pub use Rattle.blaze_int.proofs.Comparisons.{eq_true, by_bool, lt_true, lt_false, le_true, le_false, lt_holds, lt_fails}
-pub use Rattle.blaze_int.specs.Unsigned.{nat_of}

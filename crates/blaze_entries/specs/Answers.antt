@@ -1,5 +1,5 @@
 -- What a closure answers at entries, and where it may be asked.
-use Rattle.std.specs.Prelude.{◌≡◌, ℤ, Bool, true, false, List, ◌∷◌, ◌++◌}
+use Rattle.std.specs.Prelude.{◌≡◌, ℤ, Bool, false, List, ◌∷◌, ◌++◌}
 use Rattle.std.specs.Borrow.{Bor}
 use Rattle.std.specs.Fn.{Mut, Called, Takes}
 use Rattle.std.specs.List.{FoldsTo}
@@ -33,18 +33,3 @@ module _ {F T V : Type 0} (rank : T → ℤ) (g : Mut F (Bor (RangeInclusive T) 
   -- f may be called at each entry in turn, in the state that the calls at those before leave
   pub record IsCallableAtEach (f : F) (es : List (Entry V)) : Type 0 where
     pub at : (before after : List (Entry V)) (e : Entry V) (f' : F) → es ≡ before ++ e ∷ after → FoldsTo SomeCallAt f before f' → TakesEntry f' e
-
-  -- calls of f, one at each entry in turn, may all answer true, and leave f'
-  abbrev pub KeepsEach : F → List (Entry V) → F → Type 0
-  KeepsEach f es f' = FoldsTo (λ s e t. AnswersAt s e true t) f es f'
-
-  -- calls of f, one at each entry in turn, may answer true up to an entry that starts at k, and false there, and leave f'
-  pub record KeepsUpTo (f : F) (es : List (Entry V)) (k : ℤ) (f' : F) : Type 0 where
-    pub before : List (Entry V)
-    pub first : Entry V
-    pub after : List (Entry V)
-    pub parts : es ≡ before ++ first ∷ after
-    pub starts : k ≡ first.lo
-    pub between : F
-    pub kept : KeepsEach f before between
-    pub dropped : AnswersAt between first false f'

@@ -8,3 +8,4 @@ pub mod Cloned
 pub mod Overlap
 pub mod Walked
 pub mod Answers
+pub mod NodeAnswers

@@ -46,7 +46,7 @@ impl<T: Integer, V: Drop> Entries<T, V> {
     }
 
     /// Keeps the entries that a closure returns true at: one call for each, ascending. No memory is taken, and no entry is
-    /// counted.
+    /// counted. One walk, O(n) with n entries, and at most O(log n) more for each entry that goes.
     pub fn retain<F: FnMut(&RangeInclusive<T>, &V) -> bool>(&mut self, f: F)
         requires { IsCallableAtEach T.rank F.FnMut f self.old.counted.entries }
         ensures entries { IsFiltered (AnswersAt T.rank F.FnMut) f

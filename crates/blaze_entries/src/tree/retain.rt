@@ -1,52 +1,82 @@
 //! Entries that a closure keeps.
-ghost use Rattle.std.specs.Prelude.{◌≡◌, MatchOption};
+ghost use Rattle.std.specs.Prelude.{Bool};
 ghost use Rattle.std.specs.List.Retain.{IsFiltered};
+ghost use Rattle.std.specs.Map.Calls.{CallableOnEachPair, RetainsPairs};
 ghost use Rattle.blaze_entries.specs.Answers.{AnswersAt, IsCallableAtEach};
-ghost use Rattle.blaze_entries.specs.Answers.{KeepsEach, KeepsUpTo};
-ghost use Rattle.blaze_entries.specs.Starts.{from};
+ghost use Rattle.blaze_entries.specs.NodeAnswers.{AnswersAtNode, TakesNode};
 
 use super::Tree;
+use crate::node::EndValue;
+use crate::start::Start;
 use blaze_int::Integer;
+use std::cmp::Ord;
+use std::collections::BTreeMap;
+use std::marker::Model;
 use std::ops::RangeInclusive;
 
-impl<T: Integer, V> Tree<T, V> {
-    // Returns the start of the first entry from a key on at which a closure returns false. It is called once at each entry up to
-    // that one, ascending, and the tree is searched once.
-    fn first_to_drop<F: FnMut(&RangeInclusive<T>, &V) -> bool>(
-        &self,
-        key: T,
-        f: &mut F,
-    ) -> Option<T>
-        requires { IsCallableAtEach T.rank F.FnMut f.old (from (T.rank key) self.now) }
-        ensures { MatchOption result
-            (KeepsEach T.rank F.FnMut f.old (from (T.rank key) self.now) f.new)
-            (λ start. KeepsUpTo T.rank F.FnMut f.old
-            (from (T.rank key) self.now) (T.rank start) f.new) }
-    {
-        for (start, end, value) in self.iter_from(key) {
-            if !f(&(start..=end), value) {
-                return Some(start);
-            }
+// A test of a map's pairs. The borrow checker takes no closure whose signature names the node of a generic key, but one in a
+// function that is generic in the pair.
+trait Keeps<K, V>: Drop {
+    // `keeps` may be called at this key and value.
+    ghost accepts: { Self → K → V → Type 0 };
+
+    // A call at this key and value may return this, and leave this value and this test.
+    ghost step: { Self → K → V → Bool → V → Self → Type 0 };
+
+    fn keeps(&mut self, key: &K, value: &mut V) -> bool
+        requires { accepts self.old key.now value.old }
+        ensures { step self.old key.now value.old result value.new self.new };
+}
+
+// A closure over an entry's range and value, as a test of its node.
+#[derive(Drop)]
+struct OnEntry<F> {
+    keep: F,
+}
+
+impl<F> Model for OnEntry<F> {
+    ghost Value = { F };
+
+    ghost view = { λ a. a.keep };
+}
+
+impl<T: Integer, V, F: FnMut(&RangeInclusive<T>, &V) -> bool> Keeps<
+    Start<T>,
+    EndValue<T, Option<V>>,
+> for OnEntry<F> {
+    ghost accepts = { TakesNode T.rank F.FnMut };
+
+    ghost step = { AnswersAtNode T.rank F.FnMut };
+
+    fn keeps(&mut self, key: &Start<T>, value: &mut EndValue<T, Option<V>>) -> bool {
+        match &value.value {
+            Some(stored) => (self.keep)(&(key.0..=value.end), stored),
+            None => unreachable!(),
         }
-        None
     }
 }
 
+// Keeps the pairs at which a test returns true.
+fn retain_by<K: Ord + Drop, V: Drop, E: Keeps<K, V>>(pairs: &mut BTreeMap<K, V>, mut test: E)
+    requires { CallableOnEachPair E.step E.accepts test pairs.old.entries }
+    ensures { RetainsPairs E.step test pairs.old.entries pairs.new.entries }
+{
+    pairs.retain(
+        |key, value|
+            requires { E.accepts test key.now value.old }
+            ensures { E.step test.entry key.now value.old result value.new test.exit }
+        { test.keeps(key, value) },
+    );
+}
+
 impl<T: Integer, V: Drop> Tree<T, V> {
-    /// Keeps the entries that a closure returns true at: one call for each, ascending, at its range and value. It takes a search
-    /// of the tree, and two for each entry that goes.
-    pub fn retain<F: FnMut(&RangeInclusive<T>, &V) -> bool>(&mut self, mut f: F)
+    /// Keeps the entries that a closure returns true at: one call for each, ascending, at its range and value. No memory is
+    /// taken. One walk of the tree, O(n) with n entries. An entry that goes takes a search, O(log n) more, only where its node
+    /// of the tree has none to spare.
+    pub fn retain<F: FnMut(&RangeInclusive<T>, &V) -> bool>(&mut self, f: F)
         requires { IsCallableAtEach T.rank F.FnMut f self.old }
         ensures { IsFiltered (AnswersAt T.rank F.FnMut) f self.old self.new }
     {
-        self.in_hand();
-        let mut from = T::min_value();
-        while let Some(start) = self.first_to_drop(from, &mut f) {
-            self.remove(start);
-            match start.checked_add_one() {
-                Some(next) => from = next,
-                None => return,
-            }
-        }
+        retain_by(&mut self.nodes, OnEntry { keep: f });
     }
 }

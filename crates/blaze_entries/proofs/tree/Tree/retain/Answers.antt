@@ -1,30 +1,17 @@
-use Rattle.blaze_entries.proofs.Words.{refl, arith, ints}
-use Rattle.blaze_entries.proofs.Asked.{fewer_left, asked_none, asked_callable, asked_all, asked_top, asked_present, next_asked, next_starts, next_is_key}
+use Rattle.blaze_entries.proofs.Words.{sym, subst, AnswersAt, IsCallableAtEach, IsFiltered, entries_of}
+use Rattle.blaze_entries.proofs.Asked.{callable_at_nodes, filtered_at_nodes, held_nodes}
 use Rattle.blaze_entries.proofs.tree.Tree.retain.Goals as goal
 
-pub loop-start-init : goal.loop-start-init
-loop-start-init g c = asked_none c.min_value-from.ensures c.in_hand.ensures c.requires
+pub retain_by-requires : goal.retain_by-requires
+retain_by-requires g c =
+    callable_at_nodes g.T.Integer.rank g.F.FnMut c.args.f c.self.inside.nodes.entries c.self.invariant.full
+    (subst (IsCallableAtEach g.T.Integer.rank g.F.FnMut c.args.f) (sym c.self.view_is) c.requires)
 
-pub first_to_drop-requires : goal.first_to_drop-requires
-first_to_drop-requires g c = asked_callable c.loop-start.invariant
-
-pub remove-requires : goal.remove-requires
-remove-requires g c = record { present = asked_present c.loop-start.invariant c.in-Some.ensures }
-
-pub loop-start-smaller : goal.loop-start-smaller
-loop-start-smaller g c =
-    let starts = next_starts c.loop-start.invariant c.in-Some.ensures in
-    let is_key = next_is_key c.loop-start.invariant c.in-Some.ensures in
-    fewer_left g.T.Integer.high (g.T.Integer.rank c.loop-start.from) (g.T.Integer.rank c.in-Some-checked_add_one.next)
-    (omega (arith, ints, starts, c.in-Some-checked_add_one.ensures.0)) (omega (arith, ints, starts, is_key))
-
-pub loop-start-preserved : goal.loop-start-preserved
-loop-start-preserved g c = next_asked c.loop-start.invariant c.in-Some.ensures c.remove.ensures.entries c.in-Some-checked_add_one.ensures.0
-
-pub returns-in-None : goal.returns-in-None
-returns-in-None g c =
-    let next = next_asked c.loop-start.invariant c.in-Some.ensures c.remove.ensures.entries refl in
-    asked_top next (omega (arith, ints, c.in-None.ensures))
+pub invariant_of-self : goal.invariant_of-self
+invariant_of-self g c =
+    held_nodes g.T.Integer.rank g.F.FnMut g.T.Integer.low g.T.Integer.high c.args.f _ _ c.self.invariant c.retain_by.ensures
 
 pub returns : goal.returns
-returns g c = asked_all c.loop-start.invariant _ c.in_default.ensures
+returns g c =
+    subst (λ old. IsFiltered (AnswersAt g.T.Integer.rank g.F.FnMut) c.args.f old (entries_of g.T.Integer.rank c.retain_by.new.pairs.entries)) c.self.view_is
+    (filtered_at_nodes g.T.Integer.rank g.F.FnMut c.args.f _ _ c.retain_by.ensures)
