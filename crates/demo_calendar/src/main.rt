@@ -1,5 +1,6 @@
 //! A calendar, from lines `FROM TO NAME` of dates YYYY-MM-DD: each is put in only on its free days, and told where it meets what
-//! was booked before. Then what is booked, and for each line `? YEAR` the free spans of that year.
+//! was booked before. Then what is booked, and for each line `? YEAR` the free spans of that year. An example is
+//! crates/demo_calendar/stdin.
 #![tactic(auto)]
 
 use demo_keys::Day;

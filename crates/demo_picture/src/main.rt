@@ -1,5 +1,5 @@
 //! A picture of a map, from lines `LO HI WORD` that are painted in order: each entry, and each gap between two, as a bar of text.
-//! Where the first line is `svg`, it is a picture of that form, with a legend.
+//! Where the first line is `svg`, it is a picture of that form, with a legend. An example is crates/demo_picture/stdin.
 #![tactic(auto)]
 
 mod svg;

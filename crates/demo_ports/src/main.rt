@@ -1,5 +1,5 @@
 //! The ports of the lines of /etc/services: where TCP and UDP have different names, which ports are free, and for each line
-//! `? COUNT` the first free range of so many ports from 1024 on.
+//! `? COUNT` the first free range of so many ports from 1024 on. The Debian package netbase has the table as /etc/services.
 #![tactic(auto)]
 
 use demo_lines::{Fault, Table, content, decimal, length, run};

@@ -1,6 +1,7 @@
 //! Who owns addresses of both families, from lines `PREFIX NAME`, as `10.0.0.0/8 private` and `2001:db8::/32 documentation`: of the
 //! prefixes that hold an address the longest counts, whatever the order of the lines. The shortest list of ranges, and for each line
-//! `? ADDRESS` the owner, for `? prefixes` the fewest prefixes that say the same.
+//! `? ADDRESS` the owner, for `? prefixes` the fewest prefixes that say the same. An IPv4 address within IPv6 is printed with its IPv4 part
+//! in decimal, as `::ffff:10.0.0.1`. An example is crates/demo_routes/stdin.
 #![tactic(auto)]
 
 mod family;

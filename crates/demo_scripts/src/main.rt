@@ -1,5 +1,6 @@
 //! The scripts of characters, from the lines of the Unicode file Scripts.txt: how many characters each script has, how many
-//! entries and gaps the map has, and for each line `? WORD` the script of each character of the word.
+//! entries and gaps the map has, and for each line `? WORD` the script of each character of the word. The Debian package unicode-data has
+//! the table as /usr/share/unicode/Scripts.txt.
 #![tactic(auto)]
 
 use demo_lines::{Fault, Table, content, hexadecimal, length, run};
