@@ -10,6 +10,11 @@ pub record IsCounted {V : Type 0} (old new : CountedEntries V) : Type 0 where
   pub taken : old.taken_out ≤ new.taken_out
   pub balance : length new.entries + new.taken_out + old.put_in ≡ length old.entries + old.taken_out + new.put_in
 
+-- A refused edit: the entries are as they were, and what was done is counted.
+pub record IsRefused {V : Type 0} (old new : CountedEntries V) : Type 0 where
+  pub same : new.entries ≡ old.entries
+  pub counted : IsCounted old new
+
 -- All is counted; at most so many entries are put in; and there are at most six looks, and two for each entry taken out.
 pub record PutsAtMost {V : Type 0} (most : ℕ) (old new : CountedEntries V) : Type 0 where
   pub counted : IsCounted old new

@@ -11,7 +11,7 @@ ghost use Rattle.blaze_table.specs.Painted.{ClonesAreAlike};
 ghost use Rattle.blaze_table.specs.Planned.{IsWorked};
 ghost use Rattle.blaze_table.specs.Splice.{IsKeyTaken, IsKeyCut, IsFirstKeyCut, IsLastKeyCut, IsTableCut};
 ghost use Rattle.blaze_table.specs.Table.{IsTable};
-ghost use Rattle.blaze_table.specs.Work.{IsCountedCut, IsCounted};
+ghost use Rattle.blaze_table.specs.Work.{IsCountedCut, IsRefused};
 
 use crate::edit::take_out;
 use blaze_entries::{Counted, RangeEntry, Walk};
@@ -95,8 +95,7 @@ fn cut_held<T: Integer, V: Eq + Clone>(
         (T.rank key) (Some r.0) entries.old.entries entries.new.entries) }
     ensures worked { OnOk result (IsWorked 1 0 entries.old entries.new) }
     ensures refused { OnErr result (IsAmongOthers (T.rank key) entries.old.entries) }
-    ensures err { OnErr result (entries.new.entries ≡ entries.old.entries) }
-    ensures err_counted { OnErr result (IsCounted entries.old entries.new) }
+    ensures err { OnErr result (IsRefused entries.old entries.new) }
 {
     entries.in_hand();
     let value = cut_key(entries, key, held)?;
@@ -119,8 +118,7 @@ pub fn cut<T: Integer, V: Eq + Clone>(
         → (result ≡ Ok (None, len)) × (entries.new.entries ≡ entries.old.entries) }
     ensures counted { OnOk result (IsCountedCut entries.old entries.new) }
     ensures refused { OnErr result (IsAmongOthers (T.rank key) entries.old.entries) }
-    ensures err { OnErr result (entries.new.entries ≡ entries.old.entries) }
-    ensures err_counted { OnErr result (IsCounted entries.old entries.new) }
+    ensures err { OnErr result (IsRefused entries.old entries.new) }
 {
     entries.in_hand();
     let found = entries.holder(key)?;
@@ -147,8 +145,7 @@ fn cut_front<T: Integer, V: Eq + Clone>(
         entries.old.entries entries.new.entries) }
     ensures worked { OnOk result (IsWorked 1 0 entries.old entries.new) }
     ensures refused { OnErr result (IsSomeAnd (slice_get entries.old.entries 0) (λ e. e.lo <ℤ e.hi)) }
-    ensures err { OnErr result (entries.new.entries ≡ entries.old.entries) }
-    ensures err_counted { OnErr result (IsCounted entries.old entries.new) }
+    ensures err { OnErr result (IsRefused entries.old entries.new) }
 {
     entries.in_hand();
     let RangeEntry { start, end, value } = held;
@@ -176,8 +173,7 @@ pub fn cut_first<T: Integer, V: Eq + Clone>(
     ensures counted { OnOk result (IsCountedCut entries.old entries.new) }
     ensures refused { OnErr result (IfSome (slice_get entries.old.entries 0)
         (λ e. IsAmongOthers e.lo entries.old.entries)) }
-    ensures err { OnErr result (entries.new.entries ≡ entries.old.entries) }
-    ensures err_counted { OnErr result (IsCounted entries.old entries.new) }
+    ensures err { OnErr result (IsRefused entries.old entries.new) }
 {
     entries.in_hand();
     let first = entries.first_held()?;
@@ -233,8 +229,7 @@ pub fn cut_last<T: Integer, V: Eq + Clone>(
     ensures refused { OnErr result
         (IfSome (slice_get entries.old.entries (length entries.old.entries - 1))
         (λ e. IsAmongOthers e.hi entries.old.entries)) }
-    ensures err { OnErr result (entries.new.entries ≡ entries.old.entries) }
-    ensures err_counted { OnErr result (IsCounted entries.old entries.new) }
+    ensures err { OnErr result (IsRefused entries.old entries.new) }
 {
     entries.in_hand();
     let last = entries.last_held()?;
@@ -264,8 +259,7 @@ pub fn cut_range<T: Integer, V: Eq + Clone>(
         (T.rank lo) (T.rank hi) entries.old.entries entries.new.entries) }
     ensures counted { OnOk result (IsCountedCut entries.old entries.new) }
     ensures refused { OnErr result (GoesOnAbove (T.rank hi) entries.old.entries) }
-    ensures err { OnErr result (entries.new.entries ≡ entries.old.entries) }
-    ensures err_counted { OnErr result (IsCounted entries.old entries.new) }
+    ensures err { OnErr result (IsRefused entries.old entries.new) }
 {
     entries.in_hand();
     let sought: Option<V> = None;

@@ -3,7 +3,7 @@ ghost use Rattle.std.specs.Option.{option_map, option_or};
 ghost use Rattle.std.specs.Prelude.{◌≡◌, ◌≤ℤ◌, Ok, IfOk, OnOk, OnErr};
 ghost use Rattle.blaze_entries.specs.Found.{shown_found};
 ghost use Rattle.blaze_entries.specs.Walked.{shown_plan};
-ghost use Rattle.blaze_table.specs.Work.{IsCounted};
+ghost use Rattle.blaze_table.specs.Work.{IsRefused};
 ghost use Rattle.blaze_table.specs.Entries.{entry};
 ghost use Rattle.blaze_table.specs.Painted.{IsInside};
 ghost use Rattle.blaze_table.specs.Planned.{joined_start, reaches, IsWalkOf, IsWorked};
@@ -62,8 +62,7 @@ pub fn paint_planned<T: Integer, V: Eq + Drop>(
     ensures inside { IsInside V.eq (T.rank lo) (T.rank hi) value entries.old.entries
         → (result ≡ Ok len) × (entries.new.entries ≡ entries.old.entries) }
     ensures worked { OnOk result (IsWorked 2 0 entries.old entries.new) }
-    ensures err { OnErr result (entries.new.entries ≡ entries.old.entries) }
-    ensures err_counted { OnErr result (IsCounted entries.old entries.new) }
+    ensures err { OnErr result (IsRefused entries.old entries.new) }
 {
     entries.in_hand();
     lo.in_hand();

@@ -10,7 +10,7 @@ ghost use Rattle.blaze_table.specs.Entries.{entry, at, SameOption};
 ghost use Rattle.blaze_table.specs.Filled.{IsFilled, IsHeldFrom};
 ghost use Rattle.blaze_table.specs.Painted.{IsPainted, IsInside, ClonesAreAlike};
 ghost use Rattle.blaze_table.specs.Retain.{AnswersAt, IsCallableAtEach, IsCallableAtPairs, IsKeyRetained};
-ghost use Rattle.blaze_table.specs.Work.{IsCounted, IsCountedPaint, IsCountedCut};
+ghost use Rattle.blaze_table.specs.Work.{IsCounted, IsRefused, IsCountedPaint, IsCountedCut};
 ghost use Rattle.range_map_blaze.specs.Pairs.{IsFirstPair, IsLastPair, PopsFirst, PopsLast};
 ghost use Rattle.range_map_blaze.specs.Somewhere.{IsPaintedSomewhere, IsFilledSomewhere, IsCutSomewhere};
 
@@ -32,8 +32,7 @@ impl<T: Integer, V: Eq + Clone> RangeMapBlaze<T, V> {
         ensures inside { IsInside V.eq (T.rank key) (T.rank key) value self.old.entries
             → self.new.entries ≡ self.old.entries }
         ensures counted { OnOk result (IsCountedPaint self.old self.new) }
-        ensures err { OnErr result (self.new.entries ≡ self.old.entries) }
-        ensures err_counted { OnErr result (IsCounted self.old self.new) }
+        ensures err { OnErr result (IsRefused self.old self.new) }
     {
         self.table.insert(key, value)
     }
@@ -68,8 +67,7 @@ impl<T: Integer, V: Eq + Clone> RangeMapBlaze<T, V> {
             (end_rank T.rank T.high (R.end_bound range)) value self.old.entries
             → (result ≡ Ok false) × (self.new.entries ≡ self.old.entries) }
         ensures counted { OnOk result (IsCountedPaint self.old self.new) }
-        ensures err { OnErr result (self.new.entries ≡ self.old.entries) }
-        ensures err_counted { OnErr result (IsCounted self.old self.new) }
+        ensures err { OnErr result (IsRefused self.old self.new) }
     {
         self.in_hand();
         match bounds_of(&range) {
@@ -129,8 +127,7 @@ impl<T: Integer, V: Eq + Clone> RangeMapBlaze<T, V> {
         ensures none { at self.old.entries (T.rank key) ≡ None → (result ≡ Ok None)
             × (self.new.entries ≡ self.old.entries) }
         ensures refused { OnErr result (IsAmongOthers (T.rank key) self.old.entries) }
-        ensures err { OnErr result (self.new.entries ≡ self.old.entries) }
-        ensures err_counted { OnErr result (IsCounted self.old self.new) }
+        ensures err { OnErr result (IsRefused self.old self.new) }
     {
         self.table.cut_key(key)
     }
@@ -152,8 +149,7 @@ impl<T: Integer, V: Eq + Clone> RangeMapBlaze<T, V> {
         ensures refused { R.has_bounds range → OnErr result
             (GoesOnAbove (end_rank T.rank T.high (R.end_bound range)) self.old.entries) }
         ensures counted { OnOk result (IsCountedCut self.old self.new) }
-        ensures err { OnErr result (self.new.entries ≡ self.old.entries) }
-        ensures err_counted { OnErr result (IsCounted self.old self.new) }
+        ensures err { OnErr result (IsRefused self.old self.new) }
     {
         self.in_hand();
         match bounds_of(&range) {
@@ -174,8 +170,7 @@ impl<T: Integer, V: Eq + Clone> RangeMapBlaze<T, V> {
         ensures empty { self.old.entries ≡ [] → result ≡ Ok None }
         ensures refused { OnErr result ((key : ℤ) × (value : V)
             × IsFirstPair (at self.old.entries) key value × IsAmongOthers key self.old.entries) }
-        ensures err { OnErr result (self.new.entries ≡ self.old.entries) }
-        ensures err_counted { OnErr result (IsCounted self.old self.new) }
+        ensures err { OnErr result (IsRefused self.old self.new) }
     {
         self.in_hand();
         let popped = self.table.pop_first()?;
@@ -194,8 +189,7 @@ impl<T: Integer, V: Eq + Clone> RangeMapBlaze<T, V> {
         ensures empty { self.old.entries ≡ [] → result ≡ Ok None }
         ensures refused { OnErr result ((key : ℤ) × (value : V)
             × IsLastPair (at self.old.entries) key value × IsAmongOthers key self.old.entries) }
-        ensures err { OnErr result (self.new.entries ≡ self.old.entries) }
-        ensures err_counted { OnErr result (IsCounted self.old self.new) }
+        ensures err { OnErr result (IsRefused self.old self.new) }
     {
         self.in_hand();
         let popped = self.table.pop_last()?;

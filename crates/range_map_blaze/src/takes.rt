@@ -5,7 +5,7 @@ ghost use Rattle.blaze_table.specs.Counted.{uncounted};
 ghost use Rattle.blaze_table.specs.Entries.{at};
 ghost use Rattle.blaze_table.specs.Gap.{IsClearFrom};
 ghost use Rattle.blaze_table.specs.Painted.{ClonesAreAlike};
-ghost use Rattle.blaze_table.specs.Work.{IsCounted, IsCountedCut};
+ghost use Rattle.blaze_table.specs.Work.{IsRefused, IsCountedCut};
 ghost use Rattle.range_map_blaze.specs.KeysTaken.{AreKeysTaken, IsTakenOutSomewhere};
 
 use crate::map::RangeMapBlaze;
@@ -35,8 +35,7 @@ impl<T: Integer, V: Eq + Clone> RangeMapBlaze<T, V> {
             (end_rank T.rank T.high (R.end_bound range))
             → (result ≡ Ok (uncounted [])) × (self.new ≡ self.old) }
         ensures counted { OnOk result (IsCountedCut self.old self.new) }
-        ensures err { OnErr result (self.new.entries ≡ self.old.entries) }
-        ensures err_counted { OnErr result (IsCounted self.old self.new) }
+        ensures err { OnErr result (IsRefused self.old self.new) }
     {
         self.in_hand();
         match bounds_of(&range) {
@@ -55,8 +54,7 @@ impl<T: Integer, V: Eq + Clone> RangeMapBlaze<T, V> {
         ensures none { IsClearFrom (at self.old.entries) (T.rank start) (T.rank end)
             → (result ≡ Ok (uncounted [])) × (self.new ≡ self.old) }
         ensures counted { OnOk result (IsCountedCut self.old self.new) }
-        ensures err { OnErr result (self.new.entries ≡ self.old.entries) }
-        ensures err_counted { OnErr result (IsCounted self.old self.new) }
+        ensures err { OnErr result (IsRefused self.old self.new) }
     {
         self.in_hand();
         if self.is_free(start, end) {

@@ -3,7 +3,7 @@ ghost use Rattle.std.specs.Prelude.{◌≡◌, ◌≤◌, ◌-◌, ◌*◌, [], 
 ghost use Rattle.blaze_table.specs.Entries.{at};
 ghost use Rattle.blaze_table.specs.Laws.{IsShortest};
 ghost use Rattle.blaze_table.specs.Painted.{ClonesAreAlike};
-ghost use Rattle.blaze_table.specs.Work.{IsCounted, IsCountedCut, PutsAtMost};
+ghost use Rattle.blaze_table.specs.Work.{IsCounted, IsRefused, IsCountedCut, PutsAtMost};
 ghost use Rattle.range_map_cli.specs.Fills.{ranges_in, IsPaintOrFill};
 ghost use Rattle.range_map_cli.specs.Steps.{answer, first_mapped_key, last_mapped_key, key_with_value, answers, Combines};
 ghost use Rattle.range_map_cli.specs.Steps.{IsCountedRun, IsEdit, IsRefusedAt, IsStepped};
@@ -27,8 +27,7 @@ fn pop_first<T: Integer, V: Eq + Clone>(
     ensures pair { IfOk result (λ pair. SamePair T.rank V.eq pair
         (key_with_value (at map.old.entries) (first_mapped_key T.low T.high (at map.old.entries)))) }
     ensures counted { OnOk result (IsCountedCut map.old map.new) }
-    ensures err { OnErr result (map.new.entries ≡ map.old.entries) }
-    ensures err_counted { OnErr result (IsCounted map.old map.new) }
+    ensures err { OnErr result (IsRefused map.old map.new) }
 {
     map.in_hand();
     let popped = map.pop_first()?;
@@ -46,8 +45,7 @@ fn pop_last<T: Integer, V: Eq + Clone>(
     ensures pair { IfOk result (λ pair. SamePair T.rank V.eq pair
         (key_with_value (at map.old.entries) (last_mapped_key T.low T.high (at map.old.entries)))) }
     ensures counted { OnOk result (IsCountedCut map.old map.new) }
-    ensures err { OnErr result (map.new.entries ≡ map.old.entries) }
-    ensures err_counted { OnErr result (IsCounted map.old map.new) }
+    ensures err { OnErr result (IsRefused map.old map.new) }
 {
     map.in_hand();
     let popped = map.pop_last()?;

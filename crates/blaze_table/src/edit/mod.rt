@@ -7,7 +7,7 @@ ghost use Rattle.blaze_table.specs.Edited.{IsPlace};
 ghost use Rattle.blaze_table.specs.Entries.{entry};
 ghost use Rattle.blaze_table.specs.Planned.{IsEndPut, IsPutAt, IsWorked};
 ghost use Rattle.blaze_table.specs.Splice.{IsRangeTaken};
-ghost use Rattle.blaze_table.specs.Work.{IsCounted};
+ghost use Rattle.blaze_table.specs.Work.{IsRefused};
 
 mod place;
 mod room;
@@ -33,8 +33,7 @@ pub fn put_at<T: Integer, V: Eq + Drop>(
         (IsPutAt V.eq
         (entry (T.rank lo) (T.rank plan.end) value) entries.old.entries entries.new.entries) }
     ensures worked { OnOk result (IsWorked 2 0 entries.old entries.new) }
-    ensures err { OnErr result (entries.new.entries ≡ entries.old.entries) }
-    ensures err_counted { OnErr result (IsCounted entries.old entries.new) }
+    ensures err { OnErr result (IsRefused entries.old entries.new) }
 {
     entries.in_hand();
     put(entries, lo, value, plan, above)?;
@@ -59,8 +58,7 @@ pub fn extend<T: Integer, V: Eq + Drop>(
     ensures extended { OnOk result
         (IsEndPut V.eq (T.rank first) (T.rank plan.end) entries.old.entries entries.new.entries) }
     ensures worked { OnOk result (IsWorked 1 0 entries.old entries.new) }
-    ensures err { OnErr result (entries.new.entries ≡ entries.old.entries) }
-    ensures err_counted { OnErr result (IsCounted entries.old entries.new) }
+    ensures err { OnErr result (IsRefused entries.old entries.new) }
 {
     entries.in_hand();
     put_rest(entries, lo, plan.end, plan.rest, None)?;
@@ -85,8 +83,7 @@ pub fn take_out<T: Integer, V: Eq + Drop>(
         (T.rank lo) (T.rank plan.end) entries.old.entries entries.new.entries) }
     ensures worked { OnOk result (IsWorked 1 0 entries.old entries.new) }
     ensures refused { OnErr result (IsSome plan.rest) }
-    ensures err { OnErr result (entries.new.entries ≡ entries.old.entries) }
-    ensures err_counted { OnErr result (IsCounted entries.old entries.new) }
+    ensures err { OnErr result (IsRefused entries.old entries.new) }
 {
     entries.in_hand();
     put_rest(entries, lo, plan.end, plan.rest, above)?;

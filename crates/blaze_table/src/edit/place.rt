@@ -8,7 +8,7 @@ ghost use Rattle.blaze_table.specs.Canonical.{IsCanonical};
 ghost use Rattle.blaze_table.specs.Edited.{HasRoom, IsPlace, IsRestPut};
 ghost use Rattle.blaze_table.specs.Entries.{entry};
 ghost use Rattle.blaze_table.specs.Planned.{inner, IsStartPut, IsWorked};
-ghost use Rattle.blaze_table.specs.Work.{IsCounted};
+ghost use Rattle.blaze_table.specs.Work.{IsRefused};
 
 use blaze_entries::{Counted, Plan, RangeEntry};
 use blaze_int::Integer;
@@ -65,8 +65,7 @@ fn put_new<T: Integer, V: Eq + Drop>(
     ensures gone { OnOk result
         (length (inner (T.rank lo) (T.rank plan.end) entries.new.entries) ≡ plan.gone) }
     ensures worked { OnOk result (IsWorked 2 0 entries.old entries.new) }
-    ensures err { OnErr result (entries.new.entries ≡ entries.old.entries) }
-    ensures err_counted { OnErr result (IsCounted entries.old entries.new) }
+    ensures err { OnErr result (IsRefused entries.old entries.new) }
 {
     entries.in_hand();
     entries.insert(lo, plan.end, value)?;
@@ -92,8 +91,7 @@ fn put_over<T: Integer, V: Eq + Drop>(
     ensures gone { OnOk result
         (length (inner (T.rank lo) (T.rank plan.end) entries.new.entries) ≡ plan.gone) }
     ensures worked { OnOk result (IsWorked 2 0 entries.old entries.new) }
-    ensures err { OnErr result (entries.new.entries ≡ entries.old.entries) }
-    ensures err_counted { OnErr result (IsCounted entries.old entries.new) }
+    ensures err { OnErr result (IsRefused entries.old entries.new) }
 {
     let Plan { end, rest, .. } = plan;
     match rest {
@@ -131,8 +129,7 @@ pub fn put<T: Integer, V: Eq + Drop>(
     ensures gone { OnOk result
         (length (inner (T.rank lo) (T.rank plan.end) entries.new.entries) ≡ plan.gone) }
     ensures worked { OnOk result (IsWorked 2 0 entries.old entries.new) }
-    ensures err { OnErr result (entries.new.entries ≡ entries.old.entries) }
-    ensures err_counted { OnErr result (IsCounted entries.old entries.new) }
+    ensures err { OnErr result (IsRefused entries.old entries.new) }
 {
     entries.in_hand();
     match plan.first {

@@ -5,7 +5,7 @@ ghost use Rattle.blaze_table.specs.Entries.{Entry, at, SameOption};
 ghost use Rattle.blaze_table.specs.Painted.{ClonesAreAlike};
 ghost use Rattle.blaze_table.specs.Cut.{IsCut, IsFirstCut, IsLastCut, IsRangeCut, IsAmongOthers};
 ghost use Rattle.blaze_table.specs.Cut.{GoesOnAbove};
-ghost use Rattle.blaze_table.specs.Work.{IsCounted, IsCountedCut};
+ghost use Rattle.blaze_table.specs.Work.{IsRefused, IsCountedCut};
 
 use super::RangeTable;
 use crate::cut::{cut, cut_first, cut_last, cut_range};
@@ -25,8 +25,7 @@ impl<T: Integer, V: Eq + Clone> RangeTable<T, V> {
             × (self.new.entries ≡ self.old.entries) }
         ensures counted { OnOk result (IsCountedCut self.old self.new) }
         ensures refused { OnErr result (IsAmongOthers (T.rank key) self.old.entries) }
-        ensures err { OnErr result (self.new.entries ≡ self.old.entries) }
-        ensures err_counted { OnErr result (IsCounted self.old self.new) }
+        ensures err { OnErr result (IsRefused self.old self.new) }
     {
         let old_len = self.len;
         let (value, len) = cut(&mut self.entries.counted, old_len, key)?;
@@ -46,8 +45,7 @@ impl<T: Integer, V: Eq + Clone> RangeTable<T, V> {
         ensures refused { OnErr result ((first : Entry V)
             × (slice_get self.old.entries 0 ≡ Some first)
             × IsAmongOthers first.lo self.old.entries) }
-        ensures err { OnErr result (self.new.entries ≡ self.old.entries) }
-        ensures err_counted { OnErr result (IsCounted self.old self.new) }
+        ensures err { OnErr result (IsRefused self.old self.new) }
     {
         if self.entries.len() == 0 {
             return Ok(None);
@@ -70,8 +68,7 @@ impl<T: Integer, V: Eq + Clone> RangeTable<T, V> {
         ensures refused { OnErr result ((last : Entry V)
             × (slice_get self.old.entries (length self.old.entries - 1) ≡ Some last)
             × IsAmongOthers last.hi self.old.entries) }
-        ensures err { OnErr result (self.new.entries ≡ self.old.entries) }
-        ensures err_counted { OnErr result (IsCounted self.old self.new) }
+        ensures err { OnErr result (IsRefused self.old self.new) }
     {
         if self.entries.len() == 0 {
             return Ok(None);
@@ -91,8 +88,7 @@ impl<T: Integer, V: Eq + Clone> RangeTable<T, V> {
             self.old.entries self.new.entries) }
         ensures counted { OnOk result (IsCountedCut self.old self.new) }
         ensures refused { OnErr result (GoesOnAbove (T.rank hi) self.old.entries) }
-        ensures err { OnErr result (self.new.entries ≡ self.old.entries) }
-        ensures err_counted { OnErr result (IsCounted self.old self.new) }
+        ensures err { OnErr result (IsRefused self.old self.new) }
     {
         let old_len = self.len;
         let len = cut_range(&mut self.entries.counted, old_len, lo, hi)?;

@@ -3,7 +3,7 @@ ghost use Rattle.std.specs.Prelude.{◌≡◌, ◌↔◌, ◌≤ℤ◌, false, O
 ghost use Rattle.blaze_table.specs.Count.{keys_in};
 ghost use Rattle.blaze_table.specs.Entries.{entry, at, SameOption};
 ghost use Rattle.blaze_table.specs.Painted.{IsPainted, ClonesAreAlike, IsInside};
-ghost use Rattle.blaze_table.specs.Work.{IsCounted, IsCountedPaint};
+ghost use Rattle.blaze_table.specs.Work.{IsRefused, IsCountedPaint};
 
 use super::RangeTable;
 use crate::looks::walk_by_looks;
@@ -26,8 +26,7 @@ impl<T: Integer, V: Eq + Clone> RangeTable<T, V> {
         ensures inside { IsInside V.eq (T.rank lo) (T.rank hi) value self.old.entries
             → (result ≡ Ok false) × (self.new.entries ≡ self.old.entries) }
         ensures counted { OnOk result (IsCountedPaint self.old self.new) }
-        ensures err { OnErr result (self.new.entries ≡ self.old.entries) }
-        ensures err_counted { OnErr result (IsCounted self.old self.new) }
+        ensures err { OnErr result (IsRefused self.old self.new) }
     {
         self.entries.in_hand();
         let old_len = self.len;
@@ -50,8 +49,7 @@ impl<T: Integer, V: Eq + Clone> RangeTable<T, V> {
         ensures inside { IsInside V.eq (T.rank lo) (T.rank hi) value self.old.entries
             → (result ≡ Ok false) × (self.new.entries ≡ self.old.entries) }
         ensures counted { OnOk result (IsCountedPaint self.old self.new) }
-        ensures err { OnErr result (self.new.entries ≡ self.old.entries) }
-        ensures err_counted { OnErr result (IsCounted self.old self.new) }
+        ensures err { OnErr result (IsRefused self.old self.new) }
     {
         self.entries.in_hand();
         let old_len = self.len;
@@ -73,8 +71,7 @@ impl<T: Integer, V: Eq + Clone> RangeTable<T, V> {
         ensures inside { IsInside V.eq (T.rank key) (T.rank key) value self.old.entries
             → self.new.entries ≡ self.old.entries }
         ensures counted { OnOk result (IsCountedPaint self.old self.new) }
-        ensures err { OnErr result (self.new.entries ≡ self.old.entries) }
-        ensures err_counted { OnErr result (IsCounted self.old self.new) }
+        ensures err { OnErr result (IsRefused self.old self.new) }
     {
         self.entries.in_hand();
         let old_len = self.len;

@@ -28,5 +28,5 @@ loop-i-preserved c =
     c.loop-i.invariant here)
 
 pub returns-in_err-ranges_insert-clause-err : goal.returns-in_err-ranges_insert-clause-err
-returns-in_err-ranges_insert-clause-err c = if_err c.from_residual.result (rw c.in_err-ranges_insert.ensures.err
+returns-in_err-ranges_insert-clause-err c = if_err c.from_residual.result (rw c.in_err-ranges_insert.ensures.err.same
     (part_of c.loop-i.i c.args.lo.now c.args.hi.now c.args.value.now c.args.map.now.entries c.loop-i.map.entries c.requires.his c.requires.values c.loop-i.invariant))

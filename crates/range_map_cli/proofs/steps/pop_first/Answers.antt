@@ -10,6 +10,3 @@ returns-clause-pair g c = first_pair g.V.PartialEq.eq _ _ g.T.Integer.rank g.met
 
 pub returns-in_err-popped-clause-err : goal.returns-in_err-popped-clause-err
 returns-in_err-popped-clause-err g c = search rules
-
-pub returns-in_err-popped-clause-err_counted : goal.returns-in_err-popped-clause-err_counted
-returns-in_err-popped-clause-err_counted g c = search rules

@@ -1,4 +1,4 @@
-use Rattle.blaze_table.proofs.Words.{ap, ◌∙◌, option_map, CountedEntries, shown_ends, entry}
+use Rattle.blaze_table.proofs.Words.{rules, ap, ◌∙◌, option_map, CountedEntries, shown_ends, entry}
 use Rattle.blaze_table.proofs.Paints.Inner.{rest_under, new_gone}
 use Rattle.blaze_table.proofs.Paints.Placing.{put_there, put_back, like_rest, above_there, new_room, new_started}
 use Rattle.blaze_table.proofs.edit.place.put_new.Goals as goal
@@ -23,11 +23,14 @@ remove-requires g c = record {
 }
 
 pub returns-in-Err-clause-err : goal.returns-in-Err-clause-err
-returns-in-Err-clause-err g c =
-    let rank = g.T.Integer.rank in
-    put_back (entry (rank c.args.lo) (rank c.args.plan.end) c.args.value) c.args.entries.now.entries _ _ c.requires.absent
-    (ap (λ (s : CountedEntries g.row.V.Denot). s.entries) (c.in-Err.ensures.err ∙ c.in_ok-insert.ensures.ok))
-    (ap (λ (s : CountedEntries g.row.V.Denot). s.entries) c.remove.ensures.entries)
+returns-in-Err-clause-err g c = record {
+  same =
+      let rank = g.T.Integer.rank in
+      put_back (entry (rank c.args.lo) (rank c.args.plan.end) c.args.value) c.args.entries.now.entries _ _ c.requires.absent
+      (ap (λ (s : CountedEntries g.row.V.Denot). s.entries) (c.in-Err.ensures.err ∙ c.in_ok-insert.ensures.ok))
+      (ap (λ (s : CountedEntries g.row.V.Denot). s.entries) c.remove.ensures.entries);
+  counted = search rules;
+}
 
 pub returns-clause-ok : goal.returns-clause-ok
 returns-clause-ok g c =
