@@ -213,8 +213,9 @@ impl<T: Integer, V: Eq + Clone> RangeMapBlaze<T, V> {
 }
 
 impl<T: Integer, V: Eq + Drop> RangeMapBlaze<T, V> {
-    /// Keeps the entries that a closure returns true at: one call for each, ascending, and no other. No memory is taken. It
-    /// takes a step for each entry, and a search for each that goes.
+    /// Keeps the entries that a closure returns true at: one call for each, ascending, and no other. No memory is taken. One
+    /// walk, O(n) with n entries, and at most O(log n) more for each entry that goes. Where one goes, a second walk sums the keys
+    /// of those that stay.
     pub fn ranges_retain<F: FnMut(&RangeInclusive<T>, &V) -> bool>(&mut self, f: F)
         requires { IsCallableAtEach T.rank F.FnMut f self.old.entries }
         ensures range_map { IsRangeMap V.eq T.low T.high self.new.entries }

@@ -1,5 +1,5 @@
--- Some entries of a canonical list are canonical.
-use Rattle.blaze_table.proofs.Words.{ℤ, ◌<ℤ◌, Bool, true, false, List, [], ◌∷◌, sym, subst, arith, items_where_true, IsFiltered, ints, Entry, IsApart, IsCanonical, AreKeys}
+-- Some entries of a canonical list are canonical, and as many as there are are all.
+use Rattle.blaze_table.proofs.Words.{◌≡◌, ◌≤◌, ℤ, ◌<ℤ◌, Bool, true, false, List, [], ◌∷◌, length, refl, ◌∙◌, sym, ap, subst, arith, items_where_true, IsFiltered, ints, Entry, IsApart, IsCanonical, AreKeys}
 
 module _ {V : Type 0} (eq : V → V → Bool) where
   apart_far : (e f : Entry V) (bs : List Bool) (fs : List (Entry V)) → e.hi <ℤ f.lo → IsCanonical eq (f ∷ fs) → IsApart eq e (items_where_true bs fs)
@@ -32,3 +32,20 @@ module _ {F V : Type 0} (eq : V → V → Bool) where
 
   pub are_keys_filtered : (low high : ℤ) (R : F → Entry V → Bool → F → Type 0) (f : F) (old new : List (Entry V)) → IsFiltered R f old new → AreKeys low high old → AreKeys low high new
   are_keys_filtered low high R f old new h a = subst (AreKeys low high) (sym h.4) (are_keys_kept eq low high h.0 old a)
+
+module _ {V : Type 0} where
+  no_more_kept : (bs : List Bool) (es : List (Entry V)) → length (items_where_true bs es) ≤ length es
+  no_more_kept [] es = omega arith
+  no_more_kept (b ∷ bs) [] = omega arith
+  no_more_kept (true ∷ bs) (e ∷ es) = omega (arith, no_more_kept bs es)
+  no_more_kept (false ∷ bs) (e ∷ es) = omega (arith, no_more_kept bs es)
+
+  all_kept : (bs : List Bool) (es : List (Entry V)) → length (items_where_true bs es) ≡ length es → items_where_true bs es ≡ es
+  all_kept [] [] q = refl
+  all_kept [] (e ∷ es) q = absurd (omega arith)
+  all_kept (b ∷ bs) [] q = refl
+  all_kept (true ∷ bs) (e ∷ es) q = ap (λ l. e ∷ l) (all_kept bs es (omega arith))
+  all_kept (false ∷ bs) (e ∷ es) q = absurd (omega (arith, no_more_kept bs es))
+
+  pub all_filtered : {F : Type 0} (R : F → Entry V → Bool → F → Type 0) (f : F) (old new : List (Entry V)) → IsFiltered R f old new → length new ≡ length old → new ≡ old
+  all_filtered R f old new h q = h.4 ∙ all_kept h.0 old (ap length (sym h.4) ∙ q)

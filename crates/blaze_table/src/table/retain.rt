@@ -99,16 +99,20 @@ fn keep_keys<T: Integer, V: Eq + Clone, F: Fn(&T, &V) -> bool>(
 
 impl<T: Integer, V: Eq + Drop> RangeTable<T, V> {
     /// Keeps the entries that a closure returns true at: one call for each, ascending. No memory is taken, and no entry is
-    /// counted.
+    /// counted. One walk, O(n) with n entries, and at most O(log n) more for each entry that goes. Where one goes, a second
+    /// walk sums the keys of those that stay.
     pub fn retain_entries<F: FnMut(&RangeInclusive<T>, &V) -> bool>(&mut self, f: F)
         requires { IsCallableAtEach T.rank F.FnMut f self.old.entries }
         ensures range_map { IsRangeMap V.eq T.low T.high self.new.entries }
         ensures kept { IsFiltered (AnswersAt T.rank F.FnMut) f self.old.entries self.new.entries }
         ensures uncounted { self.new ≡ record self.old { entries = self.new.entries } }
     {
+        let before = self.entries.len();
         self.entries.retain(f);
-        let len = count(&self.entries);
-        self.len = len;
+        if self.entries.len() != before {
+            let len = count(&self.entries);
+            self.len = len;
+        }
     }
 }
 

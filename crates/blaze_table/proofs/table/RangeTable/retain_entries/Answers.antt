@@ -1,6 +1,6 @@
-use Rattle.blaze_table.proofs.Words.{arith, ints}
+use Rattle.blaze_table.proofs.Words.{◌≡◌, arith, ints, ap, sym, ◌∙◌, length, keys_in, common_steps}
 use Rattle.blaze_table.proofs.Canonical.Counted.{keys_among}
-use Rattle.blaze_table.proofs.Canonical.Kept.{canonical_filtered, are_keys_filtered}
+use Rattle.blaze_table.proofs.Canonical.Kept.{canonical_filtered, are_keys_filtered, all_filtered}
 use Rattle.blaze_table.proofs.Canonical.RangeMaps.{range_map}
 use Rattle.blaze_table.proofs.table.RangeTable.retain_entries.Goals as goal
 
@@ -24,5 +24,20 @@ invariant_of-self g c =
       counted = c.count-len.ensures;
     }
 
-pub returns-clause-range_map : goal.returns-clause-range_map
-returns-clause-range_map g c = range_map g.V.PartialEq.eq g.met.V.Eq.laws g.T.Integer.low g.T.Integer.high _ _ (invariant_of-self g c)
+-- as many entries as before are those before
+pub invariant_of-self-else-len-before : goal.invariant_of-self-else-len-before
+invariant_of-self-else-len-before g c =
+    let eq = g.V.PartialEq.eq in
+    let as_many : length c.retain.new.self.counted.entries ≡ length c.self.inside.entries.counted.entries = grind (arith, common_steps, c.len.ensures, c.len-before.ensures) in
+    record {
+      canonical = canonical_filtered eq _ _ _ _ c.retain.ensures.entries c.self.invariant.canonical;
+      are_keys = are_keys_filtered eq g.T.Integer.low g.T.Integer.high _ _ _ _ c.retain.ensures.entries c.self.invariant.are_keys;
+      counted = c.self.invariant.counted ∙ ap keys_in (sym (all_filtered _ _ _ _ c.retain.ensures.entries as_many));
+    }
+
+pub returns-then-len-before-clause-range_map : goal.returns-then-len-before-clause-range_map
+returns-then-len-before-clause-range_map g c = range_map g.V.PartialEq.eq g.met.V.Eq.laws g.T.Integer.low g.T.Integer.high _ _ (invariant_of-self g c)
+
+pub returns-else-len-before-clause-range_map : goal.returns-else-len-before-clause-range_map
+returns-else-len-before-clause-range_map g c =
+    range_map g.V.PartialEq.eq g.met.V.Eq.laws g.T.Integer.low g.T.Integer.high _ _ (invariant_of-self-else-len-before g c)
