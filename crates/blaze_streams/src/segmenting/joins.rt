@@ -93,7 +93,7 @@ fn steady_end<
 }
 
 /// Lets the keys of a stream go that are below another's first key, all where the other has none. The other has none at `end`, which
-/// is not above the end of its first range. A stream that finds a key by a search takes one, however many ranges go.
+/// is not above the end of its first range. A stream that seeks takes two searches, however many ranges go.
 fn let_go_below<
     T: Integer,
     VC: ValueCarrier,

@@ -1,4 +1,4 @@
-//! A table's entries as ranges with their values, in which a key is found by a search.
+//! A table's entries as ranges with their values, which seek a key by two searches.
 ghost use Rattle.std.specs.Prelude.{◌≡◌, refl};
 ghost use Rattle.std.specs.Iterator.{YieldsFirstBy, item_count};
 ghost use Rattle.blaze_streams.specs.Ranges.{shown_range};
@@ -12,7 +12,7 @@ use std::iter::FusedIterator;
 use std::marker::Model;
 use std::ops::RangeInclusive;
 
-/// The entries of a table that is lent, ascending: each range with its value. It seeks by a search of the table.
+/// The entries of a table that is lent, ascending: each range with its value. A seek takes two searches of the table.
 #[derive(Drop)]
 pub struct SeekingRangeValuesIter<'a, T: Integer, V: Eq> {
     entries: Range<'a, T, V>,
@@ -77,7 +77,7 @@ impl<'a, T: Integer, V: Eq + Clone> SortedDisjointMap<T, &'a V>
         0
     }
 
-    /// By a search, which finds the next entry where it does not end below the key.
+    /// By two searches, which find the next entry where it does not end below the key.
     fn seek(&mut self, key: T) {
         let table = self.table;
         table.in_hand();
