@@ -4,6 +4,7 @@ ghost use Rattle.std.proofs.Common.{rules};
 ghost use Rattle.std.specs.Cmp.Rules.{comparing};
 ghost use Rattle.std.specs.Ordering.{on};
 
+use crate::tables::by_both;
 use blaze_table::RangeTable;
 use range_map_blaze::RangeMapBlaze;
 use std::alloc::{AllocError, Global};
@@ -149,5 +150,6 @@ pub fn all(rt: &HostRuntime) -> Result<(), AllocError> {
     extended_by_lent(rt, &mut map, &map_of_pairs(rt.alloc())?)?;
     extended_from_none(rt)?;
     filled(rt)?;
-    filled_table(rt)
+    filled_table(rt)?;
+    by_both(rt, &[(1i64, 9, Labelled(1, 'x')), (3, 4, Labelled(1, 'y'))])
 }
