@@ -98,3 +98,12 @@ IsRestAfter rank e rest = MatchOption rest (rank e.start ≡ rank e.end) (λ r. 
 -- what is left of a range without its last key: none, or the range up to the key before
 abbrev pub IsRestBefore : {K R : Type 0} → (K → ℤ) → RangeEntry K R → Option (RangeEntry K R) → Type 0
 IsRestBefore rank e rest = MatchOption rest (rank e.start ≡ rank e.end) (λ r. (rank r.end +ℤ pos 1 ≡ rank e.end) × (rank e.start ≤ℤ rank r.end) × (r.start ≡ e.start) × (r.value ≡ e.value))
+
+module _ {K R A : Type 0} (rank : K → ℤ) (of_rank : ℤ → K) (given : RangeEntry K R → A) where
+  -- the first key of the opened range is taken, and what is `given` of the range is returned; none is where no range is opened
+  abbrev pub TakesFirst : Option (RangeEntry K R) → Option A → Option (RangeEntry K R) → Type 0
+  TakesFirst opened taken rest = MatchOption taken ((opened ≡ None) × (rest ≡ None)) (λ a. (e : RangeEntry K R) × (opened ≡ Some e) × (given e ≡ a) × (of_rank (rank e.start) ≡ e.start) × IsRestAfter rank e rest)
+
+  -- the same of the last key
+  abbrev pub TakesLast : Option (RangeEntry K R) → Option A → Option (RangeEntry K R) → Type 0
+  TakesLast opened taken rest = MatchOption taken ((opened ≡ None) × (rest ≡ None)) (λ a. (e : RangeEntry K R) × (opened ≡ Some e) × (given e ≡ a) × (of_rank (rank e.end) ≡ e.end) × IsRestBefore rank e rest)

@@ -1,9 +1,10 @@
 -- What the iterators by value give, whose clones may be refused.
-use Rattle.std.specs.Prelude.{◌≡◌, ◌<ℤ◌, Bool, true, List, [], ◌∷◌, ◌++◌, Option, MatchOption, Result, MatchResult}
+use Rattle.std.specs.Prelude.{◌≡◌, ℤ, ◌<ℤ◌, Bool, true, List, [], ◌∷◌, ◌++◌, Option, None, Some, MatchOption, Result, MatchResult}
 use Rattle.std.specs.declared.alloc.AllocError.{AllocError}
+use Rattle.blaze_entries.specs.declared.range_entry.RangeEntry.{RangeEntry}
 use Rattle.blaze_table.specs.Entries.{Entry}
 use Rattle.blaze_table.specs.Canonical.{IsDisjoint}
-use Rattle.blaze_iters.specs.Left.{RangesLeft, unopened, ranges_left, AreEndsFull, OpensFirst, OpensLast}
+use Rattle.blaze_iters.specs.Left.{RangesLeft, unopened, ranges_left, AreEndsFull, OpensFirst, OpensLast, IsRestAfter, IsRestBefore}
 
 -- what an iterator by value has left
 abbrev pub OwnedLeft : Type 0 → Type 0
@@ -35,6 +36,31 @@ module _ {V A B : Type 0} (items : OwnedLeft V → List B) (IsGiven : A → B �
   abbrev pub GivesLast : OwnedLeft V → Option (Result A AllocError) → OwnedLeft V → Type 0
   GivesLast s r t = MatchOption r ((items s ≡ []) × (items t ≡ []))
       (λ given. MatchResult given (λ a. ((b : B) × (items s ≡ items t ++ b ∷ []) × IsGiven a b) × OpensLast (λ es. es) s t) (λ _. HasSeveralLast s × (t ≡ unopened [])))
+
+-- ---- the words of this crate's own functions
+
+module _ {V A B : Type 0} (items : OwnedLeft V → List B) (IsGiven : A → B → Type 0) where
+  -- as `GivesFirst`, where a refused clone need not leave nothing
+  abbrev pub GivesFirstOrRefuses : OwnedLeft V → Option (Result A AllocError) → OwnedLeft V → Type 0
+  GivesFirstOrRefuses s r t = MatchOption r ((items s ≡ []) × (items t ≡ []))
+      (λ given. MatchResult given (λ a. ((b : B) × (items s ≡ b ∷ items t) × IsGiven a b) × OpensFirst (λ es. es) s t) (λ _. HasSeveralFirst s))
+
+  -- the same from the back
+  abbrev pub GivesLastOrRefuses : OwnedLeft V → Option (Result A AllocError) → OwnedLeft V → Type 0
+  GivesLastOrRefuses s r t = MatchOption r ((items s ≡ []) × (items t ≡ []))
+      (λ given. MatchResult given (λ a. ((b : B) × (items s ≡ items t ++ b ∷ []) × IsGiven a b) × OpensLast (λ es. es) s t) (λ _. HasSeveralLast s))
+
+module _ {K V : Type 0} (rank : K → ℤ) (of_rank : ℤ → K) (eq : V → V → Bool) where
+  -- the first key of the opened range is taken, and returned with a value that is equal to the range's; or a clone is refused,
+  -- where it is not the only key; none is taken where no range is opened
+  abbrev pub TakesFirstLike : Option (RangeEntry K V) → Option (Result (K × V) AllocError) → Option (RangeEntry K V) → Type 0
+  TakesFirstLike opened r rest = MatchOption r ((opened ≡ None) × (rest ≡ None))
+      (λ given. (e : RangeEntry K V) × (opened ≡ Some e) × MatchResult given (λ a. (a.0 ≡ e.start) × (eq e.value a.1 ≡ true) × (of_rank (rank e.start) ≡ e.start) × IsRestAfter rank e rest) (λ _. (rank e.start <ℤ rank e.end) × (rest ≡ Some e)))
+
+  -- the same of the last key
+  abbrev pub TakesLastLike : Option (RangeEntry K V) → Option (Result (K × V) AllocError) → Option (RangeEntry K V) → Type 0
+  TakesLastLike opened r rest = MatchOption r ((opened ≡ None) × (rest ≡ None))
+      (λ given. (e : RangeEntry K V) × (opened ≡ Some e) × MatchResult given (λ a. (a.0 ≡ e.end) × (eq e.value a.1 ≡ true) × (of_rank (rank e.end) ≡ e.end) × IsRestBefore rank e rest) (λ _. (rank e.start <ℤ rank e.end) × (rest ≡ Some e)))
 
 -- a pair with the stored key, and a value that is equal to the stored one
 abbrev pub IsLikePair : {K V : Type 0} → (V → V → Bool) → K × V → K × V → Type 0

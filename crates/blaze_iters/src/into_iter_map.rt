@@ -9,9 +9,9 @@ ghost use Rattle.blaze_iters.specs.Left.{unopened, shown_left, OpensFirst, Opens
 ghost use Rattle.blaze_iters.specs.Left.{YieldsOpeningFirst, YieldsOpeningLast, pairs_left};
 ghost use Rattle.blaze_iters.specs.Left.{keys_left};
 ghost use Rattle.blaze_iters.specs.Owned.{OwnedLeft, owned_ranges, IsOwned, GivesFirst, GivesLast};
-ghost use Rattle.blaze_iters.specs.Owned.{IsLikePair};
+ghost use Rattle.blaze_iters.specs.Owned.{IsLikePair, GivesFirstOrRefuses, GivesLastOrRefuses};
 
-use crate::rest::{rest_after, rest_before, second, second_last};
+use crate::rest::{first_cloned, first_key, last_cloned, last_key};
 use blaze_int::Integer;
 use blaze_table::{IntoIter, RangeEntry, RangeTable};
 use std::alloc::AllocError;
@@ -78,11 +78,11 @@ impl<T: Integer, V: Eq + Drop> IntoIterMap<T, V> {
         ensures { YieldsOpeningFirst (λ es. es) (λ k. k) (keys_left T.of_rank (λ es. es))
             self.old result self.new }
     {
-        let first = take_first(&mut self.front, &mut self.inner, &mut self.back)?;
-        let key = first.start;
-        key.in_hand();
-        self.front = rest_after(first);
-        Some(key)
+        if let Some(key) = first_key(&mut self.front) {
+            return Some(key);
+        }
+        self.front = take_first(&mut self.inner, &mut self.back);
+        first_key(&mut self.front)
     }
 
     /// Takes the last key that is left, and clones nothing.
@@ -90,11 +90,41 @@ impl<T: Integer, V: Eq + Drop> IntoIterMap<T, V> {
         ensures { YieldsOpeningLast (λ es. es) (λ k. k) (keys_left T.of_rank (λ es. es))
             self.old result self.new }
     {
-        let last = take_last(&mut self.front, &mut self.inner, &mut self.back)?;
-        let key = last.end;
-        key.in_hand();
-        self.back = rest_before(last);
-        Some(key)
+        if let Some(key) = last_key(&mut self.back) {
+            return Some(key);
+        }
+        self.back = take_last(&mut self.front, &mut self.inner);
+        last_key(&mut self.back)
+    }
+}
+
+impl<T: Integer, V: Eq + Clone> IntoIterMap<T, V> {
+    /// Takes the first key that is left, with its value or a clone of it. A refused clone takes nothing.
+    #[inline(always)]
+    fn take_first_pair(&mut self) -> Option<Result<(T, V), AllocError>>
+        requires { ClonesAreAlike V.is_clone V.eq }
+        ensures { GivesFirstOrRefuses (pairs_left T.of_rank (λ es. es)) (IsLikePair V.eq)
+            self.old result self.new }
+    {
+        if let Some(given) = first_cloned(&mut self.front) {
+            return Some(given);
+        }
+        self.front = take_first(&mut self.inner, &mut self.back);
+        first_cloned(&mut self.front)
+    }
+
+    /// Takes the last key that is left, with its value or a clone of it. A refused clone takes nothing.
+    #[inline(always)]
+    fn take_last_pair(&mut self) -> Option<Result<(T, V), AllocError>>
+        requires { ClonesAreAlike V.is_clone V.eq }
+        ensures { GivesLastOrRefuses (pairs_left T.of_rank (λ es. es)) (IsLikePair V.eq)
+            self.old result self.new }
+    {
+        if let Some(given) = last_cloned(&mut self.back) {
+            return Some(given);
+        }
+        self.back = take_last(&mut self.front, &mut self.inner);
+        last_cloned(&mut self.back)
     }
 }
 
@@ -108,22 +138,8 @@ impl<T: Integer, V: Eq + Clone> Iterator for IntoIterMap<T, V> {
     ghost remaining = { item_count (pairs_left T.of_rank (λ es. es)) };
 
     fn next(&mut self) -> Option<Result<(T, V), AllocError>> {
-        let first = take_first(&mut self.front, &mut self.inner, &mut self.back)?;
-        let RangeEntry { start, end, value } = first;
-        start.in_hand();
-        let next = match second(start, end) {
-            Some(next) => next,
-            None => return Some(Ok((start, value))),
-        };
-        match value.clone() {
-            Ok(copy) => {
-                self.front = Some(RangeEntry {
-                    start: next,
-                    end,
-                    value,
-                });
-                Some(Ok((start, copy)))
-            }
+        match self.take_first_pair()? {
+            Ok(pair) => Some(Ok(pair)),
             Err(refused) => {
                 self.end();
                 Some(Err(refused))
@@ -149,22 +165,8 @@ impl<T: Integer, V: Eq + Clone> DoubleEndedIterator for IntoIterMap<T, V> {
     ghost next_back_gives = { GivesLast (pairs_left T.of_rank (λ es. es)) (IsLikePair V.eq) };
 
     fn next_back(&mut self) -> Option<Result<(T, V), AllocError>> {
-        let last = take_last(&mut self.front, &mut self.inner, &mut self.back)?;
-        let RangeEntry { start, end, value } = last;
-        end.in_hand();
-        let previous = match second_last(start, end) {
-            Some(previous) => previous,
-            None => return Some(Ok((end, value))),
-        };
-        match value.clone() {
-            Ok(copy) => {
-                self.back = Some(RangeEntry {
-                    start,
-                    end: previous,
-                    value,
-                });
-                Some(Ok((end, copy)))
-            }
+        match self.take_last_pair()? {
+            Ok(pair) => Some(Ok(pair)),
             Err(refused) => {
                 self.end();
                 Some(Err(refused))
@@ -203,52 +205,44 @@ fn last_whole<T: Integer, V: Drop>(inner: &mut Option<IntoIter<T, V>>) -> Option
     }
 }
 
-/// The first range that is left, or what is left of it.
+/// Takes the first range that is left where none is opened at the front: the first that no call has opened, or else the one
+/// that is opened at the back.
 fn take_first<T: Integer, V: Drop>(
-    front: &mut Option<RangeEntry<T, V>>,
     inner: &mut Option<IntoIter<T, V>>,
     back: &mut Option<RangeEntry<T, V>>,
 ) -> Option<RangeEntry<T, V>>
-    requires { IsOwned (shown_left T.rank (λ v. v) front.old (unwrap_or inner.old []) back.old) }
-    ensures left { owned_ranges (shown_left T.rank (λ v. v) front.old (unwrap_or inner.old []) back.old)
+    requires { IsOwned (shown_left T.rank (λ v. v) None (unwrap_or inner.old []) back.old) }
+    ensures left { owned_ranges (shown_left T.rank (λ v. v) None (unwrap_or inner.old []) back.old)
         ≡ owned_ranges (shown_left T.rank (λ v. v) result (unwrap_or inner.new []) back.new) }
     ensures owned { IsOwned (shown_left T.rank (λ v. v) result (unwrap_or inner.new []) back.new) }
-    ensures front { front.new ≡ None }
     ensures opens { OpensFirst (λ es. es)
-        (shown_left T.rank (λ v. v) front.old (unwrap_or inner.old []) back.old)
-        (shown_left T.rank (λ v. v) front.new (unwrap_or inner.new []) back.new) }
+        (shown_left T.rank (λ v. v) None (unwrap_or inner.old []) back.old)
+        (shown_left T.rank (λ v. v) None (unwrap_or inner.new []) back.new) }
     ensures none { IfNone result
         (owned_ranges (shown_left T.rank (λ v. v) None (unwrap_or inner.new []) back.new) ≡ []) }
 {
-    if let Some(rest) = front.take() {
-        return Some(rest);
-    }
     match first_whole(inner) {
         Some(first) => Some(first),
         None => back.take(),
     }
 }
 
-/// The last range that is left, or what is left of it.
+/// Takes the last range that is left where none is opened at the back: the last that no call has opened, or else the one that
+/// is opened at the front.
 fn take_last<T: Integer, V: Drop>(
     front: &mut Option<RangeEntry<T, V>>,
     inner: &mut Option<IntoIter<T, V>>,
-    back: &mut Option<RangeEntry<T, V>>,
 ) -> Option<RangeEntry<T, V>>
-    requires { IsOwned (shown_left T.rank (λ v. v) front.old (unwrap_or inner.old []) back.old) }
-    ensures left { owned_ranges (shown_left T.rank (λ v. v) front.old (unwrap_or inner.old []) back.old)
+    requires { IsOwned (shown_left T.rank (λ v. v) front.old (unwrap_or inner.old []) None) }
+    ensures left { owned_ranges (shown_left T.rank (λ v. v) front.old (unwrap_or inner.old []) None)
         ≡ owned_ranges (shown_left T.rank (λ v. v) front.new (unwrap_or inner.new []) result) }
     ensures owned { IsOwned (shown_left T.rank (λ v. v) front.new (unwrap_or inner.new []) result) }
-    ensures back { back.new ≡ None }
     ensures opens { OpensLast (λ es. es)
-        (shown_left T.rank (λ v. v) front.old (unwrap_or inner.old []) back.old)
-        (shown_left T.rank (λ v. v) front.new (unwrap_or inner.new []) back.new) }
+        (shown_left T.rank (λ v. v) front.old (unwrap_or inner.old []) None)
+        (shown_left T.rank (λ v. v) front.new (unwrap_or inner.new []) None) }
     ensures none { IfNone result
         (owned_ranges (shown_left T.rank (λ v. v) front.new (unwrap_or inner.new []) None) ≡ []) }
 {
-    if let Some(rest) = back.take() {
-        return Some(rest);
-    }
     match last_whole(inner) {
         Some(last) => Some(last),
         None => front.take(),

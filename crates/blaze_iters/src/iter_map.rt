@@ -7,7 +7,7 @@ ghost use Rattle.blaze_iters.specs.Left.{RangesLeft, unopened, shown_left, AreEn
 ghost use Rattle.blaze_iters.specs.Left.{OpensLast, YieldsOpeningFirst, YieldsOpeningLast};
 ghost use Rattle.blaze_iters.specs.Left.{ranges_left, pairs_left, shown_key_value};
 
-use crate::rest::{rest_after, rest_before};
+use crate::rest::{first_pair, last_pair};
 use blaze_int::Integer;
 use blaze_streams::{BothEnds, RangeValuesIter, SortedDisjointMap, ValueCarrier};
 use blaze_table::{RangeEntry, RangeTable};
@@ -61,25 +61,21 @@ impl<'a, T: Integer, V: Eq + Clone> IterMap<T, &'a V, RangeValuesIter<'a, T, V>>
     }
 }
 
-/// The first range that is left, or what is left of it.
+/// Takes the first range that is left where none is opened at the front: the stream's first, or else the one that is opened at
+/// the back.
 fn take_first<T: Integer, VC: ValueCarrier, I: SortedDisjointMap<T, VC>>(
-    front: &mut Option<RangeEntry<T, VC>>,
     inner: &mut I,
     back: &mut Option<RangeEntry<T, VC>>,
 ) -> Option<RangeEntry<T, VC>>
-    requires { AreEndsFull (shown_left T.rank VC.shown front.old inner.old back.old) }
-    ensures left { ranges_left I.left (shown_left T.rank VC.shown front.old inner.old back.old)
+    requires { AreEndsFull (shown_left T.rank VC.shown None inner.old back.old) }
+    ensures left { ranges_left I.left (shown_left T.rank VC.shown None inner.old back.old)
         ≡ ranges_left I.left (shown_left T.rank VC.shown result inner.new back.new) }
     ensures full { AreEndsFull (shown_left T.rank VC.shown result inner.new back.new) }
-    ensures front { front.new ≡ None }
-    ensures opens { OpensFirst I.left (shown_left T.rank VC.shown front.old inner.old back.old)
-        (shown_left T.rank VC.shown front.new inner.new back.new) }
+    ensures opens { OpensFirst I.left (shown_left T.rank VC.shown None inner.old back.old)
+        (shown_left T.rank VC.shown None inner.new back.new) }
     ensures none { IfNone result (ranges_left I.left (shown_left T.rank VC.shown None inner.new back.new)
         ≡ []) }
 {
-    if let Some(rest) = front.take() {
-        return Some(rest);
-    }
     inner.in_hand();
     match inner.next() {
         Some((range, value)) => {
@@ -100,10 +96,11 @@ impl<T: Integer, VC: ValueCarrier + Copy, I: SortedDisjointMap<T, VC>> Iterator
     ghost remaining = { item_count (pairs_left T.of_rank I.left) };
 
     fn next(&mut self) -> Option<(T, VC)> {
-        let first = take_first(&mut self.front, &mut self.inner, &mut self.back)?;
-        first.start.in_hand();
-        self.front = rest_after(first);
-        Some((first.start, first.value))
+        if let Some(pair) = first_pair(&mut self.front) {
+            return Some(pair);
+        }
+        self.front = take_first(&mut self.inner, &mut self.back);
+        first_pair(&mut self.front)
     }
 
     /// At least as many keys are left as the ranges that no call has opened: the lower bound of the stream's.
@@ -117,25 +114,21 @@ impl<T: Integer, VC: ValueCarrier + Copy, I: SortedDisjointMap<T, VC>> Iterator
     }
 }
 
-/// The last range that is left, or what is left of it.
+/// Takes the last range that is left where none is opened at the back: the stream's last, or else the one that is opened at
+/// the front.
 fn take_last<T: Integer, VC: ValueCarrier, I: BothEnds<T, VC>>(
     front: &mut Option<RangeEntry<T, VC>>,
     inner: &mut I,
-    back: &mut Option<RangeEntry<T, VC>>,
 ) -> Option<RangeEntry<T, VC>>
-    requires { AreEndsFull (shown_left T.rank VC.shown front.old inner.old back.old) }
-    ensures left { ranges_left I.left (shown_left T.rank VC.shown front.old inner.old back.old)
+    requires { AreEndsFull (shown_left T.rank VC.shown front.old inner.old None) }
+    ensures left { ranges_left I.left (shown_left T.rank VC.shown front.old inner.old None)
         ≡ ranges_left I.left (shown_left T.rank VC.shown front.new inner.new result) }
     ensures full { AreEndsFull (shown_left T.rank VC.shown front.new inner.new result) }
-    ensures back { back.new ≡ None }
-    ensures opens { OpensLast I.left (shown_left T.rank VC.shown front.old inner.old back.old)
-        (shown_left T.rank VC.shown front.new inner.new back.new) }
+    ensures opens { OpensLast I.left (shown_left T.rank VC.shown front.old inner.old None)
+        (shown_left T.rank VC.shown front.new inner.new None) }
     ensures none { IfNone result (ranges_left I.left (shown_left T.rank VC.shown front.new inner.new None)
         ≡ []) }
 {
-    if let Some(rest) = back.take() {
-        return Some(rest);
-    }
     inner.in_hand();
     match inner.next_back() {
         Some((range, value)) => {
@@ -152,10 +145,11 @@ impl<T: Integer, VC: ValueCarrier + Copy, I: BothEnds<T, VC>> DoubleEndedIterato
         (pairs_left T.of_rank I.left) };
 
     fn next_back(&mut self) -> Option<(T, VC)> {
-        let last = take_last(&mut self.front, &mut self.inner, &mut self.back)?;
-        last.end.in_hand();
-        self.back = rest_before(last);
-        Some((last.end, last.value))
+        if let Some(pair) = last_pair(&mut self.back) {
+            return Some(pair);
+        }
+        self.back = take_last(&mut self.front, &mut self.inner);
+        last_pair(&mut self.back)
     }
 }
 

@@ -1,10 +1,13 @@
-//! What is left of a range once a key is taken from it.
-ghost use Rattle.std.specs.Prelude.{◌≤ℤ◌};
-ghost use Rattle.blaze_iters.specs.Left.{IsSecond, IsSecondLast, IsRestAfter, IsRestBefore};
+//! The first and the last key of an opened range, taken in place.
+ghost use Rattle.std.specs.Prelude.{◌≤ℤ◌, IfSome};
+ghost use Rattle.blaze_table.specs.Painted.{ClonesAreAlike};
+ghost use Rattle.blaze_iters.specs.Left.{IsSecond, IsSecondLast, TakesFirst, TakesLast};
+ghost use Rattle.blaze_iters.specs.Owned.{TakesFirstLike, TakesLastLike};
 
 use blaze_int::Integer;
 use blaze_int::compare::is_below;
 use blaze_table::RangeEntry;
+use std::alloc::AllocError;
 
 /// The key after the first of a range, where it has one.
 pub(crate) fn second<T: Integer>(start: T, end: T) -> Option<T>
@@ -32,22 +35,120 @@ pub(crate) fn second_last<T: Integer>(start: T, end: T) -> Option<T>
     }
 }
 
-/// What is left of a range with its value once the first key is taken.
-pub(crate) fn rest_after<T: Integer, R: Drop>(entry: RangeEntry<T, R>) -> Option<RangeEntry<T, R>>
-    requires { T.rank entry.start ≤ℤ T.rank entry.end }
-    ensures { IsRestAfter T.rank entry result }
+/// Takes the first key of an opened range in place: what is left of the range stays opened, and none does after its only key.
+/// Returns `None` where no range is opened. It is inlined, so that a call of `next` in an opened range calls nothing.
+#[inline(always)]
+pub(crate) fn first_key<T: Integer, R: Drop>(opened: &mut Option<RangeEntry<T, R>>) -> Option<T>
+    requires { IfSome opened.old (λ e. T.rank e.start ≤ℤ T.rank e.end) }
+    ensures { TakesFirst T.rank T.of_rank (λ e. e.start) opened.old result opened.new }
 {
-    let RangeEntry { start, end, value } = entry;
-    let start = second(start, end)?;
-    Some(RangeEntry { start, end, value })
+    let rest = opened.as_mut()?;
+    let key = rest.start;
+    key.in_hand();
+    match second(key, rest.end) {
+        Some(next) => rest.start = next,
+        None => *opened = None,
+    }
+    Some(key)
 }
 
-/// What is left of a range with its value once the last key is taken.
-pub(crate) fn rest_before<T: Integer, R: Drop>(entry: RangeEntry<T, R>) -> Option<RangeEntry<T, R>>
-    requires { T.rank entry.start ≤ℤ T.rank entry.end }
-    ensures { IsRestBefore T.rank entry result }
+/// Takes the last key of an opened range in place: what is left of the range stays opened, and none does after its only key.
+/// Returns `None` where no range is opened. It is inlined, so that a call of `next_back` in an opened range calls nothing.
+#[inline(always)]
+pub(crate) fn last_key<T: Integer, R: Drop>(opened: &mut Option<RangeEntry<T, R>>) -> Option<T>
+    requires { IfSome opened.old (λ e. T.rank e.start ≤ℤ T.rank e.end) }
+    ensures { TakesLast T.rank T.of_rank (λ e. e.end) opened.old result opened.new }
 {
-    let RangeEntry { start, end, value } = entry;
-    let end = second_last(start, end)?;
-    Some(RangeEntry { start, end, value })
+    let rest = opened.as_mut()?;
+    let key = rest.end;
+    key.in_hand();
+    match second_last(rest.start, key) {
+        Some(previous) => rest.end = previous,
+        None => *opened = None,
+    }
+    Some(key)
+}
+
+/// Takes the first key of an opened range in place, as `first_key` does, and returns it with the range's value.
+#[inline(always)]
+pub(crate) fn first_pair<T: Integer, R: Copy + Drop>(
+    opened: &mut Option<RangeEntry<T, R>>,
+) -> Option<(T, R)>
+    requires { IfSome opened.old (λ e. T.rank e.start ≤ℤ T.rank e.end) }
+    ensures { TakesFirst T.rank T.of_rank (λ e. (e.start, e.value)) opened.old result opened.new }
+{
+    let value = opened.as_ref()?.value;
+    let key = first_key(opened)?;
+    Some((key, value))
+}
+
+/// Takes the last key of an opened range in place, as `last_key` does, and returns it with the range's value.
+#[inline(always)]
+pub(crate) fn last_pair<T: Integer, R: Copy + Drop>(
+    opened: &mut Option<RangeEntry<T, R>>,
+) -> Option<(T, R)>
+    requires { IfSome opened.old (λ e. T.rank e.start ≤ℤ T.rank e.end) }
+    ensures { TakesLast T.rank T.of_rank (λ e. (e.end, e.value)) opened.old result opened.new }
+{
+    let value = opened.as_ref()?.value;
+    let key = last_key(opened)?;
+    Some((key, value))
+}
+
+/// Takes the first key of an opened range in place, as `first_key` does, and returns it with a clone of the range's value; with
+/// the only key of a range, with the value itself. A refused clone takes nothing.
+#[inline(always)]
+pub(crate) fn first_cloned<T: Integer, V: Eq + Clone>(
+    opened: &mut Option<RangeEntry<T, V>>,
+) -> Option<Result<(T, V), AllocError>>
+    requires full { IfSome opened.old (λ e. T.rank e.start ≤ℤ T.rank e.end) }
+    requires alike { ClonesAreAlike V.is_clone V.eq }
+    ensures { TakesFirstLike T.rank T.of_rank V.eq opened.old result opened.new }
+{
+    let rest = opened.as_mut()?;
+    let key = rest.start;
+    key.in_hand();
+    let next = match second(key, rest.end) {
+        Some(next) => next,
+        None => {
+            let RangeEntry { start, value, .. } = opened.take()?;
+            return Some(Ok((start, value)));
+        }
+    };
+    match rest.value.clone() {
+        Ok(copy) => {
+            rest.start = next;
+            Some(Ok((key, copy)))
+        }
+        Err(refused) => Some(Err(refused)),
+    }
+}
+
+/// Takes the last key of an opened range in place, as `last_key` does, and returns it with a clone of the range's value; with
+/// the only key of a range, with the value itself. A refused clone takes nothing.
+#[inline(always)]
+pub(crate) fn last_cloned<T: Integer, V: Eq + Clone>(
+    opened: &mut Option<RangeEntry<T, V>>,
+) -> Option<Result<(T, V), AllocError>>
+    requires full { IfSome opened.old (λ e. T.rank e.start ≤ℤ T.rank e.end) }
+    requires alike { ClonesAreAlike V.is_clone V.eq }
+    ensures { TakesLastLike T.rank T.of_rank V.eq opened.old result opened.new }
+{
+    let rest = opened.as_mut()?;
+    let key = rest.end;
+    key.in_hand();
+    let previous = match second_last(rest.start, key) {
+        Some(previous) => previous,
+        None => {
+            let RangeEntry { end, value, .. } = opened.take()?;
+            return Some(Ok((end, value)));
+        }
+    };
+    match rest.value.clone() {
+        Ok(copy) => {
+            rest.end = previous;
+            Some(Ok((key, copy)))
+        }
+        Err(refused) => Some(Err(refused)),
+    }
 }

@@ -1,13 +1,17 @@
-use Rattle.blaze_iters.proofs.Words.{[], ◌∷◌, ◌∙◌, ap, map, map-append, unwrap_or}
-use Rattle.blaze_iters.proofs.Steps.{takes_last, opened_last}
+use Rattle.blaze_iters.proofs.Words.{[], Some, refl, unwrap_or}
+use Rattle.blaze_iters.proofs.Steps.{next_back_key, keeps_last}
 use Rattle.blaze_iters.proofs.into_iter_map.IntoIterMap.next_back_key.Goals as goal
+
+pub returns-in-Some : goal.returns-in-Some
+returns-in-Some g c =
+    let t = c.in-Some.ensures in
+    rw (← c.self.view_is) (
+    next_back_key g.T.Integer.rank g.T.Integer.of_rank (λ v. v) c.self.inside.back (λ es. es) (unwrap_or c.self.inside.inner []) c.self.inside.front _ refl (rw t.1 tt)
+    (keeps_last g.T.Integer.rank g.T.Integer.of_rank (λ v. v) c.self.inside.back (λ es. es) (unwrap_or c.self.inside.inner []) c.self.inside.front t.0 t.1) (Some c.in-Some.key) c.last_key.new.opened t)
 
 pub returns : goal.returns
 returns g c =
-    let key = g.met.T.Integer.ranked.one_key c.in_ok-last.last.end c.in_hand.ensures.from c.in_hand.ensures.to in
-    let last = takes_last g.T.Integer.rank g.T.Integer.of_rank (λ v. v) (λ es. es) c.in_ok-last.last
-    c.rest_before.result c.take_last.new.front (unwrap_or c.take_last.new.inner []) key c.rest_before.ensures in
-    let first : g.row.T.Denot × g.row.V.Denot → g.row.T.Denot = λ p. p.0 in (
-      rw (← c.self.view_is, c.in_ok-last.ensures.left) (ap (map first) last ∙ map-append first _ ((c.in_ok-last.last.end, c.in_ok-last.last.value) ∷ [])),
-      rw (← c.self.view_is) (opened_last _ _ _ _ c.in_ok-last.ensures.opens),
-    )
+    let taken = c.take_last in
+    rw (← c.self.view_is, c.in_default.ensures.0) (
+    next_back_key g.T.Integer.rank g.T.Integer.of_rank (λ v. v) taken.result (λ es. es) (unwrap_or taken.new.inner []) taken.new.front _ taken.ensures.left taken.ensures.none taken.ensures.opens
+    c.last_key-2.result c.last_key-2.new.opened c.last_key-2.ensures)

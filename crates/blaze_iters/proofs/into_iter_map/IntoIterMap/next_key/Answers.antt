@@ -1,12 +1,17 @@
-use Rattle.blaze_iters.proofs.Words.{[], ap, map, unwrap_or}
-use Rattle.blaze_iters.proofs.Steps.{takes_first, opened_first}
+use Rattle.blaze_iters.proofs.Words.{[], Some, refl, unwrap_or}
+use Rattle.blaze_iters.proofs.Steps.{next_key, keeps_first}
 use Rattle.blaze_iters.proofs.into_iter_map.IntoIterMap.next_key.Goals as goal
+
+pub returns-in-Some : goal.returns-in-Some
+returns-in-Some g c =
+    let t = c.in-Some.ensures in
+    rw (← c.self.view_is) (
+    next_key g.T.Integer.rank g.T.Integer.of_rank (λ v. v) c.self.inside.front (λ es. es) (unwrap_or c.self.inside.inner []) c.self.inside.back _ refl (rw t.1 tt)
+    (keeps_first g.T.Integer.rank g.T.Integer.of_rank (λ v. v) c.self.inside.front (λ es. es) (unwrap_or c.self.inside.inner []) c.self.inside.back t.0 t.1) (Some c.in-Some.key) c.first_key.new.opened t)
 
 pub returns : goal.returns
 returns g c =
-    let key = g.met.T.Integer.ranked.one_key c.in_ok-first.first.start c.in_hand.ensures.from c.in_hand.ensures.to in
-    let first = takes_first g.T.Integer.rank g.T.Integer.of_rank (λ v. v) (λ es. es) c.in_ok-first.first
-    c.rest_after.result (unwrap_or c.take_first.new.inner []) c.take_first.new.back key c.rest_after.ensures in (
-      rw (← c.self.view_is, c.in_ok-first.ensures.left) (ap (map (λ (p : g.row.T.Denot × g.row.V.Denot). p.0)) first),
-      rw (← c.self.view_is) (opened_first _ _ _ _ c.in_ok-first.ensures.opens),
-    )
+    let taken = c.take_first in
+    rw (← c.self.view_is, c.in_default.ensures.0) (
+    next_key g.T.Integer.rank g.T.Integer.of_rank (λ v. v) taken.result (λ es. es) (unwrap_or taken.new.inner []) taken.new.back _ taken.ensures.left taken.ensures.none taken.ensures.opens
+    c.first_key-2.result c.first_key-2.new.opened c.first_key-2.ensures)
