@@ -1,5 +1,5 @@
 -- What is chosen from two lists, carried along lists that are alike.
-use Rattle.range_map_blaze.proofs.Words.{◌≡◌, ℤ, Bool, List, Option, Some, None, is_some, refl, subst, ◌∙◌, option_xor, IsEquivalence, same_trans, Entry, at, SameOption, SameEntries, right_first, left_alone, IsChosen, absent, IsComplement, content_as, back}
+use Rattle.range_map_blaze.proofs.Words.{◌≡◌, ℤ, Bool, List, Option, Some, None, is_some, refl, subst, ◌∙◌, option_xor, IsEquivalence, same_trans, same_along, Entry, at, SameOption, SameEntries, right_first, left_alone, IsChosen, absent, IsComplement, IsAlikeOff, content_as, back}
 use Rattle.range_map_blaze.proofs.Streams.{range_map_as}
 
 -- the choice looks at the right one's presence alone
@@ -35,6 +35,14 @@ module _ {V : Type 0} (eq : V → V → Bool) (laws : IsEquivalence eq) (low hig
   chosen_without left ranges right new same c = record {
     range_map = c.range_map;
     content = λ k. subst (SameOption eq (at new k)) (without_keys (at left k) (at ranges k) (at right k) (same k)) (c.content k);
+  }
+
+  -- what is chosen off the keys of what some of the ranges have left of a map
+  pub chosen_on : {A B : Type 0} (left rest : List (Entry V)) (ranges : List (Entry A)) (right : List (Entry B)) (new : List (Entry V)) → ((k : ℤ) → is_some (at ranges k) ≡ is_some (at right k)) → IsAlikeOff eq ranges left rest → IsChosen eq low high left_alone rest right new → IsChosen eq low high left_alone left right new
+  chosen_on left rest ranges right new same off c = record {
+    range_map = c.range_map;
+    content = λ k. same_trans eq laws (at new k) (left_alone (at rest k) (at right k)) (left_alone (at left k) (at right k)) (c.content k)
+        (same_along eq (without_keys (at rest k) (at ranges k) (at right k) (same k)) (without_keys (at left k) (at ranges k) (at right k) (same k)) (off k));
   }
 
   -- cut out of a map that is like the left one

@@ -101,6 +101,7 @@ pub use Rattle.blaze_table.specs.Pairs.{pair_list, pairs_from, value_at}
 pub use Rattle.blaze_table.specs.RangeSets.{unit_eq, IsRangeSet, shown_bare_range, shown_bare_ranges}
 pub use Rattle.blaze_table.specs.Splice.{after, before, paint, glue, IsBelow}
 pub use Rattle.blaze_table.specs.Work.{IsCountedPaint, IsCounted}
+pub use Rattle.range_map_blaze.specs.CutOut.{IsAlikeOff}
 pub use Rattle.range_map_blaze.specs.Edits.{AreEdits, AreEndsOf, AreEntriesAsked, ArePiecesAsked, IsPieceAsked, AreAside, AreEdited, IsEdited, IsPartEdited}
 pub use Rattle.range_map_blaze.specs.EntriesWithin.{IsWithin}
 pub use Rattle.range_map_blaze.specs.Extended.{AreInside, AreLeftAlone, ArePaintedInTurn, IsExtended, IsPairPainted, shown_point}

@@ -36,6 +36,7 @@ pub mod Collected
 pub mod Underway
 pub mod Union
 pub mod FilledFrom
+pub mod CutOut
 pub mod Order
 pub mod Hashed
 pub mod OrderLaws

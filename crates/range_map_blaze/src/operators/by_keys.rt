@@ -5,7 +5,8 @@ ghost use Rattle.blaze_table.specs.Painted.{ClonesAreAlike};
 
 use crate::map::RangeMapBlaze;
 use crate::operators::chosen::{lent_chosen, owned_chosen};
-use crate::operators::cut::{are_few, cut_ranges};
+use crate::operators::cut::cut_ranges;
+use crate::operators::few::is_narrow;
 use blaze_int::Integer;
 use blaze_streams::{LeftAlone, LeftWithRight, SeekingRangeValuesIter, ranges_of};
 use blaze_table::RangeTable;
@@ -45,8 +46,8 @@ pub fn within_keys_by_value<T: Integer, V: Eq + Clone, W: Eq + Clone>(
     owned_chosen(map, SeekingRangeValuesIter::new(keys), &LeftWithRight, room)
 }
 
-/// The values off the table's keys. Where the table has few entries, a clone of the map is cut; else it is one pass over the
-/// map, in which the table passes over what ends below the map's next key by a few steps and a search.
+/// The values off the table's keys. Where the table has few entries, which cover few of the map's, a clone of the map is cut; else
+/// it is one pass over the map, in which the table passes over what ends below the map's next key by a few steps and a search.
 pub fn outside_keys<T: Integer, V: Eq + Clone, W: Eq + Clone>(
     map: &RangeMapBlaze<T, V>,
     keys: &RangeTable<T, W>,
@@ -55,10 +56,10 @@ pub fn outside_keys<T: Integer, V: Eq + Clone, W: Eq + Clone>(
     ensures { IfOk result (λ new. IsChosen V.eq T.low T.high left_alone map.now.entries
         keys.now.entries new.entries) }
 {
-    let room = map.ranges_len();
-    if are_few(keys.entries(), room) {
+    if is_narrow(keys, &map.table) {
         return outside_keys_by_value(map.clone()?, keys);
     }
+    let room = map.ranges_len();
     lent_chosen(
         map,
         map.seeking_range_values(),
@@ -68,7 +69,7 @@ pub fn outside_keys<T: Integer, V: Eq + Clone, W: Eq + Clone>(
     )
 }
 
-/// The same, with the map's own values. Where the table has few entries, the map is cut in place.
+/// The same, with the map's own values. Where the table has few entries, which cover few of the map's, the map is cut in place.
 pub fn outside_keys_by_value<T: Integer, V: Eq + Clone, W: Eq + Clone>(
     map: RangeMapBlaze<T, V>,
     keys: &RangeTable<T, W>,
@@ -77,9 +78,25 @@ pub fn outside_keys_by_value<T: Integer, V: Eq + Clone, W: Eq + Clone>(
     ensures { IfOk result (λ new. IsChosen V.eq T.low T.high left_alone map.entries
         keys.now.entries new.entries) }
 {
-    let room = map.ranges_len();
-    if are_few(keys.entries(), room) {
-        return cut_ranges(map, ranges_of(keys));
+    if is_narrow(keys, &map.table) {
+        let (rest, is_whole) = cut_ranges(map, ranges_of(keys))?;
+        if is_whole {
+            return Ok(rest);
+        }
+        return all_outside_keys(rest, keys);
     }
+    all_outside_keys(map, keys)
+}
+
+/// The same, by one pass over the map.
+fn all_outside_keys<T: Integer, V: Eq + Clone, W: Eq + Clone>(
+    map: RangeMapBlaze<T, V>,
+    keys: &RangeTable<T, W>,
+) -> Result<RangeMapBlaze<T, V>, AllocError>
+    requires { ClonesAreAlike V.is_clone V.eq }
+    ensures { IfOk result (λ new. IsChosen V.eq T.low T.high left_alone map.entries
+        keys.now.entries new.entries) }
+{
+    let room = map.ranges_len();
     owned_chosen(map, SeekingRangeValuesIter::new(keys), &LeftAlone, room)
 }

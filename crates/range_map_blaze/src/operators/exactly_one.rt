@@ -7,7 +7,7 @@ ghost use Rattle.blaze_table.specs.Painted.{ClonesAreAlike};
 use crate::map::RangeMapBlaze;
 use crate::operators::by_keys::{outside_keys, outside_keys_by_value};
 use crate::operators::chosen::{lent_chosen, owned_chosen};
-use crate::operators::cut::are_few;
+use crate::operators::few::is_narrow;
 use crate::operators::set_of::set_of;
 use crate::operators::union::union_by_value;
 use blaze_int::Integer;
@@ -24,11 +24,10 @@ pub fn symmetric_difference<T: Integer, V: Eq + Clone>(
     ensures { IfOk result (λ map. IsChosen V.eq T.low T.high option_xor left.now.entries
         right.now.entries map.entries) }
 {
-    let (left_len, right_len) = (left.ranges_len(), right.ranges_len());
-    if are_few(left_len, right_len) || are_few(right_len, left_len) {
+    if is_narrow(&left.table, &right.table) || is_narrow(&right.table, &left.table) {
         return alone(left, right);
     }
-    let room = left_len.saturating_add(right_len);
+    let room = left.ranges_len().saturating_add(right.ranges_len());
     lent_chosen(
         left,
         left.range_values(),
@@ -47,14 +46,13 @@ pub fn symmetric_difference_by_value<T: Integer, V: Eq + Clone>(
     ensures { IfOk result (λ map. IsChosen V.eq T.low T.high option_xor left.entries
         right.entries map.entries) }
 {
-    let (left_len, right_len) = (left.ranges_len(), right.ranges_len());
-    if are_few(right_len, left_len) {
+    if is_narrow(&right.table, &left.table) {
         return alone_by_value(left, right);
     }
-    if are_few(left_len, right_len) {
+    if is_narrow(&left.table, &right.table) {
         return alone_by_value(right, left);
     }
-    let room = left_len.saturating_add(right_len);
+    let room = left.ranges_len().saturating_add(right.ranges_len());
     owned_chosen(
         left,
         OwnedRangeValuesIter::new(right.table),
@@ -72,7 +70,7 @@ pub fn symmetric_difference_with<T: Integer, V: Eq + Clone>(
     ensures { IfOk result (λ map. IsChosen V.eq T.low T.high option_xor left.entries
         right.now.entries map.entries) }
 {
-    if are_few(right.ranges_len(), left.ranges_len()) {
+    if is_narrow(&right.table, &left.table) {
         return alone_with(left, right);
     }
     symmetric_difference(&left, right)
@@ -87,7 +85,7 @@ pub fn symmetric_difference_under<T: Integer, V: Eq + Clone>(
     ensures { IfOk result (λ map. IsChosen V.eq T.low T.high option_xor left.now.entries
         right.entries map.entries) }
 {
-    if are_few(left.ranges_len(), right.ranges_len()) {
+    if is_narrow(&left.table, &right.table) {
         return alone_under(left, right);
     }
     symmetric_difference(left, &right)

@@ -7,6 +7,7 @@ pub mod chosen;
 pub mod complements;
 pub mod cut;
 pub mod exactly_one;
+pub mod few;
 pub mod set_of;
 mod sub;
 pub mod union;

@@ -5,9 +5,8 @@ ghost use Rattle.range_map_blaze.specs.Union.{IsUnion};
 
 use crate::map::RangeMapBlaze;
 use crate::operators::chosen::{lent_chosen, owned_chosen};
-use crate::operators::cut::are_few;
+use crate::operators::few::{are_few, cover_few};
 use blaze_int::Integer;
-use blaze_int::compare::is_below;
 use blaze_streams::{OwnedRangeValuesIter, RightFirst, SortedDisjointMap, ValueCarrier};
 use blaze_table::RangeTable;
 use std::alloc::AllocError;
@@ -34,41 +33,6 @@ fn path_for<T: Integer, V: Eq + Clone>(left: &RangeTable<T, V>, right: &RangeTab
     } else {
         Path::Merge
     }
-}
-
-/// Whether at most an eighth of the entries of another table start within the entries of a table. One search for each of these.
-fn cover_few<T: Integer, V: Eq + Clone>(
-    table: &RangeTable<T, V>,
-    other: &RangeTable<T, V>,
-) -> bool {
-    let mut most = other.entries() / 8;
-    for (start, end, _) in table.iter() {
-        match most_beside(other, start, end, most) {
-            Some(rest) => most = rest,
-            None => return false,
-        }
-    }
-    true
-}
-
-/// How many entries are left of `most` without those of a table that start within a range. None where these are more.
-fn most_beside<T: Integer, V: Eq + Clone>(
-    table: &RangeTable<T, V>,
-    start: T,
-    end: T,
-    most: usize,
-) -> Option<usize> {
-    let mut rest = most;
-    for (first, _, _) in table.iter_starting_from(start) {
-        if is_below(end, first) {
-            return Some(rest);
-        }
-        if rest == 0 {
-            return None;
-        }
-        rest -= 1;
-    }
-    Some(rest)
 }
 
 /// The union of two maps that are lent.

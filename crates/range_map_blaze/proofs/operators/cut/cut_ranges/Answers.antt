@@ -1,5 +1,5 @@
 use Rattle.range_map_blaze.proofs.Words.{[], ◌++◌, ◌∷◌, ◌∙◌, sym, ap, append-nil, append_assoc, subst, IsFinite, unit_laws, left_alone, IsChosen, shown_bare_range, unit_eq}
-use Rattle.range_map_blaze.proofs.Paints.CutRanges.{cut_none, cut_more}
+use Rattle.range_map_blaze.proofs.Paints.CutRanges.{cut_none, cut_more, cut_part}
 use Rattle.range_map_blaze.proofs.Paints.Insides.{with_key}
 use Rattle.range_map_blaze.proofs.operators.cut.cut_ranges.Goals as goal
 
@@ -34,8 +34,18 @@ loop-range-preserved g c =
           (rw (c.into_inner-start.ensures.start, c.into_inner-start.ensures.end) at c.in_ok-cut_range.ensures.ok),
     )
 
-pub returns : goal.returns
-returns g c =
+pub returns-then-entries-least-clause-off : goal.returns-then-entries-least-clause-off
+returns-then-entries-least-clause-off g c =
+    let i = c.loop-range.invariant in
+    cut_part g.V.PartialEq.eq g.met.V.Eq.laws g.T.Integer.low g.T.Integer.high c.args.map.entries i.0 _ _ _ i.1 i.2
+
+pub returns-clause-cut : goal.returns-clause-cut
+returns-clause-cut g c _ =
     let i = c.loop-range.invariant in
     let all = i.1 ∙ ap (λ rs. i.0 ++ rs) (g.met.S.SortedDisjoint.gives _ _ _ c.in-None.ensures.steps).0 ∙ append-nil i.0 in
     subst (λ rs. IsChosen g.V.PartialEq.eq g.T.Integer.low g.T.Integer.high left_alone c.args.map.entries rs c.loop-range.table.entries) (sym all) i.2
+
+pub returns-clause-off : goal.returns-clause-off
+returns-clause-off g c =
+    let i = c.loop-range.invariant in
+    cut_part g.V.PartialEq.eq g.met.V.Eq.laws g.T.Integer.low g.T.Integer.high c.args.map.entries i.0 _ _ _ i.1 i.2

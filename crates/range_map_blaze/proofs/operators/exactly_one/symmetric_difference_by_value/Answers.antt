@@ -2,8 +2,8 @@ use Rattle.range_map_blaze.proofs.Words.{◌≡◌, ◌∙◌, ap, IfOk-weaker, 
 use Rattle.range_map_blaze.proofs.Choices.{either_first}
 use Rattle.range_map_blaze.proofs.operators.exactly_one.symmetric_difference_by_value.Goals as goal
 
-pub returns-then-are_few-2 : goal.returns-then-are_few-2
-returns-then-are_few-2 g c = IfOk-weaker c.alone_by_value-then-are_few-2.result _ _ (λ map. either_first g.V.PartialEq.eq g.met.V.Eq.laws _ _ _ _ _) c.alone_by_value-then-are_few-2.ensures
+pub returns-then-is_narrow-2 : goal.returns-then-is_narrow-2
+returns-then-is_narrow-2 g c = IfOk-weaker c.alone_by_value-then-is_narrow-2.result _ _ (λ map. either_first g.V.PartialEq.eq g.met.V.Eq.laws _ _ _ _ _) c.alone_by_value-then-is_narrow-2.ensures
 
 pub returns : goal.returns
 returns g c =
