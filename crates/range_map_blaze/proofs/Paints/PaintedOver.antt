@@ -1,5 +1,6 @@
 -- A range map's list painted over another.
-use Rattle.range_map_blaze.proofs.Words.{option_or, ◌≡◌, ℤ, Bool, true, false, cond, List, [], ◌∷◌, Option, Some, None, refl, ◌∙◌, ap, IsEquivalence, same_along, Entry, at, holds, IsCanonical, IsRangeMap, right_first, IsChosen, last_at, IsAbove-from_apart, at_before, by_place, holds_under, holds_over, canonical, IsExtended}
+use Rattle.range_map_blaze.proofs.Words.{option_or, ◌≡◌, ℤ, Bool, true, false, cond, List, [], ◌∷◌, ◌++◌, Option, Some, None, refl, ◌∙◌, sym, ap, IsEquivalence, same_along, same_itself, same_trans, same_or, or_assoc, Entry, at, holds, IsCanonical, IsRangeMap, right_first, IsChosen, last_at, painted_in_order, IsAbove-from_apart, at_before, by_place, holds_under, holds_over, canonical, IsExtended}
+use Rattle.range_map_blaze.proofs.Paints.Paintings.{last_append}
 
 -- the value where the key is held, else what was there
 abbrev over : {V : Type 0} → Bool → V → Option V → Option V
@@ -33,3 +34,21 @@ painted_over {V} eq laws low high old over new r s = record {
   range_map = s.range_map;
   content = λ k. same_along eq refl (ap (λ o. option_or o (at old k)) (last_is_first eq over k (canonical eq laws over r.runs)) ∙ turned (at over k) (at old k)) (s.content k);
 }
+
+-- a first part painted, and then the rest put over
+pub painted_then : {V : Type 0} (eq : V → V → Bool) (laws : IsEquivalence eq) (low high : ℤ) (old done rest whole cur new : List (Entry V)) → whole ≡ done ++ rest → IsRangeMap eq low high whole → IsRangeMap eq low high rest
+    → IsExtended eq low high done old cur → IsChosen eq low high right_first cur rest new → IsChosen eq low high right_first old whole new
+painted_then {V} eq laws low high old done rest whole cur new p w r s c = record {
+  range_map = c.range_map;
+  content = λ k. same_trans eq laws (at new k) (right_first (at cur k) (at rest k)) (right_first (at old k) (at whole k)) (c.content k)
+      (same_along eq (turned (at rest k) (at cur k)) (there k) (same_or eq (at rest k) (at rest k) (at cur k) (painted_in_order done (at old) k) (same_itself eq laws (at rest k)) (s.content k)));
+}
+  where
+    there : (k : ℤ) → option_or (at rest k) (painted_in_order done (at old) k) ≡ right_first (at old k) (at whole k)
+    there k =
+        ap (λ o. option_or o (painted_in_order done (at old) k)) (sym (last_is_first eq rest k (canonical eq laws rest r.runs)))
+        ∙ sym (or_assoc (last_at rest k) (last_at done k) (at old k))
+        ∙ ap (λ o. option_or o (at old k)) (sym (last_append done rest k))
+        ∙ ap (λ ps. option_or (last_at ps k) (at old k)) (sym p)
+        ∙ ap (λ o. option_or o (at old k)) (last_is_first eq whole k (canonical eq laws whole w.runs))
+        ∙ turned (at whole k) (at old k)

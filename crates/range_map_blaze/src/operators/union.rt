@@ -5,10 +5,10 @@ ghost use Rattle.range_map_blaze.specs.Union.{IsUnion};
 
 use crate::map::RangeMapBlaze;
 use crate::operators::chosen::{lent_chosen, owned_chosen};
-use crate::operators::few::{are_few, cover_few};
+use crate::operators::few::{are_few, cover_few, is_narrow};
 use blaze_int::Integer;
 use blaze_streams::{OwnedRangeValuesIter, RightFirst, SortedDisjointMap, ValueCarrier};
-use blaze_table::RangeTable;
+use blaze_table::{RangeEntry, RangeTable};
 use std::alloc::AllocError;
 
 /// How a union is made, which changes nothing of what it is.
@@ -21,14 +21,13 @@ enum Path {
     Merge,
 }
 
-/// The path for two maps. Few entries are painted or filled in where they cover few of the other map's entries too: each of
-/// those takes a search.
+/// The path for two maps. Few entries are painted or filled in where they cover few of the other map's entries too: a paint takes
+/// each of those out by a search, and a fill finds each gap between them by one. A fill looks how many they are, since it does not
+/// stop.
 fn path_for<T: Integer, V: Eq + Clone>(left: &RangeTable<T, V>, right: &RangeTable<T, V>) -> Path {
-    if right.entries() == 0 || are_few(right.entries(), left.entries()) && cover_few(right, left) {
+    if is_narrow(right, left) {
         Path::Over
-    } else if left.entries() == 0
-        || are_few(left.entries(), right.entries()) && cover_few(left, right)
-    {
+    } else if are_few(left.entries(), right.entries()) && cover_few(left, right) {
         Path::Under
     } else {
         Path::Merge
@@ -113,7 +112,8 @@ pub fn union_under<T: Integer, V: Eq + Clone>(
     }
 }
 
-/// A stream's ranges painted over a map, each with a value equal to its carrier's.
+/// A stream's ranges painted over a map, each with a value equal to its carrier's. Once an eighth of the map's entries has gone,
+/// what is left of the stream is put over what is left of the map by one pass.
 fn painted_over<
     T: Integer,
     V: Eq + Clone,
@@ -126,10 +126,36 @@ fn painted_over<
         (λ map. IsUnion V.eq T.low T.high left.entries (S.left right) map.entries) }
 {
     let mut map = left;
+    let mut ranges = right;
     map.in_hand();
-    right.in_hand();
-    map.paint_ranges(right)?;
+    ranges.in_hand();
+    let least = map.ranges_len().saturating_sub(map.ranges_len() / 8);
+    while let Some((range, carrier)) = ranges.next() {
+        let (start, end) = range.into_inner();
+        let value = carrier.into_value()?;
+        map.paint_pair(RangeEntry { start, end, value })?;
+        if map.ranges_len() < least {
+            ranges.in_hand();
+            return merged_over(map, ranges);
+        }
+    }
     Ok(map)
+}
+
+/// A stream's ranges over a map, by one pass over both.
+fn merged_over<T: Integer, V: Eq + Clone, VC: ValueCarrier<Value = V>, S: SortedDisjointMap<T, VC>>(
+    left: RangeMapBlaze<T, V>,
+    right: S,
+) -> Result<RangeMapBlaze<T, V>, AllocError>
+    requires can { VC.can_carry }
+    requires clones { ClonesAreAlike V.is_clone V.eq }
+    ensures { IfOk result
+        (λ map. IsUnion V.eq T.low T.high left.entries (S.left right) map.entries) }
+{
+    left.in_hand();
+    right.in_hand();
+    let over = RangeMapBlaze::from_sorted_disjoint_map(left.allocator(), right)?;
+    merged_by_value(left, over)
 }
 
 /// A stream's ranges filled into a map's gaps, each with a value equal to its carrier's.
