@@ -39,7 +39,7 @@ pub use Rattle.blaze_int.proofs.Naturals.{nat_of-pos, pos_injective}
 pub use Rattle.blaze_int.proofs.Options.{some_is_not, some_none, if_err, same_value}
 pub use Rattle.blaze_int.specs.Bounds.{start_rank, end_rank}
 pub use Rattle.blaze_int.specs.Unsigned.{nat_of}
-pub use Rattle.blaze_streams.proofs.Answering.{each_any, each_then}
+pub use Rattle.blaze_streams.proofs.Answering.{IsAnsweredSoFar, asked, answered_none, takes_next, answered_more, answered_all, each_next, each_any, each_then}
 pub use Rattle.blaze_streams.proofs.CarriedJoins.{itself_alike, exact_join}
 pub use Rattle.blaze_streams.proofs.Filled.{fill_made}
 pub use Rattle.blaze_streams.proofs.FoundSegments.{option_same}
@@ -49,7 +49,7 @@ pub use Rattle.blaze_streams.proofs.LengthsLeft.{lengths_left, all_less}
 pub use Rattle.blaze_streams.proofs.Paired.{joined_all}
 pub use Rattle.blaze_streams.proofs.Steady.{at-after_under, at_below_from, at_first}
 pub use Rattle.blaze_streams.proofs.Taken.{ends}
-pub use Rattle.blaze_streams.specs.Answers.{values, AnswersAtValue, answered, TakesValue, SomeCallAtValue}
+pub use Rattle.blaze_streams.specs.Answers.{values, EachValue, AnswersAtValue, answered, TakesValue, SomeCallAtValue}
 pub use Rattle.blaze_streams.specs.Carried.{shown_option}
 pub use Rattle.blaze_streams.specs.Cursors.{IsFrom, Reaches}
 pub use Rattle.blaze_streams.specs.Fallible.{ok_calls}

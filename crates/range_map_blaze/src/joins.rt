@@ -12,9 +12,9 @@ use crate::map::RangeMapBlaze;
 use blaze_int::Integer;
 use blaze_streams::{
     Asks, Both, CanonMapIter, Either, JoinKind, Owned, RangeValuesIter, SeekingRangeValuesIter,
-    SortedDisjointMap, Whole, WithLeft, answers_of, join_of,
+    SortedDisjointMap, ValueCarrier, Whole, WithLeft, join_of,
 };
-use blaze_table::RangeTable;
+use blaze_table::{RangeTable, push_entry};
 use std::alloc::{AllocError, Global};
 
 /// The map of a stream whose carriers are values: no value is cloned. Refused memory drops the stream.
@@ -35,7 +35,34 @@ pub fn map_of<T: Integer, W: Eq + Clone>(
     Ok(RangeMapBlaze { table })
 }
 
-/// What a closure returns at the values of a table, with the arguments that `C` gives it, as a stream.
+/// The map of a stream's ranges, each with what a closure returns at its value, with the arguments that `C` gives it: one call
+/// for each range, ascending. Touching ranges with equal results are one. If a call of the closure or an allocation fails, the
+/// closure is not called again, and the stream and the results are dropped.
+fn map_of_answers<
+    T: Integer,
+    VC: ValueCarrier,
+    S: SortedDisjointMap<T, VC>,
+    W: Eq + Clone,
+    F: Drop,
+    C: Asks<F, VC, W>,
+>(alloc: Global, stream: S, mut f: F) -> Result<RangeMapBlaze<T, W>, AllocError>
+    requires have { EachValue C.has_arguments (S.left stream) }
+    requires callable { IsCallableAtEachValue C.shows C.calls f (values (S.left stream)) }
+    ensures { IfOk result (IsMade (IsTransformed C.shows C.calls W.eq T.low T.high f (S.left stream))) }
+{
+    stream.in_hand();
+    let mut entries = Vec::new(alloc);
+    for item in stream {
+        let (range, carrier) = item;
+        let (start, end) = range.into_inner();
+        let answer = C::ask(&mut f, carrier)?;
+        push_entry(&mut entries, start, end, answer)?;
+    }
+    let table = RangeTable::from_canonical(alloc, entries)?;
+    Ok(RangeMapBlaze { table })
+}
+
+/// The map of a table's keys, each with what a closure returns at its entry's value, with the arguments that `C` gives it.
 pub(crate) fn transformed<
     'a,
     T: Integer,
@@ -43,13 +70,13 @@ pub(crate) fn transformed<
     W: Eq + Clone,
     F: Drop,
     C: Asks<F, &'a V, W>,
->(alloc: Global, table: &'a RangeTable<T, V>, f: F) -> Result<CanonMapIter<T, Owned<W>>, AllocError>
+>(alloc: Global, table: &'a RangeTable<T, V>, f: F) -> Result<RangeMapBlaze<T, W>, AllocError>
     requires have { EachValue C.has_arguments table.now.entries }
     requires callable { IsCallableAtEachValue C.shows C.calls f (values table.now.entries) }
-    ensures { IfOk result (λ new. IsTransformed C.shows C.calls W.eq T.low T.high f
-        table.now.entries new) }
+    ensures { IfOk result (IsMade (IsTransformed C.shows C.calls W.eq T.low T.high f
+        table.now.entries)) }
 {
-    answers_of::<_, _, _, W, F, C>(alloc, RangeValuesIter::new(table), f)
+    map_of_answers::<_, _, _, W, F, C>(alloc, RangeValuesIter::new(table), f)
 }
 
 /// The segments of two tables that a join is asked for, each with what the two have there, as a stream.
@@ -70,8 +97,7 @@ fn segments_of<'a, T: Integer, V: Eq + Clone, V2: Eq + Clone>(
     )
 }
 
-/// What a closure returns at the segments of two tables that a join is asked for, with the arguments that `C` gives it, as a
-/// stream.
+/// The map of what a closure returns at the segments of two tables that a join is asked for, with the arguments that `C` gives it.
 pub(crate) fn joined<
     'a,
     T: Integer,
@@ -86,15 +112,15 @@ pub(crate) fn joined<
     other: &'a RangeTable<T, V2>,
     kind: JoinKind,
     f: F,
-) -> Result<CanonMapIter<T, Owned<W>>, AllocError>
+) -> Result<RangeMapBlaze<T, W>, AllocError>
     requires have { (pair : _) → is_joined kind pair.0 pair.1 ≡ true → C.has_arguments pair }
     requires callable { IsCallableAtSegments C.shows C.calls V.eq V2.eq T.low T.high kind f
         table.now.entries other.now.entries }
-    ensures { IfOk result (λ new. IsJoined C.shows C.calls V.eq V2.eq T.low T.high kind W.eq f
-        table.now.entries other.now.entries new) }
+    ensures { IfOk result (IsMade (IsJoined C.shows C.calls V.eq V2.eq T.low T.high kind W.eq f
+        table.now.entries other.now.entries)) }
 {
     let segments = segments_of(alloc, table, other, kind)?;
-    answers_of::<_, _, _, W, F, C>(alloc, segments, f)
+    map_of_answers::<_, _, _, W, F, C>(alloc, segments, f)
 }
 
 impl<T: Integer, V: Eq + Clone> RangeMapBlaze<T, V> {
@@ -109,9 +135,7 @@ impl<T: Integer, V: Eq + Clone> RangeMapBlaze<T, V> {
         ensures { IfOk result (IsMade (IsTransformed (λ a. a.0.now) F.FnMut W.eq T.low T.high f
             self.now.entries)) }
     {
-        let alloc = self.allocator();
-        let stream = transformed::<T, V, W, F, Whole>(alloc, &self.table, f)?;
-        map_of(alloc, stream)
+        transformed::<T, V, W, F, Whole>(self.allocator(), &self.table, f)
     }
 
     /// What a closure returns where both maps have a value: one call for each of the greatest ranges on which neither changes
@@ -128,15 +152,13 @@ impl<T: Integer, V: Eq + Clone> RangeMapBlaze<T, V> {
         ensures { IfOk result (IsMade (IsJoined (both (λ v. v.now) (λ v. v.now)) F.FnMut V.eq V2.eq
             T.low T.high Inner W.eq f self.now.entries other.now.entries)) }
     {
-        let alloc = self.allocator();
-        let stream = joined::<T, V, V2, W, F, Both>(
-            alloc,
+        joined::<T, V, V2, W, F, Both>(
+            self.allocator(),
             &self.table,
             &other.table,
             JoinKind::Inner,
             f,
-        )?;
-        map_of(alloc, stream)
+        )
     }
 
     /// The same where this map has a value, with the other's where it has one. Refused memory leaves both maps unchanged and
@@ -152,15 +174,13 @@ impl<T: Integer, V: Eq + Clone> RangeMapBlaze<T, V> {
         ensures { IfOk result (IsMade (IsJoined (with_left (λ v. v.now) (λ v. v.now)) F.FnMut V.eq
             V2.eq T.low T.high Left W.eq f self.now.entries other.now.entries)) }
     {
-        let alloc = self.allocator();
-        let stream = joined::<T, V, V2, W, F, WithLeft>(
-            alloc,
+        joined::<T, V, V2, W, F, WithLeft>(
+            self.allocator(),
             &self.table,
             &other.table,
             JoinKind::Left,
             f,
-        )?;
-        map_of(alloc, stream)
+        )
     }
 
     /// The same where at least one map has a value. Refused memory leaves both maps unchanged and drops what it returned. It
@@ -175,14 +195,12 @@ impl<T: Integer, V: Eq + Clone> RangeMapBlaze<T, V> {
         ensures { IfOk result (IsMade (IsJoined (either (λ v. v.now) (λ v. v.now)) F.FnMut V.eq V2.eq
             T.low T.high Full W.eq f self.now.entries other.now.entries)) }
     {
-        let alloc = self.allocator();
-        let stream = joined::<T, V, V2, W, F, Either>(
-            alloc,
+        joined::<T, V, V2, W, F, Either>(
+            self.allocator(),
             &self.table,
             &other.table,
             JoinKind::Full,
             f,
-        )?;
-        map_of(alloc, stream)
+        )
     }
 }

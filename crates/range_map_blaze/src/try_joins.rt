@@ -7,7 +7,7 @@ ghost use Rattle.blaze_streams.specs.JoinAnswers.{IsJoined};
 ghost use Rattle.blaze_streams.specs.declared.segmenting.joins.JoinKind.TheVariants.{Inner, Left, Full};
 ghost use Rattle.range_map_blaze.specs.Made.{IsMade};
 
-use crate::joins::{joined, map_of, transformed};
+use crate::joins::{joined, transformed};
 use crate::map::RangeMapBlaze;
 use blaze_int::Integer;
 use blaze_streams::{Both, Either, Fallible, JoinKind, Whole, WithLeft};
@@ -27,9 +27,7 @@ impl<T: Integer, V: Eq + Clone> RangeMapBlaze<T, V> {
         ensures { IfOk result (IsMade (IsTransformed (λ a. a.0.now) (ok_calls F.FnMut) W.eq T.low
             T.high f self.now.entries)) }
     {
-        let alloc = self.allocator();
-        let stream = transformed::<T, V, W, F, Fallible<Whole>>(alloc, &self.table, f)?;
-        map_of(alloc, stream)
+        transformed::<T, V, W, F, Fallible<Whole>>(self.allocator(), &self.table, f)
     }
 
     /// Returns what `f` returns where both maps have a value. `f` may fail to allocate. It is called once for each of the
@@ -47,15 +45,13 @@ impl<T: Integer, V: Eq + Clone> RangeMapBlaze<T, V> {
         ensures { IfOk result (IsMade (IsJoined (both (λ v. v.now) (λ v. v.now)) (ok_calls F.FnMut)
             V.eq V2.eq T.low T.high Inner W.eq f self.now.entries other.now.entries)) }
     {
-        let alloc = self.allocator();
-        let stream = joined::<T, V, V2, W, F, Fallible<Both>>(
-            alloc,
+        joined::<T, V, V2, W, F, Fallible<Both>>(
+            self.allocator(),
             &self.table,
             &other.table,
             JoinKind::Inner,
             f,
-        )?;
-        map_of(alloc, stream)
+        )
     }
 
     /// Returns what `f` returns where this map has a value, with the other map's value where it has one. `f` may fail to
@@ -74,15 +70,13 @@ impl<T: Integer, V: Eq + Clone> RangeMapBlaze<T, V> {
             (ok_calls F.FnMut) V.eq V2.eq T.low T.high Left W.eq f self.now.entries
             other.now.entries)) }
     {
-        let alloc = self.allocator();
-        let stream = joined::<T, V, V2, W, F, Fallible<WithLeft>>(
-            alloc,
+        joined::<T, V, V2, W, F, Fallible<WithLeft>>(
+            self.allocator(),
             &self.table,
             &other.table,
             JoinKind::Left,
             f,
-        )?;
-        map_of(alloc, stream)
+        )
     }
 
     /// Returns what `f` returns where at least one map has a value. `f` may fail to allocate. It is called once for each of the
@@ -99,14 +93,12 @@ impl<T: Integer, V: Eq + Clone> RangeMapBlaze<T, V> {
         ensures { IfOk result (IsMade (IsJoined (either (λ v. v.now) (λ v. v.now)) (ok_calls F.FnMut)
             V.eq V2.eq T.low T.high Full W.eq f self.now.entries other.now.entries)) }
     {
-        let alloc = self.allocator();
-        let stream = joined::<T, V, V2, W, F, Fallible<Either>>(
-            alloc,
+        joined::<T, V, V2, W, F, Fallible<Either>>(
+            self.allocator(),
             &self.table,
             &other.table,
             JoinKind::Full,
             f,
-        )?;
-        map_of(alloc, stream)
+        )
     }
 }
