@@ -15,7 +15,7 @@ use crate::changes::{
 use crate::makes::{make, paint_one_by_one};
 use crate::many::union_of_many;
 use crate::prepared::Work;
-use crate::walks::{Walk, walk, walk_by, walk_by_value};
+use crate::walks::{Way, walk, walk_by, walk_by_value};
 use crate::whole::{
     Combination, append, combine, combine_by_value, combine_wide, combine_wide_by_value, combined,
     split_off, within,
@@ -66,12 +66,12 @@ fn on_all_keys(work: Work, number: u32) -> Option<Result<u64, AllocError>> {
     match number {
         15 => Some(walk(work, 100)),
         16 => Some(walk(work, 1)),
-        42 => Some(walk_by(work, Walk::Pairs)),
-        43 => Some(walk_by(work, Walk::Keys)),
-        44 => Some(walk_by(work, Walk::Values)),
-        45 => Some(walk_by(work, Walk::PairsFromBehind)),
-        46 => Some(walk_by(work, Walk::KeysFromBehind)),
-        47 => Some(walk_by(work, Walk::ValuesFromBehind)),
+        42 => Some(walk_by(work, Way::Pairs)),
+        43 => Some(walk_by(work, Way::Keys)),
+        44 => Some(walk_by(work, Way::Values)),
+        45 => Some(walk_by(work, Way::PairsFromBehind)),
+        46 => Some(walk_by(work, Way::KeysFromBehind)),
+        47 => Some(walk_by(work, Way::ValuesFromBehind)),
         48 => Some(walk_by_value(work)),
         _ => on_maps(work, number),
     }

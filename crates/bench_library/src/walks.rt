@@ -4,7 +4,7 @@ use std::alloc::AllocError;
 
 /// What is gone over.
 #[derive(Clone, Copy)]
-pub enum Walk {
+pub enum Way {
     Pairs,
     Keys,
     Values,
@@ -30,38 +30,38 @@ fn both(sum: u64, key: i64, value: u64) -> u64 {
 }
 
 /// All keys of a map, again and again.
-pub fn walk_by(work: Work, walk: Walk) -> Result<u64, AllocError> {
+pub fn walk_by(work: Work, way: Way) -> Result<u64, AllocError> {
     let map = even(work, 1)?;
     let mut sum = 0;
     for _ in 0..work.count {
         let mut part = 0u64;
-        match walk {
-            Walk::Pairs => {
+        match way {
+            Way::Pairs => {
                 for (key, value) in map.iter() {
                     part = both(part, key, *value);
                 }
             }
-            Walk::Keys => {
+            Way::Keys => {
                 for key in map.keys() {
                     part = part.wrapping_add(key.cast_unsigned());
                 }
             }
-            Walk::Values => {
+            Way::Values => {
                 for value in map.values() {
                     part = part.wrapping_add(*value);
                 }
             }
-            Walk::PairsFromBehind => {
+            Way::PairsFromBehind => {
                 for (key, value) in map.iter().rev() {
                     part = both(part, key, *value);
                 }
             }
-            Walk::KeysFromBehind => {
+            Way::KeysFromBehind => {
                 for key in map.keys().rev() {
                     part = part.wrapping_add(key.cast_unsigned());
                 }
             }
-            Walk::ValuesFromBehind => {
+            Way::ValuesFromBehind => {
                 for value in map.values().rev() {
                     part = part.wrapping_add(*value);
                 }
