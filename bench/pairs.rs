@@ -1,5 +1,5 @@
 //! The keys of a map with their values, the Rust crate's way: what is left of an opened entry is taken out, and what is left behind
-//! it is put back. Written anew after its published source. `next` is a call, as it is in a program with several loops.
+//! it is put back. Written anew after its published source. Whether `next` is inlined is left to the compiler, as on the library's side.
 use super::{Held, RangeMap, give, held};
 use std::collections::btree_map::{IntoIter, Iter};
 
@@ -24,7 +24,6 @@ impl<V: Clone, I: Entries<V>> Pairs<V, I> {
 impl<V: Clone, I: Entries<V>> Iterator for Pairs<V, I> {
     type Item = (i64, V);
 
-    #[inline(never)]
     fn next(&mut self) -> Option<(i64, V)> {
         let first = self.front.take().or_else(|| self.inner.next()).or_else(|| self.back.take());
         let (start, end, value) = first?;
@@ -36,7 +35,6 @@ impl<V: Clone, I: Entries<V>> Iterator for Pairs<V, I> {
 }
 
 impl<V: Clone, I: Entries<V>> DoubleEndedIterator for Pairs<V, I> {
-    #[inline(never)]
     fn next_back(&mut self) -> Option<(i64, V)> {
         let last = self.back.take().or_else(|| self.inner.next_back()).or_else(|| self.front.take());
         let (start, end, value) = last?;
