@@ -1,7 +1,6 @@
 #!/usr/bin/env bash
 # The programs over tables that people know. What `rt ci` compares with their excerpts is compared with what tests/tables/NAME.py
-# prints of these: it goes key by key, without ranges. So is what `check_tasks` is to print, in which each line of code of docs/TASKS.md
-# stands. So are the programs with whole tables, where these are there: Scripts.txt of Debian's package unicode-data,
+# prints of these: it goes key by key, without ranges. So are the programs with whole tables, where these are there: Scripts.txt of Debian's package unicode-data,
 # /etc/services, the memory of a process, and lists that are made here. The key type of docs/KEYS.md is that of `demo_keys`. Then
 # faulty lines, a folder as input, an output that is full, and each request for memory refused in turn. Programs that are not built
 # are left out, and named. The last line is 'N passed, M failed'.
@@ -16,14 +15,6 @@ from() { echo "crates/demo_$1/stdin"; }
 
 # ---- Excerpts
 for name in "${names[@]}"; do judge "$(cat "crates/demo_$name/stdout")" "$(expected "$name" <"$(from "$name")")" "the excerpt of $name"; done
-judge "$(cat crates/check_tasks/stdout)" "$(expected tasks </dev/null)" "the answers of docs/TASKS.md"
-
-# ---- Lines of docs/TASKS.md, which `rt fmt` may have broken
-unbroken() { tr -d ' \n' | sed 's/,)/)/g'; }
-tasks="$(cat crates/check_tasks/src/*.rt | unbroken)"
-while IFS= read -r line; do
-    judge yes "$(grep -q -F -- "$(unbroken <<<"$line")" <<<"$tasks" && echo yes || echo no)" "'$line' of docs/TASKS.md"
-done < <(sed -n '/^| [^|]/{s/\\|/\x01/g; s/^|[^|]*|[^|]*|//p}' docs/TASKS.md | grep -o '`[^`]*`' | tr -d '`' | tr '\001' '|' | sed 's| // .*||')
 
 # ---- The key type that docs/KEYS.md shows whole
 judge "$(cat crates/demo_keys/src/ipv4.rt)" "$(awk '/^```/ { if (inside++) exit; next } inside' docs/KEYS.md)" "the key type of docs/KEYS.md"

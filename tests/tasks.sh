@@ -1,7 +1,8 @@
 #!/usr/bin/env bash
 # Each line of code of docs/TASKS.md compiles alone, with what the page says is in scope, and gives what its comment says: a program
 # with a function for each line is made in a copy of the sources, and `rt try` builds and runs it without a proof. Of a line that
-# changes a map the comment has the map afterwards, of a loop what it goes through. The last line is 'N passed, M failed'.
+# changes a map the comment has the map afterwards, of a loop what it goes through. The comments are what tests/tasks.py gets key by
+# key from dictionaries. The last line is 'N passed, M failed'.
 set -euo pipefail
 cd "$(dirname "${BASH_SOURCE[0]}")/.."
 source tests/judge.sh
@@ -79,6 +80,13 @@ wanted=()
     echo '}'
     echo 'fn main(rt: HostRuntime) -> ExitCode { if all(&rt).is_ok() { ExitCode::SUCCESS } else { ExitCode::FAILURE } }'
 } >"$program/src/main.rt"
+
+# ---- The comments are what Python gets from dictionaries
+mapfile -t modelled < <(python3 tests/tasks.py)
+judge "$number" "${#modelled[@]}" "the number of lines of docs/TASKS.md"
+for ((each = 0; each < number; each++)); do
+    judge "${modelled[each]:-}" "${wanted[each]# // }" "the comment of line $((each + 1)) of docs/TASKS.md"
+done
 
 if (cd "$program" && rt try) </dev/null >"$work/got" 2>"$work/said"; then
     mapfile -t got <"$work/got"
