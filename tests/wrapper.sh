@@ -139,8 +139,8 @@ tells "nothing proved, at a terminal" "not proved yet" "a file or a pipe" "\`./p
 
 # ---- Tests without a proof: each part passes, and one whose program answers otherwise fails.
 if [ "$with_proof" ]; then
-    # (the lines of docs/TASKS.md and docs/ERRORS.md are compared with what a program prints, and the stand-in runs none)
-    printf 'echo "1 passed, 0 failed"\n' | tee "$work/tree/tests/wrapper.sh" "$work/tree/tests/errors.sh" >"$work/tree/tests/tasks.sh"
+    # (the stand-in runs no program, so the tests of docs/TASKS.md and docs/ERRORS.md can't pass; the copy has not all pages)
+    printf 'echo "1 passed, 0 failed"\n' | tee "$work/tree/tests/"{wrapper,errors,style}.sh >"$work/tree/tests/tasks.sh"
     echo 0 >"$work/status"
     echo expected >"$work/output"
     status=0
