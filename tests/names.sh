@@ -73,7 +73,7 @@ calls_in() { # the file
 }
 
 # ---- The calls of the library
-map_headings=(Make 'Look up' Change Combine 'Answers and gaps' Iterate 'Take apart' 'Compare and print')
+map_headings=(Make 'Look up' Change Combine 'Join and transform' Iterate 'Take apart' 'Compare and print')
 map="$(calls_of RangeMapBlaze all range_map_blaze && calls_of IntoRangeMapBlaze all range_map_blaze)"
 libraries=(blaze_{int,entries,table,streams,iters} range_map_{blaze,multi,cli})
 functions="$(find "${libraries[@]/#/crates/}" -path '*/src/*.rt' -exec grep -hoE '\bfn [a-z_0-9]+' {} + | sed 's/^fn //' | sort -u)"
@@ -121,6 +121,9 @@ on_c_page="$(on_page '###' 'Make and free' Change 'Look up' Walk 'Gaps and count
     on_page '###' 'Tables, to save and load' | sed 's/^/range_table_/; s/^range_table_range_/range_/')"
 has_each "docs/CALLS.md, of C," "$for_users" "$on_c_page"
 has_no_other "docs/CALLS.md, of C," "$on_c_page" "$for_users"
+in_each_language="$(on_page '###' 'In each language' | sed 's/^/range_map_/; s/^range_map_range_table_/range_table_/')"
+has_each "docs/CALLS.md, in each language," "$for_users" "$in_each_language"
+has_no_other "docs/CALLS.md, in each language," "$in_each_language" "$for_users"
 are_in "$for_users" "$(grep -hoE 'range_(map|table)_[a-z_]+\(' tests/*.c | tr -d '(')" "no test in C calls NAME"
 
 # ---- What the tables for C name in other languages, except what these have themselves
@@ -132,6 +135,7 @@ in_column() { # the language
         inside && column && cells[2] ~ /`/ { print cells[column] }' docs/CALLS.md |
         grep -o '`[^`]*`' | sed -E 's/`([^`(]*).*/\1/' | grep -xE '[a-z_]+' | grep -vxE 'map|collect|is|len|reversed'
 }
+has_no_other "docs/CALLS.md, of Rattle," "$(in_column Rattle)" "$map"$'\n'union
 has_each bindings/range_map.hpp "$(in_column C++)" "$(grep -oE '\b[a-z_]+\(' bindings/range_map.hpp | tr -d '(')"
 has_each tests/bindings.cpp "$(in_column C++)" "$(grep -oE '[a-z_]+\(' tests/bindings.cpp | tr -d '(')"
 has_each bindings/rust/src "$(in_column Rust)" "$(grep -rhoE '\bfn [a-z_]+' bindings/rust/src | sed 's/fn //')"

@@ -118,7 +118,7 @@ def sentences(paragraph: Lines) -> Iterator[Lines]:
     words: Lines = []
     for word in re.finditer(r"\S+", text):
         words.append((paragraph[bisect_right(starts, word.start()) - 1][0], word[0]))
-        if re.search(r"[.!?][\"')*]*$", word[0]) and not re.match(r"\s*[a-z]", text[word.end() :]):
+        if re.search(r"[.!?][\"')*]*$", word[0]) and not re.match(r"\s*[a-z][a-z]", text[word.end() :]):
             yield words
             words = []
     yield words
