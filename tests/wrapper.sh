@@ -37,7 +37,7 @@ run "help" 0 "$(cat "$top/tools/rangemap.help")" "$top/rangemap" --help
 judge '' "$told" "help: standard error"
 while IFS= read -r line; do
     judge yes "$(grep -q -F "    $line  " "$top/tools/rangemap.help" && echo yes || echo no)" "'$line' in the help"
-done < <(sed -n '/^| line | prints |$/,/^$/{s/^| `\([^`]*\)` .*/\1/p; s/^| \(an empty line\) .*/\1/p}' "$top/README.md")
+done < <(sed -n '/^| line | prints |$/,/^$/{s/^| `\([^`]*\)` .*/\1/p; s/^| \(an empty line\) .*/\1/p}' "$top/docs/SCRIPT.md")
 for program in rangemap script prove test; do
     run "$program with a wrong argument" 2 '' "$top/$program" lines
     tells "$program with a wrong argument" "'lines' is not understood" "usage: ./$program"
