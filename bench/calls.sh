@@ -1,6 +1,6 @@
 #!/usr/bin/env bash
 # Prints the instructions of calls of the library for C, counted by callgrind: the program bench/calls.c with 1,000 calls, less the same
-# program with the random keys alone. bindings/build.sh comes before.
+# program with the random keys alone. Run bindings/build.sh first.
 set -euo pipefail
 cd "$(dirname "${BASH_SOURCE[0]}")"
 out="${RANGE_MAP_OUT:-../bindings/out}"

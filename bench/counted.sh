@@ -1,5 +1,5 @@
-# Counts the instructions of works by callgrind. bench/growth.sh and bench/instructions.sh read this file, each in the folder that it
-# stands in, after they have said in a function `works` which works there are, each by `work NAME ..`. Their words pick some of these.
+# Counts the instructions of works by callgrind. bench/growth.sh and bench/instructions.sh read this file, from the folder bench. Before
+# that, their function `works` names the works, each by `work NAME ..`. The words of the command line select some of these.
 # `out/count SIDE WORK SIZE COUNT` is what callgrind runs: a WORK by the number that driver.cpp and `library_run` give it, COUNT times on
 # maps of SIZE entries.
 words=("$@")

@@ -1,13 +1,13 @@
 #!/usr/bin/env bash
 # How the instructions of a call grow with the map: on maps of n, 4n and 16n entries, n = 1,000, of the library, of plain Rust and
-# of plain Rust the Rust crate's way, as a table in Markdown. They are counted by callgrind, with the work done and not done; the
-# difference, for one call, is what is printed. They do not change with what else the machine does.
+# of plain Rust the Rust crate's way, as a table in Markdown. Callgrind counts them with the work done and not done, and the table has the
+# difference for one call. The counts do not depend on what else the machine does.
 #
-#     bench/growth.sh             every work: some minutes, and first the proof of the library, some 20 to 40
-#     bench/growth.sh WORD..      the works whose names have one of the words, as paint, append or `-`
+#     bench/growth.sh             every work: some minutes, and 20 to 40 more for the proof of the library
+#     bench/growth.sh WORD..      the works whose names have one of the words, such as paint, append or `-`
 #
-# It needs `rt`, rustc, g++ and valgrind, and first proves and builds the library where that is not built yet. Status 2: a word fits no
-# row; 70: something that it needs is missing, or a proof failed.
+# It needs `rt`, rustc, g++ and valgrind, and first proves and builds the library if that is not built yet. Exit status: 0 success; 2 a
+# word fits no row; 70 something is missing, or a proof failed.
 set -euo pipefail
 cd "$(dirname "$(readlink -f "${BASH_SOURCE[0]}")")"
 if [ "${1:-}" = --help ]; then

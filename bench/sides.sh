@@ -1,6 +1,6 @@
 # Proves and builds the library, and builds the sides in plain Rust. bench/run.sh, bench/growth.sh and bench/instructions.sh read this
-# file, each in the folder that it stands in. Before it they may name in `needed` what else they need, a command with its Debian package.
-# Standard error says how far it is. Without what is needed it ends with one line and status 70, before any proof.
+# file, from the folder bench. Before that they may list in `needed` what else they need, each a command with its Debian package. Standard
+# error says how far it is. If something is missing, it ends with one line and status 70, before any proof.
 source ../tools/made_of.sh
 
 say() { echo "bench: $1" >&2; }

@@ -29,7 +29,7 @@ prove() { # the crate, the command
     fi
 }
 
-# The crate and what it stands on, each after what it stands on itself.
+# The crate and its dependencies, each after its own dependencies.
 prove_all() {
     local crates at
     mapfile -t crates < <(crates_of "$crate")

@@ -1,10 +1,10 @@
 #!/usr/bin/env bash
-# Runs each line of tests/bad_lines.txt alone after a few good ones. It must be bad: `bad line N` is all that is printed of it,
-# and the status is 2. Then it is run with arguments that are not understood: the usage on standard error, status 2. The last
-# line is 'N passed, M failed'. SCRIPT_PROGRAM names the program; without it `./prove script` builds one where that is needed.
+# Runs each line of tests/bad_lines.txt alone, after a few valid lines. The program must print `bad line N` for it and end with status 2.
+# Then runs the program with wrong arguments: it must print its usage on standard error and end with status 2. The last line is
+# 'N passed, M failed'. SCRIPT_PROGRAM names the program; without it `./prove script` builds one if needed.
 #
-#     tests/bad_lines.sh --cases FOLDER    runs nothing: the first line of each kind (after a comment or a key type) with what is to
-#                                          be printed, as cases for `rt try --cases`, which takes seconds for each
+#     tests/bad_lines.sh --cases FOLDER    runs nothing: writes the first line of each kind (after a comment or a key type), and what it
+#                                          must print, as cases for `rt try --cases`, which takes seconds for each
 set -euo pipefail
 here="$(cd "$(dirname "${BASH_SOURCE[0]}")" && pwd)"
 cases=''
@@ -23,7 +23,7 @@ while IFS= read -r line; do
         'at char') before=("keys char" "a extend_simple U+1..=U+3 x U+7..=U+7 y" "b extend_simple U+2..=U+9 z" "s = set U+1..=U+5") && continue ;;
         'at '*) before=("keys ${line#at }" "a extend_simple 1..=3 x 7..=7 y" "b extend_simple 2..=9 z" "s = set 1..=5") && continue ;;
     esac
-    # (each line but that of the key type is answered)
+    # (each line prints a result, except that of the key type)
     wanted=''
     for _ in "${before[@]:1}"; do wanted+=$'()\n'; done
     wanted+="bad line $((${#before[@]} + 1))"
@@ -37,7 +37,7 @@ while IFS= read -r line; do
         continue
     fi
     wanted+=", status 2"
-    # (from a file: the program reads nothing after a bad line, and a pipe would break)
+    # (from a file: the program reads nothing after an invalid line, and a pipe would break)
     printf '%s\n' "${before[@]}" "$line" "a len" >"$work/script"
     got="$("$program" <"$work/script" && echo ", status 0" || echo ", status $?")"
     if [ "${got//$'\n', status/, status}" = "$wanted" ]; then

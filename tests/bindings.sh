@@ -1,13 +1,14 @@
 #!/usr/bin/env bash
-# What is in bindings/, over the library that bindings/build.sh makes:
-# - the header as C99 and as C++, without a warning, and that it has what the library exports;
-# - each function with each of its allocations failing in turn (tests/bindings.c), random calls against a model (tests/random_calls.c),
-#   both under valgrind too, or under sanitizers where there is no valgrind; four threads (tests/threads.c), under helgrind and DRD too;
-# - the C++ header (tests/bindings.cpp), the package (tests/package.sh), and what build.sh refuses;
+# Tests bindings/, over the library that bindings/build.sh makes:
+# - the header as C99 and as C++, without a warning, and that it declares what the library exports;
+# - each function with each of its allocations failing in turn (tests/bindings.c), and random calls against a model
+#   (tests/random_calls.c), both under valgrind too, or under sanitizers if there is no valgrind;
+# - four threads (tests/threads.c), under helgrind and DRD too;
+# - the C++ header (tests/bindings.cpp), the package (tests/package.sh), and the errors of build.sh;
 # - the Python module (tests/bindings.py) and the Rust crate, with the examples of their docs;
 # - the example in each language, on random tables, against bindings/examples/expected.py (tests/examples.py);
 # - the program of README.md.
-# What needs a tool that is not here is left out, and named. The last line is 'N passed, M failed'.
+# A test whose tool is missing is left out, and named. The last line is 'N passed, M failed'.
 #
 # RANGE_MAP_OUT names a folder with librange_map.a, librange_map.so.0 and PROOF to test; without it bindings/build.sh makes them.
 set -euo pipefail

@@ -1,7 +1,7 @@
 #!/usr/bin/env bash
 # Prints the Python that builds and tests the module in bindings/python: $PYTHON if it is set, else the first of /usr/bin/python3 and
-# python3 that has setuptools and its own Python.h. Cython may belong to another Python: it is run as a program. Where something is not
-# here, the output says what, and the status is 1.
+# python3 that has setuptools and its own Python.h. Cython may belong to another Python: it is run as a program. If something is missing,
+# the output names it, and the status is 1.
 set -euo pipefail
 if ! command -v cython3 >/dev/null && ! command -v cython >/dev/null; then
     echo "there is no Cython here"

@@ -1,7 +1,7 @@
 #!/usr/bin/env bash
-# The mistakes of docs/ERRORS.md: each gives the message that the page says, and what stands behind it compiles and runs. One program
-# has all mistakes, a function for each; `rt try` refuses it and prints all messages. A second one has what compiles. The last line is
-# 'N passed, M failed'.
+# Tests the mistakes of docs/ERRORS.md: each gives the message on the page, and the code below the message compiles and runs. One program
+# has all mistakes, a function for each; `rt try` rejects it and prints all messages. A second program has all the code that compiles. The
+# last line is 'N passed, M failed'.
 set -euo pipefail
 cd "$(dirname "${BASH_SOURCE[0]}")/.."
 source tests/judge.sh

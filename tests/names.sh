@@ -1,12 +1,13 @@
 #!/usr/bin/env bash
-# Each public call is named wherever calls are named, and no other is. The code says which there are:
-# - those of the map, of sets, of tables and of many maps, and the functions that `range_map_blaze` and `range_map_cli` export:
+# Each public call is named wherever calls are named, and no other is. The code says which calls there are:
+# - the calls of the map, of sets, of tables and of many maps, and the functions that `range_map_blaze` and `range_map_cli` export:
 #   docs/CALLS.md has them; a program of the gate calls each of the map; tests/refusals.txt or tests/refused_calls.txt has each that may
 #   fail to allocate;
 # - the words of the lines of crates/script: its stdin, tests/bad_lines.txt, tests/refusals.txt and docs/SCRIPT.md have them;
-# - the functions of bindings/range_map.h: crates/range_map_c and bindings/rust have what the library exports, docs/CALLS.md and the tests
-#   in C the functions for users;
-# - what those tables of docs/CALLS.md name in C++, Rust and Python: the binding of the language has it, and a test of the binding.
+# - the functions of bindings/range_map.h: crates/range_map_c and bindings/rust have those that the library exports, docs/CALLS.md and the
+#   tests in C those for users;
+# - the names in Rattle, C++, Rust and Python in the last table of docs/CALLS.md: the map or the binding of the language has them, and a
+#   test of the binding.
 # Nothing is built. The last line is 'N passed, M failed'.
 set -euo pipefail
 export LC_ALL=C

@@ -1,6 +1,6 @@
 #!/usr/bin/env bash
-# bindings/Makefile: installs the library and removes it, makes the archive, and builds programs with the unpacked archive by cc, by
-# pkg-config and by CMake, without the toolchain. RANGE_MAP_OUT names the folder of the built library, bindings/out without it. The
+# Tests bindings/Makefile: installs the library and removes it, packs the archive, and builds programs with the unpacked archive by cc, by
+# pkg-config and by CMake, without the toolchain. RANGE_MAP_OUT names the folder of the built library; without it this is bindings/out. The
 # last line is 'N passed, M failed'.
 set -euo pipefail
 source "$(dirname "$(readlink -f "${BASH_SOURCE[0]}")")/judge.sh"

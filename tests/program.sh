@@ -1,8 +1,8 @@
 #!/usr/bin/env bash
-# Runs the program on texts, and compares what it prints and its exit status: after each line, a bad line, no text, an input that
-# can't be read, an output that can't be written, and each request for memory refused in turn. A refused request leaves the output
-# of some first lines and then `out of memory`, or is one that the program does without; there is one of those at most. The last
-# line is 'N passed, M failed'. RANGEMAP_PROGRAM names the program; without it `./prove rangemap` builds one where that is needed.
+# Runs the program on texts, and compares its output and exit status: for an invalid line after each count of lines, no text, an input that
+# can't be read, an output that can't be written, and each allocation failing in turn. If an allocation fails, the output is that of some
+# first lines, and then `out of memory`. The program may do without one of its allocations. The last line is 'N passed, M failed'.
+# RANGEMAP_PROGRAM names the program; without it `./prove rangemap` builds one if needed.
 set -euo pipefail
 here="$(cd "$(dirname "${BASH_SOURCE[0]}")" && pwd)"
 source "$here/judge.sh"
@@ -11,7 +11,7 @@ program="${RANGEMAP_PROGRAM:-$here/../crates/rangemap/out/rangemap}"
 
 make_refuse
 
-# What the program prints of a file, and its status. (A command's output loses its last LFs, so the status stands behind it.)
+# What the program prints of a file, and its status. (A command's output loses its last LFs, so the status comes last.)
 run() { # a file
     local status=0
     "$program" <"$1" 2>/dev/null || status=$?
@@ -47,7 +47,7 @@ status=0
 "$program" <"$text" >/dev/full || status=$?
 judge 1 "$status" 'an output that is full'
 
-# ---- Refused memory
+# ---- Failed allocations
 requests="$(REFUSE_ALL=1 REFUSE_TELL=1 LD_PRELOAD="$work/refuse.so" "$program" <"$text" 2>&1 >"$work/out" | sed -n 's/^requests=//p')"
 judge "$all" "$(cat "$work/out"; echo 'status 0')" 'none refused'
 spared=0 refusals=0

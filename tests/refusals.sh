@@ -1,20 +1,23 @@
 #!/usr/bin/env bash
-# Each request for memory of each call in tests/refusals.txt refused in turn, and at last none. A refused call must leave the
-# maps and sets as they were, but for what it was given by value, which is gone; a call that paints or fills pairs may leave a
-# first part of them painted or filled; a change of a range by a closure may leave a first part of its pieces changed; a list of steps leaves what the steps before the refused one left; an iterator by value
-# must end. Without a refusal the call must succeed. A call that is to take memory must make a request that it can't do without,
-# one that is to take none must make none.
+# Makes each allocation of each call in tests/refusals.txt fail in turn, and at last none. If none fails, the call must succeed. If one
+# fails, the maps and sets must be unchanged, with these exceptions:
+# - owned operands are empty;
+# - a call that paints or fills pairs may have done a first part of them;
+# - a change of a range by a closure may have changed a first part of its pieces;
+# - a list of steps keeps what the steps before the failed one did;
+# - an owned iterator must end.
 #
-# A call that collects pairs, to build a tree in one go or a list, may do without one of its requests: std's `collect` and
-# `extend` ask for the room that the iterator's hint names, and where that is refused for the room of one item. The answer and
-# the state are then those of the call without a refusal. The last line is 'N passed, M failed'.
+# A call that must allocate must make a request that it can't do without. A call that must not allocate must make none. A call that collects
+# pairs, to build a tree or a list, may do without one of its requests: std's `collect` and `extend` ask for the room that the iterator's
+# hint names, and if that fails, for the room of one item. The result and the state are then those of a call without a failure. The last
+# line is 'N passed, M failed'.
 #
 # Calls that no line of a script makes are in tests/refused_calls.txt.
 #
 #     tests/refusals.sh          all cases
-#     tests/refusals.sh WORD     those whose call has the word
+#     tests/refusals.sh WORD     the cases whose call has the word
 #
-# SCRIPT_PROGRAM names a program to sweep; without it `./prove script` builds one where that is needed.
+# SCRIPT_PROGRAM names the program; without it `./prove script` builds one if needed.
 set -euo pipefail
 here="$(cd "$(dirname "${BASH_SOURCE[0]}")" && pwd)"
 source "$here/judge.sh"
@@ -41,8 +44,8 @@ run() { # the arguments of the program, '--', lines
     if ((${#got[@]} > printed + 1)); then answer="${got[-printed - 2]}"; fi
 }
 
-# The lines that stand for a refused call: what it was given by value is gone, and of its pairs, or of those of the other map, the
-# first so many are painted, or put on keys without a value.
+# The lines that have the effect of a failed call: its owned operands are empty, and the first so many of its pairs, or of those of the
+# other map, are painted, or filled in.
 first_pairs() { # how many
     local words count="$1" place
     read -ra words <<<"$call"
@@ -65,7 +68,7 @@ pair_count() {
     pairs=$(((${#words[@]} - 2) / 2))
 }
 
-# The answers of an iterator of which an item was refused: those before it, and none after it.
+# The results of an iterator of which an item fails to allocate: those before it, and none after it.
 refused_items() { # the answer without a refusal
     local items place later rest first='' letters="${call##* }"
     mapfile -t items <<<"${1//; /$'\n'}"
@@ -119,7 +122,7 @@ sweep() {
         none) judge 0 "$requests" "$what: requests" ;;
     esac
     refused=(refused)
-    # (a list of one step tells that it was the first that was refused)
+    # (a list of one step says that its first step failed)
     if [[ "$call" = "a run "* ]]; then refused+=("refused at 0"); fi
     kept=()
     case "$takes" in
@@ -249,7 +252,7 @@ while IFS= read -r line; do
     esac
 done < <(cat "$here/refusals.txt" && echo)
 
-# Each request for memory of a script without a call, which reading it makes: where it is refused, the status is 3.
+# Each allocation of a script without a call, which reading makes: if it fails, the status is 3.
 if [ -z "$only" ]; then
     printf 'keys u8\n' >"$work/script"
     requests="$(REFUSE_ALL=1 REFUSE_TELL=1 LD_PRELOAD="$work/refuse.so" "$program" <"$work/script" 2>&1 | sed -n 's/^requests=//p')"

@@ -1,11 +1,12 @@
 #!/usr/bin/env bash
-# Each request for memory of each call of the program `check_refused_calls` refused in turn, and at last none. The program makes calls
-# that no line of a script makes, each between lines `begin` and `end` of its standard error, and prints for each a line: what it
-# answered, and what it left. Without a refusal these are the lines of its `stdout`. Where a request is refused, the line of the
-# call that made it is to be that of tests/refused_calls.txt, and all others stay. The file has as many lines as there are calls,
-# in their order; '-' is a call that is to make no request. '? ' stands before a call that builds a tree in one go, which may do
-# without one of its requests: std's `collect` asks for the room that the iterator's hint names, and where that is refused for
-# the room of one item. The last line is 'N passed, M failed'.
+# Makes each allocation of each call of the program `check_refused_calls` fail in turn, and at last none. The program makes calls that no
+# line of a script makes, each between lines `begin` and `end` on its standard error. It prints a line for each: its result and what it
+# left. If no allocation fails, these are the lines of its `stdout`. If one fails, the line of its call must be that of
+# tests/refused_calls.txt, and all other lines must stay.
+#
+# That file has a line for each call, in their order. '-' is a call that must make no request. '? ' begins the line of a call that builds a
+# tree in one go, which may do without one of its requests: std's `collect` asks for the room that the iterator's hint names, and if that
+# fails, for the room of one item. The last line is 'N passed, M failed'.
 #
 # REFUSED_CALLS_PROGRAM names the program; without it the one that the gate built is taken.
 set -euo pipefail
@@ -17,8 +18,8 @@ make_refuse
 mapfile -t made <"$here/../crates/check_refused_calls/stdout"
 mapfile -t kept <"$here/refused_calls.txt"
 
-# Runs the program with one request refused, 0 for none: `got` is what it prints and its status, `told` what the preloaded code
-# says: how many requests there were, and in which call one was refused.
+# Runs the program with the failure of one request, 0 for none: `got` is its output and its status, `told` what the preloaded code
+# says: how many requests there were, and in which call one failed.
 run() {
     local status=0
     REFUSE_NTH=$1 REFUSE_TELL=1 LD_PRELOAD="$work/refuse.so" "$program" >"$work/got" 2>"$work/told" || status=$?
@@ -28,7 +29,7 @@ run() {
     call="$(sed -n 's/^refused in call //p' "$work/told")"
 }
 
-# Each line of a run, beside the line that is wanted there.
+# Compares each line of a run with the expected line.
 judge_lines() { # what was run
     local place
     judge "${#wanted[@]} lines" "${#got[@]} lines" "$1"

@@ -1,9 +1,10 @@
 #!/usr/bin/env bash
-# The programs over tables that people know. What `rt ci` compares with their excerpts is compared with what tests/tables/NAME.py
-# prints of these: it goes key by key, without ranges. So are the programs with whole tables, where these are there: Scripts.txt of Debian's package unicode-data,
-# /etc/services, the memory of a process, and lists that are made here. The key type of docs/KEYS.md is that of `demo_keys`. Then
-# faulty lines, a folder as input, an output that is full, and each request for memory refused in turn. Programs that are not built
-# are left out, and named. The last line is 'N passed, M failed'.
+# Tests the programs over tables that people know. Their outputs for the excerpts that `rt ci` runs are compared with
+# those of tests/tables/NAME.py, which goes key by key, without ranges. So are the outputs for whole tables, if these exist:
+# Scripts.txt of Debian's package unicode-data, /etc/services, the memory of a process, and tables that are made here. The key type
+# of docs/KEYS.md must be in `demo_keys`. Then come faulty lines, a folder as input, an
+# output that is full, and each allocation failing in turn. Programs that are not built are left out, and named. The last line is
+# 'N passed, M failed'.
 set -euo pipefail
 cd "$(dirname "${BASH_SOURCE[0]}")/.."
 source tests/judge.sh

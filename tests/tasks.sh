@@ -1,8 +1,8 @@
 #!/usr/bin/env bash
-# Each line of code of docs/TASKS.md compiles alone, with what the page says is in scope, and gives what its comment says: a program
-# with a function for each line is made in a copy of the sources, and `rt try` builds and runs it without a proof. Of a line that
-# changes a map the comment has the map afterwards, of a loop what it goes through. The comments are what tests/tasks.py gets key by
-# key from dictionaries. The last line is 'N passed, M failed'.
+# Each line of code of docs/TASKS.md compiles alone, with what the page says is in scope, and has the result that its comment says. A
+# program with a function for each line is made in a copy of the sources, and `rt try` builds and runs it without a proof. If a line changes
+# a map, its comment has the map afterwards; if it begins a loop, its comment has the items of the loop. Each comment
+# must be what tests/tasks.py gets key by key from dictionaries. The last line is 'N passed, M failed'.
 set -euo pipefail
 cd "$(dirname "${BASH_SOURCE[0]}")/.."
 source tests/judge.sh

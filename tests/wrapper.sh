@@ -1,7 +1,7 @@
 #!/usr/bin/env bash
-# ./rangemap, ./script, ./prove and ./test: help, wrong arguments, answers, bad lines with their text, and what is done without a
-# proof, in a copy of the sources with nothing proved, by `rt try` and by a stand-in for `rt` that answers as each case wants. Both
-# programs are to be proved before; where ./rangemap is not, it is proved first. The last line is 'N passed, M failed'.
+# Tests ./rangemap, ./script, ./prove and ./test: help, wrong arguments, answers, and invalid lines with their text. What they do without a
+# proof is tested in a copy of the sources with nothing proved, by `rt try` and by a stand-in for `rt` whose answers each case sets. Both
+# programs must be proved before; if ./rangemap is not, it is proved first. The last line is 'N passed, M failed'.
 #
 #     tests/wrapper.sh --without-proof    leaves out the answers of the proved program, and ./test, of which it is a part
 set -euo pipefail
@@ -93,7 +93,7 @@ printf '#!/bin/sh\nexec cat\n' >"$work/program"
 chmod +x "$work/bin/rt" "$work/program"
 stand_in() { env STAND_IN="$work" PATH="$work/bin:$PATH" "$@"; }
 
-# What `rt try` answers: its status, its last line, and what the wrapper is to end with and print.
+# The answer of `rt try`: its status, its last line, and the status and output that the wrapper must have then.
 tried() { # what it is called here, these four
     echo "$2" >"$work/status"
     printf 'error line 2\n' >"$work/answers"
@@ -157,7 +157,7 @@ if [ "$with_proof" ]; then
     tells "tests without a proof that fail" "rangemap: 0 passed, 1 failed" "demo_ports: 0 passed, 2 failed"
 fi
 
-# ---- A proof by the stand-in: each crate after those that it stands on, and the program fits until a source file changes.
+# ---- A proof by the stand-in: each crate after those that it depends on, and the program fits until a source file changes.
 run "a proof" 0 '' stand_in "$work/tree/prove" rangemap
 judge "blaze_int blaze_entries blaze_table blaze_streams blaze_iters range_map_blaze range_map_cli" "$(paste -sd ' ' "$work/proved")" "the crates that are proved"
 rm "$work/proved"

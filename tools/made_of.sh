@@ -1,8 +1,8 @@
 # What the programs and the library for C are made of. tools/run, tools/prove, tools/noted, tools/vendor, bindings/build.sh and bench/ read
 # this file.
 #
-# Beside a proved program, crates/CRATE/out/CRATE, the file made_of keeps what it was made of: the toolchain, the crates with what
-# they stand on, and the sum of each source file. The program fits as long as that is what stands there.
+# The file crates/CRATE/out/made_of says what the proved program crates/CRATE/out/CRATE was made of: the toolchain, the crates with their
+# dependencies, and the sum of each source file. The program fits as long as these are the same.
 root="$(cd "$(dirname "${BASH_SOURCE[0]}")/.." && pwd)"
 programs=(rangemap script scripts regions ports calendar routes picture)
 # The crate of a program: the names of those over tables begin with demo_.
@@ -24,7 +24,7 @@ while IFS= read -r line; do
     stands_on[$crate]="${line#*:}"
 done <"$root/crates.txt"
 
-# The crates of some programs, each after all that it stands on. A library of the toolchain has no line in crates.txt.
+# The crates of some programs, each after its dependencies. A library of the toolchain has no line in crates.txt.
 crates_of() {
     local -A placed=()
     local crate
@@ -38,7 +38,7 @@ place() {
     echo "$1"
 }
 
-# What a program would be made of now. Without a toolchain the one that was noted is taken.
+# What a program would be made of now. Without a toolchain, the noted one is taken.
 made_of() (
     mapfile -t crates < <(crates_of "$(crate_of "$1")")
     if command -v rt >/dev/null; then rt version </dev/null; else head -n 1 "$(note_of "$1")" 2>/dev/null || echo "no toolchain"; fi
@@ -48,7 +48,7 @@ made_of() (
         LC_ALL=C sort -z | xargs -0 sha256sum
 )
 
-# Whether a program is there, proved, and fits.
+# Whether a program exists, is proved, and fits.
 is_proved() {
     [ -x "$(program_of "$1")" ] && [ -f "$(note_of "$1")" ] && [ "$(made_of "$1")" = "$(cat "$(note_of "$1")")" ]
 }
