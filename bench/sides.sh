@@ -28,7 +28,7 @@ for at in "${!crates[@]}"; do
     : >"$log"
     if ! (cd "$root/crates/$crate" && rt lib </dev/null 2>&1) | watch "$crate"; then
         grep -v ': proved$' "$log" >&2 || true
-        say "$crate was not proved: what \`rt lib\` said in crates/$crate stands above"
+        say "$crate was not proved: what \`rt lib\` said in crates/$crate is above"
         exit 70
     fi
 done

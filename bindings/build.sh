@@ -33,7 +33,7 @@ prove() { # the crate, the command
 prove_all() {
     local crates at
     mapfile -t crates < <(crates_of "$crate")
-    say "proving $crate and what it stands on: from nothing, $takes"
+    say "proving $crate and its dependencies: from nothing, $takes"
     for at in "${!crates[@]}"; do
         say "${crates[at]} ($((at + 1)) of ${#crates[@]})"
         prove "${crates[at]}" rt lib

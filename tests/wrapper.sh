@@ -62,14 +62,14 @@ if [ "$with_proof" ]; then
     judge '' "$told" "an answer: standard error"
     run "an answer to a pipe" 0 "$answers" "$top/rangemap" < <(cat "$work/lines")
     run "a bad line of a file" 2 "$bad_answers" "$top/rangemap" <"$work/bad"
-    judge "rangemap: line 2 is bad: 'get 4 '" "$told" "a bad line of a file: standard error"
+    judge "rangemap: line 2 is invalid: 'get 4 '" "$told" "a bad line of a file: standard error"
     run "a bad line of a pipe" 2 "$bad_answers" "$top/rangemap" < <(cat "$work/bad")
     judge '' "$told" "a bad line of a pipe: standard error"
     {
         read -r _
         run "a bad line of a file's rest" 2 "error line 1" "$top/rangemap"
     } <"$work/bad"
-    judge "rangemap: line 1 is bad: 'get 4 '" "$told" "a bad line of a file's rest: standard error"
+    judge "rangemap: line 1 is invalid: 'get 4 '" "$told" "a bad line of a file's rest: standard error"
 fi
 
 # ---- Nothing proved, and a stand-in for the toolchain
@@ -104,7 +104,7 @@ tried "a try that ends" 0 "run=ended status=0 runners=2 proved=no" 0 "error line
 tells "a try that ends" "not proved yet" "not proved: built without a proof and run with checks" "\`./prove rangemap\`"
 tried "a try without memory" 3 "run=ended status=3 runners=1 proved=no" 3 "error line 2"
 tried "a try with a bad line" 2 "run=ended status=2 runners=2 proved=no" 2 "error line 2"
-tells "a try with a bad line" "line 2 is bad: 'get 4 '"
+tells "a try with a bad line" "line 2 is invalid: 'get 4 '"
 judge "try --seconds 60 --" "$(cat "$work/tried")" "the seconds of a try with a short input"
 for end in "1 none" "2 none" "3 none" "4 fault" "5 differ" "6 no-answer"; do
     tried "a try with status $end" "${end% *}" "run=${end#* } proved=no" 70 ''
@@ -190,6 +190,6 @@ judge '' "$(cd "$work/other" && find . -name out -o -name must-fail)" "what is n
 run "first_map over the copy" 0 "$(cat "$top/crates/first_map/stdout")" env -C "$work/other/crates/first_map" rt try
 run "no such folder" 2 '' "$work/tree/tools/vendor" "$work/nowhere"
 run "an answer without a proof" 2 "$bad_answers" "$work/tree/rangemap" <"$work/bad"
-tells "an answer without a proof" "not proved yet" "line 2 is bad: 'get 4 '" "not proved: built without a proof"
+tells "an answer without a proof" "not proved yet" "line 2 is invalid: 'get 4 '" "not proved: built without a proof"
 
 tell
