@@ -1,4 +1,4 @@
--- Two bounds name no key where the end comes to a lower rank than the start.
+-- Two bounds name no key if the rank of the end is below the rank of the start.
 use Rattle.std.specs.Prelude.{◌≤ℤ◌, ◌<ℤ◌, ℤ}
 use Rattle.std.specs.declared.ops.Bound.{Bound}
 use Rattle.std.specs.declared.ops.Bound.TheVariants.{Included, Excluded, Unbounded}

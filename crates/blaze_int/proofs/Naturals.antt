@@ -13,7 +13,7 @@ pos_injective m n e = cc
 pub next_differs : (n : ℕ) → nat_eq n (n + 1) ≡ false
 next_differs n = grind arith
 
--- by which of two numbers is less
+-- by cases: one number is less than the other, or not
 pub by_less : {P : Type 0} (j n : ℕ) → (j < n → P) → (n ≤ j → P) → P
 by_less j zero below above = above (omega arith)
 by_less zero (suc n) below above = below (omega arith)

@@ -1,8 +1,8 @@
--- What options and results say.
+-- Facts about options and results.
 use Rattle.std.proofs.Common.{◌≡◌, Bool, true, false, Option, Some, None, Result, Ok, Err, refl}
 use Rattle.std.specs.Prelude.{IsSome, is_some, OnErr}
 
--- there is a value, or none, and not both
+-- an option is `Some` or `None`, never both
 pub none_is_not : {X : Type 0} (o : Option X) → o ≡ None → IsSome o → ⊥
 none_is_not None p h = cc
 none_is_not (Some x) p h = cc
@@ -20,7 +20,7 @@ pub is_none : {X : Type 0} (o : Option X) → is_some o ≡ false → o ≡ None
 is_none None n = refl
 is_none (Some x) n = cc
 
--- what is said of a refused answer
+-- a fact that does not depend on the error holds if the result is an error
 pub if_err : {A E P : Type 0} (r : Result A E) → P → OnErr r P
 if_err (Ok x) p = tt
 if_err (Err e) p = p

@@ -1,5 +1,5 @@
--- `char`. The codes from 0xD800 to 0xDFFF, the surrogates, are no `char`, and the ranks close that gap: the rank of a
--- `char` is its code below the gap and its code less 2048 above.
+-- `char`. The codes from 0xD800 to 0xDFFF are surrogates, not `char`s. The ranks close that gap: below it the rank of a
+-- `char` is its code, and above it the rank is its code less 2048.
 use Rattle.std.specs.Prelude.{◌≡◌, ◌↔◌, ◌+◌, ◌-◌, ◌≤◌, ◌==◌, ◌≤ℤ◌, ℕ, ℤ, pos, negsuc, IsTrue, if◌then◌else◌, nat_lt}
 use Rattle.std.specs.Ordering.{nat_cmp}
 use Rattle.std.proofs.Common.{ap, ◌∙◌, arith}
@@ -8,7 +8,7 @@ use Rattle.std.proofs.lemmas.Int.{ints}
 use Rattle.blaze_int.specs.Ranked.{IsRanked}
 use Rattle.blaze_int.specs.Unsigned.{nat_of, nat_cmp-int_cmp}
 
--- how many `char`s have a smaller code; what is no `char` has an index past the last, 1112063
+-- the number of `char`s with a smaller code; a code that is no `char` gets 1112064, past the last index
 abbrev pub char_index : ℕ → ℕ
 char_index c = if nat_lt c 0xD800 then c else (if nat_lt c 0xE000 then 1112064 else c - 2048)
 

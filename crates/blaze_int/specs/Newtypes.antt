@@ -1,4 +1,4 @@
--- Key types that are made of others.
+-- Key types that are built from other key types.
 use Rattle.std.specs.Prelude.{◌≡◌, ◌≤ℤ◌, ℤ, Bool}
 use Rattle.std.specs.declared.cmp.Ordering.{Ordering}
 use Rattle.std.proofs.Common.{ap, ◌∙◌, arith}
@@ -6,8 +6,8 @@ use Rattle.std.proofs.lemmas.Int.{ints}
 use Rattle.blaze_int.specs.Ranked.{IsRanked}
 
 module _ {K : Type 0} {rank : K → ℤ} {of_rank : ℤ → K} {low high : ℤ} {cmp : K → K → Ordering} {eq : K → K → Bool} where
-  -- A newtype: its values stand for the keys of a key type one to one, by `inner` and `outer`, and compare as these do.
-  -- So it is a key type, with the inner type's ranks.
+  -- A newtype. `inner` and `outer` map its values one to one to the keys of a key type, and both types compare alike.
+  -- So the newtype is a key type with the ranks of the inner type.
   pub ranked-along : {N : Type 0} {cmp_n : N → N → Ordering} {eq_n : N → N → Bool} (inner : N → K) (outer : K → N)
       → IsRanked rank of_rank low high cmp eq
       → ((n : N) → outer (inner n) ≡ n) → ((k : K) → low ≤ℤ rank k → rank k ≤ℤ high → inner (outer k) ≡ k)
@@ -23,7 +23,7 @@ module _ {K : Type 0} {rank : K → ℤ} {of_rank : ℤ → K} {low high : ℤ} 
     equal = λ a b al ah bl bh. rw (equated a b) (laws.equal (inner a) (inner b) al ah bl bh);
   }
 
-  -- A part of a key type: its keys are those of the type from one rank to another.
+  -- A part of a key type. Its keys are the keys of the type with a rank from `from` to `to`.
   pub ranked-within : (from to : ℤ) → IsRanked rank of_rank low high cmp eq → low ≤ℤ from → from ≤ℤ to → to ≤ℤ high
       → IsRanked rank of_rank from to cmp eq
   ranked-within from to laws l f h = record {

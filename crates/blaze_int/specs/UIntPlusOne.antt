@@ -1,4 +1,4 @@
--- `UIntPlusOne`: the numbers from 0 to 2^128 in their order.
+-- `UIntPlusOne`: the numbers from 0 to 2^128, in their order.
 use Rattle.std.specs.Prelude.{◌≡◌, ◌↔◌, ◌≤◌, ◌^◌, ◌+◌, ◌==◌, ℕ, false, IsTrue, if◌then◌else◌, nat_lt}
 use Rattle.std.specs.Ordering.{nat_cmp}
 use Rattle.std.proofs.Common.{refl, ap, arith, inl, inr, Less, Greater}
@@ -7,7 +7,7 @@ use Rattle.std.proofs.lemmas.Bool.Decides.{nat_tests}
 use Rattle.blaze_int.specs.declared.uint_plus_one.UIntPlusOne.{UIntPlusOne}
 use Rattle.blaze_int.specs.declared.uint_plus_one.UIntPlusOne.TheVariants.{UInt, MaxPlusOne}
 
--- the number, and one past the greatest for a `UInt` of what is no `u128`
+-- the number of a value; a `UInt` whose content is no `u128` gets 2^128 + 1
 abbrev pub number_of : UIntPlusOne → ℕ
 number_of (UInt n) = if nat_lt n (2 ^ 128) then n else 2 ^ 128 + 1
 number_of MaxPlusOne = 2 ^ 128

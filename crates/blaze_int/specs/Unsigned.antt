@@ -1,4 +1,4 @@
--- The unsigned number types: a number is its own rank as a key, and its own number as a length.
+-- The unsigned number types. A number is its own rank as a key and its own number as a length.
 use Rattle.std.specs.Prelude.{◌≡◌, ◌<◌, ◌≤◌, ◌+◌, ◌==◌, ◌≤ℤ◌, ◌<ℤ◌, ℕ, ℤ, pos, negsuc, IsTrue, ◌↔◌}
 use Rattle.std.specs.Cmp.{int_cmp_is, ranked}
 use Rattle.std.specs.Ordering.{nat_cmp, int_cmp, MatchOrdering}
@@ -10,7 +10,7 @@ use Rattle.std.proofs.lemmas.Int.{ints}
 use Rattle.blaze_int.specs.Ranked.{IsRanked, key_count}
 use Rattle.blaze_int.specs.Counted.{IsNumbered}
 
--- the natural number at a whole number that is not negative
+-- the natural number of a whole number that is not negative
 abbrev pub nat_of : ℤ → ℕ
 nat_of (pos n) = n
 nat_of (negsuc n) = 0

@@ -1,4 +1,4 @@
-//! The keys that the bounds of a range name.
+//! The least and the greatest key that the bounds of a range name.
 ghost use Rattle.std.specs.Prelude.{◌≡◌, ◌↔◌, ◌≤ℤ◌, ◌<ℤ◌, ℤ, IsTrue, MatchOption, IfSome};
 ghost use Rattle.std.specs.Range.Bound.{bound_map};
 ghost use Rattle.blaze_int.specs.Bounds.{start_rank, end_rank, IsNamed, AreEndsOf, AreAtRanks};
@@ -7,15 +7,16 @@ use crate::compare::is_at_most;
 use crate::integer::Integer;
 use std::ops::{Bound, RangeBounds};
 
-/// The least and the greatest key that the bounds of a range name, or `None` where they name none.
+/// Returns the least and the greatest key that the bounds of a range name, or `None` if they name no key. O(1).
 ///
-/// An unbounded start is the least key and an unbounded end the greatest. An excluded start at the greatest key and an
-/// excluded end at the least key name no key. A range is read by its start and its end alone.
+/// An unbounded start is the least key of the type, and an unbounded end is the greatest. An excluded start at the
+/// greatest key names no key, nor does an excluded end at the least key. Only the start and the end of the range are
+/// read.
 ///
-/// Which keys these are, the contract says of each range of `std` but one: a `RangeInclusive` that was iterated to its
-/// end. `std` reads that end as excluded, so the range names no key.
+/// The contract says which keys these are for each range of `std`, except for a `RangeInclusive` that was iterated to
+/// its end. `std` reads that end as excluded, so such a range names no key.
 pub fn bounds_of<T: Integer, R: RangeBounds<T>>(r: &R) -> Option<(T, T)>
-    // A range of any type gives no reversed pair.
+    // A custom range type without `has_bounds` still yields no reversed pair.
     ensures order { IfSome result (λ p. T.rank p.0 ≤ℤ T.rank p.1) }
 
     ensures ends { R.has_bounds r.now
@@ -26,7 +27,7 @@ pub fn bounds_of<T: Integer, R: RangeBounds<T>>(r: &R) -> Option<(T, T)>
     ends_of(copied(r.start_bound()), copied(r.end_bound()))
 }
 
-/// Whether the bounds of a range name a key, which is where `bounds_of` returns `Some`.
+/// Returns whether the bounds of a range name a key: `true` exactly if `bounds_of` returns `Some`. O(1).
 pub fn names_a_key<T: Integer, R: RangeBounds<T>>(r: &R) -> bool
     ensures named { R.has_bounds r.now
         → IsTrue result
@@ -39,7 +40,7 @@ pub fn names_a_key<T: Integer, R: RangeBounds<T>>(r: &R) -> bool
     bounds_of(r).is_some()
 }
 
-/// The least and the greatest key that two bounds name, or `None` where they name none.
+/// Returns the least and the greatest key that two bounds name, or `None` if they name no key. O(1).
 pub fn ends_of<T: Integer>(start: Bound<T>, end: Bound<T>) -> Option<(T, T)>
     ensures ends { AreEndsOf T.rank T.low T.high start end result }
     ensures ranks { AreAtRanks T.rank T.low T.high start end result }
@@ -54,7 +55,7 @@ pub fn ends_of<T: Integer>(start: Bound<T>, end: Bound<T>) -> Option<(T, T)>
     }
 }
 
-/// The least key from a start on, or `None` where there is none.
+/// Returns the least key from `start` on, or `None` if no key follows.
 fn first_from<T: Integer>(start: Bound<T>) -> Option<T>
     ensures low { T.low ≤ℤ start_rank T.rank T.low start }
     ensures first { MatchOption result (T.high <ℤ start_rank T.rank T.low start)
@@ -73,7 +74,7 @@ fn first_from<T: Integer>(start: Bound<T>) -> Option<T>
     }
 }
 
-/// The greatest key up to an end, or `None` where there is none.
+/// Returns the greatest key up to `end`, or `None` if no key precedes.
 fn last_up_to<T: Integer>(end: Bound<T>) -> Option<T>
     ensures high { end_rank T.rank T.high end ≤ℤ T.high }
     ensures last { MatchOption result (end_rank T.rank T.high end <ℤ T.low)
@@ -98,7 +99,7 @@ fn last_up_to<T: Integer>(end: Bound<T>) -> Option<T>
     }
 }
 
-/// The bound with its key copied.
+/// Copies the key out of a borrowed bound.
 fn copied<T: Copy>(bound: Bound<&T>) -> Bound<T>
     ensures { result ≡ bound_map (λ x. x.now) bound.entry }
 {

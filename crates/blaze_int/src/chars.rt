@@ -1,4 +1,4 @@
-//! `char`, whose ranks leave out the surrogates.
+//! `char` as a key type. The ranks leave out the surrogates, which are not `char`s.
 ghost use Rattle.std.specs.Prelude.{◌≡◌, ◌-◌, ◌^◌, pos};
 ghost use Rattle.std.proofs.Common.{lit≤};
 ghost use Rattle.blaze_int.specs.Chars.{char_index, char_rank, char_of_rank, char-ranked};
@@ -7,7 +7,7 @@ ghost use Rattle.blaze_int.specs.Unsigned.{unsigned-room};
 use crate::integer::Integer;
 use std::ops::RangeInclusive;
 
-/// How many `char`s are below this one.
+/// Returns the number of `char`s below `c`.
 fn index(c: char) -> u32
     ensures { result ≡ char_index c }
 {

@@ -5,7 +5,7 @@ ghost use Rattle.std.specs.Ordering.{int_eq};
 
 use crate::integer::Integer;
 
-/// Whether a key is at most another.
+/// Returns whether `a` is at most `b`. O(1).
 pub fn is_at_most<T: Integer>(a: T, b: T) -> bool
     ensures { result ≡ int_le (T.rank a) (T.rank b) }
 {
@@ -14,7 +14,7 @@ pub fn is_at_most<T: Integer>(a: T, b: T) -> bool
     a <= b
 }
 
-/// Whether a key is below another.
+/// Returns whether `a` is below `b`. O(1).
 pub fn is_below<T: Integer>(a: T, b: T) -> bool
     ensures { result ≡ int_lt (T.rank a) (T.rank b) }
 {
@@ -23,7 +23,7 @@ pub fn is_below<T: Integer>(a: T, b: T) -> bool
     a < b
 }
 
-/// Whether `b` is the key after `a`.
+/// Returns whether `b` is the key after `a`. O(1).
 pub fn is_next<T: Integer>(a: T, b: T) -> bool
     ensures { result ≡ int_eq (T.rank b) (T.rank a +ℤ pos 1) }
 {
@@ -38,21 +38,21 @@ pub fn is_next<T: Integer>(a: T, b: T) -> bool
     }
 }
 
-/// The lesser of two keys.
+/// Returns the lesser of two keys. O(1).
 pub fn lesser<T: Integer>(a: T, b: T) -> T
     ensures { T.rank result ≡ int_min (T.rank b) (T.rank a) }
 {
     if is_below(a, b) { a } else { b }
 }
 
-/// The greater of two keys.
+/// Returns the greater of two keys. O(1).
 pub fn greater<T: Integer>(a: T, b: T) -> T
     ensures { T.rank result ≡ int_max (T.rank b) (T.rank a) }
 {
     if is_below(a, b) { b } else { a }
 }
 
-/// The length of the range from one key to another, both included, in keys.
+/// Returns the number of keys from `start` to `end`, both included. The range must not be empty. O(1).
 pub fn length<T: Integer>(start: T, end: T) -> T::SafeLen
     requires order { T.rank start ≤ℤ T.rank end }
     ensures { T.rank start +ℤ pos (T.SafeLen.number result) ≡ T.rank end +ℤ pos 1 }

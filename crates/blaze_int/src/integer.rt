@@ -7,12 +7,14 @@ use crate::length::SafeLength;
 use std::fmt::Debug;
 use std::ops::RangeInclusive;
 
-/// A type of keys in a row: a number type of fixed width, or `char`.
+/// A type whose values are integer-like keys. The number types of fixed width and `char` implement it.
+///
+/// Each key has a rank, a whole number, and the ranks have no gap. So each key except the greatest has a next key.
 pub trait Integer: Copy + Ord + Debug {
-    /// The type of the length of a range of keys, which has room for all keys.
+    /// The type of the number of keys in a range. It can count all keys of the type.
     type SafeLen: SafeLength;
 
-    // Where a key stands. The keys are the values whose rank lies from `low` to `high`.
+    // The rank of a value. A value is a key if its rank is from `low` to `high`.
     ghost rank: { Self → ℤ };
 
     // The key at a rank.
@@ -24,20 +26,20 @@ pub trait Integer: Copy + Ord + Debug {
     // The rank of the greatest key.
     ghost high: { ℤ };
 
-    /// Does nothing. Its contract says that a value in hand is a key.
+    /// Does nothing. Its contract states that each value of the type that a program has is a key.
     fn in_hand(self)
         ensures from { low ≤ℤ rank self }
         ensures to { rank self ≤ℤ high };
 
-    /// The least key.
+    /// Returns the least key.
     fn min_value() -> Self
         ensures { rank result ≡ low };
 
-    /// The greatest key.
+    /// Returns the greatest key.
     fn max_value() -> Self
         ensures { rank result ≡ high };
 
-    /// The next key, or `None` at the greatest key.
+    /// Returns the next key, or `None` if `self` is the greatest key.
     fn checked_add_one(self) -> Option<Self>
         ensures { IsNextKey rank high self result }
     {
@@ -51,17 +53,17 @@ pub trait Integer: Copy + Ord + Debug {
         }
     }
 
-    /// The next key. The greatest key has none.
+    /// Returns the next key. It requires that `self` is not the greatest key.
     fn add_one(self) -> Self
         requires below { rank self <ℤ high }
         ensures { rank result ≡ rank self +ℤ pos 1 };
 
-    /// The key before. The least key has none.
+    /// Returns the previous key. It requires that `self` is not the least key.
     fn sub_one(self) -> Self
         requires above { low <ℤ rank self }
         ensures { rank result +ℤ pos 1 ≡ rank self };
 
-    /// Steps back by one key. The least key has none before it.
+    /// Sets `self` to the previous key. It requires that `self` is not the least key.
     fn assign_sub_one(&mut self)
         requires above { low <ℤ rank self.old }
         ensures { rank self.new +ℤ pos 1 ≡ rank self.old }
@@ -69,16 +71,17 @@ pub trait Integer: Copy + Ord + Debug {
         *self = self.sub_one();
     }
 
-    /// The length of a range in keys, both ends included. The start may not be above the end.
+    /// Returns the number of keys in a range, both ends included. It requires a non-empty range: the start is at most
+    /// the end.
     fn safe_len(r: &RangeInclusive<Self>) -> Self::SafeLen
         requires { rank (range_inclusive_start r.now) ≤ℤ rank (range_inclusive_end r.now) }
         ensures { rank (range_inclusive_start r.now) +ℤ pos (Self.SafeLen.number result)
             ≡ rank (range_inclusive_end r.now) +ℤ pos 1 };
 
-    // Each rank from `low` to `high` is that of one key, and keys compare as their ranks.
+    // Each rank from `low` to `high` belongs to exactly one key, and keys compare as their ranks do.
     ghost ranked: { IsRanked rank of_rank low high Self.cmp Self.eq };
 
-    // Each number up to that of all keys is the number of a length. Code that is generic over keys knows of no greater
-    // one: this law alone bounds `most` from below, so there `plus` serves no sum above the number of keys.
+    // A length can count all keys of the type. Generic code knows no other lower bound of `most`, so there `plus`
+    // cannot be used for a sum above the number of keys.
     ghost has_room: { key_count low high ≤ℤ pos Self.SafeLen.most };
 }

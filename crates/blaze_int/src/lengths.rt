@@ -1,4 +1,4 @@
-//! The unsigned number types that are lengths.
+//! The unsigned number types as types of lengths.
 ghost use Rattle.std.specs.Prelude.{◌-◌, ◌^◌};
 ghost use Rattle.blaze_int.specs.Unsigned.{unsigned-counted};
 

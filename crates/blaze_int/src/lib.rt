@@ -1,6 +1,6 @@
-//! Keys of integer-like types: each key has a rank, a whole number, and the ranks have no gap.
-//! A range of keys has a length, and the bounds of a range name its least and its greatest key.
-//! No call of this crate takes memory.
+//! Integer-like key types. Each key has a rank, a whole number, and the ranks have no gap. A range of keys has a length
+//! in keys. The bounds of a range name its least and its greatest key. No function of this crate allocates memory, and
+//! each is O(1).
 #![tactic(auto)]
 
 mod bounds;

@@ -1,10 +1,10 @@
-//! Lengths of ranges of numbers of up to 64 bits, by way of `i128`.
+//! Lengths of ranges of numbers of up to 64 bits, computed in `i128`.
 ghost use Rattle.std.specs.Prelude.{◌≡◌, ◌≤ℤ◌, ◌-ℤ◌, ◌+ℤ◌, ◌-◌, ◌^◌, pos, negsuc, FitsSigned};
 ghost use Rattle.std.specs.Int.{w128};
 
 use num_traits::{Integral, NumCast, ToPrimitive, cast};
 
-/// How many numbers there are from `start` to `end`, both included.
+/// Returns the number of keys from `start` to `end`, both included. It requires a non-empty range.
 pub fn range_length<K: ToPrimitive + Integral, L: NumCast + Integral>(start: K, end: K) -> L
     requires in_order { K.value start ≤ℤ K.value end }
     requires from { negsuc (2 ^ 63 - 1) ≤ℤ K.value start }
@@ -15,7 +15,7 @@ pub fn range_length<K: ToPrimitive + Integral, L: NumCast + Integral>(start: K, 
     narrow(widen(end) - widen(start) + 1)
 }
 
-/// The number as an `i128`.
+/// Converts a number to `i128`.
 fn widen<K: ToPrimitive + Integral>(number: K) -> i128
     requires { FitsSigned w128 (K.value number) }
     ensures { result ≡ K.value number }
@@ -23,7 +23,7 @@ fn widen<K: ToPrimitive + Integral>(number: K) -> i128
     cast(number).unwrap()
 }
 
-/// The `i128` as a number of another type.
+/// Converts an `i128` to a number of another type, which can represent it.
 fn narrow<L: NumCast + Integral>(number: i128) -> L
     requires { L.fits number }
     ensures { L.value result ≡ number }

@@ -1,4 +1,4 @@
-//! The lengths of ranges of keys of 128 bits, which go one past the greatest `u128`.
+//! The lengths of ranges of 128-bit keys. The greatest length is one more than the greatest `u128`.
 ghost use Rattle.std.specs.Prelude.{◌^◌, Some};
 ghost use Rattle.std.specs.Fmt.{decimal};
 ghost use Rattle.std.proofs.Common.{refl};
@@ -6,12 +6,12 @@ ghost use Rattle.std.proofs.Common.{refl};
 use crate::length::SafeLength;
 use std::fmt::{self, Display, Formatter};
 
-/// A whole number from 0 to 2^128. They compare as numbers: each `UInt` is below `MaxPlusOne`.
+/// A whole number from 0 to 2^128. Values compare as numbers: each `UInt` is below `MaxPlusOne`.
 #[derive(Clone, Copy, PartialEq, Eq, PartialOrd, Ord, Debug)]
 pub enum UIntPlusOne {
-    /// A number up to 2^128 - 1.
+    /// A number from 0 to 2^128 - 1.
     UInt(u128),
-    /// 2^128, the number of all keys of 128 bits.
+    /// 2^128, the number of all 128-bit keys.
     MaxPlusOne,
 }
 
@@ -73,7 +73,7 @@ impl SafeLength for UIntPlusOne {
     } };
 }
 
-/// The number in decimal, that of `MaxPlusOne` too.
+/// Prints the number in decimal, also for `MaxPlusOne`.
 impl Display for UIntPlusOne {
     ghost use Rattle.blaze_int.specs.UIntPlusOne.{number_of};
 

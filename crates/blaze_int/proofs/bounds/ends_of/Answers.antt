@@ -1,4 +1,4 @@
--- Where the least key from the start on is above the greatest up to the end, the bounds name no key.
+-- If the least key from the start on is above the greatest key up to the end, the bounds name no key.
 use Rattle.std.proofs.Common.{arith}
 use Rattle.std.proofs.lemmas.Int.{ints}
 use Rattle.blaze_int.proofs.Ends.{none_named}
