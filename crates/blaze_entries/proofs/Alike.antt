@@ -1,4 +1,4 @@
--- What equations of options say, the laws of `option_or`, and options whose values are equal.
+-- Equations between options, the laws of `option_or`, and options whose values are equal.
 use Rattle.blaze_entries.proofs.Words.{◌≡◌, Bool, Option, Some, None, refl, ◌∙◌, sym, subst, IsSome, is_some, option_map, option_or, IsEquivalence, SameOption}
 
 pub none_from_map : {A B : Type 0} (f : A → B) (o : Option A) → None ≡ option_map f o → o ≡ None

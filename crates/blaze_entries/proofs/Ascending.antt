@@ -1,7 +1,7 @@
--- Lists in the order of their starts: what the edits keep, and how long they are.
+-- Lists whose starts ascend: which edits keep the order, and the lengths of the edited lists.
 use Rattle.blaze_entries.proofs.Words.{◌≡◌, ◌+◌, ℤ, pos, ◌+ℤ◌, ◌≤ℤ◌, ◌<ℤ◌, true, false, cond, List, [], ◌∷◌, ◌++◌, length, Option, Some, None, refl, arith, IsSome, int_cmp, int_eq, Less, Equal, Greater, ints, by_lt_z, Entry, entry, StartsAscend, start_at, with_entry, without, with_end, with_end_value, with_last_end}
 
--- two numbers, by their order
+-- by cases: two numbers, by their order
 pub by_order : {P : Type 0} (a b : ℤ)
     → (a <ℤ b → int_cmp a b ≡ Less → int_eq a b ≡ false → P)
     → (a ≡ b → int_cmp a b ≡ Equal → int_eq a b ≡ true → P)
@@ -11,7 +11,7 @@ by_order a b l e g = by_lt_z a b
     (λ h. by_lt_z b a (λ k. g k (grind (arith, ints)) (grind (arith, ints))) (λ k. e (omega (arith, ints)) (grind (arith, ints)) (grind (arith, ints))))
 
 module _ {V : Type 0} where
-  -- none starts below the first
+  -- no entry starts below the first
   pub start_none : (k b high : ℤ) (es : List (Entry V)) → k <ℤ b → StartsAscend b high es → start_at k es ≡ None
   start_none k b high [] l h = refl
   start_none k b high (e ∷ es) l h = by_order k e.lo
@@ -19,7 +19,7 @@ module _ {V : Type 0} where
       (λ o q r. absurd (omega (arith, ints, h.0)))
       (λ o q r. absurd (omega (arith, ints, h.0)))
 
-  -- from an earlier start on
+  -- the lower bound of the starts may be lowered
   pub start_lower : (b c high : ℤ) (es : List (Entry V)) → c ≤ℤ b → StartsAscend b high es → StartsAscend c high es
   start_lower b c high [] l h = tt
   start_lower b c high (e ∷ es) l h = (omega (arith, ints, h.0), h.1, h.2)
@@ -52,7 +52,7 @@ module _ {V : Type 0} where
   start_with_last_end b high z (e ∷ []) h = h
   start_with_last_end b high z (e ∷ f ∷ es) h = (h.0, h.1, start_with_last_end (e.lo +ℤ pos 1) high z (f ∷ es) h.2)
 
-  -- a front of the list
+  -- a prefix of the list
   pub start_front : (b high : ℤ) (xs ys : List (Entry V)) → StartsAscend b high (xs ++ ys) → StartsAscend b high xs
   start_front b high [] ys h = tt
   start_front b high (x ∷ xs) ys h = (h.0, h.1, start_front (x.lo +ℤ pos 1) high xs ys h.2)
@@ -65,7 +65,7 @@ module _ {V : Type 0} where
         | false ↦ (h.0, h.1, start_with_end_value (e.lo +ℤ pos 1) high k z v es h.2)
       ]
 
-  -- one more, or one fewer
+  -- an insertion adds one entry, and a removal removes one
   pub length-with_entry : (e : Entry V) (es : List (Entry V)) → start_at e.lo es ≡ None → length (with_entry e es) ≡ length es + 1
   length-with_entry e [] n = omega arith
   length-with_entry e (f ∷ fs) n = by_order e.lo f.lo

@@ -1,9 +1,9 @@
--- A closure that a map's `retain` asks at one node after another: what is kept of the nodes, and of their entries.
+-- A map's `retain` calls a closure at one node after another: which nodes and which entries remain.
 use Rattle.blaze_entries.proofs.Words.{◌≡◌, ℤ, pos, ◌+ℤ◌, Bool, true, false, cond, List, [], ◌∷◌, ◌++◌, Option, Some, refl, ◌∙◌, sym, subst, ap, arith, ints, None, map, Bor, Mut, Called, FoldsTo, IsFiltered, items_where_true, RangeInclusive, CallableOnEachPair, RetainsPairs, SomeCallAtPair, IsShown, AnswersAt, SomeCallAt, IsCallableAtEach, TakesNode, AnswersAtNode, Entry, entry, StartsAscend, EndValue, shown_nodes, entries_of, node_before, held, AreFull, AreHeld}
 use Rattle.blaze_entries.proofs.Ascending.{start_lower}
 use Rattle.blaze_entries.proofs.Held.{are_held}
 
--- the steps of one test as those of another, which it is seen as
+-- the calls of one test as calls of another test that represents it
 module _ {F P K X : Type 0} (R : F → K → X → Bool → X → F → Type 0) (S : P → K → X → Bool → X → P → Type 0) (seen : F → P)
     (told : (f : F) (k : K) (v : X) (b : Bool) (w : X) (h : F) → R f k v b w h → S (seen f) k v b w (seen h)) where
   pub retains_seen : (f : F) (es kept : List (K × X)) → RetainsPairs R f es kept → RetainsPairs S (seen f) es kept
@@ -52,7 +52,7 @@ module _ {V : Type 0} where
   starts_of_part b high (false ∷ bs) (e ∷ es) s = start_lower (e.lo +ℤ pos 1) b high (items_where_true bs es) (omega (arith, ints, s.0)) (starts_of_part (e.lo +ℤ pos 1) high bs es s.2)
 
 module _ {F T V : Type 0} {rank : T → ℤ} {g : Mut F (Bor (RangeInclusive T) × (Bor V × Unit {0})) Bool} where
-  -- a call at a range from an entry's first key up to its last, and at its value
+  -- a call at an entry's range and value
   pub answers_at : {f h : F} {e : Entry V} {range : Bor (RangeInclusive T)} {value : Bor V} {r : Bool}
       → Called g f (range, (value, tt)) r h → IsShown rank g e range value → AnswersAt rank g f e r h
   answers_at c i = record { range = _; value = _; shown = i; called = c }
@@ -64,7 +64,7 @@ module _ {F T V : Type 0} (rank : T → ℤ) (g : Mut F (Bor (RangeInclusive T) 
       ap (node_before (rank x.0) (rank x.1.end) x.1.value) (entries-append xs ys)
       ∙ before-append (rank x.0) (rank x.1.end) x.1.value (entries_of rank xs) (entries_of rank ys)
 
-  -- the entry of a full node, and the others
+  -- the entry of a full node, and the entries of the others
   entries-node : (k : T) (n : EndValue T (Option V)) (v : V) (ns : List (T × EndValue T (Option V))) → n.value ≡ Some v
       → entries_of rank ((k, n) ∷ ns) ≡ entry (rank k) (rank n.end) v ∷ entries_of rank ns
   entries-node k n v ns q = ap (λ o. node_before (rank k) (rank n.end) o (entries_of rank ns)) q
@@ -81,7 +81,7 @@ module _ {F T V : Type 0} (rank : T → ℤ) (g : Mut F (Bor (RangeInclusive T) 
   value_at [] after k n a = (a.0, a.1)
   value_at (b ∷ before) after k n a = value_at before after k n a.2
 
-  -- what may be called at the entries in turn may be called at their nodes
+  -- a closure that may be called at the entries in turn may be called at their nodes
   pub callable_at_nodes : (f : F) (ns : List (T × EndValue T (Option V))) → AreFull (shown_nodes rank ns) → IsCallableAtEach rank g f (entries_of rank ns)
       → CallableOnEachPair (AnswersAtNode rank g) (TakesNode rank g) f ns
   callable_at_nodes f ns full c = record {
@@ -96,7 +96,7 @@ module _ {F T V : Type 0} (rank : T → ℤ) (g : Mut F (Bor (RangeInclusive T) 
         };
   }
 
-  -- the entries of the nodes that are kept are kept
+  -- the entries of the nodes that remain are the entries that remain
   pub filtered_at_nodes : (f : F) (ns new : List (T × EndValue T (Option V))) → RetainsPairs (AnswersAtNode rank g) f ns new
       → IsFiltered (AnswersAt rank g) f (entries_of rank ns) (entries_of rank new)
   filtered_at_nodes f [] new r = ([], f, refl, refl, ap (entries_of rank) r)
@@ -118,7 +118,7 @@ module _ {F T V : Type 0} (rank : T → ℤ) (g : Mut F (Bor (RangeInclusive T) 
       chosen w rest e bs es true p q = p ∙ ap (λ l. e ∷ l) q
       chosen w rest e bs es false p q = q
 
-  -- the nodes are those of entries
+  -- the nodes are the nodes of entries
   abbrev AreShown : List (T × EndValue T (Option V)) → Type 0
   AreShown ns = shown_nodes rank ns ≡ map held (entries_of rank ns)
 
@@ -134,7 +134,7 @@ module _ {F T V : Type 0} (rank : T → ℤ) (g : Mut F (Bor (RangeInclusive T) 
       chosen w rest true p q = p
       chosen w rest false p q = q
 
-  -- the nodes that are kept are full, and their starts ascend
+  -- the nodes that remain are full, and their starts ascend
   pub held_nodes : (low high : ℤ) (f : F) (ns new : List (T × EndValue T (Option V))) → AreHeld low high (shown_nodes rank ns)
       → RetainsPairs (AnswersAtNode rank g) f ns new → AreHeld low high (shown_nodes rank new)
   held_nodes low high f ns new h r =

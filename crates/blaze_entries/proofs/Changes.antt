@@ -1,4 +1,4 @@
--- What a write through a lent node makes of the list.
+-- The list after a write through a borrowed node.
 use Rattle.blaze_entries.proofs.Words.{◌≡◌, Bool, true, false, List, [], ◌∷◌, cond, refl, ap, Some, None, lookup, set_value, changed}
 
 pub changed_found : {K X : Type 0} (test : K → Bool) (f : X → X) (es : List (K × X)) (v : X) → lookup test es ≡ Some v → set_value test es (f v) ≡ changed test f es

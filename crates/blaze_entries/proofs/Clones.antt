@@ -1,4 +1,4 @@
--- The nodes of a tree cloned, as entries.
+-- The entries of a cloned tree.
 use Rattle.blaze_entries.proofs.Words.{◌≡◌, ℤ, pos, ◌+ℤ◌, ◌≤ℤ◌, List, [], ◌∷◌, Option, Some, None, refl, ◌∙◌, sym, subst, ap, map, AllZip, AreCloned, Entry, entry, shown_nodes, shown_node, held, full, AreHeld, StartsAscend, EndValue}
 use Rattle.blaze_entries.proofs.Held.{are_held, full-held}
 
@@ -54,7 +54,7 @@ module _ {T V : Type 0} (rank : T → ℤ) (is_clone : V → V → Type 0) (opti
     subst (λ x. StartsAscend (x +ℤ pos 1) high cs) (sym z.0.0) (copies_ascend (e.lo +ℤ pos 1) high es cs z.1 a.2),
   )
 
-  -- the nodes of the clone are full and ascend too, and its entries are clones
+  -- the nodes of the clone are full and ascend, and its entries are clones
   pub cloned_held : (low high : ℤ) (ns ms : List (T × EndValue T (Option V))) → AreHeld low high (shown_nodes rank ns) → AllZip IsNodeCloned ns ms → AreHeld low high (shown_nodes rank ms)
   cloned_held low high ns ms h z =
       let c = copies_of ns ms (full (shown_nodes rank ns)) h.full.held z in

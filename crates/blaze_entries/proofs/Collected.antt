@@ -1,10 +1,10 @@
--- Nodes collected in one go: they are those of the list that was given, where its starts ascend.
+-- Nodes collected from a list whose starts ascend are the nodes of that list.
 use Rattle.blaze_entries.proofs.Words.{◌≡◌, ℤ, pos, ◌+ℤ◌, ◌≤ℤ◌, ◌<ℤ◌, Bool, true, false, cond, List, [], ◌∷◌, map, Option, Some, None, refl, ◌∙◌, sym, subst, ap, arith, IsSome, is_at, IsFromIterResult, BTreeMap, IsTotalOrder, int_cmp_is, AllByRecursion, lookup, keys_of, option_map, int_cmp, eq_by_cmp, on, Less, Equal, Greater, eq_by_cmp_equiv, int_cmp_total, ints, IsDistinct-from_sorted, update_all_none, Entry, shown_entry, shown_nodes, shown_node_at, held, node_of, StartsAscend, start_at, EndValue}
 use Rattle.std.specs.List.Sorted.{IsStrictlySortedBy}
 use Rattle.blaze_entries.proofs.Ascending.{by_order, start_none}
 use Rattle.blaze_entries.proofs.NodeLists.{as_entries_lookup}
 
--- lists in the order of their starts that have the same entry at each start
+-- two lists whose starts ascend are equal if they have the same entry at each start
 module _ {V : Type 0} where
   pub start_first : (e : Entry V) (es : List (Entry V)) → start_at e.lo (e ∷ es) ≡ Some e
   start_first e es = by_order e.lo e.lo (λ o q r. absurd (omega (arith, ints))) (λ o q r. rw r refl) (λ o q r. absurd (omega (arith, ints)))
@@ -32,7 +32,7 @@ module _ {V : Type 0} where
       λ i. one i ∷ others i)
       (λ l p q. absurd (some_none f (start_at f.lo (f ∷ fs)) (start_first f fs) (sym (h f.lo c.0 c.1) ∙ start_none f.lo e.lo high (e ∷ es) l (omega (arith, ints), a.1, a.2))))
 
-  -- a start that is found is one of those from b to high
+  -- the start of an entry is from b to high
   start_within : (k b high : ℤ) (es : List (Entry V)) → StartsAscend b high es → IsSome (start_at k es) → (b ≤ℤ k) × (k ≤ℤ high)
   start_within k b high [] a s = cc
   start_within k b high (e ∷ es) a s = by_order k e.lo
@@ -66,7 +66,7 @@ ranks_total rank = record {
 }
 
 module _ {T V : Type 0} (rank : T → ℤ) where
-  -- starts that ascend are in the order of ranks, and the other way round
+  -- starts that ascend are sorted by rank, and the other way round
   starts_sorted : (b high : ℤ) (xs : List (T × EndValue T V)) → StartsAscend b high (shown_nodes rank xs) → IsStrictlySortedBy (on rank int_cmp) (keys_of xs)
   unfolding IsStrictlySortedBy
   starts_sorted b high [] a = tt

@@ -1,4 +1,4 @@
--- Edits of lists in the order of their starts, in the parts below a key and from it on.
+-- Edits of lists whose starts ascend: the part below a key and the part from it on.
 use Rattle.blaze_entries.proofs.Words.{◌≡◌, ℤ, pos, ◌+ℤ◌, ◌≤ℤ◌, ◌<ℤ◌, Bool, true, false, cond, List, [], ◌∷◌, ◌++◌, length, Some, None, refl, ◌∙◌, sym, ap, arith, IsSome, int_lt, int_le, int_eq, ints, eq_true, below, from, start_at, with_entry, without, with_end, with_end_value, with_last_end, Entry, entry}
 use Rattle.blaze_entries.proofs.Ascending.{by_order}
 use Rattle.blaze_entries.proofs.Halves.{StartsBelow, below_takes, below_skips, from_takes, from_skips}
@@ -14,7 +14,7 @@ module _ {V : Type 0} where
   pub start_skips : (k : ℤ) (e : Entry V) (es : List (Entry V)) → (k ≡ e.lo → ⊥) → start_at k (e ∷ es) ≡ start_at k es
   start_skips k e es n = by_order k e.lo (λ o q r. rw r refl) (λ o q r. absurd (n o)) (λ o q r. rw r refl)
 
-  -- an entry put in
+  -- an insertion
   pub below_with : (k : ℤ) (p : Entry V) (es : List (Entry V)) → k ≤ℤ p.lo → below k (with_entry p es) ≡ below k es
   below_with k p [] l = below_skips k p [] l
   below_with k p (f ∷ fs) l = by_order p.lo f.lo
@@ -57,7 +57,7 @@ module _ {V : Type 0} where
       (λ o q r. absurd (none_some f (sym (ap (λ t. cond t (Some f) (start_at p.lo fs)) r) ∙ n)))
       (λ o q r. rw (q, r) (ap (λ t. f ∷ t) (without_with p fs (absent_next p.lo f fs r n))))
 
-  -- an entry taken out
+  -- a removal
   pub start_beside_without : (k s : ℤ) (es : List (Entry V)) → (k ≡ s → ⊥) → start_at k (without s es) ≡ start_at k es
   start_beside_without k s [] n = refl
   start_beside_without k s (f ∷ fs) n = by_order s f.lo
@@ -65,7 +65,7 @@ module _ {V : Type 0} where
       (λ o q r. rw r (sym (start_skips k f fs (λ t. n (omega (arith, ints))))))
       (λ o q r. rw r (ap (λ t. cond (int_eq k f.lo) (Some f) t) (start_beside_without k s fs n)))
 
-  -- what an entry that is taken out changes
+  -- what a removal changes
   pub below_without : (k s : ℤ) (es : List (Entry V)) → k ≤ℤ s → below k (without s es) ≡ below k es
   below_without k s [] l = refl
   below_without k s (e ∷ es) l = by_order s e.lo
@@ -86,7 +86,7 @@ module _ {V : Type 0} where
       same : from k (without s es) ≡ from k es → (b : Bool) → cond b (e ∷ from k (without s es)) (from k (without s es)) ≡ cond b (e ∷ from k es) (from k es)
       same later b = ap (λ t. cond b (e ∷ t) t) later
 
-  -- an entry replaced
+  -- a replacement
   pub below_replaced : (k s z : ℤ) (v : V) (es : List (Entry V)) → k ≤ℤ s → below k (with_end_value s z v es) ≡ below k es
   below_replaced k s z v [] l = refl
   below_replaced k s z v (f ∷ fs) l = by_order s f.lo

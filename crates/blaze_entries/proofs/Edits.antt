@@ -1,11 +1,11 @@
--- What std's calls on full nodes are on the entries that they hold.
+-- The results of std's calls on full nodes, as results on the entries.
 use Rattle.blaze_entries.proofs.Words.{◌≡◌, ℤ, pos, ◌+ℤ◌, List, [], ◌∷◌, ◌++◌, Option, Some, None, refl, ◌∙◌, sym, ap, map, MatchOption, IfSome, option_map, last_or, int_cmp, on, Less, Equal, Greater, remove_entry, insert_entry, is_at, entries_between, entries_below, entries_from, Included, Excluded, Unbounded, Bor, changed, Entry, entry, held, shown_nodes, shown_node_at, shown_lent_node, entries_of, AreHeld, below, from, up_to, with_entry, without, with_end, with_end_value, with_last_end, EndValue}
 use Rattle.blaze_entries.proofs.Ascending.{by_order}
 use Rattle.blaze_entries.proofs.Held.{edited_nodes, nodes_ascend, with_entry-held, without-held, with_end-held, with_end_value-held, with_last_end-held, below-held, from-held, up_to-held}
 use Rattle.blaze_entries.proofs.NodeLists.{as_entries_insert, as_entries_remove, as_entries_end, as_entries_set, as_entries_below, as_entries_from, as_entries_between, as_entries_at_or_above, as_entries_from_up_to, as_entries_all, last_of_append}
 
 module _ {T V : Type 0} (rank : T → ℤ) (low high : ℤ) (m n : List (T × EndValue T (Option V))) (h : AreHeld low high (shown_nodes rank m)) where
-  -- the nodes are those of the entries
+  -- the nodes are the nodes of the entries
   abbrev AreThose : List (Entry V) → Type 0
   AreThose es = shown_nodes rank n ≡ map held es
 
@@ -34,7 +34,7 @@ module _ {T V : Type 0} (rank : T → ℤ) (low high : ℤ) (m n : List (T × En
   pub split_from : (k : T) → n ≡ entries_from (on rank int_cmp k) m → AreThose (from (rank k) (entries_of rank m))
   split_from k q = edited_nodes low high (from (rank k)) _ _ _ h (ap (shown_nodes rank) q ∙ as_entries_from rank k m) (from-held (rank k) (entries_of rank m))
 
-  -- and those that a range of them gives
+  -- the nodes that a range of the map yields
   module _ (k : T) where
     pub ranged_below : n ≡ entries_between (on rank int_cmp) Unbounded (Excluded k) m → AreThose (below (rank k) (entries_of rank m))
     ranged_below q = edited_nodes low high (below (rank k)) _ _ _ h (ap (shown_nodes rank) q ∙ as_entries_between rank k m) (below-held (rank k) (entries_of rank m))
@@ -52,12 +52,12 @@ module _ {T V : Type 0} (rank : T → ℤ) (low high : ℤ) (m n : List (T × En
       edited_nodes low high (below (high +ℤ pos 1)) _ _ _ h (ap (shown_nodes rank) q ∙ as_entries_all rank low high m (nodes_ascend low high _ h))
       (below-held (high +ℤ pos 1) (entries_of rank m))
 
--- the last of a list, as a step off its back gives it
+-- the last item of a list, as `next_back` yields it
 pub last_yielded : {A X : Type 0} (view : A → X) (s t : List X) (r : Option A) → MatchOption r ((s ≡ []) × (t ≡ [])) (λ x. s ≡ t ++ view x ∷ []) → option_map view r ≡ last_or None s
 last_yielded view s t None h = rw h.0 refl
 last_yielded view s t (Some x) h = rw h (sym (last_of_append None t (view x)))
 
--- a node that was found by a key, as one with that key
+-- a node that a lookup by its key returned
 pub lent_at : {T V : Type 0} (rank : T → ℤ) (k : T) (r : Option (Bor T × Bor (EndValue T V))) (o : Option (EndValue T V))
     → option_map (λ p. p.1.now) r ≡ o → IfSome r (λ p. on rank int_cmp k p.0.now ≡ Equal) → option_map (shown_lent_node rank) r ≡ option_map (shown_node_at rank k) o
 lent_at rank k None o q e = ap (option_map (shown_node_at rank k)) q

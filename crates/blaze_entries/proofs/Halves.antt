@@ -1,4 +1,4 @@
--- Lists in the order of their starts, in two parts: below a key and from it on.
+-- Lists whose starts ascend, in two parts: below a key and from it on.
 use Rattle.blaze_entries.proofs.Words.{◌≡◌, ℤ, pos, ◌+ℤ◌, ◌≤ℤ◌, ◌<ℤ◌, cond, ◌⊎◌, inl, inr, List, [], ◌∷◌, ◌++◌, refl, ◌∙◌, sym, ap, arith, ints, by_lt_z, lt_true, lt_false, le_true, le_false, Entry, StartsAscend, below, from}
 
 -- each start is below k
@@ -54,13 +54,13 @@ module _ {V : Type 0} where
       (λ l. rw (below_takes k e es l) (h.0, h.1, starts_of_below k (e.lo +ℤ pos 1) high es h.2))
       (λ l. rw (below_none k e.lo high (e ∷ es) l (omega (arith, ints), h.1, h.2)) tt)
 
-  -- all start below what is above the greatest key
+  -- all entries start below a number above the greatest key
   below_every : (b high k : ℤ) (es : List (Entry V)) → high <ℤ k → StartsAscend b high es → below k es ≡ es
   below_every b high k [] l h = refl
   below_every b high k (e ∷ es) l h =
       below_takes k e es (omega (arith, ints, h.1)) ∙ ap (λ t. e ∷ t) (below_every (e.lo +ℤ pos 1) high k es l h.2)
 
-  -- up to the key after k, if there is one
+  -- the entries that start up to k, bounded by the next key if it exists
   pub below_next : (low high k t : ℤ) (es : List (Entry V)) → StartsAscend low high es → (t ≡ k +ℤ pos 1) ⊎ ((k ≡ high) × (t ≡ high)) → below (t +ℤ pos 1) es ≡ below (k +ℤ pos 2) es
   below_next low high k t es h (inl q) = let r : t +ℤ pos 1 ≡ k +ℤ pos 2 = omega (arith, ints, q) in ap (λ x. below x es) r
   below_next low high k t es h (inr q) =
@@ -68,7 +68,7 @@ module _ {V : Type 0} where
       let last = q.1 in
       below_every low high (t +ℤ pos 1) es (omega (arith, ints)) h ∙ sym (below_every low high (k +ℤ pos 2) es (omega (arith, ints)) h)
 
-  -- the two parts of a list in order are the whole
+  -- the two parts of a list, one after the other, are the list
   pub halves : (k b high : ℤ) (es : List (Entry V)) → StartsAscend b high es → es ≡ below k es ++ from k es
   halves k b high [] h = refl
   halves k b high (e ∷ es) h = by_lt_z e.lo k

@@ -1,4 +1,4 @@
--- Entries as full nodes: the searches and edits of the nodes are those of the entries.
+-- Entries as full nodes: lookups and edits of the nodes are lookups and edits of the entries.
 use Rattle.blaze_entries.proofs.Words.{◌≡◌, ℤ, pos, ◌+ℤ◌, Bool, true, false, cond, List, [], ◌∷◌, Option, Some, None, refl, ◌∙◌, sym, subst, ap, map, int_lt, int_le, IsSome, int_cmp, int_eq, match_ordering, Less, Equal, Greater, filter, last_or, option_map, Entry, entry, StartsAscend, below, from, up_to, first_entry, last_below, first_from, start_at, with_entry, without, with_end, with_end_value, with_last_end, IsStartMoved, IsFrontReplaced, held, full, AreFull, AreHeld}
 
 module _ {V : Type 0} where
@@ -10,7 +10,7 @@ module _ {V : Type 0} where
   starts_of_held b high [] h = tt
   starts_of_held b high (e ∷ es) h = (h.0, h.1, starts_of_held (e.lo +ℤ pos 1) high es h.2)
 
-  -- nodes that are those of entries in order
+  -- the nodes of entries whose starts ascend
   pub are_held : (low high : ℤ) (ps : List (Entry (Option V))) (es : List (Entry V)) → ps ≡ map held es → StartsAscend low high es → AreHeld low high ps
   are_held low high ps es q s =
       subst (AreHeld low high) (sym q)
@@ -19,7 +19,7 @@ module _ {V : Type 0} where
         full = record { held = ap (map held) (sym (full-held es)) };
       })
 
-  -- the starts of the nodes ascend too
+  -- the starts of the nodes ascend
   pub nodes_ascend : (low high : ℤ) (ps : List (Entry (Option V))) → AreHeld low high ps → StartsAscend low high ps
   nodes_ascend low high ps h = subst (StartsAscend low high) (sym h.full.held) (starts_of_held low high (full ps) h.ascend)
 
@@ -102,7 +102,7 @@ module _ {V : Type 0} where
         | false ↦ ap (λ l. held e ∷ l) (with_end_value-held k h v es)
       ]
 
-  -- a node that is found is that of an entry
+  -- a node that a lookup returns is the node of an entry
   pub record IsHeld (p : Entry (Option V)) (o : Option (Entry V)) : Type 0 where
     pub of : Entry V
     pub found : o ≡ Some of
@@ -122,7 +122,7 @@ module _ {V : Type 0} where
   pub none_held : (o : Option (Entry V)) → o ≡ None → option_map held o ≡ None
   none_held o q = ap (option_map held) q
 
-  -- the moves of a start
+  -- an entry gets another start
   pub start_moved-held : (k s : ℤ) (es : List (Entry V)) (ps : List (Entry (Option V))) → IsStartMoved k s (map held es) ps → (new : List (Entry V)) × (ps ≡ map held new) × IsStartMoved k s es new
   start_moved-held k s es ps m =
       let h = is_held m.of (start_at k es) (sym (start_at-held k es) ∙ m.found) in
@@ -143,7 +143,7 @@ module _ {V : Type 0} where
         record { of = h.of; found = h.found; replaced = refl },
       )
 
-  -- nodes after an edit
+  -- the nodes after an edit
   pub edited_nodes : (low high : ℤ) (f : List (Entry (Option V)) → List (Entry (Option V))) (ps ns : List (Entry (Option V))) (es : List (Entry V))
       → AreHeld low high ps → ns ≡ f ps → f (map held (full ps)) ≡ map held es → ns ≡ map held es
   edited_nodes low high f ps ns es h q c = q ∙ ap f h.full.held ∙ c
@@ -151,7 +151,7 @@ module _ {V : Type 0} where
   pub full_of : (ns : List (Entry (Option V))) (es : List (Entry V)) → ns ≡ map held es → full ns ≡ es
   full_of ns es q = ap full q ∙ full-held es
 
-  -- the moves among nodes, as moves among their entries
+  -- a node that gets another start, as an entry that gets another start
   pub start_moved_full : (low high k s : ℤ) (ps ns : List (Entry (Option V))) → AreHeld low high ps → IsStartMoved k s ps ns → IsStartMoved k s (full ps) (full ns) × (ns ≡ map held (full ns))
   start_moved_full low high k s ps ns h m =
       let r = start_moved-held k s (full ps) ns (subst (λ (x : List (Entry (Option V))). IsStartMoved k s x ns) h.full.held m) in
@@ -164,6 +164,6 @@ module _ {V : Type 0} where
       let q : full ns ≡ r.0 = full_of ns r.0 r.1 in
       (subst (IsFrontReplaced k z v s (full ps)) (sym q) r.2, r.1 ∙ ap (map held) (sym q))
 
-  -- nodes that are those of entries are full
+  -- the nodes of entries are full
   pub full_held : (ps : List (Entry (Option V))) (es : List (Entry V)) → ps ≡ map held es → AreFull ps
   full_held ps es q = record { held = q ∙ ap (map held) (sym (full_of ps es q)) }

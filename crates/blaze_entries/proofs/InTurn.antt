@@ -1,4 +1,4 @@
--- A closure asked at one item after another: its answers, and what they keep.
+-- A closure called at one item after another: its results, and the items that they keep.
 use Rattle.blaze_entries.proofs.Words.{◌≡◌, Bool, true, false, List, [], ◌∷◌, ◌++◌, length, refl, sym, subst, ap, arith, items_where_true, ReturnsInTurn}
 
 module _ {F X : Type 0} (R : F → X → Bool → F → Type 0) where

@@ -1,4 +1,4 @@
--- Nodes that a search found, among full nodes.
+-- Borrowed nodes that a lookup returned, among full nodes.
 use Rattle.blaze_entries.proofs.Words.{◌≡◌, ℕ, ◌-◌, ◌<◌, length, ℤ, pos, ◌+ℤ◌, true, false, cond, List, [], ◌∷◌, Option, Some, None, Result, Ok, Err, refl, ◌∙◌, sym, subst, ap, arith, IsSome, IfSome, OnErr, int_lt, ◌↔◌, option_map, option_copied, slice_get, length-map, slice_get-map, Bor, Entry, entry, held, full, AreHeld, shown_node, shown_node_at, shown_lent_node, shown_nodes, last_below, reaching, holder_of, first_from, start_at, with_entry, IsCloneInserted, EndValue}
 use Rattle.blaze_entries.proofs.Held.{last_below-held, first_from-held, start_at-held, none_held, some_held}
 
@@ -6,7 +6,7 @@ module _ {T V : Type 0} (rank : T → ℤ) where
   is_full : (p : Entry (Option V)) (e : Entry V) → p ≡ held e → IsSome p.value
   is_full p e q = subst (λ (x : Entry (Option V)). IsSome x.value) (sym q) refl
 
-  -- a node that shows an entry has a value
+  -- the node of an entry has a value
   pub full_lent : (r : Option (Bor T × Bor (EndValue T (Option V)))) (o : Option (Entry V)) → option_map (shown_lent_node rank) r ≡ option_map held o → IfSome r (λ p. IsSome p.1.now.value)
   full_lent None o q = tt
   full_lent (Some p) None q = cc
@@ -60,7 +60,7 @@ module _ {V : Type 0} (low high k : ℤ) (ps : List (Entry (Option V))) (h : Are
 pub no_value : (X : Type 0) → IsSome {T = X} None → ⊥
 no_value X j = cc
 
--- a node by its index in the list
+-- a node by its position in the list
 pub node_at_index : {T V : Type 0} (rank : T → ℤ) (m : List (T × EndValue T (Option V))) (i : ℕ) (r : Option (Bor T × Bor (EndValue T (Option V))))
     → IfSome r (λ p. slice_get m i ≡ Some (p.0.now, p.1.now)) → IsSome r ↔ (0 < length m) → (low high : ℤ) → (h : AreHeld low high (shown_nodes rank m))
     → option_map (shown_lent_node rank) r ≡ option_map held (slice_get (full (shown_nodes rank m)) i)

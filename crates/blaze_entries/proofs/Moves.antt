@@ -1,4 +1,4 @@
--- An empty node that is put in, and filled behind an edit of another.
+-- An empty node is inserted, and filled after an edit of another node.
 use Rattle.blaze_entries.proofs.Words.{◌≡◌, ◌+◌, length, ℤ, pos, ◌+ℤ◌, ◌≤ℤ◌, ◌<ℤ◌, true, false, cond, List, [], ◌∷◌, Option, Some, None, refl, ◌∙◌, sym, subst, ap, arith, IsSome, int_eq, ints, eq_true, Entry, entry, StartsAscend, start_at, with_entry, without, with_end_value, IsStartMoved, IsFrontReplaced}
 use Rattle.blaze_entries.proofs.Ascending.{by_order, start_with_entry, start_without, start_with_end_value, length-with_entry, length-without}
 
@@ -11,7 +11,7 @@ module _ {V : Type 0} where
       (λ o p q. absurd (omega (arith, ints, h.0)))
       (λ o p q. absurd (omega (arith, ints, h.0)))
 
-  -- a start that is there is not one that is absent
+  -- the start of an entry differs from a start without an entry
   pub differs : (k s : ℤ) (es : List (Entry V)) → IsSome (start_at k es) → start_at s es ≡ None → int_eq k s ≡ false
   differs k s es i n = by_order k s
       (λ o p q. q)
@@ -22,7 +22,7 @@ module _ {V : Type 0} where
       not_none None i n = cc
       not_none (Some e) i n = cc
 
-  -- what is found elsewhere stays
+  -- an insertion does not change lookups at other starts
   pub start_at-with_entry : (k : ℤ) (e : Entry V) (es : List (Entry V)) → int_eq k e.lo ≡ false → start_at k (with_entry e es) ≡ start_at k es
   start_at-with_entry k e [] n = rw n refl
   start_at-with_entry k e (f ∷ fs) n = by_order e.lo f.lo
@@ -30,7 +30,7 @@ module _ {V : Type 0} where
       (λ o p q. let m : int_eq k f.lo ≡ false = subst (λ x. int_eq k x ≡ false) o n in rw (p, m) refl)
       (λ o p q. rw p (ap (cond (int_eq k f.lo) (Some f)) (start_at-with_entry k e fs n)))
 
-  -- the value of what was put in, changed
+  -- the value of an inserted entry, changed
   set_put : (k h z : ℤ) (u v : V) (es : List (Entry V)) → with_end_value k z v (with_entry (entry k h u) es) ≡ with_entry (entry k z v) es
   set_put k h z u v [] = rw (eq_true k k refl) refl
   set_put k h z u v (f ∷ fs) = by_order k f.lo
@@ -44,7 +44,7 @@ module _ {V : Type 0} where
   not_first : (k : ℤ) (f : Entry V) (fs : List (Entry V)) → int_eq k f.lo ≡ true → start_at k (f ∷ fs) ≡ None → ⊥
   not_first k f fs q n = let m : Some f ≡ None = rw q at n in cc
 
-  -- put in, another taken out, and filled
+  -- insert one entry, remove another, fill the first
   module _ (k s h z : ℤ) (u w : V) (n : int_eq k s ≡ false) where
     set_behind_without : (b high : ℤ) (es : List (Entry V)) → StartsAscend b high es → start_at s es ≡ None
         → with_end_value s z w (without k (with_entry (entry s h u) es)) ≡ with_entry (entry s z w) (without k es)
@@ -57,7 +57,7 @@ module _ {V : Type 0} where
         (λ o2 p2 q2. rw q2 (set_put s h z u w fs))
         (λ o2 p2 q2. rw (q2, q, p) (ap (λ l. f ∷ l) (set_behind_without (f.lo +ℤ pos 1) high fs a.2 (absent_next s f fs q m))))))
 
-    -- put in, another changed, and filled
+    -- insert one entry, change another, fill the first
     set_behind_change : (y : ℤ) (v : V) (b high : ℤ) (es : List (Entry V)) → StartsAscend b high es → start_at s es ≡ None
         → with_end_value s z w (with_end_value k y v (with_entry (entry s h u) es)) ≡ with_entry (entry s z w) (with_end_value k y v es)
     set_behind_change y v b high [] a m = rw (n, eq_true s s refl) refl
@@ -69,7 +69,7 @@ module _ {V : Type 0} where
         (λ o2 p2 q2. rw (q2, q, p) (ap (λ l. entry f.lo y v ∷ l) (set_put s h z u w fs)))
         (λ o2 p2 q2. rw (q2, q, p) (ap (λ l. f ∷ l) (set_behind_change y v (f.lo +ℤ pos 1) high fs a.2 (absent_next s f fs q m))))))
 
-  -- the steps of a move: an empty node put in, the node taken out, and put into the empty one
+  -- a move: insert an empty node, remove the old node, put its content into the empty one
   pub is_start_moved : (k s h : ℤ) (u : V) (b high : ℤ) (old one two new : List (Entry V)) (node : Entry V)
       → StartsAscend b high old → IsSome (start_at k old) → start_at s old ≡ None
       → one ≡ with_entry (entry s h u) old → Some node ≡ start_at k one → two ≡ without k one → new ≡ with_end_value s node.hi node.value two → IsStartMoved k s old new
@@ -81,7 +81,7 @@ module _ {V : Type 0} where
         moved = r ∙ ap (with_end_value s node.hi node.value) (q ∙ ap (without k) p) ∙ set_behind_without k s h node.hi u node.value n b high old a m;
       }
 
-  -- the steps of a front replaced: an empty node put in, the node replaced, and put into the empty one
+  -- a new front: insert an empty node, replace the old node, put its content into the empty one
   pub is_front_replaced : (k y s h : ℤ) (v u : V) (b high : ℤ) (old one two new : List (Entry V)) (node : Entry V)
       → StartsAscend b high old → IsSome (start_at k old) → start_at s old ≡ None
       → one ≡ with_entry (entry s h u) old → Some node ≡ start_at k one → two ≡ with_end_value k y v one → new ≡ with_end_value s node.hi node.value two → IsFrontReplaced k y v s old new
@@ -93,7 +93,7 @@ module _ {V : Type 0} where
         replaced = r ∙ ap (with_end_value s node.hi node.value) (q ∙ ap (with_end_value k y v) p) ∙ set_behind_change k s h node.hi u node.value n y v b high old a m;
       }
 
-  -- the node is there
+  -- the old node still exists
   pub still_there : (k s h : ℤ) (u : V) (old one : List (Entry V)) → IsSome (start_at k old) → start_at s old ≡ None → one ≡ with_entry (entry s h u) old → None ≡ start_at k one → ⊥
   still_there k s h u old one i m p f =
       not_none (start_at k old) i (sym (start_at-with_entry k (entry s h u) old (differs k s old i m)) ∙ ap (start_at k) (sym p) ∙ sym f)
@@ -102,7 +102,7 @@ module _ {V : Type 0} where
       not_none None i n = cc
       not_none (Some e) i n = cc
 
-  -- a moved start keeps the order
+  -- a move keeps the order
   pub start_moved : (b high k s : ℤ) (old new : List (Entry V)) → b ≤ℤ s → s ≤ℤ high → StartsAscend b high old → IsStartMoved k s old new → StartsAscend b high new
   start_moved b high k s old new l u a m =
       subst (StartsAscend b high) (sym m.moved) (start_with_entry b high (entry s m.of.hi m.of.value) (without k old) l u (start_without b high k old a))
@@ -111,7 +111,7 @@ module _ {V : Type 0} where
   start_front_replaced b high k y s v old new l u a m =
       subst (StartsAscend b high) (sym m.replaced) (start_with_entry b high (entry s m.of.hi m.of.value) (with_end_value k y v old) l u (start_with_end_value b high k y v old a))
 
-  -- how many entries there are afterwards
+  -- the number of entries after a move
   start_at-without : (k s : ℤ) (es : List (Entry V)) → start_at s es ≡ None → start_at s (without k es) ≡ None
   start_at-without k s [] n = n
   start_at-without k s (e ∷ es) n = by_order s e.lo

@@ -1,4 +1,4 @@
--- What the map's own edits and searches are on the entries that it shows.
+-- The map's own edits and lookups, as edits and lookups of the entries.
 use Rattle.blaze_entries.proofs.Words.{◌≡◌, ◌-◌, length, ℤ, pos, ◌+ℤ◌, ◌≤ℤ◌, Bool, true, false, cond, not, ◌&&◌, List, [], ◌∷◌, ◌++◌, Option, Some, None, refl, ◌∙◌, sym, subst, ap, arith, int_lt, int_le, map, int_cmp, int_eq, is_gt, is_le, is_lt, match_ordering, on, Ordering, Less, Equal, Greater, filter, last_or, slice_get, option_map, lookup, remove_entry, keys_of, values_of, TakesFirst, TakesLast, insert_entry, is_at, entries_between, entries_below, entries_from, Included, Excluded, Unbounded, ints, length-map, slice_get-map, Entry, entry, changed, EndValue, shown_nodes, shown_node, shown_node_at, StartsAscend, below, from, up_to, first_entry, last_below, start_at, with_entry, without, with_end, with_end_value, with_last_end}
 use Rattle.blaze_entries.proofs.Ascending.{by_order}
 
@@ -6,7 +6,7 @@ pub last_of_append : {X : Type 0} (o : Option X) (t : List X) (e : X) → last_o
 last_of_append o [] e = refl
 last_of_append o (x ∷ t) e = last_of_append (Some x) t e
 
--- what `next_back` and `next` give
+-- the results of `next_back` and `next`
 pub last_taken : {A X : Type 0} (shows : A → X) (s t : List X) (r : Option A) → TakesLast shows s r t → option_map shows r ≡ last_or None s
 last_taken shows s t None h = rw h.0 refl
 last_taken shows s t (Some x) h = rw h (sym (last_of_append None t (shows x)))
@@ -15,7 +15,7 @@ pub first_taken : {A X : Type 0} (shows : A → X) (s t : List X) (r : Option A)
 first_taken shows s t None h = rw h.0 refl
 first_taken shows s t (Some x) h = rw h refl
 
--- the tests of the searches, by rank
+-- the comparisons of a lookup, by rank
 module _ (k z : ℤ) where
   above_is : is_gt (int_cmp k z) ≡ int_lt z k
   above_is = by_order k z
@@ -37,7 +37,7 @@ module _ (k z : ℤ) where
   up_to_and_is = by_order k z
       (λ o p e. rw p (sym (grind (arith, ints)))) (λ o p e. rw p (sym (grind (arith, ints)))) (λ o p e. rw p (sym (grind (arith, ints))))
 
--- what passes two tests
+-- items that pass two tests
 filter_both : {X : Type 0} (p q : X → Bool) (xs : List X) → filter (λ x. p x && q x) xs ≡ filter q (filter p xs)
 filter_both p q [] = refl
 filter_both p q (x ∷ xs) =
@@ -135,7 +135,7 @@ module _ {T V : Type 0} (rank : T → ℤ) where
     pub as_entries_from : shown_nodes rank (entries_from (on rank int_cmp k) m) ≡ from (rank k) (shown_nodes rank m)
     as_entries_from = as_entries_filter (λ q. is_le (int_cmp (rank k) (rank q))) (λ z. int_le (rank k) z) (λ q. up_to_is (rank k) (rank q)) m
 
--- the last entry with another end: what the list is with an entry at its start
+-- The last entry gets another end: the list is the one with a new entry at its start.
 with_last : {V : Type 0} (h b high : ℤ) (x : Entry V) (xs : List (Entry V)) (e : Entry V) → StartsAscend b high (x ∷ xs) → slice_get (x ∷ xs) (length xs) ≡ Some e
     → (b ≤ℤ e.lo) × (with_entry (entry e.lo h e.value) (x ∷ xs) ≡ with_last_end h (x ∷ xs))
 with_last {V} h b high x [] e s p =
@@ -149,7 +149,7 @@ with_last h b high x (y ∷ ys) e s p =
       by_order e.lo x.lo (λ o p q. absurd (omega (arith, ints))) (λ o p q. absurd (omega (arith, ints))) (λ o p q. rw p (ap (λ l. x ∷ l) later.1)),
     )
 
--- a value written through the last entry of a map, which differs in its end
+-- the last entry of a map gets another end by a write
 pub last_end_written : {T V : Type 0} (rank : T → ℤ) (low high : ℤ) (m new : List (T × EndValue T V)) (k h : T) (v : EndValue T V) (written : EndValue T V → List (T × EndValue T V))
     → StartsAscend low high (shown_nodes rank m) → slice_get (keys_of m) (length m - 1) ≡ Some k → slice_get (values_of m) (length m - 1) ≡ Some v
     → ((w : EndValue T V) → written w ≡ insert_entry (on rank int_cmp) m k w) → new ≡ written (record v { end = h })

@@ -1,15 +1,15 @@
--- What was seen of a list's entries, with one more entry in front.
+-- A walk's plan after one more entry in front of those visited.
 use Rattle.blaze_entries.proofs.Words.{◌≡◌, ℕ, ◌+◌, length, ℤ, pos, ◌+ℤ◌, ◌≤ℤ◌, ◌<ℤ◌, Bool, true, false, cond, List, [], ◌∷◌, ◌++◌, Option, Some, None, refl, ◌∙◌, sym, subst, ap, arith, int_lt, int_le, ◌||◌, int_eq, last_or, option_map, ints, by_lt_z, filter-append, by_bool, lt_true, lt_false, le_true, le_false, Entry, found_in, StartsAscend, below, from, last_below, start_at, RangesAscend, Seen, end_of, rest_of, inner, moved, IsSeenIn, unseen, seen, seen_end, seen_start, seen_within}
 use Rattle.blaze_entries.proofs.Ascending.{by_order, start_lower, start_none}
 use Rattle.blaze_entries.proofs.Halves.{StartsBelow, below_none, below_skips, below_takes, from_takes, from_skips}
 
--- what ranges in order say of their starts
+-- if ranges ascend, their starts ascend
 pub starts_of : {V : Type 0} (b high : ℤ) (es : List (Entry V)) → RangesAscend b high es → StartsAscend b high es
 starts_of b high [] r = tt
 starts_of b high (e ∷ es) r =
     (r.0, omega (arith, ints, r.1, r.2), start_lower (e.hi +ℤ pos 1) (e.lo +ℤ pos 1) high es (omega (arith, ints, r.1)) (starts_of (e.hi +ℤ pos 1) high es r.3))
 
--- the last entry that starts below k, behind others
+-- the last entry that starts below k, after others
 pub last_past : {V : Type 0} (k : ℤ) (xs : List (Entry V)) (e : Entry V) (ys : List (Entry V)) → e.lo <ℤ k → last_below k (xs ++ e ∷ ys) ≡ last_below k (e ∷ ys)
 last_past {V} k xs e ys u =
     ap (last_or None) (filter-append (λ x. int_lt x.lo k) xs (e ∷ ys) ∙ ap (λ z. below k xs ++ z) (below_takes k e ys u)) ∙ last_in None (below k xs) (below k ys) ∙ sym (ap (last_or None) (below_takes k e ys u))
@@ -22,7 +22,7 @@ module _ {V : Type 0} (test : V → Bool) (l h high : ℤ) (w : l ≤ℤ h) wher
   abbrev shown : Option (Entry V) → Option (ℤ × ℤ × Bool)
   shown o = option_map (found_in test) o
 
-  -- nothing, where all start above the key above the range
+  -- the plan is empty if all entries start above the key above the range
   pub none_seen : (b : ℤ) (es : List (Entry V)) → (h +ℤ pos 2) ≤ℤ b → StartsAscend b high es → IsSeenIn test l h es (unseen h)
   none_seen b es u s = record {
     end = sym (ap (λ x. end_of h (shown (last_or None x))) (below_none (h +ℤ pos 2) b high es u s));
@@ -32,7 +32,7 @@ module _ {V : Type 0} (test : V → Bool) (l h high : ℤ) (w : l ≤ℤ h) wher
     gone = sym (ap (λ x. length (from (l +ℤ pos 1) x)) (below_none (h +ℤ pos 1) b high es (omega (arith, ints)) s));
   }
 
-  -- and nothing else
+  -- no other plan fits
   only_none : (b : ℤ) (es : List (Entry V)) → (h +ℤ pos 2) ≤ℤ b → StartsAscend b high es → (q : Seen) → IsSeenIn test l h es q → q ≡ unseen h
   only_none b es u s q i =
       let n = none_seen b es u s in
@@ -48,7 +48,7 @@ module _ {V : Type 0} (test : V → Bool) (l h high : ℤ) (w : l ≤ℤ h) wher
   abbrev gone_of : Bool → Seen → Seen
   gone_of b s = cond b (record s { gone = s.gone + 1 }) s
 
-  -- of an entry in front, one more where it starts above l, up to z
+  -- an entry in front counts if it starts above l, up to z
   inner_takes : (z : ℤ) (e : Entry V) (es : List (Entry V)) → l <ℤ e.lo → e.lo ≤ℤ z → length (inner l z (e ∷ es)) ≡ length (inner l z es) + 1
   inner_takes z e es a u =
       let all = ap (λ x. length (from (l +ℤ pos 1) x)) (below_takes (z +ℤ pos 1) e es (omega (arith, ints))) in
@@ -63,12 +63,12 @@ module _ {V : Type 0} (test : V → Bool) (l h high : ℤ) (w : l ≤ℤ h) wher
   inner_none : (z b : ℤ) (es : List (Entry V)) → z <ℤ b → StartsAscend b high es → length (inner l z es) ≡ 0
   inner_none z b es a s = ap (λ x. length (from (l +ℤ pos 1) x)) (below_none (z +ℤ pos 1) b high es (omega (arith, ints)) s)
 
-  -- how many go, once the entry e was seen
+  -- the number of removed entries, once the entry e is visited
   record IsGone (q : Seen) (es : List (Entry V)) (e : Entry V) : Type 0 where
     under : e.lo ≤ℤ l → q.gone + moved l q.rest ≡ length (inner l q.end es)
     over : l <ℤ e.lo → (gone_of (test e.value || int_le e.hi h) q).gone + moved l q.rest ≡ length (inner l q.end es)
 
-  -- an entry below the others, which all start at l or above, by what its end makes of what was seen
+  -- an entry below the others, which all start at l or above, once its end is in the plan
   start_seen : (e : Entry V) (es : List (Entry V)) → below l es ≡ [] → (p q : Seen) → seen_end h p (found_in test e) ≡ q → q.end ≡ end_of h (shown (last_below (h +ℤ pos 2) (e ∷ es))) → q.rest ≡ rest_of h (shown (last_below (h +ℤ pos 1) (e ∷ es)))
       → q.first ≡ shown (start_at l es) → q.left ≡ None → IsGone q (e ∷ es) e → IsSeenIn test l h (e ∷ es) (seen l h p (found_in test e))
   start_seen e es under p q is end rest first left gone = subst (λ x. IsSeenIn test l h (e ∷ es) (seen_start l h x (found_in test e))) (sym is) (by_order l e.lo
@@ -86,7 +86,7 @@ module _ {V : Type 0} (test : V → Bool) (l h high : ℤ) (w : l ≤ℤ h) wher
       ] (gone.over o)
 
   module _ (e : Entry V) (es : List (Entry V)) (near : e.lo ≤ℤ (h +ℤ pos 1)) (under : below l es ≡ []) where
-    -- it goes on above the range
+    -- the entry extends above the range
     long_seen : e.lo ≤ℤ high → h <ℤ e.hi → StartsAscend (e.hi +ℤ pos 1) high es → IsSeenIn test l h (e ∷ es) (seen l h (unseen h) (found_in test e))
     long_seen e_key long past =
         by_bool (test e.value)
@@ -133,7 +133,7 @@ module _ {V : Type 0} (test : V → Bool) (l h high : ℤ) (w : l ≤ℤ h) wher
             (λ b. rw (past_it b) refl)
             (λ b. rw (at_it b, lt_true h e.hi long, t) refl)
 
-    -- it does not
+    -- the entry ends within the range
     short_seen : e.lo ≤ℤ e.hi → e.hi ≤ℤ h → (q : Seen) → h ≤ℤ q.end → IsSeenIn test l h es q → IsSeenIn test l h (e ∷ es) (seen l h q (found_in test e))
     short_seen c u q up i =
         start_seen e es under q q (rw (lt_false h e.hi u) refl)
@@ -154,14 +154,14 @@ module _ {V : Type 0} (test : V → Bool) (l h high : ℤ) (w : l ≤ℤ h) wher
         last f n [] = n
         last f n (x ∷ xs) = refl
 
-  -- where the range ends, at its last key or above
+  -- the joined range ends at the range's last key or above
   end_up : (o : Option (Entry V)) → h ≤ℤ end_of h (shown o)
   end_up None = omega (arith, ints)
   end_up (Some e) = by_lt_z h e.hi
       (λ u. rw (lt_true h e.hi u) (elim (test e.value) as (λ b. h ≤ℤ cond b e.hi h) [ true ↦ omega (arith, ints) | false ↦ omega (arith, ints) ]))
       (λ u. rw (lt_false h e.hi u) (omega (arith, ints)))
 
-  -- one more entry, in front of those that start at l or above
+  -- one more entry, in front of entries that start at l or above
   pub next_seen : (b : ℤ) (e : Entry V) (es : List (Entry V)) → RangesAscend b high (e ∷ es) → e.lo <ℤ (h +ℤ pos 2) → StartsAscend l high es → (q : Seen) → IsSeenIn test l h es q → IsSeenIn test l h (e ∷ es) (seen l h q (found_in test e))
   next_seen b e es r near all q i =
       let under = below_none l l high es (omega (arith, ints)) all in
@@ -170,7 +170,7 @@ module _ {V : Type 0} (test : V → Bool) (l h high : ℤ) (w : l ≤ℤ h) wher
       (λ u. subst (λ x. IsSeenIn test l h (e ∷ es) (seen l h x (found_in test e))) (sym (only_none (e.hi +ℤ pos 1) es (omega (arith, ints)) past q i)) (long_seen e es (omega (arith, ints)) under (omega (arith, ints, r.1, r.2)) u past))
       (λ u. short_seen e es (omega (arith, ints)) under r.1 u q (subst (λ z. h ≤ℤ z) (sym i.end) (end_up (last_below (h +ℤ pos 2) es))) i)
 
-  -- and those below one that starts below l
+  -- the entries before an entry that starts below l do not change the plan
   pub past_seen : (xs : List (Entry V)) (e : Entry V) (es : List (Entry V)) → StartsBelow l xs → e.lo <ℤ l → (q : Seen) → IsSeenIn test l h (e ∷ es) q → IsSeenIn test l h (xs ++ e ∷ es) q
   past_seen xs e es s v q i = record {
     end = i.end ∙ ap (λ o. end_of h (shown o)) (sym (last_past (h +ℤ pos 2) xs e es (omega (arith, ints))));

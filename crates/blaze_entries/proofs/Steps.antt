@@ -1,10 +1,10 @@
--- One step of an iterator over full nodes.
+-- One call of `next` or `next_back` of an iterator over full nodes.
 use Rattle.blaze_entries.proofs.Words.{◌≡◌, ◌+◌, ◌<◌, length, ℤ, pos, ◌+ℤ◌, List, [], ◌∷◌, ◌++◌, Option, Some, None, refl, ◌∙◌, sym, subst, ap, arith, length-append, map, IsSome, IfSome, IfNone, MatchOption, ◌↔◌, MakesProgress, item_count, TakesFirst, TakesLast, option_map, ints, Entry, held, full, shown_node, shown_nodes, entries_of, AreFull, AreHeld, StartsAscend, EndValue}
 use Rattle.blaze_entries.proofs.Ascending.{start_front, start_lower}
 use Rattle.blaze_entries.proofs.Held.{full-held}
 use Rattle.blaze_entries.proofs.Lent.{no_value}
 
--- the steps of a list, as those of what is shown of it
+-- the calls on a list, as calls on what the list represents
 takes_first_shown : {A X Y : Type 0} (f : X → Y) (shows : A → X) (s : List X) (r : Option A) (t : List X) → TakesFirst shows s r t → TakesFirst (λ x. f (shows x)) (map f s) r (map f t)
 takes_first_shown f shows s None t h = (ap (map f) h.0, ap (map f) h.1)
 takes_first_shown f shows s (Some x) t h = ap (map f) h
@@ -18,7 +18,7 @@ takes_last_shown f shows s None t h = (ap (map f) h.0, ap (map f) h.1)
 takes_last_shown f shows s (Some x) t h = ap (map f) h ∙ map-append f t (shows x ∷ [])
 
 module _ {A V : Type 0} (shows : A → Entry (Option V)) where
-  -- a node was taken off an end of nodes that are full: join puts its entry back among the others
+  -- A node was yielded from one end of full nodes. `join` puts its entry back among the others.
   pub record Taken (join : List (Entry V) → Entry V → List (Entry V)) (es : List (Entry V)) (r : Option A) (qs : List (Entry (Option V))) : Type 0 where
     pub entry : Option (Entry V)
     pub is : option_map shows r ≡ option_map held entry
@@ -73,23 +73,23 @@ module _ {A V : Type 0} (shows : A → Entry (Option V)) where
         yields = s.whole ∙ ap (λ l. l ++ s.last ∷ []) (sym entries);
       }
 
--- a node was taken off an end of nodes that are full
+-- a node was yielded from one end of full nodes
 module _ {T V A : Type 0} (rank : T → ℤ) (shows : A → T × EndValue T (Option V)) (nodes : List (T × EndValue T (Option V))) (r : Option A) (rest : List (T × EndValue T (Option V))) (h : AreFull (shown_nodes rank nodes)) where
-  -- what the step off the front took
+  -- the node that `next` yields
   pub first_node_taken : TakesFirst shows nodes r rest → Taken (λ a. shown_node rank (shows a)) (λ fs e. e ∷ fs) (entries_of rank nodes) r (shown_nodes rank rest)
   first_node_taken t = first_taken (λ a. shown_node rank (shows a)) (shown_nodes rank nodes) r (shown_nodes rank rest) h (takes_first_shown (shown_node rank) shows nodes r rest t)
 
-  -- what the step off the back took
+  -- the node that `next_back` yields
   pub last_node_taken : TakesLast shows nodes r rest → Taken (λ a. shown_node rank (shows a)) (λ fs e. fs ++ e ∷ []) (entries_of rank nodes) r (shown_nodes rank rest)
   last_node_taken t = last_taken (λ a. shown_node rank (shows a)) (shown_nodes rank nodes) r (shown_nodes rank rest) h (takes_last_shown (shown_node rank) shows nodes r rest t)
 
--- what holds of an option holds of the one that it is the view of
+-- a fact about an option holds for the option that it is the view of
 by_view : {B X : Type 0} (view : B → X) (r : Option B) (o : Option X) (P : Type 0) (Q : X → Type 0) → option_map view r ≡ o → MatchOption o P Q → MatchOption r P (λ x. Q (view x))
 by_view view None o P Q q h = subst (λ (o : Option _). MatchOption o P Q) (sym q) h
 by_view view (Some x) o P Q q h = subst (λ (o : Option _). MatchOption o P Q) (sym q) h
 
 module _ {A V : Type 0} {shows : A → Entry (Option V)} {join : List (Entry V) → Entry V → List (Entry V)} {es : List (Entry V)} {r : Option A} {qs : List (Entry (Option V))} (t : Taken shows join es r qs) where
-  -- the node that was taken is full
+  -- the yielded node is full
   pub taken_is_full : IfSome r (λ a. IsSome (shows a).value)
   taken_is_full = by_cases r t.entry t.is
     where
@@ -98,13 +98,13 @@ module _ {A V : Type 0} {shows : A → Entry (Option V)} {join : List (Entry V) 
       by_cases (Some a) None q = cc
       by_cases (Some a) (Some e) q = let s : shows a ≡ held e = cc in subst (λ (x : Entry (Option V)). IsSome x.value) (sym s) refl
 
-  -- a call that answers the entry of what was taken takes a step of the list
+  -- a call that returns the entry of the yielded node yields the entry
   pub answers_taken : {B : Type 0} (view : B → Entry V) (answer : Option B) {fs : List (Entry V)} → ((o : Option (Entry V)) → option_map shows r ≡ option_map held o → option_map view answer ≡ o) → es ≡ fs
       → MatchOption answer ((fs ≡ []) × (full qs ≡ [])) (λ x. fs ≡ join (full qs) (view x))
   answers_taken view answer {fs} f q =
       subst (λ l. MatchOption answer ((l ≡ []) × (full qs ≡ [])) (λ x. l ≡ join (full qs) (view x))) q (by_view view answer t.entry _ _ (f t.entry t.is) t.yields)
 
--- what was taken leaves a shorter list
+-- the remaining list is shorter
 pub goes_first : {B X : Type 0} (can : List X → Type 0) (all : (s : List X) → can s) (view : B → X) (r : Option B) (es fs : List X) → MatchOption r ((es ≡ []) × (fs ≡ [])) (λ x. es ≡ view x ∷ fs) → MakesProgress can (item_count (λ s. s)) es r fs
 goes_first can all view None es fs h = record { on = λ _. tt; keeps = tt; rests = λ _. tt }
 goes_first can all view (Some x) es fs h =
@@ -117,7 +117,7 @@ goes_last can all view (Some x) es fs h =
     let n : length es ≡ length fs + 1 = ap length h ∙ omega (arith, length-append fs (view x ∷ [])) in
     record { on = λ _. (all fs, tt, omega (arith, n)); keeps = all fs; rests = λ _. tt }
 
--- what a step off the front leaves of entries in order is in order
+-- entries whose starts ascend still ascend after `next`
 pub rest_is_held : {A V : Type 0} {shows : A → Entry (Option V)} {es : List (Entry V)} {r : Option A} {qs : List (Entry (Option V))} (t : Taken shows (λ fs e. e ∷ fs) es r qs) (low high : ℤ)
     → StartsAscend low high es → AreHeld low high qs
 rest_is_held {V = V} {es = es} {qs = qs} t low high h = record { ascend = by_entry t.entry t.yields; full = t.others }
@@ -128,7 +128,7 @@ rest_is_held {V = V} {es = es} {qs = qs} t low high h = record { ascend = by_ent
         let all = subst (StartsAscend low high) y h in
         start_lower (e.lo +ℤ pos 1) low high (full qs) (omega (arith, ints, all.0)) all.2
 
--- and so is what a step off the back leaves
+-- entries whose starts ascend still ascend after `next_back`
 pub front_is_held : {A V : Type 0} {shows : A → Entry (Option V)} {es : List (Entry V)} {r : Option A} {qs : List (Entry (Option V))} (t : Taken shows (λ fs e. fs ++ e ∷ []) es r qs) (low high : ℤ)
     → StartsAscend low high es → AreHeld low high qs
 front_is_held {V = V} {es = es} {qs = qs} t low high h = record { ascend = by_entry t.entry t.yields; full = t.others }
@@ -137,13 +137,13 @@ front_is_held {V = V} {es = es} {qs = qs} t low high h = record { ascend = by_en
     by_entry None y = subst (StartsAscend low high) (sym y.1) tt
     by_entry (Some e) y = start_front low high (full qs) (e ∷ []) (subst (StartsAscend low high) y h)
 
--- what a call that takes the first of a list out says, as a step of the list
+-- a call that removes the first item of a list yields that item
 pub pops_first : {X : Type 0} (nodes : List X) (r : Option X) (rest : List X) → IsSome r ↔ (0 < length nodes) → IfSome r (λ p. nodes ≡ p ∷ rest) → IfNone r (rest ≡ nodes) → TakesFirst (λ p. p) nodes r rest
 pops_first [] None rest v s n = (refl, n)
 pops_first {X} (x ∷ nodes) None rest v s n = absurd (no_value X (v.1 (omega arith)))
 pops_first nodes (Some p) rest v s n = s
 
--- the same of the last
+-- a call that removes the last item of a list yields that item
 pub pops_last : {X : Type 0} (nodes : List X) (r : Option X) (rest : List X) → IsSome r ↔ (0 < length nodes) → IfSome r (λ p. nodes ≡ rest ++ p ∷ []) → IfNone r (rest ≡ nodes) → TakesLast (λ p. p) nodes r rest
 pops_last [] None rest v s n = (refl, n)
 pops_last {X} (x ∷ nodes) None rest v s n = absurd (no_value X (v.1 (omega arith)))

@@ -1,4 +1,4 @@
--- A walk down the entries to a range, underway: what it has found of the entries that it has seen.
+-- A walk down the entries to a range, before its end: its results from the entries that it has visited.
 use Rattle.blaze_entries.proofs.Words.{◌≡◌, ℕ, ◌+◌, ◌≤◌, length, ℤ, pos, ◌+ℤ◌, ◌-ℤ◌, ◌≤ℤ◌, ◌<ℤ◌, Bool, true, false, cond, List, [], ◌∷◌, ◌++◌, Option, Some, None, refl, ◌∙◌, sym, subst, ap, arith, append_assoc, length-append, int_lt, int_le, IfSome, IsSomeAnd, int_max, int_min, last_or, option_map, ints, by_lt_z, filter-append, le_true, le_false, lt_holds, lt_fails, Entry, at, found_in, shown_found, shared, overlap, covered, StartsAscend, below, from, last_below, RangesAscend, Seen, IsSeenIn, unseen, seen, seen_value, IsClonedIf, RangeEntry}
 use Rattle.blaze_entries.proofs.Ascending.{start_lower}
 use Rattle.blaze_entries.proofs.Halves.{StartsBelow, below_none, below_takes, from_takes, starts_from, starts_below, halves}
@@ -12,7 +12,7 @@ some_shared l h a b = up_to_keys (int_max l a) (int_min h b)
     up_to_keys a b = grind (arith, ints)
 
 module _ {V : Type 0} where
-  -- a part of a list in order
+  -- a part of a list whose ranges ascend
   ranges_part : (b high : ℤ) (xs ys : List (Entry V)) → RangesAscend b high (xs ++ ys) → (c : ℤ) × (b ≤ℤ c) × RangesAscend c high ys
   ranges_part b high [] ys r = (b, omega (arith, ints), r)
   ranges_part b high (x ∷ xs) ys r = let i = ranges_part (x.hi +ℤ pos 1) high xs ys r.3 in (i.0, omega (arith, ints, r.0, r.1, i.1), i.2)
@@ -36,7 +36,7 @@ module _ {V : Type 0} where
     pub overlap_over : (e : Entry V) → h <ℤ e.lo → overlap l h e ≡ pos 0
     overlap_over e u = grind (arith, ints)
 
-    -- nothing of what starts above the range
+    -- entries that start above the range share no key with it
     covered_over : (b high : ℤ) (es : List (Entry V)) → h <ℤ b → StartsAscend b high es → covered l h es ≡ pos 0
     covered_over b high [] u s = refl
     covered_over b high (e ∷ es) u s = omega (arith, ints, overlap_over e (omega (arith, ints, s.0)), covered_over (e.lo +ℤ pos 1) high es (omega (arith, ints, s.0)) s.2)
@@ -45,7 +45,7 @@ module _ {V : Type 0} where
     at_over b high [] u s = refl
     at_over b high (e ∷ es) u s = rw (le_false e.lo l (omega (arith, ints, s.0))) (at_over (e.lo +ℤ pos 1) high es (omega (arith, ints, s.0)) s.2)
 
-    -- nothing of what stands before an entry that starts below the range, and all of it starts below the range
+    -- entries before an entry that starts below the range start below it and share no key with it
     past : (b high : ℤ) (xs : List (Entry V)) (e : Entry V) (ys : List (Entry V)) → RangesAscend b high (xs ++ e ∷ ys) → e.lo <ℤ l → StartsBelow l xs × (covered l h xs ≡ pos 0) × (at (xs ++ e ∷ ys) l ≡ at (e ∷ ys) l)
     past b high [] e ys r u = (tt, refl, refl)
     past b high (x ∷ xs) e ys r u =
@@ -55,15 +55,15 @@ module _ {V : Type 0} where
         ((omega (arith, ints, r.1), i.0), omega (arith, ints, i.1, overlap_none x r.1 under), rw (le_true x.lo l (omega (arith, ints, r.1)), le_false l x.hi under) i.2)
 
 module _ {V : Type 0} (test : V → Bool) (l h : ℤ) (len : ℤ) (n : ℕ) where
-  -- what was found of entries: what was seen, how many keys are left outside of those that the range shares with them, and how many
-  -- looks there were, after the first n
+  -- The results of a walk over entries: the plan, the number of keys outside those that the range shares with them, and
+  -- the number of lookups after the first n.
   pub record IsFound (es : List (Entry V)) (s : Seen) (left : ℤ) (looks : ℕ) : Type 0 where
     pub seen : IsSeenIn test l h es s
     pub kept : left +ℤ covered l h es ≡ len
     pub few : looks ≤ n + length (from l (below (h +ℤ pos 2) es))
     pub risen : n ≤ looks
 
-  -- it is found of the last entries of a list, which all start at l or above; the others stand before them
+  -- The results so far are those of the last entries of a list, which all start at l or above. The others precede them.
   pub record IsWalkUnderway (high : ℤ) (es others tail : List (Entry V)) (s : Seen) (left : ℤ) (looks : ℕ) : Type 0 where
     pub parts : es ≡ others ++ tail
     pub near : StartsBelow (h +ℤ pos 2) others
@@ -71,7 +71,7 @@ module _ {V : Type 0} (test : V → Bool) (l h : ℤ) (len : ℤ) (n : ℕ) wher
     pub found : IsFound tail s left looks
 
 module _ {V : Type 0} (test : V → Bool) (l h low high : ℤ) (w : l ≤ℤ h) (es : List (Entry V)) (r : RangesAscend low high es) where
-  -- what starts above the key above the range
+  -- the entries that start above the key above the range
   abbrev over : List (Entry V)
   over = from (h +ℤ pos 2) es
 
@@ -95,11 +95,11 @@ module _ {V : Type 0} (test : V → Bool) (l h low high : ℤ) (w : l ≤ℤ h) 
   value_begins = sym (at_over l h (h +ℤ pos 2) high over (omega (arith, ints)) over_starts)
 
 module _ {V : Type 0} {test : V → Bool} {l h high : ℤ} {es : List (Entry V)} {len : ℤ} {n : ℕ} {others tail : List (Entry V)} {s : Seen} {left : ℤ} {looks : ℕ} (i : IsWalkUnderway test l h len n high es others tail s left looks) where
-  -- no entry is left
+  -- no entry remains
   pub ends : others ≡ [] → IsFound test l h len n es s left looks
   ends none = subst (λ xs. IsFound test l h len n xs s left looks) (sym (i.parts ∙ ap (λ xs. xs ++ tail) none)) i.found
 
-  -- the entry e is next, and what a look at it answers is f
+  -- the entry e is next, and its lookup returns f
   module _ (low : ℤ) (w : l ≤ℤ h) (r : RangesAscend low high es) (xs : List (Entry V)) (e : Entry V) (next : others ≡ xs ++ e ∷ []) {f : ℤ × ℤ × Bool} (is : f ≡ found_in test e) where
     abbrev whole : es ≡ xs ++ e ∷ tail
     whole = i.parts ∙ ap (λ ys. ys ++ tail) next ∙ append_assoc xs (e ∷ []) tail
@@ -116,7 +116,7 @@ module _ {V : Type 0} {test : V → Bool} {l h high : ℤ} {es : List (Entry V)}
     abbrev keys : shared l h f.0 f.1 ≡ overlap l h e
     keys = ap (λ (t : ℤ × ℤ × Bool). shared l h t.0 t.1) is
 
-    -- there are no more to go than entries
+    -- no more entries are removed than exist
     pub fits : s.gone + 1 ≤ length es
     fits =
         let gone = i.found.seen.gone in
@@ -134,7 +134,7 @@ module _ {V : Type 0} {test : V → Bool} {l h high : ℤ} {es : List (Entry V)}
       seen_next = subst (IsSeenIn test l h (e ∷ tail)) (sym (saw ∙ ap (seen l h s) is)) (next_seen test l h high w ranges.0 e tail ranges.2 near_parts.1.0 i.starts s i.found.seen)
 
       module _ (rest : ℤ) (taken : rest +ℤ shared l h f.0 f.1 ≡ left) where
-        -- it starts at l or above, and the walk goes on
+        -- it starts at l or above, and the walk continues
         pub goes_on : {more : ℕ} → more ≡ looks + 1 → int_lt f.0 l ≡ false → IsWalkUnderway test l h len n high es xs (e ∷ tail) q rest more
         goes_on one u =
             let up = lt_fails f.0 l u in
@@ -188,7 +188,7 @@ module _ {V : Type 0} {test : V → Bool} {l h high : ℤ} {es : List (Entry V)}
           let p = past l h low high xs e tail (subst (RangesAscend low high) whole r) (omega (arith, ints)) in
           value_goes_on ∙ sym (ap (λ ys. at ys l) whole ∙ p.2)
 
--- it is that of the last entry that starts below l, where that one goes on above h
+-- it is the value of the last entry that starts below l, if that entry extends above h
 pub above_at : {V : Type 0} (l h : ℤ) → l ≤ℤ h → (b high : ℤ) (es : List (Entry V)) → RangesAscend b high es → IfSome (last_below l es) (λ e. h <ℤ e.hi → at es l ≡ Some e.value)
 above_at l h w b high [] r = tt
 above_at {V} l h w b high (x ∷ xs) r = by_lt_z x.lo l
@@ -201,7 +201,7 @@ above_at {V} l h w b high (x ∷ xs) r = by_lt_z x.lo l
         (λ v. rw (le_true x.lo l (omega (arith, ints)), le_false l x.hi v) i)
         (λ v. let none : y ∷ ys ≡ [] = sym q ∙ below_none l (x.hi +ℤ pos 1) high xs (omega (arith, ints)) (starts_of (x.hi +ℤ pos 1) high xs r.3) in cc)
 
--- a clone that is made by what a look has answered, of a value that is the entry's where it is asked for
+-- a clone made from the result of a lookup is a clone of the entry's value
 pub cloned_above : {T V : Type 0} (rank : T → ℤ) (is_clone : V → V → Type 0) (test : V → Bool) (h : ℤ) (left : Option (RangeEntry T Bool)) (o : Option (Entry V)) (v : ℤ → Option V) (r : Option V) → option_map (shown_found rank) left ≡ option_map (found_in test) o
     → IfSome o (λ e. h <ℤ e.hi → v e.lo ≡ Some e.value) → IfSome left (λ f. h <ℤ rank f.end → f.value ≡ false → IsClonedIf is_clone true (v (rank f.start)) r) → IfSome o (λ e. h <ℤ e.hi → test e.value ≡ false → IsSomeAnd r (is_clone e.value))
 cloned_above rank is_clone test h left None v r q held i = tt
@@ -211,7 +211,7 @@ cloned_above rank is_clone test h (Some f) (Some e) v r q held i = λ u n.
     subst (λ x. IsClonedIf is_clone true x r) (ap (λ (t : ℤ × ℤ × Bool). v t.0) s ∙ held u)
     (i (subst (λ z. h <ℤ z) (sym (ap (λ (t : ℤ × ℤ × Bool). t.1) s)) u) (ap (λ (t : ℤ × ℤ × Bool). t.2) s ∙ n))
 
--- where it was to be made, the last entry that starts below the range goes on above it, with an unequal value
+-- if a clone is needed, the last entry that starts below the range extends above it with an unequal value
 pub refused_above : {T V : Type 0} (rank : T → ℤ) (test : V → Bool) (h : ℤ) (left : Option (RangeEntry T Bool)) (o : Option (Entry V)) → option_map (shown_found rank) left ≡ option_map (found_in test) o
     → IsSomeAnd left (λ f. (h <ℤ rank f.end) × (f.value ≡ false)) → IsSomeAnd o (λ e. (h <ℤ e.hi) × (test e.value ≡ false))
 refused_above rank test h None o q i = absurd i

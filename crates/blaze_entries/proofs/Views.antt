@@ -1,4 +1,4 @@
--- What contracts see of counted entries after an edit.
+-- Counted entries after an edit, as contracts see them.
 use Rattle.blaze_entries.proofs.Words.{◌≡◌, ℕ, ◌+◌, List, ap, subst, ◌∙◌, Entry, CountedEntries, uncounted}
 
 abbrev pub counted : {V : Type 0} → List (Entry V) → ℕ → ℕ → ℕ → CountedEntries V
@@ -18,6 +18,6 @@ module _ {V : Type 0} (f : List (Entry V) → List (Entry V)) (s : CountedEntrie
       subst (λ (r : CountedEntries V). counted new a b t ≡ record r { entries = f r.entries; taken_out = r.taken_out + 1 }) was
       (ap (λ es. counted es a b t) e ∙ ap (λ n. counted (f old) a b n) q)
 
--- entries of which nothing was counted
+-- entries with all counters at 0
 pub begun : {V : Type 0} (es fs : List (Entry V)) (a b c : ℕ) → es ≡ fs → a ≡ 0 → b ≡ 0 → c ≡ 0 → counted es a b c ≡ uncounted fs
 begun es fs a b c e p q r = ap (λ x. counted x a b c) e ∙ ap (λ x. counted fs x b c) p ∙ ap (λ x. counted fs 0 x c) q ∙ ap (λ x. counted fs 0 0 x) r

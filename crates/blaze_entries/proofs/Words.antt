@@ -1,4 +1,4 @@
--- The words of this crate's proofs that come from elsewhere: a file of proofs takes those that it needs from here.
+-- The names from other crates that this crate's proofs use. The files of proofs import them from here.
 pub use Rattle.std.proofs.Common.{◌≡◌, ◌+◌, length, ℤ, pos, ◌+ℤ◌, ◌≤ℤ◌, ◌<ℤ◌, true, false, cond, List, [], ◌∷◌, Option, Some, None, refl, ◌∙◌, sym, subst, ap, arith, Bool, ℕ, ◌++◌, ◌⊎◌, inl, inr, ◌≤◌, ◌-ℤ◌, append_assoc, length-append, ◌<◌, ◌-◌, not, ◌&&◌, Result, Ok, Err, rules}
 pub use Rattle.std.proofs.lemmas.Cmp.{eq_by_cmp_equiv, int_cmp_total}
 pub use Rattle.std.proofs.lemmas.Int.{ints, by_lt_z}

@@ -1,9 +1,9 @@
--- What contracts see of counted entries: the list, and the work on it.
+-- Counted entries as contracts see them: the list, and the work on it.
 use Rattle.std.specs.Prelude.{ℕ, List, refl}
 use Rattle.std.specs.Coded.{Coded, code_by, coded×, coded_ℕ, coded_list}
 use Rattle.blaze_entries.specs.Entries.{Entry, entry_code}
 
--- the entries, ascending; how many looks at them there were; how many entries were put in, and how many taken out
+-- the ascending entries, and the numbers of lookups, of inserted entries and of removed entries
 pub record CountedEntries (V : Type 0) : Type 0 where
   pub entries : List (Entry V)
   pub looks : ℕ
@@ -16,6 +16,6 @@ counted_code {V} v =
     (λ s. (s.entries, (s.looks, (s.put_in, s.taken_out))))
     (λ p. record { entries = p.0; looks = p.1.0; put_in = p.1.1.0; taken_out = p.1.1.1 }) (λ _. refl)
 
--- the entries, of which nothing was counted yet
+-- the entries with all counters at 0
 abbrev pub uncounted : {V : Type 0} → List (Entry V) → CountedEntries V
 uncounted es = record { entries = es; looks = 0; put_in = 0; taken_out = 0 }

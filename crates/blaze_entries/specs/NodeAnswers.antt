@@ -1,4 +1,4 @@
--- What a closure over an entry answers at the node that holds the entry, and where it may be asked.
+-- A closure over an entry, called at the entry's node: its results, and where it may be called.
 use Rattle.std.specs.Prelude.{◌≡◌, ℤ, Bool, Option, Some}
 use Rattle.std.specs.Borrow.{Bor}
 use Rattle.std.specs.Fn.{Mut}
@@ -8,13 +8,13 @@ use Rattle.blaze_entries.specs.Entries.{entry}
 use Rattle.blaze_entries.specs.declared.node.EndValue.{EndValue}
 
 module _ {F T V : Type 0} (rank : T → ℤ) (g : Mut F (Bor (RangeInclusive T) × (Bor V × Unit {0})) Bool) where
-  -- the node is full, and f may be called at the range and the value of its entry
+  -- the node is full, and f may be called at its entry's range and value
   pub record TakesNode (f : F) (start : T) (node : EndValue T (Option V)) : Type 0 where
     pub value : V
     pub full : node.value ≡ Some value
     pub taken : TakesEntry rank g f (entry (rank start) (rank node.end) value)
 
-  -- a call of f at the range and the value of the node's entry may answer r, and leave f as f'; the node stays as it is
+  -- a call of f at the range and value of the node's entry may return r and leave f as f'; the node does not change
   pub record AnswersAtNode (f : F) (start : T) (node : EndValue T (Option V)) (r : Bool) (left : EndValue T (Option V)) (f' : F) : Type 0 where
     pub value : V
     pub full : node.value ≡ Some value

@@ -1,4 +1,5 @@
--- What a walk down the entries, from right above a range to the first that starts below it, tells an edit of the range.
+-- The results of a walk down the entries, for an edit of a range's keys. The walk goes from right above the range to
+-- the first entry that starts below it.
 use Rattle.std.specs.Prelude.{◌≡◌, ℕ, ◌+◌, ◌≤◌, ℤ, pos, ◌+ℤ◌, ◌≤ℤ◌, ◌<ℤ◌, length, false, MatchOption, IfSome, IsSomeAnd, int_lt, int_le, ◌||◌, Bool, if◌then◌else◌, List, [], ◌∷◌, Option, Some, None}
 use Rattle.std.specs.Option.{option_map}
 use Rattle.blaze_entries.specs.Counted.{CountedEntries}
@@ -8,16 +9,16 @@ use Rattle.blaze_entries.specs.Overlap.{covered}
 use Rattle.blaze_entries.specs.Starts.{below, from, last_below, start_at}
 use Rattle.blaze_entries.specs.declared.scan.Plan.{Plan}
 
--- each entry has a key and starts above the end of the one before, from low up to high
+-- each entry has a key and starts above the end of the previous one, from low to high
 abbrev pub RangesAscend : {V : Type 0} → ℤ → ℤ → List (Entry V) → Type 0
 RangesAscend low high [] = Unit {0}
 RangesAscend low high (e ∷ es) = (low ≤ℤ e.lo) × (e.lo ≤ℤ e.hi) × (e.hi ≤ℤ high) × RangesAscend (e.hi +ℤ pos 1) high es
 
 -- ---- the plan
 
--- by the ranks: where the range ends once it is joined with what is above it, the ends of the entry that keeps a rest above
--- the range, the entry that starts where the range does, and the entry that starts below the range; and how many entries start
--- above the range's first key and end within the range
+-- The plan, by rank: the end of the range joined with the entry above it; the ends of the entry that keeps its keys
+-- above the range; the entry that starts at the range's first key; the entry that starts below the range; and the
+-- number of entries that start above the range's first key and end within the joined range.
 pub record Seen : Type 0 where
   pub end : ℤ
   pub rest : Option (ℤ × ℤ)
@@ -28,13 +29,13 @@ pub record Seen : Type 0 where
 abbrev pub shown_plan : {T : Type 0} → (T → ℤ) → Plan T → Seen
 shown_plan rank p = record { end = rank p.end; rest = option_map (shown_ends rank) p.rest; first = option_map (shown_found rank) p.first; left = option_map (shown_found rank) p.left; gone = p.gone }
 
--- where a range that ends at h ends, once it is joined with an entry that was looked at, which starts up to the key above h: at
--- that one's end, if it goes on above h with an equal value
+-- the end of a range that ends at h, joined with the visited entry that starts up to the key above h: the entry's end
+-- if it extends above h with an equal value, else h
 abbrev pub end_of : ℤ → Option (ℤ × ℤ × Bool) → ℤ
 end_of h None = h
 end_of h (Some t) = if int_lt h t.1 then (if t.2 then t.1 else h) else h
 
--- the ends of an entry that was looked at, if it goes on above h with an unequal value
+-- the ends of a visited entry, if it extends above h with an unequal value
 abbrev pub rest_of : ℤ → Option (ℤ × ℤ × Bool) → Option (ℤ × ℤ)
 rest_of h None = None
 rest_of h (Some t) = if int_lt h t.1 then (if t.2 then None else Some (t.0, t.1)) else None
@@ -43,12 +44,12 @@ rest_of h (Some t) = if int_lt h t.1 then (if t.2 then None else Some (t.0, t.1)
 abbrev pub inner : {V : Type 0} → ℤ → ℤ → List (Entry V) → List (Entry V)
 inner l z es = from (l +ℤ pos 1) (below (z +ℤ pos 1) es)
 
--- whether the entry that keeps a rest starts above l: it does not go then, its start moves
+-- 1 if the entry that keeps its keys above the range starts above l, else 0: that entry is not removed, its start moves
 abbrev pub moved : ℤ → Option (ℤ × ℤ) → ℕ
 moved l None = 0
 moved l (Some r) = if int_lt l r.0 then 1 else 0
 
--- what was seen of the entries, for an edit of the keys from l up to h; the test is one of a value
+-- the plan for an edit of the keys from l to h, from the entries and a test of a value
 pub record IsSeenIn {V : Type 0} (test : V → Bool) (l h : ℤ) (es : List (Entry V)) (s : Seen) : Type 0 where
   pub end : s.end ≡ end_of h (option_map (found_in test) (last_below (h +ℤ pos 2) es))
   pub rest : s.rest ≡ rest_of h (option_map (found_in test) (last_below (h +ℤ pos 1) es))
@@ -58,56 +59,59 @@ pub record IsSeenIn {V : Type 0} (test : V → Bool) (l h : ℤ) (es : List (Ent
 
 -- ---- one more entry in front
 
--- of a range that ends at h, before the first entry
+-- the plan for a range that ends at h, before the first entry
 abbrev pub unseen : ℤ → Seen
 unseen h = record { end = h; rest = None; first = None; left = None; gone = 0 }
 
--- with an entry that goes on above h: its end where its value was asked for, else its rest
+-- the plan with an entry that extends above h: it gets the entry's end if its value is equal, else the part above h
 abbrev pub seen_end : ℤ → Seen → ℤ × ℤ × Bool → Seen
 seen_end h s t = if int_lt h t.1 then (if t.2 then record s { end = t.1 } else (if int_le t.0 h then record s { rest = Some (t.0, t.1) } else s)) else s
 
--- with an entry that starts above the range's first key: it is one more to go, where its value was asked for or it ends up to h
+-- the plan with an entry that starts above the range's first key: one more removed entry if its value is equal or it
+-- ends up to h
 abbrev pub seen_within : ℤ → Seen → ℤ × ℤ × Bool → Seen
 seen_within h s t = if t.2 || int_le t.1 h then record s { gone = s.gone + 1 } else s
 
--- with an entry that starts below l, at it, or above it
+-- the plan with an entry that starts below l, at l or above l
 abbrev pub seen_start : ℤ → ℤ → Seen → ℤ × ℤ × Bool → Seen
 seen_start l h s t = if int_lt t.0 l then record s { left = Some t } else (if int_le t.0 l then record s { first = Some t } else seen_within h s t)
 
 abbrev pub seen : ℤ → ℤ → Seen → ℤ × ℤ × Bool → Seen
 seen l h s t = seen_start l h (seen_end h s t) t
 
--- the value of the key l, with an entry
+-- the value of the key l, with one more entry
 abbrev pub seen_value : {V : Type 0} → ℤ → Option V → Entry V → Option V
 seen_value l o e = if holds e l then Some e.value else o
 
 -- ---- the values
 
--- a clone of the value of the last entry that starts below l, where that one goes on above h with an unequal value
+-- a clone of the value of the last entry that starts below l, if that entry extends above h with an unequal value
 abbrev pub IsAboveCloned : {V : Type 0} → (V → V → Type 0) → (V → Bool) → ℤ → ℤ → List (Entry V) → Option V → Type 0
 IsAboveCloned is_clone test l h es r = IfSome (last_below l es) (λ e. h <ℤ e.hi → test e.value ≡ false → IsSomeAnd r (is_clone e.value))
 
--- the last entry that starts below l goes on above h, with an unequal value
+-- the last entry that starts below l extends above h, with an unequal value
 abbrev pub GoesOnUnlike : {V : Type 0} → (V → Bool) → ℤ → ℤ → List (Entry V) → Type 0
 GoesOnUnlike test l h es = IsSomeAnd (last_below l es) (λ e. (h <ℤ e.hi) × (test e.value ≡ false))
 
--- a clone of the value, if there is one and it is wanted
+-- a clone of the value, if it exists and is wanted
 abbrev pub IsClonedIf : {V : Type 0} → (V → V → Type 0) → Bool → Option V → Option V → Type 0
 IsClonedIf is_clone wanted o r = MatchOption (if wanted then o else None) (r ≡ None) (λ v. IsSomeAnd r (is_clone v))
 
 -- ---- the walk
 
--- What a walk down the entries to the keys from l up to h has found: what it has seen; how many of len keys lie outside of those that
--- the entries have from l up to h; a clone of the value of the entry that starts below l and goes on above h, where it differs; and
--- a clone of the value of the key l, if it is wanted.
+-- The results of a walk down the entries to the keys from l to h:
+-- - the plan;
+-- - len less the number of the entries' keys from l to h;
+-- - a clone of the value of the entry that starts below l and extends above h, if the value is unequal;
+-- - a clone of the value of the key l, if it is wanted.
 pub record IsWalk {V : Type 0} (is_clone : V → V → Type 0) (test : V → Bool) (wanted : Bool) (l h : ℤ) (len : ℕ) (es : List (Entry V)) (s : Seen) (rest : ℕ) (up here : Option V) : Type 0 where
   pub plan : IsSeenIn test l h es s
   pub outside : pos rest +ℤ covered l h es ≡ pos len
   pub above : IsAboveCloned is_clone test l h es up
   pub value : IsClonedIf is_clone wanted (at es l) here
 
--- Looks alone, for a walk to the keys from l up to h: one for each entry that starts from l up to the key above h, one for the entry
--- below them, and so many more.
+-- Only lookups were counted, for a walk to the keys from l to h. They are at most one for each entry that starts from l
+-- to the key above h, one for the entry below them, and `more`.
 pub record IsLookedAt {V : Type 0} (more : ℕ) (l h : ℤ) (old new : CountedEntries V) : Type 0 where
   pub alone : new ≡ record old { looks = new.looks }
   pub risen : old.looks ≤ new.looks

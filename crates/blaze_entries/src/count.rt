@@ -4,7 +4,7 @@ ghost use Rattle.std.specs.Borrow.{ftrue};
 
 use std::marker::Model;
 
-/// A count of steps.
+/// A number of units of work, for contracts alone.
 #[derive(Drop)]
 pub struct Count {
     seal: (),
@@ -16,14 +16,14 @@ impl Model for Count {
 }
 
 impl Count {
-    /// No step.
+    /// Returns the count 0.
     pub fn new() -> Count
         ensures { result.number ≡ 0 }
     {
         Count { seal: () }
     }
 
-    /// One step more.
+    /// Returns the count plus one.
     pub fn one_more(&self) -> Count
         ensures { result.number ≡ self.now.number + 1 }
     {

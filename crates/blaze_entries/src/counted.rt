@@ -1,5 +1,5 @@
-//! The tree of entries with counters of the work on it: each look at an entry is counted, each entry that is put in and each
-//! that is taken out. Another crate can neither see the tree nor look at it without a count.
+//! The tree of entries with counters of the work on it: lookups, inserted entries and removed entries. Another crate
+//! cannot read the tree without a count.
 ghost use Rattle.std.specs.Prelude.{◌≡◌, ◌<◌, ◌^◌, length};
 ghost use Rattle.blaze_entries.specs.Counted.{uncounted};
 ghost use Rattle.blaze_entries.specs.Starts.{StartsAscend};
@@ -13,7 +13,7 @@ use crate::tree::Tree;
 use blaze_int::Integer;
 use std::marker::Model;
 
-/// Entries by their starts, and how much work was done on them.
+/// Entries ordered by their starts, with counters of the work on them.
 #[derive(Drop)]
 pub struct Counted<T: Integer, V> {
     pub(crate) tree: Tree<T, V>,
@@ -38,7 +38,7 @@ impl<T: Integer, V> Model for Counted<T, V> {
 }
 
 impl<T: Integer, V> Counted<T, V> {
-    /// The entries of a tree, of which nothing is counted yet.
+    /// Returns a tree's entries with all counters at 0.
     pub(crate) fn new(tree: Tree<T, V>) -> Self
         ensures { result ≡ uncounted tree }
     {
@@ -50,7 +50,7 @@ impl<T: Integer, V> Counted<T, V> {
         }
     }
 
-    /// The same entries, of which nothing is counted yet. No memory is taken.
+    /// Returns the entries with all counters at 0. It allocates nothing.
     pub(crate) fn uncounted(self) -> Self
         ensures { result ≡ uncounted self.entries }
     {
@@ -58,14 +58,14 @@ impl<T: Integer, V> Counted<T, V> {
         Counted::new(tree)
     }
 
-    /// Does nothing; its contract says that the starts are keys and ascend.
+    /// Does nothing. Its contract states that the starts are keys and ascend.
     pub fn in_hand(&self)
         ensures { StartsAscend T.low T.high self.now.entries }
     {
         self.tree.in_hand();
     }
 
-    /// Does nothing; its contract says that the number of entries is a `usize`.
+    /// Does nothing. Its contract states that a `usize` can represent the number of entries.
     pub fn length_in_hand(&self)
         ensures { length self.now.entries < 2 ^ 64 }
     {
@@ -74,7 +74,7 @@ impl<T: Integer, V> Counted<T, V> {
 }
 
 impl<T: Integer, V: Drop> Counted<T, V> {
-    /// The entries by value, ascending: first key, last key and value. No memory is taken.
+    /// Returns the owned entries, ascending, each as (first key, last key, value). It allocates nothing.
     pub(crate) fn into_entries(self) -> IntoIter<T, V>
         ensures { result ≡ self.entries }
     {

@@ -1,4 +1,4 @@
-//! Entries that can be read without a count: look-ups, iterators and parts, over counted entries, which they hand out.
+//! Entries with uncounted reads: lookups, iterators and splits. Counted work goes through the field `counted`.
 ghost use Rattle.std.specs.Prelude.{◌≡◌, ◌-◌, [], pos, ◌+ℤ◌, ◌≤ℤ◌, length, slice_get, IfOk};
 ghost use Rattle.std.specs.Option.{option_map};
 ghost use Rattle.blaze_entries.specs.Cloned.{AreCloned};
@@ -16,7 +16,7 @@ use crate::tree::Tree;
 use blaze_int::Integer;
 use std::alloc::{AllocError, Global};
 
-/// Entries by their starts. What is done by way of `counted` is counted, what is done here is not.
+/// Entries ordered by their starts. Work through `counted` is counted, and work through the methods here is not.
 #[derive(Drop)]
 pub struct Entries<T: Integer, V> {
     pub counted: Counted<T, V>,
@@ -30,7 +30,7 @@ impl<T: Integer, V: Drop> IntoIterator for Entries<T, V> {
 
     ghost into_iter_gives = { λ entries iter. iter ≡ entries.counted.entries };
 
-    /// The entries by value, ascending: first key, last key and value. No memory is taken.
+    /// Returns the owned entries, ascending, each as (first key, last key, value). It allocates nothing.
     fn into_iter(self) -> IntoIter<T, V> {
         let Entries { counted, .. } = self;
         counted.into_entries()
@@ -38,7 +38,7 @@ impl<T: Integer, V: Drop> IntoIterator for Entries<T, V> {
 }
 
 impl<T: Integer, V> Entries<T, V> {
-    /// No entries.
+    /// Returns an empty list of entries. It allocates nothing.
     pub fn new(alloc: Global) -> Self
         ensures { result.counted ≡ uncounted [] }
     {
@@ -48,12 +48,12 @@ impl<T: Integer, V> Entries<T, V> {
         }
     }
 
-    /// The allocator of the entries' memory.
+    /// Returns the allocator of the entries' memory.
     pub fn allocator(&self) -> Global {
         self.alloc
     }
 
-    /// The same entries, of which nothing is counted yet. No memory is taken.
+    /// Returns the entries with all counters at 0. It allocates nothing.
     pub fn uncounted(self) -> Self
         ensures { result.counted ≡ uncounted self.counted.entries }
     {
@@ -64,21 +64,21 @@ impl<T: Integer, V> Entries<T, V> {
         }
     }
 
-    /// The number of entries.
+    /// Returns the number of entries. O(1).
     pub fn len(&self) -> usize
         ensures { result ≡ length self.now.counted.entries }
     {
         self.counted.tree.len()
     }
 
-    /// Does nothing; its contract says that the starts are keys and ascend.
+    /// Does nothing. Its contract states that the starts are keys and ascend.
     pub fn in_hand(&self)
         ensures { StartsAscend T.low T.high self.now.counted.entries }
     {
         self.counted.in_hand();
     }
 
-    /// The entry with the least start: its first key, last key and value.
+    /// Returns the first entry as (first key, last key, value). It compares no keys.
     pub fn first(&self) -> Option<(T, T, &V)>
         ensures { option_map (shown_entry T.rank (λ v. v.now)) result
             ≡ slice_get self.now.counted.entries 0 }
@@ -86,7 +86,7 @@ impl<T: Integer, V> Entries<T, V> {
         self.counted.tree.first()
     }
 
-    /// The entry with the greatest start: its first key, last key and value.
+    /// Returns the last entry as (first key, last key, value). It compares no keys.
     pub fn last(&self) -> Option<(T, T, &V)>
         ensures { option_map (shown_entry T.rank (λ v. v.now)) result
             ≡ slice_get self.now.counted.entries (length self.now.counted.entries - 1) }
@@ -94,7 +94,7 @@ impl<T: Integer, V> Entries<T, V> {
         self.counted.tree.last()
     }
 
-    /// The entry with the greatest start below a key: its first key, last key and value.
+    /// Returns the entry with the greatest start below `key` as (first key, last key, value). O(log n) with n entries.
     pub fn below(&self, key: T) -> Option<(T, T, &V)>
         ensures { option_map (shown_entry T.rank (λ v. v.now)) result
             ≡ last_below (T.rank key) self.now.counted.entries }
@@ -102,7 +102,7 @@ impl<T: Integer, V> Entries<T, V> {
         self.counted.tree.below(key)
     }
 
-    /// The entry with the greatest start up to a key: its first key, last key and value.
+    /// Returns the entry with the greatest start up to `key` as (first key, last key, value). O(log n) with n entries.
     pub fn at_or_below(&self, key: T) -> Option<(T, T, &V)>
         ensures { option_map (shown_entry T.rank (λ v. v.now)) result
             ≡ last_below (T.rank key +ℤ pos 1) self.now.counted.entries }
@@ -110,7 +110,7 @@ impl<T: Integer, V> Entries<T, V> {
         self.counted.tree.at_or_below(key)
     }
 
-    /// The entry with the least start from a key on: its first key, last key and value.
+    /// Returns the entry with the least start from `key` on as (first key, last key, value). O(log n) with n entries.
     pub fn at_or_above(&self, key: T) -> Option<(T, T, &V)>
         ensures { option_map (shown_entry T.rank (λ v. v.now)) result
             ≡ first_from (T.rank key) self.now.counted.entries }
@@ -118,22 +118,23 @@ impl<T: Integer, V> Entries<T, V> {
         self.counted.tree.at_or_above(key)
     }
 
-    /// The entries, ascending: first key, last key and value.
+    /// Iterates over the entries, ascending, each as (first key, last key, value). It allocates nothing.
     pub fn iter(&self) -> Iter<'_, T, V>
         ensures { result ≡ self.now.counted.entries }
     {
         self.counted.tree.iter()
     }
 
-    /// The entries that start from a key on, ascending: first key, last key and value. One search finds the first.
+    /// Iterates over the entries that start from `key` on, ascending, each as (first key, last key, value). It
+    /// allocates nothing. The call takes O(log n) time with n entries.
     pub fn iter_starting_from(&self, key: T) -> Range<'_, T, V>
         ensures { result ≡ from (T.rank key) self.now.counted.entries }
     {
         self.counted.tree.iter_from(key)
     }
 
-    /// The entries that start from one key on, up to another, ascending, from both ends: first key, last key and value. Two
-    /// searches find the first and the last.
+    /// Iterates over the entries that start from `first` up to `last`, ascending, each as (first key, last key, value).
+    /// The iterator is double-ended and allocates nothing. The call takes O(log n) time with n entries.
     pub fn iter_between(&self, first: T, last: T) -> Range<'_, T, V>
         requires { T.rank first ≤ℤ T.rank last }
         ensures { result ≡ up_to (T.rank last) (from (T.rank first) self.now.counted.entries) }
@@ -143,7 +144,8 @@ impl<T: Integer, V> Entries<T, V> {
 }
 
 impl<T: Integer, V: Drop> Entries<T, V> {
-    /// The entries of a list whose starts ascend: first key, last key and value. Refused memory drops the list.
+    /// Builds entries from a list of (first key, last key, value). It requires that the starts ascend. If an allocation
+    /// fails, the list is dropped. O(n) with n entries.
     pub fn from_sorted(alloc: Global, entries: Vec<(T, T, V)>) -> Result<Self, AllocError>
         requires ascend { StartsAscend T.low T.high (shown_list T.rank entries.items) }
         ensures { IfOk result (λ built. built.counted
@@ -158,7 +160,8 @@ impl<T: Integer, V: Drop> Entries<T, V> {
 }
 
 impl<T: Integer, V: Clone> Entries<T, V> {
-    /// The same ranges, each with a clone of its value. Refused memory leaves these entries.
+    /// Clones the entries: each range, with a clone of its value. If an allocation or a clone fails, these entries are
+    /// unchanged. O(n) with n entries.
     pub fn clone(&self) -> Result<Self, AllocError>
         ensures clones { IfOk result
             (λ copy. AreCloned V.is_clone self.now.counted.entries copy.counted.entries) }

@@ -1,4 +1,4 @@
-//! What a counted look answers of an entry that was found.
+//! The results of a counted lookup, built from the entry that it found.
 ghost use Rattle.std.specs.Prelude.{◌≡◌, ◌<ℤ◌, IfOk, OnErr, IsSome, IsSomeAnd, IfSome};
 ghost use Rattle.blaze_entries.specs.Cloned.{IsRangeCloned};
 ghost use Rattle.blaze_entries.specs.Entries.{shown_lent};
@@ -11,7 +11,7 @@ use blaze_int::Integer;
 use blaze_int::compare::is_below;
 use std::alloc::AllocError;
 
-/// Its first and last key.
+/// Returns the entry's first and last key.
 pub fn range_of<T: Integer, V>(found: Option<(T, T, &V)>) -> Option<RangeEntry<T, ()>>
     ensures { option_map (shown_ends T.rank) result
         ≡ option_map range_in (shown_lent T.rank found.entry) }
@@ -24,7 +24,7 @@ pub fn range_of<T: Integer, V>(found: Option<(T, T, &V)>) -> Option<RangeEntry<T
     })
 }
 
-/// Its first and last key, and whether its value is equal to another.
+/// Returns the entry's first and last key, and whether its value equals `value`.
 pub fn compared<T: Integer, V: Eq>(
     found: Option<(T, T, &V)>,
     value: &V,
@@ -40,7 +40,7 @@ pub fn compared<T: Integer, V: Eq>(
     })
 }
 
-/// The entry, if it ends at a key or above.
+/// Returns the entry if it ends at `key` or above.
 pub fn reaching<'a, T: Integer, V>(found: Option<(T, T, &'a V)>, key: T) -> Option<(T, T, &'a V)>
     ensures { shown_lent T.rank result ≡ reaching (T.rank key) (shown_lent T.rank found.entry) }
 {
@@ -51,7 +51,7 @@ pub fn reaching<'a, T: Integer, V>(found: Option<(T, T, &'a V)>, key: T) -> Opti
     Some((start, end, value))
 }
 
-/// Its first and last key, and a clone of its value where it has more than one key.
+/// Returns the entry's first and last key, with a clone of its value if it has more than one key.
 pub fn range_cloned<T: Integer, V: Clone>(
     found: Option<(T, T, &V)>,
 ) -> Result<Option<RangeEntry<T, Option<V>>>, AllocError>
@@ -71,7 +71,7 @@ pub fn range_cloned<T: Integer, V: Clone>(
     Ok(Some(RangeEntry { start, end, value }))
 }
 
-/// A clone of its value.
+/// Returns a clone of the entry's value. The entry must exist.
 pub fn value_cloned<T: Integer, V: Clone>(found: Option<(T, T, &V)>) -> Result<V, AllocError>
     requires { IsSome (shown_lent T.rank found) }
     ensures { IfOk result

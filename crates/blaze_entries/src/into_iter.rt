@@ -1,4 +1,4 @@
-//! Entries by value, one after another, from both ends.
+//! An iterator over owned entries, from both ends.
 ghost use Rattle.std.specs.Prelude.{◌≡◌, length, Some, IfSome};
 ghost use Rattle.std.specs.Iterator.{YieldsFirstBy, YieldsLastBy, item_count, UpTo};
 ghost use Rattle.std.specs.Iterator.SizeHint.{IsWithinCount};
@@ -12,7 +12,7 @@ use std::collections::btree_map;
 use std::iter::FusedIterator;
 use std::marker::Model;
 
-/// Entries by value, ascending: first key, last key and value.
+/// An iterator over owned entries, ascending, each as (first key, last key, value).
 #[derive(Drop)]
 pub struct IntoIter<T: Integer, V> {
     rest: btree_map::IntoIter<Start<T>, EndValue<T, Option<V>>>,
@@ -54,7 +54,7 @@ impl<T: Integer, V: Drop> Iterator for IntoIter<T, V> {
         given(self.rest.next())
     }
 
-    /// Exact: how many entries are left.
+    /// Returns the exact number of remaining entries as both bounds. O(1).
     fn size_hint(&self) -> (usize, Option<usize>)
         ensures lower { IsWithinCount result.0 (item_count (λ s. s) self.now) }
         ensures upper { IfSome result.1 (UpTo (item_count (λ s. s) self.now)) }

@@ -1,4 +1,4 @@
-//! Entries, one after another, from both ends.
+//! An iterator over borrowed entries, from both ends.
 ghost use Rattle.std.specs.Prelude.{◌≡◌, length, Some, IfSome};
 ghost use Rattle.std.specs.Iterator.{YieldsFirstBy, YieldsLastBy, item_count, UpTo};
 ghost use Rattle.std.specs.Iterator.SizeHint.{IsWithinCount};
@@ -12,7 +12,7 @@ use std::collections::btree_map;
 use std::iter::FusedIterator;
 use std::marker::Model;
 
-/// Entries, ascending: first key, last key and value.
+/// An iterator over borrowed entries, ascending, each as (first key, last key, value).
 #[derive(Drop)]
 pub struct Iter<'a, T: Integer, V> {
     rest: btree_map::Iter<'a, Start<T>, EndValue<T, Option<V>>>,
@@ -54,7 +54,7 @@ impl<'a, T: Integer, V> Iterator for Iter<'a, T, V> {
         shown(self.rest.next())
     }
 
-    /// Exact: how many entries are left.
+    /// Returns the exact number of remaining entries as both bounds. O(1).
     fn size_hint(&self) -> (usize, Option<usize>)
         ensures lower { IsWithinCount result.0 (item_count (λ s. s) self.now) }
         ensures upper { IfSome result.1 (UpTo (item_count (λ s. s) self.now)) }

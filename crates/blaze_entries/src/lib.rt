@@ -1,4 +1,4 @@
-//! The entries of a table in a tree by their starts, with counters of the work on them.
+//! The entries of a table, in a tree ordered by their starts, with counters of the work on them.
 #![tactic(auto)]
 
 mod count;

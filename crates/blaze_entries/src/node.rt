@@ -1,4 +1,4 @@
-//! The tree's nodes: what stands at a start.
+//! The nodes of the tree: the end and the value that belong to a start.
 ghost use Rattle.std.specs.Prelude.{◌≡◌, Option, Some, IfSome, IsSome};
 ghost use Rattle.std.specs.Option.{option_map};
 ghost use Rattle.blaze_entries.specs.Entries.{Entry, shown_entry};
@@ -9,7 +9,7 @@ use blaze_int::Integer;
 use std::alloc::AllocError;
 use std::collections::BTreeMap;
 
-/// Where an entry ends, and its value.
+/// The end of an entry and its value.
 #[derive(Drop)]
 pub struct EndValue<T, V> {
     pub end: T,
@@ -27,10 +27,10 @@ impl<T: Copy, V: Clone> Clone for EndValue<T, V> {
     }
 }
 
-/// Nodes by their starts. A node without a value is a place that is kept for one.
+/// Nodes ordered by their starts. A node without a value reserves the memory for a later one.
 pub type Nodes<T, V> = BTreeMap<Start<T>, EndValue<T, Option<V>>>;
 
-/// The entry of a node: its first key, last key and value.
+/// Returns the entry of a borrowed node as (first key, last key, value).
 pub fn shown<'a, T: Integer, V>(
     node: Option<(&'a Start<T>, &'a EndValue<T, Option<V>>)>,
 ) -> Option<(T, T, &'a V)>
@@ -45,7 +45,7 @@ pub fn shown<'a, T: Integer, V>(
     }
 }
 
-/// The entry of a node by value: its first key, last key and value.
+/// Returns the entry of an owned node as (first key, last key, value).
 pub fn given<T: Integer, V>(node: Option<(Start<T>, EndValue<T, Option<V>>)>) -> Option<(T, T, V)>
     requires { IfSome node (λ p. IsSome p.1.value) }
     ensures { (e : Option (Entry V)) → option_map (shown_node T.rank) node ≡ option_map held e
@@ -59,7 +59,7 @@ pub fn given<T: Integer, V>(node: Option<(Start<T>, EndValue<T, Option<V>>)>) ->
     }
 }
 
-/// A node's value.
+/// Returns the value of a node. The node must exist and have a value.
 pub fn value_of<T: Integer, V>(node: Option<EndValue<T, Option<V>>>) -> V
     requires present { IsSome node }
     requires full { IfSome node (λ n. IsSome n.value) }

@@ -1,4 +1,4 @@
-//! How many keys of an entry lie in a range.
+//! The number of keys that an entry shares with a range.
 ghost use Rattle.std.specs.Prelude.{◌≡◌, pos, ◌+ℤ◌, ◌≤ℤ◌};
 ghost use Rattle.blaze_entries.specs.Overlap.{shared};
 
@@ -6,7 +6,7 @@ use crate::range_entry::RangeEntry;
 use blaze_int::compare::{greater, is_at_most, length, lesser};
 use blaze_int::{Integer, SafeLength};
 
-/// A length less how many keys of an entry lie from lo up to hi.
+/// Returns `len` less the number of keys that the entry `found` shares with the range from `lo` to `hi`. O(1).
 pub fn length_outside<T: Integer>(
     len: T::SafeLen,
     found: RangeEntry<T, bool>,

@@ -1,4 +1,4 @@
-//! Entries from a key on, one after another, from both ends.
+//! An iterator over the entries whose starts are in a range of keys, from both ends.
 ghost use Rattle.std.specs.Prelude.{◌≡◌};
 ghost use Rattle.std.specs.Iterator.{YieldsFirstBy, YieldsLastBy, item_count};
 ghost use Rattle.blaze_entries.specs.Entries.{shown_entry};
@@ -11,7 +11,7 @@ use std::collections::btree_map;
 use std::iter::FusedIterator;
 use std::marker::Model;
 
-/// Entries from a key on, perhaps up to another, ascending: first key, last key and value.
+/// An iterator over the entries whose starts are in a range of keys, ascending, each as (first key, last key, value).
 #[derive(Drop)]
 pub struct Range<'a, T: Integer, V> {
     rest: btree_map::Range<'a, Start<T>, EndValue<T, Option<V>>>,

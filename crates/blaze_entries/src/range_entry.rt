@@ -1,6 +1,7 @@
-//! An entry that is kept for a later step, or what a look at one has answered.
+//! An entry by its first and last key, as lookups return it.
 
-/// An entry: its first and last key, and its value or what stands for it.
+/// An entry: its first key, its last key and a value. In the result of a lookup, the value may be a clone, a
+/// comparison's result or `()`.
 #[derive(Clone, Copy, Drop)]
 pub struct RangeEntry<T, V> {
     pub start: T,

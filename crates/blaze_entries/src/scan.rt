@@ -1,4 +1,4 @@
-//! A walk down the tree from above a range, in one search.
+//! A walk down the tree from above a range. It searches the tree once.
 ghost use Rattle.std.specs.Prelude.{◌≡◌, ◌⊎◌, ◌+◌, ◌++◌, ◌∷◌, [], pos, ◌+ℤ◌, ◌≤ℤ◌, ◌<ℤ◌, ◌<◌, ◌≤◌, ◌^◌};
 ghost use Rattle.std.specs.Prelude.{length, MatchOption, OnSome, IfOk, OnErr, IsSome, IfSome, IsSomeAnd, true, false};
 ghost use Rattle.std.specs.Option.{option_copied};
@@ -18,23 +18,23 @@ use blaze_int::Integer;
 use blaze_int::compare::{is_at_most, is_below};
 use std::alloc::AllocError;
 
-/// What a walk down the entries from above a range has seen.
+/// The entries near a range, as an edit of the range's keys needs them.
 #[derive(Clone, Copy)]
 pub struct Plan<T> {
-    /// Where the range ends, once it is joined with what is above it.
+    /// The last key of the range after it is joined with the entry above it.
     pub end: T,
-    /// The first and last key of the entry that keeps a rest above the range.
+    /// The first and last key of the entry that keeps its keys above the range.
     pub rest: Option<RangeEntry<T, ()>>,
-    /// The entry that starts where the range does.
+    /// The entry that starts at the range's first key.
     pub first: Option<RangeEntry<T, bool>>,
     /// The entry with the greatest start below the range.
     pub left: Option<RangeEntry<T, bool>>,
-    /// How many entries start above the range's first key and end within the plan's range.
+    /// The number of entries that start above the range's first key and end within the joined range.
     pub gone: usize,
 }
 
 impl<T: Integer> Plan<T> {
-    /// The plan before the first entry.
+    /// Returns the plan before the first entry, for a range that ends at `hi`.
     pub fn new(hi: T) -> Plan<T>
         ensures { shown_plan T.rank result ≡ unseen (T.rank hi) }
     {
@@ -47,7 +47,7 @@ impl<T: Integer> Plan<T> {
         }
     }
 
-    // Takes in an entry's end.
+    // Updates the plan with the end of an entry.
     fn see_end(&mut self, hi: T, found: RangeEntry<T, bool>)
         ensures seen { shown_plan T.rank self.new
             ≡ seen_end (T.rank hi) (shown_plan T.rank self.old) (shown_found T.rank found) }
@@ -66,7 +66,7 @@ impl<T: Integer> Plan<T> {
         }
     }
 
-    // Takes in an entry's start.
+    // Updates the plan with the start of an entry.
     fn see_start(&mut self, lo: T, hi: T, found: RangeEntry<T, bool>)
         requires { self.old.gone + 1 < 2 ^ 64 }
         ensures seen { shown_plan T.rank self.new ≡ seen_start (T.rank lo) (T.rank hi)
@@ -82,7 +82,7 @@ impl<T: Integer> Plan<T> {
         }
     }
 
-    /// Takes in an entry.
+    /// Updates the plan with the next entry below. O(1).
     pub fn see(&mut self, lo: T, hi: T, found: RangeEntry<T, bool>)
         requires { self.old.gone + 1 < 2 ^ 64 }
         ensures seen { shown_plan T.rank self.new
@@ -94,7 +94,8 @@ impl<T: Integer> Plan<T> {
     }
 }
 
-// What an entry from `start` up to `end` shows beside a value, if one is asked for.
+// Returns the entry's first and last key, and whether its value equals `value`. If `value` is `None`, nothing is
+// compared.
 #[inline(always)]
 fn beside<T: Integer, V: Eq>(start: T, end: T, other: &V, value: Option<&V>) -> RangeEntry<T, bool>
     ensures { shown_found T.rank result
@@ -110,7 +111,8 @@ fn beside<T: Integer, V: Eq>(start: T, end: T, other: &V, value: Option<&V>) -> 
     }
 }
 
-// The last of the entries that are left, counted: what it shows beside a value, if one is asked for, and its own value.
+// Takes the last entry off the iterator and counts the lookup. The result includes the comparison with `value` and the
+// entry's own value.
 #[inline(always)]
 fn next_found<'a, T: Integer, V: Eq>(
     entries: &mut Range<'a, T, V>,
@@ -133,7 +135,7 @@ fn next_found<'a, T: Integer, V: Eq>(
     }
 }
 
-// The value that a key has, after a look at an entry.
+// Returns the value of `key` once one more entry is visited.
 #[inline(always)]
 fn seen_value<'a, T: Integer, V>(
     key: T,
@@ -151,7 +153,7 @@ fn seen_value<'a, T: Integer, V>(
     }
 }
 
-/// The key after one, or that key itself where it is the greatest.
+/// Returns the key after `key`, or `key` itself if it is the greatest. O(1).
 pub fn next_or_last<T: Integer>(key: T) -> T
     ensures { (T.rank result ≡ T.rank key +ℤ pos 1)
         ⊎ ((T.rank key ≡ T.high) × (T.rank result ≡ T.high)) }
@@ -162,9 +164,10 @@ pub fn next_or_last<T: Integer>(key: T) -> T
     }
 }
 
-/// What a walk down the entries has found for an edit of the keys of a range: a plan, a length less how many keys the range
-/// shares with the entries, and clones of two values, where they were made: that of the entry that goes on both below and above
-/// the range, and that of the range's first key.
+/// The result of a walk down the entries, for an edit of the keys of a range. `outside` is the given length less the
+/// number of keys that the range shares with the entries. `above` is a clone of the value of the entry that extends
+/// both below and above the range. `value` is a clone of the value of the range's first key. Each clone is `None`
+/// unless it was needed.
 #[derive(Drop)]
 pub struct Walk<T: Integer, V> {
     pub plan: Plan<T>,
@@ -173,9 +176,10 @@ pub struct Walk<T: Integer, V> {
     pub value: Option<V>,
 }
 
-/// Looks at the entries from the one that may start right above a range down to the first that starts below it, and returns what
-/// they show, beside a value if one is asked for, and the value that the range's first key has. A length loses how many of their
-/// keys lie in the range. It is inlined, so that where that value isn't asked for the compiler leaves it out.
+/// Visits the entries from the one that may start right above a range down to the first that starts below it. It
+/// returns the plan, `len` less the number of keys that the range shares with the entries, and the value of the key
+/// `lo`. If `value` is `None`, no entry's value counts as equal. The function is inlined, so that the compiler omits
+/// the last result where a caller ignores it.
 #[inline(always)]
 pub fn look_down<'a, T: Integer, V: Eq>(
     tree: &'a Tree<T, V>,
@@ -219,8 +223,8 @@ pub fn look_down<'a, T: Integer, V: Eq>(
     (plan, left, held)
 }
 
-/// A clone of the value that a range's first key has, where the entry `left`, which starts below the range, goes on above it
-/// with an unequal value: that key is its own then.
+/// Clones the value of the range's first key if the entry `left`, which starts below the range, extends above it with
+/// an unequal value. In that case the key belongs to the entry.
 pub fn above_cloned<T: Integer, V: Clone>(
     left: Option<RangeEntry<T, bool>>,
     hi: T,
@@ -240,7 +244,7 @@ pub fn above_cloned<T: Integer, V: Clone>(
     }
 }
 
-/// A clone of a value, if it is wanted. It is inlined, so that none is looked at where none is.
+/// Clones a value if it is wanted. The function is inlined, so that a call that wants no clone does no work.
 #[inline(always)]
 pub fn cloned_if<V: Clone>(wanted: bool, held: Option<&V>) -> Result<Option<V>, AllocError>
     ensures clone { IfOk result (λ r. IsClonedIf V.is_clone wanted (option_copied held.entry) r) }

@@ -1,4 +1,4 @@
-//! Starts, as the tree compares them.
+//! Starts of entries, with the order that the tree uses.
 ghost use Rattle.std.specs.Prelude.{◌≡◌};
 ghost use Rattle.std.specs.Cmp.Rules.{comparing};
 ghost use Rattle.std.specs.Ordering.{as_partial_cmp, int_cmp, int_eq, on};
@@ -10,7 +10,7 @@ use std::alloc::AllocError;
 use std::cmp::Ordering;
 use std::marker::Model;
 
-/// The first key of an entry. A contract sees it as the key.
+/// The first key of an entry. Contracts see it as the key itself.
 #[derive(Copy)]
 pub struct Start<T>(pub T);
 
@@ -30,7 +30,7 @@ impl<T: Copy> Clone for Start<T> {
     }
 }
 
-// Whether two keys are the same.
+// Returns whether two keys are equal. It is not inlined: see `cmp` below.
 #[inline(never)]
 fn is_same<T: Integer>(key: T, other: T) -> bool
     ensures { result ≡ int_eq (T.rank key) (T.rank other) }
@@ -40,7 +40,7 @@ fn is_same<T: Integer>(key: T, other: T) -> bool
     key == other
 }
 
-/// Starts are the same where their ranks are.
+/// Starts are equal if their ranks are.
 impl<T: Integer> PartialEq for Start<T> {
     ghost eq = { on T.rank int_eq };
 
@@ -65,9 +65,9 @@ impl<T: Integer> PartialOrd for Start<T> {
     }
 }
 
-/// The order of the ranks, which is that of the keys. Greater and less are told at once, and the same out of line: so the
-/// compiler keeps a search of the tree to one branch for each key, where by the order of the number types it works out all
-/// three answers for each.
+/// Compares by rank, which is the order of the keys. The tests for greater and less are inlined, and the test for
+/// equality is not. So a lookup in the tree takes one branch for each key. With the order of the number types the
+/// compiler computes all three results for each key.
 impl<T: Integer> Ord for Start<T> {
     ghost cmp = { on T.rank int_cmp };
 

@@ -1,4 +1,4 @@
-//! Entries in a tree by their starts: look-ups and iterators. The edits stand in the files beside this one.
+//! Entries in a tree ordered by their starts: lookups and iterators. The submodules have the edits.
 ghost use Rattle.std.specs.Prelude.{◌≡◌, ◌-◌, ◌<◌, ◌^◌, [], pos, ◌+ℤ◌, ◌≤ℤ◌, length, slice_get, IfOk};
 ghost use Rattle.blaze_entries.specs.Cloned.{AreCloned};
 ghost use Rattle.blaze_entries.specs.Entries.{shown_lent};
@@ -19,7 +19,7 @@ use std::alloc::{AllocError, Global};
 use std::collections::BTreeMap;
 use std::marker::Model;
 
-/// Entries by their starts. Contracts see the list of them, ascending.
+/// Entries ordered by their starts. Contracts see the ascending list of the entries.
 #[derive(Drop)]
 pub struct Tree<T: Integer, V> {
     nodes: Nodes<T, V>,
@@ -42,7 +42,7 @@ impl<T: Integer, V> Model for Tree<T, V> {
 }
 
 impl<T: Integer, V> Tree<T, V> {
-    /// No entries.
+    /// Returns an empty tree. It allocates nothing.
     pub fn new(alloc: Global) -> Self
         ensures { result ≡ [] }
     {
@@ -51,14 +51,14 @@ impl<T: Integer, V> Tree<T, V> {
         }
     }
 
-    /// Does nothing; its contract says that the starts are keys and ascend.
+    /// Does nothing. Its contract states that the starts are keys and ascend.
     pub fn in_hand(&self)
         ensures { StartsAscend T.low T.high self.now }
     {
         let _ = &self.nodes;
     }
 
-    /// The number of entries.
+    /// Returns the number of entries. O(1).
     pub fn len(&self) -> usize
         ensures len { result ≡ length self.now }
         ensures small { length self.now < 2 ^ 64 }
@@ -66,64 +66,66 @@ impl<T: Integer, V> Tree<T, V> {
         self.nodes.len()
     }
 
-    /// The entry with the least start: its first key, last key and value.
+    /// Returns the first entry as (first key, last key, value). It compares no keys.
     pub fn first(&self) -> Option<(T, T, &V)>
         ensures { shown_lent T.rank result ≡ slice_get self.now 0 }
     {
         shown(self.nodes.first_key_value())
     }
 
-    /// The entry with the greatest start: its first key, last key and value.
+    /// Returns the last entry as (first key, last key, value). It compares no keys.
     pub fn last(&self) -> Option<(T, T, &V)>
         ensures { shown_lent T.rank result ≡ slice_get self.now (length self.now - 1) }
     {
         shown(self.nodes.last_key_value())
     }
 
-    /// The entry that starts at a key: its first key, last key and value.
+    /// Returns the entry that starts at `start` as (first key, last key, value). O(log n) with n entries.
     pub fn at(&self, start: T) -> Option<(T, T, &V)>
         ensures { shown_lent T.rank result ≡ start_at (T.rank start) self.now }
     {
         shown(self.nodes.get_key_value(&Start(start)))
     }
 
-    /// The entry with the greatest start below a key: its first key, last key and value.
+    /// Returns the entry with the greatest start below `key` as (first key, last key, value). O(log n) with n entries.
     pub fn below(&self, key: T) -> Option<(T, T, &V)>
         ensures { shown_lent T.rank result ≡ last_below (T.rank key) self.now }
     {
         self.iter_below(key).next_back()
     }
 
-    /// The entry with the greatest start up to a key: its first key, last key and value.
+    /// Returns the entry with the greatest start up to `key` as (first key, last key, value). O(log n) with n entries.
     pub fn at_or_below(&self, key: T) -> Option<(T, T, &V)>
         ensures { shown_lent T.rank result ≡ last_below (T.rank key +ℤ pos 1) self.now }
     {
         self.iter_up_to(key).next_back()
     }
 
-    /// The entry with the least start from a key on: its first key, last key and value.
+    /// Returns the entry with the least start from `key` on as (first key, last key, value). O(log n) with n entries.
     pub fn at_or_above(&self, key: T) -> Option<(T, T, &V)>
         ensures { shown_lent T.rank result ≡ first_from (T.rank key) self.now }
     {
         self.iter_from(key).next()
     }
 
-    /// The entries, ascending: first key, last key and value.
+    /// Iterates over the entries, ascending, each as (first key, last key, value).
     pub fn iter(&self) -> Iter<'_, T, V>
         ensures { result ≡ self.now }
     {
         Iter::new(self.nodes.iter())
     }
 
-    /// The entries that start below a key, ascending, from both ends: first key, last key and value. One search finds the last.
+    /// Iterates over the entries that start below `key`, ascending, each as (first key, last key, value). The iterator
+    /// is double-ended. The call takes O(log n) time with n entries.
     pub fn iter_below(&self, key: T) -> Range<'_, T, V>
         ensures { result ≡ below (T.rank key) self.now }
     {
         Range::new(self.nodes.range(..Start(key)))
     }
 
-    /// The entries that start up to a key, ascending, from both ends: first key, last key and value. One search finds the last.
-    /// They are bounded by the key after it, which a search takes fewer steps to compare.
+    /// Iterates over the entries that start up to `key`, ascending, each as (first key, last key, value). The iterator
+    /// is double-ended. The call takes O(log n) time with n entries. The bound is the next key, excluded, since the
+    /// tree compares an excluded bound faster.
     pub fn iter_up_to(&self, key: T) -> Range<'_, T, V>
         ensures { result ≡ below (T.rank key +ℤ pos 1) self.now }
     {
@@ -133,16 +135,16 @@ impl<T: Integer, V> Tree<T, V> {
         }
     }
 
-    /// The entries that start from a key on, ascending, from both ends: first key, last key and value. One search finds the
-    /// first.
+    /// Iterates over the entries that start from `key` on, ascending, each as (first key, last key, value). The
+    /// iterator is double-ended. The call takes O(log n) time with n entries.
     pub fn iter_from(&self, key: T) -> Range<'_, T, V>
         ensures { result ≡ from (T.rank key) self.now }
     {
         Range::new(self.nodes.range(Start(key)..))
     }
 
-    /// The entries that start from one key on, up to another, ascending, from both ends: first key, last key and value. Two
-    /// searches find the first and the last.
+    /// Iterates over the entries that start from `first` up to `last`, ascending, each as (first key, last key, value).
+    /// The iterator is double-ended. The call takes O(log n) time with n entries.
     pub fn iter_between(&self, first: T, last: T) -> Range<'_, T, V>
         requires { T.rank first ≤ℤ T.rank last }
         ensures { result ≡ up_to (T.rank last) (from (T.rank first) self.now) }
@@ -158,7 +160,7 @@ impl<T: Integer, V: Drop> IntoIterator for Tree<T, V> {
 
     ghost into_iter_gives = { λ tree iter. iter ≡ tree };
 
-    /// The entries by value, ascending: first key, last key and value. No memory is taken.
+    /// Returns the owned entries, ascending, each as (first key, last key, value). It allocates nothing.
     fn into_iter(self) -> IntoIter<T, V> {
         let Tree { nodes } = self;
         IntoIter::new(nodes.into_iter())
@@ -166,8 +168,8 @@ impl<T: Integer, V: Drop> IntoIterator for Tree<T, V> {
 }
 
 impl<T: Integer, V: Clone> Tree<T, V> {
-    /// The same ranges, each with a clone of its value. If an allocation fails, these are
-    /// unchanged.
+    /// Clones the tree: each range, with a clone of its value. If an allocation or a clone fails, this tree is
+    /// unchanged. O(n) with n entries.
     pub fn clone(&self) -> Result<Self, AllocError>
         ensures { IfOk result (λ copy. AreCloned V.is_clone self.now copy) }
     {

@@ -1,4 +1,4 @@
-//! Edits of counted entries. Each entry that they put in or take out is counted.
+//! Edits of counted entries. They count each entry that they insert or remove.
 ghost use Rattle.std.specs.Prelude.{◌≡◌, ◌+◌, ◌-◌, length, Some, None, IsSome, OnOk, OnErr, slice_get};
 ghost use Rattle.std.specs.Option.{option_map};
 ghost use Rattle.blaze_entries.specs.Entries.{entry};
@@ -11,7 +11,7 @@ use blaze_int::Integer;
 use std::alloc::AllocError;
 
 impl<T: Integer, V> Counted<T, V> {
-    /// Moves the end of the entry at a start.
+    /// Sets the end of the entry that starts at `start`. It allocates nothing and takes O(log n) time with n entries.
     pub fn set_end(&mut self, start: T, end: T)
         ensures { self.new
             ≡ record self.old { entries = with_end (T.rank start) (T.rank end) self.old.entries } }
@@ -19,7 +19,7 @@ impl<T: Integer, V> Counted<T, V> {
         self.tree.set_end(start, end);
     }
 
-    /// Moves the end of the last entry. No search is made.
+    /// Sets the end of the last entry. It allocates nothing and compares no keys.
     pub fn set_last_end(&mut self, end: T)
         ensures { self.new
             ≡ record self.old { entries = with_last_end (T.rank end) self.old.entries } }
@@ -29,7 +29,8 @@ impl<T: Integer, V> Counted<T, V> {
 }
 
 impl<T: Integer, V: Drop> Counted<T, V> {
-    /// Gives the entry at a start another end and value.
+    /// Sets the end and the value of the entry that starts at `start`. It allocates nothing and takes O(log n) time
+    /// with n entries.
     pub fn replace(&mut self, start: T, end: T, value: V)
         ensures { self.new
             ≡ record self.old {
@@ -40,7 +41,8 @@ impl<T: Integer, V: Drop> Counted<T, V> {
         self.tree.replace(start, end, value);
     }
 
-    /// Puts an entry in, at a start where none is. Refused memory leaves the entries.
+    /// Inserts an entry. It requires that no entry starts at `start`. If an allocation fails, the entries are
+    /// unchanged. O(log n) with n entries.
     pub fn insert(&mut self, start: T, end: T, value: V) -> Result<(), AllocError>
         requires absent { start_at (T.rank start) self.old.entries ≡ None }
         ensures ok { OnOk result (self.new
@@ -57,7 +59,8 @@ impl<T: Integer, V: Drop> Counted<T, V> {
         Ok(())
     }
 
-    /// Takes the entry at a start out, and returns its value.
+    /// Removes the entry that starts at `start` and returns its value. It allocates nothing and takes O(log n) time
+    /// with n entries.
     pub fn remove(&mut self, start: T) -> V
         requires present { IsSome (start_at (T.rank start) self.old.entries) }
         ensures entries { self.new
@@ -73,7 +76,7 @@ impl<T: Integer, V: Drop> Counted<T, V> {
         self.tree.remove(start)
     }
 
-    /// Takes the first entry out, and returns its value. No search is made.
+    /// Removes the first entry and returns its value. It allocates nothing and compares no keys.
     pub fn remove_first(&mut self) -> V
         requires present { IsSome (slice_get self.old.entries 0) }
         ensures removed { IsFirstRemoved result self.old.entries self.new.entries }
@@ -87,7 +90,7 @@ impl<T: Integer, V: Drop> Counted<T, V> {
         self.tree.remove_first()
     }
 
-    /// Takes the last entry out, and returns its value. No search is made.
+    /// Removes the last entry and returns its value. It allocates nothing and compares no keys.
     pub fn remove_last(&mut self) -> V
         requires present { IsSome (slice_get self.old.entries (length self.old.entries - 1)) }
         ensures removed { IsLastRemoved result self.old.entries self.new.entries }
@@ -101,7 +104,8 @@ impl<T: Integer, V: Drop> Counted<T, V> {
         self.tree.remove_last()
     }
 
-    /// Moves the entry at a start to another start, where none is, with its end and value. Refused memory leaves it.
+    /// Moves the entry that starts at `from` to the start `to`, with its end and value. It requires that no entry
+    /// starts at `to`. If an allocation fails, the entries are unchanged. O(log n) with n entries.
     pub fn move_start(&mut self, from: T, to: T) -> Result<(), AllocError>
         requires present { IsSome (start_at (T.rank from) self.old.entries) }
         requires absent { start_at (T.rank to) self.old.entries ≡ None }
@@ -122,8 +126,9 @@ impl<T: Integer, V: Drop> Counted<T, V> {
         Ok(())
     }
 
-    /// Replaces the front of the entry at a start: it has another end and value, and what it had is an entry from another
-    /// start on, where none is. Refused memory leaves the entries.
+    /// Splits the entry that starts at `start`. The front gets the new `end` and `value`. The old end and value go to
+    /// an entry that starts at `to`, where no entry may start before the call. If an allocation fails, the entries are
+    /// unchanged. O(log n) with n entries.
     pub fn replace_front(&mut self, start: T, end: T, value: V, to: T) -> Result<(), AllocError>
         requires present { IsSome (start_at (T.rank start) self.old.entries) }
         requires absent { start_at (T.rank to) self.old.entries ≡ None }

@@ -1,4 +1,4 @@
-//! Looks at entries beside keys, and the walk down to a range: each is counted.
+//! Counted lookups of the entries near a key, and the counted walk down to a range.
 ghost use Rattle.std.specs.Prelude.{◌≡◌, ◌⊎◌, ◌+◌, ◌-◌, ◌≤◌, pos, ◌+ℤ◌, ◌≤ℤ◌, ◌<ℤ◌, length, slice_get};
 ghost use Rattle.std.specs.Prelude.{IfOk, OnErr, IsSome, IfSome, IsSomeAnd, true};
 ghost use Rattle.std.specs.Option.{option_map, option_copied};
@@ -18,7 +18,7 @@ use blaze_int::Integer;
 use std::alloc::AllocError;
 
 impl<T: Integer, V> Counted<T, V> {
-    /// The first and last key of the entry with the greatest start up to a key.
+    /// Returns the first and last key of the entry with the greatest start up to `key`. O(log n) with n entries.
     pub fn range_at_or_below(&mut self, key: T) -> Option<RangeEntry<T, ()>>
         ensures found { option_map (shown_ends T.rank) result
             ≡ option_map range_in (last_below (T.rank key +ℤ pos 1) self.old.entries) }
@@ -28,7 +28,7 @@ impl<T: Integer, V> Counted<T, V> {
         range_of(self.tree.at_or_below(key))
     }
 
-    /// The first and last key of the entry with the least start from a key on.
+    /// Returns the first and last key of the entry with the least start from `key` on. O(log n) with n entries.
     pub fn range_at_or_above(&mut self, key: T) -> Option<RangeEntry<T, ()>>
         ensures found { option_map (shown_ends T.rank) result
             ≡ option_map range_in (first_from (T.rank key) self.old.entries) }
@@ -40,8 +40,9 @@ impl<T: Integer, V> Counted<T, V> {
 }
 
 impl<T: Integer, V: Clone> Counted<T, V> {
-    /// The first and last key of the entry that has a key, and a clone of its value where it has more than one. A refused clone
-    /// leaves the entries.
+    /// Returns the first and last key of the entry that contains `key`. If the entry has more than one key, the result
+    /// includes a clone of its value. If the clone fails, the entries are unchanged. O(log n) with n entries, and one
+    /// clone.
     pub fn holder(&mut self, key: T) -> Result<Option<RangeEntry<T, Option<V>>>, AllocError>
         ensures held { IfOk result (λ r.
             IsRangeCloned T.rank V.is_clone (holder_of (T.rank key) self.old.entries) r) }
@@ -54,7 +55,8 @@ impl<T: Integer, V: Clone> Counted<T, V> {
         Ok(ends)
     }
 
-    /// The same of the first entry. No search is made.
+    /// Returns the first and last key of the first entry. If the entry has more than one key, the result includes a
+    /// clone of its value. If the clone fails, the entries are unchanged. It compares no keys of other entries.
     pub fn first_held(&mut self) -> Result<Option<RangeEntry<T, Option<V>>>, AllocError>
         ensures held { IfOk result (λ r.
             IsRangeCloned T.rank V.is_clone (slice_get self.old.entries 0) r) }
@@ -67,7 +69,8 @@ impl<T: Integer, V: Clone> Counted<T, V> {
         Ok(ends)
     }
 
-    /// The same of the last entry. No search is made.
+    /// Returns the first and last key of the last entry. If the entry has more than one key, the result includes a
+    /// clone of its value. If the clone fails, the entries are unchanged. It compares no keys of other entries.
     pub fn last_held(&mut self) -> Result<Option<RangeEntry<T, Option<V>>>, AllocError>
         ensures held { IfOk result (λ r. IsRangeCloned T.rank V.is_clone
             (slice_get self.old.entries (length self.old.entries - 1)) r) }
@@ -80,7 +83,8 @@ impl<T: Integer, V: Clone> Counted<T, V> {
         Ok(ends)
     }
 
-    /// A clone of the value of the entry at a start. Refused memory leaves the entries.
+    /// Clones the value of the entry that starts at `start`, which must exist. If the clone fails, the entries are
+    /// unchanged. O(log n) with n entries, and one clone.
     pub fn clone_value(&mut self, start: T) -> Result<V, AllocError>
         requires present { IsSome (start_at (T.rank start) self.old.entries) }
         ensures value { IfOk result
@@ -95,7 +99,8 @@ impl<T: Integer, V: Clone> Counted<T, V> {
 }
 
 impl<T: Integer, V: Eq> Counted<T, V> {
-    /// The entry with the greatest start below a key.
+    /// Returns the entry with the greatest start below `key`, and whether its value equals `value`. O(log n) with n
+    /// entries.
     pub fn found_below(&mut self, key: T, value: &V) -> Option<RangeEntry<T, bool>>
         ensures found { option_map (shown_found T.rank) result
             ≡ option_map (found_in (λ w. V.eq w value.now))
@@ -106,7 +111,8 @@ impl<T: Integer, V: Eq> Counted<T, V> {
         compared(self.tree.below(key), value)
     }
 
-    /// The entry with the greatest start up to a key.
+    /// Returns the entry with the greatest start up to `key`, and whether its value equals `value`. O(log n) with n
+    /// entries.
     pub fn found_at_or_below(&mut self, key: T, value: &V) -> Option<RangeEntry<T, bool>>
         ensures found { option_map (shown_found T.rank) result
             ≡ option_map (found_in (λ w. V.eq w value.now))
@@ -119,11 +125,20 @@ impl<T: Integer, V: Eq> Counted<T, V> {
 }
 
 impl<T: Integer, V: Eq + Clone> Counted<T, V> {
-    /// Walks down the entries, in one search, from the one that may start right above a range to the first that starts
-    /// below it, and returns what an edit of the range's keys has to know. No value is equal where none is asked for. The length
-    /// loses how many keys the range shares with the entries. Where the entry that starts below the range goes on above it with
-    /// an unequal value, a clone of that value is made, and one of the value of the range's first key, if it is wanted. A refused
-    /// clone leaves the entries. It is inlined, so that what it returns is not copied.
+    /// Walks down the entries once, for an edit of the keys from `lo` to `hi`.
+    ///
+    /// The walk starts at the entry that may start right above the range. It ends at the first entry that starts below
+    /// the range. It returns a plan for the edit, and `len` less the number of keys that the range shares with the
+    /// entries. If `value` is `None`, no entry's value counts as equal.
+    ///
+    /// The walk clones at most two values:
+    ///
+    /// - the value of the entry that starts below the range, if the entry extends above the range and its value is
+    ///   unequal;
+    /// - the value of the key `lo`, if `wanted`.
+    ///
+    /// If a clone fails, the entries are unchanged. O(log n + k) with n entries, of which k are visited. The function
+    /// is inlined, so that its result is not copied.
     #[inline(always)]
     pub fn walk(
         &mut self,

@@ -1,4 +1,4 @@
-//! Edits of entries that are not counted.
+//! Uncounted edits of entries.
 ghost use Rattle.std.specs.Prelude.{◌≡◌, ◌+◌, [], length, None, IsSome, OnOk, OnErr, IfOk};
 ghost use Rattle.std.specs.List.Retain.{IsFiltered};
 ghost use Rattle.blaze_entries.specs.Answers.{AnswersAt, IsCallableAtEach};
@@ -15,7 +15,8 @@ use std::alloc::AllocError;
 use std::ops::RangeInclusive;
 
 impl<T: Integer, V> Entries<T, V> {
-    /// Keeps the entries that start below a key, and returns the others. Refused memory leaves the entries.
+    /// Keeps the entries that start below `key` and returns the others. If an allocation fails, the entries are
+    /// unchanged.
     pub fn split_off(&mut self, key: T) -> Result<Self, AllocError>
         ensures below { OnOk result (self.new.counted
             ≡ record self.old.counted { entries = below (T.rank key) self.old.counted.entries }) }
@@ -32,8 +33,9 @@ impl<T: Integer, V> Entries<T, V> {
 }
 
 impl<T: Integer, V: Drop> Entries<T, V> {
-    /// Has the entries of a list whose starts ascend in place of its own: first key, last key and value. No entry is counted.
-    /// Refused memory drops the list.
+    /// Replaces all entries by a list of (first key, last key, value). It requires that the starts ascend. The counters
+    /// do not change. If an allocation fails, the entries are unchanged and the list is dropped. O(n) with n entries,
+    /// old and new.
     pub fn set_sorted(&mut self, entries: Vec<(T, T, V)>) -> Result<(), AllocError>
         requires ascend { StartsAscend T.low T.high (shown_list T.rank entries.items) }
         ensures ok { OnOk result (self.new.counted
@@ -45,8 +47,8 @@ impl<T: Integer, V: Drop> Entries<T, V> {
         Ok(())
     }
 
-    /// Keeps the entries that a closure returns true at: one call for each, ascending. No memory is taken, and no entry is
-    /// counted. One walk, O(n) with n entries, and at most O(log n) more for each entry that goes.
+    /// Keeps the entries for which `f` returns `true`. It calls `f` once for each entry, ascending. It allocates
+    /// nothing, and the counters do not change. O(n) with n entries, and at most O(log n) more for each removed entry.
     pub fn retain<F: FnMut(&RangeInclusive<T>, &V) -> bool>(&mut self, f: F)
         requires { IsCallableAtEach T.rank F.FnMut f self.old.counted.entries }
         ensures entries { IsFiltered (AnswersAt T.rank F.FnMut) f
@@ -56,14 +58,15 @@ impl<T: Integer, V: Drop> Entries<T, V> {
         self.counted.tree.retain(f);
     }
 
-    /// Takes all entries out. No entry is counted.
+    /// Removes all entries. The counters do not change. O(n) with n entries.
     pub fn clear(&mut self)
         ensures { self.new.counted ≡ record self.old.counted { entries = [] } }
     {
         self.counted.tree.clear();
     }
 
-    /// Takes the entry at a start out, and returns its value.
+    /// Removes the entry that starts at `start` and returns its value. It allocates nothing, and the counters do not
+    /// change. O(log n) with n entries.
     pub fn remove(&mut self, start: T) -> V
         requires present { IsSome (start_at (T.rank start) self.old.counted.entries) }
         ensures entries { self.new.counted
@@ -74,8 +77,9 @@ impl<T: Integer, V: Drop> Entries<T, V> {
 }
 
 impl<T: Integer, V: Clone + Drop> Entries<T, V> {
-    /// Puts an entry in that starts at `start`, where none is, ends where the entry at `of` ends and has a clone of its
-    /// value. Nothing is counted. Refused memory leaves the entries.
+    /// Inserts an entry that starts at `start`, where no entry may start. It ends where the entry that starts at `of`
+    /// ends, with a clone of its value. The counters do not change. If an allocation or the clone fails, the entries
+    /// are unchanged. O(log n) with n entries.
     pub fn insert_clone(&mut self, of: T, start: T) -> Result<(), AllocError>
         requires present { IsSome (start_at (T.rank of) self.old.counted.entries) }
         requires absent { start_at (T.rank start) self.old.counted.entries ≡ None }

@@ -1,4 +1,4 @@
-//! The tree of a sorted list.
+//! Building a tree from a sorted list.
 ghost use Rattle.std.specs.BTreeMap.{IsFromIterResult};
 ghost use Rattle.std.specs.Ordering.{int_cmp, on};
 ghost use Rattle.std.specs.Prelude.{◌≡◌, map, IfOk};
@@ -12,7 +12,7 @@ use crate::start::Start;
 use blaze_int::Integer;
 use std::alloc::{AllocError, Global};
 
-// The nodes of entries, made in one go. Of entries with equal starts the last one stays.
+// Builds the nodes of a list of entries. Of entries with equal starts, the last one remains.
 fn collect<T: Integer, V: Drop>(
     alloc: Global,
     entries: Vec<(T, T, V)>,
@@ -27,8 +27,8 @@ fn collect<T: Integer, V: Drop>(
 }
 
 impl<T: Integer, V: Drop> Tree<T, V> {
-    /// The tree of entries whose starts ascend: first key, last key and value. If an allocation fails, the
-    /// list is dropped.
+    /// Builds the tree of a list of (first key, last key, value). It requires that the starts ascend. If an allocation
+    /// fails, the list is dropped. O(n) with n entries.
     pub fn from_sorted(alloc: Global, entries: Vec<(T, T, V)>) -> Result<Self, AllocError>
         requires { StartsAscend T.low T.high (shown_list T.rank entries.items) }
         ensures { IfOk result (λ tree. tree ≡ shown_list T.rank entries.items) }

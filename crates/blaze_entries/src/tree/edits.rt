@@ -1,4 +1,4 @@
-//! Edits of a tree's entries at their starts.
+//! Edits of a tree's entries, selected by their starts.
 ghost use Rattle.std.specs.BTreeMap.{is_at, get, insert_entry};
 ghost use Rattle.std.specs.Prelude.{◌≡◌, ◌+◌, ◌-◌, [], length, Some, None, IsSome, OnOk, OnErr, IfOk, slice_get};
 ghost use Rattle.std.specs.Option.{option_map};
@@ -16,7 +16,7 @@ use blaze_int::Integer;
 use std::alloc::AllocError;
 use std::mem;
 
-// Moves the end of the node at a start.
+// Sets the end of the node at `start`.
 fn change_end<T: Integer, V>(nodes: &mut Nodes<T, V>, start: T, end: T)
     ensures { nodes.new.entries
         ≡ changed (is_at (on T.rank int_cmp start)) (λ node. record node { end = end }) nodes.old.entries }
@@ -26,7 +26,7 @@ fn change_end<T: Integer, V>(nodes: &mut Nodes<T, V>, start: T, end: T)
     }
 }
 
-// Moves the end of the last node.
+// Sets the end of the last node.
 fn change_last_end<T: Integer, V>(nodes: &mut Nodes<T, V>, end: T)
     requires { StartsAscend T.low T.high (shown_nodes T.rank nodes.old.entries) }
     ensures { shown_nodes T.rank nodes.new.entries
@@ -37,8 +37,8 @@ fn change_last_end<T: Integer, V>(nodes: &mut Nodes<T, V>, end: T)
     }
 }
 
-/// Puts a node in at a start. The map's `insert`, which answers more, is compiled into this function. Called from the methods it is
-/// not, and paints and insertions take one part in a hundred more.
+/// Inserts a node. The compiler inlines the std `insert`, whose result has more cases, into this function. If the
+/// methods call `insert` themselves, it is not inlined, and paints and insertions take about 1% longer.
 pub(super) fn put<T: Integer, V: Drop>(
     nodes: &mut Nodes<T, V>,
     start: T,
@@ -52,7 +52,7 @@ pub(super) fn put<T: Integer, V: Drop>(
     Ok(())
 }
 
-/// Puts a node in place of that at a start, and returns the old one.
+/// Replaces the node at `start` and returns the old one.
 pub(super) fn exchange<T: Integer, V: Drop>(
     nodes: &mut Nodes<T, V>,
     start: T,
@@ -69,22 +69,22 @@ pub(super) fn exchange<T: Integer, V: Drop>(
 }
 
 impl<T: Integer, V> Tree<T, V> {
-    /// Moves the end of the entry at a start.
+    /// Sets the end of the entry that starts at `start`. O(log n) with n entries.
     pub fn set_end(&mut self, start: T, end: T)
         ensures { self.new ≡ with_end (T.rank start) (T.rank end) self.old }
     {
         change_end(&mut self.nodes, start, end);
     }
 
-    /// Moves the end of the last entry. No search is made.
+    /// Sets the end of the last entry. It compares no keys.
     pub fn set_last_end(&mut self, end: T)
         ensures { self.new ≡ with_last_end (T.rank end) self.old }
     {
         change_last_end(&mut self.nodes, end);
     }
 
-    /// Keeps the entries that start below a key, and returns the others. If an allocation fails, the entries
-    /// are unchanged.
+    /// Keeps the entries that start below `key` and returns the others. If an allocation fails, the entries are
+    /// unchanged.
     pub fn split_off(&mut self, key: T) -> Result<Self, AllocError>
         ensures below { OnOk result (self.new ≡ below (T.rank key) self.old) }
         ensures from { IfOk result (λ others. others ≡ from (T.rank key) self.old) }
@@ -97,7 +97,7 @@ impl<T: Integer, V> Tree<T, V> {
 }
 
 impl<T: Integer, V: Drop> Tree<T, V> {
-    /// Gives the entry at a start another end and value.
+    /// Sets the end and the value of the entry that starts at `start`. It allocates nothing. O(log n) with n entries.
     pub fn replace(&mut self, start: T, end: T, value: V)
         ensures { self.new ≡ with_end_value (T.rank start) (T.rank end) value self.old }
     {
@@ -105,7 +105,8 @@ impl<T: Integer, V: Drop> Tree<T, V> {
         exchange(&mut self.nodes, start, EndValue { end, value });
     }
 
-    /// Puts an entry in, at a start where none is. If an allocation fails, the entries are unchanged.
+    /// Inserts an entry. It requires that no entry starts at `start`. If an allocation fails, the entries are
+    /// unchanged. O(log n) with n entries.
     pub fn insert(&mut self, start: T, end: T, value: V) -> Result<(), AllocError>
         requires absent { start_at (T.rank start) self.old ≡ None }
         ensures ok { OnOk result
@@ -119,7 +120,7 @@ impl<T: Integer, V: Drop> Tree<T, V> {
         Ok(())
     }
 
-    /// Takes the entry at a start out, and returns its value.
+    /// Removes the entry that starts at `start` and returns its value. It allocates nothing. O(log n) with n entries.
     pub fn remove(&mut self, start: T) -> V
         requires present { IsSome (start_at (T.rank start) self.old) }
         ensures entries { self.new ≡ without (T.rank start) self.old }
@@ -129,7 +130,7 @@ impl<T: Integer, V: Drop> Tree<T, V> {
         value_of(self.nodes.remove(&Start(start)))
     }
 
-    /// Takes the first entry out, and returns its value. No search is made.
+    /// Removes the first entry and returns its value. It allocates nothing and compares no keys.
     pub fn remove_first(&mut self) -> V
         requires present { IsSome (slice_get self.old 0) }
         ensures { IsFirstRemoved result self.old self.new }
@@ -140,7 +141,7 @@ impl<T: Integer, V: Drop> Tree<T, V> {
         }
     }
 
-    /// Takes the last entry out, and returns its value. No search is made.
+    /// Removes the last entry and returns its value. It allocates nothing and compares no keys.
     pub fn remove_last(&mut self) -> V
         requires present { IsSome (slice_get self.old (length self.old - 1)) }
         ensures { IsLastRemoved result self.old self.new }
@@ -151,7 +152,7 @@ impl<T: Integer, V: Drop> Tree<T, V> {
         }
     }
 
-    /// Takes all entries out.
+    /// Removes all entries. O(n) with n entries.
     pub fn clear(&mut self)
         ensures { self.new ≡ [] }
     {
@@ -160,8 +161,9 @@ impl<T: Integer, V: Drop> Tree<T, V> {
 }
 
 impl<T: Integer, V: Clone + Drop> Tree<T, V> {
-    /// Puts an entry in that starts at `start`, where none is, ends where the entry at `of` ends and has a clone of its
-    /// value. If an allocation fails, the entries are unchanged.
+    /// Inserts an entry that starts at `start`, where no entry may start. It ends where the entry that starts at `of`
+    /// ends, with a clone of its value. If an allocation or the clone fails, the entries are unchanged. O(log n) with n
+    /// entries.
     pub fn insert_clone(&mut self, of: T, start: T) -> Result<(), AllocError>
         requires present { IsSome (start_at (T.rank of) self.old) }
         requires absent { start_at (T.rank start) self.old ≡ None }

@@ -1,5 +1,5 @@
-//! Entries that get another start. A place for the entry is made there first, since that allocation may fail: a node without a
-//! value, which is filled before a call returns.
+//! Edits that give an entry another start. They first insert a node without a value at the new start, since that
+//! allocation may fail. They fill it before they return.
 ghost use Rattle.std.specs.Prelude.{◌≡◌, ◌+◌, length, Some, None, IsSome, OnOk, OnErr};
 ghost use Rattle.blaze_entries.specs.Nodes.{shown_nodes};
 ghost use Rattle.blaze_entries.specs.Starts.{StartsAscend, start_at, IsStartMoved, IsFrontReplaced};
@@ -11,7 +11,7 @@ use crate::start::Start;
 use blaze_int::Integer;
 use std::alloc::AllocError;
 
-// Moves the node at a start to another start, where none is.
+// Moves the node at `from` to the start `to`, where no node may be.
 fn move_node<T: Integer, V: Drop>(
     nodes: &mut Nodes<T, V>,
     from: T,
@@ -33,7 +33,7 @@ fn move_node<T: Integer, V: Drop>(
     Ok(())
 }
 
-// Replaces the front of the node at a start, and moves the rest of it to another start, where none is.
+// Replaces the node at `start` by `front`, and moves the old node to the start `to`, where no node may be.
 fn replace_node<T: Integer, V: Drop>(
     nodes: &mut Nodes<T, V>,
     start: T,
@@ -57,8 +57,8 @@ fn replace_node<T: Integer, V: Drop>(
 }
 
 impl<T: Integer, V: Drop> Tree<T, V> {
-    /// Moves the entry at a start to another start, where none is, with its end and value. If an allocation
-    /// fails, it is unchanged.
+    /// Moves the entry that starts at `from` to the start `to`, with its end and value. It requires that no entry
+    /// starts at `to`. If an allocation fails, the entries are unchanged. O(log n) with n entries.
     pub fn move_start(&mut self, from: T, to: T) -> Result<(), AllocError>
         requires present { IsSome (start_at (T.rank from) self.old) }
         requires absent { start_at (T.rank to) self.old ≡ None }
@@ -75,8 +75,9 @@ impl<T: Integer, V: Drop> Tree<T, V> {
         Ok(())
     }
 
-    /// Replaces the front of the entry at a start: it has another end and value, and what it had is an entry from another
-    /// start on, where none is. If an allocation fails, the entries are unchanged.
+    /// Splits the entry that starts at `start`. The front gets the new `end` and `value`. The old end and value go to
+    /// an entry that starts at `to`, where no entry may start before the call. If an allocation fails, the entries are
+    /// unchanged. O(log n) with n entries.
     pub fn replace_front(&mut self, start: T, end: T, value: V, to: T) -> Result<(), AllocError>
         requires present { IsSome (start_at (T.rank start) self.old) }
         requires absent { start_at (T.rank to) self.old ≡ None }

@@ -1,4 +1,4 @@
-//! Entries that a closure keeps.
+//! Removal of the entries that a closure rejects.
 ghost use Rattle.std.specs.Prelude.{Bool};
 ghost use Rattle.std.specs.List.Retain.{IsFiltered};
 ghost use Rattle.std.specs.Map.Calls.{CallableOnEachPair, RetainsPairs};
@@ -14,13 +14,13 @@ use std::collections::BTreeMap;
 use std::marker::Model;
 use std::ops::RangeInclusive;
 
-// A test of a map's pairs. The borrow checker takes no closure whose signature names the node of a generic key, but one in a
-// function that is generic in the pair.
+// A test of a map's pairs. The borrow checker rejects a closure whose signature names the node of a generic key, except
+// in a function that is generic in the pair.
 trait Keeps<K, V>: Drop {
-    // `keeps` may be called at this key and value.
+    // The test may be called with this key and value.
     ghost accepts: { Self → K → V → Type 0 };
 
-    // A call at this key and value may return this, and leave this value and this test.
+    // A call with this key and value may return this result, and leave this value and this test.
     ghost step: { Self → K → V → Bool → V → Self → Type 0 };
 
     fn keeps(&mut self, key: &K, value: &mut V) -> bool
@@ -28,7 +28,7 @@ trait Keeps<K, V>: Drop {
         ensures { step self.old key.now value.old result value.new self.new };
 }
 
-// A closure over an entry's range and value, as a test of its node.
+// A closure over an entry's range and value, as a test of the entry's node.
 #[derive(Drop)]
 struct OnEntry<F> {
     keep: F,
@@ -56,7 +56,7 @@ impl<T: Integer, V, F: FnMut(&RangeInclusive<T>, &V) -> bool> Keeps<
     }
 }
 
-// Keeps the pairs at which a test returns true.
+// Keeps the pairs for which a test returns `true`.
 fn retain_by<K: Ord + Drop, V: Drop, E: Keeps<K, V>>(pairs: &mut BTreeMap<K, V>, mut test: E)
     requires { CallableOnEachPair E.step E.accepts test pairs.old.entries }
     ensures { RetainsPairs E.step test pairs.old.entries pairs.new.entries }
@@ -70,9 +70,9 @@ fn retain_by<K: Ord + Drop, V: Drop, E: Keeps<K, V>>(pairs: &mut BTreeMap<K, V>,
 }
 
 impl<T: Integer, V: Drop> Tree<T, V> {
-    /// Keeps the entries that a closure returns true at: one call for each, ascending, at its range and value. No memory is
-    /// taken. One walk of the tree, O(n) with n entries. An entry that goes takes a search, O(log n) more, only where its node
-    /// of the tree has none to spare.
+    /// Keeps the entries for which `f` returns `true`. It calls `f` once for each entry, ascending. It allocates
+    /// nothing. O(n) with n entries. A removed entry takes O(log n) more only if its node of the tree has no entry to
+    /// spare.
     pub fn retain<F: FnMut(&RangeInclusive<T>, &V) -> bool>(&mut self, f: F)
         requires { IsCallableAtEach T.rank F.FnMut f self.old }
         ensures { IsFiltered (AnswersAt T.rank F.FnMut) f self.old self.new }

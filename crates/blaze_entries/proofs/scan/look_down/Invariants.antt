@@ -2,7 +2,7 @@ use Rattle.blaze_entries.proofs.Words.{◌≡◌, length, pos, List, option_copi
 use Rattle.blaze_entries.proofs.Underway.{IsWalkUnderway}
 use Rattle.blaze_entries.proofs.scan.look_down.Given as goal
 
--- the entries that are left stand before those that were seen
+-- the remaining entries precede those already visited
 abbrev pub invariant-loop-next : goal.invariant-loop-next
 invariant-loop-next g l = record {
   seen : List (Entry g.row.V.Denot);
