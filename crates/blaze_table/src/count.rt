@@ -1,4 +1,4 @@
-//! How many keys entries have.
+//! The number of keys of a list of entries.
 ghost use Rattle.std.specs.Prelude.{◌≡◌, pos, ◌≤ℤ◌};
 ghost use Rattle.blaze_table.specs.Canonical.{IsCanonical};
 ghost use Rattle.blaze_table.specs.Count.{keys_in};
@@ -8,7 +8,7 @@ use blaze_entries::Entries;
 use blaze_int::compare::length;
 use blaze_int::{Integer, SafeLength};
 
-/// How many keys entries have.
+/// Returns the number of keys of the entries. O(n) with n entries.
 pub fn count<T: Integer, V: Eq>(entries: &Entries<T, V>) -> T::SafeLen
     requires canonical { IsCanonical V.eq entries.now.counted.entries }
     requires fits { keys_in entries.now.counted.entries ≤ℤ pos T.SafeLen.most }
@@ -21,7 +21,7 @@ pub fn count<T: Integer, V: Eq>(entries: &Entries<T, V>) -> T::SafeLen
     sum
 }
 
-/// How many keys the entries of a list have: first key, last key and value.
+/// Returns the number of keys of a list of (first key, last key, value). O(n) with n entries.
 pub fn count_list<T: Integer, V: Eq>(entries: &[(T, T, V)]) -> T::SafeLen
     requires canonical { IsCanonical V.eq (shown_list T.rank entries.now) }
     requires fits { keys_in (shown_list T.rank entries.now) ≤ℤ pos T.SafeLen.most }

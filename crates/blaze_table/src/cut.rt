@@ -1,4 +1,5 @@
-//! Keys taken out of entries, in place. Each clone and each growth comes before the first edit that can't be taken back.
+//! Removal of keys from entries, in place. Each clone and each allocation precedes the first edit that cannot be
+//! undone.
 ghost use Rattle.std.specs.Prelude.{◌≡◌, ◌-◌, length, Some, None, ◌≤ℤ◌, ◌<ℤ◌};
 ghost use Rattle.std.specs.Prelude.{Ok, OnOk, OnErr, IfOk, IsSome, IfSome, IsSomeAnd, slice_get};
 ghost use Rattle.blaze_entries.specs.Cloned.{IsRangeCloned, IsManyCloned};
@@ -19,8 +20,8 @@ use blaze_int::compare::is_below;
 use blaze_int::{Integer, SafeLength};
 use std::alloc::AllocError;
 
-// Takes a key out of an entry that has others too, from `start` up to `end`, where `value` is a clone of that entry's, and
-// returns it. Only what the entry has above the key may take memory: it gets a start of its own.
+// Removes a key from an entry with more keys, from `start` to `end`, and returns `value`, a clone of the entry's value.
+// Only the part of the entry above the key may need an allocation: it becomes a separate entry.
 fn cut_shared<T: Integer, V: Eq + Clone>(
     entries: &mut Counted<T, V>,
     key: T,
@@ -56,7 +57,7 @@ fn cut_shared<T: Integer, V: Eq + Clone>(
     Ok(value)
 }
 
-// Takes a key out of the entry that has it, as a look at that entry has answered it, and returns the value that was there.
+// Removes a key from the entry that contains it, given the result of the lookup, and returns the key's value.
 fn cut_key<T: Integer, V: Eq + Clone>(
     entries: &mut Counted<T, V>,
     key: T,
@@ -80,7 +81,8 @@ fn cut_key<T: Integer, V: Eq + Clone>(
     }
 }
 
-// The same, with the new count of keys, where `len` is the old.
+// Removes a key from the entry that contains it, given the result of the lookup. It returns the key's value and the new
+// number of keys, where `len` is the old one.
 fn cut_held<T: Integer, V: Eq + Clone>(
     entries: &mut Counted<T, V>,
     len: T::SafeLen,
@@ -103,8 +105,8 @@ fn cut_held<T: Integer, V: Eq + Clone>(
     Ok((value, rest))
 }
 
-/// Takes a key out, and returns the value that was there and the new count of keys, where `len` is the old. Refused memory
-/// leaves the entries as they are.
+/// Removes a key. It returns the key's value and the new number of keys, where `len` is the old one. If an allocation
+/// or a clone fails, the entries are unchanged. O(log n) with n entries.
 pub fn cut<T: Integer, V: Eq + Clone>(
     entries: &mut Counted<T, V>,
     len: T::SafeLen,
@@ -131,8 +133,9 @@ pub fn cut<T: Integer, V: Eq + Clone>(
     }
 }
 
-// Takes the first key out of the first entry, as a look has answered that entry, and returns the value that was there. What the
-// entry has above the key gets an entry with the clone that the look made; the first entry goes without a search.
+// Removes the first key of the first entry, given the result of the lookup, and returns its value. The part of the
+// entry above the key becomes a new entry with the lookup's clone. The first entry is then removed without comparing
+// keys.
 fn cut_front<T: Integer, V: Eq + Clone>(
     entries: &mut Counted<T, V>,
     held: RangeEntry<T, Option<V>>,
@@ -159,8 +162,8 @@ fn cut_front<T: Integer, V: Eq + Clone>(
     }
 }
 
-/// Takes the first key out, and returns it with the value that was there and the new count of keys, where `len` is the old.
-/// Refused memory leaves the entries as they are.
+/// Removes the first key, which must exist. It returns the key, its value and the new number of keys, where `len` is
+/// the old one. If an allocation or a clone fails, the entries are unchanged. O(log n) with n entries.
 pub fn cut_first<T: Integer, V: Eq + Clone>(
     entries: &mut Counted<T, V>,
     len: T::SafeLen,
@@ -188,8 +191,8 @@ pub fn cut_first<T: Integer, V: Eq + Clone>(
     }
 }
 
-// Takes the last key out of the last entry, as a look has answered that entry, and returns the value that was there. No memory is
-// taken, and no search is made.
+// Removes the last key of the last entry, given the result of the lookup, and returns its value. It allocates nothing
+// and compares no keys of other entries.
 fn cut_back<T: Integer, V: Eq + Clone>(
     entries: &mut Counted<T, V>,
     held: RangeEntry<T, Option<V>>,
@@ -214,8 +217,8 @@ fn cut_back<T: Integer, V: Eq + Clone>(
     }
 }
 
-/// Takes the last key out, and returns it with the value that was there and the new count of keys, where `len` is the old.
-/// Refused memory leaves the entries as they are.
+/// Removes the last key, which must exist. It returns the key, its value and the new number of keys, where `len` is the
+/// old one. If the clone of the value fails, the entries are unchanged. It compares no keys of other entries.
 pub fn cut_last<T: Integer, V: Eq + Clone>(
     entries: &mut Counted<T, V>,
     len: T::SafeLen,
@@ -244,8 +247,8 @@ pub fn cut_last<T: Integer, V: Eq + Clone>(
     }
 }
 
-/// Takes the keys from lo up to hi out, and returns the new count of keys, where `len` is the old. Refused memory leaves the
-/// entries as they are.
+/// Removes the keys from `lo` to `hi` and returns the new number of keys, where `len` is the old one. If an allocation
+/// or a clone fails, the entries are unchanged. O((k + 1) log n) with n entries, of which k share keys with the range.
 pub fn cut_range<T: Integer, V: Eq + Clone>(
     entries: &mut Counted<T, V>,
     len: T::SafeLen,

@@ -1,10 +1,10 @@
-//! The keys of a list in hand.
+//! The ends of a list's entries are keys.
 ghost use Rattle.blaze_table.specs.Canonical.{AreKeys};
 ghost use Rattle.blaze_table.specs.Entries.{shown_list};
 
 use blaze_int::Integer;
 
-/// Does nothing; its contract says that the ends of entries are keys: first key, last key and value.
+/// Does nothing. Its contract states that the ends of a list of (first key, last key, value) are keys.
 pub fn keys_in_hand<T: Integer, V>(entries: &[(T, T, V)])
     ensures { AreKeys T.low T.high (shown_list T.rank entries.now) }
 {

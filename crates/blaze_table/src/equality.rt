@@ -9,7 +9,7 @@ ghost use Rattle.blaze_table.specs.Equality.{same_entry, same_entries};
 use crate::table::RangeTable;
 use blaze_int::Integer;
 
-// Whether two entries have the same ends and equal values.
+// Returns whether two entries have the same ends and equal values.
 fn is_same_entry<T: Integer, V: Eq>(left: (T, T, &V), right: (T, T, &V)) -> bool
     ensures { result ≡ same_entry V.eq (shown_entry T.rank (λ v. v.now) left.entry)
         (shown_entry T.rank (λ v. v.now) right.entry) }
@@ -23,7 +23,7 @@ fn is_same_entry<T: Integer, V: Eq>(left: (T, T, &V), right: (T, T, &V)) -> bool
     start == other_start && end == other_end && *value == *other
 }
 
-// Whether two tables have the same entries: as many, and no difference up to the end.
+// Returns whether two tables have the same number of entries, and equal entries at each position.
 fn have_same_entries<T: Integer, V: Eq>(left: &RangeTable<T, V>, right: &RangeTable<T, V>) -> bool
     ensures { result ≡ same_entries V.eq left.now.entries right.now.entries }
 {
@@ -47,8 +47,8 @@ impl<T: Integer, V: Eq> PartialEq for RangeTable<T, V> {
 
     ghost laws = { Prim.search (comparing, rules) depth 9 };
 
-    /// Whether two tables have the same content, values by their own `==`: so as many entries, and at each position the
-    /// same range with an equal value. No memory is taken.
+    /// Returns whether two tables have the same keys with equal values, by the values' own `==`. Equal tables have the
+    /// same ranges at each position. It allocates nothing. O(n) with n entries.
     fn eq(&self, other: &Self) -> bool
         ensures entries { result ≡ same_entries V.eq self.now.entries other.now.entries }
         ensures content { IsTrue result ↔ SameContent V.eq self.now.entries other.now.entries }

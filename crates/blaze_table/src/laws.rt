@@ -1,10 +1,11 @@
-//! The laws of canonical lists, for every value type with a lawful equality.
+//! The laws of canonical lists, for every value type with a lawful equality. Each function does nothing: its contract
+//! is the law.
 ghost use Rattle.blaze_table.specs.Laws.{CanonicalIsUnique, CanonicalIsFewest, CanonicalIsShortest};
 ghost use Rattle.blaze_table.specs.Laws.{LengthsAreMapped, PairsAreContent, StructureIsDefinition};
 
 use blaze_int::Integer;
 
-/// A list is canonical by structure exactly where it is so by definition.
+/// A list is canonical by structure exactly if it is canonical by definition.
 pub fn structure_is_definition<V: Eq>()
     ensures { StructureIsDefinition V.eq }
 {}
@@ -19,8 +20,8 @@ pub fn canonical_is_fewest<V: Eq>()
     ensures { CanonicalIsFewest V.eq }
 {}
 
-/// A canonical list is the only shortest with its content: no disjoint list has fewer entries, and an ascending disjoint list
-/// with as many has the same ranges and equal values.
+/// A canonical list is the only shortest list with its content. No disjoint list with the content has fewer entries. An
+/// ascending disjoint list with as many entries has the same ranges and equal values.
 pub fn canonical_is_shortest<V: Eq>()
     ensures { CanonicalIsShortest V.eq }
 {}
@@ -30,8 +31,8 @@ pub fn lengths_are_mapped<V: Eq>()
     ensures { LengthsAreMapped V.eq }
 {}
 
-/// The pair list of a range map has each key that has a value once, ascending, with that value, and is as long as there are
-/// such keys.
+/// The list of pairs of a range map has each key with a value once, ascending, with that value. Its length is the
+/// number of those keys.
 pub fn pairs_are_content<T: Integer, V: Eq>()
     ensures { PairsAreContent T.rank T.of_rank V.eq T.low T.high }
 {}

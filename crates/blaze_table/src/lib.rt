@@ -1,4 +1,4 @@
-//! A table of ranges: a map from keys to values, kept as the shortest ascending list of disjoint ranges.
+//! A table of ranges: a map from keys to values, stored as the shortest ascending list of disjoint ranges.
 #![tactic(auto)]
 
 mod count;

@@ -1,4 +1,4 @@
-//! What a paint has to know of the entries beside its range, found by single looks.
+//! The plan of a paint, computed by single lookups of the entries near its range.
 ghost use Rattle.std.specs.Prelude.{◌≡◌, ◌+◌, ◌≤◌, pos, ◌+ℤ◌, ◌≤ℤ◌, ◌<ℤ◌, length, true, false};
 ghost use Rattle.std.specs.Prelude.{IsSome, IsSomeAnd, IfSome, IfOk, OnErr};
 ghost use Rattle.std.specs.Option.{option_map};
@@ -14,8 +14,8 @@ use blaze_int::Integer;
 use blaze_int::compare::is_below;
 use std::alloc::AllocError;
 
-// Walks down the entries by single looks, from the one that may start right above a range to the first that starts below
-// it. A length loses how many of their keys lie in the range.
+// Visits the entries from the one that may start right above the range down to the first that starts below it, by
+// single lookups. It returns the plan, and `len` less the number of keys that the entries share with the range.
 fn plan<T: Integer, V: Eq>(
     entries: &mut Counted<T, V>,
     len: T::SafeLen,
@@ -52,8 +52,8 @@ fn plan<T: Integer, V: Eq>(
     (plan, left)
 }
 
-// A clone of the value of the entry `left`, which starts below a range, where it goes on above the range with another value,
-// by one look. A refused clone leaves the entries.
+// Clones the value of the entry `left`, which starts below a range, if it extends above the range with an unequal
+// value. It takes one lookup. If the clone fails, the entries are unchanged.
 fn value_above<T: Integer, V: Eq + Clone>(
     entries: &mut Counted<T, V>,
     hi: T,
@@ -78,8 +78,8 @@ fn value_above<T: Integer, V: Eq + Clone>(
     }
 }
 
-/// Finds what an edit of the keys from lo up to hi has to know of the entries by single looks, beside a value: what `Counted::walk`
-/// finds in one search. A refused clone leaves the entries.
+/// Returns the plan for an edit of the keys from `lo` to `hi`, as `Counted::walk` does, but by single lookups. If the
+/// clone of a value fails, the entries are unchanged. O((k + 1) log n) with n entries, of which k are visited.
 #[inline(always)]
 pub fn walk_by_looks<T: Integer, V: Eq + Clone>(
     entries: &mut Counted<T, V>,

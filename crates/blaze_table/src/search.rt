@@ -1,4 +1,4 @@
-//! Entries found by a key.
+//! Lookups of entries by a key that they contain.
 ghost use Rattle.std.specs.Prelude.{◌≡◌, option_map};
 ghost use Rattle.blaze_table.specs.Ending.{ending_from};
 ghost use Rattle.blaze_table.specs.Entries.{entry_at, shown_entry};
@@ -8,7 +8,7 @@ use blaze_entries::{Entries, Range};
 use blaze_int::Integer;
 use blaze_int::compare::is_at_most;
 
-/// The entry that holds a key: its first key, last key and value.
+/// Returns the entry that contains `key` as (first key, last key, value). O(log n) with n entries.
 pub fn entry_holding<T: Integer, V>(entries: &Entries<T, V>, key: T) -> Option<(T, T, &V)>
     requires { IsOrdered entries.now.counted.entries }
     ensures { option_map (shown_entry T.rank (λ v. v.now)) result
@@ -24,7 +24,8 @@ pub fn entry_holding<T: Integer, V>(entries: &Entries<T, V>, key: T) -> Option<(
     }
 }
 
-/// The entries that end at a key or above it, ascending: first key, last key and value.
+/// Iterates over the entries that end at `key` or above, ascending, each as (first key, last key, value). It allocates
+/// nothing. The call takes O(log n) time with n entries.
 pub fn entries_ending_from<T: Integer, V>(entries: &Entries<T, V>, key: T) -> Range<'_, T, V>
     requires { IsOrdered entries.now.counted.entries }
     ensures { result ≡ ending_from (T.rank key) entries.now.counted.entries }

@@ -1,4 +1,4 @@
-//! A value put on the keys of a range, in place: the entries beside the range are found, then edited.
+//! An edit in place that sets the value of a range's keys, given the results of a walk.
 ghost use Rattle.std.specs.Option.{option_map, option_or};
 ghost use Rattle.std.specs.Prelude.{◌≡◌, ◌≤ℤ◌, Ok, IfOk, OnOk, OnErr};
 ghost use Rattle.blaze_entries.specs.Found.{shown_found};
@@ -16,7 +16,7 @@ use blaze_int::compare::{is_at_most, is_next, length};
 use blaze_int::{Integer, SafeLength};
 use std::alloc::AllocError;
 
-// Whether one entry has all keys of a range that ends at `hi`, with an equal value.
+// Returns whether one entry contains all keys of a range that ends at `hi`, with an equal value.
 fn is_inside<T: Integer>(plan: Plan<T>, hi: T) -> bool
     ensures { result
         ≡ reaches (T.rank hi) (option_or (shown_plan T.rank plan).first (shown_plan T.rank plan).left) }
@@ -27,7 +27,7 @@ fn is_inside<T: Integer>(plan: Plan<T>, hi: T) -> bool
     }
 }
 
-// The start of an entry that a painted range is joined with below it.
+// Returns the start of the entry below a painted range if the two are joined.
 fn joined_below<T: Integer>(left: Option<RangeEntry<T, bool>>, lo: T) -> Option<T>
     ensures { option_map T.rank result
         ≡ joined_start (T.rank lo) (option_map (shown_found T.rank) left) }
@@ -40,9 +40,10 @@ fn joined_below<T: Integer>(left: Option<RangeEntry<T, bool>>, lo: T) -> Option<
     }
 }
 
-/// Puts a value on the keys from lo up to hi, by what a walk has found, and returns how many keys there are then: what is to be put
-/// in is put in, and only then is anything edited that can't be taken back. Inside an entry with an equal value nothing changes.
-/// Refused memory leaves the entries as they are. It is inlined, so that a plan is not copied on its way here.
+/// Sets the value of every key from `lo` to `hi`, given the results of a walk, and returns the new number of keys. All
+/// inserts, which may fail, precede the first edit that cannot be undone. If one entry with an equal value contains the
+/// range, nothing changes. If an allocation fails, the entries are unchanged. The function is inlined, so that the plan
+/// is not copied.
 #[inline(always)]
 pub fn paint_planned<T: Integer, V: Eq + Drop>(
     entries: &mut Counted<T, V>,

@@ -1,4 +1,4 @@
-//! The table.
+//! The table of ranges and its basic methods.
 ghost use Rattle.std.specs.Prelude.{◌≡◌, ◌-◌, pos, [], length, slice_get};
 ghost use Rattle.std.specs.Prelude.{IfOk, option_map};
 ghost use Rattle.blaze_entries.specs.Starts.{from};
@@ -23,8 +23,8 @@ use blaze_int::{Integer, SafeLength};
 use std::alloc::{AllocError, Global};
 use std::marker::Model;
 
-/// Ranges with their values: ascending, disjoint, as few as there can be; and the number of their keys. Contracts see the
-/// list with the work on it: looks at entries, entries put in and entries taken out.
+/// Ranges with their values, ascending, disjoint and as few as possible, and the number of their keys. Contracts see
+/// the list of entries with counters of the work on it: lookups, inserted entries and removed entries.
 #[derive(Drop)]
 pub struct RangeTable<T: Integer, V: Eq> {
     entries: Entries<T, V>,
@@ -45,7 +45,7 @@ impl<T: Integer, V: Eq> Model for RangeTable<T, V> {
 }
 
 impl<T: Integer, V: Eq> RangeTable<T, V> {
-    /// The empty table.
+    /// Returns the empty table. It allocates nothing.
     pub fn new(alloc: Global) -> Self
         ensures { result ≡ uncounted [] }
     {
@@ -55,8 +55,8 @@ impl<T: Integer, V: Eq> RangeTable<T, V> {
         }
     }
 
-    /// The same entries, of which nothing is counted yet: a call that makes a table out of one that it was given ends with it.
-    /// No memory is taken.
+    /// Returns the table with all counters at 0. A function that builds its result from an owned table ends with this
+    /// call. It allocates nothing.
     pub fn uncounted(self) -> Self
         ensures { result ≡ uncounted self.entries }
     {
@@ -66,7 +66,7 @@ impl<T: Integer, V: Eq> RangeTable<T, V> {
         }
     }
 
-    /// The number of keys that have a value.
+    /// Returns the number of keys that have a value. O(1).
     pub fn len(&self) -> T::SafeLen
         ensures lengths { pos (T.SafeLen.number result) ≡ keys_in self.now.entries }
         ensures mapped { T.SafeLen.number result ≡ mapped_keys T.low T.high (at self.now.entries) }
@@ -74,26 +74,26 @@ impl<T: Integer, V: Eq> RangeTable<T, V> {
         self.len
     }
 
-    /// The number of entries.
+    /// Returns the number of entries. O(1).
     pub fn entries(&self) -> usize
         ensures { result ≡ length self.now.entries }
     {
         self.entries.len()
     }
 
-    /// The allocator of the table's memory.
+    /// Returns the allocator of the table's memory.
     pub fn allocator(&self) -> Global {
         self.entries.allocator()
     }
 
-    /// Does nothing; its contract says that the list is canonical and its ends are keys.
+    /// Does nothing. Its contract states that the list is canonical and its ends are keys.
     pub fn in_hand(&self)
         ensures { IsRangeMap V.eq T.low T.high self.now.entries }
     {
         let _ = &self.entries;
     }
 
-    /// The least entry: its first key, last key and value.
+    /// Returns the first entry as (first key, last key, value). It compares no keys.
     pub fn first(&self) -> Option<(T, T, &V)>
         ensures { option_map (shown_entry T.rank (λ v. v.now)) result
             ≡ slice_get self.now.entries 0 }
@@ -101,7 +101,7 @@ impl<T: Integer, V: Eq> RangeTable<T, V> {
         self.entries.first()
     }
 
-    /// The greatest entry: its first key, last key and value.
+    /// Returns the last entry as (first key, last key, value). It compares no keys.
     pub fn last(&self) -> Option<(T, T, &V)>
         ensures { option_map (shown_entry T.rank (λ v. v.now)) result
             ≡ slice_get self.now.entries (length self.now.entries - 1) }
@@ -109,14 +109,15 @@ impl<T: Integer, V: Eq> RangeTable<T, V> {
         self.entries.last()
     }
 
-    /// The entries, ascending: first key, last key and value.
+    /// Iterates over the entries, ascending, each as (first key, last key, value). It allocates nothing.
     pub fn iter(&self) -> Iter<'_, T, V>
         ensures { result ≡ self.now.entries }
     {
         self.entries.iter()
     }
 
-    /// The entries that start at a key or above it, ascending: first key, last key and value. It takes one search.
+    /// Iterates over the entries that start at `key` or above, ascending, each as (first key, last key, value). It
+    /// allocates nothing. The call takes O(log n) time with n entries.
     pub fn iter_starting_from(&self, key: T) -> Range<'_, T, V>
         ensures { result ≡ from (T.rank key) self.now.entries }
     {
@@ -125,7 +126,8 @@ impl<T: Integer, V: Eq> RangeTable<T, V> {
 }
 
 impl<T: Integer, V: Eq + Drop> RangeTable<T, V> {
-    /// The table of a canonical list of entries: first key, last key and value. Refused memory drops the list.
+    /// Builds a table from a canonical list of (first key, last key, value). If an allocation fails, the list is
+    /// dropped. O(n) with n entries.
     pub fn from_canonical(alloc: Global, entries: Vec<(T, T, V)>) -> Result<Self, AllocError>
         requires range_map { IsRangeMap V.eq T.low T.high (shown_list T.rank entries.items) }
         ensures { IfOk result (λ table. table ≡ uncounted (shown_list T.rank entries.items)) }
@@ -135,7 +137,7 @@ impl<T: Integer, V: Eq + Drop> RangeTable<T, V> {
         Ok(RangeTable { entries, len })
     }
 
-    /// Takes all entries out. No entry is counted.
+    /// Removes all entries. The counters do not change. O(n) with n entries.
     pub fn clear(&mut self)
         ensures { self.new ≡ record self.old { entries = [] } }
     {
@@ -145,7 +147,8 @@ impl<T: Integer, V: Eq + Drop> RangeTable<T, V> {
 }
 
 impl<T: Integer, V: Eq + Clone> RangeTable<T, V> {
-    /// A table of the same ranges, each with a clone of its value. Refused memory leaves this table unchanged.
+    /// Clones the table: each range, with a clone of its value. If an allocation or a clone fails, this table is
+    /// unchanged. O(n) with n entries.
     pub fn clone(&self) -> Result<Self, AllocError>
         requires { ClonesAreAlike V.is_clone V.eq }
         ensures same { IfOk result (λ copy. SameEntries V.eq self.now.entries copy.entries) }
@@ -166,7 +169,7 @@ impl<T: Integer, V: Eq + Drop> IntoIterator for RangeTable<T, V> {
 
     ghost into_iter_gives = { λ table iter. iter ≡ table.entries };
 
-    /// The entries by value, ascending: first key, last key and value. No memory is taken.
+    /// Returns the owned entries, ascending, each as (first key, last key, value). It allocates nothing.
     fn into_iter(self) -> IntoIter<T, V> {
         self.entries.into_iter()
     }

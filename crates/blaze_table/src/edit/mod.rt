@@ -1,5 +1,5 @@
-//! The one edit of entries in place: those that touch a range give way to a value, to a longer entry, or to nothing. What can be
-//! refused comes first: the starts that are put in.
+//! Edits of the entries that touch a range: a value, a longer entry or nothing replaces them. The inserts, which may
+//! fail, come first.
 ghost use Rattle.std.specs.Prelude.{◌≡◌, Some, None, OnOk, OnErr, IsSome};
 ghost use Rattle.std.specs.Option.{option_map};
 ghost use Rattle.blaze_table.specs.Canonical.{IsCanonical};
@@ -18,8 +18,9 @@ use place::{put, put_rest};
 use room::{clear, clear_above, goes, trim};
 use std::alloc::AllocError;
 
-/// Puts an entry in from `lo` up to the plan's end, where none beside it is to be joined, and `above` is equal to the value of
-/// the entry that goes on both below and above it, if there is one. Refused memory leaves the entries as they are.
+/// Inserts an entry from `lo` to the plan's end. It requires that the entry is joined with none below it. `above` is
+/// equal to the value of the entry that extends both below and above the range, if one exists. If an allocation fails,
+/// the entries are unchanged.
 pub fn put_at<T: Integer, V: Eq + Drop>(
     entries: &mut Counted<T, V>,
     lo: T,
@@ -44,8 +45,8 @@ pub fn put_at<T: Integer, V: Eq + Drop>(
     Ok(())
 }
 
-/// Gives the entry that starts at `first`, the last one below `lo`, all keys up to the plan's end, where no entry above them is to
-/// be joined. Refused memory leaves the entries as they are.
+/// Extends the entry that starts at `first`, the last one below `lo`, to the plan's end. It requires that this entry
+/// ends within the range or right below it. If an allocation fails, the entries are unchanged.
 pub fn extend<T: Integer, V: Eq + Drop>(
     entries: &mut Counted<T, V>,
     first: T,
@@ -69,8 +70,8 @@ pub fn extend<T: Integer, V: Eq + Drop>(
     Ok(())
 }
 
-/// Takes the keys from `lo` up to the plan's end out, where `above` is equal to the value of the entry that goes on both below
-/// and above them, if there is one. Refused memory leaves the entries as they are.
+/// Removes the keys from `lo` to the plan's end. `above` is equal to the value of the entry that extends both below and
+/// above them, if one exists. If an allocation fails, the entries are unchanged.
 pub fn take_out<T: Integer, V: Eq + Drop>(
     entries: &mut Counted<T, V>,
     lo: T,

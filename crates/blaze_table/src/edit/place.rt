@@ -1,5 +1,5 @@
-//! The starts of an edit put in: that of the entry that a range gets, and that of what lies above it. Each growth comes before
-//! the first edit that can't be taken back.
+//! The inserts of an edit: the entry of a range, and the entry of the part above it. Each allocation precedes the first
+//! edit that cannot be undone.
 ghost use Rattle.std.specs.Prelude.{◌≡◌, ◌<ℤ◌, length, None, OnOk, OnErr, IfSome, IsSome};
 ghost use Rattle.std.specs.Option.{option_map};
 ghost use Rattle.blaze_entries.specs.Found.{shown_ends};
@@ -15,8 +15,9 @@ use blaze_int::Integer;
 use blaze_int::compare::is_below;
 use std::alloc::AllocError;
 
-/// Gives what an entry has above `end` a start of its own, if one goes on there: the entry is moved, or, where it starts below
-/// `lo`, `above` is put in. Refused memory leaves the entries as they are.
+/// If an entry extends past `end`, makes the part above `end` a separate entry. The entry itself is moved there, or, if
+/// it starts below `lo`, a new entry with the value `above` is inserted. If an allocation fails, the entries are
+/// unchanged.
 pub fn put_rest<T: Integer, V: Drop>(
     entries: &mut Counted<T, V>,
     lo: T,
@@ -49,7 +50,7 @@ pub fn put_rest<T: Integer, V: Drop>(
     }
 }
 
-// Puts an entry in at a start where none is, and gives what lies above it a start of its own.
+// Inserts an entry where none starts, and makes the part above it a separate entry.
 fn put_new<T: Integer, V: Eq + Drop>(
     entries: &mut Counted<T, V>,
     lo: T,
@@ -76,7 +77,7 @@ fn put_new<T: Integer, V: Eq + Drop>(
     Ok(())
 }
 
-// Puts an entry in place of the one that starts there, and gives what lies above it a start of its own.
+// Replaces the entry that starts at `lo`, and makes the part above the new one a separate entry.
 fn put_over<T: Integer, V: Eq + Drop>(
     entries: &mut Counted<T, V>,
     lo: T,
@@ -113,8 +114,8 @@ fn put_over<T: Integer, V: Eq + Drop>(
     }
 }
 
-/// Puts an entry in at `lo`, up to the plan's end, where the plan says whether one starts there, and gives what lies above it a
-/// start of its own. Refused memory leaves the entries as they are.
+/// Inserts an entry from `lo` to the plan's end, or replaces the entry that starts at `lo` if the plan has one. The
+/// part above becomes a separate entry. If an allocation fails, the entries are unchanged.
 pub fn put<T: Integer, V: Eq + Drop>(
     entries: &mut Counted<T, V>,
     lo: T,

@@ -1,4 +1,5 @@
-//! Room made for a range: the entry below it shortened, and what starts in it taken out. Nothing of it can be refused.
+//! Edits that free a range of keys: the entry below is shortened, and the entries that start in the range are removed.
+//! None of them can fail.
 ghost use Rattle.std.specs.Prelude.{◌≡◌, ◌++◌, ◌≤◌, pos, ◌+ℤ◌, length, drop, is_some};
 ghost use Rattle.std.specs.Option.{option_map};
 ghost use Rattle.blaze_entries.specs.Found.{shown_ends};
@@ -12,7 +13,7 @@ use blaze_entries::{Counted, RangeEntry};
 use blaze_int::Integer;
 use blaze_int::compare::{is_at_most, is_below};
 
-/// Whether the entry that starts at `lo` goes: there is one, and it is not the one that keeps a rest.
+/// Returns whether an edit removes the entry that starts at `lo`: it exists and does not extend above the range.
 pub fn goes<T: Integer>(
     lo: T,
     first: Option<RangeEntry<T, bool>>,
@@ -27,7 +28,7 @@ pub fn goes<T: Integer>(
     }
 }
 
-/// Ends the entry that starts below a key below that key.
+/// Shortens the entry that starts below `lo` so that it ends just before `lo`.
 pub fn trim<T: Integer, V: Eq>(
     entries: &mut Counted<T, V>,
     lo: T,
@@ -50,7 +51,7 @@ pub fn trim<T: Integer, V: Eq>(
     }
 }
 
-// Takes out the entry with the least start from a key on, by one look.
+// Removes the entry with the least start from `key` on, after one lookup.
 fn remove_next<T: Integer, V: Drop>(entries: &mut Counted<T, V>, key: T)
     requires { 1 ≤ length (from (T.rank key) entries.old.entries) }
     ensures below { below (T.rank key) entries.new.entries ≡ below (T.rank key) entries.old.entries }
@@ -67,7 +68,7 @@ fn remove_next<T: Integer, V: Drop>(entries: &mut Counted<T, V>, key: T)
     }
 }
 
-/// Takes out so many of the entries that start above a key, the nearest first: a look for each.
+/// Removes the next `count` entries that start above `key`, the lowest first. O(count log n) with n entries.
 pub fn clear_above<T: Integer, V: Drop>(entries: &mut Counted<T, V>, key: T, count: usize)
     requires { count ≤ length (from (T.rank key +ℤ pos 1) entries.old.entries) }
     ensures entries { entries.new.entries
@@ -86,7 +87,7 @@ pub fn clear_above<T: Integer, V: Drop>(entries: &mut Counted<T, V>, key: T, cou
     entries.in_hand();
 }
 
-// Takes out the entry that starts at a key, where one goes.
+// Removes the entry that starts at `lo` if `goes` is true.
 fn remove_start<T: Integer, V: Drop>(entries: &mut Counted<T, V>, lo: T, goes: bool)
     requires { goes ≡ is_some (start_at (T.rank lo) entries.old.entries) }
     ensures entries { entries.new.entries ≡ without (T.rank lo) entries.old.entries }
@@ -97,7 +98,7 @@ fn remove_start<T: Integer, V: Drop>(entries: &mut Counted<T, V>, lo: T, goes: b
     }
 }
 
-/// Takes out the entry that starts at a key, where one goes, and so many of those that start above it.
+/// Removes the entry that starts at `lo` if `goes` is true, and the next `count` entries that start above it.
 pub fn clear<T: Integer, V: Drop>(entries: &mut Counted<T, V>, lo: T, goes: bool, count: usize)
     requires here { goes ≡ is_some (start_at (T.rank lo) entries.old.entries) }
     requires above { count ≤ length (from (T.rank lo +ℤ pos 1) entries.old.entries) }

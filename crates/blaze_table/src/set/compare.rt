@@ -13,7 +13,7 @@ impl<T: Integer> PartialEq for RangeSetBlaze<T> {
 
     ghost laws = { Prim.search (comparing, rules) depth 9 };
 
-    /// Whether two sets have the same keys, so the same ranges. No memory is taken.
+    /// Returns whether two sets have the same keys, and so the same ranges. It allocates nothing. O(n) with n ranges.
     fn eq(&self, other: &Self) -> bool
         ensures value { result ≡ same_ranges self.now other.now }
         ensures ranges { IsTrue result ↔ (self.now ≡ other.now) }

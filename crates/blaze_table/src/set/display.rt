@@ -1,11 +1,11 @@
-//! A set's printed text.
+//! The text of a printed set.
 ghost use Rattle.blaze_table.specs.Printed.{set_text};
 
 use crate::set::range_set::RangeSetBlaze;
 use blaze_int::Integer;
 use std::fmt::{self, Debug};
 
-/// The ranges `start..=end`, keys in debug form, joined by a comma and a space. The empty set prints nothing.
+/// Prints the ranges as `start..=end`, separated by `, `, with the keys in debug form. The empty set prints nothing.
 impl<T: Integer> fmt::Display for RangeSetBlaze<T> {
     ghost output = { λ s. set_text T.debug_output T.of_rank s };
 
@@ -22,7 +22,7 @@ impl<T: Integer> fmt::Display for RangeSetBlaze<T> {
     }
 }
 
-/// The text that `Display` gives.
+/// Prints the ranges as `start..=end`, separated by `, `, as `Display` does.
 impl<T: Integer> Debug for RangeSetBlaze<T> {
     ghost debug_output = { λ s. set_text T.debug_output T.of_rank s };
 

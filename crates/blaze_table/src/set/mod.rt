@@ -1,4 +1,4 @@
-//! Sets of keys: a table with the unit value.
+//! Sets of keys: a table whose values are `()`.
 pub mod compare;
 pub mod display;
 pub mod into_ranges_iter;

@@ -1,4 +1,4 @@
-//! A set of keys, kept as ranges.
+//! A set of keys, stored as ranges.
 ghost use Rattle.std.specs.Prelude.{◌≡◌, ◌↔◌, pos, List, [], length, IsTrue, IsSome, IfOk, map};
 ghost use Rattle.std.specs.Iterator.{Drains, IsFinite};
 ghost use Rattle.std.specs.declared.ops.RangeInclusive.{RangeInclusive};
@@ -15,7 +15,7 @@ use std::alloc::{AllocError, Global};
 use std::marker::Model;
 use std::ops::RangeInclusive;
 
-/// A set of keys, kept as ranges: ascending, and as few as there can be, so that no two touch.
+/// A set of keys, stored as ascending ranges. The ranges are as few as possible, so no two touch.
 #[derive(Drop)]
 pub struct RangeSetBlaze<T: Integer> {
     pub(crate) table: RangeTable<T, ()>,
@@ -35,7 +35,7 @@ impl<T: Integer> Model for RangeSetBlaze<T> {
 }
 
 impl<T: Integer> RangeSetBlaze<T> {
-    /// The empty set.
+    /// Returns the empty set. It allocates nothing.
     pub fn new(alloc: Global) -> Self
         ensures { result ≡ [] }
     {
@@ -44,7 +44,8 @@ impl<T: Integer> RangeSetBlaze<T> {
         }
     }
 
-    /// The set of a canonical list of ranges. Refused memory drops the list.
+    /// Builds a set from a canonical list of ranges: ascending, not empty, and no two touch. If an allocation fails,
+    /// the list is dropped. O(n) with n ranges.
     pub fn from_canonical(alloc: Global, ranges: Vec<RangeInclusive<T>>) -> Result<Self, AllocError>
         requires range_set { IsRangeSet T.low T.high (shown_bare_ranges T.rank ranges.items) }
         ensures { IfOk result (λ set. set ≡ shown_bare_ranges T.rank ranges.items) }
@@ -54,8 +55,9 @@ impl<T: Integer> RangeSetBlaze<T> {
         Ok(RangeSetBlaze { table })
     }
 
-    /// The set of the keys that at least one of the ranges has. A range whose end is below its start has no key. It takes
-    /// O(n log n) steps for n ranges, and one pass where they ascend and are disjoint. Refused memory drops the ranges.
+    /// Builds the set of the keys that are in at least one range. A range whose end is below its start has no key. If
+    /// an allocation fails, the remaining ranges are dropped. O(n log n) with n ranges, or O(n) if they are ascending,
+    /// disjoint and not empty.
     pub fn from_ranges<I: IntoIterator<Item = RangeInclusive<T>>>(
         alloc: Global,
         iter: I,
@@ -76,14 +78,14 @@ impl<T: Integer> RangeSetBlaze<T> {
         Ok(RangeSetBlaze { table })
     }
 
-    /// Does nothing; its contract says that the list of ranges is canonical and its ends are keys.
+    /// Does nothing. Its contract states that the list of ranges is canonical and its ends are keys.
     pub fn in_hand(&self)
         ensures { IsRangeSet T.low T.high self.now }
     {
         self.table.in_hand();
     }
 
-    /// The number of keys.
+    /// Returns the number of keys. O(1).
     pub fn len(&self) -> T::SafeLen
         ensures lengths { pos (T.SafeLen.number result) ≡ keys_in self.now }
         ensures mapped { T.SafeLen.number result ≡ mapped_keys T.low T.high (at self.now) }
@@ -91,35 +93,35 @@ impl<T: Integer> RangeSetBlaze<T> {
         self.table.len()
     }
 
-    /// The number of ranges.
+    /// Returns the number of ranges. O(1).
     pub fn ranges_len(&self) -> usize
         ensures { result ≡ length self.now }
     {
         self.table.entries()
     }
 
-    /// Whether a key is in the set.
+    /// Returns whether `key` is in the set. O(log n) with n ranges.
     pub fn contains(&self, key: T) -> bool
         ensures { IsTrue result ↔ IsSome (at self.now (T.rank key)) }
     {
         self.table.find(key).is_some()
     }
 
-    /// The set as a table, whose values are the unit: its keys and gaps are looked up there. No memory is taken.
+    /// Returns the set as a table with `()` values, which has the lookups of keys and gaps. It allocates nothing. O(1).
     pub fn as_table(&self) -> &RangeTable<T, ()>
         ensures { result.now.entries ≡ self.now }
     {
         &self.table
     }
 
-    /// The ranges, ascending. No memory is taken.
+    /// Iterates over the ranges, ascending. It allocates nothing.
     pub fn ranges(&self) -> RangesIter<'_, T>
         ensures { result ≡ self.now }
     {
         RangesIter::new(&self.table)
     }
 
-    /// The ranges by value, ascending. No memory is taken.
+    /// Returns an iterator over the owned ranges, ascending. It allocates nothing.
     pub fn into_ranges(self) -> IntoRangesIter<T>
         ensures { result ≡ self }
     {
@@ -127,7 +129,7 @@ impl<T: Integer> RangeSetBlaze<T> {
     }
 }
 
-// The entries of ranges: first key, last key and the unit value.
+// Converts ranges to entries, each as (first key, last key, `()`).
 fn entries_of_ranges<T: Integer>(
     alloc: Global,
     ranges: Vec<RangeInclusive<T>>,

@@ -1,4 +1,4 @@
-//! A set's ranges, one after another.
+//! An iterator over the ranges of a borrowed set.
 ghost use Rattle.std.specs.Prelude.{◌≡◌, length, Some, IfSome};
 ghost use Rattle.std.specs.Iterator.{item_count, UpTo};
 ghost use Rattle.std.specs.Iterator.SizeHint.{IsWithinCount};
@@ -12,7 +12,8 @@ use std::iter::FusedIterator;
 use std::marker::Model;
 use std::ops::RangeInclusive;
 
-/// A set's ranges, ascending, from both ends.
+/// An iterator over the ranges of a borrowed set, ascending. It is double-ended, allocates nothing, and each call takes
+/// amortized O(1) time.
 #[derive(Drop)]
 pub struct RangesIter<'a, T: Integer> {
     entries: Iter<'a, T, ()>,
@@ -43,7 +44,7 @@ impl<'a, T: Integer> RangesIter<'a, T> {
         }
     }
 
-    /// Does nothing; its contract says that what is left is canonical and its ends are keys.
+    /// Does nothing. Its contract states that the remaining list is canonical and its ends are keys.
     pub fn in_hand(&self)
         ensures { IsRangeSet T.low T.high self.now }
     {
@@ -63,7 +64,7 @@ impl<'a, T: Integer> Iterator for RangesIter<'a, T> {
         Some(start..=end)
     }
 
-    /// Exact: how many ranges are left.
+    /// Returns the exact number of remaining ranges as both bounds. O(1).
     fn size_hint(&self) -> (usize, Option<usize>)
         ensures lower { IsWithinCount result.0 (item_count (λ s. s) self.now) }
         ensures upper { IfSome result.1 (UpTo (item_count (λ s. s) self.now)) }

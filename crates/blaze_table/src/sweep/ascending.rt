@@ -1,4 +1,4 @@
-//! Pairs that are ascending and disjoint already.
+//! Lists of pairs that are already ascending and disjoint.
 ghost use Rattle.std.specs.Prelude.{◌≤ℤ◌, ◌↔◌, IsTrue, IfOk};
 ghost use Rattle.blaze_table.specs.Entries.{shown_list};
 ghost use Rattle.blaze_table.specs.CanonicalOf.{IsCanonicalOf};
@@ -9,7 +9,7 @@ use blaze_int::Integer;
 use blaze_int::compare::{is_at_most, is_below};
 use std::alloc::{AllocError, Global};
 
-/// Whether a pair has a key and starts above the end of the one before it.
+/// Returns whether a pair has a key and starts above `last`, the end of the previous pair.
 fn follows<T: Integer, V>(last: Option<T>, pair: &(T, T, V)) -> bool
     ensures { IsTrue result ↔ ((key_after T.rank T.low last ≤ℤ T.rank pair.now.0)
         × (T.rank pair.now.0 ≤ℤ T.rank pair.now.1)) }
@@ -22,7 +22,7 @@ fn follows<T: Integer, V>(last: Option<T>, pair: &(T, T, V)) -> bool
     }
 }
 
-/// Whether each pair has a key and starts above the end of the one before it.
+/// Returns whether each pair has a key and starts above the end of the previous pair. O(n) with n pairs.
 pub(crate) fn is_ascending<T: Integer, V>(pairs: &[(T, T, V)]) -> bool
     ensures { IsTrue result ↔ AreApart T.low (shown_list T.rank pairs.now) }
 {
@@ -39,7 +39,8 @@ pub(crate) fn is_ascending<T: Integer, V>(pairs: &[(T, T, V)]) -> bool
     true
 }
 
-/// The list of pairs that are ascending and disjoint, where touching ones with equal values are joined. Each value is moved.
+/// Joins touching pairs with equal values in a list of ascending disjoint pairs. Each value is moved. O(n) with n
+/// pairs.
 pub(crate) fn joined_entries<T: Integer, V: Eq + Clone>(
     alloc: Global,
     pairs: Vec<(T, T, V)>,

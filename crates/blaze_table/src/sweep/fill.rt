@@ -1,4 +1,4 @@
-//! Pieces with the values of their pairs.
+//! Values for the pieces of pairs.
 ghost use Rattle.std.specs.Prelude.{pos, ◌+ℤ◌, All, IfOk};
 ghost use Rattle.blaze_table.specs.Entries.{shown_list};
 ghost use Rattle.blaze_table.specs.Painted.{ClonesAreAlike};
@@ -9,8 +9,8 @@ use crate::sweep::placed::Placed;
 use blaze_int::Integer;
 use std::alloc::{AllocError, Global};
 
-/// The canonical list of pairs, of which the pieces are given. A value is moved for the first piece of its pair, and cloned for
-/// each other one.
+/// Builds the canonical list of pairs from their pieces. The first piece of a pair gets the pair's value, and each
+/// other piece gets a clone. O(n) with n pieces, and at most one clone for each.
 pub(crate) fn entries_of_pieces<T: Integer, V: Eq + Clone>(
     alloc: Global,
     placed: Vec<Placed<T, V>>,

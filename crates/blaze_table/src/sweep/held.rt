@@ -1,4 +1,4 @@
-//! The values of pairs, moved out one after another.
+//! The values of pairs, moved out one by one.
 ghost use Rattle.std.specs.Prelude.{◌≡◌, Some, IfOk, IsSome, OnOk, map};
 ghost use Rattle.blaze_table.specs.Entries.{SameOption, shown_list};
 ghost use Rattle.blaze_table.specs.Painted.{ClonesAreAlike};
@@ -10,16 +10,16 @@ use blaze_int::Integer;
 use std::alloc::{AllocError, Global};
 use std::mem;
 
-/// Where the value of a pair is.
+/// The value of a pair, or the position of the entry that has it.
 #[derive(Drop)]
 pub(crate) enum Held<V> {
-    /// It was not moved.
+    /// The value was not moved.
     Kept(V),
-    /// It was moved, and the entry at this place has it, or an equal one.
+    /// The value was moved. The entry at this position has it, or an equal one.
     Moved(usize),
 }
 
-/// The values of pairs.
+/// Takes the values out of the pairs. O(n) with n pairs.
 pub(crate) fn held_of<T: Integer, V: Eq + Clone>(
     alloc: Global,
     placed: Vec<Placed<T, V>>,
@@ -33,7 +33,7 @@ pub(crate) fn held_of<T: Integer, V: Eq + Clone>(
     Ok(held)
 }
 
-/// The value at an index: moved out, or, where it was moved already, a clone of that of the entry that has it.
+/// Returns the value at an index: the value itself, or, if it was moved, a clone of the value of the entry that has it.
 fn value_at<T: Integer, V: Eq + Clone>(
     held: &mut Vec<Held<V>>,
     entries: &[(T, T, V)],
@@ -54,8 +54,8 @@ fn value_at<T: Integer, V: Eq + Clone>(
     }
 }
 
-/// Adds the value at an index on the keys from `start` up to `end`, in one entry with the last where the two touch with equal
-/// values.
+/// Appends the value at an index for the keys from `start` to `end`. The last entry is extended instead if it touches
+/// them and has an equal value.
 pub(crate) fn put_piece<T: Integer, V: Eq + Clone>(
     held: &mut Vec<Held<V>>,
     entries: &mut Vec<(T, T, V)>,

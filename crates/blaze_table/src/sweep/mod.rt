@@ -1,4 +1,4 @@
-//! The canonical list of pairs painted in order.
+//! The canonical list of pairs that are painted in order.
 ghost use Rattle.std.specs.Prelude.{IfOk};
 ghost use Rattle.blaze_table.specs.Entries.{shown_list};
 ghost use Rattle.blaze_table.specs.Painted.{ClonesAreAlike};
@@ -23,12 +23,14 @@ mod waiting;
 pub(crate) use push::lengthen_entry;
 pub use push::push_entry;
 
-/// The canonical list of pairs painted in order, where there was nothing: of first key, last key and value. The later pair
-/// wins, a pair whose last key is below its first paints nothing, and touching entries with equal values are one.
+/// Returns the canonical list of pairs (first key, last key, value) that are painted in order on an empty map.
 ///
-/// Pairs that are ascending and disjoint are joined in one pass. All others are sorted by their first keys, with their values, and
-/// swept from the least key up, with the pairs that reach the key in a heap whose top is the latest: O(n log n) steps for n pairs.
-/// A value is cloned only where its pair is cut into several pieces; else it is moved. Refused memory drops the list.
+/// The later of two pairs wins. A pair whose last key is below its first key has no effect. Touching entries with equal
+/// values are joined.
+///
+/// Ascending disjoint pairs take O(n) time with n pairs. Other pairs take O(n log n) time. They are sorted by their
+/// first keys and swept from the least key up, and a heap has the pairs that contain the current key. A value is cloned
+/// only if its pair is cut into several pieces. If an allocation or a clone fails, the list is dropped.
 pub fn canonical_of<T: Integer, V: Eq + Clone>(
     alloc: Global,
     pairs: Vec<(T, T, V)>,

@@ -13,7 +13,7 @@ use blaze_int::compare::{is_at_most, is_below};
 use std::alloc::{AllocError, Global};
 use std::collections::BinaryHeap;
 
-/// Adds the pieces that the pairs that wait paint on the keys from `from` up to `to`.
+/// Appends the pieces that the waiting pairs paint on the keys from `from` to `to`.
 fn sweep_to<T: Integer, V>(
     placed: &[Placed<T, V>],
     waiting: &mut BinaryHeap<(usize, usize), Global>,
@@ -53,7 +53,7 @@ fn sweep_to<T: Integer, V>(
     Ok(())
 }
 
-/// Adds the pieces that the pairs that wait paint on the keys from `from` up to below `start`.
+/// Appends the pieces that the waiting pairs paint on the keys from `from` to just below `start`.
 fn advance<T: Integer, V>(
     placed: &[Placed<T, V>],
     waiting: &mut BinaryHeap<(usize, usize), Global>,
@@ -83,8 +83,8 @@ fn advance<T: Integer, V>(
     Ok(())
 }
 
-/// The pieces that pairs paint in the order of their places, ascending and disjoint, each with the index of the pair that it is
-/// of: of the pairs that have its keys, the one with the greatest place.
+/// Returns the pieces that pairs paint in the order of their positions, ascending and disjoint. Each piece has the
+/// index of its pair: of the pairs that contain its keys, the one with the greatest position. O(n log n) with n pairs.
 pub(crate) fn pieces_of<T: Integer, V>(
     alloc: Global,
     placed: &[Placed<T, V>],

@@ -1,4 +1,4 @@
-//! Pairs with their places, ascending by first key.
+//! Pairs with their positions, ascending by first key.
 ghost use Rattle.std.specs.Prelude.{All, IfOk};
 ghost use Rattle.blaze_table.specs.Canonical.{AreKeys};
 ghost use Rattle.blaze_table.specs.Entries.{shown_list};
@@ -8,7 +8,7 @@ use blaze_int::Integer;
 use blaze_int::compare::is_at_most;
 use std::alloc::{AllocError, Global};
 
-/// A pair: its first and last key, its place in the list, and its value.
+/// A pair: its first and last key, its position in the list, and its value.
 #[derive(Drop)]
 pub(crate) struct Placed<T, V> {
     pub start: T,
@@ -17,7 +17,7 @@ pub(crate) struct Placed<T, V> {
     pub value: V,
 }
 
-/// The pairs that have a key, ascending by first key.
+/// Returns the pairs that have a key, ascending by first key. O(n log n) with n pairs.
 pub(crate) fn placed_of<T: Integer, V: Eq + Clone>(
     alloc: Global,
     pairs: Vec<(T, T, V)>,

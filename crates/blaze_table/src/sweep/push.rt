@@ -1,4 +1,4 @@
-//! Entries put one after another.
+//! Entries appended one by one.
 ghost use Rattle.std.specs.Prelude.{◌≡◌, ◌∷◌, ◌++◌, [], OnOk, OnErr, MatchBool};
 ghost use Rattle.blaze_table.specs.Entries.{entry, shown_list};
 ghost use Rattle.blaze_table.specs.Splice.{glue};
@@ -7,7 +7,8 @@ use blaze_int::Integer;
 use blaze_int::compare::is_next;
 use std::alloc::AllocError;
 
-/// Lets the last entry go on up to `end` where it ends right below `start` and has an equal value, and returns whether it does.
+/// Extends the last entry to `end` if it ends right below `start` and has an equal value. It returns whether it did.
+/// O(1).
 pub(crate) fn lengthen_entry<T: Integer, V: Eq + Clone>(
     out: &mut Vec<(T, T, V)>,
     start: T,
@@ -29,8 +30,8 @@ pub(crate) fn lengthen_entry<T: Integer, V: Eq + Clone>(
     true
 }
 
-/// Adds an entry to a list, in one with the last where the two touch with equal values: of first key, last key and value.
-/// Refused memory leaves the list unchanged.
+/// Appends an entry to a list of (first key, last key, value). The last entry is extended instead if the two touch and
+/// have equal values. If an allocation fails, the list is unchanged. Amortized O(1).
 pub fn push_entry<T: Integer, V: Eq + Clone>(
     out: &mut Vec<(T, T, V)>,
     start: T,

@@ -1,4 +1,4 @@
-//! The pairs that wait, each by its place and its index; the one with the greatest place on top.
+//! A heap of waiting pairs, each by its position and its index. The top is the pair with the greatest position.
 ghost use Rattle.std.specs.Prelude.{◌≡◌, ◌≤◌, ◌∷◌, ◌+◌, [], All, IsSome, IfSome, IfNone, IsPermutation};
 ghost use Rattle.std.specs.BinaryHeap.{IsHeap, heap_items, heap_len};
 ghost use Rattle.std.specs.List.{slice_get};
@@ -7,7 +7,7 @@ ghost use Rattle.blaze_table.specs.Pieces.{place_cmp};
 use std::alloc::Global;
 use std::collections::BinaryHeap;
 
-/// The place and the index of the pair with the greatest place.
+/// Returns the position and the index of the pair with the greatest position.
 pub(crate) fn top_of(waiting: &BinaryHeap<(usize, usize), Global>) -> Option<(usize, usize)>
     requires { IsHeap place_cmp (heap_items waiting.now) }
     ensures top { IfSome result (λ top. slice_get (heap_items waiting.now) 0 ≡ Some top) }
@@ -20,7 +20,7 @@ pub(crate) fn top_of(waiting: &BinaryHeap<(usize, usize), Global>) -> Option<(us
     }
 }
 
-/// Takes the pair with the greatest place out.
+/// Removes the pair with the greatest position.
 pub(crate) fn drop_top(waiting: &mut BinaryHeap<(usize, usize), Global>)
     requires heap { IsHeap place_cmp (heap_items waiting.old) }
     requires some { IsSome (slice_get (heap_items waiting.old) 0) }

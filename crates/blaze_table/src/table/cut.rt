@@ -1,4 +1,4 @@
-//! A key or a range of keys taken out of a table.
+//! Removal of a key or a range of keys from a table.
 ghost use Rattle.std.specs.Prelude.{◌≡◌, ◌-◌, ◌≤ℤ◌, [], length, slice_get, Some, None, Ok, IfOk, OnOk, OnErr};
 ghost use Rattle.std.specs.Prelude.{MatchOption};
 ghost use Rattle.blaze_table.specs.Entries.{Entry, at, SameOption};
@@ -13,8 +13,9 @@ use blaze_int::Integer;
 use std::alloc::AllocError;
 
 impl<T: Integer, V: Eq + Clone> RangeTable<T, V> {
-    /// Takes a key out, and returns the value that was there. Refused memory leaves the entries unchanged. No memory is taken
-    /// where the key has no value or is an entry of its own.
+    /// Removes a key and returns its value, or `None` if the key has no value. If an allocation or a clone fails, the
+    /// table is unchanged. It allocates nothing if the key has no value or its entry has only this key. O(log n) with n
+    /// entries.
     pub fn cut_key(&mut self, key: T) -> Result<Option<V>, AllocError>
         requires { ClonesAreAlike V.is_clone V.eq }
         ensures ok { OnOk result
@@ -33,9 +34,9 @@ impl<T: Integer, V: Eq + Clone> RangeTable<T, V> {
         Ok(value)
     }
 
-    /// Takes the first key out, and returns it with the value that was there; `None` on the empty table. The key is found without
-    /// a search; what is left of its entry is put in by one. Refused memory leaves the entries unchanged. No memory is taken on
-    /// the empty table and where the key is an entry of its own.
+    /// Removes the first key and returns it with its value, or `None` if the table is empty. If an allocation or a
+    /// clone fails, the table is unchanged. It allocates nothing if the table is empty or the key's entry has only this
+    /// key. O(log n) with n entries: the rest of the entry is inserted as a new entry.
     pub fn pop_first(&mut self) -> Result<Option<(T, V)>, AllocError>
         requires { ClonesAreAlike V.is_clone V.eq }
         ensures ok { IfOk result (λ popped. MatchOption popped ((self.old.entries ≡ [])
@@ -56,9 +57,9 @@ impl<T: Integer, V: Eq + Clone> RangeTable<T, V> {
         Ok(Some((key, value)))
     }
 
-    /// Takes the last key out, and returns it with the value that was there; `None` on the empty table. No search is made. Refused
-    /// memory leaves the entries unchanged. Memory is taken only by the clone that is answered, where the key's entry has others
-    /// too.
+    /// Removes the last key and returns it with its value, or `None` if the table is empty. It allocates nothing except
+    /// the clone of the value, which it makes only if the key's entry has more keys. If the clone fails, the table is
+    /// unchanged. It compares no keys of other entries.
     pub fn pop_last(&mut self) -> Result<Option<(T, V)>, AllocError>
         requires { ClonesAreAlike V.is_clone V.eq }
         ensures ok { IfOk result (λ popped. MatchOption popped ((self.old.entries ≡ [])
@@ -79,8 +80,9 @@ impl<T: Integer, V: Eq + Clone> RangeTable<T, V> {
         Ok(Some((key, value)))
     }
 
-    /// Takes the keys from lo up to hi out. Refused memory leaves the entries unchanged. Memory is taken only where an entry
-    /// with keys of the range goes on above it.
+    /// Removes the keys from `lo` to `hi`. If an allocation or a clone fails, the table is unchanged. It allocates only
+    /// if an entry with keys in the range extends above it. O((k + 1) log n) with n entries, of which k share keys with
+    /// the range.
     pub fn cut_range(&mut self, lo: T, hi: T) -> Result<(), AllocError>
         requires order { T.rank lo ≤ℤ T.rank hi }
         requires clones { ClonesAreAlike V.is_clone V.eq }

@@ -1,4 +1,4 @@
-//! The gap round a key of a table.
+//! The gap around a key of a table.
 ghost use Rattle.std.specs.Prelude.{◌≡◌, ◌⊎◌, ◌≤ℤ◌, None, pos, ◌+ℤ◌, ◌-ℤ◌, IsSome};
 ghost use Rattle.blaze_table.specs.Entries.{at};
 ghost use Rattle.blaze_table.specs.Gap.{IsGap, IsClearFrom};
@@ -7,7 +7,8 @@ use super::RangeTable;
 use blaze_int::Integer;
 
 impl<T: Integer, V: Eq> RangeTable<T, V> {
-    /// The greatest range of keys without a value that holds a key without one: its first and last key.
+    /// Returns the first and last key of the greatest range without values that contains `key`. It requires that `key`
+    /// has no value. O(log n) with n entries.
     pub fn gap_round(&self, key: T) -> (T, T)
         requires { at self.now.entries (T.rank key) ≡ None }
         ensures { IsGap T.low T.high (at self.now.entries) (T.rank key) (T.rank result.0)
@@ -16,7 +17,7 @@ impl<T: Integer, V: Eq> RangeTable<T, V> {
         (self.gap_start(key), self.gap_end(key))
     }
 
-    // The key after the entry that starts below a key, which has no value.
+    // Returns the key after the entry that starts below `key`, or the least key if no entry does.
     fn gap_start(&self, key: T) -> T
         requires { at self.now.entries (T.rank key) ≡ None }
         ensures is_key { T.low ≤ℤ T.rank result }
@@ -37,7 +38,7 @@ impl<T: Integer, V: Eq> RangeTable<T, V> {
         }
     }
 
-    // The key before the entry that starts above a key, which has no value.
+    // Returns the key before the entry that starts above `key`, or the greatest key if no entry does.
     fn gap_end(&self, key: T) -> T
         requires { at self.now.entries (T.rank key) ≡ None }
         ensures is_key { T.rank result ≤ℤ T.high }

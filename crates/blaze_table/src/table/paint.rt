@@ -1,4 +1,4 @@
-//! A value put on the keys of a range, in place: the entries beside the range are found, then edited.
+//! Edits in place that set the value of every key in a range.
 ghost use Rattle.std.specs.Prelude.{◌≡◌, ◌↔◌, ◌≤ℤ◌, false, Ok, IfOk, OnOk, OnErr, IsTrue};
 ghost use Rattle.blaze_table.specs.Count.{keys_in};
 ghost use Rattle.blaze_table.specs.Entries.{entry, at, SameOption};
@@ -12,10 +12,12 @@ use blaze_int::{Integer, differ};
 use std::alloc::AllocError;
 
 impl<T: Integer, V: Eq + Clone> RangeTable<T, V> {
-    /// Puts a value on the keys from lo up to hi, and returns whether the number of keys changed. The entries that the range
-    /// touches are seen in one walk, and edited in place.
-    /// Refused memory leaves the entries unchanged. Inside one entry with an equal value nothing changes, the stored value
-    /// neither, and no memory is taken.
+    /// Sets the value of every key from `lo` to `hi`, replacing the old values. It returns whether the number of keys
+    /// changed.
+    ///
+    /// One walk visits the entries that touch the range. If an allocation or a clone fails, the entries are unchanged.
+    /// If one entry with an equal value contains the range, nothing changes, not even the stored value, and nothing is
+    /// allocated. O((k + 1) log n) with n entries, of which k touch the range.
     pub fn paint(&mut self, lo: T, hi: T, value: V) -> Result<bool, AllocError>
         requires order { T.rank lo ≤ℤ T.rank hi }
         requires clones { ClonesAreAlike V.is_clone V.eq }
@@ -37,8 +39,9 @@ impl<T: Integer, V: Eq + Clone> RangeTable<T, V> {
         Ok(differ(new_len, old_len))
     }
 
-    /// Puts a value on the keys from lo up to hi, as `paint` does: the entries beside the range are found by single looks.
-    /// Refused memory leaves the entries and the count of keys.
+    /// Sets the value of every key from `lo` to `hi`, replacing the old values, with a single lookup for each visited
+    /// entry instead of one walk. It returns whether the number of keys changed. If an allocation or a clone fails, the
+    /// entries and the number of keys are unchanged. O((k + 1) log n) with n entries, of which k touch the range.
     pub fn paint_by_splice(&mut self, lo: T, hi: T, value: V) -> Result<bool, AllocError>
         requires order { T.rank lo ≤ℤ T.rank hi }
         requires clones { ClonesAreAlike V.is_clone V.eq }
@@ -60,8 +63,8 @@ impl<T: Integer, V: Eq + Clone> RangeTable<T, V> {
         Ok(differ(new_len, old_len))
     }
 
-    /// Puts a value on a key, as `paint` does on a range, and returns the value that was there. Refused memory leaves the entries
-    /// unchanged.
+    /// Sets the value of `key` and returns a clone of its old value, or `None` if it had none. If an allocation or a
+    /// clone fails, the entries are unchanged. O(log n) with n entries.
     pub fn insert(&mut self, key: T, value: V) -> Result<Option<V>, AllocError>
         requires { ClonesAreAlike V.is_clone V.eq }
         ensures ok { OnOk result (IsPainted V.eq T.low T.high

@@ -1,4 +1,5 @@
-//! What a closure keeps: entries whole, in place; keys, put into a new list one after another.
+//! Removal of the entries or keys that a closure rejects. Whole entries are removed in place. Keys that remain are
+//! appended to a new list.
 ghost use Rattle.std.specs.Prelude.{◌≡◌, pos, ◌+ℤ◌, ◌-ℤ◌, ◌≤ℤ◌, IfOk, OnOk, OnErr};
 ghost use Rattle.std.specs.List.{All};
 ghost use Rattle.std.specs.List.Retain.{IsFiltered};
@@ -19,7 +20,8 @@ use blaze_int::{Integer, SafeLength};
 use std::alloc::AllocError;
 use std::ops::RangeInclusive;
 
-// Adds a key with a clone of a value, in one entry with the last where the two meet with like values.
+// Appends a key with a clone of a value. The last entry is extended instead if it touches the key and has an equal
+// value.
 fn put_key<T: Integer, V: Eq + Clone>(
     out: &mut Vec<(T, T, V)>,
     key: T,
@@ -36,7 +38,7 @@ fn put_key<T: Integer, V: Eq + Clone>(
     Ok(())
 }
 
-// Adds a key where the closure keeps it, and returns the count without it where the closure does not.
+// Appends a key if the closure keeps it, and returns the number of keys without the rejected one.
 fn keep_key<T: Integer, V: Eq + Clone, F: Fn(&T, &V) -> bool>(
     out: &mut Vec<(T, T, V)>,
     key: T,
@@ -65,7 +67,8 @@ fn keep_key<T: Integer, V: Eq + Clone, F: Fn(&T, &V) -> bool>(
     Ok(len)
 }
 
-// Adds the keys of an entry that the closure keeps, one call for each, ascending, and returns the count without the others.
+// Appends the keys of an entry that the closure keeps, with one call for each, ascending. It returns the number of keys
+// without the rejected ones.
 fn keep_keys<T: Integer, V: Eq + Clone, F: Fn(&T, &V) -> bool>(
     out: &mut Vec<(T, T, V)>,
     start: T,
@@ -98,9 +101,9 @@ fn keep_keys<T: Integer, V: Eq + Clone, F: Fn(&T, &V) -> bool>(
 }
 
 impl<T: Integer, V: Eq + Drop> RangeTable<T, V> {
-    /// Keeps the entries that a closure returns true at: one call for each, ascending. No memory is taken, and no entry is
-    /// counted. One walk, O(n) with n entries, and at most O(log n) more for each entry that goes. Where one goes, a second
-    /// walk sums the keys of those that stay.
+    /// Keeps the entries for which `f` returns `true`. It calls `f` once for each entry, ascending. It allocates
+    /// nothing, and the counters do not change. O(n) with n entries, and at most O(log n) more for each removed entry.
+    /// If an entry is removed, O(n) more counts the keys.
     pub fn retain_entries<F: FnMut(&RangeInclusive<T>, &V) -> bool>(&mut self, f: F)
         requires { IsCallableAtEach T.rank F.FnMut f self.old.entries }
         ensures range_map { IsRangeMap V.eq T.low T.high self.new.entries }
@@ -117,8 +120,9 @@ impl<T: Integer, V: Eq + Drop> RangeTable<T, V> {
 }
 
 impl<T: Integer, V: Eq + Clone> RangeTable<T, V> {
-    /// Keeps the keys that a closure returns true at: one call for each key that has a value, ascending, with the stored
-    /// value. Refused memory leaves the table unchanged. No entry is counted.
+    /// Keeps the keys for which `f` returns `true`. It calls `f` once for each key that has a value, ascending, with
+    /// the stored value. If an allocation or a clone fails, the table is unchanged. The counters do not change. O(k)
+    /// with k keys that have a value.
     pub fn retain_keys<F: Fn(&T, &V) -> bool>(&mut self, f: F) -> Result<(), AllocError>
         requires callable { IsCallableAtPairs F.Fn f T.of_rank self.old.entries }
         requires clones { ClonesAreAlike V.is_clone V.eq }

@@ -1,4 +1,4 @@
-//! Entries of a table found by a key.
+//! Lookups of a table's entries by a key.
 ghost use Rattle.std.specs.Prelude.{◌≡◌, ◌≤ℤ◌, int_lt, find, reverse, option_map};
 ghost use Rattle.blaze_table.specs.Ending.{ending_from, overlapping};
 ghost use Rattle.blaze_table.specs.Entries.{at, entry_at, shown_entry};
@@ -10,7 +10,7 @@ use blaze_int::Integer;
 use blaze_int::compare::is_below;
 
 impl<T: Integer, V: Eq> RangeTable<T, V> {
-    /// The entry that holds a key: its first key, last key and value.
+    /// Returns the entry that contains `key` as (first key, last key, value). O(log n) with n entries.
     pub fn find(&self, key: T) -> Option<(T, T, &V)>
         ensures entry { option_map (shown_entry T.rank (λ v. v.now)) result
             ≡ entry_at self.now.entries (T.rank key) }
@@ -19,7 +19,7 @@ impl<T: Integer, V: Eq> RangeTable<T, V> {
         entry_holding(&self.entries, key)
     }
 
-    /// The least entry that starts above a key: its first key, last key and value.
+    /// Returns the first entry that starts above `key` as (first key, last key, value). O(log n) with n entries.
     pub fn next_above(&self, key: T) -> Option<(T, T, &V)>
         ensures { option_map (shown_entry T.rank (λ v. v.now)) result
             ≡ find (λ e. int_lt (T.rank key) e.lo) self.now.entries }
@@ -29,7 +29,7 @@ impl<T: Integer, V: Eq> RangeTable<T, V> {
         self.entries.at_or_above(key.checked_add_one()?)
     }
 
-    /// The greatest entry that ends below a key: its first key, last key and value.
+    /// Returns the last entry that ends below `key` as (first key, last key, value). O(log n) with n entries.
     pub fn next_below(&self, key: T) -> Option<(T, T, &V)>
         ensures { option_map (shown_entry T.rank (λ v. v.now)) result
             ≡ find (λ e. int_lt e.hi (T.rank key)) (reverse self.now.entries) }
@@ -44,15 +44,17 @@ impl<T: Integer, V: Eq> RangeTable<T, V> {
         }
     }
 
-    /// The entries that end at a key or above it, ascending: first key, last key and value. It takes two searches.
+    /// Iterates over the entries that end at `key` or above, ascending, each as (first key, last key, value). It
+    /// allocates nothing. The call takes O(log n) time with n entries.
     pub fn iter_ending_from(&self, key: T) -> Range<'_, T, V>
         ensures { result ≡ ending_from (T.rank key) self.now.entries }
     {
         entries_ending_from(&self.entries, key)
     }
 
-    /// The entries that share a key with the range from `lo` up to `hi`, whole, ascending, from both ends: first key, last key
-    /// and value. It takes three searches, and no memory.
+    /// Iterates over the entries that share a key with the range from `lo` to `hi`, ascending, each whole as (first
+    /// key, last key, value). The iterator is double-ended and allocates nothing. The call takes O(log n) time with n
+    /// entries.
     pub fn overlapping(&self, lo: T, hi: T) -> Range<'_, T, V>
         requires { T.rank lo ≤ℤ T.rank hi }
         ensures { result ≡ overlapping (T.rank lo) (T.rank hi) self.now.entries }

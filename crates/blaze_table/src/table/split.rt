@@ -1,5 +1,4 @@
-//! A table split at a key, in place. What is to be put in is put in before the split, which can be refused; only then is
-//! anything else edited.
+//! A split of a table at a key, in place. The insert and the split, which may fail, precede every other edit.
 ghost use Rattle.std.specs.Prelude.{◌≡◌, pos, ◌+ℤ◌, ◌≤ℤ◌, IfOk, OnErr};
 ghost use Rattle.std.specs.Option.{option_map};
 ghost use Rattle.blaze_entries.specs.Counted.{uncounted};
@@ -19,7 +18,7 @@ use blaze_int::compare::is_at_most;
 use blaze_int::{Integer, SafeLength, length_in_hand};
 use std::alloc::AllocError;
 
-// The first and last key of the entry with the greatest start below a key.
+// Returns the first and last key of the entry with the greatest start below `key`.
 fn range_below<T: Integer, V>(entries: &Entries<T, V>, key: T) -> Option<RangeEntry<T, ()>>
     ensures { option_map (shown_ends T.rank) result
         ≡ option_map range_in (last_below (T.rank key) entries.now.counted.entries) }
@@ -32,7 +31,7 @@ fn range_below<T: Integer, V>(entries: &Entries<T, V>, key: T) -> Option<RangeEn
     })
 }
 
-// Splits entries at a key that one of them has and does not start at, by that one's first and last key.
+// Splits the entries at a key inside an entry, which starts below the key and is given by its ends.
 fn split_across<T: Integer, V: Eq + Clone>(
     entries: &mut Entries<T, V>,
     key: T,
@@ -64,7 +63,7 @@ fn split_across<T: Integer, V: Eq + Clone>(
     }
 }
 
-// Splits entries at a key.
+// Splits the entries at a key.
 fn split_at<T: Integer, V: Eq + Clone>(
     entries: &mut Entries<T, V>,
     key: T,
@@ -85,7 +84,7 @@ fn split_at<T: Integer, V: Eq + Clone>(
     }
 }
 
-// The counts of keys of both parts of entries, where `len` is that of all: the shorter part alone is walked.
+// Returns the numbers of keys of both parts, where `len` is their sum. It visits only the part with fewer entries.
 fn count_parts<T: Integer, V: Eq>(
     below: &Entries<T, V>,
     from: &Entries<T, V>,
@@ -109,7 +108,8 @@ fn count_parts<T: Integer, V: Eq>(
 }
 
 impl<T: Integer, V: Eq + Clone> RangeTable<T, V> {
-    /// Keeps the keys below one, and returns the table of the keys from it on. Refused memory leaves the table unchanged.
+    /// Keeps the keys below `key` and returns the table of the keys from `key` on. If an allocation or a clone fails,
+    /// the table is unchanged. O(log n + m) with n entries, where the smaller part has m.
     pub fn split_at(&mut self, key: T) -> Result<Self, AllocError>
         requires { ClonesAreAlike V.is_clone V.eq }
         ensures ok { IfOk result (λ from. IsSplit V.eq T.low T.high (T.rank key) self.old.entries

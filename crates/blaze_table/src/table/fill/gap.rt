@@ -1,4 +1,4 @@
-//! The gaps of a range, found by walks upwards.
+//! The gaps of a range, found from the least key up.
 ghost use Rattle.std.specs.Prelude.{◌≡◌, ◌⊎◌, ◌↔◌, pos, ◌+ℤ◌, ◌-ℤ◌, ◌≤ℤ◌, ◌<ℤ◌};
 ghost use Rattle.std.specs.Prelude.{IsTrue, MatchOption};
 ghost use Rattle.blaze_table.specs.Canonical.{AreKeys};
@@ -11,8 +11,8 @@ use blaze_entries::Entries;
 use blaze_int::Integer;
 use blaze_int::compare::{is_below, is_next};
 
-/// Keys without a value: the first and the last of them, and whether the value right below them and that right above them are
-/// equal to the one that they are filled with.
+/// A range of keys without a value, by its first and last key. The flags say whether the values right below and right
+/// above it equal the value that fills it.
 #[derive(Clone, Copy)]
 pub struct Gap<T> {
     pub start: T,
@@ -21,7 +21,7 @@ pub struct Gap<T> {
     pub equal_above: bool,
 }
 
-// The key before one, or the one itself where it is the least.
+// Returns the key before `key`, or `key` itself if it is the least.
 fn before_or_least<T: Integer>(key: T) -> T
     ensures { (T.rank result ≡ T.rank key -ℤ pos 1)
         ⊎ ((T.rank result ≡ T.rank key) × (T.rank key ≤ℤ T.low)) }
@@ -34,7 +34,7 @@ fn before_or_least<T: Integer>(key: T) -> T
     }
 }
 
-// The gap that starts at a key, below an entry that starts at `next`; not beyond `end`.
+// Returns the gap that starts at `key` and ends just below `next`, the start of an entry, or at `end` if that is lower.
 fn gap_below<T: Integer>(key: T, equal_below: bool, end: T, next: T, is_equal: bool) -> Gap<T>
     requires order { T.rank key ≤ℤ T.rank end }
     requires next { T.rank key <ℤ T.rank next }
@@ -58,8 +58,8 @@ fn gap_below<T: Integer>(key: T, equal_below: bool, end: T, next: T, is_equal: b
     }
 }
 
-/// The first gap among the keys from one up to another, beside a value. It takes two searches, and a step for each entry before
-/// it.
+/// Returns the first gap from `start` to `end`, compared with a value. O(log n + k) with n entries, of which k precede
+/// the gap in the range.
 pub fn first_gap<T: Integer, V: Eq>(
     entries: &Entries<T, V>,
     start: T,
@@ -95,7 +95,8 @@ pub fn first_gap<T: Integer, V: Eq>(
     })
 }
 
-/// The first gap among the keys above one up to another, beside a value.
+/// Returns the first gap above `key` up to `end`, compared with a value. O(log n + k) with n entries, of which k
+/// precede the gap in the range.
 pub fn gap_above<T: Integer, V: Eq>(
     entries: &Entries<T, V>,
     key: T,

@@ -1,4 +1,4 @@
-//! Entries that touch with equal values, made one.
+//! Joins of touching entries with equal values.
 ghost use Rattle.std.specs.Prelude.{◌≡◌, map};
 ghost use Rattle.blaze_table.specs.Canonical.{AreKeys, IsCanonical};
 ghost use Rattle.blaze_table.specs.Count.{keys_in};
@@ -11,7 +11,7 @@ use blaze_entries::Counted;
 use blaze_int::Integer;
 use blaze_int::compare::is_at_most;
 
-// Makes the entry that starts at a joint, if one does, one with that before it.
+// Joins the entry that starts at `key` with the entry before it, if an entry starts there.
 fn join<T: Integer, V: Eq + Drop>(entries: &mut Counted<T, V>, key: T)
     requires ordered { IsOrdered entries.old.entries }
     requires keys { AreKeys T.low T.high entries.old.entries }
@@ -30,7 +30,8 @@ fn join<T: Integer, V: Eq + Drop>(entries: &mut Counted<T, V>, key: T)
     }
 }
 
-/// Makes the entries at all joints one each with that before it: then the entries are canonical. No memory is taken.
+/// Joins the entries at all joints with the entries before them, which makes the list canonical. It allocates nothing.
+/// O(j log n) with n entries and j joints.
 pub fn join_all<T: Integer, V: Eq + Drop>(entries: &mut Counted<T, V>, joints: Vec<T>)
     requires ordered { IsOrdered entries.old.entries }
     requires keys { AreKeys T.low T.high entries.old.entries }

@@ -1,5 +1,5 @@
-//! A value put on those keys of a range that have none: entries of their own for the gaps first, which may be refused, then
-//! touching equal entries made one, which can't be.
+//! A value for the keys of a range that have none. The gaps first get separate entries, which may fail. Then touching
+//! equal entries are joined, which cannot fail.
 ghost use Rattle.std.specs.Prelude.{◌≡◌, ◌↔◌, ◌≤ℤ◌, false, Ok, IfOk, OnOk, OnErr, IsTrue};
 ghost use Rattle.blaze_table.specs.Count.{keys_in};
 ghost use Rattle.blaze_table.specs.Entries.{entry, at};
@@ -19,11 +19,15 @@ use put::{Made, put_all, take_back};
 use std::alloc::AllocError;
 
 impl<T: Integer, V: Eq + Clone> RangeTable<T, V> {
-    /// Puts a value on those keys from lo up to hi that have none, and returns whether the number of keys changed. The last gap
-    /// takes the value, and each gap before it a clone. All clones and entries are made before touching equal entries are joined,
-    /// and refused memory leaves the entries and the count of keys. Where each key of the range has a value nothing changes, and
-    /// no memory is taken. Where a filled gap joins an entry's end, the value that is stored there stays. It takes a step for each
-    /// entry within the range; two searches to find each gap and one to fill it; and four for each two entries that are joined.
+    /// Sets the value of the keys from `lo` to `hi` that have none, and returns whether the number of keys changed.
+    ///
+    /// The last gap gets `value`, and each gap before it a clone. All allocations and clones precede the joins of
+    /// touching equal entries. If one fails, the entries and the number of keys are unchanged. If each key of the range
+    /// has a value, nothing changes and nothing is allocated. If a filled gap touches an entry with an equal value, the
+    /// stored value remains.
+    ///
+    /// O(k + (g + 1) log n) with n entries, of which k are in the range, and g gaps. Finding a gap takes two lookups,
+    /// filling it takes one, and joining two entries takes four.
     pub fn fill_absent(&mut self, lo: T, hi: T, value: V) -> Result<bool, AllocError>
         requires order { T.rank lo ≤ℤ T.rank hi }
         requires clones { ClonesAreAlike V.is_clone V.eq }

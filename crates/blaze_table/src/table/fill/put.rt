@@ -1,4 +1,4 @@
-//! Entries put into gaps, one after another, and taken back where memory is refused.
+//! Entries inserted into gaps one by one, and removed again if an allocation fails.
 ghost use Rattle.std.specs.Prelude.{◌≡◌, [], ◌∷◌, ◌++◌, map, pos, ◌+ℤ◌, ◌<ℤ◌, None, IsTrue, OnOk, OnErr, IfOk};
 ghost use Rattle.blaze_entries.specs.Starts.{start_at, with_entry};
 ghost use Rattle.blaze_table.specs.Entries.{entry, at};
@@ -14,7 +14,8 @@ use blaze_int::compare::length;
 use blaze_int::{Integer, SafeLength};
 use std::alloc::{AllocError, Global};
 
-/// What a fill has put in: the starts of its entries, and the keys at which entries are to be joined with the one before.
+/// The inserts of a fill: the starts of its entries, and the joints, which are the starts of entries to be joined with
+/// the previous one.
 #[derive(Drop)]
 pub struct Made<T> {
     pub starts: Vec<T>,
@@ -22,7 +23,7 @@ pub struct Made<T> {
 }
 
 impl<T> Made<T> {
-    /// Nothing. No memory is taken.
+    /// Returns the record of no inserts. It allocates nothing.
     pub fn new(alloc: Global) -> Self
         ensures { IsNothingMade result.starts.items result.joints.items }
     {
@@ -33,7 +34,7 @@ impl<T> Made<T> {
     }
 }
 
-// Adds a key to the joints where it is one.
+// Appends a key to the joints if `is_joint` is true.
 fn note<T: Integer>(joints: &mut Vec<T>, key: T, is_joint: bool) -> Result<(), AllocError>
     ensures { OnOk result (IsNoted is_joint (T.rank key) (map T.rank joints.old.items)
         (map T.rank joints.new.items)) }
@@ -44,7 +45,7 @@ fn note<T: Integer>(joints: &mut Vec<T>, key: T, is_joint: bool) -> Result<(), A
     Ok(())
 }
 
-// Adds the key after one to the joints where it is one.
+// Appends the key after `key` to the joints if `is_joint` is true.
 fn note_after<T: Integer>(joints: &mut Vec<T>, key: T, is_joint: bool) -> Result<(), AllocError>
     requires { IsTrue is_joint → T.rank key <ℤ T.high }
     ensures { OnOk result (IsNoted is_joint (T.rank key +ℤ pos 1) (map T.rank joints.old.items)
@@ -56,7 +57,7 @@ fn note_after<T: Integer>(joints: &mut Vec<T>, key: T, is_joint: bool) -> Result
     Ok(())
 }
 
-// Puts an entry in, at a start where none is, and remembers the start. Refused memory leaves both.
+// Inserts an entry and records its start. If an allocation fails, both the entries and the starts are unchanged.
 fn put<T: Integer, V: Drop>(
     entries: &mut Counted<T, V>,
     starts: &mut Vec<T>,
@@ -80,7 +81,7 @@ fn put<T: Integer, V: Drop>(
     Ok(())
 }
 
-// Gives a gap an entry of its own.
+// Inserts an entry for a gap and records its start and its joints.
 fn fill_gap<T: Integer, V: Drop>(
     entries: &mut Counted<T, V>,
     made: &mut Made<T>,
@@ -103,8 +104,9 @@ fn fill_gap<T: Integer, V: Drop>(
     Ok(())
 }
 
-/// Gives each gap from a first one up to `hi` an entry of its own, the last one with the value, the others with clones,
-/// and returns the count of keys, where `len` is that before. Refused memory leaves what can be taken back.
+/// Inserts an entry for each gap from `first` up to `hi`, the last one with `value` and the others with clones. It
+/// returns the new number of keys, where `len` is the old one. If an allocation or a clone fails, `made` has the starts
+/// to remove.
 pub fn put_all<T: Integer, V: Eq + Clone>(
     entries: &mut Entries<T, V>,
     made: &mut Made<T>,
@@ -140,7 +142,7 @@ pub fn put_all<T: Integer, V: Eq + Clone>(
     Ok(sum.plus(length(gap.start, gap.end)))
 }
 
-/// Takes the entries that start at some keys out, the last first.
+/// Removes the entries with the given starts, the last first. O(k log n) with k starts and n entries.
 pub fn take_back<T: Integer, V: Drop>(entries: &mut Counted<T, V>, starts: Vec<T>)
     requires { AreThere (map T.rank starts.items) entries.old.entries }
     ensures entries { entries.new.entries ≡ taken (map T.rank starts.items) entries.old.entries }
