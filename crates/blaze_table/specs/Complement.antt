@@ -1,9 +1,9 @@
--- The keys at which a list of entries has no value, with one value on them.
+-- The keys at which a list of entries has no value, with one value for all of them.
 use Rattle.std.specs.Prelude.{ℤ, ◌≤ℤ◌, Bool, List, Option, Some, None}
 use Rattle.blaze_table.specs.Entries.{Entry, at, SameOption}
 use Rattle.blaze_table.specs.Canonical.{IsRangeMap}
 
--- a value where there is none, and none where there is one
+-- the value w if the option is `None`, else `None`
 abbrev pub absent : {V W : Type 0} → W → Option V → Option W
 absent w None = Some w
 absent w (Some x) = None

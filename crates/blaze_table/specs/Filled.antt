@@ -1,4 +1,4 @@
--- What filling gives: a value is put on those keys of a range that have none.
+-- The result of a fill: the keys of a range that have no value get one.
 use Rattle.std.specs.List.{Contains}
 use Rattle.std.specs.Option.{option_or}
 use Rattle.std.specs.Prelude.{◌≡◌, ◌⊎◌, ℤ, pos, ◌+ℤ◌, ◌≤ℤ◌, ◌<ℤ◌, int_le, Bool, ◌&&◌, if◌then◌else◌, List, Option, Some, None, IsSome}
@@ -6,7 +6,7 @@ use Rattle.blaze_table.specs.Entries.{Entry, entry, at, SameOption}
 use Rattle.blaze_table.specs.Canonical.{IsRangeMap, IsRunStart, IsRunEnd}
 use Rattle.blaze_table.specs.Gap.{IsClearFrom}
 
--- the content after those keys from l up to h that had no value are given v: what a key had stays
+-- the content after the keys from l to h without a value get v; a key with a value keeps it
 abbrev pub filled : {V : Type 0} → ℤ → ℤ → V → (ℤ → Option V) → ℤ → Option V
 filled l h v content k = option_or (content k) (if int_le l k && int_le k h then Some v else None)
 
@@ -14,29 +14,30 @@ filled l h v content k = option_or (content k) (if int_le l k && int_le k h then
 abbrev pub IsKeptIn : {V : Type 0} → List (Entry V) → Entry V → Type 0
 IsKeptIn es e = (h : ℤ) × (e.hi ≤ℤ h) × Contains es (entry e.lo h e.value)
 
--- each entry that starts where a run of the content starts is in the new list, perhaps with a later end, with its very value
+-- each entry that starts at a run start of the content is in the new list, with the same start and its very value, and
+-- with the same end or a later one
 abbrev pub AreStartsKept : {V : Type 0} → (V → V → Bool) → (ℤ → Option V) → List (Entry V) → List (Entry V) → Type 0
 AreStartsKept {V} eq content old new = (e : Entry V) → Contains old e → IsRunStart eq content e.lo → IsKeptIn new e
 
--- What is kept of an old list's values where the content becomes the given one. A run of that content that starts with an old
--- entry has the very value of that entry: so what is joined has the stored value of its first entry. And an entry that is a whole
--- run of that content, since no equal value is put right below or right above it, is there as it was.
+-- The old values that remain when the content becomes the given one. A run of that content that starts with an old
+-- entry has the very value of that entry, so joined entries have the stored value of the first. An entry that is a
+-- whole run of that content remains unchanged.
 pub record AreKept {V : Type 0} (eq : V → V → Bool) (content : ℤ → Option V) (old new : List (Entry V)) : Type 0 where
   pub starts : AreStartsKept eq content old new
   pub whole : (e : Entry V) → Contains old e → IsRunStart eq content e.lo → IsRunEnd eq content e.hi → Contains new e
 
--- what filling with an entry does to a range map: its content is the filled one, and the old values are kept
+-- the effect of a fill with an entry on a range map: the content is the filled one, and the old values remain
 pub record IsFilled {V : Type 0} (eq : V → V → Bool) (low high : ℤ) (p : Entry V) (old new : List (Entry V)) : Type 0 where
   pub range_map : IsRangeMap eq low high new
   pub content : (k : ℤ) → SameOption eq (at new k) (filled p.lo p.hi p.value (at old) k)
   pub kept : AreKept eq (filled p.lo p.hi p.value (at old)) old new
 
--- each key from a up to b has a value
+-- each key from a to b has a value
 abbrev pub IsHeldFrom : {V : Type 0} → (ℤ → Option V) → ℤ → ℤ → Type 0
 IsHeldFrom content a b = (k : ℤ) → a ≤ℤ k → k ≤ℤ b → IsSome (content k)
 
--- of the keys from l up to h those from a up to b are the first that have no value: all before a have one, none up to b has,
--- and b is h or the key after b has one
+-- The keys from a to b are the first gap from l to h. All keys from l to before a have a value, no key from a to b has
+-- one, and b is h or the key after b has one.
 pub record IsFirstGap {V : Type 0} (content : ℤ → Option V) (l h a b : ℤ) : Type 0 where
   pub from : l ≤ℤ a
   pub order : a ≤ℤ b

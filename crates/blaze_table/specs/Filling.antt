@@ -1,4 +1,4 @@
--- A fill under way: the words of this crate's own functions. No public clause names them.
+-- A fill before its end, in terms of this crate's own functions. No public clause uses them.
 use Rattle.std.specs.Prelude.{◌≡◌, ◌⊎◌, ◌↔◌, ℕ, ℤ, pos, ◌+ℤ◌, ◌-ℤ◌, ◌≤ℤ◌, ◌<ℤ◌, Bool, false, List, [], ◌∷◌, ◌++◌, Option, Some, IsSome, IsTrue}
 use Rattle.std.specs.List.{Contains}
 use Rattle.blaze_entries.specs.Starts.{start_at, with_entry, without}
@@ -13,54 +13,55 @@ use Rattle.blaze_table.specs.Table.{IsTable}
 abbrev pub never : {V : Type 0} → V → V → Bool
 never x y = false
 
--- no range is empty, and each starts above the end of the one before
+-- no range is empty, and each starts above the end of the previous one
 abbrev pub IsOrdered : {V : Type 0} → List (Entry V) → Type 0
 IsOrdered es = IsCanonical never es
 
--- an ordered list of keys, with its count
+-- an ordered list whose ends are keys, with its number of keys
 abbrev pub IsOrderedTable : {V : Type 0} → ℤ → ℤ → ℕ → List (Entry V) → Type 0
 IsOrderedTable low high n es = IsTable never low high n es
 
--- the key k has a value, and the key before it an equal one
+-- the key k has a value, and the key before it has an equal one
 abbrev pub IsJoint : {V : Type 0} → (V → V → Bool) → (ℤ → Option V) → ℤ → Type 0
 IsJoint eq content k = IsSome (content k) × SameOption eq (content (k -ℤ pos 1)) (content k)
 
--- the keys at which entries are still to be joined with the one before: every other start is a run start
+-- The joints are the keys at which an entry has yet to be joined with the previous one. Every other start is a run
+-- start.
 pub record IsJoinedBut {V : Type 0} (eq : V → V → Bool) (joints : List ℤ) (es : List (Entry V)) : Type 0 where
   pub starts : (k : ℤ) → HasStart es k → IsRunStart eq (at es) k ⊎ Contains joints k
   pub equal : (k : ℤ) → Contains joints k → IsJoint eq (at es) k
 
--- whether the values right below and right above the keys from a up to b are equal to v
+-- t and u say whether the values right below and right above the keys from a to b are equal to v
 pub record IsBeside {V : Type 0} (eq : V → V → Bool) (content : ℤ → Option V) (v : V) (a b : ℤ) (t u : Bool) : Type 0 where
   pub below : IsTrue t ↔ SameOption eq (content (a -ℤ pos 1)) (Some v)
   pub above : IsTrue u ↔ SameOption eq (content (b +ℤ pos 1)) (Some v)
 
--- of the keys from l up to h those from a up to b are the first gap; t and u say whether the values right below and right above it
--- are equal to v
+-- The keys from a to b are the first gap from l to h. t and u say whether the values right below and right above it are
+-- equal to v.
 pub record IsNextGap {V : Type 0} (eq : V → V → Bool) (content : ℤ → Option V) (v : V) (l h a b : ℤ) (t u : Bool) : Type 0 where
   pub gap : IsFirstGap content l h a b
   pub beside : IsBeside eq content v a b t u
 
--- a gap that starts at a, below an entry that starts at `next`, ends at b: as far up as it can, but not beyond h
+-- a gap that starts at a, below an entry that starts at `next`, ends at b: right below `next`, or at h if that is lower
 pub record IsGapEnd (a h next b : ℤ) : Type 0 where
   pub order : a ≤ℤ b
   pub to : b ≤ℤ h
   pub under : b <ℤ next
   pub greatest : (b ≡ h) ⊎ (next ≡ b +ℤ pos 1)
 
--- no entry is put in yet, and no joint is noted
+-- no entry is inserted yet, and no joint is recorded
 pub record IsNothingMade {T : Type 0} (starts joints : List T) : Type 0 where
   pub no_start : starts ≡ []
   pub no_joint : joints ≡ []
 
--- the key k is added to the joints where it is one
+-- the key k is added to the joints if it is one
 pub record IsNoted (is_joint : Bool) (k : ℤ) (old new : List ℤ) : Type 0 where
   pub kept : (i : ℤ) → Contains old i → Contains new i
   pub noted : IsTrue is_joint → Contains new k
   pub only : (i : ℤ) → Contains new i → Contains old i ⊎ ((i ≡ k) × IsTrue is_joint)
 
--- The gap from a up to b has an entry with v of its own, which is remembered by its start. Its start is a joint where t says so,
--- the key after it where u does.
+-- The gap from a to b has a separate entry with the value v, recorded by its start. Its start is a joint if t is true,
+-- and the key after it is a joint if u is true.
 pub record IsGapFilled {V : Type 0} (a b : ℤ) (v : V) (t u : Bool) (old new : List (Entry V)) (starts more joints all : List ℤ) : Type 0 where
   pub put : new ≡ with_entry (entry a b v) old
   pub remembered : more ≡ starts ++ a ∷ []
@@ -68,22 +69,22 @@ pub record IsGapFilled {V : Type 0} (a b : ℤ) (v : V) (t u : Bool) (old new : 
   pub below : IsNoted t a joints half
   pub above : IsNoted u (b +ℤ pos 1) half all
 
--- without the entries that start at the keys, the last first
+-- the list without the entries that start at the keys, the last one removed first
 abbrev pub taken : {V : Type 0} → List ℤ → List (Entry V) → List (Entry V)
 taken [] es = es
 taken (s ∷ ss) es = without s (taken ss es)
 
--- each of them is there when it is taken
+-- each of these entries exists when it is removed
 abbrev pub AreThere : {V : Type 0} → List ℤ → List (Entry V) → Type 0
 AreThere [] es = Unit {0}
 AreThere (s ∷ ss) es = IsSome (start_at s (taken ss es)) × AreThere ss es
 
--- entries put in at the starts can be taken back to a list
+-- removing the entries that start at the keys restores the old list
 pub record GoesBack {V : Type 0} (starts : List ℤ) (es old : List (Entry V)) : Type 0 where
   pub there : AreThere starts es
   pub taken : taken starts es ≡ old
 
--- of the keys from l up to h all before a are filled with v, and the gap from a up to b is the next; each old entry is there
+-- the keys from l to before a are filled with v, and the gap from a to b is the next one; each old entry remains
 pub record IsFilling {V : Type 0} (eq : V → V → Bool) (l h : ℤ) (v : V) (starts joints : List ℤ) (old cur : List (Entry V)) (a b : ℤ) : Type 0 where
   pub content : (k : ℤ) → SameOption eq (at cur k) (filled l (a -ℤ pos 1) v (at old) k)
   pub kept : (e : Entry V) → Contains old e → Contains cur e
@@ -95,15 +96,15 @@ pub record IsFilling {V : Type 0} (eq : V → V → Bool) (l h : ℤ) (v : V) (s
   pub joined : IsJoinedBut eq joints cur
   pub back : GoesBack starts cur old
 
--- the keys from l up to h are filled with v, but for joints; each old entry is there
+-- the keys from l to h are filled with v, and only the entries at the joints are not joined yet; each old entry remains
 pub record IsFilledBut {V : Type 0} (eq : V → V → Bool) (l h : ℤ) (v : V) (starts joints : List ℤ) (old cur : List (Entry V)) : Type 0 where
   pub content : (k : ℤ) → SameOption eq (at cur k) (filled l h v (at old) k)
   pub kept : (e : Entry V) → Contains old e → Contains cur e
   pub joined : IsJoinedBut eq joints cur
   pub back : GoesBack starts cur old
 
--- the entry that starts at s, if one does, is one with that before it: the same at each key, and as many keys; every other entry
--- has its very value
+-- The entry that starts at s, if it exists, was joined with the previous one. The content and the number of keys are
+-- the same, and every other entry has its very value.
 pub record IsJoinedAt {V : Type 0} (eq : V → V → Bool) (low high : ℤ) (s : ℤ) (old new : List (Entry V)) : Type 0 where
   pub ordered : IsOrdered new
   pub are_keys : AreKeys low high new

@@ -5,7 +5,7 @@ use Rattle.blaze_table.specs.Canonical.{IsAscending, IsDisjoint, IsOnePerRun, Is
 use Rattle.blaze_table.specs.Count.{keys_in, mapped_keys}
 use Rattle.blaze_table.specs.Pairs.{pair_list, ArePairsOf}
 
--- a list is canonical by structure exactly where it is so by definition
+-- a list is canonical by structure exactly if it is canonical by definition
 abbrev pub StructureIsDefinition : {V : Type 0} → (V → V → Bool) → Type 0
 StructureIsDefinition {V} eq = (L : List (Entry V)) → IsCanonical eq L ↔ IsOnePerRun eq L
 
@@ -13,17 +13,17 @@ StructureIsDefinition {V} eq = (L : List (Entry V)) → IsCanonical eq L ↔ IsO
 abbrev pub CanonicalIsUnique : {V : Type 0} → (V → V → Bool) → Type 0
 CanonicalIsUnique {V} eq = (L M : List (Entry V)) → IsOnePerRun eq L → IsOnePerRun eq M → SameContent eq L M → SameEntries eq L M
 
--- no disjoint list with the content of a canonical one has fewer entries
+-- no disjoint list with the content of a canonical list has fewer entries
 abbrev pub CanonicalIsFewest : {V : Type 0} → (V → V → Bool) → Type 0
 CanonicalIsFewest {V} eq = (L M : List (Entry V)) → IsOnePerRun eq L → IsDisjoint M → SameContent eq L M → length L ≤ length M
 
--- the only shortest list: no disjoint list with its content has fewer entries, and an ascending disjoint list with that content
--- and as many entries has the same ranges and equal values, position by position
+-- The only shortest list: no disjoint list with its content has fewer entries. An ascending disjoint list with that
+-- content and as many entries has the same ranges and equal values, position by position.
 pub record IsShortest {V : Type 0} (eq : V → V → Bool) (entries : List (Entry V)) : Type 0 where
   pub fewest : (others : List (Entry V)) → IsDisjoint others → SameContent eq entries others → length entries ≤ length others
   pub only : (others : List (Entry V)) → IsDisjoint others → IsAscending others → SameContent eq entries others → length others ≡ length entries → SameEntries eq entries others
 
--- a canonical list is the only shortest with its content
+-- a canonical list is the only shortest list with its content
 abbrev pub CanonicalIsShortest : {V : Type 0} → (V → V → Bool) → Type 0
 CanonicalIsShortest {V} eq = (L : List (Entry V)) → IsOnePerRun eq L → IsShortest eq L
 
@@ -31,6 +31,7 @@ CanonicalIsShortest {V} eq = (L : List (Entry V)) → IsOnePerRun eq L → IsSho
 abbrev pub LengthsAreMapped : {V : Type 0} → (V → V → Bool) → Type 0
 LengthsAreMapped {V} eq = (low high : ℤ) (es : List (Entry V)) → IsRangeMap eq low high es → keys_in es ≡ pos (mapped_keys low high (at es))
 
--- the pair list of a range map has each key that has a value once, ascending, with that value; it is as long as there are such keys
+-- The pair list of a range map has each key with a value once, ascending, with that value. Its length is the number of
+-- those keys.
 abbrev pub PairsAreContent : {K V : Type 0} → (K → ℤ) → (ℤ → K) → (V → V → Bool) → ℤ → ℤ → Type 0
 PairsAreContent {K} {V} rank of_rank eq low high = (es : List (Entry V)) → IsRangeMap eq low high es → ArePairsOf rank (at es) (pair_list of_rank es) × (pos (length (pair_list of_rank es)) ≡ keys_in es)

@@ -4,7 +4,7 @@ use Rattle.std.specs.Prelude.{◌≡◌, ℕ, zero, suc, ℤ, pos, ◌+ℤ◌, �
 use Rattle.std.specs.Ordering.{int_eq}
 use Rattle.blaze_table.specs.Entries.{Entry}
 
--- n keys, from the one with the rank a on, each with v
+-- n keys, from the key with the rank a on, each with the value v
 abbrev pub pairs_from : {K V : Type 0} → (ℤ → K) → ℤ → ℕ → V → List (K × V)
 pairs_from of_rank a zero v = []
 pairs_from of_rank a (suc n) v = (of_rank a, v) ∷ pairs_from of_rank (a +ℤ pos 1) n v
@@ -23,13 +23,13 @@ abbrev pub value_at : {K V : Type 0} → (K → ℤ) → List (K × V) → ℤ �
 value_at rank [] k = None
 value_at rank (p ∷ ps) k = if int_eq k (rank p.0) then Some p.1 else value_at rank ps k
 
--- each key stands above the one before
+-- each key is above the previous one
 abbrev pub IsAscendingPairs : {K V : Type 0} → (K → ℤ) → List (K × V) → Type 0
 IsAscendingPairs rank [] = Unit {0}
 IsAscendingPairs rank (p ∷ []) = Unit {0}
 IsAscendingPairs rank (p ∷ q ∷ ps) = (rank p.0 <ℤ rank q.0) × IsAscendingPairs rank (q ∷ ps)
 
--- each key that has a value once, ascending, with that value
+-- each key that has a value is in the list once, ascending, with that value
 pub record ArePairsOf {K V : Type 0} (rank : K → ℤ) (content : ℤ → Option V) (pairs : List (K × V)) : Type 0 where
   pub ascending : IsAscendingPairs rank pairs
   pub same : (k : ℤ) → value_at rank pairs k ≡ content k

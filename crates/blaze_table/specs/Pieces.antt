@@ -1,5 +1,5 @@
--- Pairs swept from the least key up: the words of this crate's own functions. No public clause names them. A placed pair is of
--- first key, last key, the pair's place in the order in which the pairs are painted, from 0 on, and value.
+-- Pairs swept from the least key up, in terms of this crate's own functions. No public clause uses them. A placed pair
+-- has a first key, a last key, its position in the order of the paints, counted from 0, and a value.
 use Rattle.std.specs.Prelude.{◌≡◌, ℕ, ◌<◌, ◌≤◌, ℤ, pos, ◌+ℤ◌, ◌≤ℤ◌, ◌<ℤ◌, length, Bool, List, [], ◌∷◌, map, Some, All, slice_get}
 use Rattle.std.specs.List.{Contains}
 use Rattle.std.specs.Ordering.{nat_cmp, ordering_then}
@@ -10,7 +10,7 @@ use Rattle.blaze_table.specs.declared.sweep.placed.Placed.{Placed}
 
 -- ---- the placed pairs
 
--- the pair stands in the list at its place, and has a key
+-- the pair has a key and is in the list at its position
 pub record IsPlaced {T V : Type 0} (rank : T → ℤ) (ps : List (Entry V)) (p : Placed T V) : Type 0 where
   pub is : slice_get ps p.place ≡ Some (entry (rank p.start) (rank p.end) p.value)
   pub order : rank p.start ≤ℤ rank p.end
@@ -18,12 +18,12 @@ pub record IsPlaced {T V : Type 0} (rank : T → ℤ) (ps : List (Entry V)) (p :
 abbrev pub places_of : {T V : Type 0} → List (Placed T V) → List ℕ
 places_of placed = map (λ p. p.place) placed
 
--- those of the first n pairs that have a key, each with its place
+-- the pairs among the first n that have a key, each with its position
 pub record ArePlacedBelow {T V : Type 0} (rank : T → ℤ) (ps : List (Entry V)) (n : ℕ) (placed : List (Placed T V)) : Type 0 where
   pub known : All (IsPlaced rank ps) placed
   pub complete : (j : ℕ) → j < n → (e : Entry V) → slice_get ps j ≡ Some e → e.lo ≤ℤ e.hi → Contains (places_of placed) j
 
--- the pairs that have a key, each with its place
+-- the pairs that have a key, each with its position
 abbrev pub ArePlaced : {T V : Type 0} → (T → ℤ) → List (Entry V) → List (Placed T V) → Type 0
 ArePlaced rank ps placed = ArePlacedBelow rank ps (length ps) placed
 
@@ -35,39 +35,40 @@ HasKey rank p k = (rank p.start ≤ℤ k) × (k ≤ℤ rank p.end)
 abbrev pub EndsAreKeys : {T V : Type 0} → (T → ℤ) → ℤ → ℤ → Placed T V → Type 0
 EndsAreKeys rank low high p = (low ≤ℤ rank p.start) × (rank p.end ≤ℤ high)
 
--- no pair starts below one before it
+-- no pair starts below a previous one
 abbrev pub AreAscending : {T V : Type 0} → (T → ℤ) → List (Placed T V) → Type 0
 AreAscending {T} {V} rank placed = (i j : ℕ) (p q : Placed T V) → i ≤ j → slice_get placed i ≡ Some p → slice_get placed j ≡ Some q → rank p.start ≤ℤ rank q.start
 
--- ---- the pairs that wait, each by its place and its index among the placed pairs
+-- ---- the waiting pairs, each by its position and its index among the placed pairs
 
--- std's order of two numbers each
+-- std's order of pairs of numbers
 abbrev pub place_cmp : ℕ × ℕ → ℕ × ℕ → Ordering
 place_cmp a b = ordering_then (nat_cmp a.0 b.0) (nat_cmp a.1 b.1)
 
--- the pair at the index has the place, and starts at or below the key a
+-- the pair at the index has the position, and starts at the key a or below
 pub record HasStarted {T V : Type 0} (rank : T → ℤ) (placed : List (Placed T V)) (a : ℤ) (wait : ℕ × ℕ) : Type 0 where
   pub pair : Placed T V
   pub is : slice_get placed wait.1 ≡ Some pair
   pub place : pair.place ≡ wait.0
   pub start : rank pair.start ≤ℤ a
 
--- among those that wait are all pairs that start at or below the key `to` and have a key from a on; all have started at a
+-- The waiting pairs include all pairs that start at the key `to` or below and have a key from a on. All of them start
+-- at a or below.
 pub record IsWaiting {T V : Type 0} (rank : T → ℤ) (placed : List (Placed T V)) (a to : ℤ) (waits : List (ℕ × ℕ)) : Type 0 where
   pub started : All (HasStarted rank placed a) waits
   pub complete : (j : ℕ) (p : Placed T V) → slice_get placed j ≡ Some p → a ≤ℤ rank p.end → rank p.start ≤ℤ to → Contains waits (p.place, j)
 
--- those of them that have a key from s on stay
+-- the waiting pairs that have a key from s on remain
 abbrev pub KeepsReaching : {T V : Type 0} → (T → ℤ) → List (Placed T V) → ℤ → List (ℕ × ℕ) → List (ℕ × ℕ) → Type 0
 KeepsReaching {T} {V} rank placed s old new = (j : ℕ) (p : Placed T V) → slice_get placed j ≡ Some p → s ≤ℤ rank p.end → Contains old (p.place, j) → Contains new (p.place, j)
 
 -- ---- the pieces, each with the index of its pair
 
--- no pair has a key from a up to below b
+-- no pair has a key from a to below b
 abbrev pub IsUncovered : {T V : Type 0} → (T → ℤ) → List (Placed T V) → ℤ → ℤ → Type 0
 IsUncovered {T} {V} rank placed a b = (j : ℕ) (p : Placed T V) → slice_get placed j ≡ Some p → (k : ℤ) → a ≤ℤ k → k <ℤ b → HasKey rank p k → ⊥
 
--- the piece, which has a key, lies in the pair that it names, and no pair of a later place has a key of it
+-- the piece has a key and lies in its pair, and no pair of a later position contains a key of the piece
 pub record IsPiece {T V : Type 0} (rank : T → ℤ) (placed : List (Placed T V)) (piece : Entry ℕ) : Type 0 where
   pub pair : Placed T V
   pub is : slice_get placed piece.value ≡ Some pair
@@ -76,19 +77,19 @@ pub record IsPiece {T V : Type 0} (rank : T → ℤ) (placed : List (Placed T V)
   pub end : piece.hi ≤ℤ rank pair.end
   pub last : (j : ℕ) (p : Placed T V) → slice_get placed j ≡ Some p → (k : ℤ) → piece.lo ≤ℤ k → k ≤ℤ piece.hi → HasKey rank p k → p.place ≤ pair.place
 
--- the pieces are what the pairs paint on the keys from a up to below b
+-- the pieces are what the pairs paint on the keys from a to below b
 abbrev pub ArePieces : {T V : Type 0} → (T → ℤ) → List (Placed T V) → ℤ → ℤ → List (Entry ℕ) → Type 0
 ArePieces rank placed a b [] = (a ≤ℤ b) × IsUncovered rank placed a b
 ArePieces rank placed a b (x ∷ xs) = (a ≤ℤ x.lo) × IsUncovered rank placed a x.lo × IsPiece rank placed x × ArePieces rank placed (x.hi +ℤ pos 1) b xs
 
--- the pieces below the key a are made, and of the first n pairs those wait that have a key from there on; the others start there
--- or above
+-- The pieces below the key a are complete. Those of the first n pairs that have a key from a on are waiting, and the
+-- other pairs start at a or above.
 pub record IsSweptSoFar {T V : Type 0} (rank : T → ℤ) (low : ℤ) (placed : List (Placed T V)) (a : ℤ) (n : ℕ) (waits : List (ℕ × ℕ)) (pieces : List (Entry ℕ)) : Type 0 where
   pub made : ArePieces rank placed low a pieces
   pub started : All (HasStarted rank placed a) waits
   pub complete : (j : ℕ) (p : Placed T V) → slice_get placed j ≡ Some p → j < n → a ≤ℤ rank p.end → Contains waits (p.place, j)
   pub others : (j : ℕ) (p : Placed T V) → slice_get placed j ≡ Some p → n ≤ j → a ≤ℤ rank p.start
 
--- the list is the canonical list of the pairs that are placed
+-- the list is the canonical list of the placed pairs
 abbrev pub IsCanonicalOfPlaced : {T V : Type 0} → (V → V → Bool) → (T → ℤ) → ℤ → ℤ → List (Placed T V) → List (Entry V) → Type 0
 IsCanonicalOfPlaced {T} {V} eq rank low high placed new = (ps : List (Entry V)) → ArePlaced rank ps placed → IsCanonicalOf eq low high ps new

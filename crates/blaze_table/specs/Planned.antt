@@ -1,4 +1,4 @@
--- A paint planned by what lies beside its range, and the steps that make it or a cut, in the words of the list.
+-- The plan of a paint from the entries near its range, and the edits of a paint or a cut, in terms of the list.
 use Rattle.std.specs.Prelude.{◌≡◌, ℕ, ◌+◌, ◌≤◌, length, ◌⊎◌, ◌++◌, ◌&&◌, ◌||◌, ℤ, pos, ◌+ℤ◌, ◌≤ℤ◌, ◌<ℤ◌, int_le, if◌then◌else◌, Bool, true, false, List, [], ◌∷◌, Option, Some, None, IfSome, IsSomeAnd}
 use Rattle.std.specs.Option.{option_map}
 use Rattle.std.specs.Ordering.{int_eq}
@@ -14,14 +14,14 @@ use Rattle.blaze_table.specs.Work.{IsCounted}
 
 -- ---- the plan
 
--- the test is one of a value, which tells those that are equal to the one of the range; a cut's tells none
+-- The test says whether a value equals the range's value. For a cut it is always false.
 
--- the first of the entries does not start right above h with an equal value
+-- the first entry does not start right above h with an equal value
 abbrev pub IsUnjoined : {V : Type 0} → (V → Bool) → ℤ → List (Entry V) → Type 0
 IsUnjoined test h [] = Unit {0}
 IsUnjoined test h (f ∷ fs) = f.lo ≡ h +ℤ pos 1 → test f.value ≡ false
 
--- a range that ends at h is joined with the first of the entries, which ends at z
+-- a range that ends at h is joined with the first entry, which ends at z
 pub record IsJoinedTo {V : Type 0} (test : V → Bool) (h : ℤ) (es : List (Entry V)) (z : ℤ) : Type 0 where
   pub next : Entry V
   pub others : List (Entry V)
@@ -30,25 +30,26 @@ pub record IsJoinedTo {V : Type 0} (test : V → Bool) (h : ℤ) (es : List (Ent
   pub ends : next.hi ≡ z
   pub like : test next.value ≡ true
 
--- where a range that ends at h ends, once it is joined, beside entries that start above it
+-- the joined range ends at z, where the range ends at h and the entries start above h
 abbrev pub IsEndAfter : {V : Type 0} → (V → Bool) → ℤ → List (Entry V) → ℤ → Type 0
 IsEndAfter test h es z = ((z ≡ h) × IsUnjoined test h es) ⊎ IsJoinedTo test h es z
 
--- where it ends in a list
+-- the joined range ends at z, where the range ends at h and the entries are a whole list
 abbrev pub IsEnd : {V : Type 0} → (V → Bool) → ℤ → List (Entry V) → ℤ → Type 0
 IsEnd test h es z = IsEndAfter test h (after h es) z
 
--- whether an entry that was looked at has an equal value and ends at h or above
+-- whether a visited entry has an equal value and ends at h or above
 abbrev pub reaches : ℤ → Option (ℤ × ℤ × Bool) → Bool
 reaches h None = false
 reaches h (Some t) = t.2 && int_le h t.1
 
--- where the entry starts, if a range from l on is joined with it: it has an equal value, and reaches the key before l
+-- the start of an entry that is joined with a range from l on: its value is equal, and it ends at the key before l or
+-- above
 abbrev pub joined_start : ℤ → Option (ℤ × ℤ × Bool) → Option ℤ
 joined_start l None = None
 joined_start l (Some n) = if n.2 && (int_le l n.1 || int_eq l (n.1 +ℤ pos 1)) then Some n.0 else None
 
--- what was seen of the entries is what an edit of the keys from l up to h has to know
+-- the plan for an edit of the keys from l to h
 pub record IsPlanOf {V : Type 0} (test : V → Bool) (l h : ℤ) (es : List (Entry V)) (s : Seen) : Type 0 where
   pub end : IsEnd test h es s.end
   pub rest : s.rest ≡ rest_of h (option_map (found_in test) (last_below (h +ℤ pos 1) es))
@@ -56,36 +57,38 @@ pub record IsPlanOf {V : Type 0} (test : V → Bool) (l h : ℤ) (es : List (Ent
   pub left : s.left ≡ option_map (found_in test) (last_below l es)
   pub gone : s.gone + moved l s.rest ≡ length (inner l s.end es)
 
--- a value equal to that of the last entry that starts below l, where that one goes on above z
+-- a value equal to that of the last entry that starts below l, if that entry extends above z
 abbrev pub IsLikeAbove : {V : Type 0} → (V → V → Bool) → ℤ → ℤ → List (Entry V) → Option V → Type 0
 IsLikeAbove eq l z es o = IfSome (last_below l es) (λ e. z <ℤ e.hi → IsSomeAnd o (λ u. eq e.value u ≡ true))
 
--- the same, where that entry's value is not equal to the range's
+-- a value equal to that of the last entry that starts below l, if that entry extends above h with a value that is not
+-- equal to the range's
 abbrev pub IsUnlikeAbove : {V : Type 0} → (V → V → Bool) → (V → Bool) → ℤ → ℤ → List (Entry V) → Option V → Type 0
 IsUnlikeAbove eq test l h es o = IfSome (last_below l es) (λ e. h <ℤ e.hi → test e.value ≡ false → IsSomeAnd o (λ u. eq e.value u ≡ true))
 
--- What a walk has found for an edit of the keys from l up to h: the plan, how many keys lie outside of them, and a value equal to
--- that of the entry that goes on both below and above them, where its value is not equal to the range's.
+-- The results of a walk for an edit of the keys from l to h: the plan, the number of keys outside the range, and a
+-- value equal to that of the entry that extends both below and above the range, if that value is not equal to the
+-- range's.
 pub record IsWalkOf {V : Type 0} (eq : V → V → Bool) (test : V → Bool) (l h : ℤ) (es : List (Entry V)) (s : Seen) (n : ℕ) (o : Option V) : Type 0 where
   pub plan : IsPlanOf test l h es s
   pub outside : pos n ≡ keys_in (before l es) +ℤ keys_in (after h es)
   pub above : IsUnlikeAbove eq test l h es o
 
--- the entry that has the key h has keys above it too, and a value that is not equal to the range's
+-- the entry that contains the key h has keys above it too, and its value is not equal to the range's
 pub record GoesOnUnequal {V : Type 0} (test : V → Bool) (h : ℤ) (es : List (Entry V)) : Type 0 where
   pub over : GoesOnAbove h es
   pub unequal : test over.entry.value ≡ false
 
--- Looks alone, for an edit of the keys from l up to h: at most four, and the number of entries less those of what lies below and of
--- what lies above those keys.
+-- Only lookups were counted, for an edit of the keys from l to h. They are at most four, plus the number of entries,
+-- less the numbers of entries in the parts below and above those keys.
 pub record IsLooked {V : Type 0} (l h : ℤ) (old new : CountedEntries V) : Type 0 where
   pub alone : new ≡ record old { looks = new.looks }
   pub risen : old.looks ≤ new.looks
   pub few : new.looks + length (before l old.entries) + length (after h old.entries) ≤ old.looks + length old.entries + 4
 
--- ---- the steps
+-- ---- the edits
 
--- the entry that starts at s, up to z, ends at t above it
+-- the entry that starts at s, at z or below, ends at t above z
 pub record IsRestOf {V : Type 0} (z : ℤ) (es : List (Entry V)) (s t : ℤ) : Type 0 where
   pub of : Entry V
   pub found : start_at s es ≡ Some of
@@ -95,29 +98,30 @@ pub record IsRestOf {V : Type 0} (z : ℤ) (es : List (Entry V)) (s t : ℤ) : T
   pub none : start_at (z +ℤ pos 1) es ≡ None
   pub rest : after z es ≡ entry (z +ℤ pos 1) of.hi of.value ∷ from (z +ℤ pos 1) es
 
--- which entry has keys on both sides of the end of z, if there is one
+-- the entry with keys on both sides of the end z, if one exists
 abbrev pub IsRest : {V : Type 0} → ℤ → List (Entry V) → Option (ℤ × ℤ) → Type 0
 IsRest z es None = after z es ≡ from (z +ℤ pos 1) es
 IsRest z es (Some r) = IsRestOf z es r.0 r.1
 
--- what lies above z starts above it, the same as before, and what starts up to k is as before
+-- the entries above z start above it and are the same as before, and the entries that start up to k are unchanged
 pub record IsRestKept {V : Type 0} (eq : V → V → Bool) (k z : ℤ) (old new : List (Entry V)) : Type 0 where
   pub below : below (k +ℤ pos 1) new ≡ below (k +ℤ pos 1) old
   pub like : IsSameAbove eq z old (from (z +ℤ pos 1) new)
 
--- the entry p is there, what lies above its end starts above it, the same as before, and what starts below p is as before
+-- the list has the entry p; the entries above its end start above it and are the same as before; the entries that start
+-- below p are unchanged
 pub record IsStartPut {V : Type 0} (eq : V → V → Bool) (p : Entry V) (old new : List (Entry V)) : Type 0 where
   pub below : below p.lo new ≡ below p.lo old
   pub here : start_at p.lo new ≡ Some p
   pub like : IsSameAbove eq p.hi old (from (p.hi +ℤ pos 1) new)
 
--- the entry p stands in the list, between what lies below and above it
+-- the entry p is in the list, between the parts below and above it
 pub record IsPutAt {V : Type 0} (eq : V → V → Bool) (p : Entry V) (old new : List (Entry V)) : Type 0 where
   pub above : List (Entry V)
   pub like : IsSameAbove eq p.hi old above
   pub put : new ≡ before p.lo old ++ p ∷ above
 
--- the entry that starts at f ends at z, and behind it is what lies above z
+-- the entry that starts at f ends at z, and the part above z follows it
 pub record IsEndPut {V : Type 0} (eq : V → V → Bool) (f z : ℤ) (old new : List (Entry V)) : Type 0 where
   pub of : Entry V
   pub found : start_at f old ≡ Some of
@@ -127,7 +131,7 @@ pub record IsEndPut {V : Type 0} (eq : V → V → Bool) (f z : ℤ) (old new : 
 
 -- ---- the work
 
--- What a step counts: it puts in at most p entries, and it looks at most q times, and once for each entry taken out.
+-- The work of an edit: at most p inserted entries, and at most q lookups plus one for each removed entry.
 pub record IsWorked {V : Type 0} (p q : ℕ) (old new : CountedEntries V) : Type 0 where
   pub counted : IsCounted old new
   pub puts : new.put_in ≤ old.put_in + p

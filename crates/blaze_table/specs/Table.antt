@@ -1,10 +1,10 @@
--- What always holds of a range table.
+-- The invariant of a range table.
 use Rattle.std.specs.Prelude.{◌≡◌, ℕ, ℤ, pos, Bool, List}
 use Rattle.blaze_table.specs.Entries.{Entry}
 use Rattle.blaze_table.specs.Canonical.{IsCanonical, AreKeys}
 use Rattle.blaze_table.specs.Count.{keys_in}
 
--- a list that a table holds, with its count of keys
+-- the list of a table, with its number of keys
 pub record IsTable {V : Type 0} (eq : V → V → Bool) (low high : ℤ) (len : ℕ) (es : List (Entry V)) : Type 0 where
   pub canonical : IsCanonical eq es
   pub are_keys : AreKeys low high es
