@@ -1,4 +1,4 @@
-//! How a closure is asked at a carrier: which arguments it gets.
+//! Ways to call a closure with a carrier: the arguments that the closure gets.
 ghost use Rattle.std.specs.Prelude.{◌≡◌, true, ⊤, IfOk, IsOkAnd};
 ghost use Rattle.std.specs.Fn.{Mut};
 ghost use Rattle.blaze_streams.specs.Answers.{TakesValue, AnswersAtValue};
@@ -11,21 +11,22 @@ ghost use Rattle.blaze_streams.specs.declared.segmenting.joins.JoinKind.TheVaria
 use crate::carrier::ValueCarrier;
 use std::alloc::AllocError;
 
-/// Asks closures at carriers.
+/// Calls closures with carriers.
 pub trait Asks<F, VC: ValueCarrier, W> {
     /// The arguments of a call.
     type Arguments;
 
-    // The value that the arguments stand for.
+    // The value that the arguments represent.
     ghost shows: { Self.Arguments → VC.Value };
 
     // The calls of the closure that return a value.
     ghost calls: { Mut F Self.Arguments W };
 
-    // There are arguments that stand for the value.
+    // Some arguments represent the value.
     ghost has_arguments: { VC.Value → Type 0 };
 
-    /// Returns what the closure returns at the carrier, by one call. If the call fails to allocate, it returns `Err`.
+    /// Calls the closure once with the carrier and returns its result. If the closure fails to allocate, it returns
+    /// `Err`.
     fn ask(f: &mut F, carrier: VC) -> Result<W, AllocError>
         requires has { has_arguments (VC.shown carrier) }
         requires callable { TakesValue shows calls f.old (VC.shown carrier) }
@@ -54,7 +55,7 @@ impl<VC: ValueCarrier, W, F: FnMut(VC) -> W> Asks<F, VC, W> for Whole {
     }
 }
 
-/// The closure gets what two streams have, at a segment of a full join.
+/// The closure gets the carriers of two streams at a segment of a full join. At least one is `Some`.
 pub struct Either;
 
 impl<VCL: ValueCarrier, VCR: ValueCarrier, W, F: FnMut(Option<VCL>, Option<VCR>) -> W> Asks<
@@ -81,7 +82,7 @@ impl<VCL: ValueCarrier, VCR: ValueCarrier, W, F: FnMut(Option<VCL>, Option<VCR>)
     }
 }
 
-/// The closure gets the left stream's carrier, and what the right one has, at a segment of a left join.
+/// The closure gets the left stream's carrier, and the right stream's if it exists, at a segment of a left join.
 pub struct WithLeft;
 
 impl<VCL: ValueCarrier, VCR: ValueCarrier, W, F: FnMut(VCL, Option<VCR>) -> W> Asks<

@@ -1,4 +1,4 @@
-//! What stands for a value in a stream.
+//! Carriers: what a stream yields to represent a value.
 ghost use Rattle.std.specs.Prelude.{◌≡◌, true, IfOk, ⊤};
 ghost use Rattle.std.specs.Rc.{rc_value};
 ghost use Rattle.blaze_table.specs.Painted.{ClonesAreAlike};
@@ -7,30 +7,31 @@ ghost use Rattle.blaze_streams.specs.Carried.{shown_option, AreOptions};
 use std::alloc::AllocError;
 use std::rc::Rc;
 
-/// Stands for one value in a stream.
+/// Represents one value in a stream: for example by a reference, by an `Rc` or as an owned value.
 pub trait ValueCarrier: Drop {
     /// The type of the value.
     type Value: Eq + Clone;
 
-    // The value that a carrier stands for.
+    // The value that a carrier represents.
     ghost shown: { Self → Self.Value };
 
     // A clone of a value is `==` to it.
     ghost can_carry: { Type 0 } = { ⊤ };
 
-    // The second value is one that `carry` may give for the first.
+    // The second value is one that `carry` may represent for the first.
     ghost is_carried: { Self.Value → Self.Value → Type 0 } = { λ v w. w ≡ v };
 
-    /// Whether the values of two carriers are `==`.
+    /// Returns whether the values of two carriers are `==`.
     fn value_eq(&self, other: &Self) -> bool
         ensures { result ≡ Self.Value.eq (shown self.now) (shown other.now) };
 
-    /// A value that is `==` to the carrier's. Refused memory drops the carrier.
+    /// Returns a value that is `==` to the carrier's. If an allocation fails, the carrier is dropped.
     fn into_value(self) -> Result<Self::Value, AllocError>
         requires { can_carry }
         ensures { IfOk result (λ value. Self.Value.eq (shown self) value ≡ true) };
 
-    /// Another carrier, of a value that is `==` to this one's. Refused memory leaves this one.
+    /// Returns another carrier, of a value that is `==` to this one's. If an allocation fails, this carrier is
+    /// unchanged.
     fn carry(&self) -> Result<Self, AllocError>
         ensures carried { IfOk result (λ other. is_carried (shown self.now) (shown other)) }
         ensures alike { can_carry
@@ -39,12 +40,12 @@ pub trait ValueCarrier: Drop {
 
 /// A carrier whose value can be compared with a value.
 pub trait HasValue: ValueCarrier {
-    /// Whether the carrier's value is `==` to a value.
+    /// Returns whether the carrier's value is `==` to `value`.
     fn has_value(&self, value: &Self::Value) -> bool
         ensures { result ≡ Self.Value.eq (Self.shown self.now) value.now };
 }
 
-/// A reference stands for what it refers to. `into_value` clones, `carry` takes no memory.
+/// A reference represents its target. `into_value` clones, and `carry` allocates nothing.
 impl<V: Eq + Clone> ValueCarrier for &V {
     type Value = V;
 
@@ -71,7 +72,7 @@ impl<V: Eq + Clone> HasValue for &V {
     }
 }
 
-/// The unit value stands for itself. Nothing takes memory.
+/// The unit value represents itself. No method allocates.
 impl ValueCarrier for () {
     type Value = ();
 
@@ -90,7 +91,7 @@ impl ValueCarrier for () {
     }
 }
 
-/// A place in a list stands for itself. Nothing takes memory.
+/// A position in a list represents itself. No method allocates.
 impl ValueCarrier for usize {
     type Value = usize;
 
@@ -109,7 +110,7 @@ impl ValueCarrier for usize {
     }
 }
 
-/// A `bool` stands for itself. Nothing takes memory.
+/// A `bool` represents itself. No method allocates.
 impl ValueCarrier for bool {
     type Value = bool;
 
@@ -128,7 +129,8 @@ impl ValueCarrier for bool {
     }
 }
 
-/// An `Rc` stands for what it shares. `into_value` clones where there are other owners, `carry` makes another owner.
+/// An `Rc` represents the value that it shares. `into_value` clones the value if other owners exist, and `carry` clones
+/// the `Rc`.
 impl<V: Eq + Clone> ValueCarrier for Rc<V> {
     type Value = V;
 
@@ -149,7 +151,7 @@ impl<V: Eq + Clone> ValueCarrier for Rc<V> {
     }
 }
 
-/// An option of a carrier stands for the option of its value.
+/// An option of a carrier represents the option of its value.
 impl<VC: ValueCarrier> ValueCarrier for Option<VC> {
     type Value = Option<VC::Value>;
 
@@ -182,7 +184,7 @@ impl<VC: ValueCarrier> ValueCarrier for Option<VC> {
     }
 }
 
-/// A pair of carriers stands for the pair of their values.
+/// A pair of carriers represents the pair of their values.
 impl<VCL: ValueCarrier, VCR: ValueCarrier> ValueCarrier for (VCL, VCR) {
     type Value = (VCL::Value, VCR::Value);
 

@@ -1,4 +1,4 @@
-//! The keys that a set lacks.
+//! The complement of a set of keys.
 ghost use Rattle.std.specs.Prelude.{◌≡◌, pos, ◌+ℤ◌, ◌++◌, IfOk, OnOk};
 ghost use Rattle.blaze_table.specs.Complement.{IsComplement};
 ghost use Rattle.blaze_table.specs.RangeSets.{shown_bare_ranges, unit_eq};
@@ -11,7 +11,7 @@ use blaze_int::compare::is_below;
 use std::alloc::{AllocError, Global};
 use std::ops::RangeInclusive;
 
-// Adds the keys from `next` on that lie below a range's start, as one range. Where `next` is none there are no more keys.
+// Appends the keys from `next` to before `start`, as one range. If `next` is `None`, no keys follow.
 fn push_none<T: Integer>(
     gaps: &mut Vec<RangeInclusive<T>>,
     next: Option<T>,
@@ -31,7 +31,7 @@ fn push_none<T: Integer>(
     Ok(())
 }
 
-// Adds the keys from `next` on, as one range. Where `next` is none there are no more keys.
+// Appends the keys from `next` on, as one range. If `next` is `None`, no keys follow.
 fn push_last<T: Integer>(
     gaps: &mut Vec<RangeInclusive<T>>,
     next: Option<T>,
@@ -47,7 +47,8 @@ fn push_last<T: Integer>(
     Ok(())
 }
 
-/// The ranges of the keys that a set lacks. Refused memory drops the set.
+/// Returns the ranges of the keys that are not in the set, ascending. If an allocation fails, the set is dropped. O(n)
+/// time and memory with n ranges.
 pub fn complement<T: Integer, S: SortedDisjoint<T>>(
     alloc: Global,
     set: S,

@@ -1,4 +1,4 @@
-//! What is left of a stream that is gone through from its start.
+//! A cursor over a stream, from its start.
 ghost use Rattle.std.specs.Prelude.{◌≡◌, pos, ◌+ℤ◌, ◌<ℤ◌, ◌≤◌, length, [], Some, IfNone, IfOk};
 ghost use Rattle.std.specs.Int.{int_max};
 ghost use Rattle.std.specs.Option.{option_map};
@@ -20,7 +20,7 @@ use std::alloc::AllocError;
 use std::marker::Model;
 use std::mem;
 
-/// The ranges that are left of a stream, with their carriers: what is left of the first, and the stream of the others.
+/// A cursor over a stream: the remaining part of the first range with its carrier, and the stream of the other ranges.
 #[derive(Drop)]
 pub struct Cursor<T: Integer, VC: ValueCarrier, I: SortedDisjointMap<T, VC>> {
     head: Option<RangeEntry<T, VC>>,
@@ -44,7 +44,7 @@ impl<T: Integer, VC: ValueCarrier, I: SortedDisjointMap<T, VC>> Model for Cursor
         × IsCanonical VC.Value.eq (ahead_of T.rank VC.shown a.head (I.left a.rest)) };
 }
 
-/// Takes the first range out of a stream, with its carrier.
+/// Takes the first range with its carrier from a stream.
 fn take_first<T: Integer, VC: ValueCarrier, I: SortedDisjointMap<T, VC>>(
     stream: &mut I,
 ) -> Option<RangeEntry<T, VC>>
@@ -56,7 +56,7 @@ fn take_first<T: Integer, VC: ValueCarrier, I: SortedDisjointMap<T, VC>>(
     Some(RangeEntry { start, end, value })
 }
 
-// The first key above `end` of the range from `lo` up to `hi`, which has one.
+// Returns the first key above `end` of the range from `lo` to `hi`, which has one.
 fn start_above<T: Integer>(lo: T, hi: T, end: T) -> T
     requires { T.rank end <ℤ T.rank hi }
     ensures { T.rank result ≡ int_max (T.rank end +ℤ pos 1) (T.rank lo) }
@@ -65,7 +65,7 @@ fn start_above<T: Integer>(lo: T, hi: T, end: T) -> T
     greater(lo, end.add_one())
 }
 
-// Lets ranges that end below a key go: the same lies above it.
+// Skips ranges that end below `key`, if the stream can seek. The part of the stream from `key` on is unchanged.
 fn let_go<T: Integer, VC: ValueCarrier, I: SortedDisjointMap<T, VC>>(stream: &mut I, key: T)
     ensures same { after (T.rank key) (I.left stream.new) ≡ after (T.rank key) (I.left stream.old) }
     ensures fewer { length (I.left stream.new) ≤ length (I.left stream.old) }
@@ -73,11 +73,11 @@ fn let_go<T: Integer, VC: ValueCarrier, I: SortedDisjointMap<T, VC>>(stream: &mu
     stream.seek(key);
 }
 
-/// How many ranges are passed one by one, behind the first, before a stream seeks.
+/// The number of ranges after the first that are skipped one by one before a stream seeks.
 const STEPS: usize = 3;
 
-/// Takes the ranges up to `end` out of a stream, and the first of what lies above, with its carrier. After a few ranges the
-/// stream seeks. It stays a call, since `advance` looks at the first range itself.
+/// Takes the ranges up to `end` from a stream and returns the first range above `end`, with its carrier. After a few
+/// ranges the stream seeks. The function is not inlined, since `advance` handles the common case itself.
 #[inline(never)]
 fn take_above<T: Integer, VC: ValueCarrier, I: SortedDisjointMap<T, VC>>(
     stream: &mut I,
@@ -103,7 +103,7 @@ fn take_above<T: Integer, VC: ValueCarrier, I: SortedDisjointMap<T, VC>>(
 }
 
 impl<T: Integer, VC: ValueCarrier, I: SortedDisjointMap<T, VC>> Cursor<T, VC, I> {
-    /// All that is left of a stream.
+    /// Returns a cursor at the start of a stream.
     pub fn new(stream: I) -> Self
         ensures { result ≡ I.left stream }
     {
@@ -113,7 +113,7 @@ impl<T: Integer, VC: ValueCarrier, I: SortedDisjointMap<T, VC>> Cursor<T, VC, I>
         Cursor { head, rest }
     }
 
-    /// The first key that is left.
+    /// Returns the first remaining key.
     pub fn first(&self) -> Option<T>
         ensures first { option_map T.rank result ≡ first_key self.now }
         ensures canonical { IsCanonical VC.Value.eq self.now }
@@ -124,7 +124,7 @@ impl<T: Integer, VC: ValueCarrier, I: SortedDisjointMap<T, VC>> Cursor<T, VC, I>
         }
     }
 
-    /// The first key and the last key of the first range.
+    /// Returns the first and the last key of the first remaining range.
     pub fn range(&self) -> Option<RangeEntry<T, ()>>
         ensures ends { option_map (shown_ends T.rank) result
             ≡ option_map range_in (first_entry self.now) }
@@ -140,7 +140,8 @@ impl<T: Integer, VC: ValueCarrier, I: SortedDisjointMap<T, VC>> Cursor<T, VC, I>
         }
     }
 
-    /// The last key up to which nothing changes, from a key below which none is left.
+    /// Returns the last key of the segment from `start` on: the stream is the same at all its keys. It requires that no
+    /// key below `start` remains. `None` means that the stream is empty.
     pub fn last(&self, start: T) -> Option<T>
         requires from { IsFrom (T.rank start) self.now }
         ensures { option_map T.rank result ≡ steady_to (T.rank start) self.now }
@@ -158,7 +159,7 @@ impl<T: Integer, VC: ValueCarrier, I: SortedDisjointMap<T, VC>> Cursor<T, VC, I>
         }
     }
 
-    /// Lets the keys up to `end` go.
+    /// Skips the keys up to `end`.
     pub fn advance(&mut self, end: T)
         ensures { self.new ≡ after (T.rank end) self.old }
     {
@@ -184,7 +185,8 @@ impl<T: Integer, VC: ValueCarrier, I: SortedDisjointMap<T, VC>> Cursor<T, VC, I>
         self.head = take_above(&mut self.rest, end);
     }
 
-    /// The same, where `end` is not above the end of the first range.
+    /// Skips the keys up to `end`, which must not be above the end of the first range. O(1) calls of the stream's
+    /// `next`.
     pub fn advance_in_first(&mut self, end: T)
         requires reaches { Reaches (T.rank end) self.old }
         ensures { self.new ≡ after (T.rank end) self.old }
@@ -200,7 +202,7 @@ impl<T: Integer, VC: ValueCarrier, I: SortedDisjointMap<T, VC>> Cursor<T, VC, I>
         }
     }
 
-    /// The carrier of the value at a key, which is not above the end of the first range.
+    /// Returns the carrier at `key`, which must not be above the end of the first range.
     pub fn here(&self, key: T) -> Option<&VC>
         requires reaches { Reaches (T.rank key) self.now }
         ensures { shown_option (λ c. VC.shown c.now) result ≡ at self.now (T.rank key) }
@@ -217,8 +219,9 @@ impl<T: Integer, VC: ValueCarrier, I: SortedDisjointMap<T, VC>> Cursor<T, VC, I>
         }
     }
 
-    /// Gives what stands at `end`, which is not above the end of the first range, and lets the keys up to it go: the range's own
-    /// carrier where it ends there, else another. Refused memory then lets the keys go all the same.
+    /// Returns the carrier at `end`, which must not be above the end of the first range, and skips the keys up to
+    /// `end`. If the first range ends at `end`, the result is its own carrier, else another one. If an allocation
+    /// fails, the keys are still skipped.
     pub fn give(&mut self, end: T) -> Result<Option<VC>, AllocError>
         requires { Reaches (T.rank end) self.old }
         ensures carried { IfOk result (λ given. AreOptions (IsItOrCarried VC.is_carried)
@@ -254,7 +257,8 @@ impl<T: Integer, VC: ValueCarrier, I: SortedDisjointMap<T, VC>> Cursor<T, VC, I>
         }
     }
 
-    /// The same, where `end` is one of the first range's keys.
+    /// Returns the carrier at `end`, a key of the first range, and skips the keys up to `end`. If the range ends at
+    /// `end`, the result is its own carrier, else another one. If an allocation fails, the keys are still skipped.
     pub fn take(&mut self, end: T) -> Result<VC, AllocError>
         requires can { VC.can_carry }
         requires has { FirstHas (T.rank end) self.old }

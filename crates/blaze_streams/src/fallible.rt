@@ -1,4 +1,4 @@
-//! Closures that may fail to allocate, asked at a carrier.
+//! Calls of closures that may fail to allocate.
 ghost use Rattle.std.specs.Prelude.{IfOk};
 ghost use Rattle.blaze_streams.specs.Answers.{TakesValue, AnswersAtValue};
 ghost use Rattle.blaze_streams.specs.Fallible.{ok_calls};
@@ -8,7 +8,8 @@ use crate::carrier::ValueCarrier;
 use std::alloc::AllocError;
 use std::marker::PhantomData;
 
-/// Asks a closure that returns a `Result`, with the arguments that `C` gives it. The closure's result is returned as it is.
+/// Calls a closure that returns a `Result`, with the arguments that `C` selects. The closure's result is returned
+/// unchanged.
 pub struct Fallible<C>(PhantomData<C>);
 
 impl<F, VC: ValueCarrier, W, C: Asks<F, VC, Result<W, AllocError>>> Asks<F, VC, W> for Fallible<C> {

@@ -1,4 +1,4 @@
-//! A stream's values at every key.
+//! The values of a stream at every key of the type.
 ghost use Rattle.std.specs.Prelude.{◌≡◌, pos, ◌+ℤ◌, ◌++◌, IfOk, OnOk};
 ghost use Rattle.blaze_streams.specs.Carried.{shown_option};
 ghost use Rattle.blaze_streams.specs.Fills.{none_before, IsFilledWithNone};
@@ -13,8 +13,7 @@ use blaze_int::compare::is_below;
 use std::alloc::{AllocError, Global};
 use std::ops::RangeInclusive;
 
-// Adds the keys from `next` on that lie below a range's start, as one range without a value. Where `next` is none there are
-// no more keys.
+// Appends the keys from `next` to before `start`, as one range without a value. If `next` is `None`, no keys follow.
 fn push_none<T: Integer, VC: ValueCarrier>(
     out: &mut Vec<(RangeInclusive<T>, Option<VC>)>,
     next: Option<T>,
@@ -34,7 +33,7 @@ fn push_none<T: Integer, VC: ValueCarrier>(
     Ok(())
 }
 
-// Adds the keys from `next` on, as one range without a value. Where `next` is none there are no more keys.
+// Appends the keys from `next` on, as one range without a value. If `next` is `None`, no keys follow.
 fn push_last<T: Integer, VC: ValueCarrier>(
     out: &mut Vec<(RangeInclusive<T>, Option<VC>)>,
     next: Option<T>,
@@ -50,8 +49,8 @@ fn push_last<T: Integer, VC: ValueCarrier>(
     Ok(())
 }
 
-/// Every key of the type: `Some` of the stream's value where it has the key, and `None` elsewhere. The carriers are the
-/// stream's own. Refused memory drops the stream.
+/// Returns a stream over every key of the type. It yields `Some` with the stream's own carrier where the stream has a
+/// value, and `None` elsewhere. If an allocation fails, the stream is dropped. O(n) time and memory with n ranges.
 pub fn fill<T: Integer, VC: ValueCarrier, S: SortedDisjointMap<T, VC>>(
     alloc: Global,
     stream: S,

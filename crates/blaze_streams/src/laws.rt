@@ -1,10 +1,10 @@
-//! The laws of joins and of what closures answer.
+//! The laws of joins and of the results of closures. Each function does nothing: its contract is the law.
 ghost use Rattle.blaze_streams.specs.JoinLaws.{AnswersKeepKeys, LeftJoinHasLeftKeys};
 ghost use Rattle.blaze_streams.specs.JoinLaws.{FullJoinIsOfListOfTwo, FullJoinIsInner};
 
 use blaze_int::Integer;
 
-/// What a closure returns at the ranges of a stream has the stream's keys.
+/// The results of a closure at the ranges of a stream have the stream's keys.
 pub fn answers_keep_keys<V: Eq, W: Eq>()
     ensures { AnswersKeepKeys V W.eq }
 {}
@@ -19,7 +19,8 @@ pub fn full_join_is_of_list_of_two<T: Integer, V: Eq>()
     ensures { FullJoinIsOfListOfTwo V.eq T.low T.high }
 {}
 
-/// Two streams with the same keys, such as all, have the same segments in a full join and in an inner one.
+/// Two streams with the same keys, such as all keys of the type, have the same segments in a full join and in an inner
+/// join.
 pub fn full_join_is_inner<T: Integer, V: Eq, W: Eq>()
     ensures { FullJoinIsInner V.eq W.eq T.low T.high }
 {}

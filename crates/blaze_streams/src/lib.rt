@@ -48,7 +48,7 @@ pub use tables::owned_range_values::OwnedRangeValuesIter;
 pub use tables::range_values::RangeValuesIter;
 pub use transforms::transform;
 
-// For `range_map_blaze` alone, whose maps are made of entries that are chosen, and whose joins answer segments.
+// For `range_map_blaze` only, which builds maps from chosen entries and joins from segments.
 #[doc(hidden)]
 pub use asks::{Asks, Both, Either, Whole, WithLeft};
 #[doc(hidden)]
@@ -65,7 +65,7 @@ pub use tables::key_ranges::{into_ranges_of, ranges_of};
 pub use tables::seeking_range_values::SeekingRangeValuesIter;
 #[doc(hidden)]
 pub use transforms::answers_of;
-// For `range_map_multi` alone, which goes through many streams as this crate does through many lists.
+// For `range_map_multi` only, which walks many streams as this crate walks many lists.
 #[doc(hidden)]
 pub use cursor::Cursor;
 #[doc(hidden)]

@@ -1,4 +1,4 @@
-//! The names of the streams that operations over many inputs give.
+//! The types of the streams that operations over many inputs return.
 
 use crate::lists::canon_map::CanonMapIter;
 use crate::owned::Owned;

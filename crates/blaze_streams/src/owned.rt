@@ -1,15 +1,15 @@
-//! A value that stands for itself.
+//! A carrier that owns its value.
 ghost use Rattle.blaze_table.specs.Painted.{ClonesAreAlike};
 
 use crate::carrier::{HasValue, ValueCarrier};
 use std::alloc::AllocError;
 use std::fmt::{self, Debug, Formatter};
 
-/// A value that stands for itself. `into_value` takes no memory, `carry` clones.
+/// A carrier that owns its value. `into_value` allocates nothing, and `carry` clones the value.
 #[derive(PartialEq, Eq, Hash, Drop)]
 pub struct Owned<V>(pub V);
 
-/// As the value.
+/// Prints the value in its debug form.
 impl<V: Debug> Debug for Owned<V> {
     ghost debug_output = { λ o. V.debug_output o.0 };
 

@@ -1,4 +1,5 @@
-//! Streams of ranges, by their laws. Contracts see a stream as the list of what is left, as entries with the unit value.
+//! Streams of ranges and their laws. Contracts see a stream as the list of its remaining ranges, as entries with the
+//! unit value.
 ghost use Rattle.std.specs.Prelude.{◌≡◌, ◌≤◌, ℕ, List, Option, length};
 ghost use Rattle.std.specs.Iterator.{YieldsFirstBy, item_count};
 ghost use Rattle.std.specs.declared.ops.RangeInclusive.{RangeInclusive};
@@ -8,20 +9,20 @@ ghost use Rattle.blaze_table.specs.RangeSets.{shown_bare_range, IsRangeSet};
 use blaze_int::Integer;
 use std::ops::RangeInclusive;
 
-/// A stream of ranges: no range is empty, the ranges ascend and are disjoint, and no two touch. It is finite, and once it
-/// has ended it stays ended.
+/// A stream of ranges. No range is empty, the ranges ascend, and no two touch or share a key. The stream is finite, and
+/// it is fused: after `None` it always returns `None`.
 pub trait SortedDisjoint<T: Integer>: Iterator<Item = RangeInclusive<T>> {
-    // What is left, as entries with the unit value.
+    // The remaining ranges, as entries with the unit value.
     ghost left: { Self → List (Entry (Unit {0})) };
 
     // The lower bound of `size_hint`.
     ghost least: { Self → ℕ };
 
-    /// Does nothing. Its contract says that what is left is canonical, and that its ends are keys.
+    /// Does nothing. Its contract states that the remaining list is canonical and its ends are keys.
     fn in_hand(&self)
         ensures { IsRangeSet T.low T.high (left self.now) };
 
-    /// The lower bound of `size_hint`, in ranges.
+    /// Returns the lower bound of `size_hint`, in ranges.
     fn least_len(&self) -> usize
         ensures value { result ≡ least self.now }
         ensures bound { result ≤ length (left self.now) };
@@ -29,10 +30,10 @@ pub trait SortedDisjoint<T: Integer>: Iterator<Item = RangeInclusive<T>> {
     // `next` may always be called.
     ghost ready: { (s : Self) → Self.can_next s };
 
-    // No more ranges come than are left.
+    // The stream yields no more ranges than remain.
     ghost counted: { (s : Self) → Self.remaining s ≡ item_count left s };
 
-    // `next` takes the first of what is left, and returns `None` where nothing is left.
+    // `next` yields the first remaining range, or `None` if none remains.
     ghost gives: { (s : Self) (r : Option (RangeInclusive T)) (t : Self) → Self.next_gives s r t
         → YieldsFirstBy (shown_bare_range T.rank) left s r t };
 }

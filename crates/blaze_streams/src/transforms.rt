@@ -1,4 +1,4 @@
-//! A stream with what a closure returns at its values.
+//! Streams with the results of a closure as values.
 ghost use Rattle.std.specs.Prelude.{IfOk};
 ghost use Rattle.blaze_streams.specs.Answers.{values, EachValue, IsCallableAtEachValue, IsTransformed};
 
@@ -11,9 +11,9 @@ use crate::sorted_disjoint_map::SortedDisjointMap;
 use blaze_int::Integer;
 use std::alloc::{AllocError, Global};
 
-/// Returns the ranges of a stream, each with what a closure returns at its value. `C` gives the closure its arguments. It is called
-/// once for each range, ascending. Touching ranges with equal results are one. If a call of the closure or an allocation fails, the
-/// closure is not called again, and the stream and the results are dropped.
+/// Returns the ranges of a stream, each with the result of a closure at its value. `C` selects the closure's arguments.
+/// It calls `f` once for each range, ascending. Touching ranges with equal results are joined. If a call of `f` or an
+/// allocation fails, `f` is not called again, and the stream and the results are dropped. O(n) with n ranges.
 pub fn answers_of<
     T: Integer,
     VC: ValueCarrier,
@@ -38,8 +38,9 @@ pub fn answers_of<
     Ok(CanonMapIter::new(out))
 }
 
-/// The ranges of a stream, each with what a closure returns at its value: one call for each range, ascending, and no other.
-/// Touching ranges with equal answers are one. Refused memory drops the stream and the answers.
+/// Returns the ranges of a stream, each with the result of a closure at its value. It calls `f` once for each range,
+/// ascending. Touching ranges with equal results are joined. If an allocation fails, the stream and the results are
+/// dropped. O(n) with n ranges.
 pub fn transform<
     T: Integer,
     VC: ValueCarrier,

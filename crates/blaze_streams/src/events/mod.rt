@@ -1,4 +1,4 @@
-//! The events of many streams by time.
+//! The events of many streams, in order of time.
 pub mod multiway_sweep;
 pub mod sweep;
 pub mod sweep_event;

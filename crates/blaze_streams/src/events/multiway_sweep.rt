@@ -1,4 +1,4 @@
-//! The events of a sweep over many streams, one after another.
+//! An iterator over the events of many streams.
 ghost use Rattle.std.specs.Prelude.{◌≡◌, length, Some, IfSome};
 ghost use Rattle.std.specs.Iterator.{item_count, UpTo};
 ghost use Rattle.std.specs.Iterator.SizeHint.{IsWithinCount};
@@ -11,8 +11,8 @@ use std::iter::FusedIterator;
 use std::marker::Model;
 use std::vec;
 
-/// The events of a sweep over many streams, ascending by time. The time of a start is twice the rank of its first key, that of
-/// an end twice the rank of its last key, plus one.
+/// An iterator over the events of many streams, ascending by time. The time of a start is twice the rank of the range's
+/// first key. The time of an end is twice the rank of the range's last key, plus one.
 #[derive(Drop)]
 pub struct MultiwaySweep<T: Integer, VC: ValueCarrier> {
     rest: vec::IntoIter<SweepEvent<T, VC>>,
@@ -35,7 +35,7 @@ impl<T: Integer, VC: ValueCarrier> Model for MultiwaySweep<T, VC> {
 }
 
 impl<T: Integer, VC: ValueCarrier> MultiwaySweep<T, VC> {
-    /// The events, which are to ascend by time. No memory is taken.
+    /// Returns an iterator over events, which must ascend by time. It allocates nothing.
     pub fn new(events: Vec<SweepEvent<T, VC>>) -> Self
         requires ascend { AscendInTime (shown_events T.rank VC.shown events.items) }
         ensures { result ≡ shown_events T.rank VC.shown events.items }
@@ -71,7 +71,7 @@ impl<T: Integer, VC: ValueCarrier> Iterator for MultiwaySweep<T, VC> {
         }
     }
 
-    /// Exact: how many events are left.
+    /// Returns the exact number of remaining events as both bounds. O(1).
     fn size_hint(&self) -> (usize, Option<usize>)
         ensures lower { IsWithinCount result.0 (item_count (λ s. s) self.now) }
         ensures upper { IfSome result.1 (UpTo (item_count (λ s. s) self.now)) }

@@ -10,7 +10,7 @@ use crate::sorted_disjoint_map::SortedDisjointMap;
 use blaze_int::Integer;
 use std::alloc::{AllocError, Global};
 
-/// Puts the events of a stream, whose place is `input`, behind a list.
+/// Appends the events of the stream at position `input`.
 fn put_events<T: Integer, VC: ValueCarrier, I: SortedDisjointMap<T, VC>>(
     events: &mut Vec<SweepEvent<T, VC>>,
     input: usize,
@@ -33,11 +33,11 @@ fn put_events<T: Integer, VC: ValueCarrier, I: SortedDisjointMap<T, VC>>(
     Ok(())
 }
 
-/// The events of many streams: for each range of one of them a start and an end, ascending by time, each with the place of its
-/// stream. At one key all starts are before the ends.
+/// Returns the events of many streams, ascending by time: a start and an end for each range, each with the position of
+/// its stream. At one key, all starts precede the ends.
 ///
-/// The events of the streams, one stream after another, are sorted by std's stable sort. It keeps long runs and merges them, and
-/// each stream is a run: n ranges in k streams take O(n log k) steps, and O(n) memory. Refused memory drops the streams.
+/// O(n log k) time and O(n) memory with n ranges in k streams. The events of each stream are one sorted run, and std's
+/// stable sort merges such runs. If an allocation fails, the streams are dropped.
 pub fn sweep_of<T: Integer, VC: ValueCarrier, I: SortedDisjointMap<T, VC>>(
     alloc: Global,
     streams: Vec<I>,

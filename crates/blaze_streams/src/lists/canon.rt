@@ -1,4 +1,4 @@
-//! A list that keeps the law of a stream of ranges, as a stream.
+//! A valid list of ranges, as a stream.
 ghost use Rattle.std.specs.Prelude.{◌≡◌, length, refl, Some, IfSome};
 ghost use Rattle.std.specs.Iterator.{item_count, UpTo};
 ghost use Rattle.std.specs.Iterator.SizeHint.{IsWithinCount};
@@ -12,7 +12,7 @@ use std::marker::Model;
 use std::ops::RangeInclusive;
 use std::vec;
 
-/// A list of ranges that keeps the law of `SortedDisjoint`, as a stream.
+/// A stream over a list of ranges that obeys the law of `SortedDisjoint`.
 #[derive(Drop)]
 pub struct CanonIter<T: Integer> {
     rest: vec::IntoIter<RangeInclusive<T>>,
@@ -36,7 +36,8 @@ impl<T: Integer> Model for CanonIter<T> {
 }
 
 impl<T: Integer> CanonIter<T> {
-    /// The ranges, in order. No memory is taken.
+    /// Returns a stream of the ranges, in order. It requires that they obey the law of `SortedDisjoint`. It allocates
+    /// nothing.
     pub fn new(ranges: Vec<RangeInclusive<T>>) -> Self
         requires range_set { IsRangeSet T.low T.high (shown_bare_ranges T.rank ranges.items) }
         ensures { result ≡ shown_bare_ranges T.rank ranges.items }
@@ -59,7 +60,7 @@ impl<T: Integer> Iterator for CanonIter<T> {
         Some(start..=end)
     }
 
-    /// Exact: how many ranges are left.
+    /// Returns the exact number of remaining ranges as both bounds. O(1).
     fn size_hint(&self) -> (usize, Option<usize>)
         ensures lower { IsWithinCount result.0 (item_count (λ s. s) self.now) }
         ensures upper { IfSome result.1 (UpTo (item_count (λ s. s) self.now)) }

@@ -1,4 +1,4 @@
-//! A list that keeps the law of a stream of ranges with their values, as a stream.
+//! A valid list of ranges with values, as a stream.
 ghost use Rattle.std.specs.Prelude.{◌≡◌, length, refl, Some, IfSome};
 ghost use Rattle.std.specs.Iterator.{item_count, UpTo};
 ghost use Rattle.std.specs.Iterator.SizeHint.{IsWithinCount};
@@ -15,7 +15,7 @@ use std::marker::Model;
 use std::ops::RangeInclusive;
 use std::vec;
 
-/// A list of ranges with carriers of their values that keeps the law of `SortedDisjointMap`, as a stream.
+/// A stream over a list of ranges with carriers that obeys the law of `SortedDisjointMap`.
 #[derive(Drop)]
 pub struct CanonMapIter<T: Integer, VC: ValueCarrier> {
     rest: vec::IntoIter<(RangeInclusive<T>, VC)>,
@@ -40,7 +40,8 @@ impl<T: Integer, VC: ValueCarrier> Model for CanonMapIter<T, VC> {
 }
 
 impl<T: Integer, VC: ValueCarrier> CanonMapIter<T, VC> {
-    /// The items, in order. No memory is taken.
+    /// Returns a stream of the items, in order. It requires that they obey the law of `SortedDisjointMap`. It allocates
+    /// nothing.
     pub fn new(items: Vec<(RangeInclusive<T>, VC)>) -> Self
         requires range_map { IsRangeMap VC.Value.eq T.low T.high (shown_ranges T.rank VC.shown items.items) }
         ensures { result ≡ shown_ranges T.rank VC.shown items.items }
@@ -64,7 +65,7 @@ impl<T: Integer, VC: ValueCarrier> Iterator for CanonMapIter<T, VC> {
         Some((start..=end, carrier))
     }
 
-    /// Exact: how many ranges are left.
+    /// Returns the exact number of remaining ranges as both bounds. O(1).
     fn size_hint(&self) -> (usize, Option<usize>)
         ensures lower { IsWithinCount result.0 (item_count (λ s. s) self.now) }
         ensures upper { IfSome result.1 (UpTo (item_count (λ s. s) self.now)) }

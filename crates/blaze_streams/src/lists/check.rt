@@ -1,4 +1,4 @@
-//! A list of ranges, as a stream where it keeps the law.
+//! A list of ranges, checked and then used as a stream.
 ghost use Rattle.std.specs.Prelude.{◌≡◌, ◌↔◌, length, refl, Some, IfSome, IfOk, IfErr, IsOk};
 ghost use Rattle.std.specs.Iterator.{item_count, UpTo};
 ghost use Rattle.std.specs.Iterator.SizeHint.{IsWithinCount};
@@ -16,7 +16,7 @@ use std::iter::FusedIterator;
 use std::marker::Model;
 use std::ops::RangeInclusive;
 
-/// A list of ranges, as a stream, once it is known to keep the law of `SortedDisjoint`.
+/// A stream over a list of ranges that was checked: it obeys the law of `SortedDisjoint`.
 #[derive(Drop)]
 pub struct CheckSortedDisjoint<T: Integer> {
     ranges: CanonIter<T>,
@@ -36,8 +36,9 @@ impl<T: Integer> Model for CheckSortedDisjoint<T> {
 }
 
 impl<T: Integer> CheckSortedDisjoint<T> {
-    /// The ranges, in order, where they keep the law; and else the place of the first that violates it: it is empty, or does not
-    /// start above the end before it, or touches the range before it. No memory is taken.
+    /// Returns a stream of the ranges, in order, if they obey the law of `SortedDisjoint`. Otherwise it returns the
+    /// position of the first invalid range. A range is invalid if it is empty, or touches the previous range, or does
+    /// not start above its end. It allocates nothing. O(n) with n ranges.
     pub fn new(ranges: Vec<RangeInclusive<T>>) -> Result<Self, NotSorted>
         ensures ok { IfOk result (λ stream. stream ≡ shown_bare_ranges T.rank ranges.items) }
         ensures accepted { IsOk result ↔ IsOnePerRun unit_eq (shown_bare_ranges T.rank ranges.items) }
@@ -64,7 +65,7 @@ impl<T: Integer> Iterator for CheckSortedDisjoint<T> {
         self.ranges.next()
     }
 
-    /// Exact: how many ranges are left.
+    /// Returns the exact number of remaining ranges as both bounds. O(1).
     fn size_hint(&self) -> (usize, Option<usize>)
         ensures lower { IsWithinCount result.0 (item_count (λ s. s) self.now) }
         ensures upper { IfSome result.1 (UpTo (item_count (λ s. s) self.now)) }

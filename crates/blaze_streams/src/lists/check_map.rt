@@ -1,4 +1,4 @@
-//! A list of ranges with their values, as a stream where it keeps the law.
+//! A list of ranges with values, checked and then used as a stream.
 ghost use Rattle.std.specs.Prelude.{◌≡◌, ◌↔◌, length, refl, Some, IfSome, IfOk, IfErr, IsOk};
 ghost use Rattle.std.specs.Iterator.{item_count, UpTo};
 ghost use Rattle.std.specs.Iterator.SizeHint.{IsWithinCount};
@@ -18,7 +18,7 @@ use std::iter::FusedIterator;
 use std::marker::Model;
 use std::ops::RangeInclusive;
 
-/// A list of ranges with carriers of their values, as a stream, once it is known to keep the law of `SortedDisjointMap`.
+/// A stream over a list of ranges with carriers that was checked: it obeys the law of `SortedDisjointMap`.
 #[derive(Drop)]
 pub struct CheckSortedDisjointMap<T: Integer, VC: ValueCarrier> {
     items: CanonMapIter<T, VC>,
@@ -37,8 +37,9 @@ impl<T: Integer, VC: ValueCarrier> Model for CheckSortedDisjointMap<T, VC> {
 }
 
 impl<T: Integer, VC: ValueCarrier> CheckSortedDisjointMap<T, VC> {
-    /// The items, in order, where they keep the law; and else the place of the first that violates it: its range is empty, or
-    /// does not start above the end before it, or touches an equal value before it. No memory is taken.
+    /// Returns a stream of the items, in order, if they obey the law of `SortedDisjointMap`. Otherwise it returns the
+    /// position of the first invalid item. An item is invalid if its range is empty, or touches a previous range with
+    /// an equal value, or does not start above the previous end. It allocates nothing. O(n) with n items.
     pub fn new(items: Vec<(RangeInclusive<T>, VC)>) -> Result<Self, NotSorted>
         ensures ok { IfOk result (λ stream. stream ≡ shown_ranges T.rank VC.shown items.items) }
         ensures accepted { IsOk result ↔ IsOnePerRun VC.Value.eq
@@ -66,7 +67,7 @@ impl<T: Integer, VC: ValueCarrier> Iterator for CheckSortedDisjointMap<T, VC> {
         self.items.next()
     }
 
-    /// Exact: how many ranges are left.
+    /// Returns the exact number of remaining ranges as both bounds. O(1).
     fn size_hint(&self) -> (usize, Option<usize>)
         ensures lower { IsWithinCount result.0 (item_count (λ s. s) self.now) }
         ensures upper { IfSome result.1 (UpTo (item_count (λ s. s) self.now)) }

@@ -1,4 +1,4 @@
-//! Lists as streams: checked ones, and computed ones.
+//! Lists as streams: checked lists, and computed lists.
 pub mod canon;
 pub mod canon_map;
 pub mod check;

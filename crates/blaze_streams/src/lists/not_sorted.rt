@@ -1,18 +1,18 @@
-//! The refusal of a list.
+//! The error of a list that is no valid stream.
 ghost use Rattle.std.specs.Prelude.{◌++◌, Some, codes};
 ghost use Rattle.std.specs.Fmt.{decimal};
 
 use std::error::Error;
 use std::fmt::{self, Display, Formatter};
 
-/// A list does not keep the law of a stream.
+/// The error of a list that does not obey the law of a stream.
 #[derive(Clone, Copy, Debug, PartialEq, Eq)]
 pub struct NotSorted {
-    /// The place of the first item that violates the law, from 0.
+    /// The position of the first invalid item, counted from 0.
     pub at: usize,
 }
 
-/// `item 3 is out of order`, with the item's place.
+/// Prints `item 3 is out of order`, with the item's position.
 impl Display for NotSorted {
     ghost output = { λ e. Some (codes "item " ++ decimal e.at ++ codes " is out of order") };
 

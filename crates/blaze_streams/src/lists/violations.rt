@@ -1,4 +1,4 @@
-//! Where a list violates the law of a stream.
+//! The first invalid item of a list.
 ghost use Rattle.std.specs.Prelude.{◌≡◌, map, option_map, IfSome, IfNone};
 ghost use Rattle.std.specs.Option.{option_copied};
 ghost use Rattle.blaze_table.specs.Entries.{Entry};
@@ -13,23 +13,23 @@ use blaze_int::Integer;
 use blaze_int::compare::{is_at_most, is_below, is_next};
 use std::ops::RangeInclusive;
 
-/// An item of a stream: a range, with a value or alone. A range is read by its start and its end alone.
+/// An item of a stream: a range, with or without a value. Only the start and the end of the range are read.
 pub trait Ranged<T: Integer> {
-    /// The type of the value: the unit where the range is alone.
+    /// The type of the value, or `()` if the item has none.
     type Value: Eq;
 
     // The item as an entry.
     ghost entry: { Self → Entry Self.Value };
 
-    /// The first key of the range.
+    /// Returns the first key of the range.
     fn start(&self) -> T
         ensures { T.rank result ≡ (entry self.now).lo };
 
-    /// The last key of the range.
+    /// Returns the last key of the range.
     fn end(&self) -> T
         ensures { T.rank result ≡ (entry self.now).hi };
 
-    /// Whether the values of two items are `==`.
+    /// Returns whether the values of two items are `==`.
     fn same_value(&self, other: &Self) -> bool
         ensures { result ≡ Self.Value.eq (entry self.now).value (entry other.now).value };
 }
@@ -70,7 +70,7 @@ impl<T: Integer> Ranged<T> for RangeInclusive<T> {
     }
 }
 
-// Whether an item violates the law after the one before it.
+// Returns whether an item is invalid after the previous one.
 fn is_violation<T: Integer, I: Ranged<T>>(before: Option<&I>, item: &I) -> bool
     ensures law { result ≡ violates I.Value.eq (option_map I.entry (option_copied before.entry))
         (I.entry item.now) }
@@ -92,7 +92,7 @@ fn is_violation<T: Integer, I: Ranged<T>>(before: Option<&I>, item: &I) -> bool
     }
 }
 
-/// The place of the first item that violates the law of a stream.
+/// Returns the position of the first item that violates the law of a stream. O(n) with n items.
 pub fn first_violation<T: Integer, I: Ranged<T>>(items: &[I]) -> Option<usize>
     ensures none { IfNone result (IsRangeMap I.Value.eq T.low T.high (map I.entry items.now)) }
     ensures some { IfSome result (IsFirstViolation I.Value.eq (map I.entry items.now)) }

@@ -1,4 +1,4 @@
-//! What is chosen from what two streams have at a key.
+//! Choices between the values of two streams at a key.
 ghost use Rattle.std.specs.Prelude.{◌≡◌, ℤ, Option, None, refl, IfOk, MatchOption};
 ghost use Rattle.std.specs.Option.{option_map, option_xor};
 ghost use Rattle.blaze_table.specs.Canonical.{IsCanonical};
@@ -15,14 +15,14 @@ use blaze_int::compare::{is_below, lesser};
 use blaze_table::RangeEntry;
 use std::alloc::AllocError;
 
-/// A choice from what two streams have at a key, by which of them have it.
+/// A choice between the values of two streams at a key.
 pub trait Choice<VCL: ValueCarrier, VCR: ValueCarrier> {
-    // The value that is chosen.
+    // The chosen value.
     ghost choice: { Option VCL.Value → Option VCR.Value → Option VCL.Value };
 
-    /// Takes the first piece that is chosen from two streams: its first key, its last key and a carrier of its value, or no
-    /// carrier where nothing is chosen on its keys. The keys up to its end go in both. None where nothing is chosen from what is
-    /// left of them.
+    /// Takes the first piece from two streams: its first key, its last key, and a carrier of the chosen value. The
+    /// carrier is `None` if the choice has no value on these keys. Both cursors skip the keys up to the piece's end.
+    /// The result is `None` if the choice has no value on any remaining key.
     fn take<T: Integer, L: SortedDisjointMap<T, VCL>, R: SortedDisjointMap<T, VCR>>(
         &self,
         left: &mut Cursor<T, VCL, L>,
@@ -36,11 +36,11 @@ pub trait Choice<VCL: ValueCarrier, VCR: ValueCarrier> {
             (λ piece. IsTaken VCL.Value.eq choice left.old left.new right.old right.new
             (T.rank piece.start) (T.rank piece.end) (option_map VCL.shown piece.value))) };
 
-    // Nothing is chosen from nothing.
+    // The choice has no value where neither stream has one.
     ghost from_nothing: { choice None None ≡ None };
 }
 
-/// The right one where it is there, else the left.
+/// Chooses the right value if it exists, else the left.
 pub struct RightFirst;
 
 impl<VC: ValueCarrier> Choice<VC, VC> for RightFirst {
@@ -69,7 +69,7 @@ impl<VC: ValueCarrier> Choice<VC, VC> for RightFirst {
     ghost from_nothing = { refl };
 }
 
-/// The one that is there, where exactly one is.
+/// Chooses the only value if exactly one exists.
 pub struct ExactlyOne;
 
 impl<VC: ValueCarrier> Choice<VC, VC> for ExactlyOne {
@@ -102,7 +102,7 @@ impl<VC: ValueCarrier> Choice<VC, VC> for ExactlyOne {
     ghost from_nothing = { refl };
 }
 
-/// The left one, where the right is there too.
+/// Chooses the left value if the right exists too.
 pub struct LeftWithRight;
 
 impl<VCL: ValueCarrier, VCR: ValueCarrier> Choice<VCL, VCR> for LeftWithRight {
@@ -119,7 +119,7 @@ impl<VCL: ValueCarrier, VCR: ValueCarrier> Choice<VCL, VCR> for LeftWithRight {
     ghost from_nothing = { refl };
 }
 
-/// The left one, where the right is not there. Where the right stream is behind, it lets all keys below the left one go.
+/// Chooses the left value if the right does not exist. A right stream that lags skips all keys below the left one.
 pub struct LeftAlone;
 
 impl<VCL: ValueCarrier, VCR: ValueCarrier> Choice<VCL, VCR> for LeftAlone {

@@ -1,4 +1,4 @@
-//! Two streams gone through together, and what is chosen from them.
+//! A merge of two streams by a choice.
 ghost use Rattle.std.specs.Prelude.{◌≡◌, ◌≤ℤ◌, [], IfOk, OnOk};
 ghost use Rattle.std.specs.Option.{option_map};
 ghost use Rattle.blaze_table.specs.Chosen.{IsChosen};
@@ -16,7 +16,7 @@ use blaze_table::RangeEntry;
 use std::alloc::{AllocError, Global};
 use std::ops::RangeInclusive;
 
-/// Puts a piece behind a list, where it has a value. The ends of its range are keys.
+/// Appends a piece to a list if it has a value. The ends of its range are keys.
 fn put_piece<T: Integer, VC: ValueCarrier, P: PieceList<T, VC>>(
     out: &mut P,
     piece: RangeEntry<T, Option<VC>>,
@@ -36,7 +36,8 @@ fn put_piece<T: Integer, VC: ValueCarrier, P: PieceList<T, VC>>(
     Ok(())
 }
 
-/// Puts what is chosen from two streams into an empty list, in one pass over both. Refused memory drops both streams.
+/// Appends the pieces that are chosen from two streams to an empty list. If an allocation fails, both streams are
+/// dropped. O(n + m) with n and m ranges.
 fn put_chosen<
     T: Integer,
     VCL: ValueCarrier,
@@ -59,7 +60,8 @@ fn put_chosen<
     Ok(())
 }
 
-/// What is chosen from two streams, as a stream. Refused memory drops both.
+/// Returns the choice between two streams, as a stream. If an allocation fails, both streams are dropped. O(n + m) with
+/// n and m ranges.
 pub fn chosen_of<
     T: Integer,
     VCL: ValueCarrier,
@@ -77,8 +79,9 @@ pub fn chosen_of<
     Ok(CanonMapIter::new(out))
 }
 
-/// What is chosen from two streams, as a list of entries: first key, last key and value. Room is asked for at first for so many
-/// entries as the caller expects. Refused memory drops both.
+/// Returns the choice between two streams, as a list of (first key, last key, value). The list is allocated with
+/// capacity for `room` entries. If an allocation or a clone fails, both streams are dropped. O(n + m) with n and m
+/// ranges.
 pub fn entries_chosen_of<
     T: Integer,
     VCL: HasValue,

@@ -1,4 +1,4 @@
-//! Two streams gone through together, and what is chosen from them.
+//! Merges of two streams by a choice.
 pub mod choice;
 pub mod chosen;
 pub mod piece_list;

@@ -1,4 +1,4 @@
-//! Lists that grow at their end, piece after piece.
+//! Lists to which pieces are appended.
 ghost use Rattle.std.specs.Prelude.{List, Some, OnOk};
 ghost use Rattle.blaze_table.specs.Entries.{Entry, shown_list};
 ghost use Rattle.blaze_streams.specs.Choosing.{PutsAlike};
@@ -10,20 +10,21 @@ use blaze_int::Integer;
 use std::alloc::AllocError;
 use std::ops::RangeInclusive;
 
-/// A list of ranges with their values, or with what stands for them.
+/// A list of ranges with their values or carriers.
 pub trait PieceList<T: Integer, VC: ValueCarrier> {
     // The ranges with their values.
     ghost entries: { Self → List (Entry VC.Value) };
 
-    /// Puts a value that is `==` to the carrier's on the keys from `start` up to `end` behind the list, in one range with the last
-    /// where the two touch with equal values. After refused memory nothing is said of the list, which callers then drop.
+    /// Appends the keys from `start` to `end` with a value that is `==` to the carrier's. The last range is extended
+    /// instead if the two touch and have equal values. If an allocation fails, the list is unspecified and the caller
+    /// must drop it.
     fn put(&mut self, start: T, end: T, carrier: VC) -> Result<(), AllocError>
         requires { VC.can_carry }
         ensures { OnOk result (PutsAlike VC.Value.eq (T.rank start) (T.rank end)
             (Some (VC.shown carrier)) (entries self.old) (entries self.new)) };
 }
 
-/// A list of carriers keeps the carrier that comes.
+/// A list of carriers stores the given carrier.
 impl<T: Integer, VC: ValueCarrier> PieceList<T, VC> for Vec<(RangeInclusive<T>, VC)> {
     ghost entries = { λ list. shown_ranges T.rank VC.shown list.items };
 
@@ -33,7 +34,7 @@ impl<T: Integer, VC: ValueCarrier> PieceList<T, VC> for Vec<(RangeInclusive<T>, 
     }
 }
 
-/// A list of entries, of first key, last key and value, takes a value of the carrier, but where its last entry goes on with it.
+/// A list of (first key, last key, value) stores the carrier's value, except where the last entry is extended.
 impl<T: Integer, V: Eq + Clone, VC: HasValue<Value = V>> PieceList<T, VC> for Vec<(T, T, V)> {
     ghost entries = { λ list. shown_list T.rank list.items };
 

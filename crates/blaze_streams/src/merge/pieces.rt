@@ -1,4 +1,4 @@
-//! Pieces of two streams: ranges of keys on which the same is chosen from both.
+//! Pieces of two streams: ranges of keys with the same choice.
 ghost use Rattle.std.specs.Prelude.{◌≡◌, None, IfOk, MatchOption, ℤ};
 ghost use Rattle.std.specs.Option.{option_map};
 ghost use Rattle.blaze_table.specs.Canonical.{IsCanonical};
@@ -14,8 +14,8 @@ use blaze_int::{Integer, compare};
 use blaze_table::RangeEntry;
 use std::alloc::AllocError;
 
-/// Takes what the first range of one of two streams has below the first key of the other: its first key, its last key and a
-/// carrier of its value. Where the other starts no later, nothing is taken.
+/// Takes the part of a stream's first range below the first key of the other stream: its first key, its last key and a
+/// carrier of its value. If the other stream starts at the same key or below, nothing is taken.
 pub fn take_before<
     T: Integer,
     VC: ValueCarrier,
@@ -63,9 +63,9 @@ pub fn take_before<
     }))
 }
 
-/// Takes the keys that the first ranges of two streams share: the first of them, the last, and a carrier of the left one's value.
-/// Where one ends below the other, its stream lets all keys below the other go, and nothing is chosen on these. Where a stream
-/// has no range, nothing is taken.
+/// Takes the keys that the first ranges of two streams share: the first key, the last key and a carrier of the left
+/// value. If one range ends below the other, its cursor skips all keys below the other, and the piece has no carrier.
+/// If a stream is empty, nothing is taken.
 pub fn take_both<
     T: Integer,
     VCL: ValueCarrier,

@@ -1,4 +1,4 @@
-//! Ranges with their values put one after another.
+//! Ranges with values appended one by one.
 ghost use Rattle.std.specs.Prelude.{◌≡◌, ◌∷◌, ◌++◌, [], Some, true, OnOk, OnErr, MatchBool};
 ghost use Rattle.blaze_table.specs.Entries.{entry, shown_list};
 ghost use Rattle.blaze_table.specs.Splice.{glue};
@@ -11,7 +11,7 @@ use blaze_int::compare::is_next;
 use std::alloc::AllocError;
 use std::ops::RangeInclusive;
 
-/// Lets the last range go on up to `end` where it ends right below `start` and has an equal value, and returns whether it does.
+/// Extends the last range to `end` if it ends right below `start` and has an equal value. It returns whether it did.
 fn lengthen_last<T: Integer, VC: ValueCarrier>(
     out: &mut Vec<(RangeInclusive<T>, VC)>,
     start: T,
@@ -33,7 +33,8 @@ fn lengthen_last<T: Integer, VC: ValueCarrier>(
     true
 }
 
-/// Adds a range, in one with the last where the two touch with equal values. Refused memory leaves the list unchanged.
+/// Appends a range with a carrier. The last range is extended instead if the two touch and have equal values. If an
+/// allocation fails, the list is unchanged. Amortized O(1).
 pub fn push_joined<T: Integer, VC: ValueCarrier>(
     out: &mut Vec<(RangeInclusive<T>, VC)>,
     start: T,
@@ -51,8 +52,8 @@ pub fn push_joined<T: Integer, VC: ValueCarrier>(
     Ok(())
 }
 
-/// Lets the last entry go on up to `end` where it ends right below `start` and has a value equal to the carrier's, and returns
-/// whether it does. Where it does not, no value equal to the carrier's is joined with it there.
+/// Extends the last entry to `end` if it ends right below `start` and its value equals the carrier's. It returns
+/// whether it did. If not, no value equal to the carrier's is joined with the last entry.
 fn lengthen_entry<T: Integer, VC: HasValue>(
     out: &mut Vec<(T, T, VC::Value)>,
     start: T,
@@ -76,8 +77,8 @@ fn lengthen_entry<T: Integer, VC: HasValue>(
     true
 }
 
-/// Adds an entry with a value equal to the carrier's, in one with the last where the two touch with equal values. A value is
-/// taken of the carrier where the entry is one of its own. Refused memory leaves the list unchanged.
+/// Appends an entry with a value equal to the carrier's. The last entry is extended instead if the two touch and have
+/// equal values, and then no value is cloned. If an allocation or a clone fails, the list is unchanged. Amortized O(1).
 pub fn push_value<T: Integer, VC: HasValue>(
     out: &mut Vec<(T, T, VC::Value)>,
     start: T,

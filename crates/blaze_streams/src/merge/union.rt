@@ -1,4 +1,4 @@
-//! Two streams as one: one over another, the keys of exactly one, the keys of both.
+//! Merges of two streams: the union, the symmetric difference and the intersection.
 ghost use Rattle.std.specs.Option.{option_xor};
 ghost use Rattle.std.specs.Prelude.{IfOk};
 ghost use Rattle.blaze_table.specs.Chosen.{right_first, left_with_right, IsChosen};
@@ -11,8 +11,9 @@ use crate::sorted_disjoint_map::SortedDisjointMap;
 use blaze_int::Integer;
 use std::alloc::{AllocError, Global};
 
-/// The ranges of two streams, with the right one's value where it has one, and else the left one's. A value is cloned
-/// (`carry` at `Owned`) only for a piece that leaves a rest of its range behind. Refused memory drops both.
+/// Returns the union of two streams. Where both have a value, the right one is chosen. A value is cloned (`carry` at
+/// `Owned`) only for a piece that ends before its range does. If an allocation or a clone fails, both streams are
+/// dropped. O(n + m) with n and m ranges.
 pub fn union_of<
     T: Integer,
     VC: ValueCarrier,
@@ -26,8 +27,9 @@ pub fn union_of<
     chosen_of(alloc, left, right, &RightFirst)
 }
 
-/// The keys that exactly one of two streams has, with their values. A value is cloned (`carry` at `Owned`) only for a
-/// piece that leaves a rest of its range behind. Refused memory drops both.
+/// Returns the keys that exactly one of two streams has, with their values. A value is cloned (`carry` at `Owned`) only
+/// for a piece that ends before its range does. If an allocation or a clone fails, both streams are dropped. O(n + m)
+/// with n and m ranges.
 pub fn symmetric_difference_of<
     T: Integer,
     VC: ValueCarrier,
@@ -41,8 +43,9 @@ pub fn symmetric_difference_of<
     chosen_of(alloc, left, right, &ExactlyOne)
 }
 
-/// The left stream's values on the keys that both streams have. A value is cloned (`carry` at `Owned`) only for a piece that
-/// leaves a rest of its range behind. Refused memory drops both.
+/// Returns the keys that both streams have, with the left stream's values. A value is cloned (`carry` at `Owned`) only
+/// for a piece that ends before its range does. If an allocation or a clone fails, both streams are dropped. O(n + m)
+/// with n and m ranges.
 pub fn intersection_of<
     T: Integer,
     VCL: ValueCarrier,

@@ -1,4 +1,4 @@
-//! A stream on the keys of a set, and off them.
+//! A stream of ranges with values, limited to the keys of a set or to all other keys.
 ghost use Rattle.std.specs.Prelude.{IfOk};
 ghost use Rattle.blaze_table.specs.Chosen.{left_with_right, left_alone, IsChosen};
 
@@ -12,8 +12,9 @@ use crate::sorted_disjoint_map::SortedDisjointMap;
 use blaze_int::Integer;
 use std::alloc::{AllocError, Global};
 
-/// The map on the keys of the set. A value is cloned (`carry` at `Owned`) only for a piece that leaves a rest of its range
-/// behind. Refused memory drops both.
+/// Returns the keys of `map` that are in `set`, with their values. A value is cloned (`carry` at `Owned`) only for a
+/// piece that ends before its range does. If an allocation or a clone fails, both streams are dropped. O(n + m) with n
+/// and m ranges.
 pub fn intersect_with_ranges<
     T: Integer,
     VC: ValueCarrier,
@@ -28,8 +29,9 @@ pub fn intersect_with_ranges<
     Ok(stream)
 }
 
-/// The map off the keys of the set. A value is cloned (`carry` at `Owned`) only for a piece that leaves a rest of its range
-/// behind. Refused memory drops both.
+/// Returns the keys of `map` that are not in `set`, with their values. A value is cloned (`carry` at `Owned`) only for
+/// a piece that ends before its range does. If an allocation or a clone fails, both streams are dropped. O(n + m) with
+/// n and m ranges.
 pub fn subtract_ranges<
     T: Integer,
     VC: ValueCarrier,

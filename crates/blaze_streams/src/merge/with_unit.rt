@@ -1,4 +1,4 @@
-//! A stream of ranges as a stream of ranges with values.
+//! A stream of ranges, as a stream of ranges with values.
 ghost use Rattle.std.specs.Prelude.{◌≡◌, refl};
 ghost use Rattle.std.specs.Iterator.{YieldsFirstBy, item_count};
 ghost use Rattle.blaze_streams.specs.Ranges.{shown_range};
@@ -9,7 +9,7 @@ use blaze_int::Integer;
 use std::marker::PhantomData;
 use std::ops::RangeInclusive;
 
-/// A stream's ranges, each with the unit value.
+/// A stream of ranges, each with the unit value.
 #[derive(Drop)]
 pub struct WithUnit<T: Integer, S: SortedDisjoint<T>> {
     ranges: S,
@@ -17,7 +17,7 @@ pub struct WithUnit<T: Integer, S: SortedDisjoint<T>> {
 }
 
 impl<T: Integer, S: SortedDisjoint<T>> WithUnit<T, S> {
-    /// All that is left of a stream.
+    /// Returns a stream of the ranges, each with the unit value. It allocates nothing.
     pub fn new(ranges: S) -> Self
         ensures { result.ranges ≡ ranges }
     {

@@ -1,4 +1,4 @@
-//! Many lists of ranges gone through together.
+//! Cursors over many lists of ranges.
 ghost use Rattle.std.specs.Prelude.{◌≡◌, IfOk, nat_eq};
 ghost use Rattle.std.specs.Option.{option_map};
 ghost use Rattle.blaze_streams.specs.Segments.{row};
@@ -11,10 +11,10 @@ use blaze_int::Integer;
 use blaze_int::compare::is_at_most;
 use std::alloc::{AllocError, Global};
 
-/// What is left of a list of ranges with their places.
+/// A cursor over a list of ranges with their positions.
 pub type PlaceCursor<T> = Cursor<T, usize, CanonMapIter<T, usize>>;
 
-/// The lesser of two keys, where there are two.
+/// Returns the lesser of two keys. If one is `None`, it returns the other.
 pub fn lesser_of<T: Integer>(a: Option<T>, b: Option<T>) -> Option<T>
     ensures { option_map T.rank result ≡ lesser (option_map T.rank a) (option_map T.rank b) }
 {
@@ -25,7 +25,7 @@ pub fn lesser_of<T: Integer>(a: Option<T>, b: Option<T>) -> Option<T>
     }
 }
 
-/// The first key that is left.
+/// Returns the first remaining key. O(k) with k lists.
 pub fn segment_start<T: Integer>(lists: &[PlaceCursor<T>]) -> Option<T>
     ensures first { option_map T.rank result ≡ first_keys lists.now }
     ensures canonical { AllCanonical nat_eq lists.now }
@@ -36,7 +36,8 @@ pub fn segment_start<T: Integer>(lists: &[PlaceCursor<T>]) -> Option<T>
     }
 }
 
-/// The last key up to which no list changes, from a key below which none is left.
+/// Returns the last key of the segment from `start` on: each list is the same at all its keys. It requires that no key
+/// below `start` remains. O(k) with k lists.
 pub fn segment_end<T: Integer>(lists: &[PlaceCursor<T>], start: T) -> Option<T>
     requires from { AllFrom (T.rank start) lists.now }
     ensures { option_map T.rank result ≡ all_steady_to (T.rank start) lists.now }
@@ -47,7 +48,8 @@ pub fn segment_end<T: Integer>(lists: &[PlaceCursor<T>], start: T) -> Option<T>
     }
 }
 
-/// What each list has at a key, which is not above the end of a list's first range.
+/// Returns the position of each list's range at a key, which must not be above the end of any list's first range. If an
+/// allocation fails, the lists are unchanged. O(k) with k lists.
 pub fn row_at<T: Integer>(
     alloc: Global,
     lists: &[PlaceCursor<T>],
@@ -63,7 +65,7 @@ pub fn row_at<T: Integer>(
     Ok(found)
 }
 
-/// Lets the keys up to `end` go.
+/// Skips the keys up to `end` in each list.
 pub fn advance_all<T: Integer>(lists: &mut [PlaceCursor<T>], end: T)
     ensures { lists.new ≡ all_after (T.rank end) lists.old }
 {

@@ -18,18 +18,18 @@ use blaze_int::Integer;
 use std::alloc::{AllocError, Global};
 use std::ops::RangeInclusive;
 
-/// Which segments of two streams a join is asked for.
+/// The kind of a join, which selects the segments of two streams.
 #[derive(Clone, Copy, PartialEq, Eq, Debug)]
 pub enum JoinKind {
-    /// Those on which both are present.
+    /// The segments at which both streams have a value.
     Inner,
-    /// Those on which the left one is present.
+    /// The segments at which the left stream has a value.
     Left,
-    /// All: at least one is present.
+    /// The segments at which at least one stream has a value.
     Full,
 }
 
-/// Whether a join of the kind is asked for what two streams have at a key.
+/// Returns whether a join of the kind selects a segment with these values.
 fn is_joined<A, B>(kind: JoinKind, left: Option<&A>, right: Option<&B>) -> bool
     ensures { result ≡ is_joined kind left.entry right.entry }
 {
@@ -40,7 +40,8 @@ fn is_joined<A, B>(kind: JoinKind, left: Option<&A>, right: Option<&B>) -> bool
     }
 }
 
-/// Whether a join of the kind is asked for what two streams have at a key, which is not above the end of a stream's first range.
+/// Returns whether a join of the kind selects the segment at `key`, which must not be above the end of either stream's
+/// first range.
 fn is_asked<
     T: Integer,
     VCL: ValueCarrier,
@@ -55,7 +56,7 @@ fn is_asked<
     is_joined(kind, left.here(key), right.here(key))
 }
 
-/// The lesser of the first keys of two streams, where one has any.
+/// Returns the lesser of the first keys of two streams.
 fn first_of<
     T: Integer,
     VCL: ValueCarrier,
@@ -70,7 +71,7 @@ fn first_of<
     lesser_of(left.first(), right.first())
 }
 
-/// The last key up to which neither of two streams changes, from their first key on.
+/// Returns the last key of the first segment of two streams, which starts at `start`.
 fn steady_end<
     T: Integer,
     VCL: ValueCarrier,
@@ -92,8 +93,9 @@ fn steady_end<
     end
 }
 
-/// Lets the keys of a stream go that are below another's first key, all where the other has none. The other has none at `end`, which
-/// is not above the end of its first range. A stream that seeks takes two searches, however many ranges go.
+/// Skips the keys of a stream below the other's first key, or all keys if the other is empty. The other has no value at
+/// `end`, which must not be above the end of its first range. A stream that can seek skips any number of ranges with
+/// two lookups.
 fn let_go_below<
     T: Integer,
     VC: ValueCarrier,
@@ -115,8 +117,8 @@ fn let_go_below<
     }
 }
 
-/// Lets the keys go of the one of two streams that has a value at `end`, where a join of the kind is not asked for it, up to the
-/// other's first key.
+/// Skips keys of the stream that has a value at `end`, up to the other's first key. A join of the kind selects none of
+/// them.
 fn skip<
     T: Integer,
     VCL: ValueCarrier,
@@ -136,8 +138,8 @@ fn skip<
     }
 }
 
-/// Puts the first segment of two streams behind a list, where the kind asks for it, and lets its keys go. Where the kind does not,
-/// all keys go for which one of the two streams alone has a value.
+/// Appends the first segment of two streams if the kind selects it, and skips its keys. Otherwise it skips all keys up
+/// to the next one at which the other stream has a value.
 fn join_next<
     T: Integer,
     VCL: ValueCarrier,
@@ -171,9 +173,10 @@ fn join_next<
     Ok(())
 }
 
-/// The segments of two streams that a join of a kind is asked for, each with carriers of what the two have there, in one pass
-/// over both. A stream that is behind seeks the next key that may be asked for. The segment that a range ends with has the range's
-/// own carrier, each one before it another (`carry`), whose value is to be `==`. Refused memory drops both streams.
+/// Returns the segments of two streams that a join of the kind selects, each with carriers of both values. A stream
+/// that lags seeks the next key that may be selected. The last segment of a range has the range's own carrier, and each
+/// earlier segment has another one (`carry`). If an allocation or a clone fails, both streams are dropped. O(n + m)
+/// with n and m ranges.
 pub fn join_of<
     T: Integer,
     VCL: ValueCarrier,

@@ -1,4 +1,4 @@
-//! Segments of lists of ranges.
+//! The segments of lists of ranges.
 ghost use Rattle.std.specs.Prelude.{◌≡◌, None, IfOk, IfSome, IfNone, nat_eq};
 ghost use Rattle.blaze_streams.specs.Segments.{numbered, all_numbered, AreInOrder, shown_segment};
 ghost use Rattle.blaze_streams.specs.Segments.{shown_segments, IsSegmentsOf};
@@ -11,22 +11,24 @@ use crate::segmenting::cursors::{PlaceCursor, advance_all, row_at, segment_end, 
 use blaze_int::Integer;
 use std::alloc::{AllocError, Global};
 
-/// A range on which no list changes and at least one is present.
+/// A range of keys at which each list has the same range or none, and at least one list has a range.
 #[derive(Drop)]
 pub struct Segment<T> {
     /// The first key.
     pub lo: T,
     /// The last key.
     pub hi: T,
-    /// For each list the place of its range that has these keys, or `None`.
+    /// For each list, the position of its range that contains these keys, or `None`.
     pub at: Vec<Option<usize>>,
 }
 
-/// The segments of lists, ascending: the greatest ranges on which no list changes and at least one is present, each with the
-/// place of each list's range there. Touching ranges of one list are two segments, since their places differ.
+/// Returns the segments of lists, ascending, each with the position of each list's range. A segment is a greatest range
+/// of keys at which each list has the same range or none, and at least one list has a range. Touching ranges of one
+/// list are two segments, since their positions differ.
 ///
-/// Each list is disjoint and ascending, and gives each range by its first and its last key. A list may be empty, and there may be
-/// no list. It is refused only where memory is, and the lists stay as they are.
+/// Each list must be disjoint and ascending, and gives each range by its first and its last key. A list may be empty,
+/// and so may the list of lists. If an allocation fails, it returns `Err`, and the lists are unchanged. O(n k) time and
+/// memory with n ranges in k lists.
 #[tactic(auto, using(crate::proofs::Numbered::all_canonical))]
 pub fn segments<T: Integer>(
     alloc: Global,
@@ -41,7 +43,7 @@ pub fn segments<T: Integer>(
     Ok(found)
 }
 
-/// A cursor at the start of each list.
+/// Returns a cursor at the start of each list.
 fn cursors_of<T: Integer>(
     alloc: Global,
     lists: &[Vec<(T, T)>],
@@ -56,7 +58,7 @@ fn cursors_of<T: Integer>(
     Ok(cursors)
 }
 
-/// The ranges, each with its place.
+/// Returns a stream of the ranges with their positions.
 fn places_of<T: Integer>(
     alloc: Global,
     ranges: &[(T, T)],
@@ -75,7 +77,7 @@ fn places_of<T: Integer>(
     Ok(CanonMapIter::new(found))
 }
 
-/// The segments of what is left of the lists.
+/// Returns the remaining segments of the lists.
 fn segments_left<T: Integer>(
     alloc: Global,
     lists: &mut [PlaceCursor<T>],
@@ -90,7 +92,8 @@ fn segments_left<T: Integer>(
     Ok(found)
 }
 
-/// Takes the first segment off the lists, or returns `None` where nothing is left. Refused memory leaves the lists unchanged.
+/// Takes the first segment from the lists, or returns `None` if no key remains. If an allocation fails, the lists are
+/// unchanged. O(k) with k lists.
 pub fn next_segment<T: Integer>(
     alloc: Global,
     lists: &mut [PlaceCursor<T>],

@@ -1,4 +1,4 @@
-//! Entries that are gone through for their first and last keys.
+//! The first and last keys of entries.
 ghost use Rattle.std.specs.Prelude.{List};
 ghost use Rattle.blaze_table.specs.Entries.{Entry};
 ghost use Rattle.blaze_streams.specs.KeyRanges.{TakesEnds, TakesLastEnds};
@@ -6,19 +6,19 @@ ghost use Rattle.blaze_streams.specs.KeyRanges.{TakesEnds, TakesLastEnds};
 use blaze_int::Integer;
 use blaze_table::{IntoIter, Iter};
 
-/// Entries that are gone through from both ends, whatever their values.
+/// A double-ended iterator over entries, of which only the first and last keys are used.
 pub trait EntryEnds<T: Integer>: Drop {
     /// The type of the entries' values.
     type Value: Eq;
 
-    // The entries that are left.
+    // The remaining entries.
     ghost left: { Self → List (Entry Self.Value) };
 
-    /// Takes the first entry out, and returns its first and last key.
+    /// Takes the first entry and returns its first and last key.
     fn next_ends(&mut self) -> Option<(T, T)>
         ensures { TakesEnds T.rank result (left self.old) (left self.new) };
 
-    /// Takes the last entry out, and returns its first and last key.
+    /// Takes the last entry and returns its first and last key.
     fn next_ends_back(&mut self) -> Option<(T, T)>
         ensures { TakesLastEnds T.rank result (left self.old) (left self.new) };
 }

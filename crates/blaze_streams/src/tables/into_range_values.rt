@@ -1,4 +1,4 @@
-//! A table's entries by value, as ranges with shared values.
+//! An iterator over a table's owned entries, with shared values.
 ghost use Rattle.std.specs.Prelude.{◌≡◌, length, map, refl, Some, IfSome, IfOk};
 ghost use Rattle.std.specs.Iterator.{item_count, UpTo};
 ghost use Rattle.std.specs.Iterator.SizeHint.{IsWithinCount};
@@ -17,7 +17,7 @@ use std::ops::RangeInclusive;
 use std::rc::Rc;
 use std::vec;
 
-/// A table's entries by value, ascending, from both ends: each range with its value, which an `Rc` shares.
+/// An iterator over a table's owned entries, ascending: each range with its value in an `Rc`. It is double-ended.
 #[derive(Drop)]
 pub struct IntoRangeValuesIter<T: Integer, V: Eq + Drop> {
     entries: vec::IntoIter<(T, T, Rc<V>)>,
@@ -41,7 +41,7 @@ impl<T: Integer, V: Eq + Drop> Model for IntoRangeValuesIter<T, V> {
         (map (shown_entry T.rank rc_value) (into_iter_items s.entries)) };
 }
 
-// The entry with its value in an `Rc`: first key, last key and value.
+// Returns the entry as (first key, last key, value), with its value in an `Rc`.
 fn shared<T: Integer, V: Eq + Drop>(
     alloc: Global,
     entry: (T, T, V),
@@ -53,7 +53,7 @@ fn shared<T: Integer, V: Eq + Drop>(
     Ok((start, end, Rc::new(alloc, value)?))
 }
 
-// The entries of a table, each value in an `Rc`: first key, last key and value.
+// Returns the entries of a table as (first key, last key, value), with each value in an `Rc`.
 fn shared_entries<T: Integer, V: Eq + Drop>(
     alloc: Global,
     table: RangeTable<T, V>,
@@ -69,7 +69,8 @@ fn shared_entries<T: Integer, V: Eq + Drop>(
 }
 
 impl<T: Integer, V: Eq + Drop> IntoRangeValuesIter<T, V> {
-    /// The table's entries. All memory is taken here, and none by `next` and `next_back`. Refused memory drops the table.
+    /// Returns an iterator over the table's entries. It allocates a list and an `Rc` for each value, and `next` and
+    /// `next_back` allocate nothing. If an allocation fails, the table is dropped. O(n) with n entries.
     pub fn new(alloc: Global, table: RangeTable<T, V>) -> Result<Self, AllocError>
         ensures { IfOk result (λ iter. iter ≡ table.entries) }
     {
@@ -93,7 +94,7 @@ impl<T: Integer, V: Eq + Drop> Iterator for IntoRangeValuesIter<T, V> {
         Some((start..=end, value))
     }
 
-    /// Exact: how many entries are left.
+    /// Returns the exact number of remaining entries as both bounds. O(1).
     fn size_hint(&self) -> (usize, Option<usize>)
         ensures lower { IsWithinCount result.0 (item_count (λ s. s) self.now) }
         ensures upper { IfSome result.1 (UpTo (item_count (λ s. s) self.now)) }

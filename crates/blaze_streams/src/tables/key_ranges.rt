@@ -1,4 +1,4 @@
-//! A map's keys as ranges.
+//! The keys of a map as ranges, without the values.
 ghost use Rattle.std.specs.Prelude.{◌≡◌, refl, length, min, None, IfSome};
 ghost use Rattle.std.specs.Iterator.{item_count, UpTo};
 ghost use Rattle.std.specs.Iterator.SizeHint.{IsWithinCount};
@@ -16,20 +16,22 @@ use std::iter::FusedIterator;
 use std::marker::Model;
 use std::ops::RangeInclusive;
 
-/// The ranges of the keys that entries have, ascending, from both ends. Touching ranges are one, whatever their values.
+/// An iterator over the ranges of the entries' keys, ascending. It is double-ended. Touching ranges are joined,
+/// whatever their values.
 #[derive(Drop)]
 pub struct KeyRanges<T: Integer, I: EntryEnds<T>> {
-    // The first range of what is left, which the entries may go on with. None where nothing is left.
+    // The first remaining range, which the next entries may extend. `None` if no range remains.
     open: Option<(T, T)>,
     entries: I,
-    // The range of the last entry of what is left, if it was taken out of the entries. They may end right below it.
+    // The range of the last remaining entry, if it was already taken from the entries. Their last one may end right
+    // below it.
     back: Option<(T, T)>,
 }
 
-/// The ranges of the keys of a table that is lent.
+/// An iterator over the key ranges of a borrowed table.
 pub type MapRangesIter<'a, T, V> = KeyRanges<T, Iter<'a, T, V>>;
 
-/// The ranges of a table's keys, from the table by value.
+/// An iterator over the key ranges of an owned table.
 pub type MapIntoRangesIter<T, V> = KeyRanges<T, IntoIter<T, V>>;
 
 impl<T: Integer, I: EntryEnds<T>> Model for KeyRanges<T, I> {
@@ -50,7 +52,7 @@ impl<T: Integer, I: EntryEnds<T>> Model for KeyRanges<T, I> {
 }
 
 impl<T: Integer, I: EntryEnds<T>> KeyRanges<T, I> {
-    // The ranges of the keys of a range map's entries.
+    // Returns an iterator over the key ranges of a range map's entries.
     fn of_entries(entries: I) -> Self
         requires { IsRangeMap I.Value.eq T.low T.high (I.left entries) }
         ensures { AreKeyRanges T.low T.high (I.left entries) result }
@@ -65,7 +67,7 @@ impl<T: Integer, I: EntryEnds<T>> KeyRanges<T, I> {
     }
 }
 
-// Takes the first of some entries, and of a range behind them, out, and returns its first and last key.
+// Takes the first of the entries, or of the range after them, and returns its first and last key.
 fn first_ends<T: Integer, I: EntryEnds<T>>(
     entries: &mut I,
     back: &mut Option<(T, T)>,
@@ -79,8 +81,8 @@ fn first_ends<T: Integer, I: EntryEnds<T>>(
     }
 }
 
-// Takes the last of some entries, and of a range behind them, out, and returns its first and last key. No range is behind them
-// then.
+// Takes the last of the entries and of the range after them, and returns its first and last key. Afterwards no range
+// follows the entries.
 fn last_ends<T: Integer, I: EntryEnds<T>>(
     entries: &mut I,
     back: &mut Option<(T, T)>,
@@ -96,7 +98,8 @@ fn last_ends<T: Integer, I: EntryEnds<T>>(
 }
 
 impl<'a, T: Integer, V: Eq> MapRangesIter<'a, T, V> {
-    /// The ranges of the keys of a table that is lent. No memory is taken.
+    /// Returns an iterator over the key ranges of a borrowed table. It allocates nothing. Iterating over all ranges
+    /// takes O(n) time with n entries.
     pub fn new(table: &'a RangeTable<T, V>) -> Self
         ensures { AreKeyRanges T.low T.high table.now.entries result }
     {
@@ -106,7 +109,8 @@ impl<'a, T: Integer, V: Eq> MapRangesIter<'a, T, V> {
 }
 
 impl<T: Integer, V: Eq + Drop> MapIntoRangesIter<T, V> {
-    /// The ranges of a table's keys, from the table by value. No memory is taken.
+    /// Returns an iterator over the key ranges of an owned table. It allocates nothing. Iterating over all ranges takes
+    /// O(n) time with n entries.
     pub fn new(table: RangeTable<T, V>) -> Self
         ensures { AreKeyRanges T.low T.high table.entries result }
     {
@@ -115,14 +119,14 @@ impl<T: Integer, V: Eq + Drop> MapIntoRangesIter<T, V> {
     }
 }
 
-/// As `MapRangesIter::new`.
+/// Returns an iterator over the key ranges of a borrowed table. It allocates nothing.
 pub fn ranges_of<T: Integer, V: Eq>(table: &RangeTable<T, V>) -> MapRangesIter<'_, T, V>
     ensures { AreKeyRanges T.low T.high table.now.entries result }
 {
     MapRangesIter::new(table)
 }
 
-/// As `MapIntoRangesIter::new`.
+/// Returns an iterator over the key ranges of an owned table. It allocates nothing.
 pub fn into_ranges_of<T: Integer, V: Eq + Drop>(table: RangeTable<T, V>) -> MapIntoRangesIter<T, V>
     ensures { AreKeyRanges T.low T.high table.entries result }
 {
@@ -148,7 +152,8 @@ impl<T: Integer, I: EntryEnds<T>> Iterator for KeyRanges<T, I> {
         Some(start..=end)
     }
 
-    /// At least one, where any is left: how many of the entries touch is seen only where they come.
+    /// Returns 1 as the lower bound if a range remains, else 0, and no upper bound. The number of touching entries is
+    /// not known in advance. O(1).
     fn size_hint(&self) -> (usize, Option<usize>)
         ensures lower { IsWithinCount result.0 (item_count (λ s. s) self.now) }
         ensures upper { IfSome result.1 (UpTo (item_count (λ s. s) self.now)) }

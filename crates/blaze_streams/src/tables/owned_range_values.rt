@@ -1,4 +1,4 @@
-//! A table's entries by value, as ranges with values that stand for themselves.
+//! An iterator over a table's owned entries, with owned values.
 ghost use Rattle.std.specs.Prelude.{◌≡◌, length, refl, Some, IfSome};
 ghost use Rattle.std.specs.Iterator.{item_count, UpTo};
 ghost use Rattle.std.specs.Iterator.SizeHint.{IsWithinCount};
@@ -13,7 +13,7 @@ use std::iter::FusedIterator;
 use std::marker::Model;
 use std::ops::RangeInclusive;
 
-/// A table's entries by value, ascending: each range with its own value.
+/// An iterator over a table's owned entries, ascending: each range with its own value.
 #[derive(Drop)]
 pub struct OwnedRangeValuesIter<T: Integer, V: Eq + Drop> {
     entries: IntoIter<T, V>,
@@ -35,7 +35,7 @@ impl<T: Integer, V: Eq + Drop> Model for OwnedRangeValuesIter<T, V> {
 }
 
 impl<T: Integer, V: Eq + Drop> OwnedRangeValuesIter<T, V> {
-    /// The table's entries. No memory is taken, here or by `next`, and no value is cloned.
+    /// Returns an iterator over the table's entries. Neither this call nor `next` allocates, and no value is cloned.
     pub fn new(table: RangeTable<T, V>) -> Self
         ensures { result ≡ table.entries }
     {
@@ -58,7 +58,7 @@ impl<T: Integer, V: Eq + Drop> Iterator for OwnedRangeValuesIter<T, V> {
         Some((start..=end, Owned(value)))
     }
 
-    /// Exact: how many entries are left.
+    /// Returns the exact number of remaining entries as both bounds. O(1).
     fn size_hint(&self) -> (usize, Option<usize>)
         ensures lower { IsWithinCount result.0 (item_count (λ s. s) self.now) }
         ensures upper { IfSome result.1 (UpTo (item_count (λ s. s) self.now)) }

@@ -1,4 +1,4 @@
-//! A table's entries as ranges with their values.
+//! An iterator over a borrowed table's entries, as ranges with values.
 ghost use Rattle.std.specs.Prelude.{◌≡◌, length, refl, Some, IfSome};
 ghost use Rattle.std.specs.Iterator.{item_count, UpTo};
 ghost use Rattle.std.specs.Iterator.SizeHint.{IsWithinCount};
@@ -13,11 +13,12 @@ use std::iter::FusedIterator;
 use std::marker::Model;
 use std::ops::RangeInclusive;
 
-/// A table's entries, ascending: each range with its value.
+/// An iterator over a borrowed table's entries, ascending: each range with a reference to its value. It is
+/// double-ended.
 #[derive(Drop)]
 pub struct RangeValuesIter<'a, T: Integer, V: Eq> {
     entries: Iter<'a, T, V>,
-    // Its type says that keys and values live as long as the table is lent.
+    // The type of this field makes the keys and the values live as long as the borrow of the table.
     table: &'a RangeTable<T, V>,
 }
 
@@ -37,7 +38,7 @@ impl<'a, T: Integer, V: Eq> Model for RangeValuesIter<'a, T, V> {
 }
 
 impl<'a, T: Integer, V: Eq> RangeValuesIter<'a, T, V> {
-    /// The table's entries.
+    /// Returns an iterator over the table's entries. It allocates nothing.
     pub fn new(table: &'a RangeTable<T, V>) -> Self
         ensures { result ≡ table.now.entries }
     {
@@ -61,7 +62,7 @@ impl<'a, T: Integer, V: Eq> Iterator for RangeValuesIter<'a, T, V> {
         Some((start..=end, value))
     }
 
-    /// Exact: how many entries are left.
+    /// Returns the exact number of remaining entries as both bounds. O(1).
     fn size_hint(&self) -> (usize, Option<usize>)
         ensures lower { IsWithinCount result.0 (item_count (λ s. s) self.now) }
         ensures upper { IfSome result.1 (UpTo (item_count (λ s. s) self.now)) }

@@ -1,4 +1,4 @@
-//! A table's entries as ranges with their values, which seek a key by two searches.
+//! An iterator over a borrowed table's entries that can seek a key.
 ghost use Rattle.std.specs.Prelude.{◌≡◌, refl};
 ghost use Rattle.std.specs.Iterator.{YieldsFirstBy, item_count};
 ghost use Rattle.blaze_streams.specs.Ranges.{shown_range};
@@ -12,7 +12,8 @@ use std::iter::FusedIterator;
 use std::marker::Model;
 use std::ops::RangeInclusive;
 
-/// The entries of a table that is lent, ascending: each range with its value. A seek takes two searches of the table.
+/// An iterator over a borrowed table's entries, ascending: each range with a reference to its value. A seek takes O(log
+/// n) time with n entries.
 #[derive(Drop)]
 pub struct SeekingRangeValuesIter<'a, T: Integer, V: Eq> {
     entries: Range<'a, T, V>,
@@ -35,7 +36,7 @@ impl<'a, T: Integer, V: Eq> Model for SeekingRangeValuesIter<'a, T, V> {
 }
 
 impl<'a, T: Integer, V: Eq> SeekingRangeValuesIter<'a, T, V> {
-    /// The table's entries.
+    /// Returns an iterator over the table's entries. It allocates nothing. O(log n) with n entries.
     pub fn new(table: &'a RangeTable<T, V>) -> Self
         ensures { result ≡ table.now.entries }
     {
@@ -77,7 +78,8 @@ impl<'a, T: Integer, V: Eq + Clone> SortedDisjointMap<T, &'a V>
         0
     }
 
-    /// By two searches, which find the next entry where it does not end below the key.
+    /// Skips the entries that end below `key`, with two lookups. The next entry may end above `key`, so the later of
+    /// its start and `key` is looked up.
     fn seek(&mut self, key: T) {
         let table = self.table;
         table.in_hand();
