@@ -1,18 +1,18 @@
--- Two streams gone through together, and what is chosen from them so far: the words of this crate's own functions, and of those
--- that it exports for the crates above it alone. No clause that users of the streams meet names them.
+-- A merge of two streams before its end, in terms of this crate's own functions and of those that it exports only for
+-- the crates above it. No clause for users of the streams uses them.
 use Rattle.std.specs.Prelude.{◌≡◌, ℤ, ◌≤ℤ◌, ◌<ℤ◌, Bool, List, [], ◌∷◌, Option, Some, None}
 use Rattle.blaze_entries.specs.declared.range_entry.RangeEntry.{RangeEntry}
 use Rattle.blaze_table.specs.Entries.{Entry, entry, at, shown_range_entry, SameOption}
 use Rattle.blaze_table.specs.Splice.{glue, after}
 use Rattle.blaze_streams.specs.Cursors.{first_key, lesser}
 
--- the first range of a stream, where it was taken out, and what is left of the stream
+-- a stream's first range, if it was taken, followed by the remaining stream
 abbrev pub ahead_of : {T C V : Type 0} → (T → ℤ) → (C → V) → Option (RangeEntry T C) → List (Entry V) → List (Entry V)
 ahead_of rank shown None rest = rest
 ahead_of rank shown (Some e) rest = shown_range_entry rank shown e ∷ rest
 
--- What is taken of two lists: nothing is chosen from their first key on before `first`; what is chosen there is chosen at each
--- key up to `end`, and equal to the value; of the lists is left what they have above.
+-- The first piece of two lists. The choice has no value from their first key to before `first`. From `first` to `end`
+-- it has one value at each key, equal to the given value. The new lists are the parts above `end`.
 pub record IsTaken {A B V : Type 0} (eq : V → V → Bool) (choose : Option A → Option B → Option V) (left left_new : List (Entry A)) (right right_new : List (Entry B)) (first end : ℤ) (value : Option V) : Type 0 where
   pub start : ℤ
   pub starts : lesser (first_key left) (first_key right) ≡ Some start
@@ -24,8 +24,8 @@ pub record IsTaken {A B V : Type 0} (eq : V → V → Bool) (choose : Option A �
   pub left_is : left_new ≡ after end left
   pub right_is : right_new ≡ after end right
 
--- what is taken of one of two lists, from their first key on: up to `end` it has what it has there, which is equal to the value,
--- and the other has nothing; of the list is left what it has above
+-- The first piece of one of two lists, from its first key to `end`. The list has one value there, equal to the given
+-- value, and the other list has none. The new list is the part above `end`.
 pub record IsTakenAlone {A B : Type 0} (eq : A → A → Bool) (list new : List (Entry A)) (other : List (Entry B)) (first end : ℤ) (value : Option A) : Type 0 where
   pub starts : lesser (first_key list) (first_key other) ≡ Some first
   pub order : first ≤ℤ end
@@ -35,12 +35,12 @@ pub record IsTakenAlone {A B : Type 0} (eq : A → A → Bool) (list new : List 
   pub list_is : new ≡ after end list
   pub other_is : other ≡ after end other
 
--- the list with a value behind it, on the keys from s up to t, where there is one
+-- the list with a value appended for the keys from s to t, if a value exists
 abbrev pub PutsValue : {V : Type 0} → (V → V → Bool) → ℤ → ℤ → Option V → List (Entry V) → List (Entry V) → Type 0
 PutsValue eq s t None old new = new ≡ old
 PutsValue eq s t (Some v) old new = new ≡ glue eq old (entry s t v ∷ [])
 
--- the list with a value behind it that is equal to this one, on the keys from s up to t, where there is one
+-- the list with an equal value appended for the keys from s to t, if a value exists
 pub record PutsAlike {V : Type 0} (eq : V → V → Bool) (s t : ℤ) (value : Option V) (old new : List (Entry V)) : Type 0 where
   pub alike : Option V
   pub same : SameOption eq value alike

@@ -1,15 +1,15 @@
--- An event of a sweep, and how the logic stores it.
+-- An event of a sweep, and its representation in the logic.
 use Rattle.std.proofs.Common.{inl, inr}
 use Rattle.std.specs.Prelude.{◌≡◌, ℕ, ℤ, ◌⊎◌, refl}
 use Rattle.std.specs.Coded.{Coded, code_by, coded×, coded⊎, coded_ℕ, coded_ℤ}
 use Rattle.blaze_table.specs.Entries.{Entry, entry_code}
 
--- an event of the input at a place: one of its entries starts, or the one with this last key ends
+-- an event of the input at a position: one of its entries starts, or the entry with this last key ends
 pub data Event (V : Type 0) : Type 0 where
   Starts : ℕ → Entry V → Event V
   Ends : ℕ → ℤ → Event V
 
--- ---- how the logic stores an event, which no clause cites
+-- ---- the representation of an event in the logic, which no clause uses
 
 abbrev event_cases : {V : Type 0} → Event V → (ℕ × Entry V) ⊎ (ℕ × ℤ)
 event_cases (Starts input e) = inl (input, e)

@@ -2,7 +2,8 @@
 use Rattle.std.specs.Fn.{Mut}
 use Rattle.std.specs.Prelude.{Result, Ok}
 
--- the calls of a closure that return `Ok`, as calls that return the value in it; it may be called where it may be called
+-- the calls of a closure that return `Ok`, as calls that return the content; the closure may be called with the same
+-- arguments
 abbrev pub ok_calls : {F A W E : Type 0} → Mut F A (Result W E) → Mut F A W
 ok_calls g = record {
   pre = g.pre;

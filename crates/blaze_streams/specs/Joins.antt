@@ -1,5 +1,5 @@
--- The segments of two lists: the greatest ranges on which neither changes and at least one is present, and those of them that
--- a join is asked for.
+-- The segments of two lists: the greatest ranges of keys at which each list has the same range or none, and at least
+-- one list has a range. A join selects some of them.
 use Rattle.std.specs.Prelude.{◌≡◌, ℤ, ◌≤ℤ◌, Bool, true, false, ◌&&◌, ◌||◌, if◌then◌else◌, List, [], ◌∷◌, ◌++◌, Option, Some, None, MatchOption}
 use Rattle.std.specs.Option.{option_eq, is_some}
 use Rattle.blaze_entries.specs.Cloned.{AreCloned}
@@ -11,42 +11,42 @@ use Rattle.blaze_streams.specs.declared.segmenting.joins.JoinKind.TheVariants.{I
 use Rattle.blaze_streams.specs.Carried.{AreOptions, ArePairsCarried}
 use Rattle.blaze_streams.specs.Cursors.{steady_to, lesser}
 
--- whether a join of the kind is asked for what two lists have at a key
+-- whether a join of the kind selects a key at which two lists have these values
 abbrev pub is_joined : {A B : Type 0} → JoinKind → Option A → Option B → Bool
 is_joined Inner x y = is_some x && is_some y
 is_joined Left x y = is_some x
 is_joined Full x y = is_some x || is_some y
 
--- what two lists have at a key, where a join of the kind is asked for it
+-- the values of two lists at a key, if a join of the kind selects it
 abbrev pub paired : {A B : Type 0} → JoinKind → Option A → Option B → Option (Option A × Option B)
 paired kind x y = if is_joined kind x y then Some (x, y) else None
 
--- two lists have the same at two keys
+-- two lists have equal values at two keys
 abbrev pub pair_eq : {A B : Type 0} → (A → A → Bool) → (B → B → Bool) → Option A × Option B → Option A × Option B → Bool
 pair_eq eqa eqb p q = option_eq eqa p.0 q.0 && option_eq eqb p.1 q.1
 
--- the segments of two lists that a join of the kind is asked for: at each key they have what the two lists have there, where
--- the kind asks for it, and they are one per run of that
+-- The segments of two lists that a join of the kind selects. At each selected key they have the values of the two
+-- lists, and each segment is one run of these values.
 pub record IsJoinOf {A B : Type 0} (eqa : A → A → Bool) (eqb : B → B → Bool) (low high : ℤ) (kind : JoinKind) (left : List (Entry A)) (right : List (Entry B)) (segments : List (Entry (Option A × Option B))) : Type 0 where
   pub range_map : IsRangeMap (pair_eq eqa eqb) low high segments
   pub content : (k : ℤ) → at segments k ≡ paired kind (at left k) (at right k)
 
--- these segments with values that are carried: each value is that of the segment, or one that `carry` may give for it, as it
--- does for each segment but the last that a range has a part in
+-- The segments with carried values. Each value is that of the segment, or one that `carry` may represent for it: every
+-- segment of a range except the last gets one by `carry`.
 pub record IsCarriedJoin {A B : Type 0} (carrieda : A → A → Type 0) (carriedb : B → B → Type 0) (eqa : A → A → Bool) (eqb : B → B → Bool) (low high : ℤ) (kind : JoinKind) (left : List (Entry A)) (right : List (Entry B)) (segments : List (Entry (Option A × Option B))) : Type 0 where
   pub exact : List (Entry (Option A × Option B))
   pub is_join : IsJoinOf eqa eqb low high kind left right exact
   pub carried : AreCloned (ArePairsCarried carrieda carriedb) exact segments
 
--- ---- one step of a walk over two lists
+-- ---- one part of a walk over two lists
 
--- a value on the keys from s up to t, where there is one
+-- a value at the keys from s to t, if it exists
 abbrev pub piece_of : {V : Type 0} → ℤ → ℤ → Option V → List (Entry V)
 piece_of s t None = []
 piece_of s t (Some v) = entry s t v ∷ []
 
--- what is left of a list once all keys were let go that are below another's first key, or all keys where the other has none; the
--- other has none up to `end`, which is at least s
+-- The new list is the part of the list from the other's first key on, or is empty if the other is empty. The other has
+-- no value up to `end`, which is at least s.
 pub record IsLetGo {A B : Type 0} (s high : ℤ) (list new : List (Entry A)) (other : List (Entry B)) : Type 0 where
   pub end : ℤ
   pub from : s ≤ℤ end
@@ -55,12 +55,12 @@ pub record IsLetGo {A B : Type 0} (s high : ℤ) (list new : List (Entry A)) (ot
   pub list_is : new ≡ after end list
   pub other_is : other ≡ after end other
 
--- one of two has a value, and a join of the kind is not asked for it
+-- one of two lists has a value, and a join of the kind does not select it
 pub record IsNotAsked {A B : Type 0} (kind : JoinKind) (x : Option A) (y : Option B) : Type 0 where
   pub one : is_joined Full x y ≡ true
   pub not_asked : is_joined kind x y ≡ false
 
--- what is left of two lists once keys up to `end`, which is at least s, were let go, for none of which a join of the kind is asked
+-- the new lists are without some keys up to `end`, which is at least s; a join of the kind selects none of these keys
 pub record IsSkipped {A B : Type 0} (kind : JoinKind) (s high : ℤ) (left left_new : List (Entry A)) (right right_new : List (Entry B)) : Type 0 where
   pub end : ℤ
   pub from : s ≤ℤ end
@@ -69,8 +69,8 @@ pub record IsSkipped {A B : Type 0} (kind : JoinKind) (s high : ℤ) (left left_
   pub left_is : left_new ≡ after end left
   pub right_is : right_new ≡ after end right
 
--- the first keys of two lists, from s up to `end`, gone through: where the kind asks for their segment, it is put behind a list,
--- and else the kind asks for none of them; and what is left of the two
+-- The keys of two lists from s, the first one, to `end` are processed. If the kind selects their segment, the segment
+-- is appended to a list. Otherwise the kind selects none of these keys. The new lists are the parts after them.
 pub record IsSegmentPut {A B : Type 0} (carrieda : A → A → Type 0) (carriedb : B → B → Type 0) (low high : ℤ) (kind : JoinKind) (s : ℤ) (left left_new : List (Entry A)) (right right_new : List (Entry B)) (out out_new : List (Entry (Option A × Option B))) : Type 0 where
   pub end : ℤ
   pub from : low ≤ℤ s

@@ -1,14 +1,14 @@
--- Last parts of lists.
+-- Suffixes of lists.
 use Rattle.std.specs.Prelude.{◌≡◌, ℤ, List, ◌++◌}
 use Rattle.blaze_table.specs.Entries.{Entry}
 use Rattle.blaze_table.specs.Splice.{IsBelow}
 
--- what is left of a list behind a first part
+-- `rest` is a suffix of the list
 pub record IsLastPart {A : Type 0} (list rest : List A) : Type 0 where
   pub gone : List A
   pub parts : list ≡ gone ++ rest
 
--- what is left of a stream that lets ranges go up to the key k: ranges that end below k are gone, the others are as they were
+-- the stream after a seek to the key k: some ranges that end below k are skipped, and the others are unchanged
 pub record IsSought {V : Type 0} (k : ℤ) (old new : List (Entry V)) : Type 0 where
   pub gone : List (Entry V)
   pub parts : old ≡ gone ++ new

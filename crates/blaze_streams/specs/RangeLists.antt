@@ -1,10 +1,10 @@
--- Lists of ranges with what shows their values, seen as entries.
+-- Lists of ranges with carriers, seen as entries.
 use Rattle.std.specs.Prelude.{ℤ, ◌≤ℤ◌, List, map}
 use Rattle.std.specs.declared.ops.RangeInclusive.{RangeInclusive}
 use Rattle.blaze_table.specs.Entries.{Entry}
 use Rattle.blaze_streams.specs.Ranges.{shown_range}
 
--- a list of ranges with what shows their values, as entries
+-- a list of ranges with carriers, as entries
 abbrev pub shown_ranges : {T R V : Type 0} → (T → ℤ) → (R → V) → List (RangeInclusive T × R) → List (Entry V)
 shown_ranges rank shown items = map (shown_range rank shown) items
 
