@@ -1,4 +1,4 @@
-//! Changes of one map: values put on keys and ranges, keys taken out, keys and entries that a closure keeps.
+//! Changes of one map: values set on keys and ranges, keys removed, and keys and entries that a closure keeps.
 ghost use Rattle.std.specs.List.Retain.{IsFiltered};
 ghost use Rattle.std.specs.Prelude.{◌≡◌, ◌↔◌, ◌<ℤ◌, false, Ok, IfOk, OnOk, OnErr, IsTrue, ℤ, [], None, MatchOption};
 ghost use Rattle.blaze_int.specs.Bounds.{start_rank, end_rank};
@@ -20,8 +20,13 @@ use std::alloc::AllocError;
 use std::ops::{RangeBounds, RangeInclusive};
 
 impl<T: Integer, V: Eq + Clone> RangeMapBlaze<T, V> {
-    /// Puts a value on a key, over what was there, and returns the value that was there. Refused memory leaves the map
-    /// unchanged. It takes O(log n) steps with n entries.
+    /// Sets the value of `key`, and returns the value that it had. May allocate; if an allocation fails, the map is unchanged.
+    /// O(log n) for n entries.
+    ///
+    /// ```
+    /// map.insert(12, 'x')?; // Some('a')
+    /// map; // (10..=11, 'a'), (12..=12, 'x'), (13..=14, 'a'), (15..=15, 'b'), (30..=39, 'c')
+    /// ```
     pub fn insert(&mut self, key: T, value: V) -> Result<Option<V>, AllocError>
         requires { ClonesAreAlike V.is_clone V.eq }
         ensures ok { OnOk result
@@ -37,13 +42,20 @@ impl<T: Integer, V: Eq + Clone> RangeMapBlaze<T, V> {
         self.table.insert(key, value)
     }
 
-    /// Puts a value on the keys of a range, over what was there, and returns whether the number of keys changed.
+    /// Sets the value of every key in the range, replacing what was there: it paints the range. Returns whether the number of
+    /// keys with a value changed.
     ///
-    /// The bounds are those that the range tells: through `RangeBounds` a `RangeInclusive` that was iterated to its end has an
-    /// excluded end and names no key. Bounds that name no key answer false and change nothing. Inside one entry with an equal
-    /// value nothing changes, the stored value neither. Both take no memory. An entry that the range does not touch stays, its
-    /// stored value too. Refused memory leaves the map unchanged. It takes O(log n) steps for each of n entries that the range
-    /// touches.
+    /// If one entry with an equal value contains the whole range, nothing changes, not even the stored value. Entries that the
+    /// range does not touch keep their stored values. Bounds that name no key change nothing; a `RangeInclusive` that was
+    /// iterated to its end has such bounds.
+    ///
+    /// Does not allocate if nothing changes. If an allocation fails, the map is unchanged. O(log n) for each of the n entries
+    /// that the range touches.
+    ///
+    /// ```
+    /// map.ranges_insert(12..=17, 'd')?; // true
+    /// map; // (10..=11, 'a'), (12..=17, 'd'), (30..=39, 'c')
+    /// ```
     pub fn ranges_insert<R: RangeBounds<T> + Drop>(
         &mut self,
         range: R,
@@ -76,13 +88,19 @@ impl<T: Integer, V: Eq + Clone> RangeMapBlaze<T, V> {
         }
     }
 
-    /// Puts a value on those keys of a range that have none, and returns whether the number of keys changed. A key that has a
-    /// value keeps it. The last gap takes the value, and each gap before it a clone. Where ranges are joined, all their keys have
-    /// the stored value of the lowest.
+    /// Sets the value of every key in the range that has none. Returns whether the number of keys with a value changed. A key
+    /// that has a value keeps it.
     ///
-    /// The bounds are those that the range tells, as of `ranges_insert`. Bounds that name no key, and a range without a gap,
-    /// answer false, change nothing and take no memory. Refused memory leaves the map unchanged. It takes a step for each entry
-    /// within the range; two searches to find each gap and one to fill it; and four for each two entries that are joined.
+    /// The last gap gets the value itself, and each gap before it a clone. An entry that several ranges are joined into stores
+    /// the value of the lowest. Bounds that name no key, and a range without a gap, change nothing and do not allocate.
+    ///
+    /// If an allocation fails, the map is unchanged. For n entries: O(1) for each entry in the range, and O(log n) for each gap
+    /// and each pair of entries that is joined.
+    ///
+    /// ```
+    /// map.ranges_insert_absent(12..=17, 'd')?; // true
+    /// map; // (10..=14, 'a'), (15..=15, 'b'), (16..=17, 'd'), (30..=39, 'c')
+    /// ```
     pub fn ranges_insert_absent<R: RangeBounds<T> + Drop>(
         &mut self,
         range: R,
@@ -115,8 +133,13 @@ impl<T: Integer, V: Eq + Clone> RangeMapBlaze<T, V> {
         }
     }
 
-    /// Takes a key out, and returns the value that was there. Refused memory leaves the map unchanged. No memory is taken where
-    /// the key has no value or is an entry of its own. It takes O(log n) steps with n entries.
+    /// Removes `key`, and returns the value that it had. Does not allocate if the key has no value, or if its entry has no other
+    /// key. If an allocation fails, the map is unchanged. O(log n) for n entries.
+    ///
+    /// ```
+    /// map.remove(12)?; // Some('a')
+    /// map; // (10..=11, 'a'), (13..=14, 'a'), (15..=15, 'b'), (30..=39, 'c')
+    /// ```
     pub fn remove(&mut self, key: T) -> Result<Option<V>, AllocError>
         requires { ClonesAreAlike V.is_clone V.eq }
         ensures counted { OnOk result (IsCountedCut self.old self.new) }
@@ -132,9 +155,14 @@ impl<T: Integer, V: Eq + Clone> RangeMapBlaze<T, V> {
         self.table.cut_key(key)
     }
 
-    /// Takes the keys of a range out. Bounds that name no key take nothing out and take no memory. Refused memory leaves the map
-    /// unchanged. Memory is taken only where an entry with keys of the range goes on above it. It takes two searches, and one for
-    /// each entry that goes.
+    /// Removes every key in the range. Bounds that name no key change nothing and do not allocate. Allocates only if an entry
+    /// with keys of the range extends past its end. If an allocation fails, the map is unchanged. O(log n) for n entries, and
+    /// O(log n) for each entry that is removed.
+    ///
+    /// ```
+    /// map.ranges_remove(12..=34)?;
+    /// map; // (10..=11, 'a'), (35..=39, 'c')
+    /// ```
     pub fn ranges_remove<R: RangeBounds<T> + Drop>(&mut self, range: R) -> Result<(), AllocError>
         requires { ClonesAreAlike V.is_clone V.eq }
         ensures ok { R.has_bounds range → OnOk result (IsRangeCut V.eq T.low T.high
@@ -158,9 +186,14 @@ impl<T: Integer, V: Eq + Clone> RangeMapBlaze<T, V> {
         }
     }
 
-    /// Takes the least key out, and returns it with the value that was there; `None` on the empty map. Refused memory leaves
-    /// the map unchanged. No memory is taken on the empty map and where the key is an entry of its own. It takes O(log n) steps
-    /// with n entries.
+    /// Removes the least key that has a value, and returns it with that value. Returns `None` for the empty map. Does not
+    /// allocate if the map is empty, or if the entry of the key has no other key. If an allocation fails, the map is unchanged.
+    /// O(log n) for n entries.
+    ///
+    /// ```
+    /// map.pop_first()?; // Some((10, 'a'))
+    /// map; // (11..=14, 'a'), (15..=15, 'b'), (30..=39, 'c')
+    /// ```
     pub fn pop_first(&mut self) -> Result<Option<(T, V)>, AllocError>
         requires { ClonesAreAlike V.is_clone V.eq }
         ensures ok { IfOk result (λ popped. MatchOption popped ((self.old.entries ≡ [])
@@ -177,9 +210,14 @@ impl<T: Integer, V: Eq + Clone> RangeMapBlaze<T, V> {
         Ok(popped)
     }
 
-    /// Takes the greatest key out, and returns it with the value that was there; `None` on the empty map. Refused memory leaves
-    /// the map unchanged. No memory is taken on the empty map and where the key is an entry of its own. It takes O(log n) steps
-    /// with n entries.
+    /// Removes the greatest key that has a value, and returns it with that value. Returns `None` for the empty map. Does not
+    /// allocate if the map is empty, or if the entry of the key has no other key. If an allocation fails, the map is unchanged.
+    /// O(log n) for n entries.
+    ///
+    /// ```
+    /// map.pop_last()?; // Some((39, 'c'))
+    /// map; // (10..=14, 'a'), (15..=15, 'b'), (30..=38, 'c')
+    /// ```
     pub fn pop_last(&mut self) -> Result<Option<(T, V)>, AllocError>
         requires { ClonesAreAlike V.is_clone V.eq }
         ensures ok { IfOk result (λ popped. MatchOption popped ((self.old.entries ≡ [])
@@ -196,8 +234,13 @@ impl<T: Integer, V: Eq + Clone> RangeMapBlaze<T, V> {
         Ok(popped)
     }
 
-    /// Keeps the keys below one, and returns the map of the keys from it on. Refused memory leaves the map unchanged. It takes
-    /// O(log n) steps with n entries, and one for each entry of the lesser part.
+    /// Keeps the keys below `key`, and returns the map of the others. Allocates. If an allocation fails, the map is unchanged.
+    /// O(log n) for n entries, and O(1) for each entry of the smaller part.
+    ///
+    /// ```
+    /// map.split_off(12)?; // (12..=14, 'a'), (15..=15, 'b'), (30..=39, 'c')
+    /// map; // (10..=11, 'a')
+    /// ```
     pub fn split_off(&mut self, key: T) -> Result<Self, AllocError>
         requires { ClonesAreAlike V.is_clone V.eq }
         ensures uncounted { IfOk result (λ from. (self.new
@@ -213,9 +256,13 @@ impl<T: Integer, V: Eq + Clone> RangeMapBlaze<T, V> {
 }
 
 impl<T: Integer, V: Eq + Drop> RangeMapBlaze<T, V> {
-    /// Keeps the entries that a closure returns true at: one call for each, ascending, and no other. No memory is taken. One
-    /// walk, O(n) with n entries, and at most O(log n) more for each entry that goes. Where one goes, a second walk sums the keys
-    /// of those that stay.
+    /// Keeps the entries for which `f` returns true. It calls `f` once for each entry, ascending. Does not allocate. O(n) for n
+    /// entries, and at most O(log n) more for each entry that is removed.
+    ///
+    /// ```
+    /// map.ranges_retain(|range, value| *range.start() < 30 && *value != 'b');
+    /// map; // (10..=14, 'a')
+    /// ```
     pub fn ranges_retain<F: FnMut(&RangeInclusive<T>, &V) -> bool>(&mut self, f: F)
         requires { IsCallableAtEach T.rank F.FnMut f self.old.entries }
         ensures range_map { IsRangeMap V.eq T.low T.high self.new.entries }
@@ -227,8 +274,13 @@ impl<T: Integer, V: Eq + Drop> RangeMapBlaze<T, V> {
 }
 
 impl<T: Integer, V: Eq + Clone> RangeMapBlaze<T, V> {
-    /// Keeps the keys that a closure returns true at: one call for each key that has a value, ascending, with the stored value.
-    /// Refused memory leaves the map unchanged. It takes a step for each key that has a value.
+    /// Keeps the keys for which `f` returns true. It calls `f` once for each key that has a value, ascending, with the stored
+    /// value. Allocates. If an allocation fails, the map is unchanged. O(k) for k keys that have a value.
+    ///
+    /// ```
+    /// map.retain(|key, value| *key < 12 || *value == 'b')?;
+    /// map; // (10..=11, 'a'), (15..=15, 'b')
+    /// ```
     pub fn retain<F: Fn(&T, &V) -> bool>(&mut self, f: F) -> Result<(), AllocError>
         requires callable { IsCallableAtPairs F.Fn f T.of_rank self.old.entries }
         requires clones { ClonesAreAlike V.is_clone V.eq }

@@ -1,4 +1,4 @@
-//! The map's printed text.
+//! The text that a map prints.
 ghost use Rattle.range_map_blaze.specs.Printed.{map_text};
 
 use crate::map::RangeMapBlaze;
@@ -6,8 +6,8 @@ use blaze_int::Integer;
 use std::fmt;
 use std::fmt::Debug;
 
-/// The entries `(start..=end, value)`, keys and values in debug form, joined by a comma and a space. The empty map prints
-/// nothing.
+/// Writes `(start..=end, value)` for each entry, keys and values in debug form, separated by a comma and a space. The empty map
+/// writes nothing. O(n) for n entries.
 impl<T: Integer, V: Eq + Debug> fmt::Display for RangeMapBlaze<T, V> {
     ghost output = { λ m. map_text T.debug_output T.of_rank V.debug_output m.entries };
 
@@ -24,7 +24,7 @@ impl<T: Integer, V: Eq + Debug> fmt::Display for RangeMapBlaze<T, V> {
     }
 }
 
-/// The text that `Display` gives.
+/// Writes the text of `Display`. O(n) for n entries.
 impl<T: Integer, V: Eq + Debug> Debug for RangeMapBlaze<T, V> {
     ghost debug_output = { λ m. map_text T.debug_output T.of_rank V.debug_output m.entries };
 

@@ -1,5 +1,4 @@
-//! Changes by many: pairs of an iterator painted in order, the entries of another map painted over this one's or put into its
-//! gaps.
+//! Changes by many pairs, and by the entries of another map: painted in order, or filled into the gaps.
 ghost use Rattle.std.specs.Iterator.{ExtendsWithItems, IsFinite};
 ghost use Rattle.std.specs.Prelude.{map, ◌≡◌, [], Ok, OnOk, OnErr, ◌≤ℤ◌};
 ghost use Rattle.blaze_streams.specs.Ranges.{shown_range};
@@ -19,9 +18,16 @@ use std::alloc::AllocError;
 use std::ops::RangeInclusive;
 
 impl<T: Integer, V: Eq + Clone> RangeMapBlaze<T, V> {
-    /// Puts values on keys, in order: the later pair wins. Successive pairs whose keys touch or are the same and whose values
-    /// are equal are painted as one. Refused memory leaves a first part of the pairs painted, perhaps none, and drops the
-    /// others. It takes O(log n) steps for each pair, with n entries.
+    /// Sets the values of keys, in order: a later pair replaces an earlier one. Successive pairs whose keys touch or are equal
+    /// and whose values are equal are painted as one range.
+    ///
+    /// Allocates. If an allocation fails, a first part of the pairs is painted, perhaps none, and the others are dropped. O(log
+    /// n) for each pair, for n entries.
+    ///
+    /// ```
+    /// map.extend_points([(9, 'a'), (16, 'b'), (17, 'b')])?;
+    /// map; // (9..=14, 'a'), (15..=17, 'b'), (30..=39, 'c')
+    /// ```
     pub fn extend_points<I: IntoIterator<Item = (T, V)>>(
         &mut self,
         iter: I,
@@ -37,10 +43,16 @@ impl<T: Integer, V: Eq + Clone> RangeMapBlaze<T, V> {
         self.extend_pairs(iter)
     }
 
-    /// Puts values on ranges, in order: the later pair wins, and a pair whose range is reversed paints nothing. Successive
-    /// pairs whose ranges touch or overlap and whose values are equal are painted as one. Refused memory leaves a first part of
-    /// the pairs painted, perhaps none, and drops the others. It takes O(log n) steps for each pair and each entry that it
-    /// touches, with n entries.
+    /// Sets the values of ranges, in order: a later pair replaces an earlier one. A pair whose start is above its end has no key.
+    /// Successive pairs whose ranges touch or overlap and whose values are equal are painted as one range.
+    ///
+    /// Allocates. If an allocation fails, a first part of the pairs is painted, perhaps none, and the others are dropped. O(log
+    /// n) for each pair and each entry that it touches, for n entries.
+    ///
+    /// ```
+    /// map.extend_ranges([(0..=4, 'f'), (4..=5, 'g')])?;
+    /// map; // (0..=3, 'f'), (4..=5, 'g'), (10..=14, 'a'), (15..=15, 'b'), (30..=39, 'c')
+    /// ```
     pub fn extend_ranges<I: IntoIterator<Item = (RangeInclusive<T>, V)>>(
         &mut self,
         iter: I,
@@ -56,7 +68,7 @@ impl<T: Integer, V: Eq + Clone> RangeMapBlaze<T, V> {
         self.extend_pairs(iter)
     }
 
-    // The same of pairs of either kind.
+    // Paints keys or ranges, in order. A pair waits until the next one is known, since the two may be painted as one.
     fn extend_pairs<P: Pair<T, V>, I: IntoIterator<Item = P>>(
         &mut self,
         iter: I,
@@ -79,9 +91,16 @@ impl<T: Integer, V: Eq + Clone> RangeMapBlaze<T, V> {
         Ok(())
     }
 
-    /// Puts values on ranges one by one, in order: the later pair wins, and a pair whose range is reversed paints nothing.
-    /// Refused memory leaves a first part of the pairs painted, perhaps none, and drops the others. It takes O(log n) steps for
-    /// each pair and each entry that it touches, with n entries.
+    /// Sets the values of ranges one by one, in order: a later pair replaces an earlier one. A pair whose start is above its end
+    /// has no key. Unlike `extend_ranges`, it joins no pairs before it paints them.
+    ///
+    /// Allocates. If an allocation fails, a first part of the pairs is painted, perhaps none, and the others are dropped. O(log
+    /// n) for each pair and each entry that it touches, for n entries.
+    ///
+    /// ```
+    /// map.extend_simple([(0..=4, 'f'), (4..=5, 'g')])?;
+    /// map; // (0..=3, 'f'), (4..=5, 'g'), (10..=14, 'a'), (15..=15, 'b'), (30..=39, 'c')
+    /// ```
     pub fn extend_simple<I: IntoIterator<Item = (RangeInclusive<T>, V)>>(
         &mut self,
         iter: I,
@@ -102,10 +121,17 @@ impl<T: Integer, V: Eq + Clone> RangeMapBlaze<T, V> {
         Ok(())
     }
 
-    /// Puts the entries of another map over this one's: where both have a value, the other's wins. They are painted one by
-    /// one, ascending, with a search for each. An entry of this map keeps its stored value where each of the other's ranges
-    /// does not touch it, or lies inside it with an equal value. Refused memory leaves a first part of them painted, perhaps
-    /// none, and drops the others. An empty other map takes no memory.
+    /// Paints the entries of `other`, ascending: where both maps have a value, that of `other` remains. Values are moved. An
+    /// entry of this map keeps its stored value if each range of `other` either does not touch it, or is inside it with an equal
+    /// value.
+    ///
+    /// Does not allocate if `other` is empty. If an allocation fails, a first part of the entries is painted, perhaps none, and
+    /// the others are dropped. O(log n) for each of the m entries of `other` and each entry that it touches, for n entries.
+    ///
+    /// ```
+    /// map.extend_from(other)?;
+    /// map; // (10..=11, 'a'), (12..=15, 'b'), (30..=39, 'c')
+    /// ```
     pub fn extend_from(&mut self, other: Self) -> Result<(), AllocError>
         requires { ClonesAreAlike V.is_clone V.eq }
         ensures ok { OnOk result (ArePaintedInTurn V.eq T.low T.high other.entries self.old.entries
@@ -122,9 +148,16 @@ impl<T: Integer, V: Eq + Clone> RangeMapBlaze<T, V> {
         self.paint_ranges(OwnedRangeValuesIter::new(other.table))
     }
 
-    /// Puts clones of the entries of another map over this one's: where both have a value, the other's wins. They are painted
-    /// one by one, ascending, as by `extend_from`. Refused memory leaves a first part of them painted, perhaps none. An empty
-    /// other map takes no memory.
+    /// Paints clones of the entries of `other`, ascending: where both maps have a value, that of `other` remains. An entry of
+    /// this map keeps its stored value if each range of `other` either does not touch it, or is inside it with an equal value.
+    ///
+    /// Does not allocate if `other` is empty. If an allocation fails, a first part of the entries is painted, perhaps none. O(log
+    /// n) for each of the m entries of `other` and each entry that it touches, for n entries.
+    ///
+    /// ```
+    /// map.extend_with(&other)?;
+    /// map; // (10..=11, 'a'), (12..=15, 'b'), (30..=39, 'c')
+    /// ```
     pub fn extend_with(&mut self, other: &Self) -> Result<(), AllocError>
         requires { ClonesAreAlike V.is_clone V.eq }
         ensures ok { OnOk result (ArePaintedInTurn V.eq T.low T.high other.now.entries self.old.entries
@@ -142,7 +175,7 @@ impl<T: Integer, V: Eq + Clone> RangeMapBlaze<T, V> {
         self.paint_ranges(other.range_values())
     }
 
-    // Paints the ranges of a stream, ascending, each with a value equal to its carrier's.
+    // Paints the ranges of a stream, ascending. Owned and borrowed entries share this loop.
     pub(crate) fn paint_ranges<VC: ValueCarrier<Value = V>, S: SortedDisjointMap<T, VC>>(
         &mut self,
         ranges: S,
@@ -167,7 +200,16 @@ impl<T: Integer, V: Eq + Clone> RangeMapBlaze<T, V> {
         Ok(())
     }
 
-    /// The union of two maps, in the place of the first, as `extend_from` makes it, also where memory is refused.
+    /// Paints the entries of `other`, ascending: where both maps have a value, that of `other` remains. Does what `extend_from`
+    /// does, under the name of the operator `|=`, which could not return an error.
+    ///
+    /// Does not allocate if `other` is empty. If an allocation fails, a first part of the entries is painted, perhaps none, and
+    /// the others are dropped. O(log n) for each of the m entries of `other` and each entry that it touches, for n entries.
+    ///
+    /// ```
+    /// map.bitor_assign(other)?;
+    /// map; // (10..=11, 'a'), (12..=15, 'b'), (30..=39, 'c')
+    /// ```
     pub fn bitor_assign(&mut self, other: Self) -> Result<(), AllocError>
         requires { ClonesAreAlike V.is_clone V.eq }
         ensures ok { OnOk result (ArePaintedInTurn V.eq T.low T.high other.entries self.old.entries
@@ -180,7 +222,16 @@ impl<T: Integer, V: Eq + Clone> RangeMapBlaze<T, V> {
         self.extend_from(other)
     }
 
-    /// The union of two maps, in the place of the first, as `extend_with` makes it, also where memory is refused.
+    /// Paints clones of the entries of `other`, ascending: where both maps have a value, that of `other` remains. Does what
+    /// `extend_with` does, under the name of the operator `|=`, which could not return an error.
+    ///
+    /// Does not allocate if `other` is empty. If an allocation fails, a first part of the entries is painted, perhaps none. O(log
+    /// n) for each of the m entries of `other` and each entry that it touches, for n entries.
+    ///
+    /// ```
+    /// map.bitor_assign_ref(&other)?;
+    /// map; // (10..=11, 'a'), (12..=15, 'b'), (30..=39, 'c')
+    /// ```
     pub fn bitor_assign_ref(&mut self, other: &Self) -> Result<(), AllocError>
         requires { ClonesAreAlike V.is_clone V.eq }
         ensures ok { OnOk result (ArePaintedInTurn V.eq T.low T.high other.now.entries self.old.entries
@@ -194,8 +245,18 @@ impl<T: Integer, V: Eq + Clone> RangeMapBlaze<T, V> {
         self.extend_with(other)
     }
 
-    /// Takes the entries of another map over, as `extend_with`, and then empties the other map. Refused memory leaves the other
-    /// map unchanged, and a first part of its entries painted, perhaps none. An empty other map takes no memory.
+    /// Paints clones of the entries of `other`, ascending, and then empties `other`. Where both maps have a value, that of
+    /// `other` remains.
+    ///
+    /// Does not allocate if `other` is empty. If an allocation fails, `other` is unchanged, and a first part of its entries is
+    /// painted, perhaps none. O(log n) for each of the m entries of `other` and each entry that it touches, for n entries; O(m)
+    /// to empty `other`.
+    ///
+    /// ```
+    /// map.append(&mut other)?;
+    /// map; // (10..=11, 'a'), (12..=15, 'b'), (30..=39, 'c')
+    /// other.is_empty(); // true
+    /// ```
     pub fn append(&mut self, other: &mut Self) -> Result<(), AllocError>
         requires { ClonesAreAlike V.is_clone V.eq }
         ensures ok { OnOk result (ArePaintedInTurn V.eq T.low T.high other.old.entries self.old.entries
@@ -213,9 +274,17 @@ impl<T: Integer, V: Eq + Clone> RangeMapBlaze<T, V> {
         Ok(())
     }
 
-    /// Puts the values of another map on those keys that have none in this one: where both have a value, this map's stays. The
-    /// other's entries are filled in one by one, ascending, each as by `ranges_insert_absent`. Refused memory leaves a first
-    /// part of them filled in, perhaps none. An empty other map takes no memory.
+    /// Sets the values of the keys of `other` that have none in this map. Where both maps have a value, that of this map remains.
+    /// The entries of `other` are filled in ascending, each as by `ranges_insert_absent`, with clones of their values.
+    ///
+    /// Does not allocate if `other` is empty. If an allocation fails, a first part of the entries is filled in, perhaps none.
+    /// O(log n) for each entry of `other` and each gap that it fills, O(1) for each entry in its range, for n entries.
+    ///
+    /// ```
+    /// let blocks = RangeMapBlaze::from_ranges(alloc, [(0..=12, 'z')])?;
+    /// map.extend_absent(&blocks)?;
+    /// map; // (0..=9, 'z'), (10..=14, 'a'), (15..=15, 'b'), (30..=39, 'c')
+    /// ```
     pub fn extend_absent(&mut self, other: &Self) -> Result<(), AllocError>
         requires { ClonesAreAlike V.is_clone V.eq }
         ensures ok { OnOk result (IsFilledFrom V.eq T.low T.high other.now.entries self.old.entries
@@ -233,7 +302,7 @@ impl<T: Integer, V: Eq + Clone> RangeMapBlaze<T, V> {
         self.fill_ranges(other.range_values())
     }
 
-    // Puts a value on those keys from one up to another that have none.
+    // Sets the value of every key from `start` up to `end` that has none.
     fn fill(&mut self, start: T, end: T, value: V) -> Result<(), AllocError>
         requires order { T.rank start ≤ℤ T.rank end }
         requires clones { ClonesAreAlike V.is_clone V.eq }
@@ -246,7 +315,7 @@ impl<T: Integer, V: Eq + Clone> RangeMapBlaze<T, V> {
         Ok(())
     }
 
-    // Fills in the ranges of a stream, ascending, each with a value equal to its carrier's.
+    // Fills the gaps with the ranges of a stream, ascending. `extend_absent` and the union share this loop.
     pub(crate) fn fill_ranges<VC: ValueCarrier<Value = V>, S: SortedDisjointMap<T, VC>>(
         &mut self,
         ranges: S,

@@ -25,7 +25,8 @@ use std::iter::FusedIterator;
 use std::marker::Model;
 use std::ops::{RangeBounds, RangeInclusive};
 
-/// The greatest ranges of keys without a value within a range, ascending, from both ends.
+/// The longest ranges of keys without a value within a range, ascending, from both ends. No call of the iterator allocates.
+/// `RangeMapBlaze::gaps` returns it.
 #[derive(Drop)]
 pub struct Gaps<'a, T: Integer, V: Eq> {
     // The first and the last key that neither end has gone through. None where none is left.
@@ -51,9 +52,17 @@ impl<'a, T: Integer, V: Eq> Model for Gaps<'a, T, V> {
 }
 
 impl<T: Integer, V: Eq> RangeMapBlaze<T, V> {
-    /// Returns the greatest ranges of keys without a value within a range, ascending, from both ends. Bounds that name no key give
-    /// none. No memory is allocated. It takes O(log n) steps with n entries, and O(1) more for each entry that shares a key with
-    /// the range.
+    /// Returns an iterator over the longest ranges of keys without a value within the range, ascending, from both ends. Bounds
+    /// that name no key give no range.
+    ///
+    /// Neither the call nor the iterator allocates. The call is O(log n) for n entries, and all ranges together are O(1) for each
+    /// entry that shares a key with the range.
+    ///
+    /// ```
+    /// let mut gaps = map.gaps(0..=50);
+    /// gaps.next(); // Some(0..=9)
+    /// gaps.next_back(); // Some(40..=50)
+    /// ```
     pub fn gaps<R: RangeBounds<T> + Drop>(&self, range: R) -> Gaps<'_, T, V>
         ensures within { R.has_bounds range → IsChosen unit_eq T.low T.high left_alone
             (one_range (start_rank T.rank T.low (R.start_bound range))
@@ -71,7 +80,7 @@ impl<T: Integer, V: Eq> RangeMapBlaze<T, V> {
     }
 }
 
-// The gaps of a table within the range from `start` up to `end`.
+// The gaps of a table within the range from `start` up to `end`, which are found when they are given.
 fn gaps_on<T: Integer, V: Eq>(table: &RangeTable<T, V>, start: T, end: T) -> Gaps<'_, T, V>
     requires { T.rank start ≤ℤ T.rank end }
     ensures { IsChosen unit_eq T.low T.high left_alone (one_range (T.rank start) (T.rank end))
@@ -86,7 +95,7 @@ fn gaps_on<T: Integer, V: Eq>(table: &RangeTable<T, V>, start: T, end: T) -> Gap
     }
 }
 
-// The keys above `end` up to `last`, by the first and the last of them, or None where there are none.
+// The first and the last key of those above `end` up to `last`, or `None` if there are none.
 fn keys_above<T: Integer>(end: T, last: T) -> Option<(T, T)>
     ensures { AreKeysFrom T.rank (T.rank end +ℤ pos 1) (T.rank last) result }
 {
@@ -98,7 +107,7 @@ fn keys_above<T: Integer>(end: T, last: T) -> Option<(T, T)>
     }
 }
 
-// The keys from `first` on that lie below `start`, by the first and the last of them, or None where there are none.
+// The first and the last key of those from `first` on below `start`, or `None` if there are none.
 fn keys_below<T: Integer>(first: T, start: T) -> Option<(T, T)>
     ensures { AreKeysFrom T.rank (T.rank first) (T.rank start -ℤ pos 1) result }
 {
@@ -154,7 +163,7 @@ impl<'a, T: Integer, V: Eq> DoubleEndedIterator for Gaps<'a, T, V> {
 
 impl<'a, T: Integer, V: Eq> FusedIterator for Gaps<'a, T, V> {}
 
-/// Every key of the type, with a reference to the value of a table or with none, as a stream.
+/// Every key of the type, as a stream: with a reference to its value in the table, or with `None`.
 fn with_gaps<T: Integer, V: Eq + Clone>(
     alloc: Global,
     table: &RangeTable<T, V>,
@@ -165,8 +174,16 @@ fn with_gaps<T: Integer, V: Eq + Clone>(
 }
 
 impl<T: Integer, V: Eq + Clone> RangeMapBlaze<T, V> {
-    /// Every key of the type: `Some` of a clone of its value where it has one, and `None`, a value too, elsewhere. Each entry's
-    /// value is cloned once. Refused memory leaves the map unchanged and drops the clones. It takes O(n) steps with n entries.
+    /// Returns a map with a value at every key of the key type. A key of this map has `Some` of a clone of its value, and every
+    /// other key has `None`, which is a value too. Each entry's value is cloned once.
+    ///
+    /// Allocates. If an allocation fails, this map is unchanged and the clones are dropped. O(n) for n entries.
+    ///
+    /// ```
+    /// let filled = map.fill_gaps()?;
+    /// filled.range_at(20); // Some((16..=29, None))
+    /// filled.range_at(30); // Some((30..=39, Some('c')))
+    /// ```
     pub fn fill_gaps(&self) -> Result<RangeMapBlaze<T, Option<V>>, AllocError>
         requires { ClonesAreAlike V.is_clone V.eq }
         ensures filled { IfOk result

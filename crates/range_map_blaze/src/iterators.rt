@@ -1,5 +1,5 @@
-//! A map's keys one by one, its keys as ranges, its entries by value; the entries that share a key with a range, the keys
-//! within bounds.
+//! Iterators over keys, values, ranges of keys and entries; the entries that share a key with a range, and the keys within
+//! bounds.
 ghost use Rattle.std.specs.Iterator.{item_count};
 ghost use Rattle.std.specs.Prelude.{◌≡◌, map, IfOk, ◌≤ℤ◌, ◌<ℤ◌, [], List};
 ghost use Rattle.blaze_int.specs.Bounds.{start_rank, end_rank};
@@ -32,8 +32,14 @@ use std::marker::Model;
 use std::ops::{RangeBounds, RangeInclusive};
 
 impl<T: Integer, V: Eq + Clone> RangeMapBlaze<T, V> {
-    /// The keys that have a value, ascending, each with its value. No call of the iterator takes memory. It takes one step, and
-    /// one for each key.
+    /// Returns an iterator over the keys that have a value, ascending, from both ends: each key with a reference to its value.
+    /// Neither the call nor the iterator allocates. The call is O(1), and each key is O(1).
+    ///
+    /// ```
+    /// let mut pairs = map.iter();
+    /// pairs.next(); // Some((10, 'a'))
+    /// pairs.next_back(); // Some((39, 'c'))
+    /// ```
     pub fn iter(&self) -> IterMap<T, &V, RangeValuesIter<'_, T, V>>
         ensures unopened { result ≡ unopened self.now.entries }
         ensures pairs { pairs_left T.of_rank (λ es. es) result
@@ -42,7 +48,14 @@ impl<T: Integer, V: Eq + Clone> RangeMapBlaze<T, V> {
         IterMap::of_table(&self.table)
     }
 
-    /// The keys that have a value, ascending. No call of the iterator takes memory. It takes one step, and one for each key.
+    /// Returns an iterator over the keys that have a value, ascending, from both ends. Neither the call nor the iterator
+    /// allocates. The call is O(1), and each key is O(1).
+    ///
+    /// ```
+    /// let mut keys = map.keys();
+    /// keys.next(); // Some(10)
+    /// keys.next_back(); // Some(39)
+    /// ```
     pub fn keys(&self) -> Keys<T, &V, RangeValuesIter<'_, T, V>>
         ensures unopened { result ≡ unopened self.now.entries }
         ensures keys { keys_left T.of_rank (λ es. es) result
@@ -51,8 +64,14 @@ impl<T: Integer, V: Eq + Clone> RangeMapBlaze<T, V> {
         Keys::of_table(&self.table)
     }
 
-    /// The value of each key that has one, in the order of the keys. No call of the iterator takes memory. It takes one step,
-    /// and one for each key.
+    /// Returns an iterator over the values, in the order of their keys, from both ends. It gives a reference to a value once for
+    /// each of its keys. Neither the call nor the iterator allocates. The call is O(1), and each key is O(1).
+    ///
+    /// ```
+    /// let mut values = map.values();
+    /// values.next(); // Some('a')
+    /// values.next_back(); // Some('c')
+    /// ```
     pub fn values(&self) -> Values<T, &V, RangeValuesIter<'_, T, V>>
         ensures unopened { result ≡ unopened self.now.entries }
         ensures values { values_left T.of_rank (λ es. es) result
@@ -63,8 +82,14 @@ impl<T: Integer, V: Eq + Clone> RangeMapBlaze<T, V> {
 }
 
 impl<T: Integer, V: Eq + Drop> RangeMapBlaze<T, V> {
-    /// The keys that have a value, ascending, by value. No value is cloned, and no call of the iterator takes memory. It takes
-    /// one step, and one for each key.
+    /// Returns an iterator over the keys that have a value, ascending, from both ends, and consumes the map. No value is cloned.
+    /// Neither the call nor the iterator allocates. The call is O(1), and each key is O(1).
+    ///
+    /// ```
+    /// let mut keys = map.into_keys();
+    /// keys.next(); // Some(10)
+    /// keys.next_back(); // Some(39)
+    /// ```
     pub fn into_keys(self) -> IntoKeys<T, V>
         ensures unopened { result ≡ unopened self.entries }
         ensures keys { keys_left T.of_rank (λ es. es) result
@@ -73,8 +98,17 @@ impl<T: Integer, V: Eq + Drop> RangeMapBlaze<T, V> {
         IntoKeys::new(self.table)
     }
 
-    /// The value of each key that has one, in the order of the keys, by value. It is cloned for every key but the last of a
-    /// range. After a refused clone the iterator has ended. It takes one step, and one for each key.
+    /// Returns an iterator over the values, in the order of their keys, from both ends, and consumes the map. Each key gives its
+    /// value; the last key that an entry gives gets the stored value, and the others a clone.
+    ///
+    /// The call does not allocate. If a clone fails to allocate, the iterator gives that error and ends. The call is O(1), and
+    /// each key is O(1) and a clone.
+    ///
+    /// ```
+    /// let mut values = map.into_values();
+    /// values.next(); // Some(Ok('a'))
+    /// values.next_back(); // Some(Ok('c'))
+    /// ```
     pub fn into_values(self) -> IntoValues<T, V>
         ensures unopened { result ≡ unopened self.entries }
         ensures values { values_left T.of_rank (λ es. es) result
@@ -91,7 +125,13 @@ impl<'a, T: Integer, V: Eq + Clone> IntoIterator for &'a RangeMapBlaze<T, V> {
 
     ghost into_iter_gives = { λ map iter. iter ≡ unopened map.now.entries };
 
-    /// The keys that have a value, ascending, each with its value.
+    /// Returns an iterator over the keys that have a value, ascending, from both ends: each key with a reference to its value.
+    /// Neither the call nor the iterator allocates. The call is O(1), and each key is O(1).
+    ///
+    /// ```
+    /// let mut pairs = (&map).into_iter();
+    /// pairs.next(); // Some((10, 'a'))
+    /// ```
     fn into_iter(self) -> IterMap<T, &'a V, RangeValuesIter<'a, T, V>> {
         self.iter()
     }
@@ -104,16 +144,31 @@ impl<T: Integer, V: Eq + Clone> IntoIterator for RangeMapBlaze<T, V> {
 
     ghost into_iter_gives = { λ map iter. iter ≡ unopened map.entries };
 
-    /// The keys that have a value, ascending, each with its value, which is cloned for every key but the last of a range.
-    /// After a refused clone the iterator has ended.
+    /// Returns an iterator over the keys that have a value, ascending, from both ends, and consumes the map. Each key comes with
+    /// its value; the last key that an entry gives gets the stored value, and the others a clone.
+    ///
+    /// The call does not allocate. If a clone fails to allocate, the iterator gives that error and ends. The call is O(1), and
+    /// each key is O(1) and a clone.
+    ///
+    /// ```
+    /// let mut pairs = map.into_iter();
+    /// pairs.next(); // Some(Ok((10, 'a')))
+    /// ```
     fn into_iter(self) -> IntoIterMap<T, V> {
         IntoIterMap::new(self.table)
     }
 }
 
 impl<T: Integer, V: Eq> RangeMapBlaze<T, V> {
-    /// Returns the ranges of the keys that have a value, ascending, from both ends. Touching ranges are one range, whatever their
-    /// values. No memory is allocated. The call takes O(1) steps, and going through all ranges takes O(n) steps with n entries.
+    /// Returns an iterator over the ranges of the keys that have a value, ascending, from both ends. Touching ranges are one
+    /// range, whatever their values. Neither the call nor the iterator allocates. The call is O(1), and all ranges together are
+    /// O(n) for n entries.
+    ///
+    /// ```
+    /// let mut ranges = map.ranges();
+    /// ranges.next(); // Some(10..=15)
+    /// ranges.next(); // Some(30..=39)
+    /// ```
     pub fn ranges(&self) -> MapRangesIter<'_, T, V>
         ensures { AreKeyRanges T.low T.high self.now.entries result }
     {
@@ -122,17 +177,30 @@ impl<T: Integer, V: Eq> RangeMapBlaze<T, V> {
 }
 
 impl<T: Integer, V: Eq + Drop> RangeMapBlaze<T, V> {
-    /// Returns the ranges of the keys that have a value, ascending, from both ends, and consumes the map. Touching ranges are one
-    /// range, whatever their values. No memory is allocated. The call takes O(1) steps, and going through all ranges takes O(n)
-    /// steps with n entries.
+    /// Returns an iterator over the ranges of the keys that have a value, ascending, from both ends, and consumes the map.
+    /// Touching ranges are one range, whatever their values. Neither the call nor the iterator allocates. The call is O(1), and
+    /// all ranges together are O(n) for n entries.
+    ///
+    /// ```
+    /// let mut ranges = map.into_ranges();
+    /// ranges.next_back(); // Some(30..=39)
+    /// ranges.next_back(); // Some(10..=15)
+    /// ```
     pub fn into_ranges(self) -> MapIntoRangesIter<T, V>
         ensures { AreKeyRanges T.low T.high self.entries result }
     {
         into_ranges_of(self.table)
     }
 
-    /// The entries by value, ascending, from both ends: each range with its value, which an `Rc` shares. All memory is taken
-    /// here, and none by the iterator. Refused memory drops the map. It takes O(n) steps with n entries.
+    /// Returns an iterator over the entries, ascending, from both ends, and consumes the map. Each range comes with its value in
+    /// an `Rc`. The call allocates for all entries, and the iterator does not allocate. If an allocation fails, the map is
+    /// dropped. O(n) for n entries.
+    ///
+    /// ```
+    /// let mut entries = map.into_range_values()?;
+    /// entries.next(); // Some((10..=14, 'a'))
+    /// entries.next_back(); // Some((30..=39, 'c'))
+    /// ```
     pub fn into_range_values(self) -> Result<IntoRangeValuesIter<T, V>, AllocError>
         ensures { IfOk result (λ iter. iter ≡ self.entries) }
     {
@@ -140,7 +208,8 @@ impl<T: Integer, V: Eq + Drop> RangeMapBlaze<T, V> {
     }
 }
 
-/// The entries of a map that share a key with a range, whole, ascending, from both ends: each range with its value.
+/// The entries of a map that share a key with a range, ascending, from both ends: each whole range with a reference to its value.
+/// No call of the iterator allocates. `RangeMapBlaze::overlapping` returns it.
 #[derive(Drop)]
 pub struct Overlapping<'a, T: Integer, V: Eq> {
     // None where the range has no key.
@@ -161,8 +230,17 @@ impl<'a, T: Integer, V: Eq> Model for Overlapping<'a, T, V> {
 }
 
 impl<T: Integer, V: Eq> RangeMapBlaze<T, V> {
-    /// The entries that share a key with a range, whole, ascending, lent, from both ends. Bounds that name no key give none. It
-    /// takes three searches, however many entries the map has, and no memory.
+    /// Returns an iterator over the entries that share a key with the range, ascending, from both ends: each range with a
+    /// reference to its value. The entries are whole: the first and the last may extend past the range. Bounds that name no key
+    /// give no entry.
+    ///
+    /// Neither the call nor the iterator allocates. The call is O(log n) for n entries, and each entry is O(1).
+    ///
+    /// ```
+    /// let mut entries = map.overlapping(12..=20);
+    /// entries.next(); // Some((10..=14, 'a'))
+    /// entries.next(); // Some((15..=15, 'b'))
+    /// ```
     pub fn overlapping<R: RangeBounds<T> + Drop>(&self, range: R) -> Overlapping<'_, T, V>
         ensures within { R.has_bounds range
             → start_rank T.rank T.low (R.start_bound range) ≤ℤ end_rank T.rank T.high
@@ -182,7 +260,8 @@ impl<T: Integer, V: Eq> RangeMapBlaze<T, V> {
     }
 }
 
-/// The entries of a table that share a key with the range from `start` up to `end`.
+/// The entries of a table that share a key with the range from `start` up to `end`. `overlapping`, `within` and `gaps` begin with
+/// it.
 pub(crate) fn entries_on<T: Integer, V: Eq>(
     table: &RangeTable<T, V>,
     start: T,
@@ -196,7 +275,7 @@ pub(crate) fn entries_on<T: Integer, V: Eq>(
     }
 }
 
-/// No entries.
+/// No entries. Bounds that name no key have no first and last key to look up.
 pub(crate) fn no_entries<'a, T: Integer, V: Eq>() -> Overlapping<'a, T, V>
     ensures { result ≡ [] }
 {
@@ -235,9 +314,20 @@ impl<'a, T: Integer, V: Eq> DoubleEndedIterator for Overlapping<'a, T, V> {
 impl<'a, T: Integer, V: Eq> FusedIterator for Overlapping<'a, T, V> {}
 
 impl<T: Integer, V: Eq + Clone> RangeMapBlaze<T, V> {
-    /// The keys within a range that have a value, ascending, each with a value of its own. The bounds name a key, as
-    /// `names_a_key` tells. It takes two searches, and a step for each entry within the range and at most one more, however
-    /// many entries the map has. Refused memory leaves the map unchanged.
+    /// Returns an iterator over the keys in the range that have a value, ascending, from both ends: each key with a value of its
+    /// own. It requires that the bounds name a key, as `names_a_key` says.
+    ///
+    /// The call clones the value of each entry in the range. The iterator clones it again for each key of the entry except the
+    /// last. If an allocation of the call fails, the map is unchanged. If an allocation of the iterator fails, it gives that
+    /// error and ends.
+    ///
+    /// The call is O(log n) for n entries, and O(1) for each entry in the range. Each key is O(1) and a clone.
+    ///
+    /// ```
+    /// let mut pairs = map.range(14..=15)?;
+    /// pairs.next(); // Some(Ok((14, 'a')))
+    /// pairs.next(); // Some(Ok((15, 'b')))
+    /// ```
     pub fn range<R: RangeBounds<T> + Drop>(&self, range: R) -> Result<IntoIterMap<T, V>, AllocError>
         requires named { R.has_bounds range
             → start_rank T.rank T.low (R.start_bound range) ≤ℤ end_rank T.rank T.high
@@ -262,7 +352,7 @@ impl<T: Integer, V: Eq + Clone> RangeMapBlaze<T, V> {
         Ok(map.into_iter())
     }
 
-    /// The map on the keys from `start` up to `end`.
+    /// The map of the keys from `start` up to `end`, with clones of their values.
     pub(crate) fn on_keys(&self, start: T, end: T) -> Result<Self, AllocError>
         requires order { T.rank start ≤ℤ T.rank end }
         requires clones { ClonesAreAlike V.is_clone V.eq }
@@ -275,8 +365,8 @@ impl<T: Integer, V: Eq + Clone> RangeMapBlaze<T, V> {
         Ok(RangeMapBlaze { table })
     }
 
-    /// The entries on the keys from `start` up to `end`, without their other keys, each with a clone of its value. It takes
-    /// two searches, and a step for each of them and at most one more.
+    /// The entries cut to the keys from `start` up to `end`, each with a clone of its value. O(log n) for n entries, and O(1) for
+    /// each entry in the range.
     pub(crate) fn clones_within(&self, start: T, end: T) -> Result<Vec<(T, T, V)>, AllocError>
         requires order { T.rank start ≤ℤ T.rank end }
         requires clones { ClonesAreAlike V.is_clone V.eq }

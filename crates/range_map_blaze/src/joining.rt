@@ -1,4 +1,5 @@
-//! Successive pairs joined to one before they are painted. A pair whose end is below its start has no key.
+//! Successive pairs that are joined before they are painted, since one paint costs less than two. A pair whose end is below its
+//! start has no key.
 ghost use Rattle.std.specs.Prelude.{◌≡◌, ◌<ℤ◌, ◌+ℤ◌, pos, int_le, [], ◌∷◌, ◌++◌, List, None};
 ghost use Rattle.std.specs.Prelude.{IfOk, OnOk, OnErr, option_map};
 ghost use Rattle.std.specs.Option.{option_to_list};
@@ -21,7 +22,7 @@ fn reaches<T: Integer>(end: T, start: T) -> bool
     is_at_most(start, end) || is_next(end, start)
 }
 
-// Whether two pairs are joined: their ranges touch or overlap, and their values are equal.
+// Whether two pairs are painted as one: their ranges touch or overlap, and their values are equal.
 fn are_joinable<T: Integer, V: Eq>(pair: &RangeEntry<T, V>, next: &RangeEntry<T, V>) -> bool
     ensures { result ≡ are_one_pair V.eq (shown_range_entry T.rank (λ v. v) pair.now)
         (shown_range_entry T.rank (λ v. v) next.now) }
@@ -49,7 +50,7 @@ fn join<T: Integer, V: Drop>(pair: RangeEntry<T, V>, next: RangeEntry<T, V>) -> 
 }
 
 impl<T: Integer, V: Eq + Clone> RangeMapBlaze<T, V> {
-    /// Paints a pair; one without a key paints nothing. Refused memory leaves the map unchanged.
+    /// Paints a pair; one without a key paints nothing. If an allocation fails, the map is unchanged.
     pub(crate) fn paint_pair(&mut self, pair: RangeEntry<T, V>) -> Result<(), AllocError>
         requires { ClonesAreAlike V.is_clone V.eq }
         ensures ok { OnOk result (IsPairPainted V.eq T.low T.high
@@ -65,7 +66,7 @@ impl<T: Integer, V: Eq + Clone> RangeMapBlaze<T, V> {
         Ok(())
     }
 
-    /// Paints the pending pair, if there is one. Refused memory leaves the map unchanged.
+    /// Paints the pending pair, if there is one. If an allocation fails, the map is unchanged.
     pub(crate) fn paint_pending(
         &mut self,
         pending: Option<RangeEntry<T, V>>,
@@ -85,8 +86,8 @@ impl<T: Integer, V: Eq + Clone> RangeMapBlaze<T, V> {
         }
     }
 
-    /// Takes the next pair: it is joined with the pending one, or the pending one is painted. Returns the pair that is
-    /// pending then, which is none after a reversed pair. Refused memory leaves the map unchanged.
+    /// Joins the next pair with the pending one, or paints the pending one. Returns the pair that is pending afterwards: `None`
+    /// after a pair without a key. If an allocation fails, the map is unchanged.
     pub(crate) fn take_pair(
         &mut self,
         pending: Option<RangeEntry<T, V>>,

@@ -1,4 +1,4 @@
-//! Joins of two maps, and a map with other values: what a closure returns, once for each segment or entry.
+//! Joins of two maps, and a map with other values: the results of a closure that is called once for each segment or entry.
 ghost use Rattle.std.specs.Prelude.{◌≡◌, true, IfOk};
 ghost use Rattle.blaze_streams.specs.Answers.{values, EachValue, IsCallableAtEachValue, IsTransformed};
 ghost use Rattle.blaze_streams.specs.JoinAnswers.{either, both, with_left, IsCallableAtSegments};
@@ -17,7 +17,8 @@ use blaze_streams::{
 use blaze_table::{RangeTable, push_entry};
 use std::alloc::{AllocError, Global};
 
-/// The map of a stream whose carriers are values: no value is cloned. Refused memory drops the stream.
+/// Returns the map of a stream whose carriers own their values, so that no value is cloned. Allocates. If an allocation fails,
+/// the stream is dropped. O(n) for n ranges.
 pub fn map_of<T: Integer, W: Eq + Clone>(
     alloc: Global,
     stream: CanonMapIter<T, Owned<W>>,
@@ -35,9 +36,9 @@ pub fn map_of<T: Integer, W: Eq + Clone>(
     Ok(RangeMapBlaze { table })
 }
 
-/// The map of a stream's ranges, each with what a closure returns at its value, with the arguments that `C` gives it: one call
-/// for each range, ascending. Touching ranges with equal results are one. If a call of the closure or an allocation fails, the
-/// closure is not called again, and the stream and the results are dropped.
+/// The map of a stream's ranges, each with the result of a closure at its value. `C` says which arguments the closure takes. It
+/// is called once for each range, ascending. Touching ranges with equal results become one. If a call of the closure or an
+/// allocation fails, the closure is not called again, and the stream and the results are dropped.
 fn map_of_answers<
     T: Integer,
     VC: ValueCarrier,
@@ -62,7 +63,7 @@ fn map_of_answers<
     Ok(RangeMapBlaze { table })
 }
 
-/// The map of a table's keys, each with what a closure returns at its entry's value, with the arguments that `C` gives it.
+/// The map of a table's keys, each with the result of a closure at its entry's value. `C` says which arguments the closure takes.
 pub(crate) fn transformed<
     'a,
     T: Integer,
@@ -79,7 +80,8 @@ pub(crate) fn transformed<
     map_of_answers::<_, _, _, W, F, C>(alloc, RangeValuesIter::new(table), f)
 }
 
-/// The segments of two tables that a join is asked for, each with what the two have there, as a stream.
+/// The segments of two tables at which a join calls its closure, as a stream: each with the values that the two tables have
+/// there.
 fn segments_of<'a, T: Integer, V: Eq + Clone, V2: Eq + Clone>(
     alloc: Global,
     table: &'a RangeTable<T, V>,
@@ -97,7 +99,7 @@ fn segments_of<'a, T: Integer, V: Eq + Clone, V2: Eq + Clone>(
     )
 }
 
-/// The map of what a closure returns at the segments of two tables that a join is asked for, with the arguments that `C` gives it.
+/// The map of the results of a closure at the segments of two tables. `C` says which arguments the closure takes.
 pub(crate) fn joined<
     'a,
     T: Integer,
@@ -124,9 +126,14 @@ pub(crate) fn joined<
 }
 
 impl<T: Integer, V: Eq + Clone> RangeMapBlaze<T, V> {
-    /// The keys of the map, each with what a closure returns at its entry's value: one call for each entry, ascending. Touching
-    /// entries with equal results are one. Refused memory leaves the map unchanged and drops what it returned. It takes O(n)
-    /// steps with n entries.
+    /// Returns the map with the same keys, each with the result of `f` at its entry's value. It calls `f` once for each entry,
+    /// ascending. Touching entries with equal results become one entry.
+    ///
+    /// Allocates. If an allocation fails, the map is unchanged and the results of `f` are dropped. O(n) for n entries.
+    ///
+    /// ```
+    /// map.transform_values(|value| value.to_ascii_uppercase())?; // (10..=14, 'A'), (15..=15, 'B'), (30..=39, 'C')
+    /// ```
     pub fn transform_values<W: Eq + Clone, F: FnMut(&V) -> W>(
         &self,
         f: F,
@@ -138,10 +145,15 @@ impl<T: Integer, V: Eq + Clone> RangeMapBlaze<T, V> {
         transformed::<T, V, W, F, Whole>(self.allocator(), &self.table, f)
     }
 
-    /// What a closure returns where both maps have a value: one call for each of the greatest ranges on which neither changes
-    /// and both are there, ascending. Touching equal results are one entry. Refused memory leaves both maps unchanged and drops
-    /// what it returned. With n entries in one map and m in the other it takes O(n + m) steps, and where m is small O(m) searches
-    /// and a step for each range that the closure is called for.
+    /// Returns the map with the results of `f` at the keys that have a value in both maps. It calls `f` once for each of the
+    /// longest ranges on which neither map changes, ascending. Touching ranges with equal results become one entry.
+    ///
+    /// Allocates. If an allocation fails, both maps are unchanged and the results of `f` are dropped. O(n + m) for n and m
+    /// entries. If one map has k entries, far fewer than the n of the other: O(k log n), and O(1) for each call of `f`.
+    ///
+    /// ```
+    /// map.inner_join(&other, |value, new| (*value, *new))?; // (12..=14, ('a', 'b')), (15..=15, ('b', 'b'))
+    /// ```
     pub fn inner_join<V2: Eq + Clone, W: Eq + Clone, F: FnMut(&V, &V2) -> W>(
         &self,
         other: &RangeMapBlaze<T, V2>,
@@ -161,9 +173,16 @@ impl<T: Integer, V: Eq + Clone> RangeMapBlaze<T, V> {
         )
     }
 
-    /// The same where this map has a value, with the other's where it has one. Refused memory leaves both maps unchanged and
-    /// drops what it returned. It takes O(n + m) steps with n entries here and m in the other map, and where n is small O(n)
-    /// searches and a step for each range that the closure is called for.
+    /// Returns the map with the results of `f` at the keys of this map. `f` gets the value of `other` too, where it has one. It
+    /// is called once for each of the longest ranges on which neither map changes, ascending. Touching ranges with equal results
+    /// become one entry.
+    ///
+    /// Allocates. If an allocation fails, both maps are unchanged and the results of `f` are dropped. O(n + m) for n entries here
+    /// and m in `other`. If n is far less than m: O(n log m), and O(1) for each call of `f`.
+    ///
+    /// ```
+    /// map.left_join(&other, |_, new| new.is_some())?; // (10..=11, false), (12..=15, true), (30..=39, false)
+    /// ```
     pub fn left_join<V2: Eq + Clone, W: Eq + Clone, F: FnMut(&V, Option<&V2>) -> W>(
         &self,
         other: &RangeMapBlaze<T, V2>,
@@ -183,8 +202,16 @@ impl<T: Integer, V: Eq + Clone> RangeMapBlaze<T, V> {
         )
     }
 
-    /// The same where at least one map has a value. Refused memory leaves both maps unchanged and drops what it returned. It
-    /// takes O(n + m) steps with n and m entries.
+    /// Returns the map with the results of `f` at the keys that have a value in at least one of the maps. `f` gets the value of
+    /// each map that has one. It is called once for each of the longest ranges on which neither map changes, ascending. Touching
+    /// ranges with equal results become one entry.
+    ///
+    /// Allocates. If an allocation fails, both maps are unchanged and the results of `f` are dropped. O(n + m) for n and m
+    /// entries.
+    ///
+    /// ```
+    /// map.full_join(&other, |old, new| old != new)?; // (10..=14, true), (15..=15, false), (30..=39, true)
+    /// ```
     pub fn full_join<V2: Eq + Clone, W: Eq + Clone, F: FnMut(Option<&V>, Option<&V2>) -> W>(
         &self,
         other: &RangeMapBlaze<T, V2>,

@@ -1,5 +1,4 @@
-//! The laws of pairs painted one by one, of filling one map from another, of keys taken out and put back, of joins of maps, of maps
-//! with what a closure returns at their values, and of a range changed by a function.
+//! The laws of bulk changes, of keys taken and put back, of joins and `transform_values`, and of a range changed by a function.
 ghost use Rattle.blaze_streams.specs.Carried.{shown_option};
 ghost use Rattle.blaze_streams.specs.JoinAnswers.{either, both, with_left};
 ghost use Rattle.range_map_blaze.specs.MapLaws.{AnswersAreOnItsKeys, FillingIsUnion, FullJoinIsInnerJoin};
@@ -11,8 +10,8 @@ ghost use Rattle.range_map_blaze.specs.UpdateLaws.{PartUpdatingIsByKeys, Removin
 use blaze_int::Integer;
 use std::alloc::AllocError;
 
-/// Pairs that are painted one by one, as `extend_from` and `extend_simple` do, leave what painting them in order gives: its
-/// content, at most two entries more for each pair, and what no pair touches.
+/// Pairs that are painted one by one, as `extend_from` and `extend_simple` do, leave the content that painting them in order
+/// gives. They leave at most two entries more for each pair, and every entry that no pair touches.
 pub fn painting_in_turn_extends<T: Integer, V: Eq>()
     ensures { PaintingInTurnExtends V.eq T.low T.high }
 {}
@@ -22,13 +21,13 @@ pub fn extend_absent_is_or<T: Integer, V: Eq>()
     ensures { FillingIsUnion V.eq T.low T.high }
 {}
 
-/// Where `a.ranges_take(..)` has returned `b`, `a.extend_from(b)` leaves the entries that `a` had before: the same ranges, with
+/// If `a.ranges_take(..)` returned `b`, then `a.extend_from(b)` leaves the entries that `a` had before: the same ranges, with
 /// equal values.
 pub fn extend_from_undoes_ranges_take<T: Integer, V: Eq>()
     ensures { TakingIsUndone V.eq T.low T.high }
 {}
 
-/// `transform_values` keeps the mapped keys, and so `len`.
+/// `transform_values` keeps the keys that have a value, and so `len`.
 pub fn transform_values_keeps_keys<T: Integer, V: Eq, W: Eq, F: FnMut(&V) -> W>()
     ensures { AnswersAreOnItsKeys (λ a. a.0.now) F.FnMut W.eq T.low T.high }
 {}
@@ -45,13 +44,13 @@ pub fn try_transform_values_is_transform_values<
     ensures { TryIsPlain (λ a. a.0.now) F.FnMut G.FnMut W.eq T.low T.high }
 {}
 
-/// `left_join` has the mapped keys of the left map, and so its `len`.
+/// `left_join` has the keys of the left map, and so its `len`.
 pub fn left_join_has_left_keys<T: Integer, V: Eq, V2: Eq, W: Eq, F: FnMut(&V, Option<&V2>) -> W>()
     ensures { LeftJoinIsOnTheLeftKeys (with_left (λ v. v.now) (λ v. v.now)) F.FnMut V.eq V2.eq
         W.eq T.low T.high }
 {}
 
-/// Of two universal maps, `full_join` and `inner_join` have the same ranges and equal values where their closures answer the
+/// For two universal maps, `full_join` and `inner_join` have the same ranges with equal values, if their closures return the
 /// same.
 pub fn full_join_is_inner_join<
     T: Integer,
@@ -65,8 +64,8 @@ pub fn full_join_is_inner_join<
         T.high (both (λ v. v.now) (λ v. v.now)) G.FnMut }
 {}
 
-/// `ranges_update` with a closure that returns what a plain function gives: each key of the range has afterwards what that function
-/// gives at what the key had.
+/// Let a closure return the results of a plain function. `ranges_update` with it changes key by key: each key of the range has
+/// afterwards the result of the function at its old value.
 pub fn updating_is_by_keys<
     T: Integer,
     V: Eq,
@@ -75,8 +74,8 @@ pub fn updating_is_by_keys<
     ensures { UpdatingIsByKeys (λ a. shown_option (λ v. v.now) a.0) F.FnMut V.eq T.low T.high }
 {}
 
-/// The same if an allocation fails between the edits: the keys up to the end of a piece have what the plain function gives, and the
-/// others what they had.
+/// Let a closure return the results of a plain function, and an allocation fail between two edits of `ranges_update`. The keys up
+/// to the end of a piece have the results of the function, and the others their old values.
 pub fn part_updating_is_by_keys<
     T: Integer,
     V: Eq,
@@ -94,8 +93,8 @@ pub fn inserting_is_updating<
     ensures { InsertingIsUpdating (λ a. shown_option (λ v. v.now) a.0) F.FnMut V.eq T.low T.high }
 {}
 
-/// `ranges_insert_absent(range, v)` leaves the entries that `ranges_update` leaves with a closure that returns what is there, and
-/// `Some(v)` where nothing is.
+/// `ranges_insert_absent(range, v)` leaves the entries that `ranges_update` leaves with a closure that returns the old value, and
+/// `Some(v)` where there is none.
 pub fn inserting_absent_is_updating<
     T: Integer,
     V: Eq,

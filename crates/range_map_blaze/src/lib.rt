@@ -1,4 +1,4 @@
-//! A map from integers to values, kept as the shortest ascending list of disjoint ranges.
+//! A map from integers to values, stored as ranges of keys with one value each, with machine-checked contracts.
 #![tactic(auto)]
 
 mod changes;

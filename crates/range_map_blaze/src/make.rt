@@ -1,4 +1,4 @@
-//! Maps made of pairs, painted in order, and of streams. The later pair wins.
+//! Maps made of pairs in order, where a later pair wins, and of streams.
 ghost use Rattle.std.specs.Iterator.{IsFiniteIterable};
 ghost use Rattle.std.specs.Prelude.{map, IfOk};
 ghost use Rattle.blaze_streams.specs.Ranges.{shown_range};
@@ -17,7 +17,7 @@ use blaze_table::RangeTable;
 use std::alloc::{AllocError, Global};
 use std::ops::RangeInclusive;
 
-/// The map of the pairs of an iterable, painted in order.
+/// The map of the pairs of an iterable, in order. All constructors from owned pairs call it.
 fn map_of<T: Integer, V: Eq + Clone, P: Pair<T, V>, I: IntoIterator<Item = P>>(
     alloc: Global,
     iter: I,
@@ -32,7 +32,7 @@ fn map_of<T: Integer, V: Eq + Clone, P: Pair<T, V>, I: IntoIterator<Item = P>>(
     map_of_pairs(alloc, pairs)
 }
 
-/// The map of the lent pairs of an iterable, painted in order.
+/// The map of the borrowed pairs of an iterable, in order. All constructors from borrowed pairs or values call it.
 fn map_of_lent<
     'a,
     T: Integer,
@@ -51,8 +51,12 @@ fn map_of_lent<
 }
 
 impl<T: Integer, V: Eq + Clone> RangeMapBlaze<T, V> {
-    /// The map of keys with values, in order: the later pair wins. It takes O(n log n) steps for n pairs, and one pass
-    /// where they ascend. Values are moved. Refused memory drops them.
+    /// Returns the map of the pairs, each a key with its value. A later pair replaces an earlier one. Values are moved.
+    /// Allocates. If an allocation fails, the pairs are dropped. O(p log p) for p pairs, or O(p) if they ascend.
+    ///
+    /// ```
+    /// RangeMapBlaze::from_points(alloc, [(3, 'a'), (1, 'a'), (2, 'b'), (2, 'a')])?; // (1..=3, 'a')
+    /// ```
     pub fn from_points<I: IntoIterator<Item = (T, V)>>(
         alloc: Global,
         iter: I,
@@ -66,10 +70,15 @@ impl<T: Integer, V: Eq + Clone> RangeMapBlaze<T, V> {
         map_of(alloc, iter)
     }
 
-    /// The map of ranges with values, in order: the later pair wins, and a pair whose range is reversed paints nothing. It
-    /// takes O(n log n) steps for n pairs, also where they lie in one another, and one pass where they ascend and are
-    /// disjoint. A value is cloned only where its range is cut into several pieces; else it is moved. Refused memory drops
-    /// the values.
+    /// Returns the map of the pairs, each a range with its value. A later pair replaces an earlier one. A pair whose start is
+    /// above its end has no key.
+    ///
+    /// A value is cloned only if its range is cut into several pieces; otherwise it is moved. Allocates. If an allocation fails,
+    /// the pairs are dropped. O(p log p) for p pairs, or O(p) if they ascend and are disjoint.
+    ///
+    /// ```
+    /// RangeMapBlaze::from_ranges(alloc, [(0..=9, 'a'), (5..=6, 'b')])?; // (0..=4, 'a'), (5..=6, 'b'), (7..=9, 'a')
+    /// ```
     pub fn from_ranges<I: IntoIterator<Item = (RangeInclusive<T>, V)>>(
         alloc: Global,
         iter: I,
@@ -83,8 +92,14 @@ impl<T: Integer, V: Eq + Clone> RangeMapBlaze<T, V> {
         map_of(alloc, iter)
     }
 
-    /// The same of keys with lent values: each entry has a clone of its value, and no other value is cloned. Refused memory
-    /// drops the clones.
+    /// Returns the map of the pairs, each a key with a reference to its value. A later pair replaces an earlier one. Each entry
+    /// has a clone of its value, and no other value is cloned.
+    ///
+    /// Allocates. If an allocation fails, the clones are dropped. O(p log p) for p pairs, or O(p) if they ascend.
+    ///
+    /// ```
+    /// RangeMapBlaze::from_points_ref_value(alloc, [(1, &'a'), (2, &'a')])?; // (1..=2, 'a')
+    /// ```
     pub fn from_points_ref_value<'a, I: IntoIterator<Item = (T, &'a V)>>(
         alloc: Global,
         iter: I,
@@ -102,7 +117,15 @@ impl<T: Integer, V: Eq + Clone> RangeMapBlaze<T, V> {
         map_of_lent(alloc, iter)
     }
 
-    /// The same of ranges with lent values, also where memory is refused.
+    /// Returns the map of the pairs, each a range with a reference to its value. A later pair replaces an earlier one. A pair
+    /// whose start is above its end has no key. Each entry has a clone of its value, and no other value is cloned.
+    ///
+    /// Allocates. If an allocation fails, the clones are dropped. O(p log p) for p pairs, or O(p) if they ascend and are
+    /// disjoint.
+    ///
+    /// ```
+    /// RangeMapBlaze::from_ranges_ref_value(alloc, [(0..=9, &'a'), (5..=9, &'b')])?; // (0..=4, 'a'), (5..=9, 'b')
+    /// ```
     pub fn from_ranges_ref_value<'a, I: IntoIterator<Item = (RangeInclusive<T>, &'a V)>>(
         alloc: Global,
         iter: I,
@@ -120,7 +143,15 @@ impl<T: Integer, V: Eq + Clone> RangeMapBlaze<T, V> {
         map_of_lent(alloc, iter)
     }
 
-    /// The same of lent pairs of a key and a value, also where memory is refused.
+    /// Returns the map of borrowed pairs, each a key with its value. A later pair replaces an earlier one. Each entry has a clone
+    /// of its value, and no other value is cloned.
+    ///
+    /// Allocates. If an allocation fails, the clones are dropped. O(p log p) for p pairs, or O(p) if they ascend.
+    ///
+    /// ```
+    /// let pairs = [(1, 'a'), (2, 'a')];
+    /// RangeMapBlaze::from_ref_points(alloc, &pairs)?; // (1..=2, 'a')
+    /// ```
     pub fn from_ref_points<'a, I: IntoIterator<Item = &'a (T, V)>>(
         alloc: Global,
         iter: I,
@@ -138,7 +169,16 @@ impl<T: Integer, V: Eq + Clone> RangeMapBlaze<T, V> {
         map_of_lent(alloc, iter)
     }
 
-    /// The same of lent pairs of a range and a value, also where memory is refused.
+    /// Returns the map of borrowed pairs, each a range with its value. A later pair replaces an earlier one. A pair whose start
+    /// is above its end has no key. Each entry has a clone of its value, and no other value is cloned.
+    ///
+    /// Allocates. If an allocation fails, the clones are dropped. O(p log p) for p pairs, or O(p) if they ascend and are
+    /// disjoint.
+    ///
+    /// ```
+    /// let pairs = [(0..=9, 'a'), (5..=9, 'b')];
+    /// RangeMapBlaze::from_ref_ranges(alloc, &pairs)?; // (0..=4, 'a'), (5..=9, 'b')
+    /// ```
     pub fn from_ref_ranges<'a, I: IntoIterator<Item = &'a (RangeInclusive<T>, V)>>(
         alloc: Global,
         iter: I,
@@ -156,7 +196,15 @@ impl<T: Integer, V: Eq + Clone> RangeMapBlaze<T, V> {
         map_of_lent(alloc, iter)
     }
 
-    /// The same of lent pairs of a key and a lent value, also where memory is refused.
+    /// Returns the map of borrowed pairs, each a key with a reference to its value. A later pair replaces an earlier one. Each
+    /// entry has a clone of its value, and no other value is cloned.
+    ///
+    /// Allocates. If an allocation fails, the clones are dropped. O(p log p) for p pairs, or O(p) if they ascend.
+    ///
+    /// ```
+    /// let pairs = [(1, &'a'), (2, &'a')];
+    /// RangeMapBlaze::from_ref_points_ref_value(alloc, &pairs)?; // (1..=2, 'a')
+    /// ```
     pub fn from_ref_points_ref_value<'a, I: IntoIterator<Item = &'a (T, &'a V)>>(
         alloc: Global,
         iter: I,
@@ -174,7 +222,16 @@ impl<T: Integer, V: Eq + Clone> RangeMapBlaze<T, V> {
         map_of_lent(alloc, iter)
     }
 
-    /// The same of lent pairs of a range and a lent value, also where memory is refused.
+    /// Returns the map of borrowed pairs, each a range with a reference to its value. A later pair replaces an earlier one. A
+    /// pair whose start is above its end has no key. Each entry has a clone of its value, and no other value is cloned.
+    ///
+    /// Allocates. If an allocation fails, the clones are dropped. O(p log p) for p pairs, or O(p) if they ascend and are
+    /// disjoint.
+    ///
+    /// ```
+    /// let pairs = [(0..=9, &'a'), (5..=9, &'b')];
+    /// RangeMapBlaze::from_ref_ranges_ref_value(alloc, &pairs)?; // (0..=4, 'a'), (5..=9, 'b')
+    /// ```
     pub fn from_ref_ranges_ref_value<'a, I: IntoIterator<Item = &'a (RangeInclusive<T>, &'a V)>>(
         alloc: Global,
         iter: I,
@@ -192,8 +249,12 @@ impl<T: Integer, V: Eq + Clone> RangeMapBlaze<T, V> {
         map_of_lent(alloc, iter)
     }
 
-    /// The map of an array of keys with values, in order: the later pair wins. Refused memory drops the pairs. It takes O(n log
-    /// n) steps for n pairs, and one pass where they ascend.
+    /// Returns the map of an array of pairs, each a key with its value. A later pair replaces an earlier one. Values are moved.
+    /// Allocates. If an allocation fails, the pairs are dropped. O(p log p) for p pairs, or O(p) if they ascend.
+    ///
+    /// ```
+    /// RangeMapBlaze::from_array(alloc, [(2, 'b'), (1, 'a'), (2, 'a')])?; // (1..=2, 'a')
+    /// ```
     pub fn from_array<const N: usize>(alloc: Global, items: [(T, V); N]) -> Result<Self, AllocError>
         requires { ClonesAreAlike V.is_clone V.eq }
         ensures { IfOk result (IsMade (IsCanonicalOf V.eq T.low T.high
@@ -204,8 +265,12 @@ impl<T: Integer, V: Eq + Clone> RangeMapBlaze<T, V> {
         Ok(new)
     }
 
-    /// The map of what is left of a stream, with a value of each carrier. Refused memory drops the stream. It takes O(n) steps
-    /// for n ranges.
+    /// Returns the map of the ranges that a stream has not yet given, each with the value of its carrier. A carrier that borrows
+    /// its value clones it. Allocates. If an allocation fails, the stream is dropped. O(n) for n ranges.
+    ///
+    /// ```
+    /// RangeMapBlaze::from_sorted_disjoint_map(alloc, map.range_values())?; // (10..=14, 'a'), (15..=15, 'b'), (30..=39, 'c')
+    /// ```
     pub fn from_sorted_disjoint_map<VC: ValueCarrier<Value = V>, I: SortedDisjointMap<T, VC>>(
         alloc: Global,
         stream: I,
@@ -224,9 +289,16 @@ impl<T: Integer, V: Eq + Clone> RangeMapBlaze<T, V> {
     }
 }
 
-/// A stream that a map can be made of.
+/// A stream that can become a map. Every `SortedDisjointMap` is one.
 pub trait IntoRangeMapBlaze<T: Integer, VC: ValueCarrier>: SortedDisjointMap<T, VC> {
-    /// The map of what is left of the stream, with a value of each carrier. Refused memory drops the stream.
+    /// Returns the map of the ranges that the stream has not yet given, each with the value of its carrier. A carrier that
+    /// borrows its value clones it. Allocates. If an allocation fails, the stream is dropped. O(n) for n ranges.
+    ///
+    /// ```
+    /// let mut entries = map.range_values();
+    /// entries.next(); // Some((10..=14, 'a'))
+    /// entries.into_range_map_blaze(alloc)?; // (15..=15, 'b'), (30..=39, 'c')
+    /// ```
     fn into_range_map_blaze(self, alloc: Global) -> Result<RangeMapBlaze<T, VC::Value>, AllocError>
     where
         Self: Sized,

@@ -1,4 +1,4 @@
-//! The map, and its look-ups by key.
+//! The map, and its lookups by key.
 ghost use Rattle.std.specs.Option.{option_copied};
 ghost use Rattle.std.specs.Prelude.{◌≡◌, ◌↔◌, ℤ, ◌≤ℤ◌, pos, [], length, IsTrue, IsSome, IfOk, Option, Some, None, MatchOption};
 ghost use Rattle.std.specs.Prelude.{IfSome, option_map, ◌+ℤ◌, find, int_le};
@@ -25,9 +25,18 @@ use std::alloc::{AllocError, Global};
 use std::marker::Model;
 use std::ops::{Index, RangeInclusive};
 
-/// A map from integers to values, kept as ranges: ascending, disjoint, and as few as there can be. Touching ranges with
-/// equal values are one range. Contracts see the list of entries with the work on it: looks at entries, entries put in and
-/// entries taken out.
+/// A map from integers to values, stored as entries: ranges of keys with one value each. The entries ascend, share no key and are
+/// as few as possible: touching ranges with equal values are one entry. Contracts see the list of entries, and count the entries
+/// that a call compared, inserted or removed.
+///
+/// The examples of the methods start from the values below; `alloc` is `rt.alloc()`. The comment behind a line is its result in
+/// debug form: the value of the expression, or the value that `let` names.
+///
+/// ```
+/// let mut map = RangeMapBlaze::from_ranges(alloc, [(10..=14, 'a'), (15..=15, 'b'), (30..=39, 'c')])?;
+/// let mut other = RangeMapBlaze::from_ranges(alloc, [(12..=15, 'b')])?;
+/// map; // (10..=14, 'a'), (15..=15, 'b'), (30..=39, 'c')
+/// ```
 #[derive(Drop)]
 pub struct RangeMapBlaze<T: Integer, V: Eq> {
     pub(crate) table: RangeTable<T, V>,
@@ -44,7 +53,11 @@ impl<T: Integer, V: Eq> Model for RangeMapBlaze<T, V> {
 }
 
 impl<T: Integer, V: Eq> RangeMapBlaze<T, V> {
-    /// The empty map. It takes no memory.
+    /// Returns the empty map. Does not allocate. O(1).
+    ///
+    /// ```
+    /// RangeMapBlaze::<i32, char>::new(alloc).is_empty(); // true
+    /// ```
     pub fn new(alloc: Global) -> Self
         ensures { result ≡ uncounted [] }
     {
@@ -53,14 +66,22 @@ impl<T: Integer, V: Eq> RangeMapBlaze<T, V> {
         }
     }
 
-    /// The empty map. It takes no memory.
+    /// Returns the empty map. Does not allocate. O(1).
+    ///
+    /// ```
+    /// RangeMapBlaze::<i32, char>::default(alloc).ranges_len(); // 0
+    /// ```
     pub fn default(alloc: Global) -> Self
         ensures { result ≡ uncounted [] }
     {
         Self::new(alloc)
     }
 
-    /// The number of keys that have a value. It takes one step.
+    /// Returns the number of keys that have a value. Does not allocate. O(1).
+    ///
+    /// ```
+    /// map.len(); // 16
+    /// ```
     pub fn len(&self) -> T::SafeLen
         ensures lengths { pos (T.SafeLen.number result) ≡ keys_in self.now.entries }
         ensures mapped { T.SafeLen.number result ≡ mapped_keys T.low T.high (at self.now.entries) }
@@ -68,14 +89,23 @@ impl<T: Integer, V: Eq> RangeMapBlaze<T, V> {
         self.table.len()
     }
 
-    /// Whether no key has a value. It takes one step.
+    /// Returns whether no key has a value. Does not allocate. O(1).
+    ///
+    /// ```
+    /// map.is_empty(); // false
+    /// ```
     pub fn is_empty(&self) -> bool
         ensures { IsTrue result ↔ (self.now.entries ≡ []) }
     {
         self.ranges_len() == 0
     }
 
-    /// Whether every key of the type has a value. It takes one step.
+    /// Returns whether every key of the key type has a value. Does not allocate. O(1).
+    ///
+    /// ```
+    /// map.is_universal(); // false
+    /// RangeMapBlaze::<i32, char>::universe_with(alloc, &'-')?.is_universal(); // true
+    /// ```
     pub fn is_universal(&self) -> bool
         ensures { IsTrue result ↔ ((k : ℤ) → T.low ≤ℤ k → k ≤ℤ T.high
             → IsSome (at self.now.entries k)) }
@@ -85,7 +115,11 @@ impl<T: Integer, V: Eq> RangeMapBlaze<T, V> {
         !differ(self.len(), length(first, last))
     }
 
-    /// The number of entries. They are the only shortest list with the map's content. It takes one step.
+    /// Returns the number of entries. No shorter list of ranges has the content of the map. Does not allocate. O(1).
+    ///
+    /// ```
+    /// map.ranges_len(); // 3
+    /// ```
     pub fn ranges_len(&self) -> usize
         ensures count { result ≡ length self.now.entries }
         ensures shortest { IsShortest V.eq self.now.entries }
@@ -95,7 +129,11 @@ impl<T: Integer, V: Eq> RangeMapBlaze<T, V> {
         self.table.entries()
     }
 
-    /// The number of entries, as `ranges_len`.
+    /// Returns the number of entries, as `ranges_len` does. Does not allocate. O(1).
+    ///
+    /// ```
+    /// map.range_values_len(); // 3
+    /// ```
     pub fn range_values_len(&self) -> usize
         ensures count { result ≡ length self.now.entries }
         ensures shortest { IsShortest V.eq self.now.entries }
@@ -103,14 +141,21 @@ impl<T: Integer, V: Eq> RangeMapBlaze<T, V> {
         self.ranges_len()
     }
 
-    /// The entries, ascending: each range with its value, from both ends. It takes one step, and one for each entry.
+    /// Returns an iterator over the entries, ascending, from both ends: each range with a reference to its value. Neither the
+    /// call nor the iterator allocates. The call is O(1), and each entry is O(1).
+    ///
+    /// ```
+    /// let mut entries = map.range_values();
+    /// entries.next(); // Some((10..=14, 'a'))
+    /// entries.next_back(); // Some((30..=39, 'c'))
+    /// ```
     pub fn range_values(&self) -> RangeValuesIter<'_, T, V>
         ensures { result ≡ self.now.entries }
     {
         RangeValuesIter::new(&self.table)
     }
 
-    /// The entries, ascending, as a stream that seeks.
+    /// Returns the entries, ascending, as a stream with a quick `seek`. Does not allocate. O(1).
     #[doc(hidden)]
     pub fn seeking_range_values(&self) -> SeekingRangeValuesIter<'_, T, V>
         ensures { result ≡ self.now.entries }
@@ -118,7 +163,8 @@ impl<T: Integer, V: Eq> RangeMapBlaze<T, V> {
         SeekingRangeValuesIter::new(&self.table)
     }
 
-    // The same entries, of which nothing is counted yet: a call that makes a map out of one that it was given ends with it.
+    // The map without its counts. A call that makes a map out of an owned one ends with it, since its contract says that nothing
+    // is counted yet.
     pub(crate) fn uncounted(self) -> Self
         ensures { result ≡ uncounted self.entries }
     {
@@ -127,12 +173,12 @@ impl<T: Integer, V: Eq> RangeMapBlaze<T, V> {
         }
     }
 
-    // The allocator of the map's memory.
+    // A new map allocates where this one does.
     pub(crate) fn allocator(&self) -> Global {
         self.table.allocator()
     }
 
-    /// Does nothing; its contract says that the list of entries is canonical and its ends are keys.
+    /// Does nothing at run time. Its contract says that the list of entries is canonical and that its ends are keys.
     pub fn in_hand(&self)
         ensures { IsRangeMap V.eq T.low T.high self.now.entries }
     {
@@ -141,7 +187,12 @@ impl<T: Integer, V: Eq> RangeMapBlaze<T, V> {
 }
 
 impl<T: Integer, V: Eq + Drop> RangeMapBlaze<T, V> {
-    /// Takes all entries out. No entry is counted. It takes O(n) steps with n entries.
+    /// Removes all keys. Does not allocate. O(n) for n entries.
+    ///
+    /// ```
+    /// map.clear();
+    /// map.is_empty(); // true
+    /// ```
     pub fn clear(&mut self)
         ensures { self.new ≡ record self.old { entries = [] } }
     {
@@ -150,8 +201,12 @@ impl<T: Integer, V: Eq + Drop> RangeMapBlaze<T, V> {
 }
 
 impl<T: Integer, V: Eq + Clone> RangeMapBlaze<T, V> {
-    /// A map of the same ranges, each with a clone of its value. Refused memory leaves this map unchanged. It takes O(n) steps
-    /// with n entries.
+    /// Returns a map of the same ranges, each with a clone of its value. Allocates. If an allocation fails, this map is
+    /// unchanged. O(n) for n entries.
+    ///
+    /// ```
+    /// map.clone()?; // (10..=14, 'a'), (15..=15, 'b'), (30..=39, 'c')
+    /// ```
     pub fn clone(&self) -> Result<Self, AllocError>
         requires { ClonesAreAlike V.is_clone V.eq }
         ensures { IfOk result (IsMade (SameEntries V.eq self.now.entries)) }
@@ -162,7 +217,12 @@ impl<T: Integer, V: Eq + Clone> RangeMapBlaze<T, V> {
 }
 
 impl<T: Integer, V: Eq> RangeMapBlaze<T, V> {
-    /// The value at a key. It takes O(log n) steps with n entries.
+    /// Returns the value at `key`, or `None`. Does not allocate. O(log n) for n entries.
+    ///
+    /// ```
+    /// map.get(12); // Some('a')
+    /// map.get(20); // None
+    /// ```
     pub fn get(&self, key: T) -> Option<&V>
         ensures { option_copied result ≡ at self.now.entries (T.rank key) }
     {
@@ -172,7 +232,11 @@ impl<T: Integer, V: Eq> RangeMapBlaze<T, V> {
         }
     }
 
-    /// A key that has a value, with its value. It takes O(log n) steps with n entries.
+    /// Returns `key` and its value, or `None` if the key has no value. Does not allocate. O(log n) for n entries.
+    ///
+    /// ```
+    /// map.get_key_value(12); // Some((12, 'a'))
+    /// ```
     pub fn get_key_value(&self, key: T) -> Option<(T, &V)>
         ensures { MatchOption result (at self.now.entries (T.rank key)
             ≡ None) (λ pair. (pair.0 ≡ key)
@@ -184,14 +248,25 @@ impl<T: Integer, V: Eq> RangeMapBlaze<T, V> {
         }
     }
 
-    /// Whether a key has a value. It takes O(log n) steps with n entries.
+    /// Returns whether `key` has a value. Does not allocate. O(log n) for n entries.
+    ///
+    /// ```
+    /// map.contains_key(12); // true
+    /// map.contains_key(20); // false
+    /// ```
     pub fn contains_key(&self, key: T) -> bool
         ensures { IsTrue result ↔ IsSome (at self.now.entries (T.rank key)) }
     {
         self.get(key).is_some()
     }
 
-    /// The entry that holds a key: its range and its value. It takes O(log n) steps with n entries.
+    /// Returns the entry that contains `key`: its range and its value. Returns `None` if the key has no value. Does not allocate.
+    /// O(log n) for n entries.
+    ///
+    /// ```
+    /// map.range_at(12); // Some((10..=14, 'a'))
+    /// map.range_at(20); // None
+    /// ```
     pub fn range_at(&self, key: T) -> Option<(RangeInclusive<T>, &V)>
         ensures entry { option_map (shown_range T.rank (λ v. v.now)) result
             ≡ entry_at self.now.entries (T.rank key) }
@@ -200,8 +275,13 @@ impl<T: Integer, V: Eq> RangeMapBlaze<T, V> {
         range_of(self.table.find(key))
     }
 
-    /// Returns the first entry that ends at a key or above it: its range and its value. It takes O(log n) steps with n entries:
-    /// one search if the key has a value, else two.
+    /// Returns the first entry that ends at `key` or above it: its range and its value. Does not allocate. O(log n) for n
+    /// entries: one search if the key has a value, and otherwise two.
+    ///
+    /// ```
+    /// map.range_at_or_above(20); // Some((30..=39, 'c'))
+    /// map.range_at_or_above(40); // None
+    /// ```
     pub fn range_at_or_above(&self, key: T) -> Option<(RangeInclusive<T>, &V)>
         ensures entry { option_map (shown_range T.rank (λ v. v.now)) result
             ≡ find (λ e. int_le (T.rank key) e.hi) self.now.entries }
@@ -210,7 +290,8 @@ impl<T: Integer, V: Eq> RangeMapBlaze<T, V> {
         range_of(self.entry_at_or_above(key))
     }
 
-    // The first entry that ends at a key or above it: its first key, last key and value.
+    // The first entry that ends at `key` or above it: first key, last key and value. The table finds the entry of a key or the
+    // next one above, but not either of them.
     pub(crate) fn entry_at_or_above(&self, key: T) -> Option<(T, T, &V)>
         ensures { option_map (shown_entry T.rank (λ v. v.now)) result
             ≡ find (λ e. int_le (T.rank key) e.hi) self.now.entries }
@@ -222,8 +303,13 @@ impl<T: Integer, V: Eq> RangeMapBlaze<T, V> {
         }
     }
 
-    /// Returns the last entry that starts at a key or below it: its range and its value. It takes O(log n) steps with n entries:
-    /// one search if the key has a value, else two.
+    /// Returns the last entry that starts at `key` or below it: its range and its value. Does not allocate. O(log n) for n
+    /// entries: one search if the key has a value, and otherwise two.
+    ///
+    /// ```
+    /// map.range_at_or_below(20); // Some((15..=15, 'b'))
+    /// map.range_at_or_below(9); // None
+    /// ```
     pub fn range_at_or_below(&self, key: T) -> Option<(RangeInclusive<T>, &V)>
         ensures entry { option_map (shown_range T.rank (λ v. v.now)) result
             ≡ last_below (T.rank key +ℤ pos 1) self.now.entries }
@@ -232,7 +318,8 @@ impl<T: Integer, V: Eq> RangeMapBlaze<T, V> {
         range_of(self.entry_at_or_below(key))
     }
 
-    // The last entry that starts at a key or below it: its first key, last key and value.
+    // The last entry that starts at `key` or below it: first key, last key and value. The table finds the entry of a key or the
+    // next one below, but not either of them.
     fn entry_at_or_below(&self, key: T) -> Option<(T, T, &V)>
         ensures { option_map (shown_entry T.rank (λ v. v.now)) result
             ≡ last_below (T.rank key +ℤ pos 1) self.now.entries }
@@ -244,8 +331,14 @@ impl<T: Integer, V: Eq> RangeMapBlaze<T, V> {
         }
     }
 
-    /// The entry that holds a key, or the greatest range of keys without a value that holds it, and `None`. On the empty map
-    /// that is the whole key type. It takes O(log n) steps with n entries.
+    /// Returns the entry that contains `key`: its range and its value. If the key has no value, returns the longest range around
+    /// it in which no key has a value, and `None`. In the empty map this range has every key of the key type. Does not allocate.
+    /// O(log n) for n entries.
+    ///
+    /// ```
+    /// map.range_or_gap_at(12); // (10..=14, Some('a'))
+    /// map.range_or_gap_at(20); // (16..=29, None)
+    /// ```
     pub fn range_or_gap_at(&self, key: T) -> (RangeInclusive<T>, Option<&V>)
         ensures entry { MatchOption result.1
             ((at self.now.entries (T.rank key) ≡ None)
@@ -265,7 +358,12 @@ impl<T: Integer, V: Eq> RangeMapBlaze<T, V> {
         }
     }
 
-    /// The least key that has a value, with its value. It takes O(log n) steps with n entries.
+    /// Returns the least key that has a value, and its value. Returns `None` for the empty map. Does not allocate. O(log n) for n
+    /// entries.
+    ///
+    /// ```
+    /// map.first_key_value(); // Some((10, 'a'))
+    /// ```
     pub fn first_key_value(&self) -> Option<(T, &V)>
         ensures { MatchOption result (self.now.entries
             ≡ []) (λ pair. IsFirstPair (at self.now.entries) (T.rank pair.0) pair.1.now) }
@@ -280,7 +378,12 @@ impl<T: Integer, V: Eq> RangeMapBlaze<T, V> {
         }
     }
 
-    /// The greatest key that has a value, with its value. It takes O(log n) steps with n entries.
+    /// Returns the greatest key that has a value, and its value. Returns `None` for the empty map. Does not allocate. O(log n)
+    /// for n entries.
+    ///
+    /// ```
+    /// map.last_key_value(); // Some((39, 'c'))
+    /// ```
     pub fn last_key_value(&self) -> Option<(T, &V)>
         ensures { MatchOption result (self.now.entries
             ≡ []) (λ pair. IsLastPair (at self.now.entries) (T.rank pair.0) pair.1.now) }
@@ -296,7 +399,7 @@ impl<T: Integer, V: Eq> RangeMapBlaze<T, V> {
     }
 }
 
-// The range and the value of an entry: first key, last key and value.
+// The range and the value of an entry, for users; the table gives first key, last key and value.
 fn range_of<T: Integer, V>(found: Option<(T, T, &V)>) -> Option<(RangeInclusive<T>, &V)>
     ensures entry { option_map (shown_range T.rank (λ v. v.now)) result
         ≡ option_map (shown_entry T.rank (λ v. v.now)) found.entry }
@@ -308,7 +411,12 @@ fn range_of<T: Integer, V>(found: Option<(T, T, &V)>) -> Option<(RangeInclusive<
     }
 }
 
-/// The value at a key. Condition: the key has one.
+/// `map[key]` is the value at `key`. It requires that the key has a value; `get` does not. Does not allocate. O(log n) for n
+/// entries.
+///
+/// ```
+/// map[12]; // 'a'
+/// ```
 impl<T: Integer, V: Eq> Index<T> for RangeMapBlaze<T, V> {
     type Output = V;
 

@@ -1,5 +1,4 @@
-//! Pairs of a key or a range with a value of one's own or a lent one, each as a first key, a last key and the value, and maps
-//! of lists of them.
+//! Pairs of a key or a range with an owned or a borrowed value, as first key, last key and value, and maps of lists of them.
 ghost use Rattle.std.specs.Iterator.{IsFiniteIterable};
 ghost use Rattle.std.specs.Prelude.{◌≡◌, [], ◌∷◌, ◌++◌, map, true, IfOk, OnOk};
 ghost use Rattle.blaze_streams.specs.Ranges.{shown_range};
@@ -46,7 +45,7 @@ impl<T: Integer, V: Drop> Pair<T, V> for (RangeInclusive<T>, V) {
     }
 }
 
-/// The pairs of an iterable, in order. Refused memory drops the rest of the iterable.
+/// The pairs of an iterable, in order. If an allocation fails, the other pairs are dropped.
 pub(crate) fn pairs_of<T: Integer, V: Drop, P: Pair<T, V>, I: IntoIterator<Item = P>>(
     alloc: Global,
     iter: I,
@@ -62,7 +61,7 @@ pub(crate) fn pairs_of<T: Integer, V: Drop, P: Pair<T, V>, I: IntoIterator<Item 
     Ok(pairs)
 }
 
-/// A key or a range with a value, where the pair or its value is lent.
+/// A key or a range with a value, where the pair or its value is borrowed.
 pub trait LentPair<'a, T: Integer, V>: Drop {
     // The pair as an entry.
     ghost pair: { Self → Entry V };
@@ -127,7 +126,7 @@ impl<'a, T: Integer, V> LentPair<'a, T, V> for &'a (RangeInclusive<T>, &'a V) {
     }
 }
 
-/// The pairs of an iterable, in order. Refused memory drops the rest of the iterable.
+/// The pairs of an iterable, in order. If an allocation fails, the other pairs are dropped.
 pub(crate) fn lent_pairs_of<'a, T: Integer, V, P: LentPair<'a, T, V>, I: IntoIterator<Item = P>>(
     alloc: Global,
     iter: I,
@@ -144,7 +143,7 @@ pub(crate) fn lent_pairs_of<'a, T: Integer, V, P: LentPair<'a, T, V>, I: IntoIte
     Ok(pairs)
 }
 
-/// The map of pairs painted in order. A value is cloned only where its pair is cut into several pieces.
+/// The map of pairs painted in order. A value is cloned only if its pair is cut into several pieces.
 pub(crate) fn map_of_pairs<T: Integer, V: Eq + Clone>(
     alloc: Global,
     pairs: Vec<(T, T, V)>,
@@ -157,7 +156,7 @@ pub(crate) fn map_of_pairs<T: Integer, V: Eq + Clone>(
     Ok(RangeMapBlaze { table })
 }
 
-/// Puts a clone of a value behind a list, from `start` to `end`.
+/// Appends a clone of a value to a list, at the keys from `start` up to `end`.
 pub(crate) fn push_clone<T: Integer, V: Eq + Clone>(
     entries: &mut Vec<(T, T, V)>,
     start: T,
@@ -172,7 +171,7 @@ pub(crate) fn push_clone<T: Integer, V: Eq + Clone>(
     Ok(())
 }
 
-/// Entries with clones of the lent values.
+/// Entries with clones of borrowed values.
 fn cloned<T: Integer, V: Eq + Clone>(
     alloc: Global,
     lent: Vec<(T, T, &V)>,
@@ -189,7 +188,7 @@ fn cloned<T: Integer, V: Eq + Clone>(
     Ok(entries)
 }
 
-/// The map of pairs painted in order, of which the values are lent: each entry has a clone of its value.
+/// The map of pairs with borrowed values, painted in order. Only what remains is cloned: the value of each entry.
 pub(crate) fn map_of_lent_pairs<T: Integer, V: Eq + Clone>(
     alloc: Global,
     pairs: Vec<(T, T, &V)>,

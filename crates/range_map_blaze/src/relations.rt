@@ -1,4 +1,4 @@
-//! Questions about the keys of two maps, or of a map and a set. Nothing takes memory.
+//! Relations between the keys of two maps, or of a map and a set. No call allocates.
 ghost use Rattle.std.specs.Prelude.{◌↔◌, IsTrue};
 ghost use Rattle.range_map_blaze.specs.Relations.{ShareNoKey, HasKeysOf};
 
@@ -8,7 +8,7 @@ use blaze_int::compare::is_below;
 use blaze_streams::{Cursor, SeekingRangeValuesIter};
 use blaze_table::{RangeSetBlaze, RangeTable};
 
-// Whether no key has a value in both tables. The one that is behind passes over what ends below the other's next key.
+// Whether no key has a value in both tables. The cursor that lags skips the entries that end below the other's next key.
 fn share_no_key<T: Integer, V: Eq + Clone, W: Eq + Clone>(
     left: &RangeTable<T, V>,
     right: &RangeTable<T, W>,
@@ -31,8 +31,8 @@ fn share_no_key<T: Integer, V: Eq + Clone, W: Eq + Clone>(
     true
 }
 
-// Whether each key that has a value in the right table has one in the left. Either passes over what the other's next entry
-// decides.
+// Whether each key that has a value in the right table has one in the left. Each cursor skips the entries that the other's next
+// entry decides.
 fn has_keys_of<T: Integer, V: Eq + Clone, W: Eq + Clone>(
     left: &RangeTable<T, V>,
     right: &RangeTable<T, W>,
@@ -59,12 +59,14 @@ fn has_keys_of<T: Integer, V: Eq + Clone, W: Eq + Clone>(
 }
 
 impl<T: Integer, V: Eq + Clone> RangeMapBlaze<T, V> {
-    /// Returns whether this map and `other` have no key in common: no key has a value in both. Values are not compared, and may
-    /// have different types.
+    /// Returns whether no key has a value in both maps. Values are not compared, and may have different types.
     ///
-    /// It allocates nothing, and stops at the first key that is in both maps. It takes O(n log m) steps at most, where n is the
-    /// number of entries of the smaller map and m that of the larger one. A map that is behind steps over a few entries, and
-    /// searches only then.
+    /// Does not allocate, and stops at the first key that both maps have. O(n log m) at most, for n entries in the smaller map
+    /// and m in the larger one. The cursor that lags steps a few entries, then searches.
+    ///
+    /// ```
+    /// map.is_disjoint(&other); // false
+    /// ```
     pub fn is_disjoint<V2: Eq + Clone>(&self, other: &RangeMapBlaze<T, V2>) -> bool
         ensures { IsTrue result ↔ ShareNoKey self.now.entries other.now.entries }
     {
@@ -73,30 +75,44 @@ impl<T: Integer, V: Eq + Clone> RangeMapBlaze<T, V> {
 
     /// Returns whether no key of the set `keys` has a value in this map.
     ///
-    /// It allocates nothing, and stops at the first key that is in both. It takes O(n log m) steps at most, where n is the
-    /// smaller of the number of entries and the number of ranges, and m the larger one.
+    /// Does not allocate, and stops at the first key that both have. O(n log m) at most, for n the smaller of the numbers of
+    /// entries and ranges, and m the larger one.
+    ///
+    /// ```
+    /// let keys = RangeSetBlaze::from_ranges(alloc, [0..=9, 20..=29])?;
+    /// map.is_disjoint_from_set(&keys); // true
+    /// ```
     pub fn is_disjoint_from_set(&self, keys: &RangeSetBlaze<T>) -> bool
         ensures { IsTrue result ↔ ShareNoKey self.now.entries keys.now }
     {
         share_no_key(&self.table, keys.as_table())
     }
 
-    /// Returns whether every key that has a value in `other` has one in this map. An empty `other` is covered by every map. Values
-    /// are not compared, and may have different types. One entry of `other` may span several entries of this map that touch.
+    /// Returns whether every key that has a value in `other` has one in this map. Every map covers an empty `other`. Values are
+    /// not compared, and may have different types. One entry of `other` may span several entries of this map that touch.
     ///
-    /// It allocates nothing, and stops at the first key of `other` that has no value here. It takes O(n log m) steps at most,
-    /// where n is the number of entries of the smaller map and m that of the larger one. A map that is behind steps over a few
-    /// entries, and searches only then.
+    /// Does not allocate, and stops at the first key of `other` that has no value here. O(n log m) at most, for n entries in the
+    /// smaller map and m in the larger one. The cursor that lags steps a few entries, then searches.
+    ///
+    /// ```
+    /// map.covers(&other); // true
+    /// other.covers(&map); // false
+    /// ```
     pub fn covers<V2: Eq + Clone>(&self, other: &RangeMapBlaze<T, V2>) -> bool
         ensures { IsTrue result ↔ HasKeysOf self.now.entries other.now.entries }
     {
         has_keys_of(&self.table, &other.table)
     }
 
-    /// Returns whether every key of the set `keys` has a value in this map. The empty set is covered by every map.
+    /// Returns whether every key of the set `keys` has a value in this map. Every map covers the empty set.
     ///
-    /// It allocates nothing, and stops at the first key of the set that has no value here. It takes O(n log m) steps at most,
-    /// where n is the smaller of the number of entries and the number of ranges, and m the larger one.
+    /// Does not allocate, and stops at the first key of the set that has no value here. O(n log m) at most, for n the smaller of
+    /// the numbers of entries and ranges, and m the larger one.
+    ///
+    /// ```
+    /// let keys = RangeSetBlaze::from_ranges(alloc, [12..=15])?;
+    /// map.covers_set(&keys); // true
+    /// ```
     pub fn covers_set(&self, keys: &RangeSetBlaze<T>) -> bool
         ensures { IsTrue result ↔ HasKeysOf self.now.entries keys.now }
     {

@@ -1,4 +1,4 @@
-//! The keys of a range taken out of a map, as a map of their own.
+//! The keys of a range, moved to a map.
 ghost use Rattle.std.specs.Prelude.{◌≡◌, ◌↔◌, ◌≤ℤ◌, [], IfOk, IsTrue, Ok, OnErr, OnOk};
 ghost use Rattle.blaze_int.specs.Bounds.{start_rank, end_rank};
 ghost use Rattle.blaze_table.specs.Counted.{uncounted};
@@ -15,12 +15,16 @@ use std::alloc::AllocError;
 use std::ops::RangeBounds;
 
 impl<T: Integer, V: Eq + Clone> RangeMapBlaze<T, V> {
-    /// Takes the keys of a range out, and returns them as a map. Bounds that name no key take nothing out.
+    /// Removes every key in the range, and returns the map of them. Bounds that name no key change nothing.
     ///
-    /// The returned map has clones of the values, one for each of its entries; `split_off` moves them instead. All memory is
-    /// taken before the first change: if an allocation fails, the map is unchanged and nothing is returned. Where no key of the
-    /// range has a value, nothing is allocated. It takes O(log n) steps for each entry that shares a key with the range, with n
-    /// entries in the map.
+    /// The returned map has clones of the values, one for each of its entries; `split_off` moves them instead. All allocations
+    /// come before the first change: if one fails, the map is unchanged. Does not allocate if no key in the range has a value.
+    /// O(log n) for n entries, and O(log n) for each entry that shares a key with the range.
+    ///
+    /// ```
+    /// map.ranges_take(12..=21)?; // (12..=14, 'a'), (15..=15, 'b')
+    /// map; // (10..=11, 'a'), (30..=39, 'c')
+    /// ```
     pub fn ranges_take<R: RangeBounds<T> + Drop>(&mut self, range: R) -> Result<Self, AllocError>
         requires { ClonesAreAlike V.is_clone V.eq }
         ensures ok { R.has_bounds range → IfOk result (λ taken. AreKeysTaken V.eq T.low T.high
@@ -44,7 +48,7 @@ impl<T: Integer, V: Eq + Clone> RangeMapBlaze<T, V> {
         }
     }
 
-    // Takes the keys from `start` up to `end` out.
+    // Removes the keys from `start` up to `end`. The clones come first, so that a failed allocation leaves the map unchanged.
     fn take_keys(&mut self, start: T, end: T) -> Result<Self, AllocError>
         requires order { T.rank start ≤ℤ T.rank end }
         requires clones { ClonesAreAlike V.is_clone V.eq }
@@ -65,7 +69,7 @@ impl<T: Integer, V: Eq + Clone> RangeMapBlaze<T, V> {
         Ok(taken.uncounted())
     }
 
-    // Whether no key from `start` up to `end` has a value.
+    // Whether no key from `start` up to `end` has a value. `ranges_take` then neither allocates nor counts work.
     fn is_free(&self, start: T, end: T) -> bool
         requires { T.rank start ≤ℤ T.rank end }
         ensures { IsTrue result ↔ IsClearFrom (at self.now.entries) (T.rank start) (T.rank end) }

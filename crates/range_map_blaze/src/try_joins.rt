@@ -14,10 +14,15 @@ use blaze_streams::{Both, Either, Fallible, JoinKind, Whole, WithLeft};
 use std::alloc::AllocError;
 
 impl<T: Integer, V: Eq + Clone> RangeMapBlaze<T, V> {
-    /// Returns a map of the same keys, each with what `f` returns at its entry's value. `f` may fail to allocate. It is called
-    /// once for each entry, ascending. Touching entries with equal results become one entry. The first `Err` of `f` is returned:
-    /// `f` is not called again. On any `Err` the map is unchanged and the results of `f` are dropped. Takes O(n) time with n
-    /// entries.
+    /// Returns the map with the same keys, each with the result of `f` at its entry's value. `f` may fail to allocate. It is
+    /// called once for each entry, ascending. Touching entries with equal results become one entry.
+    ///
+    /// Allocates. The first `Err` of `f` is returned, and `f` is not called again. On any `Err` the map is unchanged and the
+    /// results of `f` are dropped. O(n) for n entries.
+    ///
+    /// ```
+    /// map.try_transform_values(|value| format!(in alloc; "{value}!"))?; // (10..=14, "a!"), (15..=15, "b!"), (30..=39, "c!")
+    /// ```
     pub fn try_transform_values<W: Eq + Clone, F: FnMut(&V) -> Result<W, AllocError>>(
         &self,
         f: F,
@@ -30,11 +35,17 @@ impl<T: Integer, V: Eq + Clone> RangeMapBlaze<T, V> {
         transformed::<T, V, W, F, Fallible<Whole>>(self.allocator(), &self.table, f)
     }
 
-    /// Returns what `f` returns where both maps have a value. `f` may fail to allocate. It is called once for each of the
-    /// greatest ranges on which both maps have a value and neither changes, ascending. Touching ranges with equal results become
-    /// one entry. The first `Err` of `f` is returned: `f` is not called again. On any `Err` both maps are unchanged and the
-    /// results of `f` are dropped. Takes O(n + m) time with n and m entries. Where one map has k entries, far fewer than the n of
-    /// the other, it takes O(k log n), and O(1) for each call of `f`.
+    /// Returns the map with the results of `f` at the keys that have a value in both maps. `f` may fail to allocate. It is called
+    /// once for each of the longest ranges on which neither map changes, ascending. Touching ranges with equal results become one
+    /// entry.
+    ///
+    /// Allocates. The first `Err` of `f` is returned, and `f` is not called again. On any `Err` both maps are unchanged and the
+    /// results of `f` are dropped. O(n + m) for n and m entries. If one map has k entries, far fewer than the n of the other: O(k
+    /// log n), and O(1) for each call of `f`.
+    ///
+    /// ```
+    /// map.try_inner_join(&other, |value, new| format!(in alloc; "{value}{new}"))?; // (12..=14, "ab"), (15..=15, "bb")
+    /// ```
     pub fn try_inner_join<
         V2: Eq + Clone,
         W: Eq + Clone,
@@ -54,11 +65,17 @@ impl<T: Integer, V: Eq + Clone> RangeMapBlaze<T, V> {
         )
     }
 
-    /// Returns what `f` returns where this map has a value, with the other map's value where it has one. `f` may fail to
-    /// allocate. It is called once for each of the greatest ranges on which this map has a value and neither map changes,
-    /// ascending. Touching ranges with equal results become one entry. The first `Err` of `f` is returned: `f` is not called
-    /// again. On any `Err` both maps are unchanged and the results of `f` are dropped. Takes O(n + m) time with n entries here
-    /// and m in the other map. Where n is far less than m, it takes O(n log m), and O(1) for each call of `f`.
+    /// Returns the map with the results of `f` at the keys of this map. `f` gets the value of `other` too, where it has one, and
+    /// may fail to allocate. It is called once for each of the longest ranges on which neither map changes, ascending. Touching
+    /// ranges with equal results become one entry.
+    ///
+    /// Allocates. The first `Err` of `f` is returned, and `f` is not called again. On any `Err` both maps are unchanged and the
+    /// results of `f` are dropped. O(n + m) for n entries here and m in `other`. If n is far less than m: O(n log m), and O(1)
+    /// for each call of `f`.
+    ///
+    /// ```
+    /// map.try_left_join(&other, |value, new| format!(in alloc; "{value}{}", new.is_some()))?; // (10..=11, "afalse"), (12..=14, "atrue"), (15..=15, "btrue"), (30..=39, "cfalse")
+    /// ```
     pub fn try_left_join<
         V2: Eq + Clone,
         W: Eq + Clone,
@@ -79,10 +96,16 @@ impl<T: Integer, V: Eq + Clone> RangeMapBlaze<T, V> {
         )
     }
 
-    /// Returns what `f` returns where at least one map has a value. `f` may fail to allocate. It is called once for each of the
-    /// greatest ranges on which at least one map has a value and neither changes, ascending. Touching ranges with equal results
-    /// become one entry. The first `Err` of `f` is returned: `f` is not called again. On any `Err` both maps are unchanged and
-    /// the results of `f` are dropped. Takes O(n + m) time with n and m entries.
+    /// Returns the map with the results of `f` at the keys that have a value in at least one of the maps. `f` gets the value of
+    /// each map that has one, and may fail to allocate. It is called once for each of the longest ranges on which neither map
+    /// changes, ascending. Touching ranges with equal results become one entry.
+    ///
+    /// Allocates. The first `Err` of `f` is returned, and `f` is not called again. On any `Err` both maps are unchanged and the
+    /// results of `f` are dropped. O(n + m) for n and m entries.
+    ///
+    /// ```
+    /// map.try_full_join(&other, |old, new| Ok(old != new))?; // (10..=14, true), (15..=15, false), (30..=39, true)
+    /// ```
     pub fn try_full_join<
         V2: Eq + Clone,
         W: Eq + Clone,

@@ -1,5 +1,5 @@
-//! A range of keys changed by a function of what the map has there: the function is asked at every piece of the range, and then
-//! the pieces are edited.
+//! A range of keys changed by a function. The function is called at every piece of the range first, and then the pieces are
+//! edited, so that an error of the function changes nothing.
 ghost use Rattle.std.specs.Option.{option_eq};
 ghost use Rattle.std.specs.Prelude.{◌≡◌, ◌⊎◌, ◌<ℤ◌, ◌≤ℤ◌, ℤ, pos, ◌+ℤ◌, Some, None, Ok, IfOk, OnOk, OnErr};
 ghost use Rattle.blaze_int.specs.Bounds.{start_rank, end_rank};
@@ -23,17 +23,23 @@ use std::alloc::AllocError;
 use std::ops::RangeBounds;
 
 impl<T: Integer, V: Eq + Clone> RangeMapBlaze<T, V> {
-    /// Changes the keys of a range by a function of what the map has there.
+    /// Changes the keys in the range by a function of their values.
     ///
-    /// The pieces of the range are the greatest ranges within it on which the map is constant: its entries, cut to the range, and
-    /// its gaps. `f` is called once for each piece, ascending, with the stored value, or `None` at a gap. What it returns is the
-    /// value of all keys of the piece afterwards; `None` leaves them without a value. All calls are made before the map is edited.
-    /// Bounds that name no key change nothing and call nothing.
+    /// The pieces of the range are the longest ranges within it on which the map does not change: its entries and its gaps, cut
+    /// to the range. It calls `f` once for each piece, ascending, with the stored value, or with `None` for a gap. What `f`
+    /// returns is the value of all keys of the piece afterwards; `None` leaves them without a value. All calls are made before
+    /// the map is edited. Bounds that name no key call and change nothing.
     ///
-    /// A piece whose result equals what is there takes no edit and no memory. If a call returns `Err`, or the list of results can't
-    /// be allocated, the map is unchanged. If a later allocation fails, the pieces up to the end of one of them have their new
-    /// values, and those above it their old ones. The cost is O(log n) for a map with n entries, a step for each piece, and
-    /// O(log n) for each edit and each entry that an edit removes.
+    /// A piece whose result equals its old value is not edited and does not allocate. If `f` returns `Err`, or the list of
+    /// results can't be allocated, the map is unchanged. If a later allocation fails, the pieces up to one of them have their new
+    /// values, and those above it their old ones.
+    ///
+    /// O(log n) for n entries, O(1) for each piece, and O(log n) for each edit and each entry that an edit removes.
+    ///
+    /// ```
+    /// map.ranges_update(12..=17, |old| { Ok(Some(old.map_or('-', |value| value.to_ascii_uppercase()))) })?;
+    /// map; // (10..=11, 'a'), (12..=14, 'A'), (15..=15, 'B'), (16..=17, '-'), (30..=39, 'c')
+    /// ```
     pub fn ranges_update<
         R: RangeBounds<T> + Drop,
         F: FnMut(Option<&V>) -> Result<Option<V>, AllocError>,
@@ -90,7 +96,7 @@ impl<T: Integer, V: Eq + Clone> RangeMapBlaze<T, V> {
         self.apply_edits(edits)
     }
 
-    // What a function returns at the pieces of the keys from `start` up to `end`, as edits.
+    // The results of a function at the pieces of the keys from `start` up to `end`, as edits.
     fn edits_between<F: FnMut(Option<&V>) -> Result<Option<V>, AllocError>>(
         &self,
         start: T,
@@ -107,7 +113,7 @@ impl<T: Integer, V: Eq + Clone> RangeMapBlaze<T, V> {
     }
 }
 
-// What a function returns at the pieces that it was asked at.
+// The results of a function at the pieces so far.
 #[derive(Drop)]
 struct Asking<T: Integer, V, F> {
     // Each range with the value that its keys get, or none, ascending. Pieces that keep what they have are left out.
@@ -120,7 +126,7 @@ impl<T: Integer, V: Eq + Clone, F: FnMut(Option<&V>) -> Result<Option<V>, AllocE
     V,
     F,
 > {
-    // Asks the function at the piece from `start` up to `end`, which has the value `old`, or none.
+    // Calls the function at the piece from `start` up to `end`, which has the value `old`, or none.
     fn ask(&mut self, start: T, end: T, old: Option<&V>) -> Result<(), AllocError>
         requires { TakesValue (λ a. shown_option (λ v. v.now) a.0) F.FnMut self.old.f
             (shown_option (λ v. v.now) old) }
@@ -135,7 +141,7 @@ impl<T: Integer, V: Eq + Clone, F: FnMut(Option<&V>) -> Result<Option<V>, AllocE
         Ok(())
     }
 
-    // Asks the function at the keys from `next` on that lie below `start`, if there are any. They are a gap.
+    // Calls the function at the keys from `next` on below `start`, if there are any. They are a gap.
     fn ask_below(&mut self, next: Option<T>, start: T) -> Result<(), AllocError>
         requires { rank_or_end T.rank T.high next <ℤ T.rank start
             → TakesValue (λ a. shown_option (λ v. v.now) a.0) F.FnMut self.old.f None }
@@ -154,7 +160,7 @@ impl<T: Integer, V: Eq + Clone, F: FnMut(Option<&V>) -> Result<Option<V>, AllocE
         Ok(())
     }
 
-    // Asks the function at the keys from `next` up to `end`, if there are any. They are a gap.
+    // Calls the function at the keys from `next` up to `end`, if there are any. They are a gap.
     fn ask_up_to(&mut self, next: Option<T>, end: T) -> Result<(), AllocError>
         requires { rank_or_end T.rank T.high next <ℤ (T.rank end +ℤ pos 1)
             → TakesValue (λ a. shown_option (λ v. v.now) a.0) F.FnMut self.old.f None }
@@ -172,8 +178,8 @@ impl<T: Integer, V: Eq + Clone, F: FnMut(Option<&V>) -> Result<Option<V>, AllocE
         Ok(())
     }
 
-    // Asks the function at the entries of a table on the keys from `start` up to `end` and at the gaps between them, and returns
-    // the first key behind them, or none where there is none.
+    // Calls the function at the entries of a table on the keys from `start` up to `end`, and at the gaps between them. Returns
+    // the first key above them, or `None` if there is none.
     fn ask_entries(
         &mut self,
         table: &RangeTable<T, V>,
@@ -203,7 +209,7 @@ impl<T: Integer, V: Eq + Clone, F: FnMut(Option<&V>) -> Result<Option<V>, AllocE
     }
 }
 
-// Whether an answer is what a piece has already.
+// Whether a result equals the old value of its piece.
 fn is_same<V: Eq>(answer: &Option<V>, old: Option<&V>) -> bool
     ensures { result ≡ option_eq V.eq answer.now (shown_option (λ v. v.now) old.entry) }
 {
@@ -214,7 +220,7 @@ fn is_same<V: Eq>(answer: &Option<V>, old: Option<&V>) -> bool
     }
 }
 
-// What a function returns at the pieces of the keys from `start` up to `end`, as the edits that bring it into the table.
+// The results of a function at the pieces of the keys from `start` up to `end`, as the edits that the table needs.
 fn edits_of<T: Integer, V: Eq + Clone, F: FnMut(Option<&V>) -> Result<Option<V>, AllocError>>(
     table: &RangeTable<T, V>,
     start: T,
@@ -238,7 +244,7 @@ fn edits_of<T: Integer, V: Eq + Clone, F: FnMut(Option<&V>) -> Result<Option<V>,
 }
 
 impl<T: Integer, V: Eq + Clone> RangeMapBlaze<T, V> {
-    // Puts the value of an edit on its keys, or takes them out. Refused memory leaves the map unchanged.
+    // Sets the value of the keys of an edit, or removes them. If an allocation fails, the map is unchanged.
     fn apply_edit(&mut self, start: T, end: T, value: Option<V>) -> Result<(), AllocError>
         requires order { T.rank start ≤ℤ T.rank end }
         requires clones { ClonesAreAlike V.is_clone V.eq }
@@ -256,7 +262,7 @@ impl<T: Integer, V: Eq + Clone> RangeMapBlaze<T, V> {
         }
     }
 
-    // Makes edits, one after another. If an allocation fails, a first part of them was made.
+    // Makes edits, in order. If an allocation fails, a first part of them was made.
     fn apply_edits(&mut self, edits: Vec<(T, T, Option<V>)>) -> Result<(), AllocError>
         requires edits { IsRangeMap (option_eq V.eq) T.low T.high (shown_list T.rank edits.items) }
         requires clones { ClonesAreAlike V.is_clone V.eq }

@@ -20,7 +20,7 @@ use std::marker::Model;
 use std::ops::{RangeBounds, RangeInclusive};
 
 /// The entries of a map cut to a range of keys, ascending, from both ends: each range with a reference to its value. No call of
-/// the iterator allocates memory.
+/// the iterator allocates. `RangeMapBlaze::within` returns it.
 #[derive(Drop)]
 pub struct Within<'a, T: Integer, V: Eq> {
     // The first and the last key of the range.
@@ -44,9 +44,16 @@ impl<'a, T: Integer, V: Eq> Model for Within<'a, T, V> {
 }
 
 impl<T: Integer, V: Eq> RangeMapBlaze<T, V> {
-    /// Returns the entries of the map cut to a range of keys, ascending, from both ends: each range with a reference to its value.
-    /// An entry that extends past an end of the range is given without its keys there. Bounds that name no key give no entry. No
-    /// memory is allocated. The call takes O(log n) steps with n entries, and each entry that is given takes O(1) steps more.
+    /// Returns an iterator over the entries of the map cut to the range, ascending, from both ends: each range with a reference
+    /// to its value. Bounds that name no key give no entry.
+    ///
+    /// Neither the call nor the iterator allocates. The call is O(log n) for n entries, and each entry is O(1).
+    ///
+    /// ```
+    /// let mut entries = map.within(12..=20);
+    /// entries.next(); // Some((12..=14, 'a'))
+    /// entries.next(); // Some((15..=15, 'b'))
+    /// ```
     pub fn within<R: RangeBounds<T> + Drop>(&self, range: R) -> Within<'_, T, V>
         ensures within { R.has_bounds range
             → IsWithin V.eq T.low T.high (start_rank T.rank T.low (R.start_bound range))
@@ -68,8 +75,12 @@ impl<T: Integer, V: Eq> RangeMapBlaze<T, V> {
         }
     }
 
-    /// Returns how many keys of a range have a value: 0 if the bounds name no key. No memory is allocated. It takes O(log n) steps
-    /// with n entries, and O(1) more for each entry that shares a key with the range.
+    /// Returns how many keys in the range have a value: 0 if the bounds name no key. Does not allocate. O(log n) for n entries,
+    /// and O(1) for each entry that shares a key with the range.
+    ///
+    /// ```
+    /// map.len_within(12..=34); // 9
+    /// ```
     pub fn len_within<R: RangeBounds<T> + Drop>(&self, range: R) -> T::SafeLen
         ensures mapped { R.has_bounds range
             → T.SafeLen.number result
@@ -93,7 +104,7 @@ impl<T: Integer, V: Eq> RangeMapBlaze<T, V> {
     }
 }
 
-// The entries of a table cut to the range from `start` up to `end`.
+// The entries of a table cut to the keys from `start` up to `end`, when they are given.
 fn entries_within<T: Integer, V: Eq>(table: &RangeTable<T, V>, start: T, end: T) -> Within<'_, T, V>
     requires { T.rank start ≤ℤ T.rank end }
     ensures { IsWithin V.eq T.low T.high (T.rank start) (T.rank end) table.now.entries result }
@@ -106,7 +117,7 @@ fn entries_within<T: Integer, V: Eq>(table: &RangeTable<T, V>, start: T, end: T)
     }
 }
 
-// The keys of a range from `start` up to `end`.
+// The keys of a range from `start` up to `end`. An entry may extend past both of them.
 fn part_of<T: Integer>(range: RangeInclusive<T>, start: T, end: T) -> RangeInclusive<T>
     ensures start { T.rank (range_inclusive_start result)
         ≡ int_max (T.rank start) (T.rank (range_inclusive_start range)) }

@@ -1,4 +1,4 @@
-//! What is left of a table's entries that are gone through from the start.
+//! The tail of a table's entries: those that a comparison has not passed.
 ghost use Rattle.std.specs.Prelude.{◌≡◌, [], IfNone, slice_get};
 ghost use Rattle.std.specs.Option.{option_map};
 ghost use Rattle.blaze_table.specs.Canonical.{IsCanonical};
@@ -12,7 +12,7 @@ use blaze_int::compare::is_at_most;
 use blaze_table::{Iter, RangeEntry, RangeTable};
 use std::marker::Model;
 
-/// The entries that are left: what is left of the first, and the others.
+/// The tail of a table's entries: what remains of the first of them, and the others.
 #[derive(Drop)]
 pub struct EntriesLeft<'a, T: Integer, V: Eq> {
     first: Option<RangeEntry<T, &'a V>>,
@@ -36,7 +36,7 @@ impl<'a, T: Integer, V: Eq> Model for EntriesLeft<'a, T, V> {
         × IsCanonical V.eq (ahead_of T.rank (λ v. v.now) s.first s.others) };
 }
 
-// Takes the first entry out.
+// Takes the first entry.
 fn take_first<'a, T: Integer, V: Eq>(entries: &mut Iter<'a, T, V>) -> Option<RangeEntry<T, &'a V>>
     ensures left { ahead_of T.rank (λ v. v.now) result entries.new ≡ entries.old }
     ensures none { IfNone result (entries.new ≡ []) }
@@ -56,7 +56,7 @@ impl<'a, T: Integer, V: Eq> EntriesLeft<'a, T, V> {
         EntriesLeft { first, others }
     }
 
-    /// What is left of the first entry.
+    /// What remains of the first entry.
     pub fn first(&self) -> Option<RangeEntry<T, &'a V>>
         ensures first { option_map (shown_range_entry T.rank (λ v. v.now)) result ≡ slice_get self.now 0 }
         ensures canonical { IsCanonical V.eq self.now }
@@ -71,7 +71,7 @@ impl<'a, T: Integer, V: Eq> EntriesLeft<'a, T, V> {
         }
     }
 
-    /// Lets the keys up to `end` go, which is not above the end of the first entry.
+    /// Removes the keys up to `end`, which is not above the end of the first entry.
     #[tactic(auto, using(blaze_table::proofs::Cuts::Cutting::after_whole))]
     pub fn advance(&mut self, end: T)
         requires { Reaches (T.rank end) self.old }

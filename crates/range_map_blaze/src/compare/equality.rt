@@ -16,8 +16,13 @@ impl<T: Integer, V: Eq> PartialEq for RangeMapBlaze<T, V> {
 
     ghost laws = { Prim.search (comparing, rules) depth 9 };
 
-    /// Whether two maps have the same content, values by their own `==`: so as many entries, and at each position the same
-    /// range with an equal value. Each map's entries are the only shortest list with its content. No memory is taken.
+    /// Returns whether two maps have the same content: the same ranges, with values that are equal by their own `==`. Does not
+    /// allocate. O(n) for n entries, or O(1) if the numbers of entries differ.
+    ///
+    /// ```
+    /// map == map.clone()?; // true
+    /// map == other; // false
+    /// ```
     fn eq(&self, other: &Self) -> bool
         ensures entries { result ≡ same_entries V.eq self.now.entries other.now.entries }
         ensures content { IsTrue result ↔ SameContent V.eq self.now.entries other.now.entries }

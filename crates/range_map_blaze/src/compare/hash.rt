@@ -12,7 +12,8 @@ impl<T: Integer + Hash, V: Hash> Hash for RangeMapBlaze<T, V> {
     ghost respects_eq = { λ m n. equal_entries_input (λ k. T.hash_input (T.of_rank k)) V.hash_input
         V.eq V.respects_eq m.entries n.entries };
 
-    /// Hashes the number of entries, and then each entry's first key, last key and value, ascending. Equal maps hash alike.
+    /// Hashes the number of entries, and then each entry's first key, last key and value, ascending. Equal maps have equal
+    /// hashes. Does not allocate. O(n) for n entries.
     fn hash<H: Hasher>(&self, state: &mut H) {
         state.write_usize(self.ranges_len());
         for (start, end, value) in self.table.iter() {

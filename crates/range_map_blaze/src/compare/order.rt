@@ -1,4 +1,4 @@
-//! The order of maps: the lexicographic order of their lists of (key, value) pairs. Two maps are gone through entry by entry.
+//! The order of maps: the lexicographic order of their lists of (key, value) pairs, compared entry by entry.
 ghost use Rattle.std.specs.Prelude.{◌≡◌, ◌↔◌, ◌+◌, ◌≤◌, ◌<◌, length, refl, Some, IfSome, IfNone};
 ghost use Rattle.std.specs.Cmp.{on_total, po};
 ghost use Rattle.std.specs.Ordering.{int_cmp, ordering_then, on, as_partial_cmp};
@@ -46,8 +46,8 @@ fn compare_first<T: Integer, V: Ord>(
     )
 }
 
-// One look at what is left of two lists: an answer where one is at its end, or where the first pairs differ. Else the keys up
-// to the end of the shorter first entry are let go.
+// How the tails of two lists compare, if one has no entry or their first pairs differ. Otherwise removes the keys up to the end
+// of the shorter first entry from both, and returns `None`.
 fn look<T: Integer, V: Ord>(
     left: &mut EntriesLeft<'_, T, V>,
     other: &mut EntriesLeft<'_, T, V>,
@@ -76,9 +76,13 @@ fn look<T: Integer, V: Ord>(
 }
 
 impl<T: Integer, V: Ord> RangeMapBlaze<T, V> {
-    /// How two maps compare, as `cmp` does. `turns` rises by the number of looks at two first entries, that which returns
-    /// included: at most the numbers of both maps' entries plus one, so no look is at a key. No memory is taken. It takes O(n +
-    /// m) steps with n and m entries.
+    /// Returns the order of two maps, as `cmp` does, and adds to `turns` how many times it compared two first entries. This is at
+    /// most the number of entries of both maps plus one, so that it never goes key by key. Does not allocate. O(n + m) for n and
+    /// m entries.
+    ///
+    /// ```
+    /// map.cmp_counted(&other, &mut Turns::new()); // Less
+    /// ```
     pub fn cmp_counted(&self, other: &Self, turns: &mut Turns) -> Ordering
         ensures order { result ≡ pairs_cmp V.cmp self.now.entries other.now.entries }
         ensures few { turns.new ≤ turns.old +
@@ -105,8 +109,13 @@ impl<T: Integer, V: Ord> Ord for RangeMapBlaze<T, V> {
 
     ghost matches_eq = { λ m n. equal_maps_tie V.eq V.cmp V.matches_eq m.entries n.entries };
 
-    /// The lexicographic order of the lists of (key, value) pairs, by key and then by the values' own order; a proper
-    /// beginning is less. Equal exactly where the maps are equal. No memory is taken, and the work is that of `cmp_counted`.
+    /// Returns the lexicographic order of the lists of (key, value) pairs: by key, then by the values' own order, and a list is
+    /// greater than each of its prefixes. Returns `Equal` exactly if the maps are equal. Does not allocate. O(n + m) for n and m
+    /// entries.
+    ///
+    /// ```
+    /// map.cmp(&other); // Less
+    /// ```
     fn cmp(&self, other: &Self) -> Ordering
         ensures member { result ≡ map_cmp V.cmp self.now.entries other.now.entries }
         ensures order { result ≡ pairs_cmp V.cmp self.now.entries other.now.entries }
@@ -124,7 +133,12 @@ impl<T: Integer, V: Ord> PartialOrd for RangeMapBlaze<T, V> {
     ghost laws = { po (on_total (λ m. m.entries) (map_cmp_total V.cmp V.total))
         (λ m n. equal_maps_tie V.eq V.cmp V.matches_eq m.entries n.entries) };
 
-    /// The order that `cmp` gives.
+    /// Returns the order that `cmp` returns. Does not allocate. O(n + m) for n and m entries.
+    ///
+    /// ```
+    /// map.partial_cmp(&other); // Some(Less)
+    /// map < other; // true
+    /// ```
     fn partial_cmp(&self, other: &Self) -> Option<Ordering>
         ensures member { result ≡ Some (map_cmp V.cmp self.now.entries other.now.entries) }
         ensures order { result ≡ Some (pairs_cmp V.cmp self.now.entries other.now.entries) }

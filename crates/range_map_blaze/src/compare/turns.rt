@@ -1,10 +1,10 @@
-//! How many turns a loop took.
+//! A number of comparisons, for `cmp_counted`.
 ghost use Rattle.std.specs.Prelude.{◌≡◌, ℕ, ◌+◌};
 
 use blaze_table::Count;
 use std::marker::Model;
 
-/// How many turns were counted: a number that contracts alone read. It takes no bytes at run time.
+/// A number of comparisons, which only contracts read. It has no bytes at run time.
 #[derive(Drop)]
 pub struct Turns {
     count: Count,
@@ -19,7 +19,7 @@ impl Model for Turns {
 }
 
 impl Turns {
-    /// No turn.
+    /// No comparison.
     pub fn new() -> Self
         ensures { result ≡ 0 }
     {
@@ -28,7 +28,7 @@ impl Turns {
         }
     }
 
-    /// Counts a turn.
+    /// Counts a comparison.
     pub(crate) fn count(&mut self)
         ensures { self.new ≡ self.old + 1 }
     {

@@ -1,5 +1,5 @@
-//! `left & right`: the values of the right map on the keys of both; with a set, those of the map on its keys. Refused memory
-//! leaves what is borrowed unchanged and drops what is owned.
+//! `left & right`: the keys that have a value in both maps, with the value of `right`; with a set, the keys of the map that are
+//! in the set. If an allocation fails, what is borrowed is unchanged and what is owned is dropped.
 ghost use Rattle.std.specs.Prelude.{IfOk};
 ghost use Rattle.blaze_table.specs.Chosen.{left_with_right, IsChosen};
 ghost use Rattle.blaze_table.specs.Painted.{ClonesAreAlike};
@@ -12,6 +12,16 @@ use blaze_table::RangeSetBlaze;
 use std::alloc::AllocError;
 use std::ops::BitAnd;
 
+/// `left & right` is the intersection: the keys that have a value in both maps, with the value of `right`. Each operand may be
+/// owned or borrowed. Allocates. If an allocation fails, what is borrowed is unchanged and what is owned is dropped.
+///
+/// O(n + m) for n and m entries. If one map has k entries, far fewer than the n of the other: O(k log n), and O(1) for each entry
+/// of the result. An owned `right` adds O(1) for each of its entries.
+///
+/// ```
+/// (&map & &other)?; // (12..=15, 'b')
+/// (other & map)?; // (12..=14, 'a'), (15..=15, 'b')
+/// ```
 impl<T: Integer, V: Eq + Clone> BitAnd for RangeMapBlaze<T, V> {
     type Output = Result<RangeMapBlaze<T, V>, AllocError>;
 
@@ -65,6 +75,16 @@ impl<'a, 'b, T: Integer, V: Eq + Clone> BitAnd<&'b RangeMapBlaze<T, V>>
     }
 }
 
+/// `map & keys` has the keys of the map that are in the set, with their values. Each operand may be owned or borrowed. Allocates.
+/// If an allocation fails, what is borrowed is unchanged and what is owned is dropped.
+///
+/// O(n + m) for n entries and m ranges. If there are far fewer of one kind, k, than of the other, n: O(k log n), and O(1) for
+/// each entry of the result. An owned map adds O(1) for each of its entries.
+///
+/// ```
+/// let keys = RangeSetBlaze::from_ranges(alloc, [0..=11, 20..=31])?;
+/// (map & keys)?; // (10..=11, 'a'), (30..=31, 'c')
+/// ```
 impl<T: Integer, V: Eq + Clone> BitAnd<RangeSetBlaze<T>> for RangeMapBlaze<T, V> {
     type Output = Result<RangeMapBlaze<T, V>, AllocError>;
 

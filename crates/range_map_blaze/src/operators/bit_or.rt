@@ -1,5 +1,5 @@
-//! `left | right`: the values of the right map where it has some, and else those of the left. Refused memory leaves what is
-//! borrowed unchanged and drops what is owned.
+//! `left | right`: the keys of both maps, with the value of `right` where both have one. If an allocation fails, what is borrowed
+//! is unchanged and what is owned is dropped.
 ghost use Rattle.std.specs.Prelude.{IfOk};
 ghost use Rattle.blaze_table.specs.Painted.{ClonesAreAlike};
 ghost use Rattle.range_map_blaze.specs.Union.{IsUnion};
@@ -11,6 +11,17 @@ use blaze_int::Integer;
 use std::alloc::AllocError;
 use std::ops::BitOr;
 
+/// `left | right` is the union: the keys of both maps, with the value of `right` where both have one. Each operand may be owned
+/// or borrowed. Allocates. If an allocation fails, what is borrowed is unchanged and what is owned is dropped.
+///
+/// O(n + m) for n and m entries. If one map has m entries, at most 1/16 of the n of the other, and they cover c of those: O((m +
+/// c) log n). The larger map is then edited in place if it is owned, and cloned first if it is borrowed. Once n / 8 entries were
+/// removed, the others are merged in O(n + m).
+///
+/// ```
+/// (&map | &other)?; // (10..=11, 'a'), (12..=15, 'b'), (30..=39, 'c')
+/// (other | map)?; // (10..=14, 'a'), (15..=15, 'b'), (30..=39, 'c')
+/// ```
 impl<T: Integer, V: Eq + Clone> BitOr for RangeMapBlaze<T, V> {
     type Output = Result<RangeMapBlaze<T, V>, AllocError>;
 

@@ -1,5 +1,5 @@
-//! `left ^ right`: the values on the keys that exactly one of the two maps has. Refused memory leaves what is borrowed
-//! unchanged and drops what is owned.
+//! `left ^ right`: the keys that have a value in exactly one of the two maps. If an allocation fails, what is borrowed is
+//! unchanged and what is owned is dropped.
 ghost use Rattle.std.specs.Option.{option_xor};
 ghost use Rattle.std.specs.Prelude.{IfOk};
 ghost use Rattle.blaze_table.specs.Chosen.{IsChosen};
@@ -15,6 +15,18 @@ use blaze_int::Integer;
 use std::alloc::AllocError;
 use std::ops::BitXor;
 
+/// `left ^ right` is the symmetric difference: the keys that have a value in exactly one of the maps, with that value. Each
+/// operand may be owned or borrowed. Allocates. If an allocation fails, what is borrowed is unchanged and what is owned is
+/// dropped.
+///
+/// O(n + m) for n and m entries. If one map has m entries, at most 1/16 of the n of the other, and they cover c of those: O((m +
+/// c) log n). The larger map is then edited in place if it is owned, and cloned first if it is borrowed. Once n / 8 entries were
+/// removed, the others are merged in O(n + m).
+///
+/// ```
+/// let blocks = RangeMapBlaze::from_ranges(alloc, [(13..=17, 'd')])?;
+/// (map ^ blocks)?; // (10..=12, 'a'), (16..=17, 'd'), (30..=39, 'c')
+/// ```
 impl<T: Integer, V: Eq + Clone> BitXor for RangeMapBlaze<T, V> {
     type Output = Result<RangeMapBlaze<T, V>, AllocError>;
 

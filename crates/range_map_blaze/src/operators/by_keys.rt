@@ -1,4 +1,4 @@
-//! A map's values on the keys that a table has, or off them.
+//! The keys of a map that a table has, or lacks, with their values. Operators with a map and with a set share these functions.
 ghost use Rattle.std.specs.Prelude.{IfOk};
 ghost use Rattle.blaze_table.specs.Chosen.{left_with_right, left_alone, IsChosen};
 ghost use Rattle.blaze_table.specs.Painted.{ClonesAreAlike};
@@ -13,8 +13,8 @@ use blaze_table::RangeTable;
 use std::alloc::AllocError;
 use std::cmp::min;
 
-/// The values on the table's keys, in one pass in which either side passes over what ends below the other's next key: a few
-/// steps and a search each time, however many entries that are.
+/// The keys of a map that the table has too, with clones of their values. The cursor that lags steps a few entries, then
+/// searches, however many entries it skips.
 pub fn within_keys<T: Integer, V: Eq + Clone, W: Eq + Clone>(
     map: &RangeMapBlaze<T, V>,
     keys: &RangeTable<T, W>,
@@ -33,7 +33,7 @@ pub fn within_keys<T: Integer, V: Eq + Clone, W: Eq + Clone>(
     )
 }
 
-/// The same, with the map's own values, which are gone through one by one.
+/// The keys of an owned map that the table has too, with the map's own values. It goes through all entries of the map.
 pub fn within_keys_by_value<T: Integer, V: Eq + Clone, W: Eq + Clone>(
     map: RangeMapBlaze<T, V>,
     keys: &RangeTable<T, W>,
@@ -46,8 +46,9 @@ pub fn within_keys_by_value<T: Integer, V: Eq + Clone, W: Eq + Clone>(
     owned_chosen(map, SeekingRangeValuesIter::new(keys), &LeftWithRight, room)
 }
 
-/// The values off the table's keys. Where the table has few entries, which cover few of the map's, a clone of the map is cut; else
-/// it is one pass over the map, in which the table passes over what ends below the map's next key by a few steps and a search.
+/// The keys of a map that the table lacks, with clones of their values. If the table has few entries, which cover few of the
+/// map's, cuts a clone of the map. Otherwise goes through the map once, and the cursor of the table steps a few entries, then
+/// searches.
 pub fn outside_keys<T: Integer, V: Eq + Clone, W: Eq + Clone>(
     map: &RangeMapBlaze<T, V>,
     keys: &RangeTable<T, W>,
@@ -69,7 +70,8 @@ pub fn outside_keys<T: Integer, V: Eq + Clone, W: Eq + Clone>(
     )
 }
 
-/// The same, with the map's own values. Where the table has few entries, which cover few of the map's, the map is cut in place.
+/// The keys of an owned map that the table lacks, with the map's own values. If the table has few entries, which cover few of the
+/// map's, cuts the map in place.
 pub fn outside_keys_by_value<T: Integer, V: Eq + Clone, W: Eq + Clone>(
     map: RangeMapBlaze<T, V>,
     keys: &RangeTable<T, W>,
@@ -88,7 +90,7 @@ pub fn outside_keys_by_value<T: Integer, V: Eq + Clone, W: Eq + Clone>(
     all_outside_keys(map, keys)
 }
 
-/// The same, by one pass over the map.
+/// The keys of an owned map that the table lacks, with the map's own values. It goes through all entries of the map.
 fn all_outside_keys<T: Integer, V: Eq + Clone, W: Eq + Clone>(
     map: RangeMapBlaze<T, V>,
     keys: &RangeTable<T, W>,

@@ -1,6 +1,5 @@
-//! The map of what is chosen from two streams, of which the left one's values are lent, or from a map by value and a stream.
-//! The map that lends shows that the keys outlive the loan, which code that is generic over keys has to know where it calls a
-//! function of streams.
+//! The map of what a choice gives at each key of two streams. The left stream has the values of a borrowed map, or is an owned
+//! map. The borrowed map is a parameter because code that is generic over keys must know that the keys outlive the borrow.
 ghost use Rattle.std.specs.Prelude.{IfOk};
 ghost use Rattle.blaze_table.specs.Chosen.{IsChosen};
 ghost use Rattle.blaze_table.specs.Painted.{ClonesAreAlike};
@@ -13,7 +12,7 @@ use blaze_streams::{
 use blaze_table::RangeTable;
 use std::alloc::AllocError;
 
-/// What is chosen from two streams. Room is asked for at first for so many entries.
+/// The map of what a choice gives at each key of two streams. The list of entries begins with space for `room` of them.
 pub fn lent_chosen<
     'a,
     T: Integer,
@@ -39,8 +38,8 @@ pub fn lent_chosen<
     Ok(RangeMapBlaze { table })
 }
 
-/// What is chosen from a map and a stream, with the map's own values: one is cloned only for a piece that leaves a rest of its
-/// range behind. Room is asked for at first for so many entries.
+/// The map of what a choice gives at each key of an owned map and a stream, with the map's own values. A value is cloned only for
+/// a piece that is not the last of its range. The list of entries begins with space for `room` of them.
 pub fn owned_chosen<
     T: Integer,
     V: Eq + Clone,

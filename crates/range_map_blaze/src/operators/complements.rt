@@ -1,5 +1,5 @@
-//! The keys without a value. `!map` is their set. Refused memory leaves what is borrowed unchanged
-//! and drops what is owned.
+//! `!map` and maps with one value on all keys that a map lacks. If an allocation fails, what is borrowed is unchanged and what is
+//! owned is dropped.
 ghost use Rattle.std.specs.Prelude.{[], IfOk};
 ghost use Rattle.blaze_table.specs.Complement.{IsComplement};
 ghost use Rattle.blaze_table.specs.Painted.{ClonesAreAlike};
@@ -15,7 +15,7 @@ use blaze_table::{RangeSetBlaze, RangeTable};
 use std::alloc::{AllocError, Global};
 use std::ops::Not;
 
-/// The set of the keys that have no value. It takes O(n) steps with n entries.
+/// The set of the keys without a value. O(n) for n entries.
 pub fn unmapped_keys<T: Integer, V: Eq>(
     map: &RangeMapBlaze<T, V>,
 ) -> Result<RangeSetBlaze<T>, AllocError>
@@ -27,7 +27,12 @@ pub fn unmapped_keys<T: Integer, V: Eq>(
 }
 
 impl<T: Integer, V: Eq + Clone> RangeMapBlaze<T, V> {
-    /// The map of a clone of a value on every key of the type. Where memory is refused nothing is made. It takes one clone.
+    /// Returns the map with a clone of `value` at every key of the key type. Allocates. If an allocation fails, there is no map.
+    /// O(1) and one clone.
+    ///
+    /// ```
+    /// RangeMapBlaze::<u8, char>::universe_with(alloc, &'-')?; // (0..=255, '-')
+    /// ```
     pub fn universe_with(alloc: Global, value: &V) -> Result<Self, AllocError>
         requires { ClonesAreAlike V.is_clone V.eq }
         ensures { IfOk result
@@ -36,8 +41,12 @@ impl<T: Integer, V: Eq + Clone> RangeMapBlaze<T, V> {
         Self::new(alloc).complement_with(value)
     }
 
-    /// The map of a value on every key that has none here, and nothing elsewhere. Refused memory leaves this map unchanged. It
-    /// takes O(n) steps with n entries.
+    /// Returns the map with `value` at every key that has none here, and at no other key. Its entries have clones of `value`.
+    /// Allocates. If an allocation fails, this map is unchanged. O(n) for n entries.
+    ///
+    /// ```
+    /// map.complement_with(&'-')?; // (-2147483648..=9, '-'), (16..=29, '-'), (40..=2147483647, '-')
+    /// ```
     pub fn complement_with(&self, value: &V) -> Result<Self, AllocError>
         requires { ClonesAreAlike V.is_clone V.eq }
         ensures { IfOk result
@@ -56,6 +65,11 @@ impl<T: Integer, V: Eq + Clone> RangeMapBlaze<T, V> {
     }
 }
 
+/// `!map` is the set of the keys without a value. Allocates. If an allocation fails, the map is dropped. O(n) for n entries.
+///
+/// ```
+/// (!map)?; // -2147483648..=9, 16..=29, 40..=2147483647
+/// ```
 impl<T: Integer, V: Eq + Drop> Not for RangeMapBlaze<T, V> {
     type Output = Result<RangeSetBlaze<T>, AllocError>;
 
@@ -67,6 +81,11 @@ impl<T: Integer, V: Eq + Drop> Not for RangeMapBlaze<T, V> {
     }
 }
 
+/// `!&map` is the set of the keys without a value. Allocates. If an allocation fails, the map is unchanged. O(n) for n entries.
+///
+/// ```
+/// (!&map)?; // -2147483648..=9, 16..=29, 40..=2147483647
+/// ```
 impl<'a, T: Integer, V: Eq> Not for &'a RangeMapBlaze<T, V> {
     type Output = Result<RangeSetBlaze<T>, AllocError>;
 

@@ -9,10 +9,11 @@ use blaze_int::Integer;
 use blaze_streams::SortedDisjoint;
 use std::alloc::AllocError;
 
-/// Cuts ranges out of a map, one by one, until more than an eighth of its entries have gone. Returns what is left of the map, and
-/// whether every range was cut out. Each range takes a search or two, and one for each entry that goes, however many entries stay;
-/// from an eighth on, one pass over what is left takes less. A value is cloned only where a range lies inside its entry. If an
-/// allocation fails, the map is dropped.
+/// Cuts ranges out of a map, one by one, until more than an eighth of its entries were removed: from there on, one merge of both
+/// costs less. Returns the map, and whether every range was cut out.
+///
+/// For n entries each range is O(log n), and O(log n) for each entry that is removed. A value is cloned only if a range is inside
+/// its entry. If an allocation fails, the map is dropped.
 pub fn cut_ranges<T: Integer, V: Eq + Clone, S: SortedDisjoint<T>>(
     map: RangeMapBlaze<T, V>,
     ranges: S,

@@ -1,4 +1,4 @@
-//! The values on the keys that exactly one of two maps has.
+//! The keys that exactly one of two maps has, with their values.
 ghost use Rattle.std.specs.Option.{option_xor};
 ghost use Rattle.std.specs.Prelude.{IfOk};
 ghost use Rattle.blaze_table.specs.Chosen.{IsChosen};
@@ -14,8 +14,8 @@ use blaze_int::Integer;
 use blaze_streams::{ExactlyOne, OwnedRangeValuesIter, ranges_of};
 use std::alloc::AllocError;
 
-/// The values on the keys that exactly one of the two maps has, in one pass over both. Where one of them has few entries, they
-/// are cut out of a clone of the other, and what that one lacks is put in.
+/// The keys that exactly one of two borrowed maps has, by a merge of both. If one of them has few entries, removes them from a
+/// clone of the other, and adds what that one lacks.
 pub fn symmetric_difference<T: Integer, V: Eq + Clone>(
     left: &RangeMapBlaze<T, V>,
     right: &RangeMapBlaze<T, V>,
@@ -37,7 +37,8 @@ pub fn symmetric_difference<T: Integer, V: Eq + Clone>(
     )
 }
 
-/// The same, with both maps' own values. Where one of the maps has few entries, the other is edited in place.
+/// The keys that exactly one of two owned maps has, with their own values. If one of the maps has few entries, edits the other in
+/// place.
 pub fn symmetric_difference_by_value<T: Integer, V: Eq + Clone>(
     left: RangeMapBlaze<T, V>,
     right: RangeMapBlaze<T, V>,
@@ -61,7 +62,8 @@ pub fn symmetric_difference_by_value<T: Integer, V: Eq + Clone>(
     )
 }
 
-/// The same, of a map by value and one that is lent. Where that has few entries, the other is edited in place.
+/// The keys that exactly one of an owned and a borrowed map has. If the borrowed one has few entries, edits the owned one in
+/// place.
 pub fn symmetric_difference_with<T: Integer, V: Eq + Clone>(
     left: RangeMapBlaze<T, V>,
     right: &RangeMapBlaze<T, V>,
@@ -76,7 +78,8 @@ pub fn symmetric_difference_with<T: Integer, V: Eq + Clone>(
     symmetric_difference(&left, right)
 }
 
-/// The same, of a map that is lent and one by value. Where the first has few entries, the other is edited in place.
+/// The keys that exactly one of a borrowed and an owned map has. If the borrowed one has few entries, edits the owned one in
+/// place.
 pub fn symmetric_difference_under<T: Integer, V: Eq + Clone>(
     left: &RangeMapBlaze<T, V>,
     right: RangeMapBlaze<T, V>,
@@ -91,7 +94,7 @@ pub fn symmetric_difference_under<T: Integer, V: Eq + Clone>(
     symmetric_difference(left, &right)
 }
 
-/// What each map has off the other's keys, as one map.
+/// The union of what each of two borrowed maps has outside of the other's keys.
 fn alone<T: Integer, V: Eq + Clone>(
     left: &RangeMapBlaze<T, V>,
     right: &RangeMapBlaze<T, V>,
@@ -105,7 +108,8 @@ fn alone<T: Integer, V: Eq + Clone>(
     union_by_value(left_alone, right_alone)
 }
 
-/// The same, with both maps' own values. The set of the right map's keys is made first, since its entries go.
+/// The union of what each of two owned maps has outside of the other's keys. It makes the set of the right map's keys first,
+/// since the next line consumes that map.
 fn alone_by_value<T: Integer, V: Eq + Clone>(
     left: RangeMapBlaze<T, V>,
     right: RangeMapBlaze<T, V>,
@@ -120,7 +124,7 @@ fn alone_by_value<T: Integer, V: Eq + Clone>(
     union_by_value(left_alone, right_alone)
 }
 
-/// The same, with the left map's own values.
+/// The union of what an owned and a borrowed map have outside of each other's keys.
 fn alone_with<T: Integer, V: Eq + Clone>(
     left: RangeMapBlaze<T, V>,
     right: &RangeMapBlaze<T, V>,
@@ -134,7 +138,7 @@ fn alone_with<T: Integer, V: Eq + Clone>(
     union_by_value(left_alone, right_alone)
 }
 
-/// The same, with the right map's own values.
+/// The union of what a borrowed and an owned map have outside of each other's keys.
 fn alone_under<T: Integer, V: Eq + Clone>(
     left: &RangeMapBlaze<T, V>,
     right: RangeMapBlaze<T, V>,

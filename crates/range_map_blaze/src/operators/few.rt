@@ -1,17 +1,17 @@
-//! Whether one of two operands has so few ranges that they are worked into the other one by one.
+//! Whether one of two operands has so few ranges that editing the other one costs less than a merge.
 use blaze_int::compare::is_below;
 use blaze_int::{Integer, SafeLength, length_in_hand};
 use blaze_table::RangeTable;
 
-/// Whether so few ranges take less time, each by a search or a paint in a map of `len` entries, than a pass over both: a search
-/// or a paint takes about as long as a pass over sixteen entries.
+/// Whether so few ranges, each by a search or a paint in a map of `len` entries, cost less than a merge of both. A search or a
+/// paint costs about as much as 16 entries of a merge.
 pub fn are_few(few: usize, len: usize) -> bool {
     few <= len / 16
 }
 
-/// Whether a table's ranges take less time than a pass, where each takes a search in another table, and one for each entry of that
-/// which it covers. Fewer keys than an eighth of the other's are taken to cover few of its entries; more are looked up, by a search
-/// for each range.
+/// Whether a table's ranges cost less than a merge, each by a search in another table, and one for each entry of that table that
+/// it covers. If they have fewer keys than an eighth of the other's, they are assumed to cover few of its entries. Otherwise
+/// their entries are counted, by a search for each range.
 pub fn is_narrow<T: Integer, V: Eq + Clone, W: Eq + Clone>(
     table: &RangeTable<T, V>,
     other: &RangeTable<T, W>,
@@ -20,7 +20,7 @@ pub fn is_narrow<T: Integer, V: Eq + Clone, W: Eq + Clone>(
         && (is_below_eighth(table.len(), other.len()) || cover_few(table, other))
 }
 
-/// Whether a length is less than an eighth of another.
+/// Whether a length is less than an eighth of another. Lengths have no division.
 fn is_below_eighth<L: SafeLength>(part: L, whole: L) -> bool {
     length_in_hand(part);
     let mut rest = whole;
@@ -34,7 +34,8 @@ fn is_below_eighth<L: SafeLength>(part: L, whole: L) -> bool {
     true
 }
 
-/// Whether at most an eighth of the entries of another table start within the entries of a table. One search for each of these.
+/// Whether at most an eighth of the entries of another table start within the entries of a table. O(log n) for each entry of the
+/// table, for n entries of the other.
 pub fn cover_few<T: Integer, V: Eq + Clone, W: Eq + Clone>(
     table: &RangeTable<T, V>,
     other: &RangeTable<T, W>,
@@ -49,7 +50,7 @@ pub fn cover_few<T: Integer, V: Eq + Clone, W: Eq + Clone>(
     true
 }
 
-/// How many entries are left of `most` without those of a table that start within a range. None where these are more.
+/// What is left of `most` after the entries of a table that start within a range, or `None` if there are more of them.
 fn most_beside<T: Integer, V: Eq + Clone>(
     table: &RangeTable<T, V>,
     start: T,

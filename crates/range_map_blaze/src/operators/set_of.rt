@@ -6,7 +6,7 @@ use blaze_streams::SortedDisjoint;
 use blaze_table::RangeSetBlaze;
 use std::alloc::{AllocError, Global};
 
-/// The set of the ranges that are left of a stream.
+/// The set of the ranges that a stream has not yet given.
 pub fn set_of<T: Integer, S: SortedDisjoint<T>>(
     alloc: Global,
     stream: S,

@@ -1,5 +1,5 @@
-//! `left - right`: the values of the left map off the keys of the right map or set. Refused memory leaves what is borrowed
-//! unchanged and drops what is owned.
+//! `left - right`: the keys of `left` that have no value in `right`, or are not in the set `right`. If an allocation fails, what
+//! is borrowed is unchanged and what is owned is dropped.
 ghost use Rattle.std.specs.Prelude.{IfOk};
 ghost use Rattle.blaze_table.specs.Chosen.{left_alone, IsChosen};
 ghost use Rattle.blaze_table.specs.Painted.{ClonesAreAlike};
@@ -12,6 +12,16 @@ use blaze_table::RangeSetBlaze;
 use std::alloc::AllocError;
 use std::ops::Sub;
 
+/// `left - right` is the difference: the keys of `left` that have no value in `right`, with their values. Each operand may be
+/// owned or borrowed. Allocates. If an allocation fails, what is borrowed is unchanged and what is owned is dropped.
+///
+/// O(n + m) for n entries of `left` and m of `right`. If m is at most n / 16, and they cover c entries of `left`: O((m + c) log
+/// n). `left` is then edited in place if it is owned, and cloned first if it is borrowed. Once n / 8 entries were removed, the
+/// others are merged in O(n + m). If n is far less than m: O(n log m), and O(1) for each entry of the result.
+///
+/// ```
+/// (map - other)?; // (10..=11, 'a'), (30..=39, 'c')
+/// ```
 impl<T: Integer, V: Eq + Clone> Sub for RangeMapBlaze<T, V> {
     type Output = Result<RangeMapBlaze<T, V>, AllocError>;
 
@@ -64,6 +74,17 @@ impl<'a, 'b, T: Integer, V: Eq + Clone> Sub<&'b RangeMapBlaze<T, V>> for &'a Ran
     }
 }
 
+/// `map - keys` has the keys of the map that are not in the set, with their values. Each operand may be owned or borrowed.
+/// Allocates. If an allocation fails, what is borrowed is unchanged and what is owned is dropped.
+///
+/// O(n + m) for n entries and m ranges. If m is at most n / 16, and the ranges cover c entries: O((m + c) log n). The map is then
+/// edited in place if it is owned, and cloned first if it is borrowed. Once n / 8 entries were removed, the others are merged in
+/// O(n + m). If n is far less than m: O(n log m), and O(1) for each entry of the result.
+///
+/// ```
+/// let keys = RangeSetBlaze::from_ranges(alloc, [0..=11, 20..=31])?;
+/// (map - keys)?; // (12..=14, 'a'), (15..=15, 'b'), (32..=39, 'c')
+/// ```
 impl<T: Integer, V: Eq + Clone> Sub<RangeSetBlaze<T>> for RangeMapBlaze<T, V> {
     type Output = Result<RangeMapBlaze<T, V>, AllocError>;
 

@@ -1,4 +1,4 @@
-//! One map over another: the values of the right map where it has some, and else those of the left.
+//! The union of two maps: the value of the right map where it has one, and otherwise that of the left.
 ghost use Rattle.std.specs.Prelude.{IfOk};
 ghost use Rattle.blaze_table.specs.Painted.{ClonesAreAlike};
 ghost use Rattle.range_map_blaze.specs.Union.{IsUnion};
@@ -11,7 +11,7 @@ use blaze_streams::{OwnedRangeValuesIter, RightFirst, SortedDisjointMap, ValueCa
 use blaze_table::{RangeEntry, RangeTable};
 use std::alloc::AllocError;
 
-/// How a union is made, which changes nothing of what it is.
+/// How a union is made. The result is the same.
 enum Path {
     /// The right map's few entries are painted over the left map.
     Over,
@@ -21,9 +21,9 @@ enum Path {
     Merge,
 }
 
-/// The path for two maps. Few entries are painted or filled in where they cover few of the other map's entries too: a paint takes
-/// each of those out by a search, and a fill finds each gap between them by one. A fill looks how many they are, since it does not
-/// stop.
+/// The path for two maps. Few entries are painted or filled in only if they cover few others: a paint removes each of those by a
+/// search, and a fill searches for each gap between them. A paint can stop early, so an estimate is enough for it. A fill can't,
+/// so the covered entries are counted.
 fn path_for<T: Integer, V: Eq + Clone>(left: &RangeTable<T, V>, right: &RangeTable<T, V>) -> Path {
     if is_narrow(right, left) {
         Path::Over
@@ -34,7 +34,7 @@ fn path_for<T: Integer, V: Eq + Clone>(left: &RangeTable<T, V>, right: &RangeTab
     }
 }
 
-/// The union of two maps that are lent.
+/// The union of two borrowed maps.
 pub fn union<T: Integer, V: Eq + Clone>(
     left: &RangeMapBlaze<T, V>,
     right: &RangeMapBlaze<T, V>,
@@ -47,7 +47,7 @@ pub fn union<T: Integer, V: Eq + Clone>(
     union_on(path, left, right)
 }
 
-/// The same by a path.
+/// The union of two borrowed maps by the given path.
 fn union_on<T: Integer, V: Eq + Clone>(
     path: Path,
     left: &RangeMapBlaze<T, V>,
@@ -66,7 +66,7 @@ fn union_on<T: Integer, V: Eq + Clone>(
     }
 }
 
-/// The union of two maps by value, with their own values.
+/// The union of two owned maps, with their own values.
 pub fn union_by_value<T: Integer, V: Eq + Clone>(
     left: RangeMapBlaze<T, V>,
     right: RangeMapBlaze<T, V>,
@@ -82,7 +82,7 @@ pub fn union_by_value<T: Integer, V: Eq + Clone>(
     }
 }
 
-/// The union of a map by value and a map that is lent.
+/// The union of an owned and a borrowed map.
 pub fn union_with<T: Integer, V: Eq + Clone>(
     left: RangeMapBlaze<T, V>,
     right: &RangeMapBlaze<T, V>,
@@ -97,7 +97,7 @@ pub fn union_with<T: Integer, V: Eq + Clone>(
     }
 }
 
-/// The union of a map that is lent and a map by value.
+/// The union of a borrowed and an owned map.
 pub fn union_under<T: Integer, V: Eq + Clone>(
     left: &RangeMapBlaze<T, V>,
     right: RangeMapBlaze<T, V>,
@@ -112,8 +112,8 @@ pub fn union_under<T: Integer, V: Eq + Clone>(
     }
 }
 
-/// A stream's ranges painted over a map, each with a value equal to its carrier's. Once an eighth of the map's entries has gone,
-/// what is left of the stream is put over what is left of the map by one pass.
+/// A map with a stream's ranges painted over it. Once an eighth of the map's entries were removed, the others of the stream are
+/// merged with the map, which then costs less.
 fn painted_over<
     T: Integer,
     V: Eq + Clone,
@@ -142,7 +142,7 @@ fn painted_over<
     Ok(map)
 }
 
-/// A stream's ranges over a map, by one pass over both.
+/// The union of a map and a stream by a merge of both.
 fn merged_over<T: Integer, V: Eq + Clone, VC: ValueCarrier<Value = V>, S: SortedDisjointMap<T, VC>>(
     left: RangeMapBlaze<T, V>,
     right: S,
@@ -158,7 +158,7 @@ fn merged_over<T: Integer, V: Eq + Clone, VC: ValueCarrier<Value = V>, S: Sorted
     merged_by_value(left, over)
 }
 
-/// A stream's ranges filled into a map's gaps, each with a value equal to its carrier's.
+/// A map whose gaps are filled with a stream's ranges.
 fn painted_under<
     T: Integer,
     V: Eq + Clone,
@@ -177,7 +177,7 @@ fn painted_under<
     Ok(map)
 }
 
-/// The union of two maps that are lent, by one pass over both.
+/// The union of two borrowed maps by a merge of both.
 fn merged<T: Integer, V: Eq + Clone>(
     left: &RangeMapBlaze<T, V>,
     right: &RangeMapBlaze<T, V>,
@@ -198,8 +198,7 @@ fn merged<T: Integer, V: Eq + Clone>(
     )
 }
 
-/// The union of two maps by value, by one pass over both. A value is cloned only for a piece that leaves a rest of its range
-/// behind.
+/// The union of two owned maps by a merge of both. A value is cloned only for a piece that is not the last of its range.
 fn merged_by_value<T: Integer, V: Eq + Clone>(
     left: RangeMapBlaze<T, V>,
     right: RangeMapBlaze<T, V>,
