@@ -1,4 +1,4 @@
-//! The operations between many maps are those between two, where there are two.
+//! With two maps, the operations between many are those between two.
 ghost use Rattle.blaze_streams.specs.JoinAnswers.{either, both};
 ghost use Rattle.range_map_multi.specs.ManyJoins.{shown_row, shown_full_row};
 ghost use Rattle.range_map_multi.specs.ManyLaws.{UnionOfTwoIsOr, IntersectionOfTwoIsAnd};
@@ -23,8 +23,8 @@ pub fn symmetric_difference_of_two_is_xor<T: Integer, V: Eq>()
     ensures { SymmetricDifferenceOfTwoIsXor V.eq T.low T.high }
 {}
 
-/// `inner_join` of two maps has the ranges of `inner_join` of one with the other and equal values, where their closures answer
-/// the same.
+/// `inner_join` of two maps has the ranges of `inner_join` of one with the other, with equal values, if their closures return the
+/// same.
 pub fn inner_join_of_two_is_inner_join<
     T: Integer,
     V: Eq,
@@ -36,7 +36,8 @@ pub fn inner_join_of_two_is_inner_join<
         (both (λ v. v.now) (λ v. v.now)) G.FnMut V.eq W.eq T.low T.high }
 {}
 
-/// The same of `full_join`.
+/// `full_join` of two maps has the ranges of `full_join` of one with the other, with equal values, if their closures return the
+/// same.
 pub fn full_join_of_two_is_full_join<
     T: Integer,
     V: Eq,

@@ -1,4 +1,4 @@
-//! The intersection of many maps that are lent.
+//! The intersection of many borrowed maps.
 ghost use Rattle.std.specs.Prelude.{◌<◌, ◌∷◌, length, map, IfOk};
 ghost use Rattle.blaze_table.specs.Painted.{ClonesAreAlike};
 ghost use Rattle.range_map_blaze.specs.Made.{IsMade};
@@ -15,10 +15,10 @@ use blaze_streams::{CanonMapIter, SortedDisjointMap, intersection_of};
 use range_map_blaze::RangeMapBlaze;
 use std::alloc::{AllocError, Global};
 
-/// So many maps at most are gone through one after another: a list on the keys that all so far have may grow with each of them.
+/// The most maps that are searched one after another. The list of the keys that remain may get longer with each of them.
 const MOST: usize = 16;
 
-/// The value of the last map, where all have one; of no maps nothing.
+/// The keys that all maps have, with the value of the last map; nothing for no maps.
 pub fn lent_intersection<'a, T: Integer, V: Eq + Clone, M: AsMap<T, V>>(
     alloc: Global,
     maps: &'a [M],
@@ -33,7 +33,7 @@ pub fn lent_intersection<'a, T: Integer, V: Eq + Clone, M: AsMap<T, V>>(
     }
 }
 
-/// The same by rounds of merges.
+/// The intersection by rounds of merges.
 fn intersected<'a, T: Integer, V: Eq + Clone, M: AsMap<T, V>>(
     alloc: Global,
     maps: &'a [M],
@@ -46,7 +46,7 @@ fn intersected<'a, T: Integer, V: Eq + Clone, M: AsMap<T, V>>(
     RangeMapBlaze::from_sorted_disjoint_map(alloc, list)
 }
 
-/// The same, from the entries of the map at a place on: in the other maps, what is left of them is sought.
+/// The intersection from the entries of one map on, which are searched in the other maps.
 fn intersected_from<'a, T: Integer, V: Eq + Clone, M: AsMap<T, V>>(
     alloc: Global,
     maps: &'a [M],
@@ -61,7 +61,7 @@ fn intersected_from<'a, T: Integer, V: Eq + Clone, M: AsMap<T, V>>(
     with_last(alloc, shared, &maps[place + 1..])
 }
 
-/// A list on the keys that all maps have too, with its own values. Refused memory drops it.
+/// The keys of a list that all maps have too, with the list's values. If an allocation fails, the list is dropped.
 fn on_all<'a, T: Integer, V: Eq + Clone, M: AsMap<T, V>>(
     alloc: Global,
     list: CanonMapIter<T, &'a V>,
@@ -77,7 +77,7 @@ fn on_all<'a, T: Integer, V: Eq + Clone, M: AsMap<T, V>>(
     Ok(shared)
 }
 
-/// The value of the last of a list and maps, where all have one. Refused memory drops the list.
+/// The keys that a list and all maps have, with the value of the last of these. If an allocation fails, the list is dropped.
 fn with_last<'a, T: Integer, V: Eq + Clone, M: AsMap<T, V>>(
     alloc: Global,
     list: CanonMapIter<T, &'a V>,

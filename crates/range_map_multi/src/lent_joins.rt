@@ -1,4 +1,4 @@
-//! Joins of many maps that are lent.
+//! Joins of many borrowed maps.
 ghost use Rattle.std.specs.Prelude.{map, is_some, IfOk};
 ghost use Rattle.std.specs.List.{list_all, list_any};
 ghost use Rattle.range_map_multi.specs.ManyJoins.{shown_row, shown_full_row, IsCallableAtRows};
@@ -22,7 +22,7 @@ impl<'a, V: Eq> Shows<&'a V> for ByReference {
     ghost shown = { λ v. v.now };
 }
 
-/// What a closure returns where all maps have a value.
+/// The results of a closure where all maps have a value.
 pub fn lent_inner_join<
     'a,
     T: Integer,
@@ -41,7 +41,7 @@ pub fn lent_inner_join<
     map_of(alloc, answers)
 }
 
-/// What a closure returns where at least one map has a value.
+/// The results of a closure where at least one map has a value.
 pub fn lent_full_join<
     'a,
     T: Integer,

@@ -1,4 +1,4 @@
-//! Operations between any number of maps.
+//! Operations between any number of maps, or of streams.
 #![tactic(auto)]
 
 pub mod laws;

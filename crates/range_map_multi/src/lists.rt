@@ -1,11 +1,11 @@
-//! Streams as lists.
+//! Streams as lists, which all operations between two take.
 ghost use Rattle.std.specs.Prelude.{◌≡◌, IfOk};
 
 use blaze_int::Integer;
 use blaze_streams::{CanonMapIter, SortedDisjointMap, ValueCarrier};
 use std::alloc::{AllocError, Global};
 
-/// What is left of a stream, as a list.
+/// The ranges that a stream has not yet given, as a list.
 pub fn list_of<T: Integer, VC: ValueCarrier, I: SortedDisjointMap<T, VC>>(
     alloc: Global,
     stream: I,

@@ -17,7 +17,15 @@ use blaze_int::Integer;
 use range_map_blaze::RangeMapBlaze;
 use std::alloc::{AllocError, Global};
 
-/// Operations between any number of maps that are lent. Refused memory leaves the maps unchanged.
+/// Operations between any number of borrowed maps: a `Vec` or an array of references to maps. If an allocation fails, the maps
+/// are unchanged. The examples of the methods start from these values, where `alloc` is `rt.alloc()`; the comment behind a line
+/// is its result:
+///
+/// ```
+/// let map = RangeMapBlaze::from_ranges(alloc, [(10..=14, 'a'), (15..=15, 'b'), (30..=39, 'c')])?;
+/// let other = RangeMapBlaze::from_ranges(alloc, [(12..=15, 'b')])?;
+/// [&map, &other].union(alloc)?; // (10..=11, 'a'), (12..=15, 'b'), (30..=39, 'c')
+/// ```
 pub trait MultiwayRangeMapBlazeRef<T: Integer, V: Eq + Clone>: Sized {
     // The entries of each map, first to last.
     ghost lists: { Self → List (List (Entry V)) };
@@ -29,9 +37,15 @@ pub trait MultiwayRangeMapBlazeRef<T: Integer, V: Eq + Clone>: Sized {
         requires { ClonesAreAlike V.is_clone V.eq }
         ensures { IfOk result (IsMade (IsChosenOfMany V.eq T.low T.high last_value (lists self))) };
 
-    /// Each key that all maps have, with the last map's value. There is to be at least one map. Each entry of the answer takes
-    /// one clone of its value. With n entries in k maps it takes O(n log k) steps. Of 3 to 16 maps it begins with the smallest;
-    /// in each other one it seeks what is left, as `&` does.
+    /// Returns the keys that all maps have, with the value of the last map. It requires at least one map. Each entry of the
+    /// result has a clone of its value.
+    ///
+    /// Allocates. If an allocation fails, the maps are unchanged. O(n log k) for n entries in k maps. With 3 to 16 maps it begins
+    /// with the smallest, and searches the others only for the keys that remain, as `&` does.
+    ///
+    /// ```
+    /// [&map, &other].intersection(alloc)?; // (12..=15, 'b')
+    /// ```
     fn intersection(self, alloc: Global) -> Result<RangeMapBlaze<T, V>, AllocError>
         requires clones { ClonesAreAlike V.is_clone V.eq }
         requires some { 0 < length (lists self) }
@@ -43,10 +57,16 @@ pub trait MultiwayRangeMapBlazeRef<T: Integer, V: Eq + Clone>: Sized {
         requires { ClonesAreAlike V.is_clone V.eq }
         ensures { IfOk result (IsMade (IsChosenOfMany V.eq T.low T.high last_of_odd (lists self))) };
 
-    /// What a closure returns where all maps have a value: one call for each of the greatest ranges on which no map changes and
-    /// all have a value, ascending. A call gets the row of the maps' values, first to last. Touching equal answers are one
-    /// entry. Of no maps the closure is called once, with an empty row, and its answer is at every key. With n entries in k maps
-    /// it takes O(n k) steps and O(n + k) memory beside the answer. No value is cloned. Refused memory drops the answers.
+    /// Returns the map with the results of `f` at the keys that have a value in all maps. It calls `f` once for each of the
+    /// longest ranges on which no map changes, ascending, with the row of the values, first map to last. Touching ranges with
+    /// equal results become one entry. With no maps it calls `f` once, with an empty row, and every key has the result.
+    ///
+    /// No value is cloned. Allocates O(n + k) besides the result, for n entries in k maps. If an allocation fails, the maps are
+    /// unchanged and the results of `f` are dropped. O(n k).
+    ///
+    /// ```
+    /// [&map, &other].inner_join(alloc, |row| row.first() == row.last())?; // (12..=14, false), (15..=15, true)
+    /// ```
     fn inner_join<W: Eq + Clone, F: FnMut(&[&V]) -> W>(
         self,
         alloc: Global,
@@ -56,7 +76,17 @@ pub trait MultiwayRangeMapBlazeRef<T: Integer, V: Eq + Clone>: Sized {
             T.high (list_all is_some) f (lists self) }
         ensures { IfOk result (IsMade (IsManyJoined (λ a. shown_full_row (λ v. v.now) a.0.now) F.FnMut V.eq T.low T.high (list_all is_some) W.eq f (lists self))) };
 
-    /// The same where at least one map has a value, with `None` for each that has none; of no maps nothing, and no call.
+    /// Returns the map with the results of `f` at the keys that have a value in at least one map. It calls `f` once for each of
+    /// the longest ranges on which no map changes, ascending. A call gets the row of the values, first map to last, with `None`
+    /// for each map without one. Touching ranges with equal results become one entry. With no maps the result is empty, and there
+    /// is no call.
+    ///
+    /// No value is cloned. Allocates O(n + k) besides the result, for n entries in k maps. If an allocation fails, the maps are
+    /// unchanged and the results of `f` are dropped. O(n k).
+    ///
+    /// ```
+    /// [&map, &other].full_join(alloc, |row| row.first() == row.last())?; // (10..=14, false), (15..=15, true), (30..=39, false)
+    /// ```
     fn full_join<W: Eq + Clone, F: FnMut(&[Option<&V>]) -> W>(
         self,
         alloc: Global,
@@ -138,7 +168,14 @@ impl<T: Integer, V: Eq + Clone, M: MapRef<T, V>, const N: usize> MultiwayRangeMa
     }
 }
 
-/// Operations between any number of maps. Refused memory drops the maps.
+/// Operations between any number of owned maps: a `Vec` or an array of maps. If an allocation fails, the maps are dropped. The
+/// examples of the methods start from these values, where `alloc` is `rt.alloc()`; the comment behind a line is its result:
+///
+/// ```
+/// let map = RangeMapBlaze::from_ranges(alloc, [(10..=14, 'a'), (15..=15, 'b'), (30..=39, 'c')])?;
+/// let other = RangeMapBlaze::from_ranges(alloc, [(12..=15, 'b')])?;
+/// [map, other].union(alloc)?; // (10..=11, 'a'), (12..=15, 'b'), (30..=39, 'c')
+/// ```
 pub trait MultiwayRangeMapBlaze<T: Integer, V: Eq + Clone>: Sized {
     // The entries of each map, first to last.
     ghost lists: { Self → List (List (Entry V)) };
@@ -151,9 +188,15 @@ pub trait MultiwayRangeMapBlaze<T: Integer, V: Eq + Clone>: Sized {
         requires { ClonesAreAlike V.is_clone V.eq }
         ensures { IfOk result (IsMade (IsChosenOfMany V.eq T.low T.high last_value (lists self))) };
 
-    /// Each key that all maps have, with the last map's value. There is to be at least one map. Each entry of the answer takes
-    /// one clone of its value. With n entries in k maps it takes O(n log k) steps. Of 3 to 16 maps it begins with the smallest;
-    /// in each other one it seeks what is left, as `&` does.
+    /// Returns the keys that all maps have, with the value of the last map. It requires at least one map. Each entry of the
+    /// result has a clone of its value.
+    ///
+    /// Allocates. If an allocation fails, the maps are dropped. O(n log k) for n entries in k maps. With 3 to 16 maps it begins
+    /// with the smallest, and searches the others only for the keys that remain, as `&` does.
+    ///
+    /// ```
+    /// [map, other].intersection(alloc)?; // (12..=15, 'b')
+    /// ```
     fn intersection(self, alloc: Global) -> Result<RangeMapBlaze<T, V>, AllocError>
         requires clones { ClonesAreAlike V.is_clone V.eq }
         requires some { 0 < length (lists self) }

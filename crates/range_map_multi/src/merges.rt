@@ -1,5 +1,5 @@
-//! Rounds of merges: of many streams each half is made one, and then the two. With n ranges in k streams that is O(n log k)
-//! steps. A stream goes into its first merge as it was given.
+//! Rounds of merges: each half of the streams is merged into one, and then the two halves. This is O(n log k) for n ranges in k
+//! streams. A stream is part of its first merge as it was given, without a copy.
 ghost use Rattle.std.specs.Prelude.{◌<◌, map, IfOk};
 ghost use Rattle.std.specs.Vec.{vec_len};
 ghost use Rattle.range_map_multi.specs.Merges.{GivesEach};
@@ -10,7 +10,7 @@ use blaze_int::Integer;
 use blaze_streams::{CanonMapIter, SortedDisjointMap, ValueCarrier};
 use std::alloc::{AllocError, Global};
 
-/// What an operation between at most three streams gives. Refused memory drops the streams.
+/// The result of an operation between at most three streams. If an allocation fails, the streams are dropped.
 fn merged_few<T: Integer, VC: ValueCarrier, I: SortedDisjointMap<T, VC>, O: Operation<T, VC>>(
     alloc: Global,
     mut streams: Vec<I>,
@@ -32,7 +32,7 @@ fn merged_few<T: Integer, VC: ValueCarrier, I: SortedDisjointMap<T, VC>, O: Oper
     }
 }
 
-/// What an operation between many streams gives. Refused memory drops the streams.
+/// The result of an operation between many streams. If an allocation fails, the streams are dropped.
 pub fn merged<T: Integer, VC: ValueCarrier, I: SortedDisjointMap<T, VC>, O: Operation<T, VC>>(
     alloc: Global,
     mut streams: Vec<I>,

@@ -1,4 +1,4 @@
-//! Operations between many streams, each made by one between two.
+//! Operations between many streams, each by an operation between two.
 ghost use Rattle.std.specs.Prelude.{◌≡◌, [], ◌∷◌, List, Option, None, Some, refl, is_some, IfOk};
 ghost use Rattle.blaze_table.specs.Entries.{SameOption};
 ghost use Rattle.range_map_multi.specs.Many.{last_value, last_of_all, has_odd};
@@ -11,12 +11,12 @@ use blaze_streams::{
 };
 use std::alloc::{AllocError, Global};
 
-/// An operation between many streams that goes by what they have at a key, first to last.
+/// An operation between many streams whose result at a key depends only on what they have there, first to last.
 pub trait Operation<T: Integer, VC: ValueCarrier> {
     // Whether a value or none is given for the row of what streams have at a key.
     ghost gives: { List (Option VC.Value) → Option VC.Value → Type 0 };
 
-    /// One stream for two, where each of the two is given for some of many. Refused memory drops both.
+    /// One stream for two, each of which is the result for some of many. If an allocation fails, both are dropped.
     fn merge<L: SortedDisjointMap<T, VC>, R: SortedDisjointMap<T, VC>>(
         alloc: Global,
         left: L,
@@ -70,7 +70,7 @@ impl<T: Integer, VC: ValueCarrier> Operation<T, VC> for Intersection {
     ghost of_one = { elim [ None ↦ tt | Some x ↦ VC.Value.Eq.laws.refl x ] };
 }
 
-/// The keys that an odd number of streams have, each with one of their values.
+/// The keys that an odd number of streams have, each with the value of one of them.
 pub struct OddKeys;
 
 impl<T: Integer, VC: ValueCarrier> Operation<T, VC> for OddKeys {

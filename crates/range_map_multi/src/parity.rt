@@ -1,4 +1,5 @@
-//! Streams as lists, each with a second list of its ranges alone, since a symmetric difference of many goes through them twice.
+//! Streams as lists, each with a second list of its ranges. A symmetric difference of many needs both: the keys that an odd
+//! number of streams have, and the last value at each of them.
 ghost use Rattle.std.specs.Prelude.{◌≡◌, map, IfOk};
 ghost use Rattle.range_map_multi.specs.Parts.{in_places};
 
@@ -6,7 +7,8 @@ use blaze_int::Integer;
 use blaze_streams::{CanonMapIter, SortedDisjointMap, ValueCarrier};
 use std::alloc::{AllocError, Global};
 
-/// What is left of a stream, as a list, and its ranges with their places, which keep touching ranges apart.
+/// The ranges that a stream has not yet given, as a list with carriers, and as one with positions. The positions keep touching
+/// ranges separate.
 fn with_keys<T: Integer, VC: ValueCarrier, I: SortedDisjointMap<T, VC>>(
     alloc: Global,
     stream: I,
@@ -27,7 +29,7 @@ fn with_keys<T: Integer, VC: ValueCarrier, I: SortedDisjointMap<T, VC>>(
     Ok((CanonMapIter::new(items), CanonMapIter::new(keys)))
 }
 
-/// The same of each stream.
+/// Both lists of each stream.
 pub fn all_with_keys<T: Integer, VC: ValueCarrier, I: SortedDisjointMap<T, VC>>(
     alloc: Global,
     streams: Vec<I>,

@@ -1,4 +1,5 @@
-//! Streams taken apart: the ranges with their places, to be gone through together, and the carriers at these places.
+//! Streams in two parts: the ranges with positions, which a join goes through, and the carriers at these positions, from which it
+//! makes rows.
 ghost use Rattle.std.specs.Prelude.{◌≡◌, map, IfOk};
 ghost use Rattle.blaze_table.specs.Canonical.{IsRangeMap};
 ghost use Rattle.range_map_multi.specs.Parts.{HasPlacedValues, AllPlaced, AllRangeMaps};
@@ -7,7 +8,7 @@ use blaze_int::Integer;
 use blaze_streams::{CanonMapIter, Cursor, PlaceCursor, SortedDisjointMap, ValueCarrier};
 use std::alloc::{AllocError, Global};
 
-/// The ranges of a stream with their places, and its carriers. Refused memory drops the stream.
+/// The ranges of a stream with their positions, and its carriers. If an allocation fails, the stream is dropped.
 fn parts_of<T: Integer, VC: ValueCarrier, I: SortedDisjointMap<T, VC>>(
     alloc: Global,
     stream: I,
@@ -28,7 +29,7 @@ fn parts_of<T: Integer, VC: ValueCarrier, I: SortedDisjointMap<T, VC>>(
     Ok((Cursor::new(ranges), carriers))
 }
 
-/// The same of each stream.
+/// Both parts of each stream. If an allocation fails, the streams are dropped.
 pub fn all_parts_of<T: Integer, VC: ValueCarrier, I: SortedDisjointMap<T, VC>>(
     alloc: Global,
     streams: Vec<I>,

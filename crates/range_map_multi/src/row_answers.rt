@@ -1,5 +1,5 @@
-//! What a closure returns at the segments of many lists, by their ranges with places and the items at these places. One segment
-//! is found at a time: with n ranges in k lists and s segments it takes O(n + s k) steps, and O(k) memory beside the answer.
+//! The results of a closure at the segments of many lists, whose ranges have the positions of their items. The segments are made
+//! one at a time: O(n + s k) for n ranges in k lists and s segments, with O(k) memory besides the result.
 ghost use Rattle.std.specs.Prelude.{[], ◌<◌, length, map, is_some, IfOk};
 ghost use Rattle.std.specs.List.{list_all, list_any};
 ghost use Rattle.range_map_multi.specs.ManyJoins.{shown_row, shown_full_row, IsCallableAtRows};
@@ -11,8 +11,8 @@ use blaze_int::Integer;
 use blaze_streams::{CanonMapIter, Owned, PlaceCursor, next_segment, push_joined};
 use std::alloc::{AllocError, Global};
 
-/// What a closure returns where at least one list has something: one call for each segment, ascending. Refused memory drops
-/// the answers.
+/// The results of a closure where at least one list has an item: one call for each segment, ascending. If an allocation fails,
+/// the results are dropped.
 pub fn full_answers<T: Integer, A: Copy, S: Shows<A>, W: Eq + Clone, F: FnMut(&[Option<A>]) -> W>(
     alloc: Global,
     cursors: &mut [PlaceCursor<T>],
@@ -40,8 +40,8 @@ pub fn full_answers<T: Integer, A: Copy, S: Shows<A>, W: Eq + Clone, F: FnMut(&[
     Ok(CanonMapIter::new(out))
 }
 
-/// What a closure returns where all lists have something, of which there is at least one: one call for each such segment,
-/// ascending. Refused memory drops the answers.
+/// The results of a closure where all of at least one list have an item: one call for each such segment, ascending. If an
+/// allocation fails, the results are dropped.
 fn inner_answers_of_some<T: Integer, A: Copy, S: Shows<A>, W: Eq + Clone, F: FnMut(&[A]) -> W>(
     alloc: Global,
     cursors: &mut [PlaceCursor<T>],
@@ -74,7 +74,7 @@ fn inner_answers_of_some<T: Integer, A: Copy, S: Shows<A>, W: Eq + Clone, F: FnM
     Ok(CanonMapIter::new(out))
 }
 
-/// What a closure returns at the row of no lists, at every key: one call.
+/// The result of a closure at the empty row, at every key: one call.
 fn inner_answers_of_none<T: Integer, A: Copy, S: Shows<A>, W: Eq + Clone, F: FnMut(&[A]) -> W>(
     alloc: Global,
     mut f: F,
@@ -94,8 +94,8 @@ fn inner_answers_of_none<T: Integer, A: Copy, S: Shows<A>, W: Eq + Clone, F: FnM
     Ok(CanonMapIter::new(out))
 }
 
-/// What a closure returns where all lists have something: one call for each such segment, ascending. Of no lists the closure
-/// is called once, and its answer is at every key. Refused memory drops the answers.
+/// The results of a closure where all lists have an item: one call for each such segment, ascending. With no lists the closure is
+/// called once, and every key has the result. If an allocation fails, the results are dropped.
 pub fn inner_answers<T: Integer, A: Copy, S: Shows<A>, W: Eq + Clone, F: FnMut(&[A]) -> W>(
     alloc: Global,
     cursors: &mut [PlaceCursor<T>],

@@ -1,4 +1,4 @@
-//! Rows: what many lists have at a segment, first to last.
+//! Rows: the items of many lists at a segment, first list to last.
 ghost use Rattle.std.specs.Prelude.{◌≡◌, ◌≤◌, length, map, Some, false, is_some, IfOk, OnOk};
 ghost use Rattle.std.specs.Prelude.{MatchBool};
 ghost use Rattle.std.specs.List.{list_all, slice_get};
@@ -7,7 +7,7 @@ ghost use Rattle.range_map_multi.specs.Parts.{picked};
 
 use std::alloc::AllocError;
 
-/// What an item of a row stands for.
+/// The value that an item of a row stands for.
 pub trait Shows<A> {
     /// The type of the value.
     type Value: Eq;
@@ -16,7 +16,7 @@ pub trait Shows<A> {
     ghost shown: { A → Self.Value };
 }
 
-/// The item at a place of a list, where there is one.
+/// The item at a position of a list, if there is a position.
 fn item_at<A: Copy>(list: &[A], place: Option<usize>) -> Option<A>
     ensures { result ≡ option_and_then (slice_get list.now) place }
 {
@@ -26,7 +26,7 @@ fn item_at<A: Copy>(list: &[A], place: Option<usize>) -> Option<A>
     }
 }
 
-/// Makes the row of the items at places, one place of each list.
+/// Makes the row of the items at some positions, one of each list. The row is a parameter so that all segments use its memory.
 pub fn fill_row<A: Copy>(
     row: &mut Vec<Option<A>>,
     places: &[Option<usize>],
@@ -42,7 +42,7 @@ pub fn fill_row<A: Copy>(
     Ok(())
 }
 
-/// Makes the row of the items that are there, and returns whether all are.
+/// Makes the row without options, and returns whether all lists have an item.
 pub fn fill_full_row<A: Copy>(row: &mut Vec<A>, found: &[Option<A>]) -> Result<bool, AllocError>
     ensures { IfOk result (λ all. MatchBool all (map Some row.new.items
         ≡ found.now) (list_all is_some found.now ≡ false)) }
