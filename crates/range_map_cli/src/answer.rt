@@ -1,4 +1,4 @@
-//! What a request answers, by the range map.
+//! The answer to a request, from the range map.
 ghost use Rattle.std.specs.Prelude.{◌≡◌, ◌≢◌, ◌++◌, [], ℤ, IfSome, OnErr, OnOk, option_map};
 ghost use Rattle.std.specs.Prelude.{string_bytes};
 ghost use Rattle.std.specs.Option.{option_copied};
@@ -16,7 +16,7 @@ use range_map_blaze::RangeMapBlaze;
 use std::alloc::{AllocError, Global};
 use std::fmt::Write;
 
-/// A word, or a dash where there is none.
+/// A word, or a dash if there is none.
 fn word_or_dash(word: Option<&String>) -> &str
     ensures { result.now ≡ shown_word (option_map string_bytes (option_copied word.entry)) }
 {
@@ -26,7 +26,7 @@ fn word_or_dash(word: Option<&String>) -> &str
     }
 }
 
-/// The first and the last key of the entry that holds a key, or of the gap round it, with its word, or a dash.
+/// The first and the last key of the entry that contains a key, or of the gap around it, with its word, or a dash.
 fn piece_at(map: &RangeMapBlaze<i64, String>, key: i64) -> (i64, i64, &str)
     ensures piece { IsGreatestPiece least_key greatest_key (content_of map.now.entries) key
         result.0 result.1 }
@@ -38,7 +38,7 @@ fn piece_at(map: &RangeMapBlaze<i64, String>, key: i64) -> (i64, i64, &str)
     (start, end, word_or_dash(word))
 }
 
-/// Puts a line with a step's answer behind a text; nothing for a pop or a step that answers nothing.
+/// Appends a line with a step's answer to a text, and nothing if the answer is not printed.
 fn put_answer(reply: &mut String, answer: Answer<i64, String>) -> Result<(), AllocError>
     ensures { OnOk result (string_bytes reply.new ≡ string_bytes reply.old ++ answer_text answer) }
 {
@@ -52,7 +52,7 @@ fn put_answer(reply: &mut String, answer: Answer<i64, String>) -> Result<(), All
     }
 }
 
-/// Does a step, and puts what is printed for its command in the place of an empty reply.
+/// Does a step, and writes what is printed for its command to an empty reply.
 fn answer_step(
     map: &mut RangeMapBlaze<i64, String>,
     reply: &mut String,
@@ -69,7 +69,7 @@ fn answer_step(
     put_answer(reply, answer)
 }
 
-/// Does what is asked, and puts what is printed for it in the place of the reply.
+/// Does a request, and replaces the reply by what is printed for it.
 pub fn answer(
     map: &mut RangeMapBlaze<i64, String>,
     reply: &mut String,

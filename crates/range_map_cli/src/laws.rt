@@ -27,44 +27,43 @@ pub fn counts_add_up<T: Integer, V: Eq>()
     ensures { CountsAddUp V.eq T.low T.high }
 {}
 
-/// After `split_off`, appending the answer gives a map equal to the first.
+/// After `split_off`, appending the returned map gives a map equal to the first.
 pub fn append_undoes_split<T: Integer, V: Eq>()
     ensures { AppendUndoesSplit V.eq T.low T.high }
 {}
 
-/// `range_or_gap_at` at the least key, then behind each answer's end, covers the keys once, in order,
-/// and each answer's value is that of its keys.
+/// `range_or_gap_at` at the least key, and then above the end of each result, gives every key once, in order. The value of each
+/// result is that of its keys.
 pub fn look_ups_cover_keys<T: Integer, V: Eq>()
     ensures { LookUpsCover V.eq T.low T.high }
 {}
 
-/// `next` and `next_back` in any mix give each pair that a key-wise iterator has left once, and then
-/// `None` for good.
+/// `next` and `next_back`, in any order, give each pair that a key-wise iterator still has once, and then always `None`.
 pub fn each_pair_once<T: Integer, VC: ValueCarrier + Copy, I: BothEnds<T, VC>>()
     ensures { EachOnce (shown_key_value VC.shown) (pairs_left T.of_rank I.left) }
 {}
 
-/// The same of an iterator by value, each pair with a value that is `==` to the stored one, where no
-/// clone is refused; after a refusal it gives `None` for good too.
+/// `next` and `next_back` of an owned iterator, in any order, give each pair once, with a value that is `==` to the stored one,
+/// if no clone fails. After the last pair, or a failed clone, they always give `None`.
 pub fn each_owned_pair_once<T: Integer, V: Eq>()
     ensures { EachOnceOwned T.of_rank V.eq }
 {}
 
-/// `transform_values` keeps the mapped keys, and so `len`.
+/// `transform_values` keeps the keys that have a value, and so `len`.
 pub fn transform_values_keeps_keys<T: Integer, V: Eq, W: Eq, F: FnMut(&V) -> W>()
     ensures { AnswersAreOnItsKeys (λ a. a.0.now) F.FnMut W.eq T.low T.high }
 {
     range_map_blaze::laws::transform_values_keeps_keys::<T, V, W, F>();
 }
 
-/// `a | b` is `a` painted with the entries of `b` in order: in one call, entry by entry, or key by
-/// key. All give equal maps, and so do all paths of a union.
+/// `a | b` is `a` painted with the entries of `b` in order: in one call, entry by entry, or key by key. All give equal maps, and
+/// so do all paths of a union.
 pub fn union_is_painting<T: Integer, V: Eq>()
     ensures { UnionIsPainting V.eq T.low T.high }
 {}
 
-/// Paints and fills in any order, one after another: the value at a key is that of the last painted range that has it; without
-/// one, what was there; without that, the value of the first filled range that has it; else none. Without a fill it is painting
+/// Paints and fills in any order give a key the value of the last painted range that has it. Without such a range, the key keeps
+/// its old value. Without an old value, it gets the value of the first filled range that has it. Without fills this is painting
 /// in order.
 pub fn paints_and_fills_in_any_order<T: Integer, V: Eq>()
     ensures steps { StepsPaintAndFill V T.SafeLen T.rank T.low T.high }
@@ -86,13 +85,12 @@ pub fn empty_map_is_unit<V>()
     ensures { EmptyIsUnit V }
 {}
 
-/// Of maps with no key in common, `a | b` is `b | a`.
+/// If two maps have no key in common, `a | b` is `b | a`.
 pub fn disjoint_union_commutes<V>()
     ensures { DisjointUnionCommutes V }
 {}
 
-/// Where `u` has a value at every key, `u & a` is `a`, and `a & u` has the values of `u` on the keys
-/// of `a`.
+/// If `u` has a value at every key, `u & a` is `a`, and `a & u` has the values of `u` on the keys of `a`.
 pub fn universal_map_keeps<V>()
     ensures { UniversalKeeps V }
 {}

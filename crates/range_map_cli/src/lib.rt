@@ -1,4 +1,4 @@
-//! Answers the lines of a text about a range map, as they come.
+//! Answers the lines of a text about a range map, as they come; and does lists of steps on a map.
 #![tactic(auto)]
 
 mod answer;
@@ -19,15 +19,14 @@ pub use steps::run;
 /// How a session ended.
 #[derive(Clone, Copy, Debug, PartialEq, Eq)]
 pub enum End {
-    /// The text was answered to its end.
+    /// All lines were answered.
     Done,
-    /// A line was bad. The lines before it were answered, and nothing after it was read.
+    /// A line was invalid. The lines before it were answered, and nothing after it was read.
     BadLine,
-    /// Memory was refused in the answer to a line. The lines before it were answered, and a line `out of memory` was
-    /// written.
+    /// An allocation for the answer to a line failed. The lines before it were answered, and a line `out of memory` was written.
     NoMemory,
     /// A read failed, or 2^64 - 1 reads did not reach the end of the text.
     ReadFault,
-    /// A write failed, or took nothing of a text that is not empty. Not all of the output was written.
+    /// A write failed, or wrote no byte of a text that is not empty. Not all of the output was written.
     WriteFault,
 }

@@ -3,10 +3,10 @@ ghost use Rattle.std.specs.Prelude.{◌≡◌, ◌==◌, ◌≤◌, ◌++◌, �
 
 use std::marker::Model;
 
-/// How many bytes of a line are kept: one more than a good line may have.
+/// How many bytes of a line are kept: one more than a valid line may have.
 const ROOM: usize = 81;
 
-/// The first bytes of a line, at most 81. They take no memory from an allocator. A clause sees the list of them.
+/// The first bytes of a line, at most 81. They are in the struct and not allocated. Contracts see the list of them.
 #[derive(Drop)]
 pub struct Line {
     bytes: [u8; ROOM],
@@ -46,7 +46,7 @@ impl Line {
         self.count == 0
     }
 
-    /// Keeps the next bytes of the line, as many as there is room for.
+    /// Keeps the next bytes of the line, as many as there is space for.
     pub fn keep(&mut self, bytes: &[u8])
         ensures { self.new ≡ take 81 (self.old ++ bytes.now) }
     {

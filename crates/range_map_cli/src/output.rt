@@ -1,15 +1,15 @@
-//! Texts on their way to a writer.
+//! Texts that wait for a writer.
 ghost use Rattle.std.specs.Prelude.{◌≡◌, ◌++◌, [], OnOk, OnErr};
 ghost use Rattle.std.specs.Io.KnownBytes.{Appends};
 ghost use Rattle.range_map_cli.specs.Sessions.{Forwards, Stops};
 
 use std::io::Write;
 
-/// A write failed, or took nothing.
+/// A write failed, or wrote no byte.
 #[derive(Debug, Drop)]
 pub struct WriteFailed;
 
-/// Writes all of the text. At an error a beginning of it was written, and not all.
+/// Writes all of the text. If it fails, a first part of it was written, perhaps nothing, but not all.
 pub fn write_text<W: Write>(output: &mut W, text: &[u8]) -> Result<(), WriteFailed>
     ensures ok { OnOk result (Appends (W.contents output.old) (W.contents output.new) text.now) }
     ensures err { OnErr result (Stops (W.contents output.old) (W.contents output.new) text.now) }
@@ -28,7 +28,7 @@ pub fn write_text<W: Write>(output: &mut W, text: &[u8]) -> Result<(), WriteFail
     Ok(())
 }
 
-/// Writes all that waits. At an error a beginning of it was written, and not all.
+/// Writes all bytes that wait. If it fails, a first part of them was written, perhaps nothing, but not all.
 pub fn flush<W: Write>(waiting: &mut Vec<u8>, output: &mut W) -> Result<(), WriteFailed>
     ensures ok { OnOk result
         (Appends (W.contents output.old) (W.contents output.new) waiting.old.items) }
@@ -41,8 +41,8 @@ pub fn flush<W: Write>(waiting: &mut Vec<u8>, output: &mut W) -> Result<(), Writ
     Ok(())
 }
 
-/// Puts a text behind what waits, where it has room; else what waits is written first. A text with no room at all is
-/// written at once. At an error a beginning of what waited and the text was written, and not all.
+/// Appends a text to the bytes that wait. If there is no space for it, writes those bytes first, and a text with no space at all
+/// right after them. If it fails, a first part of the bytes and the text was written, perhaps nothing, but not all.
 pub fn put<W: Write>(waiting: &mut Vec<u8>, output: &mut W, text: &[u8]) -> Result<(), WriteFailed>
     ensures ok { OnOk result (Forwards (W.contents output.old) (W.contents output.new)
         (waiting.old.items ++ text.now) waiting.new.items) }

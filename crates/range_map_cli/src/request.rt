@@ -1,4 +1,4 @@
-//! What a line asks.
+//! The request of a line.
 ghost use Rattle.std.specs.Prelude.{◌≡◌, ◌∷◌, [], ◌<◌, ◌^◌, true, false, MatchOption, option_map};
 ghost use Rattle.std.specs.Str.Parse.{digits_value};
 ghost use Rattle.std.specs.List.{list_all};
@@ -8,7 +8,7 @@ ghost use Rattle.range_map_cli.specs.Commands.{is_word, is_digits};
 
 use crate::split::split_once;
 
-/// What a good line asks.
+/// The request of a valid line.
 #[derive(Clone, Copy, Debug)]
 pub enum Request<'a> {
     Blank,
@@ -22,7 +22,7 @@ pub enum Request<'a> {
     Entries,
 }
 
-/// The number that one to nineteen digits write.
+/// The number of one to nineteen digits.
 fn digits(text: &[u8]) -> Option<u64>
     ensures { MatchOption result (is_digits text.now ≡ false) (λ n. (is_digits text.now ≡ true)
         × (n ≡ digits_value 10 text.now) × (n < 10 ^ 19)) }
@@ -40,7 +40,7 @@ fn digits(text: &[u8]) -> Option<u64>
     Some(value)
 }
 
-/// The number that digits write, after a minus where it is negative.
+/// The number of digits, after a minus if it is negative.
 fn number(text: &[u8]) -> Option<i64>
     ensures { result ≡ written_number text.now }
 {
@@ -51,7 +51,7 @@ fn number(text: &[u8]) -> Option<i64>
     }
 }
 
-/// Each byte is a letter or a digit.
+/// Whether each byte is a letter or a digit.
 #[tactic(auto, using(std::proofs::lemmas::List::Folds::list_all_more, std::proofs::lemmas::List::Folds::list_all_at))]
 fn is_alphanumeric(text: &[u8]) -> bool
     ensures { result ≡ list_all is_ascii_alphanumeric text.now }
@@ -64,7 +64,7 @@ fn is_alphanumeric(text: &[u8]) -> bool
     true
 }
 
-/// The text, where it is one to thirty-two letters and digits.
+/// The text, if it is one to thirty-two letters and digits.
 fn word(text: &[u8]) -> Option<&str>
     ensures { MatchOption result (is_word text.now ≡ false) (λ word. (is_word text.now ≡ true)
         × (word.now ≡ text.now)) }
@@ -78,7 +78,7 @@ fn word(text: &[u8]) -> Option<&str>
     }
 }
 
-/// What a line of one word asks.
+/// The request of a line of one word.
 fn read_one(name: &[u8]) -> Option<Request<'static>>
     ensures { option_map asked result ≡ command_of_words (name.now ∷ []) }
 {
@@ -91,7 +91,7 @@ fn read_one(name: &[u8]) -> Option<Request<'static>>
     }
 }
 
-/// What a line of two words asks.
+/// The request of a line of two words.
 fn read_two(name: &[u8], key: &[u8]) -> Option<Request<'static>>
     ensures { option_map asked result ≡ command_of_words (name.now ∷ key.now ∷ []) }
 {
@@ -106,7 +106,7 @@ fn read_two(name: &[u8], key: &[u8]) -> Option<Request<'static>>
     }
 }
 
-/// What a line of three words asks.
+/// The request of a line of three words.
 fn read_three<'a>(name: &[u8], key: &[u8], value: &'a [u8]) -> Option<Request<'a>>
     ensures { option_map asked result ≡ command_of_words (name.now ∷ key.now ∷ value.now ∷ []) }
 {
@@ -118,7 +118,7 @@ fn read_three<'a>(name: &[u8], key: &[u8], value: &'a [u8]) -> Option<Request<'a
     }
 }
 
-/// What a line of four words asks.
+/// The request of a line of four words.
 fn read_four<'a>(name: &[u8], lo: &[u8], hi: &[u8], value: &'a [u8]) -> Option<Request<'a>>
     ensures { option_map asked result
         ≡ command_of_words (name.now ∷ lo.now ∷ hi.now ∷ value.now ∷ []) }
@@ -136,7 +136,7 @@ fn read_four<'a>(name: &[u8], lo: &[u8], hi: &[u8], value: &'a [u8]) -> Option<R
     }
 }
 
-/// What the line asks; none where it is bad.
+/// The request of a line, or `None` if it is invalid.
 pub fn read(line: &[u8]) -> Option<Request<'_>>
     ensures { option_map asked result ≡ command_of line.now }
 {

@@ -1,4 +1,4 @@
-//! Serves a reader and a writer.
+//! Answers a reader's lines to a writer.
 ghost use Rattle.std.specs.Prelude.{◌≡◌};
 ghost use Rattle.range_map_cli.specs.Output.{Serves, Streams, StopsReading};
 
@@ -11,11 +11,11 @@ use std::io::{Read, Write};
 /// How many bytes a read asks for.
 const CHUNK: usize = 8192;
 
-/// Answers each line of the input as it comes, until the end of the input or a bad line.
+/// Answers each line of the input as it comes, until the end of the input or an invalid line. The range map is empty at first.
 ///
-/// The range map is empty at first. The answers to the lines that end in the bytes of one read are written before the
-/// next read, and none follows the read in which a bad line ends. A read or a write that fails is not tried again.
-/// What is written is of lines that were read, whatever the end. A text that asks nothing needs no memory.
+/// The answers to the lines that end in the bytes of one read are written before the next read. No read follows the one in which
+/// an invalid line ends. A read or a write that fails is not tried again. However it ends, only answers to lines that were read
+/// are written. A text without requests needs no memory.
 pub fn serve<R: Read, W: Write>(alloc: Global, input: &mut R, output: &mut W) -> End
     ensures closes { Serves (W.contents output.old) (W.contents output.new) (R.remaining input.old)
         (R.remaining input.new) result }

@@ -25,17 +25,17 @@ const ROOM: usize = 16384;
 
 pub const NO_MEMORY: &[u8] = b"out of memory\n";
 
-/// What is known between two bytes of the text.
+/// The state between two bytes of the text.
 #[derive(Drop)]
 pub struct Session {
     map: RangeMapBlaze<i64, String>,
     /// How many lines were answered; it stays at 2^64 - 1.
     number: u64,
-    /// The first bytes of a line whose end is still to be read.
+    /// The first bytes of a line whose end was not read yet.
     line: Line,
-    /// What is printed for the line that was answered last.
+    /// What is printed for the last line.
     reply: String,
-    /// Answers that are still to be written.
+    /// Answers that are not written yet.
     pub waiting: Vec<u8>,
 }
 
@@ -47,7 +47,7 @@ enum Fault {
 }
 
 impl Session {
-    /// The session before the first byte. Where there is no memory for answers that wait, each is written at once.
+    /// The session before the first byte. If there is no memory for answers that wait, each is written at once.
     pub fn new(alloc: Global) -> Self
         ensures map { result.map.entries ≡ [] }
         ensures number { result.number ≡ 0 }
@@ -94,7 +94,7 @@ impl Session {
     }
 }
 
-/// Writes what waits, and a last text.
+/// Writes the answers that wait, and a last text.
 pub fn close<W: Write>(waiting: &mut Vec<u8>, output: &mut W, text: &[u8], end: End) -> End
     ensures kind { (result ≡ end) ⊎ (result ≡ End.WriteFault) }
     ensures closes { (held : Option (List ℕ)) (all out : List ℕ) (n : ℕ)
@@ -111,7 +111,7 @@ pub fn close<W: Write>(waiting: &mut Vec<u8>, output: &mut W, text: &[u8], end: 
     end
 }
 
-/// Answers a line, and puts the answer behind the others; the bytes that are kept of a line stay.
+/// Answers a line, and appends the answer to the others. The kept bytes of a line stay.
 fn answer_line<W: Write>(
     session: &mut Session,
     alloc: Global,
@@ -143,7 +143,7 @@ fn answer_line<W: Write>(
     }
 }
 
-/// Ends a line: the bytes that are kept of it, and then these, its last.
+/// Ends a line, whose last bytes these are, after the kept ones.
 fn end_line<W: Write>(
     session: &mut Session,
     alloc: Global,
@@ -169,7 +169,7 @@ fn end_line<W: Write>(
     answer_line(session, alloc, output, bytes)
 }
 
-/// Takes the next bytes of the text: answers the lines that end in them, and keeps the beginning of the next.
+/// Takes the next bytes of the text: answers the lines that end in them, and keeps the first bytes of the next line.
 pub fn feed<W: Write>(
     session: &mut Session,
     alloc: Global,
@@ -193,7 +193,7 @@ pub fn feed<W: Write>(
     Ok(())
 }
 
-/// Answers what stands after the last LF, if anything does, and writes what waits.
+/// Answers the line after the last LF, if there is one, and writes the answers that wait.
 pub fn finish<W: Write>(session: &mut Session, alloc: Global, output: &mut W) -> End
     ensures kind { result ≢ End.ReadFault }
     ensures closes { (held : Option (List ℕ)) (text : List ℕ) (lines : ℕ)

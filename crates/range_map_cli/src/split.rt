@@ -1,7 +1,7 @@
 //! A text cut at a byte.
 ghost use Rattle.range_map_cli.specs.Lines.{IsCutAtByte};
 
-/// What stands before the first such byte, and what stands after it; none where the text has no such byte.
+/// The parts of a text before and after the first such byte, or `None` if the text has no such byte.
 pub fn split_once(text: &[u8], byte: u8) -> Option<(&[u8], &[u8])>
     ensures { IsCutAtByte byte text.now result }
 {

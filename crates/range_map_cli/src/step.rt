@@ -1,4 +1,4 @@
-//! Steps on a map, and what they answer.
+//! Steps on a map, and their answers.
 ghost use Rattle.std.specs.Prelude.{◌++◌, Some, codes};
 ghost use Rattle.std.specs.Fmt.{decimal};
 
@@ -7,64 +7,64 @@ use range_map_blaze::{RangeMapBlaze, RangeSetBlaze};
 use std::error::Error;
 use std::fmt::{self, Display, Formatter};
 
-/// A call that changes a map. `run` says what each does.
+/// A call that changes a map; `run` does it. If the first key of a range is above the last, the range is empty.
 #[derive(Drop)]
 pub enum Step<T: Integer, V: Eq> {
-    /// Puts a value on the keys from one to another; where the first is above the last it changes nothing.
+    /// Sets the value of every key from the first key to the second.
     Paint(T, T, V),
-    /// Puts a value on those keys from one to another that have none; where the first is above the last it changes nothing.
+    /// Sets the value of every key from the first key to the second that has none.
     Fill(T, T, V),
-    /// Puts a value on a key.
+    /// Sets the value of a key.
     Insert(T, V),
-    /// Takes a key out.
+    /// Removes a key.
     Remove(T),
-    /// Takes the least key out.
+    /// Removes the least key that has a value.
     PopFirst,
-    /// Takes the greatest key out.
+    /// Removes the greatest key that has a value.
     PopLast,
-    /// Takes all keys out.
+    /// Removes all keys.
     Clear,
-    /// Keeps the keys below one.
+    /// Keeps the keys below the given one.
     KeepBelow(T),
-    /// Keeps the keys from one on.
+    /// Keeps the given key and those above it.
     KeepFrom(T),
-    /// Puts another map's values over the map.
+    /// Sets the values of another map's keys to those of that map.
     Or(RangeMapBlaze<T, V>),
-    /// Keeps the keys that another map has too, with its values.
+    /// Keeps the keys that have a value in another map too, with its values.
     And(RangeMapBlaze<T, V>),
-    /// Takes out the keys that another map has.
+    /// Removes the keys that have a value in another map.
     Minus(RangeMapBlaze<T, V>),
-    /// Keeps the keys that exactly one of the map and another has.
+    /// Keeps the keys that have a value in exactly one of the map and another.
     Xor(RangeMapBlaze<T, V>),
     /// Keeps the keys of a set.
     AndSet(RangeSetBlaze<T>),
-    /// Takes out the keys of a set.
+    /// Removes the keys of a set.
     MinusSet(RangeSetBlaze<T>),
-    /// Puts a value on the keys that have none, and takes out the others.
+    /// Sets the value of every key that has none, and removes the others.
     ComplementWith(V),
 }
 
-/// What a step returns.
+/// The result of a step.
 #[derive(Clone, Copy, Debug, Drop, PartialEq, Eq)]
 pub enum Answer<T, V> {
-    /// Of a paint or a fill: whether the number of keys changed.
+    /// For a paint or a fill: whether the number of keys with a value changed.
     Wrote(bool),
-    /// Of an insertion or a removal: the value that the key had.
+    /// For an insertion or a removal: the value that the key had.
     Old(Option<V>),
-    /// Of a pop: the key that was taken out, with the value that it had.
+    /// For a pop: the key that was removed, with its value.
     Popped(Option<(T, V)>),
-    /// Of every other step.
+    /// For every other step.
     Done,
 }
 
-/// Memory was refused in a step.
+/// An allocation of a step failed.
 #[derive(Clone, Copy, Debug, PartialEq, Eq)]
 pub struct Refused {
     /// How many steps were done before it.
     pub at: usize,
 }
 
-/// `step 3 was refused memory`, with the step's place, from 0.
+/// Writes `step 3 was refused memory`, with the position of the step, from 0.
 impl Display for Refused {
     ghost output = { λ e. Some (codes "step " ++ decimal e.at ++ codes " was refused memory") };
 

@@ -16,7 +16,7 @@ use blaze_table::laws::{canonical_is_shortest, lengths_are_mapped};
 use range_map_blaze::RangeMapBlaze;
 use std::alloc::{AllocError, Global};
 
-/// Takes the least key out.
+/// Removes the least key that has a value. Its contract speaks of contents, as those of steps do.
 fn pop_first<T: Integer, V: Eq + Clone>(
     map: &mut RangeMapBlaze<T, V>,
 ) -> Result<Option<(T, V)>, AllocError>
@@ -34,7 +34,7 @@ fn pop_first<T: Integer, V: Eq + Clone>(
     Ok(popped)
 }
 
-/// Takes the greatest key out.
+/// Removes the greatest key that has a value. Its contract speaks of contents, as those of steps do.
 fn pop_last<T: Integer, V: Eq + Clone>(
     map: &mut RangeMapBlaze<T, V>,
 ) -> Result<Option<(T, V)>, AllocError>
@@ -52,7 +52,7 @@ fn pop_last<T: Integer, V: Eq + Clone>(
     Ok(popped)
 }
 
-/// The map that a step makes of this one and another, of this one and a set, or by `complement_with`.
+/// The map that a step makes of this map and another, of this map and a set, or by `complement_with`.
 fn combined<T: Integer, V: Eq + Clone>(
     map: &RangeMapBlaze<T, V>,
     step: Step<T, V>,
@@ -74,7 +74,7 @@ fn combined<T: Integer, V: Eq + Clone>(
     }
 }
 
-/// Does a step that is no edit. Refused memory leaves the map unchanged.
+/// Does a step that is no edit. If an allocation fails, the map is unchanged.
 fn change<T: Integer, V: Eq + Clone>(
     map: &mut RangeMapBlaze<T, V>,
     step: Step<T, V>,
@@ -116,7 +116,7 @@ fn change<T: Integer, V: Eq + Clone>(
     }
 }
 
-/// Does a step. Refused memory leaves the map unchanged.
+/// Does a step. If an allocation fails, the map is unchanged.
 pub fn take_step<T: Integer, V: Eq + Clone>(
     map: &mut RangeMapBlaze<T, V>,
     step: Step<T, V>,
@@ -158,11 +158,11 @@ pub fn take_step<T: Integer, V: Eq + Clone>(
     }
 }
 
-/// Does steps, one after another, and returns what each returns.
+/// Does steps, in order, and returns their answers. The map then has the content that the steps mean, in the least number of
+/// entries.
 ///
-/// The map has then the content that the steps mean, and its list of entries is the only shortest with it. Room for all answers
-/// is asked first. Refused memory leaves the map as the steps before the refused one leave it, and drops the others and the
-/// results.
+/// Allocates for all answers first. If an allocation of a step fails, the steps before it stay done, the others are dropped, and
+/// the error says which step it was. Each step costs what its call costs.
 pub fn run<T: Integer, V: Eq + Clone>(
     alloc: Global,
     map: &mut RangeMapBlaze<T, V>,
