@@ -1,4 +1,4 @@
-//! Maps whose keys are addresses of IPv6: every address, what lacks one, a join with a prefix, and keys from both ends.
+//! Maps whose keys are addresses of IPv6: every address, all but one, a join with a prefix, and keys from both ends.
 use demo_keys::{Ipv6, prefix_range};
 use range_map_blaze::{Integer, RangeMapBlaze};
 use std::alloc::AllocError;

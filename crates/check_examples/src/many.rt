@@ -1,4 +1,4 @@
-//! Operations between many maps by value, in an array and as streams, and their joins.
+//! Operations between many owned maps, in an array and as streams, and their joins.
 use crate::maps::{Letters, Numbers, map_of};
 use crate::streams::show;
 use blaze_streams::RangeValuesIter;
@@ -6,7 +6,7 @@ use range_map_blaze::RangeMapBlaze;
 use range_map_multi::{MultiwayRangeMapBlaze, MultiwayRangeMapBlazeRef, MultiwaySortedDisjointMap};
 use std::alloc::AllocError;
 
-/// Copies of maps, by value.
+/// Copies of maps.
 fn copies(rt: &HostRuntime, maps: &[Letters; 3]) -> Result<Vec<Letters>, AllocError> {
     let mut copies = Vec::new(rt.alloc());
     for map in maps {
@@ -26,7 +26,7 @@ fn streams<'a>(rt: &HostRuntime, maps: &'a [Letters; 3]) -> Result<Streams<'a>, 
     Ok(streams)
 }
 
-/// The operations on maps by value.
+/// The operations on owned maps.
 fn by_value(rt: &HostRuntime, maps: &[Letters; 3]) -> Result<(), AllocError> {
     let _ = println!(rt; "union: {:?}", copies(rt, maps)?.union(rt.alloc()));
     let owned = copies(rt, maps)?;
@@ -38,7 +38,7 @@ fn by_value(rt: &HostRuntime, maps: &[Letters; 3]) -> Result<(), AllocError> {
     Ok(())
 }
 
-/// The operations on an array of lent maps.
+/// The operations on an array of borrowed maps.
 fn in_an_array(rt: &HostRuntime, [z, a, b]: &[Letters; 3]) {
     let _ = println!(rt; "union: {:?}", [z, a, b].union(rt.alloc()));
     let _ = println!(rt; "intersection: {:?}", [z, a, b].intersection(rt.alloc()));
@@ -81,7 +81,7 @@ fn sums(rt: &HostRuntime, maps: [&Numbers; 2]) {
     let _ = println!(rt; "full_join: {sums:?}");
 }
 
-/// The join of no maps: one call, whose answer every key has.
+/// The join of no maps: one call, whose result every key has.
 fn none_joined(rt: &HostRuntime, none: [&RangeMapBlaze<u8, u32>; 0]) {
     let mut calls = 0u32;
     let everywhere = none.inner_join(rt.alloc(), |_| {

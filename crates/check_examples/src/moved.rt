@@ -1,4 +1,4 @@
-//! Values that are moved and not cloned: each of them refuses its clone.
+//! Values that are moved and not cloned: the clone of each of them fails.
 use crate::stubborn::{Stubborn, deaf};
 use blaze_streams::{OwnedRangeValuesIter, SortedDisjointMap, canonical_of, union_of};
 use blaze_table::RangeTable;
@@ -8,7 +8,7 @@ use std::ops::RangeInclusive;
 
 type Stream = OwnedRangeValuesIter<i64, Stubborn>;
 
-/// A table of one range, as a stream by value.
+/// A table of one range, as an owned stream.
 fn stream_of(alloc: Global, start: i64, end: i64, n: u32) -> Result<Stream, AllocError> {
     let mut table = RangeTable::new(alloc);
     if start <= end {
@@ -17,7 +17,7 @@ fn stream_of(alloc: Global, start: i64, end: i64, n: u32) -> Result<Stream, Allo
     Ok(OwnedRangeValuesIter::new(table))
 }
 
-/// A merge in which no piece leaves a rest of its range behind.
+/// A merge in which every piece is the last of its range.
 fn merged(rt: &HostRuntime, left: Stream, right: Stream) -> Result<(), AllocError> {
     let _ = println!(rt; "{} {}", left.least_len(), right.least_len());
     for (range, value) in union_of(rt.alloc(), left, right)? {
@@ -90,7 +90,7 @@ fn show(rt: &HostRuntime, call: &str, made: Result<Map, AllocError>) {
     let _ = println!(rt; "{call}: {made:?}");
 }
 
-/// Operators on maps of like sizes, in which no piece leaves a rest of its range behind.
+/// Operators on maps of like sizes, in which every piece is the last of its range.
 fn with_maps(rt: &HostRuntime) -> Result<(), AllocError> {
     let alloc = rt.alloc();
     show(rt, "a & b", left(alloc)? & right(alloc)?);
@@ -99,7 +99,7 @@ fn with_maps(rt: &HostRuntime) -> Result<(), AllocError> {
     Ok(())
 }
 
-/// The same with the keys of a set.
+/// Operators with the keys of a set, in which every piece is the last of its range.
 fn with_a_set(rt: &HostRuntime, s: &RangeSetBlaze<i64>) -> Result<(), AllocError> {
     let alloc = rt.alloc();
     show(rt, "a & &s", left(alloc)? & s);
@@ -108,7 +108,7 @@ fn with_a_set(rt: &HostRuntime, s: &RangeSetBlaze<i64>) -> Result<(), AllocError
     Ok(())
 }
 
-/// A map of many entries by value beside a map of few.
+/// Operators on an owned map of many entries and a map of few.
 fn with_many(rt: &HostRuntime) -> Result<(), AllocError> {
     let alloc = rt.alloc();
     show(rt, "many - a", many(alloc)? - few(alloc)?);
@@ -116,7 +116,7 @@ fn with_many(rt: &HostRuntime) -> Result<(), AllocError> {
     Ok(())
 }
 
-/// A map of few entries by value beside a map and a set of many that are lent: no piece leaves a rest of its range behind.
+/// An owned map of few entries, and a borrowed map and set of many: every piece is the last of its range.
 fn with_lent_many(rt: &HostRuntime, many: &Map, t: &RangeSetBlaze<i64>) -> Result<(), AllocError> {
     let alloc = rt.alloc();
     show(rt, "&many & a", many & few_below(alloc)?);

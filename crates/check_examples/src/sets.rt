@@ -2,13 +2,13 @@
 use blaze_table::RangeSetBlaze;
 use std::alloc::AllocError;
 
-/// The last and the first range, of a set that is lent.
+/// The last and the first range of a borrowed set.
 fn lent_ends(rt: &HostRuntime, set: &RangeSetBlaze<u8>) {
     let mut ranges = set.ranges();
     let _ = println!(rt; "ranges: {:?} {:?}", ranges.next_back(), ranges.next());
 }
 
-/// The last and the first range, of a set by value.
+/// The last and the first range of an owned set.
 fn owned_ends(rt: &HostRuntime, set: RangeSetBlaze<u8>) {
     let mut ranges = set.into_ranges();
     let _ = println!(rt; "into_ranges: {:?} {:?}", ranges.next_back(), ranges.next());

@@ -23,7 +23,7 @@ pub fn show<T: Integer, VC: ValueCarrier + Debug, I: SortedDisjointMap<T, VC>>(
     Ok(())
 }
 
-/// A list as a stream, or where it violates the law.
+/// A list as a stream, or the position at which it violates the law.
 fn checked(rt: &HostRuntime, items: &[(i64, i64, char)]) -> Result<(), AllocError> {
     let mut list = Vec::new(rt.alloc());
     for (start, end, value) in items {
@@ -86,7 +86,7 @@ fn carry<VC: ValueCarrier<Value: Debug>>(
     Ok(())
 }
 
-/// A carrier of one's own.
+/// A custom carrier.
 #[derive(Debug, Drop)]
 pub struct Level(pub u8);
 

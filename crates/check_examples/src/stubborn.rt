@@ -1,4 +1,4 @@
-//! A value that may refuse to be cloned.
+//! A value whose clone may fail.
 ghost use Rattle.std.specs.Prelude.{◌≡◌, nat_eq};
 ghost use Rattle.std.proofs.Common.{rules};
 ghost use Rattle.std.specs.Cmp.Rules.{comparing};
@@ -7,7 +7,7 @@ ghost use Rattle.std.specs.Ordering.{on};
 use std::alloc::AllocError;
 use std::fmt::{self, Debug, Formatter};
 
-/// A number. Equality is that of the numbers alone, and the clone of a deaf one is refused.
+/// A number. Equality is that of the numbers alone, and the clone of a deaf one fails.
 #[derive(Drop)]
 pub struct Stubborn {
     pub n: u32,
@@ -42,7 +42,7 @@ impl Clone for Stubborn {
     }
 }
 
-/// `7`, of a deaf one `7!`.
+/// Writes `7`, and `7!` for a deaf one.
 impl Debug for Stubborn {
     fn fmt<W: fmt::Write>(&self, f: &mut Formatter<W>) -> fmt::Result {
         write!(f, "{}{}", self.n, if self.deaf { "!" } else { "" })
@@ -54,7 +54,7 @@ pub fn heard(n: u32) -> Stubborn {
     Stubborn { n, deaf: false }
 }
 
-/// A number whose clone is refused.
+/// A number whose clone fails.
 pub fn deaf(n: u32) -> Stubborn {
     Stubborn { n, deaf: true }
 }

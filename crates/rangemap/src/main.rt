@@ -1,4 +1,4 @@
-//! Answers lines about a range map from standard input on standard output, until the end or a bad line.
+//! Answers the lines of standard input about a range map on standard output, up to the end or an invalid line.
 #![tactic(auto)]
 
 ghost use Rattle.std.specs.Prelude.{◌≡◌, ◌↔◌, ◌⊎◌};

@@ -4,11 +4,11 @@ use std::alloc::{AllocError, AllocFailed};
 /// Why a line has no answer.
 #[derive(Clone, Copy)]
 pub enum Fault {
-    /// It asks nothing known, names the wrong thing, or makes a call whose condition does not hold.
+    /// It is no known call, names the wrong thing, or makes a call whose condition does not hold.
     Bad,
-    /// Memory was refused.
+    /// An allocation failed.
     Refused,
-    /// Memory was refused to a list of steps, behind so many of them.
+    /// An allocation of a list of steps failed, after so many of them.
     RefusedAt(usize),
 }
 

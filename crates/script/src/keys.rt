@@ -7,7 +7,7 @@ use std::str::FromStr;
 
 /// A key type that a script can name.
 pub trait ScriptKey: Integer<SafeLen: Debug> + Hash + FromStr<Err: Drop> {
-    /// The key that a word writes: a number of digits, after a minus at a signed type.
+    /// The key of a word: the number of its digits, after a minus for a signed type.
     fn read(word: &str) -> Option<Self> {
         if word.starts_with('+') {
             return None;
@@ -21,7 +21,7 @@ pub trait ScriptKey: Integer<SafeLen: Debug> + Hash + FromStr<Err: Drop> {
     }
 }
 
-/// The character that `U+` and one to six hexadecimal digits write.
+/// The character of `U+` and one to six hexadecimal digits.
 fn character(word: &str) -> Option<char> {
     let digits = word.strip_prefix("U+")?;
     if digits.starts_with('+') || 6 < digits.len() {

@@ -20,7 +20,7 @@ pub enum KeyType {
 }
 
 impl KeyType {
-    /// The key type that a word names.
+    /// The key type of a word.
     fn read(word: &str) -> Option<Self> {
         match word {
             "u8" => Some(KeyType::U8),
@@ -39,14 +39,14 @@ impl KeyType {
     }
 }
 
-/// What a line is.
+/// The kind of a line.
 #[derive(Clone, Copy)]
 pub enum Line<'a> {
-    /// No more lines come.
+    /// The end of the lines.
     End,
     /// An empty line or a comment.
     Nothing,
-    /// All maps and sets anew, at a key type.
+    /// A key type, for which all maps and sets begin empty.
     Keys(KeyType),
     /// Any other text.
     Text(&'a str),
@@ -72,7 +72,7 @@ impl<R: Read + Drop> Lines<R> {
         })
     }
 
-    /// The number of the line that was read last, from 1.
+    /// The number of the last line, from 1.
     pub fn number(&self) -> u64 {
         self.number
     }
@@ -89,7 +89,7 @@ impl<R: Read + Drop> Lines<R> {
     }
 }
 
-/// What a line is by its bytes.
+/// The kind of a line, by its bytes.
 fn kind(bytes: &[u8]) -> Line<'_> {
     if bytes.is_empty() || bytes.starts_with(b"#") {
         return Line::Nothing;

@@ -1,4 +1,4 @@
-//! Makes the calls that the lines of a script name, and prints their answers.
+//! Makes the calls of the lines of a script, and prints their results.
 #![tactic(auto)]
 
 mod calls;
@@ -14,26 +14,26 @@ use crate::script::run;
 use std::process::ExitCode;
 use std::{env, io};
 
-/// The status of an argument that is not understood.
+/// The exit status for an unknown argument.
 const USAGE: u8 = 2;
 
-/// The status of a fault of reading or writing.
+/// The exit status for an I/O error.
 const FAULT: u8 = 1;
 
-/// The status of memory that was refused to reading the script.
+/// The exit status if an allocation failed while the script was read.
 const REFUSED: u8 = 3;
 
-/// What the arguments ask.
+/// The request of the arguments.
 enum Asked {
     /// To make each call of the script.
     Run,
     /// To mark the call of a line too.
     Mark(u64),
-    /// Nothing known.
+    /// An unknown argument.
     Unknown,
 }
 
-/// What the arguments ask: `mark` and a line's number are two, else there are none. What is not text asks nothing known.
+/// The request of the arguments: none, or `mark` and a line's number. An argument that is not text is unknown.
 fn read_arguments(rt: &HostRuntime) -> io::Result<Asked> {
     let mut args = match env::args(rt) {
         Ok(args) => args,

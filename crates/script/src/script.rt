@@ -8,13 +8,13 @@ use std::alloc::Global;
 use std::io;
 use std::io::{Read, Write};
 
-/// How many bytes an answer may have before it takes memory of its own.
+/// How many bytes a result may have before more is allocated for it.
 const ROOM: usize = 65536;
 
-/// The status of a bad line.
+/// The exit status for an invalid line.
 const BAD: u8 = 2;
 
-/// What comes after the lines of one key type.
+/// The end of the lines of one key type.
 #[derive(Clone, Copy)]
 enum Next {
     Keys(KeyType),
@@ -30,7 +30,7 @@ struct Script<R: Read + Drop> {
     marked: Option<u64>,
 }
 
-/// Reads a script from standard input to its end or to a bad line, prints its answers, and returns the exit status.
+/// Reads a script from standard input to its end or to an invalid line, prints the results, and returns the exit status.
 pub fn run(rt: &HostRuntime, marked: Option<u64>) -> io::Result<u8> {
     let alloc = rt.alloc();
     let mut script = Script {
@@ -62,7 +62,7 @@ impl<R: Read + Drop> Script<R> {
         Ok(Next::End(0))
     }
 
-    /// Answers the lines at a key type.
+    /// Answers the lines of a key type.
     fn answer_at(&mut self, rt: &HostRuntime, key_type: KeyType) -> io::Result<Next> {
         match key_type {
             KeyType::U8 => self.answer_all::<u8>(rt),
@@ -79,13 +79,13 @@ impl<R: Read + Drop> Script<R> {
         }
     }
 
-    /// Answers the lines up to the next key type, the end or a bad line, from empty maps and sets on.
+    /// Answers the lines up to the next key type, the end or an invalid line. Maps and sets begin empty.
     fn answer_all<T: ScriptKey>(&mut self, rt: &HostRuntime) -> io::Result<Next> {
         let mut state = State::<T>::new(rt.alloc());
         self.answer_lines(rt, &mut state)
     }
 
-    /// Answers the lines up to the next key type, the end or a bad line.
+    /// Answers the lines up to the next key type, the end or an invalid line.
     fn answer_lines<T: ScriptKey>(
         &mut self,
         rt: &HostRuntime,
@@ -107,7 +107,7 @@ impl<R: Read + Drop> Script<R> {
         Ok(Next::End(0))
     }
 
-    /// Prints the answer that is kept, or that memory was refused. Returns the script's end where the line was bad.
+    /// Prints the result that is kept, or that an allocation failed. Returns the script's end if the line was invalid.
     fn print(&self, rt: &HostRuntime, made: Result<(), Fault>) -> io::Result<Option<Next>> {
         match made {
             Ok(()) => {
@@ -121,7 +121,7 @@ impl<R: Read + Drop> Script<R> {
         Ok(None)
     }
 
-    /// Makes a call, and keeps what is printed of its answer.
+    /// Makes a call, and keeps the text of its result.
     fn answer<T: ScriptKey>(
         &mut self,
         rt: &HostRuntime,
@@ -144,7 +144,7 @@ impl<R: Read + Drop> Script<R> {
         Ok(made)
     }
 
-    /// Ends at a bad line.
+    /// Ends the script at an invalid line.
     fn bad(&self, rt: &HostRuntime) -> io::Result<Next> {
         let number = self.lines.number();
         println!(rt; "bad line {number}")?;

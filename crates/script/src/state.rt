@@ -74,7 +74,7 @@ impl<T: ScriptKey> State<T> {
         }
     }
 
-    /// A map, lent.
+    /// A map, borrowed.
     pub fn map(&self, name: MapName) -> &Map<T> {
         match name {
             MapName::A => &self.a,
@@ -94,18 +94,18 @@ impl<T: ScriptKey> State<T> {
         }
     }
 
-    /// A map by value: an empty one is left.
+    /// An owned map, which is empty in the script afterwards.
     pub fn take_map(&mut self, name: MapName) -> Map<T> {
         let empty = Map::new(self.alloc);
         mem::replace(self.map_mut(name), empty)
     }
 
-    /// Puts a map in the place of one.
+    /// Replaces a map.
     pub fn set_map(&mut self, name: MapName, map: Map<T>) {
         *self.map_mut(name) = map;
     }
 
-    /// A set, lent.
+    /// A set, borrowed.
     pub fn set(&self, name: SetName) -> &RangeSetBlaze<T> {
         match name {
             SetName::S => &self.s,
@@ -118,7 +118,7 @@ impl<T: ScriptKey> State<T> {
         RangeSetBlaze::from_ranges(self.alloc, self.set(name).ranges())
     }
 
-    /// A set by value: an empty one is left.
+    /// An owned set, which is empty in the script afterwards.
     pub fn take_set(&mut self, name: SetName) -> RangeSetBlaze<T> {
         let empty = RangeSetBlaze::new(self.alloc);
         match name {
@@ -127,7 +127,7 @@ impl<T: ScriptKey> State<T> {
         }
     }
 
-    /// Puts a set in the place of one.
+    /// Replaces a set.
     pub fn set_set(&mut self, name: SetName, set: RangeSetBlaze<T>) {
         match name {
             SetName::S => self.s = set,

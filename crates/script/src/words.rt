@@ -1,10 +1,10 @@
-//! Keys, values and ranges, as scripts write them. A word of another form is bad.
+//! Keys, values and ranges, as scripts write them. A word of another form is invalid.
 use crate::fault::Fault;
 use crate::keys::ScriptKey;
 use std::alloc::Global;
 use std::ops::{Bound, RangeInclusive};
 
-/// The key that a word writes.
+/// The key of a word.
 pub fn key<T: ScriptKey>(word: &str) -> Result<T, Fault> {
     match T::read(word) {
         Some(key) => Ok(key),
@@ -12,7 +12,7 @@ pub fn key<T: ScriptKey>(word: &str) -> Result<T, Fault> {
     }
 }
 
-/// The value that a word writes: one or more ASCII letters and digits.
+/// The value of a word: one or more ASCII letters and digits.
 pub fn value(alloc: Global, word: &str) -> Result<String, Fault> {
     if word.is_empty() || !word.bytes().all(|byte| byte.is_ascii_alphanumeric()) {
         return Err(Fault::Bad);
@@ -20,7 +20,7 @@ pub fn value(alloc: Global, word: &str) -> Result<String, Fault> {
     Ok(String::from_str(alloc, word)?)
 }
 
-/// The range that a word writes as `LO..=HI`.
+/// The range of a word `LO..=HI`.
 pub fn inclusive<T: ScriptKey>(word: &str) -> Result<RangeInclusive<T>, Fault> {
     match word.split_once("..=") {
         Some((start, end)) => Ok(key(start)?..=key(end)?),
@@ -28,7 +28,7 @@ pub fn inclusive<T: ScriptKey>(word: &str) -> Result<RangeInclusive<T>, Fault> {
     }
 }
 
-/// The bounds that a word writes: an optional start, which `<` behind it excludes, then `..`, and an optional end, which
+/// The bounds of a word: an optional start, which `<` after it excludes, then `..`, and an optional end, which
 /// `=` before it includes. `<` before the end stands for no sign.
 pub fn bounds<T: ScriptKey>(word: &str) -> Result<(Bound<T>, Bound<T>), Fault> {
     match word.split_once("..") {
@@ -57,7 +57,7 @@ fn end_bound<T: ScriptKey>(word: &str) -> Result<Bound<T>, Fault> {
     }
 }
 
-/// The call that fails, from 1, which the last word of a line writes, or none where there is no word.
+/// The call that must fail, from 1, by the last word of a line, or `None` if there is no word.
 pub fn nth_call(words: &[&str]) -> Result<Option<u64>, Fault> {
     match words {
         [] => Ok(None),

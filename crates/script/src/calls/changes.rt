@@ -23,7 +23,7 @@ pub enum Change<T: ScriptKey> {
 }
 
 impl<T: ScriptKey> Change<T> {
-    /// The change that the words behind a map's name ask for.
+    /// The change that the words after a map's name ask for.
     pub fn read(alloc: Global, words: &[&str]) -> Result<Self, Fault> {
         match words {
             ["insert", word, text] => Ok(Change::Insert(key(word)?, value(alloc, text)?)),

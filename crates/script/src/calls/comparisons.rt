@@ -14,7 +14,7 @@ enum Kind {
     HashesAs,
 }
 
-/// A map, perhaps the same, with which one is compared.
+/// A map with which a map is compared. It may be the same one.
 #[derive(Clone, Copy)]
 pub struct Comparison {
     kind: Kind,
@@ -29,7 +29,7 @@ fn hash_of<T: ScriptKey>(map: &Map<T>) -> u64 {
 }
 
 impl Comparison {
-    /// What the words behind a map's name ask for.
+    /// The comparison that the words after a map's name ask for.
     pub fn read(words: &[&str]) -> Result<Self, Fault> {
         let [call, other] = words else {
             return Err(Fault::Bad);

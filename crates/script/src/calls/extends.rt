@@ -16,7 +16,7 @@ pub enum Extend<T: ScriptKey> {
 }
 
 impl<T: ScriptKey> Extend<T> {
-    /// The extension that the words behind a map's name ask for.
+    /// The extension that the words after a map's name ask for.
     pub fn read(alloc: Global, words: &[&str]) -> Result<Self, Fault> {
         match words {
             ["extend_points", pairs @ ..] => Ok(Extend::Points(points(alloc, pairs)?)),
@@ -36,7 +36,7 @@ impl<T: ScriptKey> Extend<T> {
     }
 }
 
-/// The pairs that words write: a key, its value, and so on.
+/// The pairs of some words: a key, its value, and so on.
 pub fn points<T: ScriptKey>(alloc: Global, words: &[&str]) -> Result<Vec<(T, String)>, Fault> {
     let mut pairs = Vec::new(alloc);
     for pair in words.chunks(2) {
@@ -48,7 +48,7 @@ pub fn points<T: ScriptKey>(alloc: Global, words: &[&str]) -> Result<Vec<(T, Str
     Ok(pairs)
 }
 
-/// The pairs that words write: a range, its value, and so on.
+/// The pairs of some words: a range, its value, and so on.
 pub fn ranges<T: ScriptKey>(
     alloc: Global,
     words: &[&str],

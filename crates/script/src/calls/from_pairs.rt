@@ -7,7 +7,7 @@ use crate::words::{key, value};
 use std::alloc::{AllocError, Global};
 use std::ops::RangeInclusive;
 
-/// How pairs are given: by value, with lent values, lent, or lent with lent values.
+/// The form of pairs: owned, with borrowed values, borrowed, or borrowed with borrowed values.
 #[derive(Clone, Copy)]
 pub enum Form {
     Owned,
@@ -16,7 +16,7 @@ pub enum Form {
     RefRefValue,
 }
 
-/// Pairs that a map is made of.
+/// The pairs of which a map is made.
 #[derive(Drop)]
 pub enum FromPairs<T: ScriptKey> {
     Points(Form, Vec<(T, String)>),
@@ -78,7 +78,7 @@ fn of_array<T: ScriptKey>(alloc: Global, pairs: [(T, String); 3]) -> Result<Map<
     Map::from_array(alloc, pairs)
 }
 
-/// The map of an array of three pairs; other numbers of pairs are bad.
+/// The map of an array of three pairs. Any other number of pairs is an error of the script.
 fn of_three<T: ScriptKey>(alloc: Global, pairs: Vec<(T, String)>) -> Result<Map<T>, Fault> {
     let mut pairs = pairs.into_iter();
     let (Some(first), Some(second), Some(third), None) = (
@@ -92,7 +92,7 @@ fn of_three<T: ScriptKey>(alloc: Global, pairs: Vec<(T, String)>) -> Result<Map<
     Ok(of_array(alloc, [first, second, third])?)
 }
 
-/// The map of lent keys with lent values.
+/// The map of borrowed pairs of a key and a borrowed value.
 fn of_ref_points<'a, T: ScriptKey>(
     alloc: Global,
     pairs: &'a [(T, &'a String)],
@@ -100,7 +100,7 @@ fn of_ref_points<'a, T: ScriptKey>(
     Map::from_ref_points_ref_value(alloc, pairs)
 }
 
-/// The map of lent ranges with lent values.
+/// The map of borrowed pairs of a range and a borrowed value.
 fn of_ref_ranges<'a, T: ScriptKey>(
     alloc: Global,
     pairs: &'a [(RangeInclusive<T>, &'a String)],
@@ -108,7 +108,7 @@ fn of_ref_ranges<'a, T: ScriptKey>(
     Map::from_ref_ranges_ref_value(alloc, pairs)
 }
 
-/// The map of keys with values, of which at least the values are lent.
+/// The map of pairs of a key and a value, of which at least the values are borrowed.
 fn of_lent_points<T: ScriptKey>(
     alloc: Global,
     form: Form,
@@ -127,7 +127,7 @@ fn of_lent_points<T: ScriptKey>(
     }
 }
 
-/// The map of ranges with values, of which at least the values are lent.
+/// The map of pairs of a range and a value, of which at least the values are borrowed.
 fn of_lent_ranges<T: ScriptKey>(
     alloc: Global,
     form: Form,

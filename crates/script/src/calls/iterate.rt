@@ -16,7 +16,7 @@ enum Step {
     SizeHint,
 }
 
-/// The calls that a word writes: one or more of `f`, `b` and `h`.
+/// The calls of a word: one or more of `f`, `b` and `h`.
 fn steps(alloc: Global, word: &str) -> Result<Vec<Step>, Fault> {
     let mut steps = Vec::new(alloc);
     for letter in word.bytes() {
@@ -83,7 +83,7 @@ impl Over {
         }
     }
 
-    /// Makes calls of an iterator over a lent map.
+    /// Makes calls of an iterator over a borrowed map.
     fn walk_lent<T: ScriptKey>(
         self,
         map: &Map<T>,
@@ -124,7 +124,7 @@ pub struct Iterate<T: ScriptKey> {
 }
 
 impl<T: ScriptKey> Iterate<T> {
-    /// What the words behind a map's name ask for.
+    /// The iterator and the calls that the words after a map's name ask for.
     pub fn read(alloc: Global, words: &[&str]) -> Result<Self, Fault> {
         let [call @ .., calls] = words else {
             return Err(Fault::Bad);
@@ -134,7 +134,7 @@ impl<T: ScriptKey> Iterate<T> {
         Ok(Iterate { kind, steps })
     }
 
-    /// Makes the iterator and its calls, and prints their answers, joined by `; `.
+    /// Makes the iterator and its calls, and prints their results, separated by `; `.
     pub fn make(
         self,
         name: MapName,
@@ -153,7 +153,7 @@ impl<T: ScriptKey> Iterate<T> {
     }
 }
 
-/// Makes calls of the iterator over the pairs within bounds; bounds that name no key are bad.
+/// Makes calls of the iterator over the pairs within bounds. Bounds that name no key are an error of the script.
 fn walk_range<T: ScriptKey>(
     map: &Map<T>,
     range: (Bound<T>, Bound<T>),
@@ -189,7 +189,7 @@ fn walk<X: Debug + Drop, I: DoubleEndedIterator<Item = X> + Drop>(
     Ok(())
 }
 
-/// Makes calls of an iterator whose items are lent as long as a map.
+/// Makes calls of an iterator whose items borrow the map.
 fn walk_values<'a, T: ScriptKey, I: DoubleEndedIterator<Item = &'a String> + Drop>(
     _lent: &'a Map<T>,
     iter: I,
@@ -202,7 +202,7 @@ fn walk_values<'a, T: ScriptKey, I: DoubleEndedIterator<Item = &'a String> + Dro
     walk(iter, steps, reply)
 }
 
-/// Makes calls of an iterator whose items can be refused: an item's `Ok` is left out, its `Err` is `refused`.
+/// Makes calls of an iterator whose items are `Result`s. It prints an item without its `Ok`, and an `Err` as `refused`.
 fn walk_owned<X: Debug + Drop, I: DoubleEndedIterator<Item = Result<X, AllocError>> + Drop>(
     iter: I,
     steps: &[Step],
@@ -225,7 +225,7 @@ fn walk_owned<X: Debug + Drop, I: DoubleEndedIterator<Item = Result<X, AllocErro
     Ok(())
 }
 
-/// Prints an item that can be refused.
+/// Prints an item that is a `Result`.
 fn print_item<X: Debug + Drop>(
     item: Option<Result<X, AllocError>>,
     reply: &mut String,

@@ -1,10 +1,10 @@
-//! `c = inner_join a b` and kin: what a closure answers at the values of maps.
+//! `c = inner_join a b` and kin: the results of a closure at the values of maps.
 use crate::fault::Fault;
 use crate::keys::ScriptKey;
 use crate::state::{Map, MapName, State};
 use std::alloc::{AllocError, Global};
 
-/// Two words joined with `+`. An absent one is `-`.
+/// Two words with `+` between them. A missing one is `-`.
 pub fn joined(
     alloc: Global,
     left: Option<&String>,
@@ -26,7 +26,7 @@ pub fn first_character(alloc: Global, word: &String) -> Result<String, AllocErro
     Ok(first)
 }
 
-/// What a closure answered: an empty word where memory is refused, which is kept in mind.
+/// The result of a closure. If an allocation fails, it is an empty word, and the failure is remembered.
 pub fn answer(alloc: Global, made: Result<String, AllocError>, is_refused: &mut bool) -> String {
     match made {
         Ok(word) => word,
@@ -37,7 +37,7 @@ pub fn answer(alloc: Global, made: Result<String, AllocError>, is_refused: &mut 
     }
 }
 
-/// The map of a closure's answers, unless one of them was refused.
+/// The map of a closure's results, unless an allocation of one of them failed.
 pub fn unless_refused<T: ScriptKey>(
     made: Result<Map<T>, AllocError>,
     is_refused: bool,
@@ -45,7 +45,7 @@ pub fn unless_refused<T: ScriptKey>(
     if is_refused { Err(AllocError) } else { made }
 }
 
-/// At which keys the words of two maps are joined.
+/// The keys at which the words of two maps are joined.
 #[derive(Clone, Copy)]
 enum Kind {
     Inner,

@@ -7,14 +7,14 @@ use crate::words::key;
 use std::alloc::AllocError;
 use std::fmt::Write;
 
-/// What is asked of one map.
+/// A lookup in one map.
 #[derive(Clone, Copy, Drop)]
 pub enum LookUp<T: ScriptKey> {
     AtKey(AtKey, T),
     OfWhole(OfWhole),
 }
 
-/// What is asked of a map at a key.
+/// A lookup in a map at a key.
 #[derive(Clone, Copy)]
 pub enum AtKey {
     Get,
@@ -25,7 +25,7 @@ pub enum AtKey {
     RangeOrGapAt,
 }
 
-/// What is asked of a map alone.
+/// A question about a whole map.
 #[derive(Clone, Copy)]
 pub enum OfWhole {
     FirstKeyValue,
@@ -40,7 +40,7 @@ pub enum OfWhole {
 }
 
 impl<T: ScriptKey> LookUp<T> {
-    /// The look-up that the words behind a map's name ask for.
+    /// The lookup that the words after a map's name ask for.
     pub fn read(words: &[&str]) -> Result<Self, Fault> {
         match words {
             [call, word] => Ok(LookUp::AtKey(AtKey::read(call)?, key(word)?)),
@@ -59,7 +59,7 @@ impl<T: ScriptKey> LookUp<T> {
     }
 }
 
-/// Prints the value at a key; a key without one is bad.
+/// Prints the value at a key. A key without a value is an error of the script.
 fn index<T: ScriptKey>(map: &Map<T>, key: T, reply: &mut String) -> Result<(), Fault> {
     if !map.contains_key(key) {
         return Err(Fault::Bad);

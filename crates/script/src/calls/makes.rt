@@ -20,7 +20,7 @@ pub enum Make<T: ScriptKey> {
 }
 
 impl<T: ScriptKey> Make<T> {
-    /// What the words behind `=` ask for. A map that keys are taken from is not the target.
+    /// The call that the words after `=` ask for. A map whose keys are removed must not be the target.
     pub fn read(alloc: Global, target: MapName, words: &[&str]) -> Result<Self, Fault> {
         match words {
             ["clone", map] => Ok(Make::Clone(MapName::read(map)?)),

@@ -1,4 +1,4 @@
-//! `c = union a b ..` and kin: operations between any number of lent maps.
+//! `c = union a b ..` and kin: operations between any number of borrowed maps.
 use crate::calls::joins::{answer, unless_refused};
 use crate::fault::Fault;
 use crate::keys::ScriptKey;
@@ -17,7 +17,7 @@ enum Kind {
     FullJoin,
 }
 
-/// An operation between lent maps.
+/// An operation between borrowed maps.
 #[derive(Drop)]
 pub struct Many {
     kind: Kind,
@@ -25,7 +25,7 @@ pub struct Many {
 }
 
 impl Many {
-    /// The operation that the words behind `=` ask for. A map may be named twice.
+    /// The operation that the words after `=` ask for. A map may be named twice.
     pub fn read(alloc: Global, words: &[&str]) -> Result<Self, Fault> {
         let [call, names @ ..] = words else {
             return Err(Fault::Bad);
@@ -42,7 +42,7 @@ impl Many {
         Ok(Many { kind, maps })
     }
 
-    /// Makes the call. An intersection of no map is bad.
+    /// Makes the call. An intersection of no maps is an error of the script.
     pub fn make<T: ScriptKey>(self, state: &State<T>) -> Result<Map<T>, Fault> {
         let lent = lent_maps(state, &self.maps)?;
         match self.kind {
@@ -52,7 +52,7 @@ impl Many {
     }
 }
 
-/// The intersection of at least one map; that of no map is bad.
+/// The intersection of at least one map. That of no maps is an error of the script.
 fn intersection<T: ScriptKey>(alloc: Global, maps: Vec<&Map<T>>) -> Result<Map<T>, Fault> {
     if maps.is_empty() {
         return Err(Fault::Bad);
@@ -60,7 +60,7 @@ fn intersection<T: ScriptKey>(alloc: Global, maps: Vec<&Map<T>>) -> Result<Map<T
     Ok(maps.intersection(alloc)?)
 }
 
-/// An operation between any number of maps, other than an intersection.
+/// An operation between any number of maps, except an intersection.
 fn combined<T: ScriptKey>(
     alloc: Global,
     kind: Kind,
@@ -83,7 +83,7 @@ fn map_names(alloc: Global, words: &[&str]) -> Result<Vec<MapName>, Fault> {
     Ok(names)
 }
 
-/// The maps of the names, lent.
+/// The maps of the names, borrowed.
 fn lent_maps<'a, T: ScriptKey>(
     state: &'a State<T>,
     names: &[MapName],
@@ -95,7 +95,7 @@ fn lent_maps<'a, T: ScriptKey>(
     Ok(lent)
 }
 
-/// Puts a word behind others that are joined with `+`, or in the place of `none`.
+/// Appends a word to others, after a `+`, or replaces `none` by it.
 fn put_word(words: &mut String, word: &str, is_first: bool) -> Result<(), AllocError> {
     if !is_first {
         words.push_str("+")?;
@@ -103,7 +103,7 @@ fn put_word(words: &mut String, word: &str, is_first: bool) -> Result<(), AllocE
     words.push_str(word)
 }
 
-/// The words joined with `+`; `none` where there is none.
+/// The words with `+` between them, or `none` if there are none.
 fn all_joined(alloc: Global, row: &[&String]) -> Result<String, AllocError> {
     let mut words = String::new(alloc);
     if row.is_empty() {
@@ -117,7 +117,7 @@ fn all_joined(alloc: Global, row: &[&String]) -> Result<String, AllocError> {
     Ok(words)
 }
 
-/// The words joined with `+`, an absent one as `-`.
+/// The words with `+` between them. A missing one is `-`.
 fn present_joined(alloc: Global, row: &[Option<&String>]) -> Result<String, AllocError> {
     let mut words = String::new(alloc);
     let mut is_first = true;
@@ -128,7 +128,7 @@ fn present_joined(alloc: Global, row: &[Option<&String>]) -> Result<String, Allo
     Ok(words)
 }
 
-/// The words where all maps have one, joined.
+/// The words where all maps have one, as one word.
 fn inner_join<T: ScriptKey>(alloc: Global, maps: Vec<&Map<T>>) -> Result<Map<T>, AllocError> {
     let mut is_refused = false;
     let made = maps.inner_join(
@@ -138,7 +138,7 @@ fn inner_join<T: ScriptKey>(alloc: Global, maps: Vec<&Map<T>>) -> Result<Map<T>,
     unless_refused(made, is_refused)
 }
 
-/// The words where at least one map has one, joined.
+/// The words where at least one map has one, as one word.
 fn full_join<T: ScriptKey>(alloc: Global, maps: Vec<&Map<T>>) -> Result<Map<T>, AllocError> {
     let mut is_refused = false;
     let made = maps.full_join(alloc, |row| {
@@ -147,7 +147,7 @@ fn full_join<T: ScriptKey>(alloc: Global, maps: Vec<&Map<T>>) -> Result<Map<T>, 
     unless_refused(made, is_refused)
 }
 
-/// The sweep over lent maps.
+/// The sweep over borrowed maps.
 #[derive(Drop)]
 pub struct Sweep {
     maps: Vec<MapName>,
@@ -160,7 +160,7 @@ impl Sweep {
         Ok(Sweep { maps })
     }
 
-    /// Makes the call, and prints the events, joined by a semicolon and a space.
+    /// Makes the call, and prints the events, separated by a semicolon and a space.
     pub fn make<T: ScriptKey>(
         self,
         state: &State<T>,

@@ -28,7 +28,7 @@ pub enum OfMap<T: ScriptKey> {
 }
 
 impl<T: ScriptKey> OfMap<T> {
-    /// The call that the words behind a map's name ask for.
+    /// The call that the words after a map's name ask for.
     pub fn read(state: &State<T>, map: MapName, words: &[&str]) -> Result<Self, Fault> {
         if let Ok(look_up) = LookUp::read(words) {
             return Ok(OfMap::LookUp(look_up));
@@ -45,7 +45,7 @@ impl<T: ScriptKey> OfMap<T> {
         Self::read_owning(state, map, words)
     }
 
-    /// The same of calls that own memory.
+    /// The call of such words, if it owns memory.
     fn read_owning(state: &State<T>, map: MapName, words: &[&str]) -> Result<Self, Fault> {
         if let Some(change) = unless_bad(Change::read(state.alloc, words))? {
             return Ok(OfMap::Change(change));

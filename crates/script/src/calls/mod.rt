@@ -27,7 +27,7 @@ pub mod sets;
 pub mod try_joins;
 pub mod updates;
 
-/// What was read, or `None` where it was bad.
+/// The value that was read, or `None` if the words are invalid.
 fn unless_bad<X>(read: Result<X, Fault>) -> Result<Option<X>, Fault> {
     match read {
         Ok(read) => Ok(Some(read)),
@@ -36,7 +36,7 @@ fn unless_bad<X>(read: Result<X, Fault>) -> Result<Option<X>, Fault> {
     }
 }
 
-/// The call that a line asks for, with all that it is given.
+/// The call of a line, with its arguments.
 #[derive(Drop)]
 pub enum Call<T: ScriptKey> {
     OfMap(MapName, OfMap<T>),
@@ -47,7 +47,7 @@ pub enum Call<T: ScriptKey> {
 }
 
 impl<T: ScriptKey> Call<T> {
-    /// The call that a line asks for.
+    /// The call of a line.
     pub fn read(state: &State<T>, line: &str) -> Result<Self, Fault> {
         let words: Vec<&str> = line.split(' ').collect(state.alloc)?;
         match words.as_slice() {
@@ -70,7 +70,7 @@ impl<T: ScriptKey> Call<T> {
         Ok(Call::OfMap(map, OfMap::read(state, map, words)?))
     }
 
-    /// The call of a line that puts a map in the place of one.
+    /// The call of a line that replaces a map.
     fn read_new_map(state: &State<T>, name: &str, words: &[&str]) -> Result<Self, Fault> {
         let target = MapName::read(name)?;
         Ok(Call::NewMap(target, NewMap::read(state.alloc, target, words)?))
@@ -94,7 +94,7 @@ impl<T: ScriptKey> Call<T> {
     }
 }
 
-/// Puts a map in the place of one.
+/// Replaces a map.
 fn put_map<T: ScriptKey>(
     state: &mut State<T>,
     target: MapName,
@@ -105,7 +105,7 @@ fn put_map<T: ScriptKey>(
     Ok(reply.push_str("()")?)
 }
 
-/// Puts a set in the place of one.
+/// Replaces a set.
 fn put_set<T: ScriptKey>(
     state: &mut State<T>,
     target: SetName,

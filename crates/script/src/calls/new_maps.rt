@@ -1,4 +1,4 @@
-//! `c = ..`: a map that is put in the place of one.
+//! `c = ..`: a map that replaces one.
 use crate::calls::from_pairs::FromPairs;
 use crate::calls::joins::Join;
 use crate::calls::makes::Make;
@@ -23,7 +23,7 @@ pub enum NewMap<T: ScriptKey> {
 }
 
 impl<T: ScriptKey> NewMap<T> {
-    /// What the words behind `=` ask for.
+    /// The call that the words after `=` ask for.
     pub fn read(alloc: Global, target: MapName, words: &[&str]) -> Result<Self, Fault> {
         if let Ok(operation) = Operation::read(words) {
             return Ok(NewMap::Operate(operation));

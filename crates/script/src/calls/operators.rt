@@ -1,11 +1,11 @@
-//! `c = a | &b` and kin: operators, each operand by value or lent.
+//! `c = a | &b` and kin: operators, each operand owned or borrowed.
 use crate::fault::Fault;
 use crate::keys::ScriptKey;
 use crate::state::{Map, MapName, SetName, State};
 use range_map_blaze::RangeSetBlaze;
 use std::alloc::AllocError;
 
-/// An operand's name, and whether it is lent.
+/// An operand's name, and whether it is borrowed.
 #[derive(Clone, Copy)]
 struct Operand<N> {
     name: N,
@@ -36,13 +36,13 @@ fn lent(word: &str) -> (bool, &str) {
     }
 }
 
-/// An operand: by value or lent.
+/// An operand, owned or borrowed.
 enum Given<'a, M> {
     Owned(M),
     Lent(&'a M),
 }
 
-/// Applies an operator to two operands, each by value or lent.
+/// Applies an operator to two operands, each owned or borrowed.
 macro_rules! apply {
     ($left:ident, $operator:tt, $right:ident) => {
         match ($left, $right) {
@@ -133,7 +133,7 @@ pub struct Operation {
 }
 
 impl Operation {
-    /// The operation that the words behind `=` ask for. A map that is given by value is named once.
+    /// The operation that the words after `=` ask for. An owned map may be named only once.
     pub fn read(words: &[&str]) -> Result<Self, Fault> {
         let [left, operator, right] = words else {
             return Err(Fault::Bad);
@@ -158,7 +158,7 @@ impl Operation {
         })
     }
 
-    /// Makes the call. An operand that is given by value is empty afterwards.
+    /// Makes the call. An owned operand is empty afterwards.
     pub fn make<T: ScriptKey>(self, state: &mut State<T>) -> Result<Map<T>, AllocError> {
         let owned_left = owned(state, self.left);
         match self.right {
@@ -204,7 +204,7 @@ fn with_set<T: ScriptKey>(
     }
 }
 
-/// The map of an operand by value.
+/// The map of an owned operand.
 fn owned<T: ScriptKey>(state: &mut State<T>, operand: Operand<MapName>) -> Option<Map<T>> {
     if operand.is_lent {
         None
@@ -213,7 +213,7 @@ fn owned<T: ScriptKey>(state: &mut State<T>, operand: Operand<MapName>) -> Optio
     }
 }
 
-/// The set of an operand by value.
+/// The set of an owned operand.
 fn owned_set<T: ScriptKey>(
     state: &mut State<T>,
     operand: Operand<SetName>,
@@ -225,7 +225,7 @@ fn owned_set<T: ScriptKey>(
     }
 }
 
-/// An operand by value if there is one, else lent.
+/// The owned operand if there is one, and otherwise the borrowed one.
 fn by_value_or_lent<M>(owned: Option<M>, lent: &M) -> Given<'_, M> {
     match owned {
         Some(map) => Given::Owned(map),
@@ -240,7 +240,7 @@ pub struct Complement {
 }
 
 impl Complement {
-    /// The operation that the words behind `=` ask for.
+    /// The operation that the words after `=` ask for.
     pub fn read(words: &[&str]) -> Result<Self, Fault> {
         match words {
             ["!", map] => Ok(Complement {
@@ -250,7 +250,7 @@ impl Complement {
         }
     }
 
-    /// Makes the call. A map that is given by value is empty afterwards.
+    /// Makes the call. An owned map is empty afterwards.
     pub fn make<T: ScriptKey>(self, state: &mut State<T>) -> Result<RangeSetBlaze<T>, AllocError> {
         let owned = owned(state, self.map);
         match by_value_or_lent(owned, state.map(self.map.name)) {

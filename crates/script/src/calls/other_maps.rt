@@ -1,11 +1,11 @@
-//! `a append b` and kin: another map painted over one, or its entries where that has none.
+//! `a append b` and kin: another map painted over a map, or filled into its gaps.
 use crate::fault::Fault;
 use crate::keys::ScriptKey;
 use crate::print::print_made;
 use crate::state::{MapName, State};
 use std::alloc::AllocError;
 
-/// How another map is taken over.
+/// How another map changes a map.
 #[derive(Clone, Copy)]
 enum Kind {
     ExtendFrom,
@@ -30,7 +30,7 @@ impl Kind {
     }
 }
 
-/// Another map that one takes over.
+/// Another map, and how it changes a map.
 #[derive(Clone, Copy)]
 pub struct OtherMap {
     kind: Kind,
@@ -38,7 +38,7 @@ pub struct OtherMap {
 }
 
 impl OtherMap {
-    /// What the words behind a map's name ask for. The two maps are different ones.
+    /// The call that the words after a map's name ask for. The two maps must be different.
     pub fn read(map: MapName, words: &[&str]) -> Result<Self, Fault> {
         let [call, other] = words else {
             return Err(Fault::Bad);
@@ -48,7 +48,7 @@ impl OtherMap {
         Ok(OtherMap { kind, other })
     }
 
-    /// Makes the call, and prints its answer. A map that is given by value is empty afterwards.
+    /// Makes the call, and prints its result. An owned map is empty afterwards.
     pub fn make<T: ScriptKey>(
         self,
         map: MapName,
@@ -70,7 +70,7 @@ impl OtherMap {
     }
 }
 
-/// The map that a word names, which is not the one that is changed.
+/// The map that a word names, which must not be the one that is changed.
 pub fn other_map(map: MapName, word: &str) -> Result<MapName, Fault> {
     let other = MapName::read(word)?;
     if other == map {

@@ -1,4 +1,4 @@
-//! `a is_disjoint b` and kin: how the keys of a map stand to those of another map, of a set, or of a range.
+//! `a is_disjoint b` and kin: how the keys of a map compare with those of another map, of a set, or of a range.
 use crate::fault::Fault;
 use crate::keys::ScriptKey;
 use crate::print::print;
@@ -7,7 +7,7 @@ use crate::words::bounds;
 use std::alloc::AllocError;
 use std::ops::Bound;
 
-/// What is asked of the keys of a map, and of which other keys.
+/// A question about the keys of a map and other keys.
 #[derive(Clone, Copy, Drop)]
 pub enum Relation<T: ScriptKey> {
     IsDisjoint(MapName),
@@ -18,7 +18,7 @@ pub enum Relation<T: ScriptKey> {
 }
 
 impl<T: ScriptKey> Relation<T> {
-    /// What the words behind a map's name ask for. The other map may be the same one.
+    /// The question of the words after a map's name. The other map may be the same one.
     pub fn read(words: &[&str]) -> Result<Self, Fault> {
         match words {
             ["is_disjoint", other] => Ok(Relation::IsDisjoint(MapName::read(other)?)),

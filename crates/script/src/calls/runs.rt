@@ -102,7 +102,7 @@ fn read_step<T: ScriptKey>(
     }
 }
 
-/// The steps that words write: a word that ends with `;` ends a step.
+/// The steps of some words. A word that ends with `;` ends a step.
 fn read_steps<T: ScriptKey>(
     state: &State<T>,
     map: MapName,
@@ -134,8 +134,8 @@ pub struct Run<T: ScriptKey> {
 }
 
 impl<T: ScriptKey> Run<T> {
-    /// The steps that the words behind a map's name write, with copies of the maps and sets that they name. Where memory is
-    /// refused no step is made.
+    /// The steps of the words after a map's name, with copies of the maps and sets that they name. If an allocation fails, no
+    /// step is made.
     pub fn read(state: &State<T>, map: MapName, words: &[&str]) -> Result<Self, Fault> {
         let ["run", rest @ ..] = words else {
             return Err(Fault::Bad);
@@ -156,7 +156,7 @@ impl<T: ScriptKey> Run<T> {
     }
 }
 
-/// Prints answers, joined by a semicolon and a space.
+/// Prints answers, separated by a semicolon and a space.
 fn print_answers<T: ScriptKey>(
     answers: &[Answer<T, String>],
     reply: &mut String,

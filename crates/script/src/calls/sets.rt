@@ -10,7 +10,7 @@ use std::alloc::{AllocError, Global};
 use std::fmt::Write;
 use std::ops::RangeInclusive;
 
-/// The ranges that words write.
+/// The ranges of some words.
 fn ranges<T: ScriptKey>(alloc: Global, words: &[&str]) -> Result<Vec<RangeInclusive<T>>, Fault> {
     let mut ranges = Vec::new(alloc);
     for word in words {
@@ -27,7 +27,7 @@ pub enum MakeSet<T: ScriptKey> {
 }
 
 impl<T: ScriptKey> MakeSet<T> {
-    /// What the words behind `=` ask for.
+    /// The call that the words after `=` ask for.
     pub fn read(alloc: Global, words: &[&str]) -> Result<Self, Fault> {
         match words {
             ["set", words @ ..] => Ok(MakeSet::Of(ranges(alloc, words)?)),
@@ -44,7 +44,7 @@ impl<T: ScriptKey> MakeSet<T> {
     }
 }
 
-/// What is asked of a set.
+/// A question about a set.
 #[derive(Clone, Copy)]
 pub enum SetLookUp<T: ScriptKey> {
     List,
@@ -55,7 +55,7 @@ pub enum SetLookUp<T: ScriptKey> {
 }
 
 impl<T: ScriptKey> SetLookUp<T> {
-    /// The look-up that the words behind a set's name ask for.
+    /// The lookup that the words after a set's name ask for.
     pub fn read(words: &[&str]) -> Result<Self, Fault> {
         match words {
             ["list"] => Ok(SetLookUp::List),

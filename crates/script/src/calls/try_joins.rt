@@ -1,4 +1,4 @@
-//! `c = try_inner_join a b N` and kin: what a closure that may fail answers at the values of maps.
+//! `c = try_inner_join a b N` and kin: the results of a closure that may fail at the values of maps.
 use crate::calls::joins::{first_character, joined};
 use crate::fault::Fault;
 use crate::keys::ScriptKey;
@@ -6,7 +6,7 @@ use crate::state::{Map, MapName, State};
 use crate::words::nth_call;
 use std::alloc::{AllocError, Global};
 
-/// What a closure answers at two words.
+/// The result of a closure at two words.
 #[derive(Clone, Copy)]
 enum Answer {
     Joined,
@@ -15,7 +15,7 @@ enum Answer {
 }
 
 impl Answer {
-    /// The answer that a number stands for.
+    /// The result that a number stands for.
     fn read(word: &str) -> Result<Self, Fault> {
         match word {
             "0" => Ok(Answer::Joined),
@@ -26,7 +26,7 @@ impl Answer {
     }
 }
 
-/// Two words with `/` between them. An absent one is `-`.
+/// Two words with `/` between them. A missing one is `-`.
 fn formatted(
     alloc: Global,
     left: Option<&String>,
@@ -41,14 +41,14 @@ fn formatted(
 #[derive(Clone, Copy)]
 struct Closure {
     answer: Answer,
-    /// The call that fails, from 1, if one is to.
+    /// The call that must fail, from 1, if any.
     failing: Option<u64>,
     /// How many calls were made.
     count: u64,
 }
 
 impl Closure {
-    /// The closure that words write: the number of its answer, and perhaps the call that fails.
+    /// The closure of some words: the number of its result, and perhaps the call that fails.
     fn read(words: &[&str]) -> Result<Self, Fault> {
         let [answer, failing @ ..] = words else {
             return Err(Fault::Bad);
@@ -60,7 +60,7 @@ impl Closure {
         })
     }
 
-    /// What a call returns.
+    /// The result of a call.
     fn call(
         &mut self,
         alloc: Global,
@@ -79,7 +79,7 @@ impl Closure {
     }
 }
 
-/// The first character of the left word, or of the right one where there is no left one.
+/// The first character of the left word, or of the right one if there is no left one.
 fn first_of(
     alloc: Global,
     left: Option<&String>,
@@ -91,7 +91,7 @@ fn first_of(
     }
 }
 
-/// Whose words a closure is called at.
+/// The maps at whose words a closure is called.
 #[derive(Clone, Copy)]
 enum Kind {
     Inner(MapName, MapName),
@@ -113,7 +113,7 @@ impl Kind {
     }
 }
 
-/// What a closure that may fail answers at the words of maps.
+/// The results of a closure that may fail at the words of maps.
 #[derive(Clone, Copy)]
 pub struct TryJoin {
     kind: Kind,
@@ -121,7 +121,7 @@ pub struct TryJoin {
 }
 
 impl TryJoin {
-    /// What the words behind `=` ask for.
+    /// The call that the words after `=` ask for.
     pub fn read(words: &[&str]) -> Result<Self, Fault> {
         let (kind, closure) = match words {
             ["try_transform_values", map, closure @ ..] => {
@@ -156,7 +156,7 @@ impl TryJoin {
     }
 }
 
-/// What a closure answers where both maps have a word.
+/// The results of a closure where both maps have a word.
 fn inner<T: ScriptKey>(
     alloc: Global,
     left: &Map<T>,
@@ -170,7 +170,7 @@ fn inner<T: ScriptKey>(
     )
 }
 
-/// What a closure answers where the left map has a word.
+/// The results of a closure where the left map has a word.
 fn left_of<T: ScriptKey>(
     alloc: Global,
     left: &Map<T>,
@@ -181,7 +181,7 @@ fn left_of<T: ScriptKey>(
     left.try_left_join(right, |left, right| closure.call(alloc, Some(left), right))
 }
 
-/// What a closure answers where at least one map has a word.
+/// The results of a closure where at least one map has a word.
 fn full<T: ScriptKey>(
     alloc: Global,
     left: &Map<T>,
@@ -192,7 +192,7 @@ fn full<T: ScriptKey>(
     left.try_full_join(right, |left, right| closure.call(alloc, left, right))
 }
 
-/// What a closure answers at the words of one map.
+/// The results of a closure at the words of one map.
 fn values<T: ScriptKey>(
     alloc: Global,
     map: &Map<T>,

@@ -7,7 +7,7 @@ use std::alloc::{AllocError, Global};
 use std::fmt::Write;
 use std::ops::Bound;
 
-/// What a closure returns at a piece of the range.
+/// The result of a closure at a piece of the range.
 #[derive(Clone, Copy)]
 enum Answer {
     Nothing,
@@ -20,7 +20,7 @@ enum Answer {
 }
 
 impl Answer {
-    /// The answer that a number stands for.
+    /// The result that a number stands for.
     fn read(word: &str) -> Result<Self, Fault> {
         match word {
             "0" => Ok(Answer::Nothing),
@@ -35,7 +35,7 @@ impl Answer {
     }
 }
 
-/// A copy of a word, or of none.
+/// A copy of a word, if there is one.
 fn copy(word: Option<&String>) -> Result<Option<String>, AllocError> {
     match word {
         Some(word) => Ok(Some(word.clone()?)),
@@ -43,7 +43,7 @@ fn copy(word: Option<&String>) -> Result<Option<String>, AllocError> {
     }
 }
 
-/// A word with `+` and another one behind it, or that one alone.
+/// A word with `+` and another one after it, or the other one alone.
 fn longer(alloc: Global, word: Option<&String>, last: &String) -> Result<String, AllocError> {
     let mut words = String::new(alloc);
     if let Some(word) = word {
@@ -60,14 +60,14 @@ struct Closure {
     alloc: Global,
     answer: Answer,
     value: String,
-    /// The call that fails, from 1, if one is to.
+    /// The call that must fail, from 1, if any.
     failing: Option<u64>,
     /// How many calls were made.
     count: u64,
 }
 
 impl Closure {
-    /// Prints what a call is given, behind those before it, and returns what the call returns.
+    /// Prints the argument of a call, after those before it, and returns the result of the call.
     fn call(
         &mut self,
         old: Option<&String>,
@@ -84,7 +84,7 @@ impl Closure {
         self.new_value(old)
     }
 
-    /// The value that a piece gets, or none.
+    /// The value that a piece gets, or `None`.
     fn new_value(&self, old: Option<&String>) -> Result<Option<String>, AllocError> {
         match self.answer {
             Answer::Nothing => Ok(None),
@@ -97,7 +97,7 @@ impl Closure {
         }
     }
 
-    /// The closure's own value, or none.
+    /// The closure's own value, or `None`.
     fn value_if(&self, is_asked: bool) -> Result<Option<String>, AllocError> {
         copy(if is_asked { Some(&self.value) } else { None })
     }
@@ -111,7 +111,7 @@ pub struct Update<T: ScriptKey> {
 }
 
 impl<T: ScriptKey> Update<T> {
-    /// The change that the words behind a map's name ask for.
+    /// The change that the words after a map's name ask for.
     pub fn read(alloc: Global, words: &[&str]) -> Result<Self, Fault> {
         let ["ranges_update", range, answer, text, failing @ ..] = words else {
             return Err(Fault::Bad);
@@ -127,7 +127,7 @@ impl<T: ScriptKey> Update<T> {
         Ok(Update { range, closure })
     }
 
-    /// Makes the call, and prints what the closure was given, joined by a semicolon and a space.
+    /// Makes the call, and prints the closure's arguments, separated by a semicolon and a space.
     pub fn make(self, map: &mut Map<T>, reply: &mut String) -> Result<(), AllocError> {
         let mut closure = self.closure;
         map.ranges_update(self.range, |old| closure.call(old, reply))
