@@ -11,14 +11,23 @@ use crate::{DONE, NO_MEMORY};
 use range_map_blaze::RangeMapBlaze;
 use std::alloc::{AllocError, Global};
 
-/// The place of all keys of a range: those without a value get the given one.
+/// The place for all keys of a range: those without a value get the given one.
 const ALL: u32 = 0;
 
-/// Sets the value of every key from `lo` to `hi` that has one to what `op` makes of it and `value`: 0 the sum modulo 2^64, 1 the
-/// lesser, 2 the greater, 3 the bits of both, 4 of either, 5 of exactly one, and another number keeps the old value. A key without
-/// a value gets `value` if `place` is 0, and else stays without one. If an allocation fails, a first part of the entries and gaps in
-/// the range is changed, perhaps none. A range in which nothing changes does not allocate. O(log n) for n entries, O(1) for each entry
-/// and each gap in the range, and O(log n) for each of them that changes.
+/// Sets the value of every key from `lo` to `hi` that has one to the result of an operation on it and `value`. A key without a
+/// value gets `value` if `place` is 0, and otherwise stays without one. `op` is the operation:
+///
+/// - 0: the sum modulo 2^64
+/// - 1: the lesser
+/// - 2: the greater
+/// - 3: the bits that both have
+/// - 4: the bits that one of them has, or both
+/// - 5: the bits that exactly one of them has
+/// - another number: the old value
+///
+/// If an allocation fails, a first part of the entries and gaps in the range is changed, perhaps none. A range in which nothing
+/// changes does not allocate. O(log n) for n entries, O(1) for each entry and each gap in the range, and O(log n) for each of
+/// them that changes.
 #[unsafe(no_mangle)]
 pub extern "C" fn range_map_combine_unchecked(
     alloc: Global,
@@ -85,7 +94,7 @@ fn combine(
     map.ranges_update(lo..=hi, |old| Ok(combined_with(old, value, op, place)))
 }
 
-// What a key has afterwards, by what it had.
+// The value of a key afterwards, by its value before.
 fn combined_with(old: Option<&u64>, value: u64, op: u32, place: u32) -> Option<u64>
     ensures { result ≡ combined op place value (shown_option (λ v. v.now) old.entry) }
 {

@@ -1,5 +1,5 @@
-//! The range map for C: keys `i64`, values `u64`. Each function calls the map's own and says again what it promises. A call that
-//! only looks something up takes `&mut RangeMap`, and promises that the struct is the same afterwards.
+//! The range map for C: keys `i64`, values `u64`. Each function calls one of the map and repeats its contract. A lookup takes
+//! `&mut RangeMap`, and its contract says that the struct is unchanged.
 #![tactic(auto)]
 
 ghost use Rattle.std.specs.Prelude.{◌≡◌};

@@ -1,4 +1,4 @@
-//! Look-ups by key. None allocates; each takes O(log n) for n entries.
+//! Lookups by key. None allocates; each takes O(log n) for n entries.
 ghost use Rattle.std.specs.Prelude.{◌≡◌, Some, None, IsFalse, MatchBool, MatchOption, option_map};
 ghost use Rattle.blaze_entries.specs.Entries.{entry, at, entry_at};
 ghost use Rattle.blaze_table.specs.Ending.{overlapping};
@@ -31,8 +31,8 @@ pub extern "C" fn range_map_get_unchecked(map: &mut RangeMap, key: i64, value: &
     }
 }
 
-/// Writes the entry that contains a key and returns true, or writes the longest range around the key in which no key has a value,
-/// with the value 0, and returns false.
+/// Writes the entry that contains a key, and returns true. If the key has no value, writes the longest range around it in which
+/// no key has a value, and the value 0, and returns false.
 #[unsafe(no_mangle)]
 pub extern "C" fn range_map_entry_or_gap_at_unchecked(
     alloc: Global,

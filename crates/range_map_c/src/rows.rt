@@ -67,7 +67,7 @@ pub extern "C" fn range_map_entries_back_into_unchecked(
     write_rows(Rows::descending(map.overlapping(..=from)), lo, hi, value) as u64
 }
 
-// Entries in the order in which they are written. Contracts see the list of those that are left.
+// Entries in the order in which they are written. Contracts see the list of those that are not written yet.
 #[derive(Drop)]
 struct Rows<'a> {
     entries: Overlapping<'a, i64, u64>,
