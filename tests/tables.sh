@@ -1,8 +1,8 @@
 #!/usr/bin/env bash
 # Tests the programs over tables that people know. Their outputs for the excerpts that `rt ci` runs are compared with
 # those of tests/tables/NAME.py, which goes key by key, without ranges. So are the outputs for whole tables, if these exist:
-# Scripts.txt of Debian's package unicode-data, /etc/services, the memory of a process, and tables that are made here. The key type
-# of docs/KEYS.md must be in `demo_keys`. Then come faulty lines, a folder as input, an
+# Scripts.txt of Debian's package unicode-data, /etc/services, the first 3,000 lines of geoip6 of tor-geoipdb, the memory of a process,
+# and tables that are made here. The key type of docs/KEYS.md must be in `demo_keys`. Then come faulty lines, a folder as input, an
 # output that is full, and each allocation failing in turn. Programs that are not built are left out, and named. The last line is
 # 'N passed, M failed'.
 set -euo pipefail
@@ -31,11 +31,12 @@ printf 'D7FE..E001 ; One\nD800..DFFF ; None\nDC00..E003 ; Two\n10FFFF ; Two\n0 ;
 { cat /etc/services && printf '? %s\n' 1 10 100 1000 10000 40000; } >"$work/ports"
 { cat /proc/$$/maps && echo && cat /proc/self/maps; } >"$work/regions"
 cat /proc/self/maps >"$work/regions.one"
+if [ -f /usr/share/tor/geoip6 ]; then head -n 3000 /usr/share/tor/geoip6 >"$work/routes.countries"; fi
 python3 - "$work" <<'END'
 import random
 import sys
 from datetime import date, timedelta
-from ipaddress import IPv4Network, IPv6Network
+from ipaddress import IPv4Address, IPv4Network, IPv6Address, IPv6Network
 
 random.seed(1)
 work = sys.argv[1]
@@ -57,9 +58,19 @@ with open(f"{work}/routes", "w") as out:
         length = random.randint(0, 128)
         address = random.getrandbits(128) & random.getrandbits(128)
         out.write(f"{IPv6Network((address, length), strict=False)} {random.choice('abcdef')}\n")
+    for address, bits in (IPv4Address, 32), (IPv6Address, 128):
+        for _ in range(100):
+            first, last = sorted((random.getrandbits(bits), random.getrandbits(bits)))
+            out.write(f"{address(first)},{address(last)},{random.choice('abcdef')}\n")
     out.write("".join("? " + ".".join(str(random.getrandbits(8)) for _ in range(4)) + "\n" for _ in range(50)))
     out.write("".join("? " + ":".join(f"{random.getrandbits(16):x}" for _ in range(8)) + "\n" for _ in range(50)))
     out.write("? prefixes\n")
+with open(f"{work}/regions.changed", "w") as out:
+    for snapshot in (0, 1):
+        out.write("\n" * snapshot)
+        for page in sorted(random.sample(range(200), 100)):
+            permissions, name = random.choice(("r--p", "rw-p")), random.choice(("/lib/a", "[heap]"))
+            out.write(f"{page * 4096:x}-{(page + random.randint(1, 2)) * 4096:x} {permissions} 0 00:00 0 {name}\n")
 with open(f"{work}/picture", "w") as out:
     for _ in range(40):
         start = random.randint(-500, 500)

@@ -1,9 +1,10 @@
 //! The memory of a process, from the lines of /proc/PID/maps: how many regions and bytes there are, and which gaps between them.
-//! Of two such tables with an empty line between: which regions are gone, which are new, which moved, how many bytes both have.
+//! Of two such tables with an empty line between: which regions are gone, which are new, which moved, which bytes have other
+//! permissions or another name, and how many bytes both have. `/proc` is part of Linux: no package brings the table.
 #![tactic(auto)]
 
 use demo_lines::{Fault, Table, hexadecimal, length, run};
-use range_map_blaze::RangeMapBlaze;
+use range_map_blaze::{JoinKind, RangeMapBlaze, join_of};
 use std::alloc::{AllocError, Global};
 use std::collections::BTreeMap;
 use std::ops::RangeInclusive;
@@ -75,9 +76,21 @@ fn print_moves(rt: &HostRuntime, gone: &Map, new: &Map) -> Result<(), Fault> {
     Ok(())
 }
 
+/// Prints the bytes that are in both and have another value, with the old and the new one.
+fn print_other_values(rt: &HostRuntime, first: &Map, later: &Map) -> Result<(), Fault> {
+    let (first, later) = (first.range_values(), later.range_values());
+    for (bytes, (old, new)) in join_of(rt.alloc(), first, later, JoinKind::Inner)? {
+        if let (Some(old), Some(new)) = (old, new) && old != new {
+            println!(rt; "changed {:x}..={:x} {old} to {new}", bytes.start(), bytes.end())?;
+        }
+    }
+    Ok(())
+}
+
 /// Prints what changed, and how many bytes are in both and in either.
 fn print_changes(rt: &HostRuntime, first: &Map, later: &Map) -> Result<(), Fault> {
     print_moves(rt, &(first - later)?, &(later - first)?)?;
+    print_other_values(rt, first, later)?;
     let (both, either) = ((first & later)?.len(), (first | later)?.len());
     println!(rt; "{both} bytes in both, {either} in either")?;
     Ok(())

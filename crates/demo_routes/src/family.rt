@@ -9,7 +9,7 @@ use std::net::AddrParseError;
 use std::ops::RangeInclusive;
 use std::str::FromStr;
 
-/// A block of addresses, the number of the bits that they share, and its owner.
+/// A block of addresses, the number of the bits that count as shared, and its owner.
 #[derive(Drop)]
 pub struct Block<A: Address> {
     bits: u32,
@@ -31,13 +31,36 @@ fn prefix<A: Address + FromStr<Err = AddrParseError>>(
     Some((bits, prefix_range(read(start)?, bits)?))
 }
 
-/// The block of a prefix with its owner.
+/// The addresses of a range `FIRST,LAST`.
+fn range_of<A: Address + FromStr<Err = AddrParseError>>(
+    first: &str,
+    last: &str,
+) -> Option<RangeInclusive<A>> {
+    let (first, last): (A, A) = (read(first)?, read(last)?);
+    if is_below(last, first) {
+        None
+    } else {
+        Some(first..=last)
+    }
+}
+
+/// The number of shared bits, and the addresses, of a prefix or of a range, which counts as a prefix that shares none.
+fn addresses<A: Address + FromStr<Err = AddrParseError>>(
+    text: &str,
+) -> Option<(u32, RangeInclusive<A>)> {
+    match text.split_once(',') {
+        Some((first, last)) => Some((0, range_of(first, last)?)),
+        None => prefix(text),
+    }
+}
+
+/// The block of a prefix or a range with its owner.
 pub fn read_block<A: Address + FromStr<Err = AddrParseError>>(
     alloc: Global,
     text: &str,
     owner: &str,
 ) -> Result<Block<A>, Fault> {
-    let (bits, range) = prefix(text).ok_or(Fault::Line)?;
+    let (bits, range) = addresses(text).ok_or(Fault::Line)?;
     let owner = String::from_str(alloc, owner)?;
     Ok(Block { bits, range, owner })
 }

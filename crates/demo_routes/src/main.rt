@@ -2,6 +2,9 @@
 //! prefixes that hold an address the longest counts, whatever the order of the lines. The shortest list of ranges, and for each line
 //! `? ADDRESS` the owner, for `? prefixes` the fewest prefixes that say the same. An IPv4 address within IPv6 is printed with its IPv4 part
 //! in decimal, as `::ffff:10.0.0.1`. An example is crates/demo_routes/stdin.
+//!
+//! A line may also be a range of addresses, `FIRST,LAST,NAME`, which counts as a prefix of length 0: a later range replaces an earlier
+//! one. The countries of IPv6 addresses are such a table. The Debian package tor-geoipdb has it as /usr/share/tor/geoip6.
 #![tactic(auto)]
 
 mod family;
@@ -40,6 +43,14 @@ fn read_question(text: &str) -> Option<Question> {
     Some(Question::OwnerOf4(read(text)?))
 }
 
+/// The addresses and the owner of a line. The owner follows the first space, or the last comma in a line without a space.
+fn split_owner(text: &str) -> Option<(&str, &str)> {
+    match text.split_once(' ') {
+        Some(parts) => Some(parts),
+        None => text.rsplit_once(','),
+    }
+}
+
 impl Table for Routes {
     fn add(&mut self, rt: &HostRuntime, line: &str) -> Result<(), Fault> {
         let Some(text) = content(line) else {
@@ -50,13 +61,13 @@ impl Table for Routes {
                 .push(read_question(asked).ok_or(Fault::Line)?)?;
             return Ok(());
         }
-        let (prefix, owner) = text.split_once(' ').ok_or(Fault::Line)?;
-        if prefix.contains(':') {
+        let (addresses, owner) = split_owner(text).ok_or(Fault::Line)?;
+        if addresses.contains(':') {
             self.blocks_of_6
-                .push(read_block(rt.alloc(), prefix, owner)?)?;
+                .push(read_block(rt.alloc(), addresses, owner)?)?;
         } else {
             self.blocks_of_4
-                .push(read_block(rt.alloc(), prefix, owner)?)?;
+                .push(read_block(rt.alloc(), addresses, owner)?)?;
         }
         Ok(())
     }
