@@ -1,9 +1,24 @@
 #!/usr/bin/env bash
 # Prints the instructions of calls of the library for C, counted by callgrind: the program bench/calls.c with 1,000 calls, less the same
-# program with the random keys alone. Run bindings/build.sh first.
+# program with the random keys alone.
+#
+#     bench/calls.sh
+#
+# It needs cc, valgrind and the library, which bindings/build.sh makes before. Status 70: one of these is missing.
 set -euo pipefail
-cd "$(dirname "${BASH_SOURCE[0]}")"
+cd "$(dirname "$(readlink -f "${BASH_SOURCE[0]}")")"
+if [ "${1:-}" = --help ]; then
+    sed -n '2,/^set/ s/^# \?//p' calls.sh
+    exit
+fi
 out="${RANGE_MAP_OUT:-../bindings/out}"
+missing() { # what is missing, where it comes from
+    echo "bench: there is no $1 here ($2)" >&2
+    exit 70
+}
+if ! command -v cc >/dev/null; then missing cc 'Debian: gcc'; fi
+if ! command -v valgrind >/dev/null; then missing valgrind 'Debian: valgrind'; fi
+if [ ! -f "$out/librange_map.a" ]; then missing librange_map.a 'bindings/build.sh makes it'; fi
 mkdir -p out
 cc -std=c99 -O2 -Wall -Wextra -pedantic -I ../bindings -o out/calls calls.c "$out/librange_map.a"
 
