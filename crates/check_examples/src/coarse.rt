@@ -53,7 +53,7 @@ fn pairs(alloc: Global) -> Result<Pairs, AllocError> {
     Ok(vec![in alloc; (1..=4, Labelled(1, 'y')), (20..=20, Labelled(2, 'z'))]?)
 }
 
-/// The same as a map.
+/// The two ranges as a map.
 fn map_of_pairs(alloc: Global) -> Result<Map, AllocError> {
     RangeMapBlaze::from_ranges(alloc, pairs(alloc)?)
 }
@@ -76,7 +76,7 @@ fn extended_by_pairs(rt: &HostRuntime, map: &mut Map) -> Result<(), AllocError> 
     Ok(())
 }
 
-/// Extensions by a map that is given by value, or emptied.
+/// Extensions by an owned map, and by one that is emptied.
 fn extended_by_value(rt: &HostRuntime, map: &mut Map) -> Result<(), AllocError> {
     let alloc = rt.alloc();
     map.extend_from(map_of_pairs(alloc)?)?;
@@ -86,7 +86,7 @@ fn extended_by_value(rt: &HostRuntime, map: &mut Map) -> Result<(), AllocError> 
     Ok(())
 }
 
-/// Extensions by a map that is lent.
+/// Extensions by a borrowed map.
 fn extended_by_lent(rt: &HostRuntime, map: &mut Map, other: &Map) -> Result<(), AllocError> {
     map.extend_with(other)?;
     map.bitor_assign_ref(other)?;
@@ -114,7 +114,7 @@ fn extended_from_none(rt: &HostRuntime) -> Result<(), AllocError> {
     Ok(())
 }
 
-/// Fills round the entry 2..=3 with an equal value: all are one entry.
+/// Fills around the entry 2..=3 with an equal value: all are one entry.
 fn filled(rt: &HostRuntime) -> Result<(), AllocError> {
     let mut map = Map::new(rt.alloc());
     let _ = map.ranges_insert(2..=3, Labelled(1, 'x'))?;
@@ -127,7 +127,7 @@ fn filled(rt: &HostRuntime) -> Result<(), AllocError> {
     Ok(())
 }
 
-/// The same of a table.
+/// Fills around the entry 3..=5 of a table with an equal value: all are one entry.
 fn filled_table(rt: &HostRuntime) -> Result<(), AllocError> {
     let mut table: RangeTable<i64, Labelled> = RangeTable::new(rt.alloc());
     let _ = table.paint(3, 5, Labelled(1, 'x'))?;

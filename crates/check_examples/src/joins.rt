@@ -6,7 +6,7 @@ use blaze_streams::{
 };
 use std::alloc::AllocError;
 
-/// What two lent streams have at the segments of a join.
+/// The values of two borrowed streams at the segments of a join.
 fn lent(rt: &HostRuntime, kind: JoinKind, one: &Letters, two: &Letters) -> Result<(), AllocError> {
     let made = join_of(rt.alloc(), one.range_values(), two.range_values(), kind);
     let _ = print!(rt; "{kind:?} ");

@@ -25,14 +25,14 @@ pub fn map_of<V: Eq + Copy>(
     Ok(map)
 }
 
-/// A loop over a map that is lent.
+/// A loop over a borrowed map.
 fn lent_loop(rt: &HostRuntime, map: &Letters) {
     for (key, value) in map {
         let _ = println!(rt; "{key} {value}");
     }
 }
 
-/// A loop over a map by value.
+/// A loop over an owned map.
 fn owned_loop(rt: &HostRuntime, map: Letters) -> Result<(), AllocError> {
     for pair in map {
         let (key, value) = pair?;

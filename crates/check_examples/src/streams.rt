@@ -38,7 +38,7 @@ fn checked(rt: &HostRuntime, items: &[(i64, i64, char)]) -> Result<(), AllocErro
     }
 }
 
-/// The same of ranges alone.
+/// A list of ranges as a stream, or the position at which it violates the law.
 fn checked_ranges(rt: &HostRuntime, items: &[(i64, i64)]) -> Result<(), AllocError> {
     let mut list = Vec::new(rt.alloc());
     for (start, end) in items {
@@ -65,7 +65,7 @@ fn lists(rt: &HostRuntime) -> Result<(), AllocError> {
     checked(rt, &[(1, 3, 'a'), (4, 4, 'b')])
 }
 
-/// The same of ranges alone.
+/// Lists of ranges that violate the law of a stream, and one that keeps it.
 fn lists_of_ranges(rt: &HostRuntime) -> Result<(), AllocError> {
     checked_ranges(rt, &[(1, 3), (4, 5)])?;
     checked_ranges(rt, &[(1, 3), (5, 5)])
