@@ -203,8 +203,8 @@ def measure(side, prepared, few, paints, ranges, keys, is_slow):
         one = timed("make, an entry", len(prepared), lambda: side(prepared))
         other = side(few)
         get = one.get
-        found = timed("a look-up", len(keys), lambda: [get(key) for key in keys])
-        many = timed("many look-ups, a key", len(keys), lambda: one.get_many(keys))
+        found = timed("a lookup", len(keys), lambda: [get(key) for key in keys])
+        many = timed("many lookups, a key", len(keys), lambda: one.get_many(keys))
         united = timed("union with a tenth, an entry", len(prepared), lambda: one.union(other))
         timed("a paint", len(paints), lambda: one.paint_all(paints))
         timed("a removal", len(ranges), lambda: one.remove_all(ranges))
@@ -234,7 +234,7 @@ def compare(count):
             continue
         times[name], left = measure(side, prepared, few, paints, ranges, keys, is_slow=side is Tree)
         wanted = wanted or left
-        for what, got, expected in zip(("look-ups", "many look-ups", "union", "entries"), left, wanted):
+        for what, got, expected in zip(("lookups", "many lookups", "union", "entries"), left, wanted):
             if got != expected:
                 sys.exit(f"bench: {name} leaves something else: {what}")
     print(f"| {count} entries, microseconds | " + " | ".join(times) + " |")

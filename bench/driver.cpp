@@ -96,24 +96,24 @@ const Work works[] = {
     {"`a \\| b`, equal sizes", 8, 100'000, 1'000, 200 * thousand, "entry"},
     {"`a \\| b`, equal sizes", 8, 1'000'000, 100, 2'000 * thousand, "entry"},
     {"`a \\| b`, b of a tenth", 9, 100'000, 1'000, 110 * thousand, "entry"},
-    {"`a \\| b`, b of 100, lent", 10, 100'000, 1'000, 1, "call"},
-    {"`a \\| b`, b of 100, by value", 11, 100'000, 1'000, 1, "call"},
-    {"`a \\| b`, b of 100, by value", 11, 1'000'000, 1'000, 1, "call"},
+    {"`a \\| b`, b of 100, borrowed", 10, 100'000, 1'000, 1, "call"},
+    {"`a \\| b`, b of 100, owned", 11, 100'000, 1'000, 1, "call"},
+    {"`a \\| b`, b of 100, owned", 11, 1'000'000, 1'000, 1, "call"},
     {"`a & b`, equal sizes", 12, 100'000, 1'000, 200 * thousand, "entry"},
-    {"`a & b`, a of 100, lent", 21, 100'000, 1'000, 1, "call"},
-    {"`a & b`, a of 100, lent", 21, 1'000'000, 1'000, 1, "call"},
+    {"`a & b`, a of 100, borrowed", 21, 100'000, 1'000, 1, "call"},
+    {"`a & b`, a of 100, borrowed", 21, 1'000'000, 1'000, 1, "call"},
     {"`a - b`, equal sizes", 13, 100'000, 1'000, 200 * thousand, "entry"},
-    {"`a - b`, b of 100, lent", 22, 100'000, 1'000, 1, "call"},
-    {"`a - b`, b of 100, by value", 23, 100'000, 1'000, 1, "call"},
-    {"`a - b`, b of 100, by value", 23, 1'000'000, 1'000, 1, "call"},
+    {"`a - b`, b of 100, borrowed", 22, 100'000, 1'000, 1, "call"},
+    {"`a - b`, b of 100, owned", 23, 100'000, 1'000, 1, "call"},
+    {"`a - b`, b of 100, owned", 23, 1'000'000, 1'000, 1, "call"},
     {"`a ^ b`, equal sizes", 14, 100'000, 1'000, 200 * thousand, "entry"},
-    {"`a ^ b`, b of 100, lent", 28, 100'000, 1'000, 1, "call"},
-    {"`a ^ b`, b of 100, by value", 29, 100'000, 1'000, 1, "call"},
+    {"`a ^ b`, b of 100, borrowed", 28, 100'000, 1'000, 1, "call"},
+    {"`a ^ b`, b of 100, owned", 29, 100'000, 1'000, 1, "call"},
     {"a range of the lower half of the keys", 24, 100'000, 1'000, 5e4, "entry"},
     {"all keys, 100 an entry", 15, 100'000, 100, 1e7, "key"},
     {"all keys, 1 an entry", 16, 1'000'000, 1'000, 1e6, "key"},
     {"a map of unsorted ranges; plain paints them", 17, 1'000'000, 10, 1e6, "range"},
-    {"the same, painted one by one", 19, 1'000'000, 10, 1e6, "range"},
+    {"a map of unsorted ranges, painted one by one", 19, 1'000'000, 10, 1e6, "range"},
     {"a map of sorted ranges; plain copies them", 18, 1'000'000, 100, 1e6, "range"},
     {"filled ranges of so many gaps, 10^5 entries; plain paints them", 25, 1, 100'000, 1, "gap"},
     {"filled ranges of so many gaps, 10^5 entries; plain paints them", 25, 10, 10'000, 10, "gap"},
@@ -136,7 +136,7 @@ struct Text {
 
 const Text texts[] = {
     {"program, random paints", 100'000, 1'700'000, false},
-    {"program, paints and look-ups among 100 keys", 1'000'000, 100, true},
+    {"program, paints and lookups among 100 keys", 1'000'000, 100, true},
     {"program, empty lines", 10'000'000, 0, false},
 };
 
@@ -327,10 +327,10 @@ void print_growths(const Times& times) {
     print_growth(times, "paint at 10^6 entries, of that at 10^4", 0, 1'000'000, 1, 0, 10'000);
     print_growth(times, "insert at 10^6 entries, of that at 10^4", 1, 1'000'000, 1, 1, 10'000);
     print_growth(times, "remove at 10^6 entries, of that at 10^4", 2, 1'000'000, 1, 2, 10'000);
-    print_growth(times, "`a \\| b`, b of 100, by value at 10^5, of 100 paints", 11, 100'000, 100, 0, 100'000);
+    print_growth(times, "`a \\| b`, b of 100, owned at 10^5, of 100 paints", 11, 100'000, 100, 0, 100'000);
     print_growth(times, "a map of 10^6 unsorted ranges, of painting them", 17, 1'000'000, 1, 19, 1'000'000);
-    print_growth(times, "`a \\| b`, b of 100, by value at 10^6, of that at 10^5", 11, 1'000'000, 1, 11, 100'000);
-    print_growth(times, "`a - b`, b of 100, by value at 10^6, of that at 10^5", 23, 1'000'000, 1, 23, 100'000);
+    print_growth(times, "`a \\| b`, b of 100, owned at 10^6, of that at 10^5", 11, 1'000'000, 1, 11, 100'000);
+    print_growth(times, "`a - b`, b of 100, owned at 10^6, of that at 10^5", 23, 1'000'000, 1, 23, 100'000);
     print_growth(times, "the union of 4,096 maps, of that of 16", 20, 4'096, 1, 20, 16);
     print_growth(times, "paint from C, of a direct one at 10^4", by_c + 0, 10'000, 1, 0, 10'000);
     print_growth(times, "get from C, of a direct one", by_c + 4, 100'000, 1, 4, 100'000);

@@ -1,5 +1,5 @@
 #!/usr/bin/env python3
-"""Draws the driver's figures: the time of a paint, of a look-up and of a union, against the number of entries, on four sides.
+"""Draws the driver's figures: the time of a paint, of a lookup and of a union, against the number of entries, on four sides.
 
     bench/run.sh paint get 'equal sizes' | bench/plot.py >docs/speed.svg
 
@@ -17,7 +17,7 @@ from typing import NamedTuple
 
 # The colour of each side, and how its line is dashed, so that one that lies on another is seen.
 SIDES = {"library": ("#1f5fa8", "none"), "plain Rust": ("#6f6f6f", "2 4"), "the crate's way": ("#b3541e", "8 4"), "Boost": ("#3f7d3a", "12 3 2 3")}
-PANELS = {"paint": "a paint", "get": "a look-up", "`a \\| b`, equal sizes": "a | b, for each entry of both"}
+PANELS = {"paint": "a paint", "get": "a lookup", "`a \\| b`, equal sizes": "a | b, for each entry of both"}
 WIDTH, HEIGHT, LEFT, RIGHT, TOP, BOTTOM = 340, 300, 64, 32, 64, 40
 
 

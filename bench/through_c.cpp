@@ -1,4 +1,4 @@
-// The works of driver.cpp that go through the library's calls for C: paints and look-ups.
+// The works of driver.cpp that go through the library's calls for C: paints and lookups.
 #include <range_map.h>
 
 #include <cstdint>
