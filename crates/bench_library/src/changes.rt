@@ -3,7 +3,7 @@ use crate::draw::Draw;
 use crate::prepared::{ENTRIES, Map, Work, checksum, copies, even, mix, prepared, spread};
 use std::alloc::AllocError;
 
-/// What is done at random places.
+/// The calls at random keys.
 #[derive(Clone, Copy, Debug)]
 pub enum Change {
     Paint,
@@ -11,8 +11,8 @@ pub enum Change {
     Remove,
 }
 
-/// Changes at random places of maps of `size` entries. There are so many copies of the map that each has at most `size` of the
-/// changes.
+/// Changes maps of `size` entries at random keys. The changes are spread over several copies of the map, so that each
+/// copy gets at most `size` of them.
 pub fn change_maps(work: Work, change: Change) -> Result<u64, AllocError> {
     let map = even(work, 1)?;
     let count = if work.size == 0 {
@@ -34,7 +34,7 @@ pub fn change_maps(work: Work, change: Change) -> Result<u64, AllocError> {
 }
 
 impl Change {
-    /// Makes so many changes below a key, and returns a sum of the old values.
+    /// Makes `count` changes at keys below a limit, and returns a sum of the old values.
     fn make(
         self,
         map: &mut Map,
@@ -78,7 +78,7 @@ fn remove(map: &mut Map, draw: &mut Draw, limit: u64, count: u64) -> Result<u64,
     Ok(sum)
 }
 
-/// Sixteen paints at a time among the same 64 keys, then among the next 64.
+/// Paints sixteen ranges at a time within the same 64 keys, then within the next 64.
 pub fn clumps(work: Work) -> Result<u64, AllocError> {
     let mut draw = Draw::new(2);
     let mut map = Map::new(work.alloc);
@@ -91,7 +91,7 @@ pub fn clumps(work: Work) -> Result<u64, AllocError> {
     Ok(checksum(work.check, 0, &map))
 }
 
-/// Ranges with about `size` gaps each, one above another, that are filled in a map of `ENTRIES` entries.
+/// Fills ranges with about `size` gaps each, from the least key up, in a map of `ENTRIES` entries.
 pub fn fill(work: Work) -> Result<u64, AllocError> {
     let mut map = prepared(work.alloc, 1, ENTRIES, 16, 0)?;
     let mut draw = Draw::new(2);
@@ -104,7 +104,7 @@ pub fn fill(work: Work) -> Result<u64, AllocError> {
     Ok(checksum(work.check, 0, &map))
 }
 
-/// Look-ups at random keys.
+/// Looks up random keys.
 pub fn get(work: Work) -> Result<u64, AllocError> {
     let map = even(work, 1)?;
     let mut draw = Draw::new(2);
@@ -116,7 +116,7 @@ pub fn get(work: Work) -> Result<u64, AllocError> {
     Ok(sum)
 }
 
-/// The least keys, one by one.
+/// Removes the least keys, one by one.
 pub fn pop_first(work: Work) -> Result<u64, AllocError> {
     let mut map = even(work, 1)?;
     let mut sum = 0;
@@ -128,7 +128,7 @@ pub fn pop_first(work: Work) -> Result<u64, AllocError> {
     Ok(checksum(work.check, sum, &map))
 }
 
-/// The greatest keys, one by one.
+/// Removes the greatest keys, one by one.
 pub fn pop_last(work: Work) -> Result<u64, AllocError> {
     let mut map = even(work, 1)?;
     let mut sum = 0;
@@ -140,7 +140,7 @@ pub fn pop_last(work: Work) -> Result<u64, AllocError> {
     Ok(checksum(work.check, sum, &map))
 }
 
-/// All entries kept, again and again.
+/// Calls `retain` repeatedly and keeps all entries.
 pub fn retain(work: Work) -> Result<u64, AllocError> {
     let mut map = even(work, 1)?;
     for _ in 0..work.count {
@@ -149,7 +149,7 @@ pub fn retain(work: Work) -> Result<u64, AllocError> {
     Ok(checksum(work.check, 0, &map))
 }
 
-/// The entries kept whose value is below a limit, of four maps.
+/// Keeps the entries of four maps whose value is below a limit.
 pub fn retain_below(work: Work, limit: u64) -> Result<u64, AllocError> {
     let map = even(work, 1)?;
     let mut sum = 0;

@@ -1,6 +1,6 @@
-//! Pseudo-random numbers, the same on each side of the measurement.
+//! Pseudo-random numbers. Both sides of the measurement use the same sequence.
 
-/// The state of the numbers.
+/// The state of the generator.
 #[derive(Drop)]
 pub struct Draw {
     state: u64,
@@ -11,7 +11,7 @@ impl Draw {
         Draw { state: seed }
     }
 
-    /// A number below a limit; 0 where the limit is 0.
+    /// Returns a number below a limit, or 0 if the limit is 0.
     pub fn below(&mut self, limit: u64) -> u64 {
         self.state = self
             .state
@@ -23,7 +23,7 @@ impl Draw {
         (self.state >> 33) % limit
     }
 
-    /// A key from 0 up to below a limit; 0 where the limit is 0.
+    /// Returns a key from 0 to below a limit, or 0 if the limit is 0.
     pub fn key(&mut self, limit: u64) -> i64 {
         self.below(limit).cast_signed()
     }

@@ -1,4 +1,4 @@
-//! The works of the benchmark over the library, for a caller in C. `bench/plain.rs` has the same ones over plain Rust.
+//! The benchmark's works over the library, for a caller in C. `bench/plain.rs` has the same works in plain Rust.
 #![tactic(auto)]
 
 mod changes;
@@ -22,10 +22,10 @@ use crate::whole::{
 };
 use std::alloc::{AllocError, Global};
 
-/// Added to a work's number where the entries that are left are to be in the checksum.
+/// Added to a work's number to include the final entries in the checksum.
 const CHECKED: u32 = 100;
 
-/// Does a work and returns a checksum, which is not 0; 0 where memory was refused or there is no such work.
+/// Runs a work and returns a checksum, which is not 0. It returns 0 if an allocation fails or no work has the number.
 #[unsafe(no_mangle)]
 pub extern "C" fn library_run(alloc: Global, work: u32, size: u64, count: u64) -> u64 {
     let check = work >= CHECKED;
@@ -42,7 +42,7 @@ pub extern "C" fn library_run(alloc: Global, work: u32, size: u64, count: u64) -
     }
 }
 
-/// A work on single keys and small ranges, or else one on whole maps.
+/// Runs a work on single keys and small ranges, or else one of the other works.
 fn on_keys(work: Work, number: u32) -> Option<Result<u64, AllocError>> {
     match number {
         0 => Some(change_maps(work, Change::Paint)),
@@ -61,7 +61,7 @@ fn on_keys(work: Work, number: u32) -> Option<Result<u64, AllocError>> {
     }
 }
 
-/// A work that goes over all keys, or else one on whole maps.
+/// Runs a work that visits all keys, or else one on whole maps.
 fn on_all_keys(work: Work, number: u32) -> Option<Result<u64, AllocError>> {
     match number {
         15 => Some(walk(work, 100)),
@@ -77,7 +77,7 @@ fn on_all_keys(work: Work, number: u32) -> Option<Result<u64, AllocError>> {
     }
 }
 
-/// A work on whole maps, or else one that combines two.
+/// Runs a work on whole maps, or else one that combines two maps.
 fn on_maps(work: Work, number: u32) -> Option<Result<u64, AllocError>> {
     match number {
         5 => Some(split_off(work)),

@@ -1,9 +1,9 @@
-//! Maps made of pairs.
+//! Maps built from pairs.
 use crate::draw::Draw;
 use crate::prepared::{Map, Work, checksum, spread};
 use std::alloc::AllocError;
 
-/// So many ranges of 1 to 16 keys with values, one above another or at random places.
+/// Returns `size` ranges of 1 to 16 keys with values, ascending or at random keys.
 fn pairs(work: Work, is_sorted: bool) -> Result<Vec<(i64, i64, u64)>, AllocError> {
     let mut draw = Draw::new(2);
     let mut pairs = Vec::new(work.alloc);
@@ -21,7 +21,7 @@ fn pairs(work: Work, is_sorted: bool) -> Result<Vec<(i64, i64, u64)>, AllocError
     Ok(pairs)
 }
 
-/// A map made of all pairs at once, again and again.
+/// Builds a map from all pairs at once, repeatedly.
 pub fn make(work: Work, is_sorted: bool) -> Result<u64, AllocError> {
     let pairs = pairs(work, is_sorted)?;
     let mut sum = 0;
@@ -32,7 +32,7 @@ pub fn make(work: Work, is_sorted: bool) -> Result<u64, AllocError> {
     Ok(sum)
 }
 
-/// A map of ranges at random places, painted one by one, again and again.
+/// Builds a map by painting ranges at random keys one by one, repeatedly.
 pub fn paint_one_by_one(work: Work) -> Result<u64, AllocError> {
     let pairs = pairs(work, false)?;
     let mut sum = 0;

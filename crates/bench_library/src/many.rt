@@ -3,7 +3,7 @@ use crate::prepared::{ENTRIES, Map, Work, checksum, prepared};
 use range_map_multi::MultiwayRangeMapBlazeRef;
 use std::alloc::{AllocError, Global};
 
-/// So many maps that spread over the same keys.
+/// Returns `count` maps over the same keys.
 fn maps_of(alloc: Global, count: u64) -> Result<Vec<Map>, AllocError> {
     let size = if count == 0 { 0 } else { ENTRIES / count };
     let mut maps = Vec::new(alloc);
@@ -14,7 +14,7 @@ fn maps_of(alloc: Global, count: u64) -> Result<Vec<Map>, AllocError> {
     Ok(maps)
 }
 
-/// The union of lent maps.
+/// Returns the union of borrowed maps.
 fn union_of(alloc: Global, maps: &[Map]) -> Result<Map, AllocError> {
     let mut lent = Vec::new(alloc);
     for map in maps {
@@ -23,7 +23,7 @@ fn union_of(alloc: Global, maps: &[Map]) -> Result<Map, AllocError> {
     lent.union(alloc)
 }
 
-/// The union of `size` lent maps, again and again.
+/// Builds the union of `size` borrowed maps, repeatedly.
 pub fn union_of_many(work: Work) -> Result<u64, AllocError> {
     let maps = maps_of(work.alloc, work.size)?;
     let mut sum = 0;

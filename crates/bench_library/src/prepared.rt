@@ -1,34 +1,34 @@
-//! Maps that works start with, and checksums of what they leave.
+//! Maps that works start with, and checksums of their results.
 use crate::draw::Draw;
 use range_map_blaze::RangeMapBlaze;
 use std::alloc::{AllocError, Global};
 
 pub type Map = RangeMapBlaze<i64, u64>;
 
-/// What a work is to do.
+/// The parameters of a work.
 #[derive(Clone, Copy)]
 pub struct Work {
     pub alloc: Global,
-    /// Whether the entries that are left are to be in the checksum.
+    /// Whether the checksum includes the final entries.
     pub check: bool,
-    /// The entries of the maps.
+    /// The number of entries of the maps.
     pub size: u64,
-    /// The operations.
+    /// The number of operations.
     pub count: u64,
 }
 
-/// The entries of the maps together, where a work's size is another number.
+/// The number of entries of all maps together, for works whose size means another number.
 pub const ENTRIES: u64 = 100_000;
 
-/// Keys for each entry of a prepared map, on average, with the gap before it.
+/// The average number of keys for each entry of a prepared map, including the gap before it.
 const SPACING: u64 = 17;
 
-/// About as many keys as a prepared map of `size` entries spreads over.
+/// Returns about the number of keys from the first to the last key of a prepared map of `size` entries.
 pub fn spread(size: u64) -> u64 {
     size.saturating_mul(SPACING)
 }
 
-/// A map of `size` entries of 1 to 16 keys, or of `keys` keys, behind gaps of 1 to `gap` keys.
+/// Returns a map of `size` entries of 1 to 16 keys, or of `keys` keys, after gaps of 1 to `gap` keys.
 pub fn prepared(
     alloc: Global,
     seed: u64,
@@ -53,12 +53,12 @@ pub fn prepared(
     RangeMapBlaze::from_ranges(alloc, items)
 }
 
-/// A map of entries of 1 to 16 keys behind gaps of 1 to 16.
+/// Returns a map of entries of 1 to 16 keys after gaps of 1 to 16 keys.
 pub fn even(work: Work, seed: u64) -> Result<Map, AllocError> {
     prepared(work.alloc, seed, work.size, 16, 0)
 }
 
-/// So many copies of a map.
+/// Returns `count` copies of a map.
 pub fn copies(alloc: Global, map: &Map, count: u64) -> Result<Vec<Map>, AllocError> {
     let mut maps = Vec::new(alloc);
     for _ in 0..count {
@@ -67,12 +67,12 @@ pub fn copies(alloc: Global, map: &Map, count: u64) -> Result<Vec<Map>, AllocErr
     Ok(maps)
 }
 
-/// A sum with a further part.
+/// Adds a part to a checksum.
 pub fn mix(sum: u64, part: u64) -> u64 {
     sum.wrapping_mul(31).wrapping_add(part)
 }
 
-/// A sum with a map: the number of its keys, and its entries where they are to be checked.
+/// Adds a map to a checksum: the number of its keys, and its entries if they are checked.
 pub fn checksum(check: bool, sum: u64, map: &Map) -> u64 {
     let mut sum = sum;
     if check {

@@ -1,8 +1,8 @@
-//! Walks over the keys of a map, one by one.
+//! Iterations over the keys of a map, one by one.
 use crate::prepared::{Work, copies, even, mix, prepared};
 use std::alloc::AllocError;
 
-/// What is gone over.
+/// The iterator that a work uses.
 #[derive(Clone, Copy)]
 pub enum Way {
     Pairs,
@@ -13,7 +13,7 @@ pub enum Way {
     ValuesFromBehind,
 }
 
-/// Each key with its value, again and again, of entries of so many keys.
+/// Iterates over the keys with their values, repeatedly. Each entry has `keys` keys.
 pub fn walk(work: Work, keys: u64) -> Result<u64, AllocError> {
     let map = prepared(work.alloc, 1, work.size, 16, keys)?;
     let mut sum = 0u64;
@@ -29,7 +29,7 @@ fn both(sum: u64, key: i64, value: u64) -> u64 {
     (sum ^ key.cast_unsigned()).wrapping_add(value)
 }
 
-/// All keys of a map, again and again.
+/// Iterates over all keys of a map, repeatedly.
 pub fn walk_by(work: Work, way: Way) -> Result<u64, AllocError> {
     let map = even(work, 1)?;
     let mut sum = 0;
@@ -72,7 +72,7 @@ pub fn walk_by(work: Work, way: Way) -> Result<u64, AllocError> {
     Ok(sum)
 }
 
-/// All keys of maps by value, of four.
+/// Iterates over all keys of four owned maps.
 pub fn walk_by_value(work: Work) -> Result<u64, AllocError> {
     let mut sum = 0;
     let mut left = work.count;

@@ -4,26 +4,27 @@ use range_map_blaze::names_a_key;
 use range_map_multi::{MultiwayRangeMapBlaze, MultiwayRangeMapBlazeRef};
 use std::alloc::{AllocError, Global};
 
-/// What is made of two maps.
+/// The combinations of two maps.
 #[derive(Clone, Copy, Debug)]
 pub enum Combination {
     Union,
     Intersection,
-    /// The first map's values on the keys of the second.
+    /// The first map's values at the keys of the second.
     Restriction,
     Difference,
     SymmetricDifference,
-    /// The sums of the values where both have one.
+    /// The sums of the values at the keys of both maps.
     InnerJoin,
-    /// The same where the second has one.
+    /// The sums of the values at the keys of the first map, where the second map may have none.
     LeftJoin,
-    /// The union of the two as of many.
+    /// The union of the two maps, by the operation for many maps.
     UnionOfMany,
-    /// Their intersection as of many.
+    /// The intersection of the two maps, by the operation for many maps.
     IntersectionOfMany,
 }
 
-/// What the work of a number makes of a map of so many entries and another one, and the entries of that one.
+/// Returns the combination that the work of a number makes of a map of `size` entries and another map, and the number
+/// of entries of the other map.
 pub fn combined(number: u32, size: u64) -> Option<(Combination, u64)> {
     match number {
         8 => Some((Combination::Union, size)),
@@ -44,7 +45,7 @@ pub fn combined(number: u32, size: u64) -> Option<(Combination, u64)> {
     }
 }
 
-/// Maps cut in the middle, of sixteen.
+/// Splits sixteen maps in the middle.
 pub fn split_off(work: Work) -> Result<u64, AllocError> {
     let map = even(work, 1)?;
     let middle = (spread(work.size) / 2).cast_signed();
@@ -61,7 +62,7 @@ pub fn split_off(work: Work) -> Result<u64, AllocError> {
     Ok(sum)
 }
 
-/// The keys in the lower half of a map, given by value again and again: the first of them.
+/// Calls `range` with the lower half of the keys of a map, repeatedly, and takes the first pair of each result.
 pub fn within(work: Work) -> Result<u64, AllocError> {
     let map = even(work, 1)?;
     let lower = 0..=(spread(work.size) / 2).cast_signed();
@@ -77,7 +78,7 @@ pub fn within(work: Work) -> Result<u64, AllocError> {
     Ok(sum)
 }
 
-/// Maps taken over by others of the same size, of four.
+/// Appends maps to four others of the same size.
 pub fn append(work: Work) -> Result<u64, AllocError> {
     let mut maps = copies(work.alloc, &even(work, 1)?, 4)?;
     let mut sum = 0;
@@ -97,7 +98,7 @@ pub fn append(work: Work) -> Result<u64, AllocError> {
 }
 
 impl Combination {
-    /// What is made of two lent maps.
+    /// Combines two borrowed maps.
     fn of(self, alloc: Global, map: &Map, other: &Map) -> Result<Map, AllocError> {
         match self {
             Combination::Union => map | other,
@@ -120,7 +121,7 @@ impl Combination {
         }
     }
 
-    /// What is made of two maps by value; for joins and the intersection of many they are lent.
+    /// Combines two owned maps. Joins and the intersection of many borrow them.
     fn of_values(self, alloc: Global, map: Map, other: Map) -> Result<Map, AllocError> {
         match self {
             Combination::Union => map | other,
@@ -136,7 +137,7 @@ impl Combination {
     }
 }
 
-/// The union of two maps by value, as of many.
+/// Returns the union of two owned maps, by the operation for many maps.
 fn union_of_two(alloc: Global, map: Map, other: Map) -> Result<Map, AllocError> {
     let mut maps = Vec::new(alloc);
     maps.push(map)?;
@@ -144,7 +145,7 @@ fn union_of_two(alloc: Global, map: Map, other: Map) -> Result<Map, AllocError> 
     maps.union(alloc)
 }
 
-/// A map made of two lent maps, again and again.
+/// Combines two borrowed maps, repeatedly.
 pub fn combine(work: Work, combination: Combination, other: u64) -> Result<u64, AllocError> {
     let gap = if other == 0 { 0 } else { work.size / other };
     let map = even(work, 1)?;
@@ -156,12 +157,13 @@ pub fn combine(work: Work, combination: Combination, other: u64) -> Result<u64, 
     Ok(sum)
 }
 
-/// A map whose entries, one for each sixteen of another one's, cover nearly all of that one's.
+/// Returns a map with one entry for each sixteen of the other map's. Its entries cover nearly all keys of the other
+/// map.
 fn wide(work: Work) -> Result<Map, AllocError> {
     prepared(work.alloc, 3, work.size / 16, 0, spread(16))
 }
 
-/// A map made of a lent map and such a wide one, again and again.
+/// Combines a borrowed map with such a wide map, repeatedly.
 pub fn combine_wide(work: Work, combination: Combination) -> Result<u64, AllocError> {
     let map = even(work, 1)?;
     let other = wide(work)?;
@@ -172,7 +174,7 @@ pub fn combine_wide(work: Work, combination: Combination) -> Result<u64, AllocEr
     Ok(sum)
 }
 
-/// The same of maps by value, of four.
+/// Combines each of four owned maps with an owned wide map.
 pub fn combine_wide_by_value(work: Work, combination: Combination) -> Result<u64, AllocError> {
     let mut others = copies(work.alloc, &wide(work)?, 4)?;
     let mut sum = 0;
@@ -190,7 +192,7 @@ pub fn combine_wide_by_value(work: Work, combination: Combination) -> Result<u64
     Ok(sum)
 }
 
-/// A map that is combined with small maps, of a thousand, one after another, all by value.
+/// Combines an owned map with a thousand small owned maps, one after another.
 pub fn combine_by_value(work: Work, combination: Combination) -> Result<u64, AllocError> {
     let mut map = even(work, 1)?;
     let gap = (work.size / 100).saturating_mul(16);

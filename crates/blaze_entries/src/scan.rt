@@ -244,7 +244,7 @@ pub fn above_cloned<T: Integer, V: Clone>(
     }
 }
 
-/// Clones a value if it is wanted. The function is inlined, so that a call that wants no clone does no work.
+/// Clones a value if `wanted` is `true`. The function is inlined, so that a call with `false` does no work.
 #[inline(always)]
 pub fn cloned_if<V: Clone>(wanted: bool, held: Option<&V>) -> Result<Option<V>, AllocError>
     ensures clone { IfOk result (λ r. IsClonedIf V.is_clone wanted (option_copied held.entry) r) }

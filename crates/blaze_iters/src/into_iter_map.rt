@@ -1,4 +1,4 @@
-//! The keys of a table, each with its range's value, by value.
+//! An iterator over the keys of an owned table, each with its value.
 ghost use Rattle.std.specs.Prelude.{◌≡◌, ◌≤◌, [], length, None, IfSome, IfNone, unwrap_or};
 ghost use Rattle.std.specs.Iterator.{YieldsFirstBy, YieldsLastBy, item_count, UpTo};
 ghost use Rattle.std.specs.Iterator.SizeHint.{IsWithinCount};
@@ -18,8 +18,9 @@ use std::alloc::AllocError;
 use std::iter::FusedIterator;
 use std::marker::Model;
 
-/// The keys of a table, ascending, each with its range's value. The value is cloned for every key but the last of a range,
-/// which gets the stored one. After a refused clone the iterator has ended.
+/// An iterator over the keys of an owned table, ascending, each with its value. It is double-ended. The value is cloned
+/// for each key of a range except the one that is yielded last, which gets the stored value. If a clone fails, the
+/// iterator yields the error and then ends.
 #[derive(Drop)]
 pub struct IntoIterMap<T: Integer, V> {
     front: Option<RangeEntry<T, V>>,
@@ -40,7 +41,7 @@ impl<T: Integer, V> Model for IntoIterMap<T, V> {
 }
 
 impl<T: Integer, V: Eq + Drop> IntoIterMap<T, V> {
-    /// The keys of a table with their values.
+    /// Returns an iterator over the keys of a table, with their values. It allocates nothing.
     pub fn new(table: RangeTable<T, V>) -> Self
         ensures unopened { result ≡ unopened table.entries }
         ensures pairs { pairs_left T.of_rank (λ es. es) result ≡ pair_list T.of_rank table.entries }
@@ -53,7 +54,7 @@ impl<T: Integer, V: Eq + Drop> IntoIterMap<T, V> {
         }
     }
 
-    /// How many ranges no call has opened.
+    /// Returns the number of ranges of which no key was yielded.
     pub(crate) fn whole_len(&self) -> usize
         ensures value { result ≡ length self.now.inner }
         ensures bound { result ≤ length (pairs_left T.of_rank (λ es. es) self.now) }
@@ -64,7 +65,7 @@ impl<T: Integer, V: Eq + Drop> IntoIterMap<T, V> {
         }
     }
 
-    /// Lets go of all that is left.
+    /// Drops all that remains.
     fn end(&mut self)
         ensures { self.new ≡ unopened [] }
     {
@@ -73,7 +74,7 @@ impl<T: Integer, V: Eq + Drop> IntoIterMap<T, V> {
         self.back = None;
     }
 
-    /// Takes the first key that is left, and clones nothing.
+    /// Takes the first remaining key and clones no value.
     pub(crate) fn next_key(&mut self) -> Option<T>
         ensures { YieldsOpeningFirst (λ es. es) (λ k. k) (keys_left T.of_rank (λ es. es))
             self.old result self.new }
@@ -85,7 +86,7 @@ impl<T: Integer, V: Eq + Drop> IntoIterMap<T, V> {
         first_key(&mut self.front)
     }
 
-    /// Takes the last key that is left, and clones nothing.
+    /// Takes the last remaining key and clones no value.
     pub(crate) fn next_back_key(&mut self) -> Option<T>
         ensures { YieldsOpeningLast (λ es. es) (λ k. k) (keys_left T.of_rank (λ es. es))
             self.old result self.new }
@@ -99,7 +100,7 @@ impl<T: Integer, V: Eq + Drop> IntoIterMap<T, V> {
 }
 
 impl<T: Integer, V: Eq + Clone> IntoIterMap<T, V> {
-    /// Takes the first key that is left, with its value or a clone of it. A refused clone takes nothing.
+    /// Takes the first remaining key with its value or a clone of it. If the clone fails, nothing is taken.
     #[inline(always)]
     fn take_first_pair(&mut self) -> Option<Result<(T, V), AllocError>>
         requires { ClonesAreAlike V.is_clone V.eq }
@@ -113,7 +114,7 @@ impl<T: Integer, V: Eq + Clone> IntoIterMap<T, V> {
         first_cloned(&mut self.front)
     }
 
-    /// Takes the last key that is left, with its value or a clone of it. A refused clone takes nothing.
+    /// Takes the last remaining key with its value or a clone of it. If the clone fails, nothing is taken.
     #[inline(always)]
     fn take_last_pair(&mut self) -> Option<Result<(T, V), AllocError>>
         requires { ClonesAreAlike V.is_clone V.eq }
@@ -147,7 +148,8 @@ impl<T: Integer, V: Eq + Clone> Iterator for IntoIterMap<T, V> {
         }
     }
 
-    /// At least as many keys are left as the ranges that no call has opened. After a refused clone that is 0.
+    /// Returns the number of ranges of which no key was yielded as the lower bound, and no upper bound. After a failed
+    /// clone the lower bound is 0. O(1).
     fn size_hint(&self) -> (usize, Option<usize>)
         ensures lower { IsWithinCount result.0
             (item_count (pairs_left T.of_rank (λ es. es)) self.now) }
@@ -177,7 +179,7 @@ impl<T: Integer, V: Eq + Clone> DoubleEndedIterator for IntoIterMap<T, V> {
 
 impl<T: Integer, V: Eq + Clone> FusedIterator for IntoIterMap<T, V> {}
 
-/// Takes the first range that no call has opened.
+/// Takes the first range of which no key was yielded.
 fn first_whole<T: Integer, V: Drop>(inner: &mut Option<IntoIter<T, V>>) -> Option<RangeEntry<T, V>>
     ensures { YieldsFirstBy (shown_range_entry T.rank (λ v. v)) (λ s. unwrap_or s [])
         inner.old result inner.new }
@@ -191,7 +193,7 @@ fn first_whole<T: Integer, V: Drop>(inner: &mut Option<IntoIter<T, V>>) -> Optio
     }
 }
 
-/// Takes the last range that no call has opened.
+/// Takes the last range of which no key was yielded.
 fn last_whole<T: Integer, V: Drop>(inner: &mut Option<IntoIter<T, V>>) -> Option<RangeEntry<T, V>>
     ensures { YieldsLastBy (shown_range_entry T.rank (λ v. v)) (λ s. unwrap_or s [])
         inner.old result inner.new }
@@ -205,8 +207,8 @@ fn last_whole<T: Integer, V: Drop>(inner: &mut Option<IntoIter<T, V>>) -> Option
     }
 }
 
-/// Takes the first range that is left where none is opened at the front: the first that no call has opened, or else the one
-/// that is opened at the back.
+/// Takes the first remaining range, if none is open at the front: the first unopened one, or else the range that is
+/// open at the back.
 fn take_first<T: Integer, V: Drop>(
     inner: &mut Option<IntoIter<T, V>>,
     back: &mut Option<RangeEntry<T, V>>,
@@ -227,8 +229,8 @@ fn take_first<T: Integer, V: Drop>(
     }
 }
 
-/// Takes the last range that is left where none is opened at the back: the last that no call has opened, or else the one that
-/// is opened at the front.
+/// Takes the last remaining range, if none is open at the back: the last unopened one, or else the range that is open
+/// at the front.
 fn take_last<T: Integer, V: Drop>(
     front: &mut Option<RangeEntry<T, V>>,
     inner: &mut Option<IntoIter<T, V>>,

@@ -1,4 +1,4 @@
-//! The keys of a table, by value.
+//! An iterator over the keys of an owned table.
 ghost use Rattle.std.specs.Prelude.{◌≡◌, length, None, IfSome, map};
 ghost use Rattle.std.specs.Iterator.{item_count, UpTo};
 ghost use Rattle.std.specs.Iterator.SizeHint.{IsWithinCount};
@@ -12,7 +12,7 @@ use blaze_table::RangeTable;
 use std::iter::FusedIterator;
 use std::marker::Model;
 
-/// The keys of a table, ascending. No value is cloned.
+/// An iterator over the keys of an owned table, ascending. It is double-ended and clones no value.
 #[derive(Drop)]
 pub struct IntoKeys<T: Integer, V> {
     pairs: IntoIterMap<T, V>,
@@ -27,7 +27,7 @@ impl<T: Integer, V> Model for IntoKeys<T, V> {
 }
 
 impl<T: Integer, V: Eq + Drop> IntoKeys<T, V> {
-    /// The keys of a table.
+    /// Returns an iterator over the keys of a table. It allocates nothing.
     pub fn new(table: RangeTable<T, V>) -> Self
         ensures unopened { result ≡ unopened table.entries }
         ensures keys { keys_left T.of_rank (λ es. es) result
@@ -50,7 +50,7 @@ impl<T: Integer, V: Eq + Drop> Iterator for IntoKeys<T, V> {
         self.pairs.next_key()
     }
 
-    /// At least as many keys are left as the ranges that no call has opened.
+    /// Returns the number of ranges of which no key was yielded as the lower bound, and no upper bound. O(1).
     fn size_hint(&self) -> (usize, Option<usize>)
         ensures lower { IsWithinCount result.0
             (item_count (keys_left T.of_rank (λ es. es)) self.now) }

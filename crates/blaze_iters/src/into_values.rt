@@ -1,4 +1,4 @@
-//! The values of a table, key by key, by value.
+//! An iterator over the values of an owned table, one for each key.
 ghost use Rattle.std.specs.Prelude.{◌≡◌, length, None, IfSome, map};
 ghost use Rattle.std.specs.Iterator.{item_count, UpTo};
 ghost use Rattle.std.specs.Iterator.SizeHint.{IsWithinCount};
@@ -14,8 +14,9 @@ use std::alloc::AllocError;
 use std::iter::FusedIterator;
 use std::marker::Model;
 
-/// The value of each key of a table, in the order of the keys. It is cloned for every key but the last of a range, which
-/// gets the stored one. After a refused clone the iterator has ended.
+/// An iterator over the values of an owned table, one for each key, in the order of the keys. It is double-ended. The
+/// value is cloned for each key of a range except the one that is yielded last, which gets the stored value. If a clone
+/// fails, the iterator yields the error and then ends.
 #[derive(Drop)]
 pub struct IntoValues<T: Integer, V> {
     pairs: IntoIterMap<T, V>,
@@ -30,7 +31,7 @@ impl<T: Integer, V> Model for IntoValues<T, V> {
 }
 
 impl<T: Integer, V: Eq + Drop> IntoValues<T, V> {
-    /// The values of a table, each once for each key.
+    /// Returns an iterator over the values of a table, one for each key. It allocates nothing.
     pub fn new(table: RangeTable<T, V>) -> Self
         ensures unopened { result ≡ unopened table.entries }
         ensures values { values_left T.of_rank (λ es. es) result
@@ -59,7 +60,8 @@ impl<T: Integer, V: Eq + Clone> Iterator for IntoValues<T, V> {
         Some(Ok(value))
     }
 
-    /// At least as many values are left as the ranges that no call has opened. After a refused clone that is 0.
+    /// Returns the number of ranges of which no value was yielded as the lower bound, and no upper bound. After a
+    /// failed clone the lower bound is 0. O(1).
     fn size_hint(&self) -> (usize, Option<usize>)
         ensures lower { IsWithinCount result.0
             (item_count (values_left T.of_rank (λ es. es)) self.now) }

@@ -1,4 +1,4 @@
-//! The keys of a stream of ranges, each with its range's value.
+//! An iterator over the keys of a stream of ranges, each with its value.
 ghost use Rattle.std.specs.Prelude.{◌≡◌, [], None, IfSome, IfNone};
 ghost use Rattle.std.specs.Iterator.{item_count, UpTo};
 ghost use Rattle.std.specs.Iterator.SizeHint.{IsWithinCount};
@@ -14,7 +14,8 @@ use blaze_table::{RangeEntry, RangeTable};
 use std::iter::FusedIterator;
 use std::marker::Model;
 
-/// The keys of a stream's ranges, ascending, each with a carrier of its range's value.
+/// An iterator over the keys of a stream's ranges, ascending, each with a carrier of its value. It allocates nothing,
+/// and each call takes O(1) calls of the stream.
 #[derive(Drop)]
 pub struct IterMap<T: Integer, VC: ValueCarrier + Copy, I: SortedDisjointMap<T, VC>> {
     front: Option<RangeEntry<T, VC>>,
@@ -33,7 +34,7 @@ impl<T: Integer, VC: ValueCarrier + Copy, I: SortedDisjointMap<T, VC>> Model for
 }
 
 impl<T: Integer, VC: ValueCarrier + Copy, I: SortedDisjointMap<T, VC>> IterMap<T, VC, I> {
-    /// The keys of the ranges that are left of a stream.
+    /// Returns an iterator over the keys of a stream's remaining ranges, with their carriers. It allocates nothing.
     pub fn new(inner: I) -> Self
         ensures unopened { result ≡ unopened inner }
         ensures pairs { pairs_left T.of_rank I.left result ≡ pair_list T.of_rank (I.left inner) }
@@ -47,7 +48,7 @@ impl<T: Integer, VC: ValueCarrier + Copy, I: SortedDisjointMap<T, VC>> IterMap<T
 }
 
 impl<'a, T: Integer, V: Eq + Clone> IterMap<T, &'a V, RangeValuesIter<'a, T, V>> {
-    /// The keys of a table with their values.
+    /// Returns an iterator over the keys of a borrowed table, with their values. It allocates nothing.
     pub fn of_table(table: &'a RangeTable<T, V>) -> Self
         ensures unopened { result ≡ unopened table.now.entries }
         ensures pairs { pairs_left T.of_rank (λ es. es) result
@@ -61,7 +62,7 @@ impl<'a, T: Integer, V: Eq + Clone> IterMap<T, &'a V, RangeValuesIter<'a, T, V>>
     }
 }
 
-/// Takes the first range that is left where none is opened at the front: the stream's first, or else the one that is opened at
+/// Takes the first remaining range, if none is open at the front: the stream's first, or else the range that is open at
 /// the back.
 fn take_first<T: Integer, VC: ValueCarrier, I: SortedDisjointMap<T, VC>>(
     inner: &mut I,
@@ -103,7 +104,7 @@ impl<T: Integer, VC: ValueCarrier + Copy, I: SortedDisjointMap<T, VC>> Iterator
         first_pair(&mut self.front)
     }
 
-    /// At least as many keys are left as the ranges that no call has opened: the lower bound of the stream's.
+    /// Returns the lower bound of the stream's `size_hint`, in ranges, as the lower bound, and no upper bound.
     fn size_hint(&self) -> (usize, Option<usize>)
         ensures lower { IsWithinCount result.0 (item_count (pairs_left T.of_rank I.left) self.now) }
         ensures upper { IfSome result.1 (UpTo (item_count (pairs_left T.of_rank I.left) self.now)) }
@@ -114,7 +115,7 @@ impl<T: Integer, VC: ValueCarrier + Copy, I: SortedDisjointMap<T, VC>> Iterator
     }
 }
 
-/// Takes the last range that is left where none is opened at the back: the stream's last, or else the one that is opened at
+/// Takes the last remaining range, if none is open at the back: the stream's last, or else the range that is open at
 /// the front.
 fn take_last<T: Integer, VC: ValueCarrier, I: BothEnds<T, VC>>(
     front: &mut Option<RangeEntry<T, VC>>,

@@ -1,4 +1,4 @@
-//! The keys of a stream of ranges.
+//! An iterator over the keys of a stream of ranges.
 ghost use Rattle.std.specs.Prelude.{◌≡◌, None, IfSome, map};
 ghost use Rattle.std.specs.Iterator.{item_count, UpTo};
 ghost use Rattle.std.specs.Iterator.SizeHint.{IsWithinCount};
@@ -13,7 +13,8 @@ use blaze_table::RangeTable;
 use std::iter::FusedIterator;
 use std::marker::Model;
 
-/// The keys of a stream's ranges, ascending. Contracts see it as the pairs that are left.
+/// An iterator over the keys of a stream's ranges, ascending. It allocates nothing. Contracts see it as the remaining
+/// pairs of a key and a value.
 #[derive(Drop)]
 pub struct Keys<T: Integer, VC: ValueCarrier + Copy, I: SortedDisjointMap<T, VC>> {
     pairs: IterMap<T, VC, I>,
@@ -28,7 +29,7 @@ impl<T: Integer, VC: ValueCarrier + Copy, I: SortedDisjointMap<T, VC>> Model for
 }
 
 impl<T: Integer, VC: ValueCarrier + Copy, I: SortedDisjointMap<T, VC>> Keys<T, VC, I> {
-    /// The keys of the ranges that are left of a stream.
+    /// Returns an iterator over the keys of a stream's remaining ranges. It allocates nothing.
     pub fn new(inner: I) -> Self
         ensures unopened { result ≡ unopened inner }
         ensures keys { keys_left T.of_rank I.left result
@@ -41,7 +42,7 @@ impl<T: Integer, VC: ValueCarrier + Copy, I: SortedDisjointMap<T, VC>> Keys<T, V
 }
 
 impl<'a, T: Integer, V: Eq + Clone> Keys<T, &'a V, RangeValuesIter<'a, T, V>> {
-    /// The keys of a table.
+    /// Returns an iterator over the keys of a borrowed table. It allocates nothing.
     pub fn of_table(table: &'a RangeTable<T, V>) -> Self
         ensures unopened { result ≡ unopened table.now.entries }
         ensures keys { keys_left T.of_rank (λ es. es) result
@@ -65,7 +66,7 @@ impl<T: Integer, VC: ValueCarrier + Copy, I: SortedDisjointMap<T, VC>> Iterator 
         Some(key)
     }
 
-    /// At least as many keys are left as the ranges that no call has opened: the lower bound of the stream's.
+    /// Returns the lower bound of the stream's `size_hint`, in ranges, as the lower bound, and no upper bound.
     fn size_hint(&self) -> (usize, Option<usize>)
         ensures lower { IsWithinCount result.0 (item_count (keys_left T.of_rank I.left) self.now) }
         ensures upper { IfSome result.1 (UpTo (item_count (keys_left T.of_rank I.left) self.now)) }

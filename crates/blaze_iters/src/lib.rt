@@ -1,4 +1,4 @@
-//! The keys of ranges one by one, each with its range's value, from both ends.
+//! Key-wise iterators: the keys of ranges one by one, each with its value, from both ends.
 #![tactic(auto)]
 
 mod into_iter_map;

@@ -1,4 +1,4 @@
-//! The first and the last key of an opened range, taken in place.
+//! The first and the last key of an open range, taken in place.
 ghost use Rattle.std.specs.Prelude.{◌≤ℤ◌, IfSome};
 ghost use Rattle.blaze_table.specs.Painted.{ClonesAreAlike};
 ghost use Rattle.blaze_iters.specs.Left.{IsSecond, IsSecondLast, TakesFirst, TakesLast};
@@ -9,7 +9,7 @@ use blaze_int::compare::is_below;
 use blaze_table::RangeEntry;
 use std::alloc::AllocError;
 
-/// The key after the first of a range, where it has one.
+/// Returns the key after the first key of a range, if the range has one.
 pub(crate) fn second<T: Integer>(start: T, end: T) -> Option<T>
     requires { T.rank start ≤ℤ T.rank end }
     ensures { IsSecond T.rank start end result }
@@ -22,7 +22,7 @@ pub(crate) fn second<T: Integer>(start: T, end: T) -> Option<T>
     }
 }
 
-/// The key before the last of a range, where it has one.
+/// Returns the key before the last key of a range, if the range has one.
 pub(crate) fn second_last<T: Integer>(start: T, end: T) -> Option<T>
     requires { T.rank start ≤ℤ T.rank end }
     ensures { IsSecondLast T.rank start end result }
@@ -35,8 +35,9 @@ pub(crate) fn second_last<T: Integer>(start: T, end: T) -> Option<T>
     }
 }
 
-/// Takes the first key of an opened range in place: what is left of the range stays opened, and none does after its only key.
-/// Returns `None` where no range is opened. It is inlined, so that a call of `next` in an opened range calls nothing.
+/// Takes the first key of an open range in place. The remaining part stays open, and after its only key no range is
+/// open. Returns `None` if no range is open. It is inlined, so that a call of `next` in an open range calls no
+/// function.
 #[inline(always)]
 pub(crate) fn first_key<T: Integer, R: Drop>(opened: &mut Option<RangeEntry<T, R>>) -> Option<T>
     requires { IfSome opened.old (λ e. T.rank e.start ≤ℤ T.rank e.end) }
@@ -52,8 +53,9 @@ pub(crate) fn first_key<T: Integer, R: Drop>(opened: &mut Option<RangeEntry<T, R
     Some(key)
 }
 
-/// Takes the last key of an opened range in place: what is left of the range stays opened, and none does after its only key.
-/// Returns `None` where no range is opened. It is inlined, so that a call of `next_back` in an opened range calls nothing.
+/// Takes the last key of an open range in place. The remaining part stays open, and after its only key no range is
+/// open. Returns `None` if no range is open. It is inlined, so that a call of `next_back` in an open range calls no
+/// function.
 #[inline(always)]
 pub(crate) fn last_key<T: Integer, R: Drop>(opened: &mut Option<RangeEntry<T, R>>) -> Option<T>
     requires { IfSome opened.old (λ e. T.rank e.start ≤ℤ T.rank e.end) }
@@ -69,7 +71,7 @@ pub(crate) fn last_key<T: Integer, R: Drop>(opened: &mut Option<RangeEntry<T, R>
     Some(key)
 }
 
-/// Takes the first key of an opened range in place, as `first_key` does, and returns it with the range's value.
+/// Takes the first key of an open range in place, as `first_key` does, and returns it with the range's value.
 #[inline(always)]
 pub(crate) fn first_pair<T: Integer, R: Copy + Drop>(
     opened: &mut Option<RangeEntry<T, R>>,
@@ -82,7 +84,7 @@ pub(crate) fn first_pair<T: Integer, R: Copy + Drop>(
     Some((key, value))
 }
 
-/// Takes the last key of an opened range in place, as `last_key` does, and returns it with the range's value.
+/// Takes the last key of an open range in place, as `last_key` does, and returns it with the range's value.
 #[inline(always)]
 pub(crate) fn last_pair<T: Integer, R: Copy + Drop>(
     opened: &mut Option<RangeEntry<T, R>>,
@@ -95,8 +97,8 @@ pub(crate) fn last_pair<T: Integer, R: Copy + Drop>(
     Some((key, value))
 }
 
-/// Takes the first key of an opened range in place, as `first_key` does, and returns it with a clone of the range's value; with
-/// the only key of a range, with the value itself. A refused clone takes nothing.
+/// Takes the first key of an open range in place, as `first_key` does, and returns it with a clone of the range's
+/// value. The only key of a range gets the value itself. If the clone fails, nothing is taken.
 #[inline(always)]
 pub(crate) fn first_cloned<T: Integer, V: Eq + Clone>(
     opened: &mut Option<RangeEntry<T, V>>,
@@ -124,8 +126,8 @@ pub(crate) fn first_cloned<T: Integer, V: Eq + Clone>(
     }
 }
 
-/// Takes the last key of an opened range in place, as `last_key` does, and returns it with a clone of the range's value; with
-/// the only key of a range, with the value itself. A refused clone takes nothing.
+/// Takes the last key of an open range in place, as `last_key` does, and returns it with a clone of the range's value.
+/// The only key of a range gets the value itself. If the clone fails, nothing is taken.
 #[inline(always)]
 pub(crate) fn last_cloned<T: Integer, V: Eq + Clone>(
     opened: &mut Option<RangeEntry<T, V>>,

@@ -1,4 +1,4 @@
-//! The values of a stream of ranges, key by key.
+//! An iterator over the values of a stream of ranges, one for each key.
 ghost use Rattle.std.specs.Prelude.{◌≡◌, None, IfSome, map};
 ghost use Rattle.std.specs.Iterator.{item_count, UpTo};
 ghost use Rattle.std.specs.Iterator.SizeHint.{IsWithinCount};
@@ -13,7 +13,8 @@ use blaze_table::RangeTable;
 use std::iter::FusedIterator;
 use std::marker::Model;
 
-/// The carrier of its range's value for each key of a stream's ranges, in the order of the keys. Contracts see it as the pairs that are left.
+/// An iterator over the carriers of a stream's values, one for each key, in the order of the keys. It allocates
+/// nothing. Contracts see it as the remaining pairs of a key and a value.
 #[derive(Drop)]
 pub struct Values<T: Integer, VC: ValueCarrier + Copy, I: SortedDisjointMap<T, VC>> {
     pairs: IterMap<T, VC, I>,
@@ -28,7 +29,7 @@ impl<T: Integer, VC: ValueCarrier + Copy, I: SortedDisjointMap<T, VC>> Model for
 }
 
 impl<T: Integer, VC: ValueCarrier + Copy, I: SortedDisjointMap<T, VC>> Values<T, VC, I> {
-    /// The values of the ranges that are left of a stream, each once for each key.
+    /// Returns an iterator over the values of a stream's remaining ranges, one for each key. It allocates nothing.
     pub fn new(inner: I) -> Self
         ensures unopened { result ≡ unopened inner }
         ensures values { values_left T.of_rank I.left result
@@ -41,7 +42,7 @@ impl<T: Integer, VC: ValueCarrier + Copy, I: SortedDisjointMap<T, VC>> Values<T,
 }
 
 impl<'a, T: Integer, V: Eq + Clone> Values<T, &'a V, RangeValuesIter<'a, T, V>> {
-    /// The values of a table, each once for each key.
+    /// Returns an iterator over the values of a borrowed table, one for each key. It allocates nothing.
     pub fn of_table(table: &'a RangeTable<T, V>) -> Self
         ensures unopened { result ≡ unopened table.now.entries }
         ensures values { values_left T.of_rank (λ es. es) result
@@ -66,7 +67,7 @@ impl<T: Integer, VC: ValueCarrier + Copy, I: SortedDisjointMap<T, VC>> Iterator
         Some(value)
     }
 
-    /// At least as many values are left as the ranges that no call has opened: the lower bound of the stream's.
+    /// Returns the lower bound of the stream's `size_hint`, in ranges, as the lower bound, and no upper bound.
     fn size_hint(&self) -> (usize, Option<usize>)
         ensures lower { IsWithinCount result.0
             (item_count (values_left T.of_rank I.left) self.now) }

@@ -30,7 +30,7 @@ pub trait ValueCarrier: Drop {
         requires { can_carry }
         ensures { IfOk result (λ value. Self.Value.eq (shown self) value ≡ true) };
 
-    /// Returns another carrier, of a value that is `==` to this one's. If an allocation fails, this carrier is
+    /// Returns another carrier. Its value is `==` to the value of `self`. If an allocation fails, this carrier is
     /// unchanged.
     fn carry(&self) -> Result<Self, AllocError>
         ensures carried { IfOk result (λ other. is_carried (shown self.now) (shown other)) }

@@ -1,10 +1,10 @@
-//! A reader and a writer in memory that fail.
+//! A reader and a writer in memory, both of which fail.
 ghost use Rattle.std.specs.Prelude.{Some};
 
 use std::io;
 use std::io::{Read, Write};
 
-/// Gives its text in pieces of at most `step` bytes, and fails once `left` bytes were given.
+/// Yields its text in pieces of at most `step` bytes, and fails after `left` bytes.
 #[derive(Drop)]
 pub struct CutReader<'a> {
     pub text: &'a [u8],
@@ -29,7 +29,7 @@ impl<'a> Read for CutReader<'a> {
     }
 }
 
-/// Takes at most `step` bytes at a call and `room` in all, and then fails, or takes nothing where it is silent.
+/// Accepts at most `step` bytes in one call and `room` in all. Then it fails, or accepts no bytes if it is silent.
 #[derive(Drop)]
 pub struct CutWriter {
     pub got: Vec<u8>,

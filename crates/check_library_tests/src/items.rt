@@ -1,4 +1,4 @@
-//! Calls of tables, iterators and streams that no program here makes.
+//! Calls of tables, iterators and streams that no other program here makes.
 use blaze_iters::{IntoIterMap, IntoKeys, IntoValues, IterMap, Keys, Values};
 use blaze_streams::{
     CanonIter, CanonMapIter, MapIntoRangesIter, MapRangesIter, MultiwaySweep, RangeValuesIter,
@@ -9,7 +9,7 @@ use std::alloc::{AllocError, Global};
 use std::ops::RangeInclusive;
 use std::test::Fail;
 
-/// A table with a letter at the keys 5 and 6.
+/// Returns a table with a letter at the keys 5 and 6.
 fn letters(alloc: Global) -> Result<RangeTable<u8, char>, AllocError> {
     let mut table = RangeTable::new(alloc);
     let _ = table.paint(5, 6, 'a')?;

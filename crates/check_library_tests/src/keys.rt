@@ -7,7 +7,7 @@ use std::ops::Bound;
 use std::process::Abort;
 use std::test::Fail;
 
-/// Asserts the ends of a type, the steps from the least key and to the greatest, and the length of all keys.
+/// Asserts the ends of a type, the key after the least and the key before the greatest, and the length of all keys.
 fn check_type<T: Integer>(
     rt: &impl Abort,
     [least, second, last_but_one, greatest]: [T; 4],

@@ -1,6 +1,10 @@
-//! Tests of what no program here can show: lengths and steps at the ends of each key type, the program's engine over
-//! readers and writers that fail, and the public items that no program here names: calls with their answers, and the traits
-//! of each type. They stand in a crate of their own, since a library with tests is proved twice.
+//! Tests of what no program here can show:
+//!
+//! - lengths and neighbours at the ends of each key type;
+//! - the program's engine over readers and writers that fail;
+//! - the public items that no program here uses: their results, and the traits of each type.
+//!
+//! They are in a separate crate, since a library with tests is proved twice.
 #![tactic(auto)]
 
 #[cfg(test)]

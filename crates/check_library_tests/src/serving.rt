@@ -11,10 +11,10 @@ const INPUT: &[u8] =
 const OUTPUT: &[u8] =
     b"true\ntrue\n4..=6 -\n1..=3 red\n-\nblue\n7\n(1..=3, \"red\"), (7..=7, \"blue\"), (8..=8, \"red\"), (9..=10, \"blue\")\n";
 
-/// How many first bytes of each line of the input make a good line, which is answered as the whole is.
+/// The lengths of the prefixes of each input line that are valid lines with the same answer as the whole line.
 const GOOD_LENGTHS: [usize; 8] = [11, 12, 4, 4, 5, 10, 3, 4];
 
-/// What a text in memory is answered.
+/// Returns the answers to a text in memory.
 fn answers_to(alloc: Global, text: &[u8]) -> (Vec<u8>, End) {
     let mut output = Vec::new(alloc);
     let mut input = text;
@@ -22,7 +22,7 @@ fn answers_to(alloc: Global, text: &[u8]) -> (Vec<u8>, End) {
     (output, end)
 }
 
-/// The text is answered so, and ends so.
+/// Asserts the answers to a text, and how it ends.
 fn assert_answers(rt: &impl Abort, alloc: Global, text: &[u8], want: &[u8], end: End) {
     let (output, ended) = answers_to(alloc, text);
     assert_eq!(rt; output.as_slice(), want);
@@ -104,12 +104,12 @@ fn cut_writer(alloc: Global, step: usize, room: usize, is_silent: bool) -> CutWr
     }
 }
 
-/// How many lines end in the text.
+/// Returns the number of line ends in a text.
 fn line_count(text: &[u8]) -> usize {
     text.iter().filter(|byte| **byte == b'\n').count()
 }
 
-/// The first lines of the text.
+/// Returns the first `count` lines of a text.
 fn first_lines(text: &[u8], count: usize) -> &[u8] {
     let mut lines = 0usize;
     for (at, byte) in text.iter().enumerate() {

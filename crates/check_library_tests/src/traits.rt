@@ -1,4 +1,4 @@
-//! The traits of the libraries' types. That it compiles is all that it shows.
+//! The traits of the libraries' types. The test is that it compiles.
 use blaze_int::{Integer, SafeLength, UIntPlusOne};
 use blaze_iters::{IntoIterMap, IntoKeys, IntoValues, IterMap, Keys, Values};
 use blaze_streams::{
@@ -47,7 +47,7 @@ fn is_indexed<X: Index<T, Output = V>, T, V>() {}
 
 fn goes_through<X: IntoIterator<Item = P>, P>() {}
 
-/// Maps are printed, compared, hashed, indexed and gone through in a `for`.
+/// Maps are printed, compared, hashed, indexed and iterated by `for`.
 pub fn maps() {
     is_value::<RangeMapBlaze<i64, String>>();
     is_value::<RangeMapBlaze<char, u8>>();
@@ -62,7 +62,7 @@ fn is_same<X: PartialEq + Eq>() {}
 
 fn is_shown<X: Debug + Display>() {}
 
-/// Tables and sets are compared, sets are printed; a value that stands for itself is printed, compared and hashed.
+/// Tables and sets are compared, and sets are printed. An owned carrier is printed, compared and hashed.
 pub fn tables() {
     is_owned::<Owned<String>>();
     is_same::<RangeTable<i64, String>>();
@@ -98,7 +98,7 @@ fn is_map_stream<S: SortedDisjointMap<T, VC>, T: Integer, VC: ValueCarrier>() {}
 
 fn has_both_ends<S: BothEnds<T, VC>, T: Integer, VC: ValueCarrier>() {}
 
-/// Each stream of ranges with values, those under the names of the streams of many inputs too.
+/// Each stream of ranges with values, also by the names of the streams of many inputs.
 pub fn map_streams() {
     has_both_ends::<RangeValuesIter<'static, u8, String>, u8, &'static String>();
     has_both_ends::<IntoRangeValuesIter<char, String>, char, Rc<String>>();
@@ -113,7 +113,7 @@ pub fn map_streams() {
 
 fn is_set_stream<S: SortedDisjoint<T>, T: Integer>() {}
 
-/// Each stream of ranges alone.
+/// Each stream of ranges without values.
 pub fn set_streams() {
     is_set_stream::<RangesIter<'static, u8>, u8>();
     is_set_stream::<IntoRangesIter<char>, char>();
@@ -129,7 +129,7 @@ fn gives_both_ends<I: DoubleEndedIterator + Iterator<Item = X> + FusedIterator, 
 
 type Lent<'a> = RangeValuesIter<'a, u8, char>;
 
-/// What each iterator gives, and from which ends.
+/// The items of each iterator, and the ends from which it yields them.
 pub fn iterators() {
     gives_both_ends::<IterMap<u8, &'static char, Lent<'static>>, (u8, &'static char)>();
     gives_both_ends::<Keys<u8, &'static char, Lent<'static>>, u8>();

@@ -1,17 +1,18 @@
-//! Carriers: another one for the same value, and the value itself. A word that another owner keeps is cloned.
+//! Carriers: `carry` returns another carrier of the same value, and `into_value` returns the value. A word with another
+//! owner is cloned.
 use crate::calls::{begin, end, show_answer};
 use blaze_streams::{Owned, ValueCarrier};
 use std::alloc::{AllocError, Global};
 use std::rc::Rc;
 
-/// A shared word.
+/// Returns a shared word.
 fn shared(alloc: Global, text: &str) -> Result<Rc<String>, AllocError> {
     let word = String::from_str(alloc, text)?;
     let shared = Rc::new(alloc, word)?;
     Ok(shared)
 }
 
-/// Another owner of a shared word: no memory is taken.
+/// Calls `carry` of a shared word, which allocates nothing.
 fn carry_shared(rt: &HostRuntime, word: &Rc<String>) {
     begin(rt, "carry of an Rc");
     let made = word.carry();
@@ -19,7 +20,7 @@ fn carry_shared(rt: &HostRuntime, word: &Rc<String>) {
     show_answer(rt, made);
 }
 
-/// The word of an owner.
+/// Calls `into_value` of a shared word.
 fn shared_value(rt: &HostRuntime, word: Rc<String>) {
     begin(rt, "into_value of an Rc");
     let made = word.into_value();
@@ -27,7 +28,7 @@ fn shared_value(rt: &HostRuntime, word: Rc<String>) {
     show_answer(rt, made);
 }
 
-/// Another pair, of which one is a word itself.
+/// Calls `carry` of a pair with one owned word.
 fn carry_pair(rt: &HostRuntime, pair: &(Rc<String>, Owned<String>)) {
     begin(rt, "carry of a pair");
     let made = pair.carry();
@@ -35,7 +36,7 @@ fn carry_pair(rt: &HostRuntime, pair: &(Rc<String>, Owned<String>)) {
     show_answer(rt, made);
 }
 
-/// The words of a pair, of which both have other owners.
+/// Calls `into_value` of a pair of words with other owners.
 fn pair_value(rt: &HostRuntime, pair: (Rc<String>, Rc<String>)) {
     begin(rt, "into_value of a pair");
     let made = pair.into_value();
@@ -43,7 +44,7 @@ fn pair_value(rt: &HostRuntime, pair: (Rc<String>, Rc<String>)) {
     show_answer(rt, made);
 }
 
-/// Another option of a word itself.
+/// Calls `carry` of an option of an owned word.
 fn carry_option(rt: &HostRuntime, word: &Option<Owned<String>>) {
     begin(rt, "carry of an Option");
     let made = word.carry();
@@ -51,7 +52,7 @@ fn carry_option(rt: &HostRuntime, word: &Option<Owned<String>>) {
     show_answer(rt, made);
 }
 
-/// The word of an option, which has another owner.
+/// Calls `into_value` of an option of a word with another owner.
 fn option_value(rt: &HostRuntime, word: Option<Rc<String>>) {
     begin(rt, "into_value of an Option");
     let made = word.into_value();
@@ -59,7 +60,7 @@ fn option_value(rt: &HostRuntime, word: Option<Rc<String>>) {
     show_answer(rt, made);
 }
 
-/// Calls on shared words.
+/// Makes the calls on shared words.
 fn owners(rt: &HostRuntime, one: &Rc<String>, two: &Rc<String>) -> Result<(), AllocError> {
     carry_shared(rt, one);
     shared_value(rt, one.carry()?);

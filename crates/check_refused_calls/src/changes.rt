@@ -1,14 +1,14 @@
-//! Calls that change a table: a refused one leaves its entries and its count of keys.
+//! Calls that change a table. If an allocation fails, the entries and the number of keys are unchanged.
 use crate::calls::{begin, end};
 use crate::tables::{Words, leaf, print_table, show_table, table_of};
 use std::alloc::{AllocError, Global};
 
-/// The word that is painted.
+/// Returns the word that is painted.
 fn word(alloc: Global) -> Result<String, AllocError> {
     String::from_str(alloc, "b")
 }
 
-/// A range painted inside the first entry.
+/// Paints a range inside the first entry.
 fn paint(rt: &HostRuntime, mut table: Words, word: String) {
     begin(rt, "paint");
     let answer = table.paint(4, 5, word);
@@ -17,7 +17,7 @@ fn paint(rt: &HostRuntime, mut table: Words, word: String) {
     show_table(rt, &table);
 }
 
-/// The same by single looks.
+/// Paints a range inside the first entry, with single lookups.
 fn paint_by_splice(rt: &HostRuntime, mut table: Words, word: String) {
     begin(rt, "paint_by_splice");
     let answer = table.paint_by_splice(4, 5, word);
@@ -26,7 +26,7 @@ fn paint_by_splice(rt: &HostRuntime, mut table: Words, word: String) {
     show_table(rt, &table);
 }
 
-/// A key put inside the first entry.
+/// Inserts a key inside the first entry.
 fn insert(rt: &HostRuntime, mut table: Words, word: String) {
     begin(rt, "insert");
     let answer = table.insert(4, word);
@@ -35,7 +35,7 @@ fn insert(rt: &HostRuntime, mut table: Words, word: String) {
     show_table(rt, &table);
 }
 
-/// A word put on the keys that have none: below two entries, between them and above.
+/// Sets a word at the keys that have none: below two entries, between them and above.
 fn fill_absent(rt: &HostRuntime, mut table: Words, word: String) {
     begin(rt, "fill_absent");
     let answer = table.fill_absent(0, 9, word);
@@ -44,7 +44,7 @@ fn fill_absent(rt: &HostRuntime, mut table: Words, word: String) {
     show_table(rt, &table);
 }
 
-/// A key taken out of the first entry.
+/// Removes a key of the first entry.
 fn cut_key(rt: &HostRuntime, mut table: Words) {
     begin(rt, "cut_key");
     let answer = table.cut_key(4);
@@ -53,7 +53,7 @@ fn cut_key(rt: &HostRuntime, mut table: Words) {
     show_table(rt, &table);
 }
 
-/// A range taken out of the first entry.
+/// Removes a range of the first entry.
 fn cut_range(rt: &HostRuntime, mut table: Words) {
     begin(rt, "cut_range");
     let answer = table.cut_range(3, 5);
@@ -62,7 +62,7 @@ fn cut_range(rt: &HostRuntime, mut table: Words) {
     show_table(rt, &table);
 }
 
-/// The first key taken out.
+/// Removes the first key.
 fn pop_first(rt: &HostRuntime, mut table: Words) {
     begin(rt, "pop_first");
     let answer = table.pop_first();
@@ -71,7 +71,7 @@ fn pop_first(rt: &HostRuntime, mut table: Words) {
     show_table(rt, &table);
 }
 
-/// The last key taken out.
+/// Removes the last key.
 fn pop_last(rt: &HostRuntime, mut table: Words) {
     begin(rt, "pop_last");
     let answer = table.pop_last();
@@ -80,7 +80,7 @@ fn pop_last(rt: &HostRuntime, mut table: Words) {
     show_table(rt, &table);
 }
 
-/// A table parted inside an entry: first the keys from there on, then those that stay.
+/// Splits a table inside an entry, and prints the part from the key on, then the part below it.
 fn split_at(rt: &HostRuntime, mut table: Words) {
     begin(rt, "split_at");
     let answer = table.split_at(24);
@@ -95,7 +95,7 @@ fn split_at(rt: &HostRuntime, mut table: Words) {
     show_table(rt, &table);
 }
 
-/// All keys but one kept.
+/// Keeps all keys except one.
 fn retain_keys(rt: &HostRuntime, mut table: Words) {
     begin(rt, "retain_keys");
     let answer = table.retain_keys(|key, _| *key != 4);
@@ -104,7 +104,7 @@ fn retain_keys(rt: &HostRuntime, mut table: Words) {
     show_table(rt, &table);
 }
 
-/// Paints and insertions on so many entries.
+/// Makes the paints and insertions on a table of `count` entries.
 fn paints(rt: &HostRuntime, count: i32) -> Result<(), AllocError> {
     let alloc = rt.alloc();
     paint(rt, leaf(alloc, count)?, word(alloc)?);
@@ -113,7 +113,7 @@ fn paints(rt: &HostRuntime, count: i32) -> Result<(), AllocError> {
     Ok(())
 }
 
-/// A fill of three gaps.
+/// Makes a fill of three gaps.
 fn fills(rt: &HostRuntime) -> Result<(), AllocError> {
     let word = String::from_str(rt.alloc(), "z")?;
     let table = table_of(rt.alloc(), &[(2, 3, "a"), (6, 6, "b")])?;
@@ -121,8 +121,8 @@ fn fills(rt: &HostRuntime) -> Result<(), AllocError> {
     Ok(())
 }
 
-/// Makes all calls of this file. A paint inside an entry puts two entries into a leaf with room for one more, and for none; a
-/// cut puts one into a leaf with room for none.
+/// Makes all calls of this file. A paint inside an entry inserts two entries into a tree leaf with room for one more,
+/// and for none. A cut inserts one into a leaf without room.
 pub fn all(rt: &HostRuntime) -> Result<(), AllocError> {
     paints(rt, 14)?;
     paints(rt, 15)?;

@@ -1,4 +1,4 @@
-//! Streams of other values: what two have at the same keys, what a closure returns, every key of the type, events.
+//! Streams with other values: joins, results of a closure, a value at every key of the type, and events.
 use crate::calls::{begin, end, show_refused};
 use crate::tables::{Words, table_of};
 use blaze_streams::{
@@ -8,7 +8,7 @@ use blaze_streams::{
 use std::alloc::AllocError;
 use std::fmt::Debug;
 
-/// Ends the line of a call with the stream that it made.
+/// Ends the line of a call with the stream that it returned.
 fn show_stream<VC: ValueCarrier + Debug, S: SortedDisjointMap<i32, VC>>(
     rt: &HostRuntime,
     made: Result<S, AllocError>,
@@ -22,7 +22,7 @@ fn show_stream<VC: ValueCarrier + Debug, S: SortedDisjointMap<i32, VC>>(
     let _ = println!(rt; " end");
 }
 
-/// What two lent streams have at the keys of at least one.
+/// Makes the full join of two borrowed streams.
 fn joined(rt: &HostRuntime, one: &Words, two: &Words) {
     let (left, right) = (RangeValuesIter::new(one), RangeValuesIter::new(two));
     begin(rt, "join_of");
@@ -31,7 +31,7 @@ fn joined(rt: &HostRuntime, one: &Words, two: &Words) {
     show_stream(rt, made);
 }
 
-/// The same of streams by value: a word is cloned for each segment that its range goes on behind.
+/// Makes the full join of two owned streams. A word is cloned for each segment of its range except the last.
 fn joined_values(rt: &HostRuntime, one: Words, two: Words) {
     let (left, right) = (
         OwnedRangeValuesIter::new(one),
@@ -43,7 +43,7 @@ fn joined_values(rt: &HostRuntime, one: Words, two: Words) {
     show_stream(rt, made);
 }
 
-/// The length of each word: equal answers that touch are one range.
+/// Transforms each word to its length. Touching ranges with equal results are joined.
 fn transformed(rt: &HostRuntime, table: &Words) {
     let stream = RangeValuesIter::new(table);
     begin(rt, "transform");
@@ -52,7 +52,7 @@ fn transformed(rt: &HostRuntime, table: &Words) {
     show_stream(rt, made);
 }
 
-/// Every key with its word, or none.
+/// Fills every key without a word with `None`.
 fn filled(rt: &HostRuntime, table: &Words) {
     let stream = RangeValuesIter::new(table);
     begin(rt, "fill");
@@ -61,7 +61,7 @@ fn filled(rt: &HostRuntime, table: &Words) {
     show_stream(rt, made);
 }
 
-/// The events of two streams.
+/// Sweeps the events of two streams.
 fn swept(rt: &HostRuntime, streams: Vec<RangeValuesIter<'_, i32, String>>) {
     begin(rt, "sweep_of");
     let made = sweep_of(rt.alloc(), streams);

@@ -1,11 +1,11 @@
-//! Tables and sets of lists, a copy of a table, the segments of lists.
+//! Tables and sets built from lists, a clone of a table, and the segments of lists.
 use crate::calls::{begin, end, show_answer, show_refused};
 use crate::tables::{Words, leaf, show_table};
 use blaze_streams::{Segment, canonical_of, segments};
 use blaze_table::{RangeSetBlaze, RangeTable};
 use std::alloc::{AllocError, Global};
 
-/// A copy of a table.
+/// Clones a table.
 fn clone(rt: &HostRuntime, table: &Words) {
     begin(rt, "clone");
     let made = table.clone();
@@ -16,7 +16,7 @@ fn clone(rt: &HostRuntime, table: &Words) {
     }
 }
 
-/// The table of a canonical list of two entries.
+/// Builds a table from a canonical list of two entries.
 fn from_canonical(rt: &HostRuntime) -> Result<(), AllocError> {
     let entries = vec![in rt.alloc(); (0i32, 3i32, 'a'), (4, 4, 'b')]?;
     begin(rt, "from_canonical");
@@ -32,7 +32,7 @@ fn from_canonical(rt: &HostRuntime) -> Result<(), AllocError> {
     Ok(())
 }
 
-/// Two pairs, of which the second is painted inside the first.
+/// Returns two pairs, of which the second is painted inside the first.
 fn pairs(alloc: Global) -> Result<Vec<(i32, i32, String)>, AllocError> {
     let outer = String::from_str(alloc, "a")?;
     let inner = String::from_str(alloc, "b")?;
@@ -40,7 +40,7 @@ fn pairs(alloc: Global) -> Result<Vec<(i32, i32, String)>, AllocError> {
     Ok(pairs)
 }
 
-/// The canonical list of pairs: the first one's word is cloned for its second piece.
+/// Builds the canonical list of pairs. The first pair's word is cloned for its second piece.
 fn canonical(rt: &HostRuntime) -> Result<(), AllocError> {
     let pairs = pairs(rt.alloc())?;
     begin(rt, "canonical_of");
@@ -50,7 +50,7 @@ fn canonical(rt: &HostRuntime) -> Result<(), AllocError> {
     Ok(())
 }
 
-/// The set of ranges that do not ascend.
+/// Builds a set from ranges that do not ascend.
 fn from_ranges(rt: &HostRuntime) -> Result<(), AllocError> {
     let ranges = vec![in rt.alloc(); 8i32..=9, 1..=2, 2..=6]?;
     begin(rt, "from_ranges");
@@ -65,7 +65,7 @@ fn from_ranges(rt: &HostRuntime) -> Result<(), AllocError> {
     Ok(())
 }
 
-/// Ends the line of a call with its segments.
+/// Ends the line of a call with the segments that it returned.
 fn show_segments(rt: &HostRuntime, made: Result<Vec<Segment<i32>>, AllocError>) {
     let Ok(made) = made else {
         return show_refused(rt);
@@ -76,7 +76,7 @@ fn show_segments(rt: &HostRuntime, made: Result<Vec<Segment<i32>>, AllocError>) 
     let _ = println!(rt; " end");
 }
 
-/// The segments of two lists of a range each.
+/// Returns the segments of two lists with one range each.
 fn two_lists(rt: &HostRuntime) -> Result<(), AllocError> {
     let alloc = rt.alloc();
     let first = vec![in alloc; (0, 9)]?;

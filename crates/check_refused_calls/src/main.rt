@@ -1,6 +1,7 @@
-//! Calls of tables, sets, lists, streams, carriers and many maps by value, each on a line of the output: what it answered, and what it left. Each is
-//! made between lines `begin` and `end` of the standard error, and tests/refused_calls.sh refuses each request for memory that
-//! is made there, one in a run: then the call's line tells that it was refused, and all others are as without a refusal.
+//! Calls of tables, sets, lists, streams, carriers and many owned maps. Each prints a line with its result and the
+//! state after it. Each call is made between the lines `begin` and `end` of standard error. tests/refused_calls.sh
+//! makes each allocation between them fail, one in each run. Then the call's line says so, and all other lines are
+//! unchanged.
 #![tactic(auto)]
 
 mod calls;

@@ -1,4 +1,4 @@
-//! Streams that stay streams: two as one, one on the keys of a set and off them, and a table and a map of a stream's entries.
+//! Streams of the same values: merges of two streams, a stream and a set, and tables and maps built from a stream.
 use crate::calls::{begin, end, show_answer, show_refused};
 use crate::tables::{Words, table_of};
 use blaze_streams::{
@@ -9,7 +9,7 @@ use blaze_table::RangeSetBlaze;
 use range_map_blaze::{IntoRangeMapBlaze, RangeMapBlaze};
 use std::alloc::AllocError;
 
-/// Ends the line of a call with the stream that it made.
+/// Ends the line of a call with the stream that it returned.
 fn show(rt: &HostRuntime, made: Result<CanonMapIter<i32, &String>, AllocError>) {
     let Ok(stream) = made else {
         return show_refused(rt);
@@ -20,7 +20,7 @@ fn show(rt: &HostRuntime, made: Result<CanonMapIter<i32, &String>, AllocError>) 
     let _ = println!(rt; " end");
 }
 
-/// One stream over another.
+/// Makes the union of two streams.
 fn union(rt: &HostRuntime, one: &Words, two: &Words) {
     let (left, right) = (RangeValuesIter::new(one), RangeValuesIter::new(two));
     begin(rt, "union_of");
@@ -29,7 +29,7 @@ fn union(rt: &HostRuntime, one: &Words, two: &Words) {
     show(rt, made);
 }
 
-/// The keys of exactly one stream.
+/// Makes the symmetric difference of two streams.
 fn symmetric_difference(rt: &HostRuntime, one: &Words, two: &Words) {
     let (left, right) = (RangeValuesIter::new(one), RangeValuesIter::new(two));
     begin(rt, "symmetric_difference_of");
@@ -38,7 +38,7 @@ fn symmetric_difference(rt: &HostRuntime, one: &Words, two: &Words) {
     show(rt, made);
 }
 
-/// The keys of both streams.
+/// Makes the intersection of two streams.
 fn intersection(rt: &HostRuntime, one: &Words, two: &Words) {
     let (left, right) = (RangeValuesIter::new(one), RangeValuesIter::new(two));
     begin(rt, "intersection_of");
@@ -47,7 +47,7 @@ fn intersection(rt: &HostRuntime, one: &Words, two: &Words) {
     show(rt, made);
 }
 
-/// A stream on the keys of a set.
+/// Limits a stream to the keys of a set.
 fn intersect(rt: &HostRuntime, one: &Words, set: &RangeSetBlaze<i32>) {
     let stream = RangeValuesIter::new(one);
     begin(rt, "intersect_with_ranges");
@@ -56,7 +56,7 @@ fn intersect(rt: &HostRuntime, one: &Words, set: &RangeSetBlaze<i32>) {
     show(rt, made);
 }
 
-/// A stream off the keys of a set.
+/// Removes the keys of a set from a stream.
 fn subtract(rt: &HostRuntime, one: &Words, set: &RangeSetBlaze<i32>) {
     let stream = RangeValuesIter::new(one);
     begin(rt, "subtract_ranges");
@@ -65,7 +65,7 @@ fn subtract(rt: &HostRuntime, one: &Words, set: &RangeSetBlaze<i32>) {
     show(rt, made);
 }
 
-/// The keys that a set lacks.
+/// Makes the complement of a set.
 fn lacking(rt: &HostRuntime, set: &RangeSetBlaze<i32>) {
     begin(rt, "complement");
     let made = complement(rt.alloc(), set.ranges());
@@ -79,7 +79,7 @@ fn lacking(rt: &HostRuntime, set: &RangeSetBlaze<i32>) {
     let _ = println!(rt; " end");
 }
 
-/// The entries of a table by value, each word shared.
+/// Iterates over the owned entries of a table, each with a shared word.
 fn shared(rt: &HostRuntime, table: Words) {
     begin(rt, "IntoRangeValuesIter::new");
     let made = IntoRangeValuesIter::new(rt.alloc(), table);
@@ -93,7 +93,7 @@ fn shared(rt: &HostRuntime, table: Words) {
     let _ = println!(rt; " end");
 }
 
-/// The map of a stream.
+/// Builds a map from a stream.
 fn map_of(rt: &HostRuntime, table: &Words) {
     let stream = RangeValuesIter::new(table);
     begin(rt, "into_range_map_blaze");
@@ -102,7 +102,7 @@ fn map_of(rt: &HostRuntime, table: &Words) {
     show_answer(rt, made);
 }
 
-/// The same by a call of the map.
+/// Builds a map from a stream, by a function of the map.
 fn map_from(rt: &HostRuntime, table: &Words) {
     let stream = RangeValuesIter::new(table);
     begin(rt, "from_sorted_disjoint_map");
@@ -111,7 +111,7 @@ fn map_from(rt: &HostRuntime, table: &Words) {
     show_answer(rt, made);
 }
 
-/// Two streams as one, and one with a set.
+/// Makes the merges of two streams, and of a stream and a set.
 fn merges(rt: &HostRuntime, one: &Words, two: &Words) -> Result<(), AllocError> {
     union(rt, one, two);
     symmetric_difference(rt, one, two);

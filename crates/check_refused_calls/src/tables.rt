@@ -1,11 +1,11 @@
-//! The tables that the calls are made on. Their values are words, since a clone of a word takes memory.
+//! The tables for the calls. Their values are words, since a clone of a word allocates.
 use blaze_table::RangeTable;
 use std::alloc::{AllocError, Global};
 
 /// A table of words.
 pub type Words = RangeTable<i32, String>;
 
-/// Paints a word over a range. A range of no key is left out.
+/// Paints a word over a range. A range without a key is skipped.
 fn paint_word(table: &mut Words, start: i32, end: i32, text: &str) -> Result<(), AllocError> {
     let word = String::from_str(table.allocator(), text)?;
     if start <= end {
@@ -14,7 +14,7 @@ fn paint_word(table: &mut Words, start: i32, end: i32, text: &str) -> Result<(),
     Ok(())
 }
 
-/// A table of ranges painted in their order.
+/// Returns a table of ranges that are painted in order.
 pub fn table_of(alloc: Global, ranges: &[(i32, i32, &str)]) -> Result<Words, AllocError> {
     let mut table = RangeTable::new(alloc);
     for (start, end, text) in ranges {
@@ -23,8 +23,8 @@ pub fn table_of(alloc: Global, ranges: &[(i32, i32, &str)]) -> Result<Words, All
     Ok(table)
 }
 
-/// A table of so many entries with the word `a`, of ten keys each, from the keys 0, 20, 40 and so on. A leaf of a table's tree
-/// has room for 15.
+/// Returns a table of `count` entries with the word `a`. Each entry has ten keys, and they start at 0, 20, 40 and so
+/// on. A leaf of a table's tree has room for 15 entries.
 pub fn leaf(alloc: Global, count: i32) -> Result<Words, AllocError> {
     let mut table = RangeTable::new(alloc);
     for place in 0..count {

@@ -1,6 +1,6 @@
-//! A calendar, from lines `FROM TO NAME` of dates YYYY-MM-DD: each is put in only on its free days, and told where it meets what
-//! was booked before. Then what is booked, and for each line `? YEAR` the free spans of that year. An example is
-//! crates/demo_calendar/stdin.
+//! A calendar, read from lines `FROM TO NAME` of dates YYYY-MM-DD. Each line books the free days of its range, and its
+//! conflicts with earlier lines are printed. Then the bookings are printed, and for each line `? YEAR` the free spans
+//! of that year. An example is crates/demo_calendar/stdin.
 #![tactic(auto)]
 
 use demo_keys::Day;
@@ -10,14 +10,14 @@ use range_map_blaze::RangeMapBlaze;
 use std::ops::RangeInclusive;
 use std::process::ExitCode;
 
-/// The names of days, and the first and the last day of each year that was asked.
+/// The names of days, and the first and the last day of each year in a query.
 #[derive(Drop)]
 struct Calendar {
     days: RangeMapBlaze<Day, String>,
     years: Vec<(Day, Day)>,
 }
 
-/// A day of the years 1 to 9999, by the four digits of its year and the two of its month and its day.
+/// Returns a day of the years 1 to 9999, given by four digits of its year and two digits of its month and its day.
 fn day_of(year: &str, month: &str, day: &str) -> Option<Day> {
     if year == "0000" || year.len() != 4 || month.len() != 2 || day.len() != 2 {
         return None;
@@ -28,14 +28,14 @@ fn day_of(year: &str, month: &str, day: &str) -> Option<Day> {
     Some(Day::from(Date::new(year, month, day).ok()?))
 }
 
-/// The day that `YYYY-MM-DD` writes.
+/// Parses a day `YYYY-MM-DD`.
 fn read(text: &str) -> Option<Day> {
     let (year, rest) = text.split_once('-')?;
     let (month, day) = rest.split_once('-')?;
     day_of(year, month, day)
 }
 
-/// The first and the last day, and the name, of a line `FROM TO NAME`.
+/// Parses a line `FROM TO NAME`: the first and the last day, and the name.
 fn booking(text: &str) -> Option<(Day, Day, &str)> {
     let (from, rest) = text.split_once(' ')?;
     let (to, name) = rest.split_once(' ')?;

@@ -1,4 +1,4 @@
--- Texts of addresses, and the numbers that the bits of these make.
+-- Texts of addresses, and the numbers that the bits of the addresses form.
 use Rattle.std.specs.Prelude.{◌≡◌, ℕ, List}
 use Rattle.std.specs.Net.Addr.{ipv4_bits, ipv6_bits}
 use Rattle.std.specs.Net.Grammar.{IsIpv4Text, IsIpv6Text}

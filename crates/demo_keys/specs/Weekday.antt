@@ -6,7 +6,7 @@ use Rattle.std.proofs.lemmas.Int.{ints}
 use Rattle.demo_keys.specs.declared.weekday.Weekday.{Weekday}
 use Rattle.demo_keys.specs.declared.weekday.Weekday.TheVariants.{Monday, Tuesday, Wednesday, Thursday, Friday, Saturday, Sunday}
 
--- how many days after Monday
+-- the number of days after Monday
 abbrev pub days_after_monday : Weekday → ℕ
 days_after_monday Monday = 0
 days_after_monday Tuesday = 1
@@ -16,7 +16,7 @@ days_after_monday Friday = 4
 days_after_monday Saturday = 5
 days_after_monday Sunday = 6
 
--- the day that many days after Monday
+-- the day that is `n` days after Monday
 abbrev pub day_at : ℕ → Weekday
 day_at zero = Monday
 day_at (suc zero) = Tuesday

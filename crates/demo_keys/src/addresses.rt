@@ -1,4 +1,4 @@
-//! The addresses of std from keys and keys from them, and keys as texts.
+//! Conversions between keys and the addresses of std, and the texts of keys.
 ghost use Rattle.std.specs.Prelude.{◌≡◌, Some};
 ghost use Rattle.std.specs.Int.{w32, w128, to_be_bytes};
 ghost use Rattle.std.specs.Net.Addr.{ipv4_bits, ipv6_bits, segments_of, IsIpv4OfBits, IsIpv6OfBits};
@@ -28,7 +28,7 @@ impl From<Ipv4> for Ipv4Addr {
     }
 }
 
-/// Four numbers with dots between them.
+/// Prints four decimal numbers separated by dots.
 impl Display for Ipv4 {
     ghost output = { λ key. Some (ipv4_text (to_be_bytes w32 key.0)) };
 
@@ -66,7 +66,7 @@ impl From<Ipv6> for Ipv6Addr {
     }
 }
 
-/// Groups of hexadecimal digits, the longest run of zeros as `::` (RFC 5952).
+/// Prints groups of hexadecimal digits, with the longest run of zeros as `::` (RFC 5952).
 impl Display for Ipv6 {
     ghost output = { λ key. Some (ipv6_text (segments_of (to_be_bytes w128 key.0))) };
 

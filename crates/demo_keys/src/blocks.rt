@@ -1,8 +1,9 @@
-//! Blocks of numbers: as many as a power of two, from a multiple of it on. A prefix of addresses is such a block.
+//! Blocks of numbers. The size of a block is a power of two, and its first number is a multiple of its size. A prefix
+//! of addresses is such a block.
 ghost use Rattle.std.specs.Prelude.{◌≡◌, ℕ, ◌+◌, ◌^◌, ◌≤◌, ◌↔◌, IsTrue};
 ghost use Rattle.demo_keys.specs.Blocks.{BeginsBlock, IsBlockWithin};
 
-/// One less than the size of a block with so many free binary digits.
+/// Returns 2^free - 1: the number whose last `free` binary digits are ones.
 fn mask(free: u32) -> u128
     requires { free ≤ 128 }
     ensures { result + 1 ≡ 2 ^ free }
@@ -14,7 +15,7 @@ fn mask(free: u32) -> u128
     }
 }
 
-/// Whether a block of 2^free numbers begins at a number.
+/// Returns whether a block of 2^free numbers begins at `start`.
 #[tactic(auto, using(crate::proofs::Powers::masked))]
 pub fn begins_block(start: u128, free: u32) -> bool
     requires { free ≤ 128 }
@@ -23,7 +24,7 @@ pub fn begins_block(start: u128, free: u32) -> bool
     start & mask(free) == 0
 }
 
-/// The last number of the block of 2^free numbers that begins at a number.
+/// Returns the last number of the block of 2^free numbers that begins at `start`. O(1).
 pub fn last_of_block(start: u128, free: u32) -> u128
     requires bits { free ≤ 128 }
     requires begins { BeginsBlock start free }
@@ -32,7 +33,7 @@ pub fn last_of_block(start: u128, free: u32) -> u128
     start + mask(free)
 }
 
-/// Whether a block of 2^free numbers begins at `first` and ends at `last` or before.
+/// Returns whether a block of 2^free numbers begins at `first` and ends at `last` or before.
 fn is_block_within(first: u128, last: u128, free: u32) -> bool
     requires bits { free ≤ 128 }
     requires in_order { first ≤ last }
@@ -41,8 +42,8 @@ fn is_block_within(first: u128, last: u128, free: u32) -> bool
     begins_block(first, free) && mask(free) <= last - first
 }
 
-/// The number of free binary digits of the greatest block that begins at `first` and ends at `last` or before. At most 128
-/// steps.
+/// Returns the number of free binary digits of the greatest block that begins at `first` and ends at `last` or before.
+/// The loop runs at most 128 times.
 #[tactic(auto, using(crate::proofs::Powers::one))]
 pub fn greatest_block(first: u128, last: u128) -> u32
     requires { first ≤ last }

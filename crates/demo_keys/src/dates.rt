@@ -1,4 +1,4 @@
-//! The dates of `jiff_core` from days and days from them, and days as texts.
+//! Conversions between days and the dates of `jiff_core`, and the texts of days.
 ghost use Rattle.std.specs.Prelude.{◌≡◌};
 ghost use Rattle.jiff_core.specs.Date.{epoch_day};
 
@@ -24,7 +24,7 @@ impl From<Day> for Date {
     }
 }
 
-/// As `YYYY-MM-DD`, with `-` in front of a year before the year 0.
+/// Prints the day as `YYYY-MM-DD`, with `-` before a year below 0.
 impl Display for Day {
     fn fmt<W: fmt::Write>(&self, f: &mut Formatter<W>) -> fmt::Result {
         let Date { year, month, day } = Date::from(*self);

@@ -10,7 +10,7 @@ use jiff_core::civil::Date;
 use std::marker::Model;
 use std::ops::RangeInclusive;
 
-/// A day from -9999-01-01 to 9999-12-31, by its number. The day 1970-01-01 has the number 0.
+/// A day from -9999-01-01 to 9999-12-31, represented by its number. The day 1970-01-01 has the number 0.
 #[derive(Clone, Copy, PartialEq, Eq, PartialOrd, Ord, Debug)]
 pub struct Day {
     pub(crate) number: i32,

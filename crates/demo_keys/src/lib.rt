@@ -1,4 +1,4 @@
-//! Key types of one's own.
+//! Custom key types.
 #![tactic(auto)]
 
 mod addresses;

@@ -1,4 +1,4 @@
-//! Prefixes of addresses, as `10.0.0.0/8`: to ranges of keys, and from them.
+//! Prefixes of addresses, such as `10.0.0.0/8`, and their ranges of keys.
 ghost use Rattle.std.specs.Prelude.{◌≡◌, ℕ, ◌-◌, ◌^◌, ◌<◌, ◌≤◌, ◌↔◌, pos, ◌+ℤ◌, ◌≤ℤ◌, IsSome, IfSome, MatchOption};
 ghost use Rattle.std.specs.Range.{range_inclusive_start, range_inclusive_end};
 ghost use Rattle.blaze_int.specs.Unsigned.{nat_of};
@@ -11,22 +11,22 @@ use blaze_int::Integer;
 use blaze_int::compare::is_below;
 use std::ops::RangeInclusive;
 
-/// Addresses: keys that are the numbers of so many bits.
+/// An address: a key that is the number formed by its bits.
 pub trait Address: Integer {
-    // How many bits an address has.
+    // The number of bits of an address.
     ghost width: { ℕ };
 
-    /// How many bits an address has, 128 at most.
+    /// Returns the number of bits of an address, at most 128.
     fn width() -> u32
         ensures value { result ≡ width }
         ensures bound { result ≤ 128 };
 
-    /// The number that the bits of the address make.
+    /// Returns the number that the bits of the address form.
     fn number(self) -> u128
         ensures value { pos result ≡ Self.rank self }
         ensures bound { result < 2 ^ width };
 
-    /// The address whose bits make a number.
+    /// Returns the address whose bits form `number`.
     fn at(number: u128) -> Self
         requires { number < 2 ^ width }
         ensures { Self.rank result ≡ pos number };
@@ -64,8 +64,8 @@ impl Address for Ipv6 {
     }
 }
 
-/// The addresses of the prefix `start/bits`: those that share the first bits with `start`. `None` where an address has
-/// fewer bits, or where `start` has one set among the others.
+/// Returns the addresses of the prefix `start/bits`, which share their first `bits` bits with `start`. It returns
+/// `None` if an address has fewer than `bits` bits, or if `start` has a 1 among its other bits. O(1).
 pub fn prefix_range<A: Address>(start: A, bits: u32) -> Option<RangeInclusive<A>>
     ensures accepted { IsSome result
         ↔ ((bits ≤ A.width) × BeginsBlock (nat_of (A.rank start)) (A.width - bits)) }
@@ -84,8 +84,8 @@ pub fn prefix_range<A: Address>(start: A, bits: u32) -> Option<RangeInclusive<A>
     }
 }
 
-/// The number of bits of the shortest prefix that begins at `first` and ends at `last` or before: the one with the most
-/// addresses. At most 128 steps.
+/// Returns the number of bits of the shortest prefix that begins at `first` and ends at `last` or before. It is the
+/// prefix with the most addresses. The loop runs at most 128 times.
 pub fn shortest_prefix<A: Address>(first: A, last: A) -> u32
     requires { A.rank first ≤ℤ A.rank last }
     ensures bits { result ≤ A.width }
@@ -94,9 +94,11 @@ pub fn shortest_prefix<A: Address>(first: A, last: A) -> u32
     A::width() - greatest_block(first.number(), last.number())
 }
 
-/// The shortest prefix that begins at `first` and ends at `last` or before, as its number of bits, and the address after it,
-/// or `None` where it ends at `last`. Called again from that address on, it gives the prefixes that make the range, each
-/// with the most addresses that it can have there. At most 128 steps.
+/// Returns the number of bits of the shortest prefix that begins at `first` and ends at `last` or before. It also
+/// returns the address after the prefix, or `None` if the prefix ends at `last`.
+///
+/// Repeated calls, each from the returned address, split the range into prefixes. Each prefix has the most addresses
+/// that it can have. The loop runs at most 128 times.
 pub fn take_prefix<A: Address>(first: A, last: A) -> (u32, Option<A>)
     requires { A.rank first ≤ℤ A.rank last }
     ensures bits { result.0 ≤ A.width }

@@ -7,7 +7,7 @@ ghost use Rattle.blaze_int.specs.Unsigned.{nat_of, unsigned-ranked, unsigned-roo
 use blaze_int::Integer;
 use std::ops::RangeInclusive;
 
-/// A day of the week, from Monday on.
+/// A day of the week. Monday is the first.
 #[derive(Clone, Copy, PartialEq, Eq, PartialOrd, Ord, Debug)]
 pub enum Weekday {
     Monday,
@@ -32,7 +32,7 @@ impl Weekday {
         Weekday::Sunday,
     ];
 
-    /// The day that many days after Monday, which may be 6 at most.
+    /// Returns the day that is `number` days after Monday, where `number` is at most 6.
     fn at(number: u16) -> Weekday
         requires { number ≤ 6 }
         ensures { result ≡ day_at number }
@@ -40,7 +40,7 @@ impl Weekday {
         Weekday::ALL[usize::from(number)]
     }
 
-    /// How many days after Monday.
+    /// Returns the number of days after Monday.
     fn number(self) -> u16
         ensures { result ≡ days_after_monday self }
     {

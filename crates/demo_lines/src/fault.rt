@@ -1,15 +1,15 @@
-//! Why a program over a table ends early.
+//! The errors that end a program over a table.
 use std::alloc::{AllocError, AllocFailed};
 use std::io;
 
-/// Why a program over a table ends early. The number is its exit status.
+/// An error that ends a program over a table. Its number is the exit status.
 #[derive(Clone, Copy)]
 pub enum Fault {
     /// Reading or writing failed.
     Io = 1,
-    /// A line is no line of the table.
+    /// A line is invalid.
     Line = 2,
-    /// Memory was refused.
+    /// An allocation failed.
     Memory = 3,
 }
 

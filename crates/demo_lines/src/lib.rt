@@ -1,4 +1,4 @@
-//! Tables that are read from the lines of standard input, and programs that print what such a table answers.
+//! Programs that read a table from the lines of standard input and print its contents.
 #![tactic(auto)]
 
 mod fault;

@@ -7,15 +7,16 @@ use std::process::ExitCode;
 
 /// A table that is read line by line.
 pub trait Table {
-    /// Takes a line in, which comes without its end, LF or CRLF. `Fault::Line` says that it is no line of the table.
+    /// Adds a line, given without its end, LF or CRLF. It returns `Fault::Line` if the line is invalid.
     fn add(&mut self, rt: &HostRuntime, line: &str) -> Result<(), Fault>;
 
-    /// Prints what the table answers, once all lines are in.
+    /// Prints the table's results, after all lines are added.
     fn print(&mut self, rt: &HostRuntime) -> Result<(), Fault>;
 }
 
-/// Reads standard input into a table, line by line, and prints what the table answers. A faulty line ends it: `line N: TEXT` is
-/// told on standard error, N from 1, and nothing more is read. The exit status is 0, or that of the fault.
+/// Reads standard input into a table, line by line, and prints the table's results. An invalid line ends the program:
+/// it prints `line N: TEXT` to standard error, where N counts from 1, and reads nothing more. The exit status is 0, or
+/// that of the fault.
 pub fn run<T: Table + Drop>(rt: &HostRuntime, mut table: T) -> ExitCode {
     match answer(rt, &mut table) {
         Ok(()) => ExitCode::SUCCESS,
@@ -23,7 +24,8 @@ pub fn run<T: Table + Drop>(rt: &HostRuntime, mut table: T) -> ExitCode {
     }
 }
 
-/// What a line says where `#` begins a comment: the text before that, without the white space round it. None where that is nothing.
+/// Returns the text of a line before a comment, which begins with `#`, without the white space around it. It returns
+/// `None` if no text remains.
 pub fn content(line: &str) -> Option<&str>
     ensures { IfSome result (λ text. 0 < length text.now) }
 {
@@ -34,7 +36,7 @@ pub fn content(line: &str) -> Option<&str>
     if text.is_empty() { None } else { Some(text) }
 }
 
-// Reads standard input into a table, and prints what the table answers.
+// Reads standard input into a table, and prints the table's results.
 fn answer<T: Table>(rt: &HostRuntime, table: &mut T) -> Result<(), Fault> {
     let mut reader = BufReader::new(rt.alloc(), rt.stdin())?;
     let mut bytes = Vec::new(rt.alloc());
@@ -50,7 +52,7 @@ fn answer<T: Table>(rt: &HostRuntime, table: &mut T) -> Result<(), Fault> {
     table.print(rt)
 }
 
-// Takes in the bytes of a line, and tells a faulty one.
+// Adds the bytes of a line, and reports an invalid one.
 fn add<T: Table>(rt: &HostRuntime, table: &mut T, number: u64, line: &[u8]) -> Result<(), Fault> {
     let taken = match str::from_utf8(line) {
         Ok(text) => table.add(rt, text),

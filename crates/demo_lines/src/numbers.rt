@@ -1,11 +1,11 @@
-//! Numbers that lines write, and lengths of ranges.
+//! Numbers in the text of lines, and lengths of ranges.
 ghost use Rattle.std.specs.Prelude.{◌≡◌, IfSome};
 ghost use Rattle.std.specs.Str.Parse.{digits_value, without_leading_plus};
 
 use blaze_int::{Integer, SafeLength, bounds_of};
 use std::ops::RangeInclusive;
 
-/// The number that decimal digits write, without a sign.
+/// Parses a decimal number without a sign.
 pub fn decimal(digits: &str) -> Option<u64>
     ensures { IfSome result (λ number. digits_value 10 (without_leading_plus digits.now) ≡ number) }
 {
@@ -16,7 +16,7 @@ pub fn decimal(digits: &str) -> Option<u64>
     }
 }
 
-/// The number that hexadecimal digits write, without a sign.
+/// Parses a hexadecimal number without a sign.
 pub fn hexadecimal(digits: &str) -> Option<u64>
     ensures { IfSome result (λ number. digits_value 16 (without_leading_plus digits.now) ≡ number) }
 {
@@ -27,7 +27,7 @@ pub fn hexadecimal(digits: &str) -> Option<u64>
     }
 }
 
-/// How many keys a range has.
+/// Returns the number of keys of a range.
 pub fn length<T: Integer>(range: &RangeInclusive<T>) -> T::SafeLen {
     match bounds_of(range) {
         Some((first, last)) => T::safe_len(&(first..=last)),

@@ -1,5 +1,6 @@
-//! A picture of a map, from lines `LO HI WORD` that are painted in order: each entry, and each gap between two, as a bar of text.
-//! Where the first line is `svg`, it is a picture of that form, with a legend. An example is crates/demo_picture/stdin.
+//! A picture of a map, read from lines `LO HI WORD` that are painted in order. Each entry, and each gap between two
+//! entries, is a bar of text. If the first line is `svg`, the picture is an SVG with a legend. An example is
+//! crates/demo_picture/stdin.
 #![tactic(auto)]
 
 mod svg;
@@ -9,21 +10,21 @@ use range_map_blaze::RangeMapBlaze;
 use std::ops::RangeInclusive;
 use std::process::ExitCode;
 
-/// How many characters a picture of text is wide.
+/// The width of a text picture, in characters.
 const WIDTH: usize = 50;
 
-/// What is shown: the words of a map, and none in the gaps between two entries.
+/// The words of a map, with `None` in the gaps between two entries.
 pub type Shown = RangeMapBlaze<i64, Option<String>>;
 
-/// What a picture is made of.
+/// The input of a picture.
 #[derive(Drop)]
 struct Picture {
     map: RangeMapBlaze<i64, String>,
-    /// Whether the picture is an SVG, which the first line tells.
+    /// Whether the picture is an SVG. The first line decides it.
     is_svg: Option<bool>,
 }
 
-/// The first and the last key, and the word, of a line `LO HI WORD`.
+/// Parses a line `LO HI WORD`: the first and the last key, and the word.
 fn read(text: &str) -> Option<(i64, i64, &str)> {
     let (first, rest) = text.split_once(' ')?;
     let (last, word) = rest.split_once(' ')?;
@@ -33,7 +34,7 @@ fn read(text: &str) -> Option<(i64, i64, &str)> {
     Some((first.parse::<i64>().ok()?, last.parse::<i64>().ok()?, word))
 }
 
-/// Where the bar of a range begins and how wide it is, at least 1, in a picture that is so wide.
+/// Returns the position of a range's bar and its width, which is at least 1, in a picture of the given width.
 pub fn place(shown: &Shown, keys: &RangeInclusive<i64>, width: usize) -> (usize, usize) {
     let first = shown.first_key_value().map_or(0, |(first, _)| first);
     let until = |keys: u128| {
@@ -45,7 +46,7 @@ pub fn place(shown: &Shown, keys: &RangeInclusive<i64>, width: usize) -> (usize,
     (left, right.saturating_sub(left).max(1))
 }
 
-/// Prints a line for each entry and each gap: the bar in its place, its range and its word.
+/// Prints a line for each entry and each gap: the bar at its position, the range and the word.
 fn print_text(rt: &HostRuntime, shown: &Shown) -> Result<(), Fault> {
     for (keys, word) in shown.range_values() {
         let (left, width) = place(shown, &keys, WIDTH);

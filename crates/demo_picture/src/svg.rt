@@ -1,28 +1,28 @@
-//! A picture in the form SVG.
+//! SVG pictures.
 use crate::{Shown, place};
 use demo_lines::Fault;
 use std::alloc::{AllocError, Global};
 use std::collections::BTreeMap;
 
-/// How many pixels the bars take side by side.
+/// The total width of the bars, in pixels.
 const WIDTH: usize = 600;
 
-/// How many pixels a character of a label takes at most.
+/// The greatest width of a label's character, in pixels.
 const CHARACTER: usize = 9;
 
-/// The colours of words, in the order in which these first come; then from the first again.
+/// The colours of words, in the order of their first occurrence. After the last colour the first is used again.
 const COLOURS: [&str; 6] = [
     "#4e79a7", "#f28e2b", "#59a14f", "#e15759", "#b07aa1", "#9c755f",
 ];
 
-/// The words in the order in which they first come, and the place of each in it.
+/// The words in the order of their first occurrence, and the position of each.
 #[derive(Drop)]
 struct Legend<'a> {
     words: Vec<&'a str>,
     places: BTreeMap<&'a str, usize>,
 }
 
-/// The legend of a map's words. A search for each entry.
+/// Returns the legend of a map's words. O(n log n) with n entries.
 fn legend_of(alloc: Global, shown: &Shown) -> Result<Legend<'_>, AllocError> {
     let mut words = Vec::new(alloc);
     let mut places = BTreeMap::new(alloc);
@@ -37,7 +37,7 @@ fn legend_of(alloc: Global, shown: &Shown) -> Result<Legend<'_>, AllocError> {
     Ok(Legend { words, places })
 }
 
-/// The colour of a word; a gap has none.
+/// Returns the colour of a word. A gap has none.
 fn fill_of(legend: &Legend<'_>, word: Option<&String>) -> &'static str {
     match word.and_then(|word| legend.places.get(word.as_str())) {
         Some(place) => COLOURS[*place % COLOURS.len()],
@@ -45,7 +45,7 @@ fn fill_of(legend: &Legend<'_>, word: Option<&String>) -> &'static str {
     }
 }
 
-/// Prints the bars, and in those of entries their ranges, where these have room.
+/// Prints the bars, and the ranges of entries inside the bars that are wide enough.
 fn print_bars(rt: &HostRuntime, shown: &Shown, legend: &Legend<'_>) -> Result<(), Fault> {
     for (keys, word) in shown.range_values() {
         let (left, width) = place(shown, &keys, WIDTH);

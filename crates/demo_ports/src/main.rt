@@ -1,5 +1,6 @@
-//! The ports of the lines of /etc/services: where TCP and UDP have different names, which ports are free, and for each line
-//! `? COUNT` the first free range of so many ports from 1024 on. The Debian package netbase has the table as /etc/services.
+//! The ports of the lines of /etc/services. It prints the ports for which TCP and UDP have different names, and the
+//! free ports. For each line `? COUNT` it prints the first free range of COUNT ports from 1024 on. The Debian package
+//! netbase has the table as /etc/services.
 #![tactic(auto)]
 
 use demo_lines::{Fault, Table, content, decimal, length, run};
@@ -9,10 +10,10 @@ use std::process::ExitCode;
 
 type Names = RangeMapBlaze<u16, String>;
 
-/// The least port that a user's own service may take.
+/// The least port that a user's service may use.
 const FIRST: u16 = 1024;
 
-/// The names of the ports of both protocols, and how many free ports were asked for.
+/// The names of the ports of both protocols, and the numbers of free ports in the queries.
 #[derive(Drop)]
 struct Ports {
     tcp: Names,
@@ -20,7 +21,7 @@ struct Ports {
     counts: Vec<u64>,
 }
 
-/// What the names of a port have in common.
+/// Returns which protocols have a name for a port, and whether the names are equal.
 fn use_of(tcp: Option<&String>, udp: Option<&String>) -> &'static str {
     match (tcp, udp) {
         (Some(_), None) => "TCP alone",
@@ -30,7 +31,7 @@ fn use_of(tcp: Option<&String>, udp: Option<&String>) -> &'static str {
     }
 }
 
-/// The name, the port and the protocol of a line `NAME PORT/PROTOCOL ALIAS..`.
+/// Parses a line `NAME PORT/PROTOCOL ALIAS..`: the name, the port and the protocol.
 fn read(text: &str) -> Option<(&str, u16, &str)> {
     let mut words = text.split_ascii_whitespace();
     let name = words.next()?;
@@ -38,7 +39,7 @@ fn read(text: &str) -> Option<(&str, u16, &str)> {
     Some((name, u16::try_from(decimal(port)?).ok()?, protocol))
 }
 
-/// Prints how many ports have each use, and the ports at which the names of the two protocols differ.
+/// Prints the number of ports of each use, and the ports for which the names of the two protocols differ.
 fn print_uses(rt: &HostRuntime, tcp: &Names, udp: &Names) -> Result<(), Fault> {
     let uses = tcp.full_join(udp, use_of)?;
     for wanted in ["TCP alone", "UDP alone", "same name", "other name"] {
@@ -56,7 +57,8 @@ fn print_uses(rt: &HostRuntime, tcp: &Names, udp: &Names) -> Result<(), Fault> {
     Ok(())
 }
 
-/// The gaps from `FIRST` on that are longer than each gap before them. The first gap that has room for so many ports is among them.
+/// Returns the gaps from `FIRST` on that are longer than each earlier gap. The first gap with at least n ports is one
+/// of them, for each n.
 fn longer_gaps(rt: &HostRuntime, used: &Names) -> Result<Vec<RangeInclusive<u16>>, Fault> {
     let mut longer = Vec::new(rt.alloc());
     let mut longest = 0;

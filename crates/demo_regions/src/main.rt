@@ -1,6 +1,8 @@
-//! The memory of a process, from the lines of /proc/PID/maps: how many regions and bytes there are, and which gaps between them.
-//! Of two such tables with an empty line between: which regions are gone, which are new, which moved, which bytes have other
-//! permissions or another name, and how many bytes both have. `/proc` is part of Linux: no package brings the table.
+//! The memory of a process, read from the lines of /proc/PID/maps: the numbers of regions and bytes, and the gaps
+//! between the regions. `/proc` is part of Linux; no package has this table.
+//!
+//! If the input has two tables separated by an empty line, it prints the removed, the new and the moved regions, the
+//! bytes whose permissions or name changed, and the number of bytes in both tables.
 #![tactic(auto)]
 
 use demo_lines::{Fault, Table, hexadecimal, length, run};
@@ -12,8 +14,8 @@ use std::process::ExitCode;
 
 type Map = RangeMapBlaze<u64, String>;
 
-/// The regions of a process, at first and later, and whether the last line was empty. A region has its permissions and its name, or
-/// `-`, as its value.
+/// The regions of a process, first and later, and whether the last line was empty. The value of a region is its
+/// permissions and its name, or `-` without a name.
 #[derive(Drop)]
 struct Regions {
     first: Map,
@@ -21,7 +23,8 @@ struct Regions {
     is_parted: bool,
 }
 
-/// The bytes, the permissions and the name of a line `START-END PERMISSIONS OFFSET DEVICE INODE NAME`; END is the byte after.
+/// Parses a line `START-END PERMISSIONS OFFSET DEVICE INODE NAME`: the bytes, the permissions and the name. END is the
+/// byte after the last one.
 fn read(line: &str) -> Option<(RangeInclusive<u64>, &str, &str)> {
     let mut words = line.splitn(6, ' ');
     let (start, end) = words.next()?.split_once('-')?;
@@ -35,7 +38,7 @@ fn read(line: &str) -> Option<(RangeInclusive<u64>, &str, &str)> {
 /// The bytes of the first region of each length and value.
 type Places<'a> = BTreeMap<(u128, &'a str), RangeInclusive<u64>>;
 
-/// The places of a map's regions. A search for each.
+/// Returns the first region of each length and value of a map. O(n log n) with n regions.
 fn places_of(alloc: Global, map: &Map) -> Result<Places<'_>, AllocError> {
     let mut places = BTreeMap::new(alloc);
     for (bytes, value) in map.range_values() {
@@ -47,7 +50,7 @@ fn places_of(alloc: Global, map: &Map) -> Result<Places<'_>, AllocError> {
     Ok(places)
 }
 
-/// Prints how many regions and bytes there are, and the gaps between them.
+/// Prints the numbers of regions and bytes, and the gaps between the regions.
 fn print_regions(rt: &HostRuntime, map: &Map) -> Result<(), Fault> {
     let (regions, bytes) = (map.ranges_len(), map.len());
     println!(rt; "{regions} regions, {bytes} bytes")?;
@@ -59,7 +62,7 @@ fn print_regions(rt: &HostRuntime, map: &Map) -> Result<(), Fault> {
     Ok(())
 }
 
-/// Prints what is gone, what moved (it is gone and new), and what is new.
+/// Prints the removed regions, the moved ones (both removed and new), and the new ones.
 fn print_moves(rt: &HostRuntime, gone: &Map, new: &Map) -> Result<(), Fault> {
     let (old_places, new_places) = (places_of(rt.alloc(), gone)?, places_of(rt.alloc(), new)?);
     for (bytes, name) in gone.range_values() {
@@ -76,7 +79,7 @@ fn print_moves(rt: &HostRuntime, gone: &Map, new: &Map) -> Result<(), Fault> {
     Ok(())
 }
 
-/// Prints the bytes that are in both and have another value, with the old and the new one.
+/// Prints the ranges of bytes that both tables have with different values, with the old and the new value.
 fn print_other_values(rt: &HostRuntime, first: &Map, later: &Map) -> Result<(), Fault> {
     let (first, later) = (first.range_values(), later.range_values());
     for (bytes, (old, new)) in join_of(rt.alloc(), first, later, JoinKind::Inner)? {
@@ -87,7 +90,7 @@ fn print_other_values(rt: &HostRuntime, first: &Map, later: &Map) -> Result<(), 
     Ok(())
 }
 
-/// Prints what changed, and how many bytes are in both and in either.
+/// Prints the changes, and the numbers of bytes in both tables and in at least one.
 fn print_changes(rt: &HostRuntime, first: &Map, later: &Map) -> Result<(), Fault> {
     print_moves(rt, &(first - later)?, &(later - first)?)?;
     print_other_values(rt, first, later)?;

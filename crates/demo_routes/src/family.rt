@@ -1,4 +1,4 @@
-//! The blocks of one family of addresses, and the map that they make.
+//! The blocks of one family of addresses, and their map.
 use blaze_int::compare::is_below;
 use demo_keys::{Address, prefix_range, take_prefix};
 use demo_lines::{Fault, decimal};
@@ -9,7 +9,7 @@ use std::net::AddrParseError;
 use std::ops::RangeInclusive;
 use std::str::FromStr;
 
-/// A block of addresses, the number of the bits that count as shared, and its owner.
+/// A block of addresses, the number of bits that they are known to share, and its owner.
 #[derive(Drop)]
 pub struct Block<A: Address> {
     bits: u32,
@@ -17,12 +17,12 @@ pub struct Block<A: Address> {
     owner: String,
 }
 
-/// The address that a text writes.
+/// Parses an address.
 pub fn read<A: Address + FromStr<Err = AddrParseError>>(text: &str) -> Option<A> {
     A::from_str(text).ok()
 }
 
-/// The number of shared bits, and the addresses, of a prefix `ADDRESS/LENGTH`. The bits that are not shared are 0.
+/// Parses a prefix `ADDRESS/LENGTH`: the number of shared bits, and the addresses. The other bits of ADDRESS must be 0.
 fn prefix<A: Address + FromStr<Err = AddrParseError>>(
     text: &str,
 ) -> Option<(u32, RangeInclusive<A>)> {
@@ -31,7 +31,7 @@ fn prefix<A: Address + FromStr<Err = AddrParseError>>(
     Some((bits, prefix_range(read(start)?, bits)?))
 }
 
-/// The addresses of a range `FIRST,LAST`.
+/// Returns the addresses from `first` to `last`, or `None` if one cannot be parsed or they are reversed.
 fn range_of<A: Address + FromStr<Err = AddrParseError>>(
     first: &str,
     last: &str,
@@ -44,7 +44,8 @@ fn range_of<A: Address + FromStr<Err = AddrParseError>>(
     }
 }
 
-/// The number of shared bits, and the addresses, of a prefix or of a range, which counts as a prefix that shares none.
+/// Parses a prefix or a range `FIRST,LAST`. Returns the number of shared bits and the addresses. A range counts as a
+/// prefix of length 0.
 fn addresses<A: Address + FromStr<Err = AddrParseError>>(
     text: &str,
 ) -> Option<(u32, RangeInclusive<A>)> {
@@ -54,7 +55,7 @@ fn addresses<A: Address + FromStr<Err = AddrParseError>>(
     }
 }
 
-/// The block of a prefix or a range with its owner.
+/// Parses a prefix or a range, and returns its block with its owner.
 pub fn read_block<A: Address + FromStr<Err = AddrParseError>>(
     alloc: Global,
     text: &str,
@@ -65,7 +66,8 @@ pub fn read_block<A: Address + FromStr<Err = AddrParseError>>(
     Ok(Block { bits, range, owner })
 }
 
-/// The map of blocks: a longer prefix is painted over a shorter one, a later line over an equal earlier one.
+/// Builds the map of blocks. A longer prefix is painted over a shorter one, and a later line over an earlier one with
+/// the same length.
 pub fn map_of<A: Address>(
     alloc: Global,
     blocks: &mut Vec<Block<A>>,
@@ -75,7 +77,7 @@ pub fn map_of<A: Address>(
     Ok(RangeMapBlaze::from_ranges(alloc, painted)?)
 }
 
-/// The owner of an address.
+/// Returns the owner of an address.
 pub fn owner_of<A: Address>(map: &RangeMapBlaze<A, String>, address: A) -> &str {
     map.get(address).map_or("-", |owner| owner.as_str())
 }
@@ -91,7 +93,7 @@ pub fn print_ranges<A: Address + Display>(
     Ok(())
 }
 
-/// Prints the fewest prefixes that make each range, with its owner.
+/// Prints the fewest prefixes that cover each range, with its owner.
 pub fn print_prefixes<A: Address + Display>(
     rt: &HostRuntime,
     map: &RangeMapBlaze<A, String>,
@@ -103,7 +105,7 @@ pub fn print_prefixes<A: Address + Display>(
     Ok(())
 }
 
-/// Prints the fewest prefixes that make a range.
+/// Prints the fewest prefixes that cover a range.
 fn print_prefixes_of<A: Address + Display>(
     rt: &HostRuntime,
     start: A,

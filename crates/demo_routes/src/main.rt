@@ -1,10 +1,13 @@
-//! Who owns addresses of both families, from lines `PREFIX NAME`, as `10.0.0.0/8 private` and `2001:db8::/32 documentation`: of the
-//! prefixes that hold an address the longest counts, whatever the order of the lines. The shortest list of ranges, and for each line
-//! `? ADDRESS` the owner, for `? prefixes` the fewest prefixes that say the same. An IPv4 address within IPv6 is printed with its IPv4 part
-//! in decimal, as `::ffff:10.0.0.1`. An example is crates/demo_routes/stdin.
+//! The owners of addresses of both families, read from lines `PREFIX NAME` such as `10.0.0.0/8 private` and
+//! `2001:db8::/32 documentation`. The longest prefix that contains an address decides, whatever the order of the lines.
 //!
-//! A line may also be a range of addresses, `FIRST,LAST,NAME`, which counts as a prefix of length 0: a later range replaces an earlier
-//! one. The countries of IPv6 addresses are such a table. The Debian package tor-geoipdb has it as /usr/share/tor/geoip6.
+//! It prints the shortest list of ranges. For each line `? ADDRESS` it prints the owner, and for `? prefixes` the
+//! fewest prefixes with the same owners. An IPv4 address within IPv6 is printed with its IPv4 part in decimal, such as
+//! `::ffff:10.0.0.1`. An example is crates/demo_routes/stdin.
+//!
+//! A line may also be a range of addresses, `FIRST,LAST,NAME`. It counts as a prefix of length 0: a later range
+//! replaces an earlier one. The Debian package tor-geoipdb has such a table, the countries of IPv6 addresses, as
+//! /usr/share/tor/geoip6.
 #![tactic(auto)]
 
 mod family;
@@ -14,7 +17,7 @@ use demo_lines::{Fault, Table, content, run};
 use family::{Block, map_of, owner_of, print_prefixes, print_ranges, read, read_block};
 use std::process::ExitCode;
 
-/// What is asked.
+/// A query.
 #[derive(Clone, Copy)]
 enum Question {
     /// The owner of an address.
@@ -24,7 +27,7 @@ enum Question {
     Prefixes,
 }
 
-/// The blocks of both families, and what was asked.
+/// The blocks of both families, and the queries.
 #[derive(Drop)]
 struct Routes {
     blocks_of_4: Vec<Block<Ipv4>>,
@@ -32,7 +35,7 @@ struct Routes {
     questions: Vec<Question>,
 }
 
-/// What a line asks. An address with a colon is one of IPv6.
+/// Parses a query. An address with a colon is an IPv6 address.
 fn read_question(text: &str) -> Option<Question> {
     if text == "prefixes" {
         return Some(Question::Prefixes);

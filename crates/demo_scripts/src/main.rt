@@ -1,6 +1,6 @@
-//! The scripts of characters, from the lines of the Unicode file Scripts.txt: how many characters each script has, how many
-//! entries and gaps the map has, and for each line `? WORD` the script of each character of the word. The Debian package unicode-data has
-//! the table as /usr/share/unicode/Scripts.txt.
+//! The scripts of characters, read from the lines of the Unicode file Scripts.txt. It prints the number of characters
+//! of each script, and the numbers of entries and gaps of the map. For each line `? WORD` it prints the script of each
+//! character of the word. The Debian package unicode-data has the table as /usr/share/unicode/Scripts.txt.
 #![tactic(auto)]
 
 use demo_lines::{Fault, Table, content, hexadecimal, length, run};
@@ -8,14 +8,14 @@ use range_map_blaze::RangeMapBlaze;
 use std::collections::BTreeMap;
 use std::process::ExitCode;
 
-/// The scripts of characters, and the words that were asked.
+/// The scripts of characters, and the words of the queries.
 #[derive(Drop)]
 struct Scripts {
     map: RangeMapBlaze<char, String>,
     words: Vec<String>,
 }
 
-/// The character at a code point. At surrogates, which are no characters, it is the one next to them that is given.
+/// Returns the character at a code point, or `next` if the code point is a surrogate, which is no character.
 fn character(point: u64, next: char) -> Option<char> {
     match u32::try_from(point).ok()? {
         0xD800..=0xDFFF => Some(next),
@@ -23,8 +23,8 @@ fn character(point: u64, next: char) -> Option<char> {
     }
 }
 
-/// The first and the last character, and the script, of a line `START..END ; SCRIPT` or `POINT ; SCRIPT`. A range that begins or
-/// ends among surrogates is that of the characters next to them.
+/// Parses a line `START..END ; SCRIPT` or `POINT ; SCRIPT`: the first and the last character, and the script. A range
+/// that begins or ends among surrogates begins or ends at the character next to them.
 fn read(text: &str) -> Option<(char, char, &str)> {
     let (points, script) = text.split_once(';')?;
     let (points, script) = (points.trim(), script.trim());
@@ -37,7 +37,7 @@ fn read(text: &str) -> Option<(char, char, &str)> {
     Some((first, last, script))
 }
 
-/// Prints how many characters each script has, by the names of the scripts.
+/// Prints the number of characters of each script, in the order of the scripts' names.
 fn print_sizes(rt: &HostRuntime, map: &RangeMapBlaze<char, String>) -> Result<(), Fault> {
     let mut sizes = BTreeMap::new(rt.alloc());
     for (range, script) in map.range_values() {
