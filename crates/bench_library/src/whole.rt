@@ -23,8 +23,8 @@ pub enum Combination {
     IntersectionOfMany,
 }
 
-/// Returns the combination that the work of a number makes of a map of `size` entries and another map, and the number
-/// of entries of the other map.
+/// Returns the combination of the work with this number, and the number of entries of its second map. The first map has
+/// `size` entries.
 pub fn combined(number: u32, size: u64) -> Option<(Combination, u64)> {
     match number {
         8 => Some((Combination::Union, size)),

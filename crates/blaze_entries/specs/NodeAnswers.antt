@@ -14,7 +14,7 @@ module _ {F T V : Type 0} (rank : T → ℤ) (g : Mut F (Bor (RangeInclusive T) 
     pub full : node.value ≡ Some value
     pub taken : TakesEntry rank g f (entry (rank start) (rank node.end) value)
 
-  -- a call of f at the range and value of the node's entry may return r and leave f as f'; the node does not change
+  -- a call of f at the range and value of the node's entry may return r and leave f as f'; the node is unchanged
   pub record AnswersAtNode (f : F) (start : T) (node : EndValue T (Option V)) (r : Bool) (left : EndValue T (Option V)) (f' : F) : Type 0 where
     pub value : V
     pub full : node.value ≡ Some value

@@ -79,7 +79,7 @@ pub record IsStartMoved {V : Type 0} (k start : ℤ) (old new : List (Entry V)) 
   pub found : start_at k old ≡ Some of
   pub moved : new ≡ with_entry (entry start of.hi of.value) (without k old)
 
--- the entry that starts at k now ends at h and has the value v; its old end and value belong to an entry at `start`
+-- The entry that starts at k now ends at h and has the value v. Its old end and value belong to an entry at `start`.
 pub record IsFrontReplaced {V : Type 0} (k h : ℤ) (v : V) (start : ℤ) (old new : List (Entry V)) : Type 0 where
   pub of : Entry V
   pub found : start_at k old ≡ Some of

@@ -16,9 +16,12 @@ RangesAscend low high (e ∷ es) = (low ≤ℤ e.lo) × (e.lo ≤ℤ e.hi) × (e
 
 -- ---- the plan
 
--- The plan, by rank: the end of the range joined with the entry above it; the ends of the entry that keeps its keys
--- above the range; the entry that starts at the range's first key; the entry that starts below the range; and the
--- number of entries that start above the range's first key and end within the joined range.
+-- The plan, by rank:
+-- - the end of the range joined with the entry above it;
+-- - the ends of the entry that keeps its keys above the range;
+-- - the entry that starts at the range's first key;
+-- - the entry that starts below the range;
+-- - the number of entries that start above the range's first key and end within the joined range.
 pub record Seen : Type 0 where
   pub end : ℤ
   pub rest : Option (ℤ × ℤ)
@@ -29,8 +32,8 @@ pub record Seen : Type 0 where
 abbrev pub shown_plan : {T : Type 0} → (T → ℤ) → Plan T → Seen
 shown_plan rank p = record { end = rank p.end; rest = option_map (shown_ends rank) p.rest; first = option_map (shown_found rank) p.first; left = option_map (shown_found rank) p.left; gone = p.gone }
 
--- the end of a range that ends at h, joined with the visited entry that starts up to the key above h: the entry's end
--- if it extends above h with an equal value, else h
+-- The end of a range that ends at h, joined with the visited entry that starts up to the key above h. It is the entry's
+-- end if the entry extends above h with an equal value, else h.
 abbrev pub end_of : ℤ → Option (ℤ × ℤ × Bool) → ℤ
 end_of h None = h
 end_of h (Some t) = if int_lt h t.1 then (if t.2 then t.1 else h) else h
@@ -67,8 +70,8 @@ unseen h = record { end = h; rest = None; first = None; left = None; gone = 0 }
 abbrev pub seen_end : ℤ → Seen → ℤ × ℤ × Bool → Seen
 seen_end h s t = if int_lt h t.1 then (if t.2 then record s { end = t.1 } else (if int_le t.0 h then record s { rest = Some (t.0, t.1) } else s)) else s
 
--- the plan with an entry that starts above the range's first key: one more removed entry if its value is equal or it
--- ends up to h
+-- The plan with an entry that starts above the range's first key. One more entry is removed if its value is equal or it
+-- ends up to h.
 abbrev pub seen_within : ℤ → Seen → ℤ × ℤ × Bool → Seen
 seen_within h s t = if t.2 || int_le t.1 h then record s { gone = s.gone + 1 } else s
 

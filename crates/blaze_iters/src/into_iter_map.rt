@@ -207,7 +207,7 @@ fn last_whole<T: Integer, V: Drop>(inner: &mut Option<IntoIter<T, V>>) -> Option
     }
 }
 
-/// Takes the first remaining range, if none is open at the front: the first unopened one, or else the range that is
+/// Takes the first remaining range, if none is open at the front. It is the first unopened one, or else the one that is
 /// open at the back.
 fn take_first<T: Integer, V: Drop>(
     inner: &mut Option<IntoIter<T, V>>,
@@ -229,8 +229,8 @@ fn take_first<T: Integer, V: Drop>(
     }
 }
 
-/// Takes the last remaining range, if none is open at the back: the last unopened one, or else the range that is open
-/// at the front.
+/// Takes the last remaining range, if none is open at the back. It is the last unopened one, or else the one that is
+/// open at the front.
 fn take_last<T: Integer, V: Drop>(
     front: &mut Option<RangeEntry<T, V>>,
     inner: &mut Option<IntoIter<T, V>>,

@@ -1,5 +1,5 @@
--- A merge of two streams before its end, in terms of this crate's own functions and of those that it exports only for
--- the crates above it. No clause for users of the streams uses them.
+-- A merge of two streams before its end. These definitions are for this crate's own functions and for those that it
+-- exports only for the crates above it. No clause for users of the streams uses them.
 use Rattle.std.specs.Prelude.{◌≡◌, ℤ, ◌≤ℤ◌, ◌<ℤ◌, Bool, List, [], ◌∷◌, Option, Some, None}
 use Rattle.blaze_entries.specs.declared.range_entry.RangeEntry.{RangeEntry}
 use Rattle.blaze_table.specs.Entries.{Entry, entry, at, shown_range_entry, SameOption}

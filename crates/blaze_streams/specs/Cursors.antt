@@ -1,5 +1,5 @@
--- Cursors over lists, in terms of this crate's own functions and of those that it exports only for the crates above it.
--- No clause for users of the streams uses them.
+-- Cursors over lists. These definitions are for this crate's own functions and for those that it exports only for the
+-- crates above it. No clause for users of the streams uses them.
 use Rattle.std.specs.Prelude.{◌≡◌, ℤ, pos, ◌-ℤ◌, ◌≤ℤ◌, int_le, Bool, if◌then◌else◌, List, [], ◌∷◌, Option, Some, None}
 use Rattle.blaze_table.specs.Entries.{Entry}
 use Rattle.blaze_table.specs.Canonical.{IsCanonical}

@@ -23,7 +23,6 @@ LeftJoinHasLeftKeys {A} {B} eqa eqb low high = (left : List (Entry A)) (right : 
 abbrev pub FullJoinIsOfListOfTwo : {A : Type 0} → (A → A → Bool) → ℤ → ℤ → Type 0
 FullJoinIsOfListOfTwo {A} eq low high = (left right : List (Entry A)) (segments : List (Entry (Option A × Option A))) → IsJoinOf eq eq low high Full left right segments → IsSegmentsOf eq (left ∷ right ∷ []) (map as_row segments)
 
--- for two lists with the same keys, such as all keys of the type, a full join has the segments of an inner join, with
--- the same values
+-- For two lists with the same keys, a full join has the segments of an inner join, with the same values.
 abbrev pub FullJoinIsInner : {A B : Type 0} → (A → A → Bool) → (B → B → Bool) → ℤ → ℤ → Type 0
 FullJoinIsInner {A} {B} eqa eqb low high = (left : List (Entry A)) (right : List (Entry B)) (full inner : List (Entry (Option A × Option B))) → ((k : ℤ) → is_some (at left k) ≡ is_some (at right k)) → IsJoinOf eqa eqb low high Full left right full → IsJoinOf eqa eqb low high Inner left right inner → full ≡ inner

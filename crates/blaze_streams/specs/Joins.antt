@@ -1,5 +1,5 @@
--- The segments of two lists: the greatest ranges of keys at which each list has the same range or none, and at least
--- one list has a range. A join selects some of them.
+-- The segments of two lists, and those that a join selects. A segment is a greatest range of keys at which each list
+-- has the same range or none, and at least one has a range.
 use Rattle.std.specs.Prelude.{◌≡◌, ℤ, ◌≤ℤ◌, Bool, true, false, ◌&&◌, ◌||◌, if◌then◌else◌, List, [], ◌∷◌, ◌++◌, Option, Some, None, MatchOption}
 use Rattle.std.specs.Option.{option_eq, is_some}
 use Rattle.blaze_entries.specs.Cloned.{AreCloned}
@@ -31,8 +31,8 @@ pub record IsJoinOf {A B : Type 0} (eqa : A → A → Bool) (eqb : B → B → B
   pub range_map : IsRangeMap (pair_eq eqa eqb) low high segments
   pub content : (k : ℤ) → at segments k ≡ paired kind (at left k) (at right k)
 
--- The segments with carried values. Each value is that of the segment, or one that `carry` may represent for it: every
--- segment of a range except the last gets one by `carry`.
+-- The segments with carried values. The last segment of a range has the segment's value. Each other one may have a
+-- value that `carry` may represent for it.
 pub record IsCarriedJoin {A B : Type 0} (carrieda : A → A → Type 0) (carriedb : B → B → Type 0) (eqa : A → A → Bool) (eqb : B → B → Bool) (low high : ℤ) (kind : JoinKind) (left : List (Entry A)) (right : List (Entry B)) (segments : List (Entry (Option A × Option B))) : Type 0 where
   pub exact : List (Entry (Option A × Option B))
   pub is_join : IsJoinOf eqa eqb low high kind left right exact
@@ -45,8 +45,7 @@ abbrev pub piece_of : {V : Type 0} → ℤ → ℤ → Option V → List (Entry 
 piece_of s t None = []
 piece_of s t (Some v) = entry s t v ∷ []
 
--- The new list is the part of the list from the other's first key on, or is empty if the other is empty. The other has
--- no value up to `end`, which is at least s.
+-- The new list is the part of the list above `end`. The other list has no value up to `end`, which is at least s.
 pub record IsLetGo {A B : Type 0} (s high : ℤ) (list new : List (Entry A)) (other : List (Entry B)) : Type 0 where
   pub end : ℤ
   pub from : s ≤ℤ end

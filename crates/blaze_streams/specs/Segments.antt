@@ -1,5 +1,5 @@
--- The segments of lists of ranges: the greatest ranges of keys at which each list has the same range or none, and at
--- least one list has a range.
+-- The segments of lists of ranges. A segment is a greatest range of keys at which each list has the same range or none,
+-- and at least one has a range.
 use Rattle.std.specs.Prelude.{◌≡◌, ℕ, ◌+◌, ℤ, Bool, if◌then◌else◌, List, [], ◌∷◌, map, Option, Some, None}
 use Rattle.std.specs.Option.{option_eq, is_some}
 use Rattle.std.specs.List.{list_any}
@@ -44,8 +44,8 @@ shown_segment rank s = record { lo = rank s.lo; hi = rank s.hi; value = s.at.ite
 abbrev pub shown_segments : {T : Type 0} → (T → ℤ) → List (Segment T) → List (Entry (List (Option ℕ)))
 shown_segments rank segments = map (shown_segment rank) segments
 
--- the segments of lists: at each key they have the row of the lists, if a list has a value, and each segment is one run
--- of rows
+-- The segments of lists. At each key at which a list has a value, they have the row of the lists. Each segment is one
+-- run of rows.
 pub record IsSegmentsOf {A : Type 0} (eq : A → A → Bool) (lists : List (List (Entry A))) (segments : List (Entry (List (Option A)))) : Type 0 where
   pub runs : IsOnePerRun (row_eq eq) segments
   pub content : (k : ℤ) → at segments k ≡ present (row lists k)

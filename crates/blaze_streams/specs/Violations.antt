@@ -3,7 +3,7 @@ use Rattle.std.specs.Prelude.{◌≡◌, ℕ, zero, suc, ◌<◌, pos, ◌+ℤ�
 use Rattle.std.specs.Ordering.{int_eq}
 use Rattle.blaze_table.specs.Entries.{Entry}
 
--- The entry violates the law after the previous one, if one exists: its range is empty, or does not start above the
+-- The entry violates the law after the previous one, if one exists. Its range is empty, or does not start above the
 -- previous end, or touches an equal value.
 abbrev pub violates : {V : Type 0} → (V → V → Bool) → Option (Entry V) → Entry V → Bool
 violates eq None e = int_lt e.hi e.lo

@@ -19,8 +19,8 @@ pub fn full_join_is_of_list_of_two<T: Integer, V: Eq>()
     ensures { FullJoinIsOfListOfTwo V.eq T.low T.high }
 {}
 
-/// Two streams with the same keys, such as all keys of the type, have the same segments in a full join and in an inner
-/// join.
+/// Two streams with the same keys have the same segments in a full join and in an inner join. Two streams over all keys
+/// of the type are an example.
 pub fn full_join_is_inner<T: Integer, V: Eq, W: Eq>()
     ensures { FullJoinIsInner V.eq W.eq T.low T.high }
 {}

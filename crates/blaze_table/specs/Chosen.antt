@@ -1,5 +1,4 @@
--- The result of an operation between two maps, or a map and a set: at each key, a choice from what the two have at that
--- key.
+-- The result of an operation between two maps, or a map and a set: at each key, a choice from their two values.
 use Rattle.std.specs.Prelude.{ℤ, Bool, List, Option, Some, None}
 use Rattle.std.specs.Option.{option_or, option_and}
 use Rattle.blaze_table.specs.Entries.{Entry, at, SameOption}

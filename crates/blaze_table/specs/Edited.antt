@@ -1,5 +1,5 @@
--- An edit of a list in place: a range of keys is freed. The part of an entry above the range becomes a separate entry,
--- the entry below the range is shortened, and the entries that start in it are removed.
+-- An edit of a list in place: a range of keys is freed. The part of an entry above the range becomes a separate entry.
+-- The entry below the range is shortened, and the entries that start in it are removed.
 use Rattle.std.specs.Prelude.{◌≡◌, ◌+◌, length, ◌⊎◌, ℤ, pos, ◌+ℤ◌, ◌≤ℤ◌, ◌<ℤ◌, ◌||◌, Bool, true, false, int_lt, List, Option, Some, None, IsSome, IsSomeAnd}
 use Rattle.std.specs.List.{last_or}
 use Rattle.std.specs.Option.{option_map}

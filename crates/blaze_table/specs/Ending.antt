@@ -8,7 +8,7 @@ use Rattle.blaze_table.specs.Entries.{Entry}
 abbrev pub ending_from : {V : Type 0} → ℤ → List (Entry V) → List (Entry V)
 ending_from k es = filter (λ e. int_le k e.hi) es
 
--- the entries that share a key with the range from l to h, where l is at most h: they end at l or above, and start up
--- to h
+-- The entries that share a key with the range from l to h, where l is at most h. They end at l or above, and start up
+-- to h.
 abbrev pub overlapping : {V : Type 0} → ℤ → ℤ → List (Entry V) → List (Entry V)
 overlapping l h es = up_to h (ending_from l es)

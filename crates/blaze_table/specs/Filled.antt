@@ -14,13 +14,13 @@ filled l h v content k = option_or (content k) (if int_le l k && int_le k h then
 abbrev pub IsKeptIn : {V : Type 0} → List (Entry V) → Entry V → Type 0
 IsKeptIn es e = (h : ℤ) × (e.hi ≤ℤ h) × Contains es (entry e.lo h e.value)
 
--- each entry that starts at a run start of the content is in the new list, with the same start and its very value, and
--- with the same end or a later one
+-- Each entry that starts at a run start of the content is in the new list, with its very value. Its start is the same,
+-- and its end is the same or later.
 abbrev pub AreStartsKept : {V : Type 0} → (V → V → Bool) → (ℤ → Option V) → List (Entry V) → List (Entry V) → Type 0
 AreStartsKept {V} eq content old new = (e : Entry V) → Contains old e → IsRunStart eq content e.lo → IsKeptIn new e
 
--- The old values that remain when the content becomes the given one. A run of that content that starts with an old
--- entry has the very value of that entry, so joined entries have the stored value of the first. An entry that is a
+-- The old values that remain when the content becomes the given one. If a run of that content starts with an old entry,
+-- the run has the very value of that entry. So joined entries have the stored value of the first. An entry that is a
 -- whole run of that content remains unchanged.
 pub record AreKept {V : Type 0} (eq : V → V → Bool) (content : ℤ → Option V) (old new : List (Entry V)) : Type 0 where
   pub starts : AreStartsKept eq content old new
@@ -36,8 +36,8 @@ pub record IsFilled {V : Type 0} (eq : V → V → Bool) (low high : ℤ) (p : E
 abbrev pub IsHeldFrom : {V : Type 0} → (ℤ → Option V) → ℤ → ℤ → Type 0
 IsHeldFrom content a b = (k : ℤ) → a ≤ℤ k → k ≤ℤ b → IsSome (content k)
 
--- The keys from a to b are the first gap from l to h. All keys from l to before a have a value, no key from a to b has
--- one, and b is h or the key after b has one.
+-- The keys from a to b are the first gap from l to h. All keys from l to before a have a value, and no key from a to b
+-- has one. b is h, or the key after b has a value.
 pub record IsFirstGap {V : Type 0} (content : ℤ → Option V) (l h a b : ℤ) : Type 0 where
   pub from : l ≤ℤ a
   pub order : a ≤ℤ b

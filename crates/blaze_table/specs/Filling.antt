@@ -42,7 +42,8 @@ pub record IsNextGap {V : Type 0} (eq : V → V → Bool) (content : ℤ → Opt
   pub gap : IsFirstGap content l h a b
   pub beside : IsBeside eq content v a b t u
 
--- a gap that starts at a, below an entry that starts at `next`, ends at b: right below `next`, or at h if that is lower
+-- A gap that starts at a, below an entry that starts at `next`, ends at b. It ends right below `next`, or at h if that
+-- is lower.
 pub record IsGapEnd (a h next b : ℤ) : Type 0 where
   pub order : a ≤ℤ b
   pub to : b ≤ℤ h
@@ -84,7 +85,7 @@ pub record GoesBack {V : Type 0} (starts : List ℤ) (es old : List (Entry V)) :
   pub there : AreThere starts es
   pub taken : taken starts es ≡ old
 
--- the keys from l to before a are filled with v, and the gap from a to b is the next one; each old entry remains
+-- The keys from l to before a are filled with v, and the gap from a to b is the next one. Each old entry remains.
 pub record IsFilling {V : Type 0} (eq : V → V → Bool) (l h : ℤ) (v : V) (starts joints : List ℤ) (old cur : List (Entry V)) (a b : ℤ) : Type 0 where
   pub content : (k : ℤ) → SameOption eq (at cur k) (filled l (a -ℤ pos 1) v (at old) k)
   pub kept : (e : Entry V) → Contains old e → Contains cur e

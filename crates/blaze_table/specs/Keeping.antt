@@ -24,7 +24,7 @@ module _ {F T V : Type 0} (R : F → T × V → Bool → F → Type 0) (f : F) (
     pub below : IsBelow b es
     pub content : (k : ℤ) → SameOption eq (at es k) (value_at rank (items_where_true answers pairs) k)
 
-  -- after calls with more pairs, of keys from a to below b, the new list also has those of them for which the closure
-  -- returned true
+  -- after calls with more pairs, of keys from a to below b, the new list also has those for which the closure returned
+  -- true
   abbrev pub KeepsMore : List (T × V) → ℤ → ℤ → List (Entry V) → List (Entry V) → Type 0
   KeepsMore more a b old new = (pairs : List (T × V)) → IsKept pairs a old → IsKept (pairs ++ more) b new

@@ -5,8 +5,8 @@ use Rattle.std.specs.Option.{option_or}
 use Rattle.blaze_table.specs.Entries.{Entry, at, holds, SameOption}
 use Rattle.blaze_table.specs.Canonical.{IsRangeMap}
 
--- the content after the keys from l to h are painted with v: v at these keys, elsewhere as before; if h is below l,
--- nothing changes
+-- The content after the keys from l to h are painted with v: v at these keys, elsewhere as before. If h is below l,
+-- nothing changes.
 abbrev pub painted : {V : Type 0} → ℤ → ℤ → V → (ℤ → Option V) → ℤ → Option V
 painted l h v content k = if int_le l k && int_le k h then Some v else content k
 
@@ -18,7 +18,8 @@ IsApartFrom p e = ((p.hi +ℤ pos 1) <ℤ e.lo) ⊎ ((e.hi +ℤ pos 1) <ℤ p.lo
 abbrev pub IsAlreadyIn : {V : Type 0} → (V → V → Bool) → Entry V → Entry V → Type 0
 IsAlreadyIn eq p e = (e.lo ≤ℤ p.lo) × (p.hi ≤ℤ e.hi) × (eq e.value p.value ≡ true)
 
--- a paint of the entry p does not affect the entry e: p has no key, or is apart from e, or its keys are already in e
+-- A paint of the entry p does not affect the entry e. Either p has no key, or it is apart from e, or its keys are
+-- already in e.
 abbrev pub LeavesAlone : {V : Type 0} → (V → V → Bool) → Entry V → Entry V → Type 0
 LeavesAlone eq p e = (p.hi <ℤ p.lo) ⊎ (IsApartFrom p e ⊎ IsAlreadyIn eq p e)
 

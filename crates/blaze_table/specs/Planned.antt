@@ -43,8 +43,8 @@ abbrev pub reaches : ℤ → Option (ℤ × ℤ × Bool) → Bool
 reaches h None = false
 reaches h (Some t) = t.2 && int_le h t.1
 
--- the start of an entry that is joined with a range from l on: its value is equal, and it ends at the key before l or
--- above
+-- The start of an entry that is joined with a range from l on. Its value is equal, and it ends at the key before l or
+-- above.
 abbrev pub joined_start : ℤ → Option (ℤ × ℤ × Bool) → Option ℤ
 joined_start l None = None
 joined_start l (Some n) = if n.2 && (int_le l n.1 || int_eq l (n.1 +ℤ pos 1)) then Some n.0 else None
@@ -61,14 +61,16 @@ pub record IsPlanOf {V : Type 0} (test : V → Bool) (l h : ℤ) (es : List (Ent
 abbrev pub IsLikeAbove : {V : Type 0} → (V → V → Bool) → ℤ → ℤ → List (Entry V) → Option V → Type 0
 IsLikeAbove eq l z es o = IfSome (last_below l es) (λ e. z <ℤ e.hi → IsSomeAnd o (λ u. eq e.value u ≡ true))
 
--- a value equal to that of the last entry that starts below l, if that entry extends above h with a value that is not
--- equal to the range's
+-- A value equal to that of the last entry that starts below l. It is needed if that entry extends above h with a value
+-- that is not equal to the range's.
 abbrev pub IsUnlikeAbove : {V : Type 0} → (V → V → Bool) → (V → Bool) → ℤ → ℤ → List (Entry V) → Option V → Type 0
 IsUnlikeAbove eq test l h es o = IfSome (last_below l es) (λ e. h <ℤ e.hi → test e.value ≡ false → IsSomeAnd o (λ u. eq e.value u ≡ true))
 
--- The results of a walk for an edit of the keys from l to h: the plan, the number of keys outside the range, and a
--- value equal to that of the entry that extends both below and above the range, if that value is not equal to the
--- range's.
+-- The results of a walk for an edit of the keys from l to h:
+-- - the plan;
+-- - the number of keys outside the range;
+-- - a value equal to that of the entry that extends both below and above the range, if that value is not equal to the
+--   range's.
 pub record IsWalkOf {V : Type 0} (eq : V → V → Bool) (test : V → Bool) (l h : ℤ) (es : List (Entry V)) (s : Seen) (n : ℕ) (o : Option V) : Type 0 where
   pub plan : IsPlanOf test l h es s
   pub outside : pos n ≡ keys_in (before l es) +ℤ keys_in (after h es)
@@ -108,8 +110,8 @@ pub record IsRestKept {V : Type 0} (eq : V → V → Bool) (k z : ℤ) (old new 
   pub below : below (k +ℤ pos 1) new ≡ below (k +ℤ pos 1) old
   pub like : IsSameAbove eq z old (from (z +ℤ pos 1) new)
 
--- the list has the entry p; the entries above its end start above it and are the same as before; the entries that start
--- below p are unchanged
+-- The list has the entry p. The entries above its end start above it and are the same as before. The entries that start
+-- below p are unchanged.
 pub record IsStartPut {V : Type 0} (eq : V → V → Bool) (p : Entry V) (old new : List (Entry V)) : Type 0 where
   pub below : below p.lo new ≡ below p.lo old
   pub here : start_at p.lo new ≡ Some p

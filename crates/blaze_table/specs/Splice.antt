@@ -72,8 +72,7 @@ pub record IsTablePainted {V : Type 0} (eq : V → V → Bool) (low high : ℤ) 
   pub painted : IsListPainted eq p old new
   pub short : length new ≤ length (before p.lo old) + length (after p.hi old) + 1
 
--- the list without the keys from l to h, where values of the part above may be equal to the old ones instead of the
--- same
+-- The list without the keys from l to h. Values of the part above may be equal to the old ones instead of the same.
 pub record IsRangeCutOf {V : Type 0} (eq : V → V → Bool) (l h : ℤ) (es new : List (Entry V)) : Type 0 where
   pub above : List (Entry V)
   pub like : SameEntries eq (after h es) above

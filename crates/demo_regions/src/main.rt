@@ -1,8 +1,8 @@
 //! The memory of a process, read from the lines of /proc/PID/maps: the numbers of regions and bytes, and the gaps
 //! between the regions. `/proc` is part of Linux; no package has this table.
 //!
-//! If the input has two tables separated by an empty line, it prints the removed, the new and the moved regions, the
-//! bytes whose permissions or name changed, and the number of bytes in both tables.
+//! The input may have two tables separated by an empty line. Then it prints the removed, the new and the moved regions,
+//! the bytes whose permissions or name changed, and the number of bytes in both tables.
 #![tactic(auto)]
 
 use demo_lines::{Fault, Table, hexadecimal, length, run};

@@ -38,8 +38,11 @@ impl<T: Integer, VC: ValueCarrier> Model for CheckSortedDisjointMap<T, VC> {
 
 impl<T: Integer, VC: ValueCarrier> CheckSortedDisjointMap<T, VC> {
     /// Returns a stream of the items, in order, if they obey the law of `SortedDisjointMap`. Otherwise it returns the
-    /// position of the first invalid item. An item is invalid if its range is empty, or touches a previous range with
-    /// an equal value, or does not start above the previous end. It allocates nothing. O(n) with n items.
+    /// position of the first invalid item. It allocates nothing. O(n) with n items. An item is invalid in three cases:
+    ///
+    /// - its range is empty;
+    /// - its range does not start above the end of the previous one;
+    /// - its range touches the previous one, and the values are equal.
     pub fn new(items: Vec<(RangeInclusive<T>, VC)>) -> Result<Self, NotSorted>
         ensures ok { IfOk result (λ stream. stream ≡ shown_ranges T.rank VC.shown items.items) }
         ensures accepted { IsOk result ↔ IsOnePerRun VC.Value.eq

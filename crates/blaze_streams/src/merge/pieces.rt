@@ -14,8 +14,8 @@ use blaze_int::{Integer, compare};
 use blaze_table::RangeEntry;
 use std::alloc::AllocError;
 
-/// Takes the part of a stream's first range below the first key of the other stream: its first key, its last key and a
-/// carrier of its value. If the other stream starts at the same key or below, nothing is taken.
+/// Takes the part of a stream's first range below the first key of the other stream. The result has its first key, its
+/// last key and a carrier of its value. If the other stream starts at the same key or below, nothing is taken.
 pub fn take_before<
     T: Integer,
     VC: ValueCarrier,

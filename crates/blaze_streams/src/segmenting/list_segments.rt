@@ -11,7 +11,7 @@ use crate::segmenting::cursors::{PlaceCursor, advance_all, row_at, segment_end, 
 use blaze_int::Integer;
 use std::alloc::{AllocError, Global};
 
-/// A range of keys at which each list has the same range or none, and at least one list has a range.
+/// A range of keys at which each list has the same range or none, and at least one has a range.
 #[derive(Drop)]
 pub struct Segment<T> {
     /// The first key.
@@ -23,7 +23,7 @@ pub struct Segment<T> {
 }
 
 /// Returns the segments of lists, ascending, each with the position of each list's range. A segment is a greatest range
-/// of keys at which each list has the same range or none, and at least one list has a range. Touching ranges of one
+/// of keys at which each list has the same range or none, and at least one has a range. Touching ranges of one
 /// list are two segments, since their positions differ.
 ///
 /// Each list must be disjoint and ascending, and gives each range by its first and its last key. A list may be empty,

@@ -39,9 +39,10 @@ impl<T: Integer, V: Eq + Clone> RangeTable<T, V> {
         Ok(differ(new_len, old_len))
     }
 
-    /// Sets the value of every key from `lo` to `hi`, replacing the old values, with a single lookup for each visited
-    /// entry instead of one walk. It returns whether the number of keys changed. If an allocation or a clone fails, the
-    /// entries and the number of keys are unchanged. O((k + 1) log n) with n entries, of which k touch the range.
+    /// Sets the value of every key from `lo` to `hi`, replacing the old values. It makes a single lookup for each
+    /// visited entry instead of one walk. It returns whether the number of keys changed. If an allocation or a clone
+    /// fails, the entries and the number of keys are unchanged. O((k + 1) log n) with n entries, of which k touch the
+    /// range.
     pub fn paint_by_splice(&mut self, lo: T, hi: T, value: V) -> Result<bool, AllocError>
         requires order { T.rank lo ≤ℤ T.rank hi }
         requires clones { ClonesAreAlike V.is_clone V.eq }

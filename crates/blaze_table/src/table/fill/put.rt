@@ -14,8 +14,8 @@ use blaze_int::compare::length;
 use blaze_int::{Integer, SafeLength};
 use std::alloc::{AllocError, Global};
 
-/// The inserts of a fill: the starts of its entries, and the joints, which are the starts of entries to be joined with
-/// the previous one.
+/// The inserts of a fill: the starts of its entries, and the joints. A joint is the start of an entry that is to be
+/// joined with the previous one.
 #[derive(Drop)]
 pub struct Made<T> {
     pub starts: Vec<T>,
