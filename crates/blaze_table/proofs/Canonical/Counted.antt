@@ -1,4 +1,4 @@
--- How many keys the pieces of a list have.
+-- The numbers of keys of the parts of a list.
 use Rattle.blaze_table.proofs.Words.{◌≡◌, ℕ, ℤ, pos, ◌+◌, ◌≤◌, ◌+ℤ◌, ◌-ℤ◌, ◌≤ℤ◌, Bool, cond, List, [], ◌∷◌, refl, ◌∙◌, sym, ap, subst, arith, IsEquivalence, int_max, int_min, int_le, ints, by_lt_z, by_bool, lt_true, lt_false, le_true, max_right, shared, overlap_none, overlap_over, Entry, SameEntries, entry, IsApart, IsCanonical, AreKeys, keys_in, before, after, glue, IsPaintOf, overlap, covered, IsTable}
 use Rattle.blaze_table.proofs.Canonical.Lookup.{IsAbove, IsAbove-from_apart, above_by}
 use Rattle.blaze_table.proofs.Paints.Splices.{by_before, by_after, by_join, canonical_paint}
@@ -14,14 +14,14 @@ min_left a b h = ap (λ t. cond t b a) (lt_false b a h)
 min_right : (a b : ℤ) → b ≤ℤ a → int_min a b ≡ b
 min_right a b h = by_lt_z b a (λ u. ap (λ t. cond t b a) (lt_true b a u)) (λ u. ap (λ t. cond t b a) (lt_false b a u) ∙ omega (arith, ints))
 
--- the keys shared, by the first and the last of them
+-- the shared keys, by the first and the last of them
 shared_from : (l h a b x y : ℤ) → int_max l a ≡ x → int_min h b ≡ y → x ≤ℤ y → shared l h a b ≡ (y -ℤ x) +ℤ pos 1
 shared_from l h a b x y p q w =
     ap (λ z. cond (int_le z (int_min h b)) ((int_min h b -ℤ z) +ℤ pos 1) (pos 0)) p
     ∙ ap (λ z. cond (int_le x z) ((z -ℤ x) +ℤ pos 1) (pos 0)) q
     ∙ ap (λ t. cond t ((y -ℤ x) +ℤ pos 1) (pos 0)) (le_true x y w)
 
--- no more are shared than there are
+-- a range shares no more keys than it has
 shared_most : (l h a b : ℤ) → a ≤ℤ b → shared l h a b ≤ℤ (b -ℤ a +ℤ pos 1)
 shared_most l h a b w =
     let x = int_max l a in
@@ -33,14 +33,14 @@ shared_most l h a b w =
     between : (x y a b : ℤ) → a ≤ℤ x → y ≤ℤ b → ((y -ℤ x) +ℤ pos 1) ≤ℤ (b -ℤ a +ℤ pos 1)
     between x y a b p q = omega (arith, ints)
 
--- the keys of a list are counted one entry after another: the next sum fits, and stands for what is left
+-- the keys of a list are counted entry by entry: the next sum fits
 pub one_fits : (sum len most : ℕ) (lo hi left rest all : ℤ) → pos sum +ℤ left ≡ all → left ≡ (hi -ℤ lo +ℤ pos 1) +ℤ rest → pos 0 ≤ℤ rest → all ≤ℤ pos most → lo +ℤ pos len ≡ hi +ℤ pos 1 → sum + len ≤ most
 one_fits sum len most lo hi left rest all counted split some fits length = omega (arith, ints)
 
 pub one_more : (sum len next : ℕ) (lo hi left rest all : ℤ) → pos sum +ℤ left ≡ all → left ≡ (hi -ℤ lo +ℤ pos 1) +ℤ rest → lo +ℤ pos len ≡ hi +ℤ pos 1 → next ≡ sum + len → pos next +ℤ rest ≡ all
 one_more sum len next lo hi left rest all counted split length plus = omega (arith, ints)
 
--- some keys, and those of a range: their number, and that it fits
+-- the sum of some keys and the keys of a range, which fits
 pub all_keys : (some len all : ℕ) (kept lo hi : ℤ) → pos some ≡ kept → lo +ℤ pos len ≡ hi +ℤ pos 1 → all ≡ some + len → pos all ≡ kept +ℤ ((hi -ℤ lo) +ℤ pos 1)
 all_keys some len all kept lo hi left length plus = omega (arith, ints)
 
@@ -92,7 +92,7 @@ module _ {V : Type 0} (eq : V → V → Bool) where
   keys_glue (e ∷ []) (f ∷ fs) = by_join eq e f fs (λ q v p. rw p (omega (arith, ints))) (λ n p. rw p (omega (arith, ints)))
   keys_glue (e ∷ f ∷ L) M = omega (arith, ints, keys_glue (f ∷ L) M)
 
-  -- what lies below, what is covered and what lies above are the whole
+  -- the keys below a range, in it and above it are all keys
   pub keys_apart : (l h : ℤ) (es : List (Entry V)) → l ≤ℤ h → IsCanonical eq es → (keys_in (before l es) +ℤ covered l h es) +ℤ keys_in (after h es) ≡ keys_in es
   keys_apart l h [] w c = refl
   keys_apart l h (e ∷ es) w c =
@@ -117,7 +117,7 @@ module _ {V : Type 0} (eq : V → V → Bool) where
       (λ m n q. rw (p, q) (omega (arith, ints, overlap_right l h e v n (omega (arith, ints)), covered_none l h es c.2 (above_by e.hi h es (omega (arith, ints)) a))))
       (λ m n q. rw (p, q) (omega (arith, ints, overlap_over l h e n, covered_none l h es c.2 (above_by e.hi h es (omega (arith, ints)) a)))))
 
-  -- the keys from a on are no fewer than those of a list among them
+  -- a list has no more keys from a on than the type has
   pub keys_bound : (a high : ℤ) (es : List (Entry V)) → a ≤ℤ (high +ℤ pos 1) → IsCanonical eq es → IsAbove (a -ℤ pos 1) es → (low : ℤ) → AreKeys low high es → keys_in es ≤ℤ ((high -ℤ a) +ℤ pos 1)
   keys_bound a high [] w c f low k = omega (arith, ints)
   keys_bound a high (e ∷ es) w c f low k =
@@ -154,7 +154,7 @@ module _ {V : Type 0} (eq : V → V → Bool) where
   are_keys_as low high (e ∷ es) (f ∷ fs) s a = (omega (arith, ints, s.0, a.0), omega (arith, ints, s.1, a.1), are_keys_as low high es fs s.3 a.2)
 
   module _ (laws : IsEquivalence eq) where
-    -- a painted list has no more keys than there are
+    -- a painted list has no more keys than the type has
     with_value : (low high l h : ℤ) (v : V) (es : List (Entry V)) → l ≤ℤ h → low ≤ℤ l → h ≤ℤ high → IsCanonical eq es → AreKeys low high es
         → ((keys_in (before l es) +ℤ keys_in (after h es)) +ℤ ((h -ℤ l) +ℤ pos 1)) ≤ℤ ((high -ℤ low) +ℤ pos 1)
     with_value low high l h v es w f t c a =
@@ -170,7 +170,7 @@ module _ {V : Type 0} (eq : V → V → Bool) where
     keys_painted low high l h [] w f t c a = omega (arith, ints)
     keys_painted low high l h (e ∷ es) w f t c a = with_value low high l h e.value (e ∷ es) w f t c a
 
-    -- a list painted by the code is a table's, with its count
+    -- a list that the code painted is the list of a table, with its number of keys
     pub painted_table : (low high : ℤ) (n : ℕ) (p : Entry V) (es new : List (Entry V)) → low ≤ℤ p.lo → p.hi ≤ℤ high → AreKeys low high es
         → pos n ≡ (keys_in (before p.lo es) +ℤ keys_in (after p.hi es)) +ℤ ((p.hi -ℤ p.lo) +ℤ pos 1)
         → IsPaintOf eq p es new → IsCanonical eq new → IsTable eq low high n new

@@ -5,7 +5,7 @@ use Rattle.blaze_table.proofs.Canonical.Unique.{back}
 use Rattle.blaze_table.proofs.Canonical.Runs.{ends_are, end_along}
 
 module _ {V : Type 0} (eq : V → V → Bool) (laws : IsEquivalence eq) where
-  -- how many ranges end above b
+  -- the number of ranges that end above b
   count_above : ℤ → List (Entry V) → ℕ
   count_above b [] = 0
   count_above b (e ∷ es) = cond (int_lt b e.hi) 1 0 + count_above b es
@@ -33,7 +33,7 @@ module _ {V : Type 0} (eq : V → V → Bool) (laws : IsEquivalence eq) where
       let j = count_drop b e.hi ds (s e.hi (inl refl)) (omega (arith, ints, c.0)) in
       omega arith
 
-  -- where a run ends, an entry of a disjoint list ends
+  -- at each run end, an entry of a disjoint list ends
   end_in : (ds : List (Entry V)) (k : ℤ) → IsDisjoint ds → IsRunEnd eq (at ds) k → HasEnd ds k
   end_in [] k d r = absurd (none_is_not {X = V} None refl r.0)
   end_in (e ∷ es) k d r = by_place e k

@@ -1,4 +1,4 @@
--- Some entries of a canonical list are canonical, and as many as there are are all.
+-- Part of a canonical list is canonical, and a part with as many entries is the whole list.
 use Rattle.blaze_table.proofs.Words.{◌≡◌, ◌≤◌, ℤ, ◌<ℤ◌, Bool, true, false, List, [], ◌∷◌, length, refl, ◌∙◌, sym, ap, subst, arith, items_where_true, IsFiltered, ints, Entry, IsApart, IsCanonical, AreKeys}
 
 module _ {V : Type 0} (eq : V → V → Bool) where

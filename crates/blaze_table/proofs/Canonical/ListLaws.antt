@@ -1,4 +1,4 @@
--- The laws in the words of the content.
+-- The laws, stated about the content.
 use Rattle.blaze_table.proofs.Words.{nat_of, ◌≡◌, ℤ, pos, negsuc, ◌+ℤ◌, ◌-ℤ◌, ◌≤ℤ◌, Bool, List, [], ◌∷◌, refl, sym, arith, ints, IsEquivalence, Entry, at, IsCanonical, AreKeys, keys_in, mapped_keys, CanonicalIsUnique, CanonicalIsFewest, LengthsAreMapped, IsBelow}
 use Rattle.blaze_table.proofs.Canonical.Lookup.{above_low}
 use Rattle.blaze_table.proofs.Canonical.Unique.{unique}

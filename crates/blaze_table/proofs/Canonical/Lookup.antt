@@ -1,7 +1,7 @@
--- What a list of entries has at a key.
+-- The value of a list of entries at a key.
 use Rattle.blaze_table.proofs.Words.{◌≡◌, ℤ, pos, ◌-ℤ◌, ◌≤ℤ◌, ◌<ℤ◌, Bool, true, false, List, [], ◌∷◌, ◌++◌, Some, None, refl, ◌∙◌, arith, cond, option_map, option_or, ints, by_lt_z, Entry, holds, at, entry_at, IsApart, IsCanonical, IsClear, AreKeys}
 
--- the first range begins above b
+-- the first range starts above b
 abbrev pub IsAbove : {V : Type 0} → ℤ → List (Entry V) → Type 0
 IsAbove b [] = Unit {0}
 IsAbove b (e ∷ es) = b <ℤ e.lo
@@ -14,7 +14,7 @@ pub above_by : {V : Type 0} (b c : ℤ) (es : List (Entry V)) → c ≤ℤ b →
 above_by b c [] l a = tt
 above_by b c (e ∷ es) l a = omega (arith, ints, l, a)
 
--- the rest of a canonical list
+-- a canonical list without its first entry
 pub above_rest : {V : Type 0} (eq : V → V → Bool) (b : ℤ) (e : Entry V) (es : List (Entry V)) → b ≤ℤ e.hi → IsCanonical eq (e ∷ es) → IsAbove b es
 above_rest eq b e es l c = above_by e.hi b es l (IsAbove-from_apart eq e es c.1)
 
@@ -32,7 +32,7 @@ at_under e es k l = grind (arith, ints)
 pub at_over : {V : Type 0} (e : Entry V) (es : List (Entry V)) (k : ℤ) → e.hi <ℤ k → at (e ∷ es) k ≡ at es k
 at_over e es k l = grind (arith, ints)
 
--- of two lists, that of the first that has a value
+-- the value of two lists is that of the first list that has one
 pub at_append : {V : Type 0} (xs ys : List (Entry V)) (k : ℤ) → at (xs ++ ys) k ≡ option_or (at xs k) (at ys k)
 at_append [] ys k = refl
 at_append {V} (x ∷ xs) ys k = either (holds x k) (at_append xs ys k)
@@ -41,7 +41,7 @@ at_append {V} (x ∷ xs) ys k = either (holds x k) (at_append xs ys k)
     either true p = refl
     either false p = p
 
--- the same of entries
+-- the entry of two lists is that of the first list that has one
 pub entry_in : {V : Type 0} (e : Entry V) (es : List (Entry V)) (k : ℤ) → e.lo ≤ℤ k → k ≤ℤ e.hi → entry_at (e ∷ es) k ≡ Some e
 entry_in e es k l h = grind (arith, ints)
 
@@ -51,7 +51,7 @@ entry_under e es k l = grind (arith, ints)
 pub entry_over : {V : Type 0} (e : Entry V) (es : List (Entry V)) (k : ℤ) → e.hi <ℤ k → entry_at (e ∷ es) k ≡ entry_at es k
 entry_over e es k l = grind (arith, ints)
 
--- the value at a key is that of the entry there
+-- the value at a key is that of the entry at the key
 pub value-entry_at : {V : Type 0} (es : List (Entry V)) (k : ℤ) → option_map (λ (e : Entry V). e.value) (entry_at es k) ≡ at es k
 value-entry_at {V} [] k = refl
 value-entry_at {V} (e ∷ es) k = either (holds e k) (value-entry_at es k)
@@ -60,7 +60,7 @@ value-entry_at {V} (e ∷ es) k = either (holds e k) (value-entry_at es k)
     either true p = refl
     either false p = p
 
--- no other range has a key of the first
+-- no other range has a key of the first range
 pub at_clear : {V : Type 0} (e : Entry V) (es : List (Entry V)) (k : ℤ) → IsClear e es → holds e k ≡ true → at es k ≡ None
 at_clear e [] k c h = refl
 at_clear e (f ∷ fs) k c h = skips (holds f k) (c.0 k h) (at_clear e fs k c.1 h)
@@ -81,12 +81,12 @@ holds_under e k l = grind (arith, ints)
 pub holds_over : {V : Type 0} (e : Entry V) (k : ℤ) → e.hi <ℤ k → holds e k ≡ false
 holds_over e k l = grind (arith, ints)
 
--- where a key stands to a range
+-- by cases: a key is in a range, below it or above it
 pub by_place : {V P : Type 0} (e : Entry V) (k : ℤ) → (e.lo ≤ℤ k → k ≤ℤ e.hi → P) → (k <ℤ e.lo → P) → (e.hi <ℤ k → P) → P
 by_place e k inside under over = by_lt_z k e.lo under (λ l. by_lt_z e.hi k over (λ h. inside l h))
 
 module _ {V : Type 0} (eq : V → V → Bool) where
-  -- nothing before the first range
+  -- no value before the first range
   pub at_before : (es : List (Entry V)) (b k : ℤ) → IsCanonical eq es → IsAbove b es → k ≤ℤ b → at es k ≡ None
   at_before [] b k c a h = refl
   at_before (e ∷ es) b k c a h = at_under e es k (omega (arith, ints)) ∙ at_before es e.hi k c.2 (IsAbove-from_apart eq e es c.1) (omega (arith, ints))

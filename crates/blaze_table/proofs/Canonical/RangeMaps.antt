@@ -1,4 +1,4 @@
--- From what a table keeps to what its public clauses say.
+-- The invariant of a table implies its public clauses.
 use Rattle.blaze_table.proofs.Words.{◌≡◌, ℕ, ℤ, pos, ◌+ℤ◌, ◌-ℤ◌, ◌≤ℤ◌, Bool, List, [], ◌∷◌, Option, arith, ints, IsEquivalence, StartsAscend, Entry, IsCanonical, AreKeys, IsRangeMap, IsInside, IsPainted, IsCut, IsSplit, IsTablePainted, IsKeyCut, IsListSplit, IsTable}
 use Rattle.blaze_table.proofs.Canonical.Lookup.{IsAbove, IsAbove-from_apart, above_by}
 use Rattle.blaze_table.proofs.Canonical.Runs.{one_per_run}

@@ -1,21 +1,21 @@
--- The entries of a canonical list are the runs of what it has at each key.
+-- The entries of a canonical list are the runs of its content.
 use Rattle.blaze_table.proofs.Words.{none_is_not, ◌≡◌, ℤ, pos, ◌+ℤ◌, ◌-ℤ◌, ◌≤ℤ◌, ◌<ℤ◌, Bool, true, false, List, [], ◌∷◌, Option, Some, None, refl, ◌∙◌, sym, subst, ap, arith, inl, inr, ◌⊎◌, ◌↔◌, IsSome, ints, by_lt_z, IsEquivalence, same_along, Entry, holds, at, SameOption, IsApart, IsCanonical, IsRunStart, IsRunEnd, HasStart, HasEnd, IsClear, IsDisjoint, IsAscending, IsOnePerRun}
 use Rattle.blaze_table.proofs.Canonical.Lookup.{IsAbove, IsAbove-from_apart, at_in, at_over, by_place, at_before, holds_in, holds_under, holds_over}
 use Rattle.blaze_table.proofs.Canonical.Unique.{breaks}
 
--- of two ranges that follow one another the first ends below the second
+-- the first of two successive ranges ends below the second
 pub in_order : {V : Type 0} (e f : Entry V) (fs : List (Entry V)) → IsDisjoint (e ∷ f ∷ fs) → IsAscending (e ∷ f ∷ fs) → e.hi <ℤ f.lo
 in_order e f fs d a = by_lt_z e.hi f.lo (λ l. l) (λ l. absurd (d.1.0 f.lo (holds_in e f.lo (omega (arith, ints, a.0)) l) (holds_in f f.lo (omega (arith, ints)) d.2.0)))
 
 module _ {V : Type 0} (eq : V → V → Bool) (laws : IsEquivalence eq) where
-  -- the same two options, at another place
+  -- run starts of two contents that have the same values at the key and before it
   pub start_along : (c d : ℤ → Option V) (k : ℤ) → c k ≡ d k → c (k -ℤ pos 1) ≡ d (k -ℤ pos 1) → IsRunStart eq c k → IsRunStart eq d k
   start_along c d k p q s = (subst (λ o. IsSome o) p s.0, λ h. s.1 (same_along eq (sym q) (sym p) h))
 
   pub end_along : (c d : ℤ → Option V) (k : ℤ) → c k ≡ d k → c (k +ℤ pos 1) ≡ d (k +ℤ pos 1) → IsRunEnd eq c k → IsRunEnd eq d k
   end_along c d k p q s = (subst (λ o. IsSome o) p s.0, λ h. s.1 (same_along eq (sym p) (sym q) h))
 
-  -- a value is not at or below the key above which the list begins
+  -- a key with a value is above the bound of the list
   some_above : (es : List (Entry V)) (b k : ℤ) → IsCanonical eq es → IsAbove b es → IsSome (at es k) → b <ℤ k
   some_above es b k c a h = by_lt_z b k (λ l. l) (λ l. absurd (none_is_not (at es k) (at_before eq es b k c a l) h))
 
@@ -111,7 +111,7 @@ module _ {V : Type 0} (eq : V → V → Bool) (laws : IsEquivalence eq) where
   ascending (e ∷ []) c = tt
   ascending (e ∷ f ∷ fs) c = (omega (arith, ints, c.0, c.1.0), ascending (f ∷ fs) c.2)
 
-  -- what is canonical by its neighbors is so by its runs
+  -- a list that is canonical by its neighbours is canonical by its runs
   pub one_per_run : (es : List (Entry V)) → IsCanonical eq es → IsOnePerRun eq es
   one_per_run es c = record { disjoint = disjoint es c; ascending = ascending es c; starts = starts_are es c; ends = ends_are es c }
 
@@ -148,6 +148,6 @@ module _ {V : Type 0} (eq : V → V → Bool) (laws : IsEquivalence eq) where
         n k (inr h) (same_along eq (sym (at_over e es k b)) (sym (at_over e es (k +ℤ pos 1) (omega (arith, ints)))) q)),
   )
 
-  -- and back
+  -- a list that is canonical by its runs is canonical by its neighbours
   pub canonical : (es : List (Entry V)) → IsOnePerRun eq es → IsCanonical eq es
   canonical es r = structural es r.disjoint r.ascending (λ k h. ((r.ends k).0 h).1)

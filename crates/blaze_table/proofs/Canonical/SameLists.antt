@@ -1,10 +1,10 @@
--- When two lists of entries are equal.
+-- Equality of lists of entries.
 use Rattle.blaze_table.proofs.Words.{◌≡◌, ℤ, Bool, true, ◌&&◌, List, [], ◌∷◌, refl, ◌∙◌, sym, Decides, IsEquivalence, signed_Decides, first_so, second_so, int_eq, Entry, SameContent, SameEntries, IsRangeMap, same_entry, same_entries}
 use Rattle.blaze_table.proofs.Canonical.ListLaws.{canonical_is_unique}
 use Rattle.blaze_table.proofs.Paints.Painted.{content_as}
 
 module _ {V : Type 0} (eq : V → V → Bool) where
-  -- the test of two lists, said of each position
+  -- the test of two lists, position by position
   pub same_from_test : (L M : List (Entry V)) → same_entries eq L M ≡ true → SameEntries eq L M
   same_from_test [] [] h = tt
   same_from_test [] (f ∷ fs) h = absurd cc
@@ -24,7 +24,7 @@ module _ {V : Type 0} (eq : V → V → Bool) where
   test_from_same (e ∷ es) [] s = absurd s
   test_from_same (e ∷ es) (f ∷ fs) s = rw ((signed_Decides e.lo f.lo).1 s.0, (signed_Decides e.hi f.hi).1 s.1, s.2) (test_from_same es fs s.3)
 
-  -- range maps are equal exactly where they have the same content
+  -- range maps are equal exactly if they have the same content
   pub content_decides : IsEquivalence eq → (low high : ℤ) (L M : List (Entry V)) (r : Bool) → r ≡ same_entries eq L M → IsRangeMap eq low high L → IsRangeMap eq low high M → Decides r (SameContent eq L M)
   content_decides laws low high L M r is l m = (
     λ h. content_as eq laws L M (same_from_test L M (sym is ∙ h)),

@@ -1,4 +1,4 @@
--- A canonical list is the only shortest.
+-- A canonical list is the only shortest list with its content.
 use Rattle.blaze_table.proofs.Words.{◌≡◌, ◌+◌, ◌≤◌, ℤ, pos, ◌+ℤ◌, ◌<ℤ◌, Bool, true, false, cond, List, [], ◌∷◌, length, Option, Some, None, refl, ◌∙◌, sym, ⊎_elim, inl, inr, arith, ◌⊎◌, ints, by_lt_z, IsEquivalence, same_along, same_itself, same_trans, none_of_same, Entry, entry, holds, at, SameOption, SameContent, IsCanonical, IsClear, IsDisjoint, IsAscending, CanonicalIsShortest}
 use Rattle.blaze_table.proofs.Canonical.Fewest.{fewest}
 use Rattle.blaze_table.proofs.Canonical.Lookup.{at_in, at_under, at_over, by_place, holds_in, at_clear}
@@ -6,7 +6,8 @@ use Rattle.blaze_table.proofs.Canonical.Runs.{canonical, in_order}
 use Rattle.blaze_table.proofs.Canonical.Unique.{unique}
 
 module _ {V : Type 0} where
-  -- where a list has nothing, its first entry has no key, and its rest has nothing
+  -- if a list has no value at a key, its first entry does not contain the key, and the other entries have no value at
+  -- it
   none_first : (f : Entry V) (fs : List (Entry V)) (k : ℤ) → at (f ∷ fs) k ≡ None → holds f k ≡ false
   none_first f fs k p = by_test (holds f k) p
     where
@@ -21,7 +22,7 @@ module _ {V : Type 0} where
       by_test true q = absurd cc
       by_test false q = q
 
-  -- an entry is clear of a list that has nothing on its keys
+  -- an entry is disjoint from a list that has no value at its keys
   clear_of : (e : Entry V) (fs : List (Entry V)) → ((k : ℤ) → holds e k ≡ true → at fs k ≡ None) → IsClear e fs
   clear_of e [] n = tt
   clear_of e (f ∷ fs) n = (
@@ -30,14 +31,14 @@ module _ {V : Type 0} where
   )
 
 module _ {V : Type 0} (eq : V → V → Bool) (laws : IsEquivalence eq) where
-  -- a disjoint list with the same content and one entry less
+  -- a disjoint list with the same content and one entry fewer
   record IsShorter (entries : List (Entry V)) : Type 0 where
     others : List (Entry V)
     disjoint : IsDisjoint others
     content : SameContent eq entries others
     fewer : length others + 1 ≡ length entries
 
-  -- two entries that touch with equal values make one
+  -- two entries that touch with equal values can be joined
   joined : (e f : Entry V) (fs : List (Entry V)) → IsDisjoint (e ∷ f ∷ fs) → f.lo ≡ e.hi +ℤ pos 1 → eq e.value f.value ≡ true → IsShorter (e ∷ f ∷ fs)
   joined e f fs d touch alike = record {
     others = entry e.lo f.hi e.value ∷ fs;
@@ -46,7 +47,7 @@ module _ {V : Type 0} (eq : V → V → Bool) (laws : IsEquivalence eq) where
     fewer = omega arith;
   }
     where
-      -- a key of the one entry is a key of one of the two
+      -- a key of the joined entry is a key of one of the two
       in_either : (k : ℤ) → holds (entry e.lo f.hi e.value) k ≡ true → (holds e k ≡ true) ⊎ (holds f k ≡ true)
       in_either k h = by_place (entry e.lo f.hi e.value) k
           (λ l u. by_lt_z e.hi k

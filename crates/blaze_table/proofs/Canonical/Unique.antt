@@ -1,9 +1,9 @@
--- Two canonical lists with the same content are the same list.
+-- Two canonical lists with the same content have the same ranges and equal values.
 use Rattle.blaze_table.proofs.Words.{◌≡◌, pos, ◌+ℤ◌, ◌-ℤ◌, ◌≤ℤ◌, Bool, true, List, [], ◌∷◌, Some, None, refl, sym, arith, ints, by_lt_z, IsEquivalence, same_along, same_back, Entry, at, SameOption, SameContent, SameEntries, IsCanonical}
 use Rattle.blaze_table.proofs.Canonical.Lookup.{IsAbove-from_apart, at_in, at_over, at_before}
 
 module _ {V : Type 0} (eq : V → V → Bool) where
-  -- what begins first in one list begins no later in the other
+  -- the first entry of one list starts no later than that of the other
   starts : (e f : Entry V) (es fs : List (Entry V)) → IsCanonical eq (e ∷ es) → IsCanonical eq (f ∷ fs) → SameContent eq (e ∷ es) (f ∷ fs) → f.lo ≤ℤ e.lo
   starts e f es fs c d s = by_lt_z e.lo f.lo
       (λ l. absurd (same_along eq (at_in e es e.lo (omega (arith, ints)) c.0) (at_before eq (f ∷ fs) (f.lo -ℤ pos 1) e.lo d (omega (arith, ints)) (omega (arith, ints))) (s e.lo)))
@@ -13,11 +13,11 @@ module _ {V : Type 0} (eq : V → V → Bool) where
     pub back : (L M : List (Entry V)) → SameContent eq L M → SameContent eq M L
     back L M s k = same_back eq laws (at L k) (at M k) (s k)
 
-    -- the values where both begin
+    -- the values of the first entries are equal
     values : (e f : Entry V) (es fs : List (Entry V)) → IsCanonical eq (e ∷ es) → IsCanonical eq (f ∷ fs) → e.lo ≡ f.lo → SameContent eq (e ∷ es) (f ∷ fs) → eq e.value f.value ≡ true
     values e f es fs c d p s = same_along eq (at_in e es e.lo (omega (arith, ints)) c.0) (at_in f fs e.lo (omega (arith, ints)) (omega (arith, ints, d.0))) (s e.lo)
 
-    -- right above a range there is no value like its own
+    -- right above a range, the content has no value equal to the range's
     pub breaks : (e : Entry V) (es : List (Entry V)) (w : V) → IsCanonical eq (e ∷ es) → eq e.value w ≡ true → SameOption eq (at es (e.hi +ℤ pos 1)) (Some w) → ⊥
     breaks e [] w c v s = s
     breaks e (f ∷ fs) w c v s = by_lt_z (e.hi +ℤ pos 1) f.lo

@@ -1,4 +1,4 @@
--- The last key taken out of the last entry, as a look at that entry has answered it.
+-- The last key is removed from the last entry, given the result of the lookup.
 use Rattle.blaze_table.proofs.Words.{◌≡◌, ◌-◌, length, ℤ, pos, ◌+ℤ◌, ◌≤ℤ◌, Bool, List, [], ◌∷◌, ◌++◌, Option, Some, None, refl, ◌∙◌, sym, subst, ap, arith, length-append, IsEquivalence, slice_get, option_map, IsSomeAnd, ints, append-nil, IsRangeCloned, IsManyCloned, range_in, StartsAscend, holder_of, start_at, without, with_end, with_last_end, IsLastRemoved, RangeEntry, by_order, StartsBelow, IsCanonical, Entry, ClonesAreAlike, IsCutOf, IsKeyTaken}
 use Rattle.blaze_table.proofs.Cuts.CutEdits.{HasKey, has_key, end_taken, value_removed, whole_cut}
 use Rattle.blaze_table.proofs.Cuts.Ends.{last_holder, end_held}
@@ -7,7 +7,7 @@ use Rattle.blaze_table.proofs.Neighbours.Growing.{found_there}
 use Rattle.blaze_table.proofs.Neighbours.Holders.{without-between}
 
 module _ {V : Type 0} where
-  -- the last entry with another end, where it starts at a
+  -- the last entry, which starts at a, gets another end
   end_of_last : (a y b high : ℤ) (x : Entry V) (xs : List (Entry V)) → StartsAscend b high (x ∷ xs) → IsSomeAnd (slice_get (x ∷ xs) (length xs)) (λ e. a ≡ e.lo) → (b ≤ℤ a) × (with_last_end y (x ∷ xs) ≡ with_end a y (x ∷ xs))
   end_of_last a y b high x [] s p = (omega (arith, ints, s.0, p), by_order a x.lo (λ o q r. absurd (omega (arith, ints, p))) (λ o q r. rw r refl) (λ o q r. absurd (omega (arith, ints, p))))
   end_of_last a y b high x (z ∷ zs) s p =
@@ -23,7 +23,7 @@ module _ {V : Type 0} where
       let place : length (x ∷ xs) - 1 ≡ length xs = omega arith in
       (end_of_last a y low high x xs s (subst (λ n. IsSomeAnd (slice_get (x ∷ xs) n) (λ e. a ≡ e.lo)) place p)).1
 
-  -- what stands before the last entry
+  -- the entries before the last one
   starts_under : (b high : ℤ) (xs : List (Entry V)) (e : Entry V) → StartsAscend b high (xs ++ e ∷ []) → (b ≤ℤ e.lo) × StartsBelow e.lo xs
   starts_under b high [] e s = (s.0, tt)
   starts_under b high (x ∷ xs) e s =
@@ -45,7 +45,7 @@ module _ {V : Type 0} where
   some_weaker (Some e) f i = f e i
 
 module _ {T V : Type 0} (rank : T → ℤ) (is_clone : V → V → Type 0) (r : RangeEntry T (Option V)) (es : List (Entry V)) (i : IsRangeCloned rank is_clone (slice_get es (length es - 1)) (Some r)) where
-  -- its last key is that of the look
+  -- the last key is the end in the lookup's result
   pub last_key : option_map (λ e. e.hi) (slice_get es (length es - 1)) ≡ Some (rank r.end)
   last_key = by_last (slice_get es (length es - 1)) i
     where
@@ -60,7 +60,7 @@ module _ {T V : Type 0} (rank : T → ℤ) (is_clone : V → V → Type 0) (r : 
     pub last_has : HasKey eq laws (rank r.end) low high es s c (λ x. ((rank r.start, rank r.end) ≡ range_in x) × IsManyCloned is_clone x r.value)
     last_has = has_key eq laws (rank r.end) low high es s c _ held
 
-    -- the entry has more: its end moves down
+    -- the entry has more keys: its end moves down
     pub end_moved : ClonesAreAlike is_clone eq → (v : V) → r.value ≡ Some v → (y : ℤ) → y +ℤ pos 1 ≡ rank r.end → (new : List (Entry V)) → new ≡ with_last_end y es → IsKeyTaken eq (rank r.end) (Some v) es new
     end_moved alike v q y t new n =
         let here = some_weaker (slice_get es (length es - 1)) (λ e j. ap (λ (t : ℤ × ℤ). t.0) j.0) i in
@@ -68,7 +68,7 @@ module _ {T V : Type 0} (rank : T → ℤ) (is_clone : V → V → Type 0) (r : 
         (subst (λ o. IsSomeAnd (holder_of (rank r.end) es) (λ e. ((rank r.start, rank r.end) ≡ range_in e) × IsManyCloned is_clone e o)) q held)
         (omega (arith, ints)) y t new (n ∙ last_with_end (rank r.start) y low high es s here)
 
-    -- the entry has one key: it goes
+    -- the entry has one key: it is removed
     pub last_out : r.value ≡ None → (w : V) (new : List (Entry V)) → IsLastRemoved w es new → IsKeyTaken eq (rank r.end) (Some w) es new
     last_out q w new removed =
         let h = last_has in

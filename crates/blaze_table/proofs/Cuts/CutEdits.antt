@@ -1,4 +1,4 @@
--- A key taken out of the entry that has it: the edits, what they have to know of that entry, and what the cut answers.
+-- A key is removed from the entry that contains it: the edits, what they require of the entry, and their result.
 use Rattle.blaze_table.proofs.Words.{◌≡◌, ℕ, Bool, ℤ, pos, ◌+ℤ◌, ◌-ℤ◌, ◌≤ℤ◌, ◌<ℤ◌, true, cond, List, [], ◌∷◌, ◌++◌, Option, Some, None, Result, Ok, Err, OnErr, refl, ◌∙◌, sym, subst, ap, arith, IsEquivalence, option_map, IsSome, IsSomeAnd, ints, by_lt_z, append_assoc, lt_true, lt_false, IsManyCloned, range_in, StartsAscend, last_below, reaching, holder_of, start_at, with_entry, without, with_end, IsStartMoved, one_value, same_along, more_below, IsCanonical, IsAmongOthers, Entry, entry, at, entry_at, SameEntries, SameOption, ClonesAreAlike, before, after, IsBelow, IsCutOf, IsKeyTaken, IsKeyCut, covered, IsTable}
 use Rattle.blaze_table.proofs.Canonical.Counted.{overlap_whole}
 use Rattle.blaze_table.proofs.Canonical.Lookup.{IsAbove, at_over, at_before, entry_in, entry_over}
@@ -11,7 +11,7 @@ use Rattle.blaze_table.proofs.Paints.Painted.{before_past, after_past, entries_t
 use Rattle.blaze_table.proofs.Paints.Splices.{before_cuts, before_ends, after_cuts, below_more}
 
 module _ {V : Type 0} where
-  -- what a key has behind entries that end below it
+  -- the value at a key, after entries that end below it
   at_past : (k : ℤ) (xs ys : List (Entry V)) → IsBelow k xs → at (xs ++ ys) k ≡ at ys k
   at_past k [] ys b = refl
   at_past k (x ∷ xs) ys b = at_over x (xs ++ ys) k b.0 ∙ at_past k xs ys b.1
@@ -24,14 +24,14 @@ module _ {V : Type 0} where
   above_from k j high [] l a = tt
   above_from k j high (e ∷ es) l a = omega (arith, ints, a.0)
 
--- the last entry that starts below b has the keys up to its end
+-- the last entry that starts below b contains the keys up to its end
 pub entry_held : {V : Type 0} (eq : V → V → Bool) (b high : ℤ) (e : Entry V) (es : List (Entry V)) → LastAt b high e es → IsCanonical eq es → (j : ℤ) → e.lo ≤ℤ j → j ≤ℤ e.hi → entry_at es j ≡ Some e
 entry_held eq b high e es i c j l u =
     ap (λ xs. entry_at xs j) i.parts
     ∙ entry_past j i.front (e ∷ i.back) (below_more e.lo j i.front l (ends_below eq i.front e i.back (subst (IsCanonical eq) i.parts c))) ∙ entry_in e i.back j l u
 
 module _ {V : Type 0} (eq : V → V → Bool) (laws : IsEquivalence eq) (k low high : ℤ) (es : List (Entry V)) (s : StartsAscend low high es) (c : IsCanonical eq es) where
-  -- the entry that has the key, and what is said of it
+  -- the entry that contains the key, and a fact about it
   pub record HasKey (P : Entry V → Type 0) : Type 0 where
     pub of : Entry V
     pub last : LastAt (k +ℤ pos 1) high of es
@@ -63,7 +63,7 @@ module _ {V : Type 0} (eq : V → V → Bool) (laws : IsEquivalence eq) (k low h
     ended : e.hi <ℤ k → at es k ≡ None
     ended u = ap (λ l. at l k) i.parts ∙ at_past k i.front (e ∷ i.back) under ∙ at_over e i.back k u ∙ at_before eq i.back k k canonical.2 over (omega (arith, ints))
 
-    -- the entry gives way to what it has below the key, and to a list like what lies above it
+    -- the entry is replaced by its part below the key, and the part above it
     cut_apart : (xs above new : List (Entry V)) → before k (e ∷ i.back) ≡ xs → SameEntries eq (after k (e ∷ i.back)) above → new ≡ i.front ++ (xs ++ above) → IsCutOf eq k es new
     cut_apart xs above new p like q = record {
       above = above;
@@ -71,11 +71,11 @@ module _ {V : Type 0} (eq : V → V → Bool) (laws : IsEquivalence eq) (k low h
       joined = q ∙ sym (append_assoc i.front xs above) ∙ ap (λ l. l ++ above) (sym (ap (before k) i.parts ∙ before_past k i.front (e ∷ i.back) under ∙ ap (λ l. i.front ++ l) p));
     }
 
-    -- it ends at the key: what lies above is what stands behind it
+    -- the entry ends at the key: the part above is the entries after it
     back_like : e.hi ≤ℤ k → k ≤ℤ e.hi → SameEntries eq (after k (e ∷ i.back)) i.back
     back_like h l = subst (λ xs. SameEntries eq xs i.back) (sym (after_whole eq k e i.back canonical h l)) (entries_themselves eq laws i.back)
 
-    -- the edits at its start a, where it ends at z
+    -- the edits of the entry, which starts at a and ends at z
     module _ (a z : ℤ) (ends : (a, z) ≡ range_in e) where
       at_lo : a ≡ e.lo
       at_lo = ap (λ (t : ℤ × ℤ). t.0) ends
@@ -94,7 +94,7 @@ module _ {V : Type 0} (eq : V → V → Bool) (laws : IsEquivalence eq) (k low h
       present : IsSome (start_at a es)
       present = subst (λ o. IsSome o) (sym there) refl
 
-      -- it ends at the key: its end moves down
+      -- the entry ends at the key: its end moves down
       end_cut : a <ℤ z → z ≤ℤ k → k ≤ℤ z → (y : ℤ) → y +ℤ pos 1 ≡ k → (new : List (Entry V)) → new ≡ with_end a y es → IsCutOf eq k es new
       end_cut long under up y t new q =
           let lo = at_lo in
@@ -103,7 +103,7 @@ module _ {V : Type 0} (eq : V → V → Bool) (laws : IsEquivalence eq) (k low h
           (back_like (omega (arith, ints)) (omega (arith, ints)))
           (q ∙ ap (with_end a y) i.parts ∙ shortened y t i.back)
 
-      -- it goes on above the key
+      -- the entry extends above the key
       module _ (over : k <ℤ z) where
         back_over : StartsAscend (e.hi +ℤ pos 1) high i.back
         back_over = starts_over eq (k +ℤ pos 1) high e i.back canonical.1 i.back_from
@@ -117,7 +117,7 @@ module _ {V : Type 0} (eq : V → V → Bool) (laws : IsEquivalence eq) (k low h
               let hi = at_hi in
               subst (λ l. SameEntries eq l (p ∷ i.back)) (sym (after_cuts k e i.back (omega (arith, ints)) starts)) (sym next, omega (arith, ints), like, entries_themselves eq laws i.back)
 
-          -- and starts at it: its start moves up
+          -- the entry starts at the key: its start moves up
           front_cut : k ≤ℤ a → (new : List (Entry V)) → new ≡ with_entry p (without a es) → IsCutOf eq k es new
           front_cut l new q =
               let lo = at_lo in
@@ -127,7 +127,7 @@ module _ {V : Type 0} (eq : V → V → Bool) (laws : IsEquivalence eq) (k low h
               (q ∙ ap (λ x. with_entry p (without a x)) i.parts ∙ ap (with_entry p) (without-between a e i.front i.back (sym lo) (more_below e.lo a i.front (omega (arith, ints)) i.front_below))
               ∙ with_entry-between p (e.hi +ℤ pos 1) high i.front i.back (more_below e.lo p.lo i.front (omega (arith, ints)) i.front_below) (omega (arith, ints)) back_over)
 
-          -- or starts below it: an entry is put in, and its end moves down
+          -- the entry starts below the key: a new entry is inserted, and its end moves down
           inside_cut : a <ℤ k → (y : ℤ) → y +ℤ pos 1 ≡ k → (mid new : List (Entry V)) → mid ≡ with_entry p es → new ≡ with_end a y mid → IsCutOf eq k es new
           inside_cut l y t mid new m q =
               let lo = at_lo in
@@ -138,7 +138,7 @@ module _ {V : Type 0} (eq : V → V → Bool) (laws : IsEquivalence eq) (k low h
               cut_apart (entry e.lo (k -ℤ pos 1) e.value ∷ []) (p ∷ i.back) new (before_cuts k e i.back (omega (arith, ints)) (omega (arith, ints))) like_above
               (q ∙ ap (with_end a y) (m ∙ put) ∙ shortened y t (p ∷ i.back))
 
-        -- the next key has no start of its own
+        -- no entry starts at the next key
         none_at_next : (n : ℤ) → n ≡ k +ℤ pos 1 → start_at n es ≡ None
         none_at_next n next = ap (λ x. start_at x es) next ∙ none_above
 
@@ -151,7 +151,7 @@ module _ {V : Type 0} (eq : V → V → Bool) (laws : IsEquivalence eq) (k low h
         between_cut n next v w like copy l y t mid new m q = inside_cut (entry n z w) next refl (sym (laws.congr v e.value w (laws.symm v e.value ∙ like)) ∙ copy) l y t mid new m q
 
     module _ (up : k ≤ℤ e.hi) where
-      -- what is at the key
+      -- the value at the key
       at_held : at es k ≡ Some e.value
       at_held = ap (λ l. at l k) i.parts ∙ at_cut eq k i.front under e i.back starts up
 
@@ -183,7 +183,7 @@ module _ {V : Type 0} (eq : V → V → Bool) (laws : IsEquivalence eq) (k low h
             cut_apart [] i.back (without k es) (before_ends k e i.back up (omega (arith, ints))) (back_like (omega (arith, ints)) up)
             (ap (without k) i.parts ∙ without-between k e i.front i.back lo (more_below e.lo k i.front starts i.front_below))
 
-  -- a look has answered that the entry has other keys too, and a clone of its value
+  -- a lookup returned that the entry has other keys too, and a clone of its value
   module _ (is_clone : V → V → Type 0) (alike : ClonesAreAlike is_clone eq) (a z : ℤ) (v : V) (held : IsSomeAnd (holder_of k es) (λ e. ((a, z) ≡ range_in e) × IsManyCloned is_clone e (Some v))) where
     abbrev shared : HasKey (λ e. ((a, z) ≡ range_in e) × IsManyCloned is_clone e (Some v))
     shared = has_key _ held
@@ -216,7 +216,7 @@ module _ {V : Type 0} (eq : V → V → Bool) (laws : IsEquivalence eq) (k low h
       pub inside_taken : a <ℤ k → (w : V) → is_clone v w → (y : ℤ) → y +ℤ pos 1 ≡ k → (mid new : List (Entry V)) → mid ≡ with_entry (entry n z w) es → new ≡ with_end a y mid → IsKeyTaken eq k (Some v) es new
       inside_taken l w copy y t mid new m q = taken new (between_cut shared.of shared.last a z shared.holds.0 over n next v w like (alike v w copy) l y t mid new m q)
 
-  -- no entry has the key
+  -- no entry contains the key
   pub no_key : holder_of k es ≡ None → at es k ≡ None
   no_key n = by_last (last_below (k +ℤ pos 1) es) refl n
     where
@@ -226,15 +226,15 @@ module _ {V : Type 0} (eq : V → V → Bool) (laws : IsEquivalence eq) (k low h
           (λ u. ended e (last_at (k +ℤ pos 1) low high e es s q) u)
           (λ u. let some : Some e ≡ None = ap (λ b. cond b None (Some e)) (sym (lt_false e.hi k u)) ∙ n in cc)
 
-  -- a key that an entry has is mapped
+  -- a key of an entry has a value
   pub some_key : {P : Entry V → Type 0} → HasKey P → at es k ≡ None → ⊥
   some_key h n = let some : Some h.of.value ≡ None = sym (at_held h.of h.last h.up) ∙ n in cc
 
-  -- a table has the key among its keys
+  -- a table with the key has at least one key
   pub key_fits : {P : Entry V → Type 0} → HasKey P → (n : ℕ) → IsTable eq low high n es → pos 1 ≤ℤ pos n
   key_fits h n t = omega (arith, ints, one_covered h.of h.last h.up, covered_fits eq k k es c, t.counted)
 
-  -- without it there is one key less
+  -- without the key, the table has one key fewer
   pub key_cut : {P : Entry V → Type 0} → HasKey P → (n m : ℕ) (v : V) (new : List (Entry V)) → IsTable eq low high n es → pos m +ℤ pos 1 ≡ pos n → IsKeyTaken eq k (Some v) es new → IsKeyCut eq low high m k (Some v) es new
   key_cut h n m v new t less taken = record {
     table = cut_table eq laws k k (omega (arith, ints)) es new c taken.cut low high n m t (omega (arith, ints, one_covered h.of h.last h.up, less));

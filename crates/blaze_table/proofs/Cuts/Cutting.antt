@@ -1,4 +1,4 @@
--- A list without a range of keys, from its pieces.
+-- A list without a range of keys, from its parts.
 use Rattle.blaze_table.proofs.Words.{option_or, ◌≡◌, ◌⊎◌, inl, inr, ℕ, ℤ, pos, ◌+ℤ◌, ◌≤ℤ◌, ◌<ℤ◌, Bool, false, cond, List, [], ◌∷◌, ◌++◌, Option, Some, None, refl, ◌∙◌, sym, ap, subst, arith, IsEquivalence, Contains, Contains-append_left, int_eq, ints, by_lt_z, and_left, eq_true, le_true, le_false, same_along, same_trans, same_or_right, Entry, at, SameOption, entry, IsCanonical, AreKeys, keys_in, before, after, glue, IsBelow, IsRangeCutOf, IsCutOf, IsTableCut, overlap, covered, cut_at, cut_range_at, IsRangeCut, IsTable, overlap_none}
 use Rattle.blaze_table.proofs.Canonical.Lookup.{IsAbove, above_rest, at_in, at_over, at_before, above_by}
 use Rattle.blaze_table.proofs.Canonical.RangeMaps.{range_map}
@@ -13,11 +13,11 @@ module _ {V : Type 0} (eq : V → V → Bool) where
   after_all k [] c a = refl
   after_all k (e ∷ es) c a = by_after k e es (λ h p. absurd (omega (arith, ints, c.0))) (λ h l p. absurd (omega (arith, ints))) (λ h l p. p)
 
-  -- above the end of the first entry are the others
+  -- the part above the end of the first entry is the other entries
   pub after_whole : (k : ℤ) (e : Entry V) (es : List (Entry V)) → IsCanonical eq (e ∷ es) → e.hi ≤ℤ k → k ≤ℤ e.hi → after k (e ∷ es) ≡ es
   after_whole k e es c h l = after_skips k e es h ∙ after_all k es c.2 (above_rest eq k e es l c)
 
-  -- lists that do not touch are glued end to end
+  -- lists that do not touch are glued without a join
   glue_apart : (k : ℤ) (L M : List (Entry V)) → IsBelow k L → IsAbove k M → glue eq L M ≡ L ++ M
   glue_apart k [] M l m = refl
   glue_apart k (e ∷ []) [] l m = refl
@@ -27,7 +27,7 @@ module _ {V : Type 0} (eq : V → V → Bool) where
       apart_false a b h = grind (arith, ints)
   glue_apart k (e ∷ f ∷ L) M l m = ap (λ xs. e ∷ xs) (glue_apart k (f ∷ L) M l.1 m)
 
-  -- nothing is at the keys from l up to h
+  -- no value at the keys from l to h
   pub halves : (l h : ℤ) → l ≤ℤ h → (es : List (Entry V)) → IsCanonical eq es → ((j : ℤ) → l ≤ℤ j → j ≤ℤ h → at es j ≡ None) → es ≡ before l es ++ after h es
   halves l h w [] c n = refl
   halves l h w (e ∷ es) c n =
@@ -95,7 +95,7 @@ module _ {V : Type 0} (eq : V → V → Bool) (laws : IsEquivalence eq) (l h : �
     counted = omega (arith, ints, cut_keys, t.counted);
   }
 
--- one key alone
+-- a single key
 module _ {V : Type 0} (k : ℤ) (content : ℤ → Option V) where
   cut_one : (j : ℤ) → cut_range_at k k content j ≡ cut_at k content j
   cut_one j = by_lt_z j k
@@ -110,7 +110,7 @@ module _ {V : Type 0} (k : ℤ) (content : ℤ → Option V) where
 pub cut_content : {V : Type 0} (eq : V → V → Bool) (laws : IsEquivalence eq) (k : ℤ) (es new : List (Entry V)) → IsCanonical eq es → IsCutOf eq k es new → (j : ℤ) → SameOption eq (at new j) (cut_at k (at es) j)
 cut_content eq laws k es new c r j = same_along eq refl (cut_one k (at es) j) (range_cut_content eq laws k k (omega (arith, ints)) es new c r j)
 
--- no entry has the key
+-- no entry contains the key
 pub key_absent : {V : Type 0} (eq : V → V → Bool) (laws : IsEquivalence eq) (k : ℤ) (es : List (Entry V)) → IsCanonical eq es → at es k ≡ None → (j : ℤ) → SameOption eq (at es j) (cut_at k (at es) j)
 key_absent eq laws k es c n = cut_content eq laws k es es c (cut_nothing eq laws k k (omega (arith, ints)) es c (λ j a b. ap (at es) (same j a b) ∙ n))
   where
@@ -118,7 +118,7 @@ key_absent eq laws k es c n = cut_content eq laws k es es c (cut_nothing eq laws
     same j a b = omega (arith, ints)
 
 module _ {V : Type 0} (eq : V → V → Bool) (l h : ℤ) where
-  -- only the entry e has keys from l up to h
+  -- only the entry e has keys from l to h
   pub covered_past : (w : l ≤ℤ h) (A : List (Entry V)) → IsBelow l A → (e : Entry V) (C : List (Entry V)) → IsCanonical eq (A ++ e ∷ C) → IsAbove h C → covered l h (A ++ e ∷ C) ≡ overlap l h e
   covered_past w [] b e C c a = omega (arith, ints, covered_none eq l h C c.2 a)
   covered_past w (x ∷ A) b e C c a = omega (arith, ints, overlap_none l h x c.0 b.0, covered_past w A b.1 e C c.2 a)
@@ -127,7 +127,7 @@ module _ {V : Type 0} (eq : V → V → Bool) (l h : ℤ) where
   covered_fits [] c = omega (arith, ints)
   covered_fits (e ∷ es) c = omega (arith, ints, overlap_most l h e c.0, covered_fits es c.2)
 
--- what the cut makes of a range map
+-- the effect of the cut on a range map
 pub range_cut_map : {V : Type 0} (eq : V → V → Bool) (laws : IsEquivalence eq) (low high : ℤ) (n : ℕ) (l h : ℤ) → l ≤ℤ h → (old new : List (Entry V)) → IsCanonical eq old → IsTableCut eq low high n l h old new → IsRangeCut eq low high l h old new
 range_cut_map {V} eq laws low high n l h w old new c r = record {
   range_map = range_map eq laws low high n new r.table;

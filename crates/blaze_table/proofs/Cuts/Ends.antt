@@ -1,4 +1,4 @@
--- The first and the last key taken out: the entry that has it is the first, or the last.
+-- The first and the last key are removed: they are in the first and the last entry.
 use Rattle.blaze_table.proofs.Words.{◌≡◌, ◌-◌, ℤ, pos, ◌+ℤ◌, ◌≤ℤ◌, ◌<ℤ◌, Bool, cond, List, [], ◌∷◌, length, Option, Some, None, refl, ◌∙◌, sym, subst, ap, arith, IsEquivalence, slice_get, last_or, IsSome, IfSome, IsSomeAnd, ints, lt_false, IsRangeCloned, IsManyCloned, range_in, StartsAscend, below, last_below, reaching, holder_of, RangeEntry, below_takes, below_none, IsCanonical, IsAmongOthers, Entry}
 use Rattle.blaze_table.proofs.Cuts.CutEdits.{HasKey, has_key, among_others}
 
@@ -21,7 +21,7 @@ module _ {V : Type 0} (eq : V → V → Bool) where
       let place : length (e ∷ es) - 1 ≡ length es = omega arith in
       (last_from None e es l c (subst (λ n. slice_get (e ∷ es) n ≡ Some l) place p)).1
 
-  -- the entry has the key
+  -- the entry contains the key
   holds : (k : ℤ) (es : List (Entry V)) (e : Entry V) → k ≤ℤ e.hi → last_below (k +ℤ pos 1) es ≡ Some e → holder_of k es ≡ Some e
   holds k es e u q = ap (reaching k) q ∙ ap (λ b. cond b None (Some e)) (lt_false e.hi k u)
 
@@ -61,10 +61,10 @@ module _ {V : Type 0} (eq : V → V → Bool) where
       by_there None q i h = cc
       by_there (Some l) q i h = (l, q, h)
 
--- one of the ends of the entry o, which a look has answered, is a key that it has
+-- an end of the entry o, which a lookup returned, is a key of the entry
 module _ {V : Type 0} (eq : V → V → Bool) (laws : IsEquivalence eq) (low high : ℤ) (es : List (Entry V)) (s : StartsAscend low high es) (c : IsCanonical eq es)
     (end : ℤ × ℤ → ℤ) (o : Option (Entry V)) (f : (e : Entry V) → o ≡ Some e → holder_of (end (range_in e)) es ≡ Some e) where
-  -- it has other keys too
+  -- the entry has other keys too
   pub end_among : IsSomeAnd o (λ e. e.lo <ℤ e.hi) → IfSome o (λ e. IsAmongOthers (end (range_in e)) es)
   end_among i = by_end o f i
     where
@@ -83,7 +83,7 @@ module _ {V : Type 0} (eq : V → V → Bool) (laws : IsEquivalence eq) (low hig
         by_end (Some e) f i =
             subst (λ o. IsSomeAnd o (λ x. ((rank r.start, rank r.end) ≡ range_in x) × IsManyCloned is_clone x r.value)) (sym (ap (λ t. holder_of (end t) es) i.0 ∙ f e refl)) i
 
--- of the first entry: it has other keys too, and it has its first key
+-- the first entry has other keys too, and it contains its first key
 module _ {V : Type 0} (eq : V → V → Bool) (laws : IsEquivalence eq) (low high : ℤ) (es : List (Entry V)) (s : StartsAscend low high es) (c : IsCanonical eq es) where
   pub first_among : IsSomeAnd (slice_get es 0) (λ e. e.lo <ℤ e.hi) → IfSome (slice_get es 0) (λ e. IsAmongOthers e.lo es)
   first_among i = end_among eq laws low high es s c (λ x. x.0) (slice_get es 0) (first_holder eq low high es s c) i

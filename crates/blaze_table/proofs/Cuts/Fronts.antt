@@ -1,11 +1,11 @@
--- The first key taken out of the first entry, as a look at that entry has answered it.
+-- The first key is removed from the first entry, given the result of the lookup.
 use Rattle.blaze_table.proofs.Words.{◌≡◌, ℤ, pos, ◌+ℤ◌, ◌<ℤ◌, Bool, false, cond, List, [], ◌∷◌, ◌++◌, Option, Some, None, refl, ◌∙◌, sym, subst, ap, arith, IsEquivalence, slice_get, option_map, int_eq, IsSome, ints, IsRangeCloned, IsManyCloned, StartsAscend, start_at, with_entry, IsFirstRemoved, RangeEntry, same_along, by_order, start_none, with_entry-first, IsCanonical, Entry, entry, SameEntries, ClonesAreAlike, after, IsKeyTaken}
 use Rattle.blaze_table.proofs.Canonical.Lookup.{at_in}
 use Rattle.blaze_table.proofs.Cuts.Cutting.{after_whole}
 use Rattle.blaze_table.proofs.Paints.Painted.{entries_themselves}
 use Rattle.blaze_table.proofs.Paints.Splices.{before_ends, after_cuts}
 
--- a list with one entry more has a first
+-- a list after an insertion has a first entry
 pub first_there : {V : Type 0} (p : Entry V) (es new : List (Entry V)) → new ≡ with_entry p es → IsSome (slice_get new 0)
 first_there p es new q = subst (λ l. IsSome (slice_get l 0)) (sym q) (by_list es)
   where
@@ -14,13 +14,13 @@ first_there p es new q = subst (λ l. IsSome (slice_get l 0)) (sym q) (by_list e
     by_list (f ∷ fs) = by_order p.lo f.lo (λ o q r. rw q refl) (λ o q r. rw q refl) (λ o q r. rw q refl)
 
 module _ {T V : Type 0} (rank : T → ℤ) (is_clone : V → V → Type 0) (r : RangeEntry T (Option V)) where
-  -- its first key is that of the look
+  -- the first key is the start in the lookup's result
   pub first_key : (es : List (Entry V)) → IsRangeCloned rank is_clone (slice_get es 0) (Some r) → option_map (λ e. e.lo) (slice_get es 0) ≡ Some (rank r.start)
   first_key [] i = absurd i
   first_key (e ∷ es) i = ap (λ (t : ℤ × ℤ). Some t.0) (sym i.0)
 
   module _ (eq : V → V → Bool) (laws : IsEquivalence eq) (low high : ℤ) where
-    -- what is left has no more of the entry than what it has above the key
+    -- the remaining list has of the entry only its part above the key
     taken : (e : Entry V) (es above mid new : List (Entry V)) (w : V) → IsCanonical eq (e ∷ es) → rank r.start ≡ e.lo → SameEntries eq (after e.lo (e ∷ es)) above → mid ≡ e ∷ above → IsFirstRemoved w mid new → IsKeyTaken eq (rank r.start) (Some w) (e ∷ es) new
     taken e es above mid new w c lo like is removed =
         let both : removed.first ∷ new ≡ e ∷ above = sym removed.removed ∙ is in
@@ -59,12 +59,12 @@ module _ {T V : Type 0} (rank : T → ℤ) (is_clone : V → V → Type 0) (r : 
           (λ o q r. rw q (ap (λ l. e ∷ l) (with_entry-first p (e.hi +ℤ pos 1) high es (omega (arith, ints)) (others_ascend es s.2 c))))
 
     module _ (v : V) (q : r.value ≡ Some v) (n : ℤ) (next : n ≡ rank r.start +ℤ pos 1) where
-      -- it has more: no entry starts at the next one
+      -- the entry has more keys: no entry starts at the next one
       pub none_next : (es : List (Entry V)) → StartsAscend low high es → IsCanonical eq es → IsRangeCloned rank is_clone (slice_get es 0) (Some r) → start_at n es ≡ None
       none_next [] s c i = absurd i
       none_next (e ∷ es) s c i = none_at e es s c n (next ∙ ap (λ (t : ℤ × ℤ). t.0 +ℤ pos 1) i.0) (subst (IsManyCloned is_clone e) q i.1).0
 
-      -- and an entry with a clone of the value was put in there first
+      -- the entry has more keys: an entry with a clone of the value was inserted at the next one first
       pub more_cut : ClonesAreAlike is_clone eq → (es mid new : List (Entry V)) (w : V) → StartsAscend low high es → IsCanonical eq es → IsRangeCloned rank is_clone (slice_get es 0) (Some r) → mid ≡ with_entry (entry n (rank r.end) v) es → IsFirstRemoved w mid new → IsKeyTaken eq (rank r.start) (Some w) es new
       more_cut alike [] mid new w s c i put removed = absurd i
       more_cut alike (e ∷ es) mid new w s c i put removed =

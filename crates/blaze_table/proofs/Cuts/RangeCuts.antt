@@ -1,4 +1,5 @@
--- A range of keys cut by what a walk that looks for no value has found: what the edit has to know of the list, and what it counts.
+-- A range of keys is removed, given the results of a walk without a value. What the edit requires of the list, and what
+-- it counts.
 use Rattle.blaze_table.proofs.Words.{◌≡◌, ℕ, ℤ, pos, ◌+ℤ◌, ◌≤ℤ◌, ◌<ℤ◌, Bool, true, false, cond, List, Option, Some, None, length, length-append, refl, ◌∙◌, subst, ap, arith, inl, inr, IsEquivalence, option_map, IfSome, IsSome, IsSomeAnd, int_lt, ints, lt_holds, not_both, CountedEntries, found_in, is_sought, range_in, shown_ends, shown_plan, StartsAscend, last_below, Plan, RangeEntry, IsCanonical, GoesOnAbove, IsPlace, Entry, rest_of, IsLooked, IsWalkOf, IsWorked, before, after, IsRangeCutOf, IsRangeTaken, IsTableCut, IsTable, IsCountedCut}
 use Rattle.blaze_table.proofs.Canonical.Counted.{keys_apart}
 use Rattle.blaze_table.proofs.Cuts.Cutting.{cut_table}
@@ -15,7 +16,7 @@ module _ {V : Type 0} (eq : V → V → Bool) (sought : Option V) (free : sought
   none : (v : V) → test v ≡ false
   none v = ap (λ o. is_sought eq o v) free
 
-  -- the range is joined with no entry, so that it ends where it did
+  -- the range is joined with no entry, so its end does not change
   pub end_is : rank p.end ≡ h
   end_is = elim f.plan.end [
     | inl e ↦ e.0
@@ -23,7 +24,7 @@ module _ {V : Type 0} (eq : V → V → Bool) (sought : Option V) (free : sought
   ]
 
   module _ (low high : ℤ) (w : l ≤ℤ h) (s : StartsAscend low high es) (c : IsCanonical eq es) where
-    -- what the edit has to know
+    -- what the edit requires
     pub range_place : IsPlace rank eq l es p o
     range_place = place_is eq test l h w low high es s c rank p o f.plan (like (last_below l es) f.above)
       where
@@ -31,7 +32,7 @@ module _ {V : Type 0} (eq : V → V → Bool) (sought : Option V) (free : sought
         like None i = tt
         like (Some e) i = λ u. i (omega (arith, ints, end_is)) (none e.value)
 
-    -- it has a rest where an entry goes on above the range
+    -- the plan has a part above the range if an entry extends above it
     pub rest_above : IsSome p.rest → GoesOnAbove h es
     rest_above i = by_last (last_below (h +ℤ pos 1) es) refl p.rest f.plan.rest i
       where
@@ -47,13 +48,13 @@ module _ {V : Type 0} (eq : V → V → Bool) (sought : Option V) (free : sought
             let up = lt_holds h e.hi (over e (int_lt h e.hi) (test e.value) x m i) in
             record { entry = e; here = last_held eq l h low high w es s c (h +ℤ pos 1) e q h (omega (arith, ints)) (omega (arith, ints, up)); above = up }
 
-    -- what lies outside is counted
+    -- the number of keys outside the range
     pub range_cut : (laws : IsEquivalence eq) (len : ℕ) (new : List (Entry V)) → IsTable eq low high len es → IsRangeTaken eq l (rank p.end) es new → IsTableCut eq low high n l h es new
     range_cut laws len new t k =
         let taken = subst (λ z. IsRangeTaken eq l z es new) end_is k in
         record { table = cut_table eq laws l h w es new c taken.cut low high len n t (omega (arith, ints, t.counted, f.outside, keys_apart eq l h es w c)); taken = taken }
 
--- few looks, and the edit behind them
+-- few lookups, and then the edit
 pub counted_cut : {V : Type 0} (eq : V → V → Bool) (laws : IsEquivalence eq) (l h : ℤ) (old mid new : CountedEntries V) → IsLooked l h old mid → IsRangeCutOf eq l h mid.entries new.entries → IsWorked 1 0 mid new → IsCountedCut old new
 counted_cut eq laws l h old mid new looked r work =
     let long = ap length r.joined ∙ length-append (before l mid.entries) r.above in

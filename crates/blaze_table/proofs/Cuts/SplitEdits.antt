@@ -1,4 +1,4 @@
--- Edits that split a list at a key.
+-- The edits that split a list at a key.
 use Rattle.blaze_table.proofs.Words.{◌≡◌, Bool, ℤ, pos, ◌-ℤ◌, ◌≤ℤ◌, ◌<ℤ◌, true, List, [], ◌∷◌, ◌++◌, None, refl, ◌∙◌, sym, subst, ap, arith, IsEquivalence, Result, Ok, Err, IfOk, OnOk, IsSome, int_lt, int_le, option_map, ints, append-nil, append_assoc, filter-append, CountedEntries, uncounted, range_in, StartsAscend, below, from, last_below, start_at, with_entry, without, with_end, IsCloneInserted, StartsBelow, below_all, below_none, below_skips, from_all, from_none, from_takes, more_below, none_from_map, Entry, entry, IsCanonical, ClonesAreAlike, IsBelow, IsSplitOf}
 use Rattle.blaze_table.proofs.Neighbours.Holders.{Holder, is_holder, put_inside, starts_behind, end_moved}
 use Rattle.blaze_table.proofs.Paints.Placing.{put_back, put_there}
@@ -40,7 +40,8 @@ module _ {V : Type 0} (eq : V → V → Bool) (laws : IsEquivalence eq) (k high 
         below_behind [] b = let r = h.hi in (omega (arith, ints), tt)
         below_behind (x ∷ xs) b = (b.0, below_behind xs b.1)
 
-    -- the key cuts the entry: a clone is put in at the key, the list is split, and the entry ends below the key
+    -- The key is inside the entry. A clone is inserted at the key, the list is split, and the entry is shortened below
+    -- the key.
     pub split_inside : (is_clone : V → V → Type 0) → ClonesAreAlike is_clone eq → k ≤ℤ z → (y : ℤ) (mid below_new from_new : List (Entry V)) → y ≡ k -ℤ pos 1
         → IsCloneInserted is_clone s k es mid → below_new ≡ with_end s y (below k mid) → from_new ≡ from k mid → IsSplitOf eq k es below_new from_new
     split_inside is_clone alike u y mid below_new from_new t i m f =
@@ -62,7 +63,7 @@ module _ {V : Type 0} (eq : V → V → Bool) (laws : IsEquivalence eq) (k high 
         (subst (λ x. IsSplitOf eq k x (h.front ++ entry h.of.lo (k -ℤ pos 1) h.of.value ∷ []) (p ∷ h.back)) (sym h.parts)
         (split_here eq laws k h.front under h.of h.back i.value (omega (arith, ints)) (omega (arith, ints)) like)))
 
-    -- the clone is there, and can be taken out again
+    -- the clone exists and can be removed again
     pub clone_there : (is_clone : V → V → Type 0) (s1 s2 : CountedEntries V) → IsCloneInserted is_clone s k es s1.entries → s2 ≡ s1 → IsSome (start_at k s2.entries)
     clone_there is_clone s1 s2 i q = put_there (entry k i.of.hi i.value) es s2.entries (ap (λ (s : CountedEntries V). s.entries) q ∙ i.inserted)
 
@@ -75,7 +76,7 @@ module _ {V : Type 0} (eq : V → V → Bool) (laws : IsEquivalence eq) (k high 
       (subst (λ x. IsSplitOf eq k es [] x) (sym (from_all k k high es (omega (arith, ints)) starts))
       (split_between eq laws k [] tt es c (above_from k (k -ℤ pos 1) high es (omega (arith, ints)) starts)))
 
-  -- what a plain split answers
+  -- the result of a split without a clone
   pub if_split : {O E : Type 0} (counted : O → CountedEntries V) (r : Result O E) (old new : CountedEntries V) → old.entries ≡ es → IsSplitOf eq k es (below k es) (from k es)
       → OnOk r (new ≡ record old { entries = below k old.entries }) → IfOk r (λ o. counted o ≡ uncounted (from k old.entries)) → IfOk r (λ o. IsSplitOf eq k es new.entries (counted o).entries)
   if_split counted (Err x) old new q w b f = tt
@@ -84,7 +85,7 @@ module _ {V : Type 0} (eq : V → V → Bool) (laws : IsEquivalence eq) (k high 
       let up : (counted o).entries ≡ from k es = ap (λ (s : CountedEntries V). s.entries) f ∙ ap (from k) q in
       subst (λ x. IsSplitOf eq k es x (counted o).entries) (sym low) (subst (λ x. IsSplitOf eq k es (below k es) x) (sym up) w)
 
--- an entry that was put in is taken out again, and nothing was counted
+-- an inserted entry is removed again, and nothing was counted
 pub clone_removed : {V : Type 0} (is_clone : V → V → Type 0) (s k : ℤ) (s0 s1 s2 s3 : CountedEntries V) → start_at k s0.entries ≡ None → IsCloneInserted is_clone s k s0.entries s1.entries
     → s1 ≡ record s0 { entries = s1.entries } → s2 ≡ s1 → s3 ≡ record s2 { entries = without k s2.entries } → s3 ≡ s0
 clone_removed {V} is_clone s k s0 s1 s2 s3 none i same q r =

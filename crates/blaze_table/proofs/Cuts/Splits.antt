@@ -1,4 +1,4 @@
--- Lists in the order of their starts, taken apart at a key.
+-- Lists whose starts ascend, split at a key.
 use Rattle.blaze_table.proofs.Words.{◌≡◌, ℤ, pos, ◌+ℤ◌, ◌≤ℤ◌, ◌<ℤ◌, Bool, cond, List, [], ◌∷◌, ◌++◌, Option, Some, None, refl, ◌∙◌, sym, subst, ap, arith, IsSome, int_le, last_or, ints, by_lt_z, filter-append, StartsAscend, below, from, first_entry, last_below, first_from, start_at, by_order, start_none, StartsBelow, below_takes, from_takes, from_skips, below_none, from_all, from_none, more_below, Entry, entry, IsApart, IsCanonical, after, IsBelow}
 use Rattle.blaze_table.proofs.Paints.Splices.{after_skips, after_cuts, after_keeps}
 use Rattle.blaze_table.proofs.Paints.Painted.{after_past}
@@ -8,7 +8,7 @@ some_of None h = cc
 some_of (Some x) h = (x, refl)
 
 module _ {V : Type 0} where
-  -- the last entry that starts below k, and what stands before and behind it
+  -- the last entry that starts below k, and the entries before and after it
   pub record LastAt (k high : ℤ) (e : Entry V) (es : List (Entry V)) : Type 0 where
     pub front : List (Entry V)
     pub back : List (Entry V)
@@ -78,7 +78,7 @@ module _ {V : Type 0} where
           above_first : (gs xs : List (Entry V)) (x : Entry V) (zs : List (Entry V)) → gs ≡ xs ++ x ∷ zs → StartsAscend (f.lo +ℤ pos 1) high gs → f.lo <ℤ x.lo
           above_first gs xs x zs q s = let r = in_front (f.lo +ℤ pos 1) xs zs x (subst (StartsAscend (f.lo +ℤ pos 1) high) q s) in omega (arith, ints)
 
-  -- the first entry from k on is there
+  -- the first entry from k on exists
   pub first_there : (k b high : ℤ) (e : Entry V) (es : List (Entry V)) → StartsAscend b high es → first_from k es ≡ Some e → (k ≤ℤ e.lo) × (start_at e.lo es ≡ Some e) × (from k es ≡ from e.lo es)
   first_there k b high e [] h n = absurd (no_some n)
     where
@@ -103,7 +103,7 @@ module _ {V : Type 0} where
       some_same : Some f ≡ Some e → f ≡ e
       some_same p = cc
 
-  -- the entries from k on, by whether one starts there
+  -- the entries from k on, by whether one starts at k
   pub from_at : (k b high : ℤ) (e : Entry V) (es : List (Entry V)) → StartsAscend b high es → start_at k es ≡ Some e → (e.lo ≡ k) × (from k es ≡ e ∷ from (k +ℤ pos 1) es)
   from_at k b high e [] h n = absurd (no_some n)
     where
@@ -127,7 +127,7 @@ module _ {V : Type 0} where
       some_same p = cc
 
 module _ {V : Type 0} (eq : V → V → Bool) where
-  -- in a canonical list what stands before an entry ends below it
+  -- in a canonical list, the entries before an entry end below it
   pub ends_below : (xs : List (Entry V)) (e : Entry V) (ys : List (Entry V)) → IsCanonical eq (xs ++ e ∷ ys) → IsBelow e.lo xs
   ends_below [] e ys c = tt
   ends_below (x ∷ []) e ys c = (c.1.0, tt)
@@ -137,12 +137,12 @@ module _ {V : Type 0} (eq : V → V → Bool) where
   canonical_part [] ys c = c
   canonical_part (x ∷ xs) ys c = canonical_part xs ys c.2
 
-  -- nothing of what starts above k lies up to it
+  -- an entry that starts above k has no key up to k
   pub after_from : (k b high : ℤ) (es : List (Entry V)) → k <ℤ b → StartsAscend b high es → IsCanonical eq es → after k es ≡ es
   after_from k b high [] l h c = refl
   after_from k b high (e ∷ es) l h c = after_keeps k e es (omega (arith, ints, h.0, c.0)) (omega (arith, ints, h.0))
 
-  -- what lies above k, by the last entry that starts up to it
+  -- the part above k, by the last entry that starts up to k
   module _ (k high : ℤ) (e : Entry V) (es : List (Entry V)) (r : LastAt (k +ℤ pos 1) high e es) (c : IsCanonical eq es) where
     abbrev pub parted : IsCanonical eq (r.front ++ e ∷ r.back)
     parted = subst (IsCanonical eq) r.parts c
@@ -164,7 +164,7 @@ module _ {V : Type 0} (eq : V → V → Bool) where
     pub after_long : k <ℤ e.hi → after k es ≡ entry (k +ℤ pos 1) e.hi e.value ∷ from (k +ℤ pos 1) es
     after_long u = to_last ∙ after_cuts k e r.back u (omega (arith, ints, r.starts)) ∙ ap (λ t. entry (k +ℤ pos 1) e.hi e.value ∷ t) (sym back_is)
 
-    -- where the last entry goes on above k, none starts right above it
+    -- if the last entry extends above k, none starts right above k
     pub none_next : (b : ℤ) → StartsAscend b high es → k <ℤ e.hi → start_at (k +ℤ pos 1) es ≡ None
     none_next b h u = not_found (start_at (k +ℤ pos 1) es) refl
       where
@@ -180,7 +180,7 @@ module _ {V : Type 0} (eq : V → V → Bool) where
             let here = i.0 in
             absurd (omega (arith, ints))
 
-  -- where none starts up to k, all lies above it
+  -- if no entry starts up to k, the whole list is above k
   pub after_none : (k b high : ℤ) (es : List (Entry V)) → StartsAscend b high es → IsCanonical eq es → last_below (k +ℤ pos 1) es ≡ None → after k es ≡ from (k +ℤ pos 1) es
   after_none k b high es h c n =
       let f = no_last_from (k +ℤ pos 1) b high es h n in

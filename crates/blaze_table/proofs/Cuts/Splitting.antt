@@ -54,7 +54,7 @@ module _ {V : Type 0} (eq : V → V → Bool) where
       pub split_counted : keys_in below +ℤ keys_in from ≡ pos n
       split_counted = omega (arith, ints, t.counted, keys_split k es c, ap keys_in r.below_is, same_keys_in eq (after (k -ℤ pos 1) es) from r.like)
 
-      -- with the counts of the two
+      -- the two parts are tables, with their numbers of keys
       pub split_tables : (m o : ℕ) → pos m ≡ keys_in below → pos o ≡ keys_in from → IsTable eq low high m below × IsTable eq low high o from
       split_tables m o p q = (
         (record {
@@ -79,14 +79,14 @@ module _ {V : Type 0} (eq : V → V → Bool) (laws : IsEquivalence eq) (k : ℤ
   after_all (e ∷ es) c a = by_after (k -ℤ pos 1) e es (λ h p. absurd (omega (arith, ints, c.0))) (λ h l p. absurd (omega (arith, ints))) (λ h l p. p)
 
   module _ (A : List (Entry V)) (b : IsBelow k A) where
-    -- the key cuts an entry
+    -- the key is inside an entry
     pub split_here : (e : Entry V) (C : List (Entry V)) (v : V) → e.lo <ℤ k → k ≤ℤ e.hi → eq e.value v ≡ true → IsSplitOf eq k (A ++ e ∷ C) (A ++ entry e.lo (k -ℤ pos 1) e.value ∷ []) (entry k e.hi v ∷ C)
     split_here e C v l h q = record {
       below_is = sym (before_past k A (e ∷ C) b ∙ ap (λ xs. A ++ xs) (before_cuts k e C h l));
       like = subst (λ xs. SameEntries eq xs (entry k e.hi v ∷ C)) (sym (after_below A (e ∷ C) b ∙ after_cuts (k -ℤ pos 1) e C (omega (arith, ints)) (omega (arith, ints)))) (omega (arith, ints), refl, q, entries_themselves eq laws C);
     }
 
-    -- the key lies between entries
+    -- the key is between entries
     pub split_between : (C : List (Entry V)) → IsCanonical eq C → IsAbove (k -ℤ pos 1) C → IsSplitOf eq k (A ++ C) A C
     split_between C c a = record {
       below_is = sym (before_past k A C b ∙ ap (λ xs. A ++ xs) (before_none eq k C c a) ∙ append-nil A);

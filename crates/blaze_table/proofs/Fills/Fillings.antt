@@ -1,4 +1,4 @@
--- A value put on the gaps of a range, one after another.
+-- The gaps of a range get a value one by one.
 use Rattle.blaze_table.proofs.Words.{none_is_not, option_or, ◌≡◌, ℕ, ℤ, pos, ◌+ℤ◌, ◌-ℤ◌, ◌≤ℤ◌, ◌<ℤ◌, Bool, true, false, cond, List, [], Option, Some, None, refl, ◌∙◌, sym, ap, subst, arith, inl, inr, ◌↔◌, IsSome, IsTrue, IsEquivalence, Contains, ints, by_lt_z, same_along, same_itself, same_trans, some_of_same, none_of_same, AreKeys, IsCanonical, Entry, entry, at, holds, SameOption, SameContent, filled, AreStartsKept, IsFilled, IsHeldFrom, IsFirstGap, never, IsBeside, IsFilledBut, IsFilling, IsGapFilled, IsJoinedBut, IsOrdered, IsOrderedTable, IsClearFrom, painted}
 use Rattle.blaze_table.proofs.Canonical.Counted.{keys_among}
 use Rattle.blaze_table.proofs.Canonical.Lookup.{by_place, holds_in, holds_under, holds_over}
@@ -11,19 +11,19 @@ use Rattle.blaze_table.proofs.Fills.Puts.{IsPut, put_in}
 use Rattle.blaze_table.proofs.Fills.TakenBack.{goes_back_more}
 
 module _ {V : Type 0} where
-  -- up to a key that is filled, as filling up to a later one
+  -- at a key that is already filled, a longer fill gives the same value
   filled_less : (content : ℤ → Option V) (v : V) (l m h : ℤ) → m ≤ℤ h → (k : ℤ) → k ≤ℤ m → filled l m v content k ≡ filled l h v content k
   filled_less content v l m h o k u = by_lt_z k l
       (λ a. filled_under content v l m k a ∙ sym (filled_under content v l h k a))
       (λ a. filled_in content v l m k a u ∙ sym (filled_in content v l h k a (omega (arith, ints))))
 
 module _ {V : Type 0} (eq : V → V → Bool) (laws : IsEquivalence eq) where
-  -- equal to a value, equal to its clone
+  -- a value that equals another equals its clone
   like_clone : (v w : V) → eq v w ≡ true → (o : Option V) → SameOption eq o (Some v) ↔ SameOption eq o (Some w)
   like_clone v w like None = (λ s. s, λ s. s)
   like_clone v w like (Some x) = (λ s. laws.congr x v w s ∙ like, λ s. laws.congr x w v s ∙ laws.symm w v ∙ like)
 
-  -- the gap from a up to b is painted, and behind it up to n there are values: so all is filled up to n
+  -- The gap from a to b is painted, and the keys after it up to n have values. So everything up to n is filled.
   filled_more : (old cur new : ℤ → Option V) (v w : V) (l a b n : ℤ) → l ≤ℤ a → a ≤ℤ b → b ≤ℤ n → ((k : ℤ) → SameOption eq (cur k) (filled l (a -ℤ pos 1) v old k))
       → IsClearFrom cur a b → IsHeldFrom cur (b +ℤ pos 1) n → ((k : ℤ) → SameOption eq (new k) (painted a b w cur k)) → eq v w ≡ true → (k : ℤ) → SameOption eq (new k) (filled l n v old k)
   filled_more old cur new v w l a b n o p q before clear held one like k = by_place (entry a b w) k
@@ -45,7 +45,7 @@ module _ {V : Type 0} (eq : V → V → Bool) (laws : IsEquivalence eq) where
       beside : holds (entry a b w) k ≡ false → SameOption eq (new k) (filled l (a -ℤ pos 1) v old k)
       beside off = same_trans eq laws (new k) (cur k) _ (same_along eq {a = new k} refl (ap (λ t. cond t (Some w) (cur k)) off) (one k)) (before k)
 
-  -- beside a value, beside its clone
+  -- the neighbours' values compared with a value, and with its clone
   beside_like : (content : ℤ → Option V) (v w : V) (a b : ℤ) (t u : Bool) → eq v w ≡ true → IsBeside eq content v a b t u → IsBeside eq content w a b t u
   beside_like content v w a b t u like s =
       let first = like_clone v w like (content (a -ℤ pos 1)) in
@@ -116,7 +116,7 @@ module _ {V : Type 0} (eq : V → V → Bool) (laws : IsEquivalence eq) where
       back = goes_back_more starts more (entry a b w) cur new old d.remembered d.put is_put.absent i.back;
     }
 
-    -- no gap is left
+    -- no gap remains
     pub filling_last : IsHeldFrom (at cur) (b +ℤ pos 1) h → IsFilledBut eq l h v more all old new
     filling_last s = record {
       content = filled_more (at old) (at cur) (at new) v w l a b h i.from i.order i.to i.content i.clear s one like;
@@ -135,7 +135,7 @@ module _ {V : Type 0} (eq : V → V → Bool) (laws : IsEquivalence eq) where
     pub room_more : (n : ℕ) → low ≤ℤ high → IsOrderedTable low high n cur → (pos n +ℤ ((b -ℤ a) +ℤ pos 1)) ≤ℤ ((high -ℤ low) +ℤ pos 1)
     room_more n some r = omega (arith, ints, keys_among never low high new some is_put.ordered (is_put.are_keys r.are_keys), is_put.count, r.counted)
 
-  -- where the keys before a have values, the fill from a on is the whole
+  -- if the keys before a have values, the fill from a on is the whole fill
   filled_from : (content : ℤ → Option V) (v : V) (l a h : ℤ) → l ≤ℤ a → a ≤ℤ h → ((k : ℤ) → l ≤ℤ k → k <ℤ a → IsSome (content k)) → (k : ℤ) → filled a h v content k ≡ filled l h v content k
   filled_from content v l a h o p s k = by_lt_z k a
       (λ u. filled_under content v a h k u ∙ by_lt_z k l
@@ -145,7 +145,7 @@ module _ {V : Type 0} (eq : V → V → Bool) (laws : IsEquivalence eq) where
       (λ m. filled_over content v a h k m ∙ sym (filled_over content v l h k m))
       (λ m. filled_in content v a h k u m ∙ sym (filled_in content v l h k (omega (arith, ints)) m)))
 
-  -- what is filled, and then joined
+  -- a list that is filled and then joined
   pub filled_whole : (low high l h a b : ℤ) (v : V) (starts joints : List ℤ) (old put new : List (Entry V)) → IsCanonical eq old → IsFirstGap (at old) l h a b → IsFilledBut eq a h v starts joints old put
       → SameContent eq new put → AreStartsKept eq (at put) put new → IsCanonical eq new → AreKeys low high new → IsFilled eq low high (entry l h v) old new
   filled_whole low high l h a b v starts joints old put new d g f s t c k = record {
@@ -158,6 +158,6 @@ module _ {V : Type 0} (eq : V → V → Bool) (laws : IsEquivalence eq) where
       whole : (j : ℤ) → SameOption eq (at put j) (filled l h v (at old) j)
       whole j = same_along eq {a = at put j} refl (filled_from (at old) v l a h g.from (omega (arith, ints, g.order, g.to)) g.held j) (f.content j)
 
-  -- where there is a gap, not each key has a value
+  -- if a gap exists, not each key has a value
   pub gap_is_not_held : (old : List (Entry V)) (l h a b : ℤ) → IsFirstGap (at old) l h a b → IsHeldFrom (at old) l h → ⊥
   gap_is_not_held old l h a b g s = none_is_not (at old a) (g.clear a (omega (arith, ints)) g.order) (s a g.from (omega (arith, ints, g.order, g.to)))

@@ -1,4 +1,4 @@
--- The joints of a list after one more gap has an entry of its own.
+-- The joints of a list after one more gap has a separate entry.
 use Rattle.blaze_table.proofs.Words.{none_is_not, by_bool, not_both, ◌≡◌, ℤ, pos, ◌+ℤ◌, ◌-ℤ◌, ◌≤ℤ◌, ◌<ℤ◌, Bool, true, false, cond, List, Option, Some, None, refl, ◌∙◌, sym, subst, ap, arith, inl, inr, ◌⊎◌, IsSome, IsEquivalence, Contains, ints, by_lt_z, same_along, same_back, some_of_same, IsRunStart, Entry, entry, at, SameOption, IsBeside, IsJoinedBut, IsJoint, IsNoted, IsClearFrom}
 use Rattle.blaze_table.proofs.Canonical.Lookup.{holds_in, holds_under, holds_over}
 use Rattle.blaze_table.proofs.Fills.Puts.{IsPut}
@@ -13,7 +13,7 @@ module _ {V : Type 0} (eq : V → V → Bool) (laws : IsEquivalence eq) (low hig
   pub new_over : (k : ℤ) → b <ℤ k → at new k ≡ at cur k
   new_over k l = p.content k ∙ ap (λ t. cond t (Some w) (at cur k)) (holds_over (entry a b w) k l)
 
-  -- what has a value stays
+  -- a key with a value keeps it
   kept : (k : ℤ) → IsSome (at cur k) → at new k ≡ at cur k
   kept k s = by_lt_z k a (λ l. new_under k l) (λ l. by_lt_z b k (λ u. new_over k u) (λ u. absurd (none_is_not (at cur k) (clear k l u) s)))
 

@@ -3,7 +3,7 @@ use Rattle.blaze_table.proofs.Words.{nat_of, ◌≡◌, ◌<◌, ℤ, ◌-ℤ◌
 use Rattle.blaze_table.proofs.Canonical.Lookup.{by_place, entry_in, entry_under, entry_over, holds_in}
 
 module _ {V : Type 0} where
-  -- the list has a value at each key of an entry found in it
+  -- the list has a value at each key of one of its entries
   pub entry_held : (e : Entry V) (es : List (Entry V)) (k : ℤ) → Some e ≡ entry_at es k → IsHeldFrom (at es) e.lo e.hi
   entry_held e [] k p j l h = cc
   entry_held e (f ∷ fs) k p j l h = by_place f k

@@ -1,4 +1,4 @@
--- An entry made one with the one before it, which touches it and has an equal value.
+-- An entry is joined with the previous one, which it touches and whose value is equal.
 use Rattle.blaze_table.proofs.Words.{none_is_not, ◌≡◌, ℤ, pos, ◌+ℤ◌, ◌-ℤ◌, ◌≤ℤ◌, ◌<ℤ◌, Bool, cond, true, false, List, [], ◌∷◌, ◌++◌, Option, Some, None, option_map, refl, ◌∙◌, sym, subst, ap, arith, inl, inr, IsSome, ints, by_lt_z, append_assoc, IsEquivalence, range_in, StartsAscend, last_below, start_at, with_end, without, none_from_map, same_along, same_back, same_itself, some_of_same, by_order, start_none, StartsBelow, more_below, AreKeys, HasStart, Entry, entry, at, entry_at, holds, SameOption, SameContent, IsKeptIn, never, IsJoint, IsJoinedAt, IsOrdered, IsLastBelow}
 use Rattle.blaze_table.proofs.Canonical.Lookup.{IsAbove, IsAbove-from_apart, at_in, at_under, at_over, by_place, value-entry_at}
 use Rattle.blaze_table.proofs.Cuts.Splits.{no_last_from}
@@ -11,7 +11,7 @@ use Rattle.blaze_table.proofs.Fills.Upwards.{none_under}
 use Rattle.blaze_table.proofs.Fills.Ordered.{apart_by, start_above}
 
 module _ {V : Type 0} (eq : V → V → Bool) (laws : IsEquivalence eq) (low high : ℤ) where
-  -- what joining leaves, and what the list before begins with
+  -- the list after the join, and its first entry
   pub record IsOne (s : ℤ) (old new : List (Entry V)) : Type 0 where
     pub joined : IsJoinedAt eq low high s old new
     pub above : (b : ℤ) → IsAbove b old → IsAbove b new
@@ -46,7 +46,7 @@ module _ {V : Type 0} (eq : V → V → Bool) (laws : IsEquivalence eq) (low hig
           (λ l. same_along eq (sym (at_under (entry e.lo f.hi e.value) fs j l)) (sym (at_under e (f ∷ fs) j l ∙ at_under f fs j (omega (arith, ints, c.0)))) (same_itself eq laws (at fs j)))
           (λ u. same_along eq (sym (at_over (entry e.lo f.hi e.value) fs j u)) (sym (at_over e (f ∷ fs) j (omega (arith, ints, c.2.0)) ∙ at_over f fs j u)) (same_itself eq laws (at fs j)))
 
-  -- behind an entry
+  -- a join after the first entry
   one_behind : (s : ℤ) (d : Entry V) (old new : List (Entry V)) → IsOrdered (d ∷ old) → AreKeys low high (d ∷ old) → d.lo <ℤ s → IsOne s old new → IsOne s (d ∷ old) (d ∷ new)
   one_behind s d old new c k l i = record {
     joined = record {
@@ -74,7 +74,7 @@ module _ {V : Type 0} (eq : V → V → Bool) (laws : IsEquivalence eq) (low hig
   one_in [] e f fs c k touch alike b = one_here e f fs c k touch alike
   one_in (d ∷ front) e f fs c k touch alike b = one_behind f.lo d (front ++ e ∷ f ∷ fs) (front ++ entry e.lo f.hi e.value ∷ fs) c k b.0 (one_in front e f fs c.2 k.2 touch alike b.1)
 
-  -- where the entry is none, nothing is joined
+  -- if no entry starts at the joint, nothing is joined
   pub not_joined : (s : ℤ) (old new : List (Entry V)) → new ≡ old → IsOrdered old → AreKeys low high old → (HasStart old s → ⊥) → IsJoinedAt eq low high s old new
   not_joined s old new q c k n = subst (IsJoinedAt eq low high s old) (sym q) (record {
     ordered = c;
@@ -96,7 +96,7 @@ module _ {V : Type 0} where
   start_in b k (x ∷ xs) ys u l (inl p) = absurd (omega (arith, ints, u.0))
   start_in b k (x ∷ xs) ys u l (inr p) = start_in b k xs ys u.1 l p
 
-  -- no entry starts at s where the last that starts up to s starts below it
+  -- no entry starts at s if the last one that starts up to s starts below it
   pub none_starts : (s low high a z : ℤ) (es : List (Entry V)) → StartsAscend low high es → IsOrdered es → IsLastBelow (s +ℤ pos 1) a z es → a <ℤ s → HasStart es s → ⊥
   none_starts s low high a z es u c p l h =
       let i = holder never (s +ℤ pos 1) high es low a z u c p in
@@ -146,7 +146,7 @@ module _ {V : Type 0} where
     value_before : IsSome (at es (s -ℤ pos 1))
     value_before = some_of_same eq (at es s) (at es (s -ℤ pos 1)) (same_back eq laws (at es (s -ℤ pos 1)) (at es s) joint.1) joint.0
 
-    -- a key stands before a joint
+    -- a joint is not the least key
     pub joint_above : low <ℤ s
     joint_above = by_lt_z low s (λ l. l) (λ l. absurd (none_is_not (at es (s -ℤ pos 1)) (none_under low high (s -ℤ pos 1) es k (omega (arith, ints))) value_before))
 
@@ -157,7 +157,7 @@ module _ {V : Type 0} where
         let none : None ≡ last_below (s -ℤ pos 1 +ℤ pos 1) es = sym (ap (λ x. last_below x es) next ∙ none_from_map range_in (last_below s es) p) in
         none_is_not (at es (s -ℤ pos 1)) (none_at es (s -ℤ pos 1) (holding_none never (s -ℤ pos 1) low high es c u none)) value_before
 
-    -- the entry that starts at it, and the one before
+    -- the entry that starts at the joint, and the previous one
     module _ (a1 z1 a2 z2 : ℤ) (one : IsLastBelow (s +ℤ pos 1) a1 z1 es) (at_it : s ≤ℤ a1) (two : IsLastBelow s a2 z2 es) where
       abbrev this : Holder never (s +ℤ pos 1) high es a1 z1
       this = holder never (s +ℤ pos 1) high es low a1 z1 u c one

@@ -1,11 +1,11 @@
--- Joints, joined one after another.
+-- The joints are joined one by one.
 use Rattle.blaze_table.proofs.Words.{◌≡◌, ℤ, pos, ◌-ℤ◌, Bool, List, [], ◌∷◌, ◌++◌, length, Option, Some, map, ◌∙◌, sym, subst, ap, arith, inl, inr, option_to_list, IsEquivalence, Contains, Contains-append_left, Contains-push, Contains-push_cases, same_back, same_itself, same_trans, some_of_same, IsCanonical, IsRunStart, Entry, entry, at, SameOption, SameContent, AreStartsKept, IsJoint, IsJoinedAt, IsJoinedBut, IsOrdered}
 use Rattle.blaze_table.proofs.Fills.KeptEntries.{kept_further}
 use Rattle.blaze_table.proofs.Fills.Ordered.{canonical_by_starts}
 use Rattle.blaze_table.proofs.Fills.TakenBack.{map_last}
 
 module _ {V : Type 0} (eq : V → V → Bool) (laws : IsEquivalence eq) where
-  -- a joint, and a run start, of the same content
+  -- a joint, and a run start, of contents that are equal
   joint_as : (old new : ℤ → Option V) (k : ℤ) → ((j : ℤ) → SameOption eq (new j) (old j)) → IsJoint eq old k → IsJoint eq new k
   joint_as old new k s h = (
     some_of_same eq (old k) (new k) (same_back eq laws (new k) (old k) (s k)) h.0,
@@ -19,7 +19,7 @@ module _ {V : Type 0} (eq : V → V → Bool) (laws : IsEquivalence eq) where
         (same_trans eq laws (new (k -ℤ pos 1)) (new k) (old k) q (s k))),
   )
 
-  -- by what is left of the joints after the last is taken
+  -- the remaining joints after the last one is taken
   module _ {T : Type 0} (rank : T → ℤ) (all rest : List T) (t : T) (q : all ≡ rest ++ option_to_list (Some t)) (es : List (Entry V)) (i : IsJoinedBut eq (map rank all) es) where
     parts : map rank all ≡ map rank rest ++ rank t ∷ []
     parts = ap (map rank) q ∙ map_last rank rest t
@@ -48,7 +48,7 @@ module _ {V : Type 0} (eq : V → V → Bool) (laws : IsEquivalence eq) where
       let was = joint_as (at es) (at start) s (λ i. same_back eq laws (at es i) (at start i) (same i)) joint in
       kept_further new e k.0 k.1 (j.kept (entry e.lo k.0 e.value) k.2 (λ q. r.1 (subst (λ i. SameOption eq (at start (i -ℤ pos 1)) (at start i)) (sym q) was.1)))
 
-  -- where no joint is left
+  -- no joint remains
   pub joined_all : {T : Type 0} (rank : T → ℤ) (joints : List T) (es : List (Entry V)) → length joints ≡ 0 → IsOrdered es → IsJoinedBut eq (map rank joints) es → IsCanonical eq es
   joined_all rank [] es q c i = canonical_by_starts eq es c (λ k h. elim (i.starts k h) [ inl r ↦ r | inr r ↦ absurd (not_in k r) ])
     where

@@ -1,4 +1,4 @@
--- Entries that a fill keeps, with their very values.
+-- Entries that remain after a fill, with their very values.
 use Rattle.blaze_table.proofs.Words.{◌≡◌, ℤ, pos, ◌+ℤ◌, ◌≤ℤ◌, ◌<ℤ◌, Bool, List, [], ◌∷◌, Option, Some, refl, ◌∙◌, sym, subst, arith, IsEquivalence, Contains, ints, by_lt_z, same_along, same_back, same_trans, IsCanonical, Entry, entry, at, SameOption, IsKeptIn, AreStartsKept, AreKept}
 use Rattle.blaze_table.proofs.Canonical.Lookup.{IsAbove-from_apart, at_in, at_over}
 use Rattle.blaze_table.proofs.Paints.Kept.{by_first, same_in, later_in, over_in}
@@ -7,7 +7,7 @@ module _ {V : Type 0} where
   none_in : {P : Type 0} (e : Entry V) → Contains [] e → P
   none_in e (k, u, q) = absurd (omega arith)
 
-  -- an entry of the list, as it is
+  -- an entry of the list remains
   pub kept_same : (es : List (Entry V)) (e : Entry V) → Contains es e → IsKeptIn es e
   kept_same es e c = (e.hi, omega (arith, ints), c)
 
@@ -17,7 +17,7 @@ module _ {V : Type 0} where
   pub kept_later : (f : Entry V) (es : List (Entry V)) (e : Entry V) → IsKeptIn es e → IsKeptIn (f ∷ es) e
   kept_later f es e k = (k.0, k.1, later_in f es (entry e.lo k.0 e.value) k.2)
 
-  -- what is kept further, where it has a later end already
+  -- an entry that remains with a later end also remains with its own end
   pub kept_further : (es : List (Entry V)) (e : Entry V) (h : ℤ) → e.hi ≤ℤ h → IsKeptIn es (entry e.lo h e.value) → IsKeptIn es e
   kept_further es e h u k = (k.0, omega (arith, ints, u, k.1), k.2)
 
@@ -25,11 +25,11 @@ module _ {V : Type 0} (eq : V → V → Bool) where
   pub starts_same : (content : ℤ → Option V) (es : List (Entry V)) → AreStartsKept eq content es es
   starts_same content es e c s = kept_same es e c
 
-  -- where nothing changes, all is kept
+  -- if nothing changes, all entries remain
   pub all_kept : (content : ℤ → Option V) (es : List (Entry V)) → AreKept eq content es es
   all_kept content es = record { starts = starts_same content es; whole = λ e c s t. c }
 
-  -- what a canonical list has at the keys of an entry
+  -- the value of a canonical list at the keys of an entry
   pub value_in : (es : List (Entry V)) (e : Entry V) (k : ℤ) → IsCanonical eq es → Contains es e → e.lo ≤ℤ k → k ≤ℤ e.hi → at es k ≡ Some e.value
   value_in [] e k d c l h = none_in e c
   value_in (f ∷ fs) e k d c l h = by_first f fs e c
@@ -43,7 +43,7 @@ module _ {V : Type 0} (eq : V → V → Bool) where
       (λ q. subst (λ (x : Entry V). x.lo ≤ℤ x.hi) q d.0)
       (λ m. order_in fs e d.2 m)
 
-  -- an entry at whose end a run of the content ends has no later end
+  -- an entry whose end is a run end of the content has no later end
   pub are_kept : (laws : IsEquivalence eq) (content : ℤ → Option V) (old new : List (Entry V)) → IsCanonical eq old → IsCanonical eq new → ((k : ℤ) → SameOption eq (at new k) (content k))
       → AreStartsKept eq content old new → AreKept eq content old new
   are_kept laws content old new d f same starts = record {

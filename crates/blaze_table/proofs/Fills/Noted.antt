@@ -1,4 +1,4 @@
--- Joints noted beside a gap.
+-- The joints of a gap, as the code records them.
 use Rattle.blaze_table.proofs.Words.{◌≡◌, ℤ, Bool, true, List, [], ◌∷◌, ◌++◌, map, ◌∙◌, sym, subst, ap, inl, inr, Contains, Contains-append_left, Contains-push, Contains-push_cases, IsNoted}
 use Rattle.blaze_table.proofs.Fills.TakenBack.{map_last}
 

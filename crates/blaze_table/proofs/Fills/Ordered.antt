@@ -1,4 +1,4 @@
--- Ordered lists: what holds of them though touching entries may have equal values.
+-- Ordered lists, whose touching entries may have equal values.
 use Rattle.blaze_table.proofs.Words.{none_is_not, ◌≡◌, ℕ, ℤ, pos, ◌-ℤ◌, ◌<ℤ◌, Bool, true, false, List, [], ◌∷◌, Option, Some, None, refl, ◌∙◌, sym, subst, arith, inl, inr, IsSome, ints, by_lt_z, same_along, IsApart, IsCanonical, IsRunStart, HasStart, Entry, at, SameOption, never, IsOrdered, IsOrderedTable, IsTable}
 use Rattle.blaze_table.proofs.Canonical.Lookup.{IsAbove, IsAbove-from_apart, at_in, at_over, at_before}
 
@@ -18,13 +18,13 @@ module _ {V : Type 0} where
   pub ordered_table : (eq : V → V → Bool) (low high : ℤ) (n : ℕ) (es : List (Entry V)) → IsTable eq low high n es → IsOrderedTable low high n es
   ordered_table eq low high n es t = record { canonical = ordered_of eq es t.canonical; are_keys = t.are_keys; counted = t.counted }
 
-  -- each start is above a key above which the list begins, and has a value
+  -- each start is above the bound of the list and has a value
   pub start_above : (b k : ℤ) (es : List (Entry V)) → IsOrdered es → IsAbove b es → HasStart es k → b <ℤ k
   start_above b k [] c a h = absurd h
   start_above b k (e ∷ es) c a (inl p) = omega (arith, ints)
   start_above b k (e ∷ es) c a (inr q) = let r = start_above e.hi k es c.2 (IsAbove-from_apart never e es c.1) q in omega (arith, ints, c.0)
 
-  -- an ordered list is canonical where each start is a run start
+  -- an ordered list is canonical if each start is a run start
   pub canonical_by_starts : (eq : V → V → Bool) (es : List (Entry V)) → IsOrdered es → ((k : ℤ) → HasStart es k → IsRunStart eq (at es) k) → IsCanonical eq es
   canonical_by_starts eq [] c s = tt
   canonical_by_starts eq (e ∷ es) c s = (c.0, apart es c s, canonical_by_starts eq es c.2 later)

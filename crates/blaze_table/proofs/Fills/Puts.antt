@@ -1,11 +1,11 @@
--- An entry put into a gap of an ordered list.
+-- An entry is inserted into a gap of an ordered list.
 use Rattle.blaze_table.proofs.Words.{◌≡◌, ℤ, pos, ◌+ℤ◌, ◌-ℤ◌, ◌≤ℤ◌, ◌<ℤ◌, Bool, cond, true, false, List, [], ◌∷◌, Option, Some, None, refl, ◌∙◌, sym, ap, arith, inl, inr, ◌⊎◌, Contains, ints, by_lt_z, start_at, with_entry, by_order, AreKeys, HasStart, keys_in, Entry, at, holds, never, IsOrdered, IsClearFrom, painted}
 use Rattle.blaze_table.proofs.Canonical.Lookup.{IsAbove, IsAbove-from_apart, at_in, at_under, at_over, holds_under, holds_over, above_by}
 use Rattle.blaze_table.proofs.Paints.Kept.{by_first, same_in, later_in}
 use Rattle.blaze_table.proofs.Fills.Ordered.{apart_by}
 
 module _ {V : Type 0} (low high : ℤ) (p : Entry V) where
-  -- what the list with the entry has
+  -- the list with the entry
   pub record IsPut (es new : List (Entry V)) : Type 0 where
     pub ordered : IsOrdered new
     pub above : (b : ℤ) → IsAbove b es → b <ℤ p.lo → IsAbove b new
@@ -33,7 +33,7 @@ module _ {V : Type 0} (low high : ℤ) (p : Entry V) where
         (λ o q r. absurd (omega (arith, ints)))
         (λ o q r. absurd (omega (arith, ints)))
 
-    -- in front of entries above it
+    -- before entries above it
     put_front : (es : List (Entry V)) → IsOrdered es → IsAbove p.hi es → IsPut es (p ∷ es)
     put_front es c a = record {
       ordered = (order, apart_by p es a, c);
@@ -46,7 +46,7 @@ module _ {V : Type 0} (low high : ℤ) (p : Entry V) where
       kept = later_in p es;
     }
 
-    -- behind an entry that ends below it
+    -- after an entry that ends below it
     put_behind : (f : Entry V) (fs new : List (Entry V)) → IsOrdered (f ∷ fs) → f.hi <ℤ p.lo → IsPut fs new → IsPut (f ∷ fs) (f ∷ new)
     put_behind f fs new c l i = record {
       ordered = (c.0, apart_by f new (i.above f.hi (IsAbove-from_apart never f fs c.1) l), i.ordered);

@@ -1,4 +1,4 @@
--- Entries put in, remembered by their starts, and taken back.
+-- Entries are inserted, recorded by their starts, and removed again.
 use Rattle.blaze_table.proofs.Words.{◌≡◌, ℤ, List, [], ◌∷◌, ◌++◌, Some, None, map, refl, ◌∙◌, sym, subst, ap, IsSome, option_to_list, start_at, with_entry, without, Entry, AreThere, GoesBack, taken}
 use Rattle.blaze_entries.proofs.EditLists.{start_with, without_with}
 
@@ -30,7 +30,7 @@ module _ {V : Type 0} where
         taken = taken_last ss p.lo (with_entry p es) ∙ ap (taken ss) out ∙ g.taken;
       }))
 
-  -- by what is left of a list of keys after its last is taken
+  -- the remaining keys of a list after the last one is taken
   module _ {T : Type 0} (rank : T → ℤ) (all rest : List T) (t : T) (q : all ≡ rest ++ option_to_list (Some t)) (es : List (Entry V)) where
     parts : map rank all ≡ map rank rest ++ rank t ∷ []
     parts = ap (map rank) q ∙ map_last rank rest t

@@ -1,4 +1,4 @@
--- A walk upwards over the entries of an ordered list: which keys have values so far, and the first gap.
+-- A walk up the entries of an ordered list: the keys that have values so far, and the first gap.
 use Rattle.blaze_table.proofs.Words.{◌≡◌, ℤ, pos, ◌+ℤ◌, ◌-ℤ◌, ◌≤ℤ◌, ◌<ℤ◌, Bool, true, false, List, [], ◌∷◌, Option, Some, None, refl, ◌∙◌, sym, subst, ap, arith, inl, inr, ◌⊎◌, ◌↔◌, IsSome, IsTrue, ints, by_lt_z, same_along, AreKeys, ending_from, Entry, at, SameOption, IsHeldFrom, never, IsGapEnd, IsNextGap, IsOrdered}
 use Rattle.blaze_table.proofs.Canonical.Lookup.{IsAbove, IsAbove-from_apart, at_in, at_under, at_over, at_before, by_place}
 use Rattle.blaze_table.proofs.Neighbours.Ending.{ending_all, ending_skips, ending_takes}
@@ -13,7 +13,7 @@ module _ {V : Type 0} where
   ends_above k [] c a = tt
   ends_above k (e ∷ es) c a = omega (arith, ints, c.0)
 
-  -- no key outside of all has a value
+  -- no key outside the type's keys has a value
   pub none_under : (low high k : ℤ) (es : List (Entry V)) → AreKeys low high es → k <ℤ low → at es k ≡ None
   none_under low high k [] a l = refl
   none_under low high k (e ∷ es) a l = at_under e es k (omega (arith, ints, a.0)) ∙ none_under low high k es a.2 l
@@ -22,7 +22,7 @@ module _ {V : Type 0} where
   none_over low high k [] a l = refl
   none_over low high k (e ∷ es) a l = at_over e es k (omega (arith, ints, a.1)) ∙ none_over low high k es a.2 l
 
-  -- the entries that end at p or above it are all, once one does
+  -- the entries that end at p or above are the whole list if the first one does
   ending_whole : (p : ℤ) (e : Entry V) (es : List (Entry V)) → IsOrdered (e ∷ es) → p ≤ℤ e.hi → ending_from p (e ∷ es) ≡ e ∷ es
   ending_whole p e es c l = ending_takes p e es l ∙ ap (λ t. e ∷ t) (ending_all never p e.hi es c.2 l (IsAbove-from_apart never e es c.1))
 
@@ -63,7 +63,7 @@ module _ {V : Type 0} (eq : V → V → Bool) (v : V) where
   not_equal : (o : Option V) → o ≡ None → SameOption eq o (Some v) → ⊥
   not_equal o p s = same_along eq {c = None} p refl s
 
-  -- a key is below the greatest where the key after it has a value that is equal to v
+  -- a key is below the greatest if the next key has a value equal to v
   pub is_under : (low high k : ℤ) (es : List (Entry V)) → AreKeys low high es → SameOption eq (at es (k +ℤ pos 1)) (Some v) → k <ℤ high
   is_under low high k es a s = by_lt_z k high (λ l. l) (λ l. absurd (not_equal (at es (k +ℤ pos 1)) (none_over low high (k +ℤ pos 1) es a (omega (arith, ints))) s))
 
@@ -73,8 +73,8 @@ module _ {V : Type 0} (eq : V → V → Bool) (v : V) where
   equal_is : (o : Option V) (w : V) (t : Bool) → o ≡ Some w → t ≡ eq w v → IsTrue t ↔ SameOption eq o (Some v)
   equal_is o w t p q = subst (λ x. IsTrue t ↔ SameOption eq x (Some v)) (sym p) (subst (λ b. IsTrue b ↔ (eq w v ≡ true)) (sym q) (λ x. x, λ x. x))
 
-  -- Of the keys from l on those before `key` have values, and t says whether the last of them is equal to v. The other entries hold
-  -- what is from `key` on.
+  -- The keys from l to before `key` have values, and t says whether the last of them equals v. The remaining entries
+  -- have the content from `key` on.
   pub record IsWalked (content : ℤ → Option V) (l key : ℤ) (t : Bool) (rest : List (Entry V)) : Type 0 where
     pub ordered : IsOrdered rest
     pub ends : IsEndingFrom (key -ℤ pos 1) rest
@@ -84,7 +84,7 @@ module _ {V : Type 0} (eq : V → V → Bool) (v : V) where
     pub last : (at rest (key -ℤ pos 1) ≡ None) ⊎ (content (key -ℤ pos 1) ≡ at rest (key -ℤ pos 1))
     pub below : at rest (key -ℤ pos 1) ≡ None → IsTrue t ↔ SameOption eq (content (key -ℤ pos 1)) (Some v)
 
-  -- from the entries that end right below l on
+  -- the entries that end right below l or above
   pub walked_first : (low high l p : ℤ) (es : List (Entry V)) → IsOrdered es → AreKeys low high es → (p ≡ l -ℤ pos 1) ⊎ ((p ≡ l) × (l ≤ℤ low)) → IsWalked (at es) l l false (ending_from p es)
   walked_first low high l p es c a o = record {
     ordered = ending_ordered p es c;
@@ -141,7 +141,7 @@ module _ {V : Type 0} (eq : V → V → Bool) (v : V) where
               below = λ _. equal_is (content (j -ℤ pos 1)) e.value s (subst (λ k. content k ≡ Some e.value) is value_last) r;
             }
 
-      -- the next entry starts above it: the gap ends at b
+      -- the next entry starts above it, and the gap ends at b
       module _ (b h : ℤ) (g : IsGapEnd key h e.lo b) where
         none_before : (k : ℤ) → k <ℤ e.lo → at (e ∷ es) k ≡ None
         none_before k x = at_before never (e ∷ es) (e.lo -ℤ pos 1) k w.ordered (omega (arith, ints)) (omega (arith, ints))
@@ -173,7 +173,7 @@ module _ {V : Type 0} (eq : V → V → Bool) (v : V) where
               };
             }
 
-    -- no entry is left
+    -- no entry remains
     module _ (h : ℤ) (order : key ≤ℤ h) (w : IsWalked content l key t []) where
       pub end_gap : IsNextGap eq content v l h key h t false
       end_gap = record {

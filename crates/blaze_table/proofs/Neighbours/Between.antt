@@ -29,7 +29,7 @@ module _ {V : Type 0} (content : ℤ → Option V) where
       last c d m n h none (inl p) = omega (arith, ints)
       last c d m n h none (inr p) = by_lt_z b d (λ u. absurd (none_some (content (b +ℤ pos 1)) (none (b +ℤ pos 1) (omega (arith, ints)) (omega (arith, ints))) p)) (λ u. u)
 
--- of two intervals that meet at a key
+-- two intervals without values that meet at a key
 pub clear_both : {V : Type 0} (content : ℤ → Option V) (k a b : ℤ) → IsClearFrom content a k → IsClearFrom content k b → IsClearFrom content a b
 clear_both content k a b l r j m n = by_lt_z j k (λ u. l j m (omega (arith, ints))) (λ u. r j u n)
 
@@ -51,7 +51,7 @@ module _ {V : Type 0} where
   ends_before : (k : ℤ) (e : Entry V) (es : List (Entry V)) → at (e ∷ es) k ≡ None → e.lo ≤ℤ k → e.hi <ℤ k
   ends_before k e es n l = by_lt_z e.hi k (λ h. h) (λ h. absurd (none_some (at (e ∷ es) k) n (some_by (at (e ∷ es) k) e.value (at_in e es k l h))))
 
-  -- the least entry that starts above a key without a value, and what is between
+  -- the first entry that starts above a key without a value, and the keys between
   pub record IsAboveGap (k : ℤ) (es : List (Entry V)) (o : Option (Entry V)) : Type 0 where
     pub none : o ≡ None → (j : ℤ) → k ≤ℤ j → at es j ≡ None
     pub clear : (e : Entry V) → o ≡ Some e → (j : ℤ) → k ≤ℤ j → j <ℤ e.lo → at es j ≡ None
@@ -86,11 +86,11 @@ module _ {V : Type 0} (eq : V → V → Bool) where
       }))
 
   module _ (k b high : ℤ) (es : List (Entry V)) (c : IsCanonical eq es) (a : StartsAscend b high es) (n : at es k ≡ None) where
-    -- nothing starts up to the key
+    -- no entry starts up to the key
     pub below_clear : None ≡ last_below (k +ℤ pos 1) es → (j : ℤ) → j ≤ℤ k → at es j ≡ None
     below_clear p j l = at_none j (k +ℤ pos 1) high es (omega (arith, ints)) (no_last_from (k +ℤ pos 1) b high es a (sym p))
 
-    -- the last entry that starts up to the key, and what is between
+    -- the last entry that starts up to the key, and the keys between
     module _ (e : Entry V) (is : Some e ≡ last_below (k +ℤ pos 1) es) where
       abbrev parts : LastAt (k +ℤ pos 1) high e es
       parts = last eq k b high es c a e is

@@ -1,4 +1,4 @@
--- The entries that end at a key or above it, by the start of the first.
+-- The entries that end at a key or above, by the start of the first.
 use Rattle.blaze_table.proofs.Words.{◌≡◌, ℤ, ◌≤ℤ◌, ◌<ℤ◌, Bool, cond, List, [], ◌∷◌, Some, None, refl, ◌∙◌, sym, ap, subst, arith, option_map, ints, le_true, le_false, from, from_takes, from_skips, IsCanonical, ending_from, Entry, entry_at}
 use Rattle.blaze_table.proofs.Canonical.Lookup.{IsAbove, IsAbove-from_apart, entry_in, entry_under, entry_over, by_place, value-entry_at, at_before}
 
@@ -9,7 +9,7 @@ module _ {V : Type 0} where
   pub ending_skips : (k : ℤ) (e : Entry V) (es : List (Entry V)) → e.hi <ℤ k → ending_from k (e ∷ es) ≡ ending_from k es
   ending_skips k e es l = ap (λ b. cond b (e ∷ ending_from k es) (ending_from k es)) (le_false k e.hi l)
 
-  -- the entry that has a key starts up to it
+  -- the entry that contains a key starts up to it
   pub found_from : (k : ℤ) (e : Entry V) (es : List (Entry V)) → Some e ≡ entry_at es k → e.lo ≤ℤ k
   found_from k e [] p = cc
   found_from k e (d ∷ ds) p = by_place d k
@@ -18,7 +18,7 @@ module _ {V : Type 0} where
       (λ h. found_from k e ds (p ∙ entry_over d ds k h))
 
 module _ {V : Type 0} (eq : V → V → Bool) where
-  -- all of them, where they lie above the key
+  -- all entries, if they are above the key
   pub ending_all : (k b : ℤ) (es : List (Entry V)) → IsCanonical eq es → k ≤ℤ b → IsAbove b es → ending_from k es ≡ es
   ending_all k b [] c l a = refl
   ending_all k b (e ∷ es) c l a =
@@ -29,7 +29,7 @@ module _ {V : Type 0} (eq : V → V → Bool) where
   from_all_above j b (e ∷ es) c l a =
       from_takes j e es (omega (arith, ints)) ∙ ap (λ t. e ∷ t) (from_all_above j e.hi es c.2 (omega (arith, ints, c.0)) (IsAbove-from_apart eq e es c.1))
 
-  -- the entry at a key lies above what all lie above
+  -- the entry at a key is above the bound of the list
   above_found : (k b : ℤ) (e : Entry V) (es : List (Entry V)) → IsCanonical eq es → IsAbove b es → Some e ≡ entry_at es k → b <ℤ e.lo
   above_found k b e [] c a p = cc
   above_found k b e (d ∷ ds) c a p =
@@ -39,7 +39,7 @@ module _ {V : Type 0} (eq : V → V → Bool) where
       (λ l. later (p ∙ entry_under d ds k l))
       (λ h. later (p ∙ entry_over d ds k h))
 
-  -- from the key on, where no entry has it
+  -- the entries from the key on, if no entry contains it
   pub ending_clear : (k : ℤ) (es : List (Entry V)) → IsCanonical eq es → None ≡ entry_at es k → from k es ≡ ending_from k es
   ending_clear k [] c p = refl
   ending_clear k (d ∷ ds) c p = by_place d k
@@ -47,7 +47,7 @@ module _ {V : Type 0} (eq : V → V → Bool) where
       (λ l. from_takes k d ds (omega (arith, ints)) ∙ ap (λ t. d ∷ t) (ending_clear k ds c.2 (p ∙ entry_under d ds k l)) ∙ sym (ending_takes k d ds (omega (arith, ints, c.0))))
       (λ h. from_skips k d ds (omega (arith, ints, c.0)) ∙ ending_clear k ds c.2 (p ∙ entry_over d ds k h) ∙ sym (ending_skips k d ds h))
 
-  -- from the start of the entry that has the key
+  -- the entries from the start of the entry that contains the key
   pub ending_held : (k : ℤ) (e : Entry V) (es : List (Entry V)) → IsCanonical eq es → Some e ≡ entry_at es k → from e.lo es ≡ ending_from k es
   ending_held k e [] c p = cc
   ending_held k e (d ∷ ds) c p =

@@ -1,8 +1,8 @@
--- Lists glued at their last entry, and longer by one.
+-- Glued lists, split at the last entry of the first list.
 use Rattle.blaze_table.proofs.Words.{◌≡◌, ℤ, ◌<ℤ◌, Bool, true, false, cond, List, [], ◌∷◌, ◌++◌, refl, ◌∙◌, sym, ap, ◌&&◌, Entry, entry, is_joinable, join, glue, IsBelow}
 use Rattle.std.proofs.Common.{append_assoc}
 
--- two tests, by what each answers
+-- two tests, from the result of each
 pub and_both : (a b : Bool) → true ≡ a → true ≡ b → (a && b) ≡ true
 and_both true b p q = sym q
 and_both false b p q = sym p
@@ -14,11 +14,11 @@ module _ {V : Type 0} (eq : V → V → Bool) where
   glue-last (x ∷ []) e M = refl
   glue-last (x ∷ y ∷ xs) e M = ap (λ L. x ∷ L) (glue-last (y ∷ xs) e M)
 
-  -- and is put before another entry as it is, where the two don't touch with like values
+  -- it precedes another entry unchanged if the two do not touch with equal values
   pub glue-apart : (xs : List (Entry V)) (e f : Entry V) → is_joinable eq e f ≡ false → glue eq (xs ++ e ∷ []) (f ∷ []) ≡ (xs ++ e ∷ []) ++ f ∷ []
   glue-apart xs e f j = glue-last xs e (f ∷ []) ∙ ap (λ b. xs ++ cond b (entry e.lo f.hi e.value ∷ []) (e ∷ f ∷ [])) j ∙ sym (append_assoc xs (e ∷ []) (f ∷ []))
 
-  -- and is one with it where they do
+  -- it is joined with another entry if the two touch with equal values
   pub glue-joined : (xs : List (Entry V)) (e f : Entry V) → is_joinable eq e f ≡ true → glue eq (xs ++ e ∷ []) (f ∷ []) ≡ xs ++ entry e.lo f.hi e.value ∷ []
   glue-joined xs e f j = glue-last xs e (f ∷ []) ∙ ap (λ b. xs ++ cond b (entry e.lo f.hi e.value ∷ []) (e ∷ f ∷ [])) j
 

@@ -1,4 +1,4 @@
--- The last entry that starts below a key: found by its start, and ended below the key.
+-- The last entry that starts below a key: found by its start, and shortened below the key.
 use Rattle.blaze_table.proofs.Words.{◌≡◌, ℤ, pos, ◌-ℤ◌, ◌≤ℤ◌, ◌<ℤ◌, Bool, List, [], ◌∷◌, ◌++◌, Option, Some, None, refl, ◌∙◌, sym, ap, arith, int_lt, int_le, option_map, ints, subst, append-nil, append_assoc, filter-append, shown_found, range_in, shown_ends, RangeEntry, StartsAscend, below, from, last_below, start_at, with_end, by_order, StartsBelow, below_takes, below_skips, below_all, below_none, from_skips, from_none, from_all, more_below, halves, Entry, entry, IsCanonical, IsLeft, before, IsBelow}
 use Rattle.blaze_table.proofs.Paints.Splices.{before_cuts, before_keeps, below_more}
 use Rattle.blaze_table.proofs.Paints.Painted.{before_past}
@@ -34,7 +34,7 @@ module _ {V : Type 0} where
     pub last_there : start_at e.lo es ≡ Some e
     last_there = ap (start_at e.lo) r.parts ∙ found_there e.lo e r.front r.back refl r.front_below
 
--- the entry before a key ended below it
+-- the entry before a key is shortened below it
 module _ {V : Type 0} (eq : V → V → Bool) (k low high : ℤ) (es : List (Entry V)) (s : StartsAscend low high es) (c : IsCanonical eq (below k es)) where
   pub record Ended (l z : ℤ) (o : Option (Entry V)) : Type 0 where
     pub found : Entry V
@@ -81,7 +81,7 @@ module _ {V : Type 0} (eq : V → V → Bool) (k low high : ℤ) (es : List (Ent
         ∙ ap (λ x. i.front ++ entry r.found.lo x r.found.value ∷ i.back) q ∙ sym (append_assoc i.front (cut ∷ []) i.back)
         ∙ sym (ap (λ t. t ++ from k es) (ap (before k) b ∙ before_past k i.front (r.found ∷ []) (front_ends r i) ∙ ap (λ t. i.front ++ t) (before_cuts k r.found [] (omega (arith, ints)) (omega (arith, ints)))) ∙ ap (λ t. (i.front ++ cut ∷ []) ++ t) (from_last k high r.found es i))
 
--- an entry that was looked at as the last below a key
+-- an entry that a lookup returned as the last below a key
 pub left_is : {T V : Type 0} (rank : T → ℤ) (test : V → Bool) (l low high : ℤ) (es : List (Entry V)) → StartsAscend low high es → (left : Option (RangeEntry T Bool))
     → option_map (shown_found rank) left ≡ option_map (λ e. (e.lo, e.hi, test e.value)) (last_below l es) → IsLeft l (below l es) (option_map (shown_ends rank) left)
 left_is {T} {V} rank test l low high es s left q = by_both left (last_below l es) refl q

@@ -1,11 +1,11 @@
--- The last entry that starts below a key, with what stands before and behind it: searches and edits at its start.
+-- The last entry that starts below a key, with the entries before and after it: lookups and edits at its start.
 use Rattle.blaze_table.proofs.Words.{◌≡◌, Bool, ℤ, pos, ◌+ℤ◌, ◌≤ℤ◌, ◌<ℤ◌, List, [], ◌∷◌, ◌++◌, Option, Some, None, refl, ◌∙◌, sym, subst, ap, arith, IsSome, option_map, ints, append_assoc, range_in, StartsAscend, last_below, start_at, with_entry, without, with_end, by_order, start_none, StartsBelow, more_below, IsApart, IsCanonical, Entry, entry, IsLastBelow, IsBelow}
 use Rattle.blaze_entries.proofs.EditLists.{start_skips, end_put}
 use Rattle.blaze_table.proofs.Neighbours.Growing.{found_there}
 use Rattle.blaze_table.proofs.Cuts.Splits.{last_at, canonical_part, ends_below}
 
 module _ {V : Type 0} where
-  -- an entry put in behind those that start below it
+  -- an insertion after the entries that start below it
   pub with_entry-between : (p : Entry V) (b high : ℤ) (xs ys : List (Entry V)) → StartsBelow p.lo xs → p.lo <ℤ b → StartsAscend b high ys → with_entry p (xs ++ ys) ≡ xs ++ p ∷ ys
   with_entry-between p b high [] [] u l s = refl
   with_entry-between p b high [] (y ∷ ys) u l s = by_order p.lo y.lo
@@ -24,7 +24,7 @@ module _ {V : Type 0} where
       (λ o q r. absurd (omega (arith, ints, u.0)))
       (λ o q r. rw r (ap (λ t. x ∷ t) (without-between k e xs ys p u.1)))
 
-  -- none starts at a key between entries
+  -- no entry starts at a key between entries
   pub none-between : (k b high : ℤ) (xs ys : List (Entry V)) → StartsBelow k xs → k <ℤ b → StartsAscend b high ys → start_at k (xs ++ ys) ≡ None
   none-between k b high [] ys u l s = start_none k b high ys l s
   none-between k b high (x ∷ xs) ys u l s = start_skips k x (xs ++ ys) (λ q. omega (arith, ints, u.0)) ∙ none-between k b high xs ys u.1 l s
@@ -33,7 +33,7 @@ module _ {V : Type 0} where
   starts_behind k [] e u l = (l, tt)
   starts_behind k (x ∷ xs) e u l = (u.0, starts_behind k xs e u.1 l)
 
--- entries that stand apart from one before them start above its end
+-- entries apart from a previous one start above its end
 pub starts_over : {V : Type 0} (eq : V → V → Bool) (h high : ℤ) (e : Entry V) (ys : List (Entry V)) → IsApart eq e ys → StartsAscend h high ys → StartsAscend (e.hi +ℤ pos 1) high ys
 starts_over eq h high e [] r t = tt
 starts_over eq h high e (y ∷ ys) r t = (omega (arith, ints, r.0), t.1, t.2)
@@ -94,7 +94,7 @@ module _ {V : Type 0} (eq : V → V → Bool) (b high : ℤ) (es : List (Entry V
         one : {e f : Entry V} (o : Option (Entry V)) → o ≡ Some e → o ≡ Some f → e ≡ f
         one o p q = cc
 
-    -- at a key that it has, and where it does not start
+    -- at a key that it contains, and that is not its start
     module _ (k : ℤ) (l : s <ℤ k) (u : k ≤ℤ z) where
       parts_before : es ≡ (h.front ++ h.of ∷ []) ++ h.back
       parts_before = h.parts ∙ sym (append_assoc h.front (h.of ∷ []) h.back)

@@ -1,4 +1,4 @@
--- The entries at a key and next to it, by those that start next to it.
+-- The entries at a key and next to it, by the starts near the key.
 use Rattle.blaze_table.proofs.Words.{◌≡◌, ℤ, pos, ◌+ℤ◌, ◌≤ℤ◌, ◌<ℤ◌, Bool, true, false, cond, List, [], ◌∷◌, ◌++◌, Option, Some, None, refl, ◌∙◌, sym, ap, subst, arith, int_lt, int_le, find, reverse, filter, last_or, option_or, ints, reverse-append, append-nil, find-append, filter-append, lt_true, lt_false, StartsAscend, below, first_entry, last_below, first_from, below_all, below_none, Entry, entry_at, IsCanonical, IsBelow}
 use Rattle.blaze_table.proofs.Canonical.Lookup.{entry_in, entry_under, entry_over}
 use Rattle.blaze_table.proofs.Cuts.Splits.{LastAt, last_at, no_last_from, ends_below, canonical_part}
@@ -79,7 +79,7 @@ module _ {V : Type 0} (eq : V → V → Bool) (k : ℤ) where
   last_some x [] o = refl
   last_some x (y ∷ xs) o = last_some y xs o
 
-  -- of entries that all end below the key it is the last
+  -- if all entries end below the key, it is the last one
   all_below : (d : ℤ) (es : List (Entry V)) → d ≤ℤ k → IsBelow d es → find (λ e. int_lt e.hi k) (reverse es) ≡ last_or None es
   all_below d [] l h = refl
   all_below d (e ∷ es) l h =
@@ -109,7 +109,7 @@ module _ {V : Type 0} (eq : V → V → Bool) (k : ℤ) where
       pub below_here : e.hi <ℤ k → Some e ≡ find (λ x. int_lt x.hi k) (reverse es)
       below_here h = sym (apart ∙ ap (λ o. option_or o (find (λ x. int_lt x.hi k) (reverse parts.front))) (takes (int_lt e.hi k) (Some e) None (lt_true e.hi k h)))
 
-      -- it does not: the one before it does
+      -- the last entry that starts up to the key does not end below it: the previous one does
       pub below_before : k ≤ℤ e.hi → last_below e.lo es ≡ find (λ x. int_lt x.hi k) (reverse es)
       below_before h =
           ap (last_or None) front_is

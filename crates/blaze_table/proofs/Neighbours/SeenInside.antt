@@ -1,4 +1,4 @@
--- Whether a range lies inside an entry with an equal value, by the entry that starts there or below it.
+-- Whether a range is inside an entry with an equal value, by the entry that starts at the range or below it.
 use Rattle.blaze_table.proofs.Words.{◌≡◌, ◌+◌, ◌≤◌, ℤ, pos, ◌+ℤ◌, ◌≤ℤ◌, ◌<ℤ◌, Bool, true, false, List, [], ◌∷◌, ◌++◌, length, Option, Some, None, refl, ◌∙◌, sym, subst, ap, arith, inl, inr, ◌↔◌, int_le, last_or, option_map, option_or, ints, and_parts, and_from, le_true, le_holds, not_both, found_in, Seen, StartsAscend, below, last_below, start_at, by_order, start_none, below_none, below_takes, Entry, IsCanonical, IsInside, IsPlanOf, reaches, before, after, IsBelow}
 use Rattle.blaze_table.proofs.Paints.Inside.{inside_above}
 use Rattle.blaze_table.proofs.Canonical.Lookup.{IsAbove-from_apart, above_by}
@@ -6,7 +6,7 @@ use Rattle.blaze_table.proofs.Paints.Splices.{by_after, before_keeps, after_skip
 use Rattle.blaze_table.proofs.Cuts.Splits.{last_at, no_last_from, ends_below}
 use Rattle.blaze_table.proofs.Paints.Widened.{after_over}
 
--- the last entry that starts up to a key starts there, or is the last that starts below it
+-- the last entry that starts up to a key starts at it, or is the last that starts below it
 last_up : {V : Type 0} (l high : ℤ) (o : Option (Entry V)) (b : ℤ) (es : List (Entry V)) → StartsAscend b high es → last_or o (below (l +ℤ pos 1) es) ≡ option_or (start_at l es) (last_or o (below l es))
 last_up l high o b [] s = refl
 last_up l high o b (e ∷ es) s = by_order l e.lo
@@ -22,7 +22,7 @@ module _ {V : Type 0} (eq : V → V → Bool) (v : V) (l h : ℤ) (w : l ≤ℤ 
   map_or None b = refl
   map_or (Some e) b = refl
 
-  -- a list in which a range lies inside an entry is no longer than what lies below and above, and one entry
+  -- If a range is inside an entry, the list has at most one entry more than the parts below and above the range.
   pub inside_short : (es : List (Entry V)) → IsCanonical eq es → IsInside eq l h v es → length es ≤ length (before l es) + length (after h es) + 1
   inside_short [] c i = absurd i
   inside_short (e ∷ es) c (inl p) = by_after h e es

@@ -1,4 +1,4 @@
--- Entries taken out between two keys, and the parts of parts of a list.
+-- Entries are removed between two keys, and the parts of parts of a list.
 use Rattle.blaze_table.proofs.Words.{◌≡◌, ◌≤◌, ℤ, pos, ◌+ℤ◌, ◌≤ℤ◌, ◌<ℤ◌, cond, List, [], ◌∷◌, length, drop, Option, Some, None, refl, ◌∙◌, sym, subst, ap, arith, IsSome, int_lt, int_le, option_map, ints, by_lt_z, lt_true, lt_false, le_true, le_false, range_in, StartsAscend, below, from, first_entry, first_from, start_at, without, by_order, absent_next, from_takes, from_skips, Entry}
 use Rattle.blaze_table.proofs.Cuts.Splits.{first_there}
 use Rattle.blaze_entries.proofs.EditLists.{below_without}
@@ -27,7 +27,7 @@ module _ {V : Type 0} where
   started s t None p = cc
   started s t (Some e) p = let q : (s, t) ≡ range_in e = cc in (e, (refl, sym (ap (λ (x : ℤ × ℤ). x.0) q)))
 
-  -- one starts there, where some do
+  -- an entry starts there, if some entries remain
   pub none_there : (n : ℤ) (es : List (Entry V)) → None ≡ option_map range_in (first_from n es) → 1 ≤ length (from n es) → ⊥
   none_there n es p some = by_parts (from n es) p some
     where
@@ -35,12 +35,12 @@ module _ {V : Type 0} where
       by_parts [] q i = omega arith
       by_parts (e ∷ xs) q i = cc
 
-  -- the entries after a look for the next that starts from n on
+  -- the entries after a lookup of the next one that starts from n on
   module _ (n low high : ℤ) (cur was : List (Entry V)) (same : cur ≡ was) (h : StartsAscend low high cur) where
     found : first_from n was ≡ first_from n cur
     found = ap (first_from n) (sym same)
 
-    -- it is there
+    -- the entry exists
     pub there : (s t : ℤ) → Some (s, t) ≡ option_map range_in (first_from n was) → (n ≤ℤ s) × IsSome (start_at s cur)
     there s t p =
         let d = started s t (first_from n was) p in
@@ -49,7 +49,7 @@ module _ {V : Type 0} where
         let is = d.1.1 in
         (omega (arith, ints), subst (λ o. IsSome o) (sym (subst (λ (x : ℤ). start_at x cur ≡ Some d.0) is e.1)) refl)
 
-    -- what is left without it
+    -- the list without it
     pub left_from : (s t : ℤ) (new : List (Entry V)) → Some (s, t) ≡ option_map range_in (first_from n was) → new ≡ without s cur → from n new ≡ drop 1 (from n was)
     left_from s t new p q =
         let over = (there s t p).0 in
@@ -72,11 +72,11 @@ module _ {V : Type 0} where
             let start : s ≡ e.lo = ap (λ (x : ℤ × ℤ). x.0) ends in
             ap (from n) q ∙ ap (λ x. from n (without x cur)) start ∙ first_out cur e xs (omega (arith, ints)) r ∙ sym (ap (drop 1) (ap (from n) (sym same) ∙ r))
 
-  -- what is kept when one more is taken out
+  -- the entries that remain when one more is removed
   pub kept_below : (k s : ℤ) (new cur was args : List (Entry V)) → k ≤ℤ s → new ≡ without s cur → cur ≡ was → below k was ≡ below k args → below k new ≡ below k args
   kept_below k s new cur was args l n c a = ap (below k) n ∙ below_without k s cur l ∙ ap (below k) c ∙ a
 
-  -- a key that one starts above has a key after it
+  -- if an entry starts above a key, the key has a next one
   pub not_last : (k b high : ℤ) (es : List (Entry V)) → StartsAscend b high es → 1 ≤ length (from (k +ℤ pos 1) es) → k <ℤ high
   not_last k b high [] s n = absurd (omega arith)
   not_last k b high (e ∷ es) s n = by_lt_z k high
@@ -85,7 +85,7 @@ module _ {V : Type 0} where
       let skip = ap length (from_skips (k +ℤ pos 1) e es (omega (arith, ints, s.1))) in
       not_last k (e.lo +ℤ pos 1) high es s.2 (omega (arith, skip)))
 
-  -- nothing is taken out where nothing starts
+  -- if no entry starts at a key, a removal at the key changes nothing
   pub none_out : (k : ℤ) (es : List (Entry V)) → start_at k es ≡ None → without k es ≡ es
   none_out k [] q = refl
   none_out k (e ∷ es) q = by_order k e.lo

@@ -1,4 +1,4 @@
--- The steps of a paint in place one after another.
+-- The edits of a paint in place, one after another.
 use Rattle.blaze_table.proofs.Words.{◌≡◌, ℤ, pos, ◌+ℤ◌, ◌-ℤ◌, ◌≤ℤ◌, ◌<ℤ◌, Bool, List, [], ◌∷◌, ◌++◌, length, Option, Some, None, refl, ◌∙◌, sym, subst, ap, arith, int_lt, int_le, option_map, ints, by_lt_z, append_assoc, append-nil, filter-append, Contains, Contains-append_right, StartsAscend, below, from, last_below, start_at, with_end, StartsBelow, below_takes, from_skips, below_all, below_none, from_none, more_below, starts_below, halves, range_in, shown_ends, RangeEntry, IsLeft, Entry, entry, IsCanonical, inner, IsRestKept, IsStartPut, IsPutAt, IsEndPut, before, IsRangeTaken}
 use Rattle.blaze_table.proofs.Paints.Splices.{by_before, before_ends, before_keeps, before_cuts}
 use Rattle.blaze_table.proofs.Cuts.Splits.{last_at, from_at}
@@ -32,7 +32,7 @@ module _ {V : Type 0} (eq : V → V → Bool) where
       (λ u m p. rw p (m, tt))
       (λ u m p. rw p tt)
 
-  -- the entry below a range shortened, which changes nothing of what starts in it
+  -- the entry below a range is shortened, which does not change the entries that start in the range
   module _ (l z : ℤ) (new third : List (Entry V)) (c : IsCanonical eq (below l new)) (q : third ≡ before l (below l new) ++ from l new) where
     pub trimmed_start : start_at l third ≡ start_at l new
     trimmed_start = start_trimmed l (before l (below l new)) new third (starts_before l (below l new) c) q
@@ -44,11 +44,11 @@ module _ {V : Type 0} (eq : V → V → Bool) where
   rest_below l z old new r = let q : (l -ℤ pos 1) +ℤ pos 1 ≡ l = omega (arith, ints) in subst (λ x. below x new ≡ below x old) q r.below
 
   module _ (low high : ℤ) (es : List (Entry V)) (s : StartsAscend low high es) (c : IsCanonical eq es) where
-    -- what starts below l is as it was
+    -- the entries that start below l are unchanged
     pub under_canonical : (l : ℤ) (c2 : List (Entry V)) → below l c2 ≡ below l es → IsCanonical eq (below l c2)
     under_canonical l c2 q = subst (IsCanonical eq) (sym q) (canonical_below l low high es s c)
 
-    -- a range taken out
+    -- a range is removed
     pub taken_out : (l z : ℤ) → l ≤ℤ z → (c2 c3 c4 : List (Entry V)) → IsRestKept eq (l -ℤ pos 1) z es c2 → c3 ≡ before l (below l c2) ++ from l c2 → c4 ≡ below l c3 ++ from (z +ℤ pos 1) c3 → IsRangeTaken eq l z es c4
     taken_out l z w c2 c3 c4 r q t =
         let front = before l (below l es) in
@@ -66,7 +66,7 @@ module _ {V : Type 0} (eq : V → V → Bool) where
           kept = λ e i u. subst (λ xs. Contains xs e) (sym joined) (Contains-append_right (before l es) (from (z +ℤ pos 1) c2) e (r.like.kept e i u));
         }
 
-    -- an entry put in at l
+    -- an entry is inserted at l
     module _ (l z : ℤ) (v : V) (w : l ≤ℤ z) (c2 : List (Entry V)) (r : IsStartPut eq (entry l z v) es c2) where
       abbrev p : Entry V
       p = entry l z v
@@ -92,9 +92,9 @@ module _ {V : Type 0} (eq : V → V → Bool) where
                 ∙ ap (λ x. x ++ p ∷ above) (before_below l low high es s c);
           }
 
-  -- an entry made longer, the last one that starts below l
+  -- the last entry that starts below l is extended
   module _ (low high : ℤ) (es : List (Entry V)) (s : StartsAscend low high es) where
-    -- which one it is
+    -- the last entry that starts below l starts at f
     pub record IsLeftAt (l f : ℤ) : Type 0 where
       pub of : Entry V
       pub found : start_at f es ≡ Some of

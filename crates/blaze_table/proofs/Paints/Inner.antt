@@ -1,4 +1,5 @@
--- The entries that start above a range's first key, up to its end: how many of them go, and what an edit's steps make of them.
+-- The entries that start above a range's first key, up to its end. How many of them are removed, and the lists after
+-- each edit.
 use Rattle.blaze_table.proofs.Words.{◌≡◌, ℕ, ◌+◌, ◌≤◌, ℤ, pos, ◌+ℤ◌, ◌≤ℤ◌, ◌<ℤ◌, Bool, true, false, cond, List, [], ◌∷◌, ◌++◌, length, drop, Option, Some, None, refl, ◌∙◌, sym, subst, ap, arith, ⊎_elim, IsSome, IfSome, IsSomeAnd, is_some, int_lt, int_le, ◌||◌, option_map, int_eq, ints, by_lt_z, filter-append, lt_true, lt_false, StartsAscend, below, from, last_below, start_at, with_entry, without, with_end_value, IsStartMoved, IsFrontReplaced, by_order, start_none, StartsBelow, below_takes, below_skips, below_none, from_takes, from_skips, from_all, from_none, more_below, starts_from, length-below, Plan, IsCanonical, IsPlace, IsRestPut, goes, Entry, entry, inner, moved, IsRest}
 use Rattle.blaze_table.proofs.Cuts.Splits.{last_at}
 use Rattle.blaze_table.proofs.Neighbours.Growing.{last_there}
@@ -6,7 +7,7 @@ use Rattle.blaze_table.proofs.Paints.Clearing.{from_from}
 use Rattle.blaze_table.proofs.Paints.Placing.{ends_before}
 use Rattle.blaze_entries.proofs.EditLists.{below_with, from_with_under, from_without, from_replaced, start_skips, start_beside, start_beside_without}
 
--- both are there, or neither is
+-- both options are `Some`, or both are `None`
 pub both_some : {A B C : Type 0} (f : A → C) (g : B → C) (a : Option A) (b : Option B) → option_map f a ≡ option_map g b → is_some a ≡ is_some b
 both_some f g None None q = refl
 both_some f g None (Some b) q = cc
@@ -14,7 +15,7 @@ both_some f g (Some a) None q = cc
 both_some f g (Some a) (Some b) q = refl
 
 module _ {V : Type 0} where
-  -- the same, cut the other way round
+  -- the same list, filtered in the other order
   pub inner_parts : (l z : ℤ) (es : List (Entry V)) → inner l z es ≡ below (z +ℤ pos 1) (from (l +ℤ pos 1) es)
   inner_parts l z [] = refl
   inner_parts l z (e ∷ es) = by_lt_z e.lo (z +ℤ pos 1)
@@ -29,7 +30,7 @@ module _ {V : Type 0} where
       ap (from (l +ℤ pos 1)) (below_skips (z +ℤ pos 1) e es u) ∙ inner_parts l z es
       ∙ sym (ap (below (z +ℤ pos 1)) (from_takes (l +ℤ pos 1) e es m) ∙ below_skips (z +ℤ pos 1) e (from (l +ℤ pos 1) es) u)))
 
-  -- there are no more than start above l
+  -- no more than the entries that start above l
   pub inner_fits : (l z : ℤ) (es : List (Entry V)) (n : ℕ) → length (inner l z es) ≡ n → n ≤ length (from (l +ℤ pos 1) es)
   inner_fits l z es n q =
       let parts = ap length (inner_parts l z es) in
@@ -43,18 +44,18 @@ module _ {V : Type 0} where
       let up : StartsAscend e.lo high (e ∷ es) = (omega (arith, ints), s.1, s.2) in
       ap (λ xs. drop (length xs) (e ∷ es)) (below_none k e.lo high (e ∷ es) u up) ∙ sym (from_all k e.lo high (e ∷ es) u up))
 
-  -- once they are taken out, what starts above z is left of what started above l
+  -- after they are removed, the entries that start above l are those that start above z
   pub cleared : (l z low high : ℤ) (es : List (Entry V)) → StartsAscend low high es → l ≤ℤ z → (n : ℕ) → length (inner l z es) ≡ n → drop n (from (l +ℤ pos 1) es) ≡ from (z +ℤ pos 1) es
   cleared l z low high es s w n q =
       let up = from (l +ℤ pos 1) es in
       ap (λ k. drop k up) (sym q ∙ ap length (inner_parts l z es)) ∙ drop_below (z +ℤ pos 1) (l +ℤ pos 1) high up (starts_from (l +ℤ pos 1) low high es s)
       ∙ from_from (l +ℤ pos 1) (z +ℤ pos 1) es (omega (arith, ints))
 
-  -- as many where the same starts above l
+  -- their number is the same if the same entries start above l
   pub inner_same : (l z : ℤ) (new old : List (Entry V)) → from (l +ℤ pos 1) new ≡ from (l +ℤ pos 1) old → length (inner l z new) ≡ length (inner l z old)
   inner_same l z new old q = ap length (inner_parts l z new ∙ ap (below (z +ℤ pos 1)) q ∙ sym (inner_parts l z old))
 
-  -- one less, where one of them is taken out
+  -- their number is one lower if one of them is removed
   inner_without : (l z s : ℤ) (es : List (Entry V)) → l <ℤ s → s ≤ℤ z → IsSome (start_at s es) → length (inner l z (without s es)) + 1 ≡ length (inner l z es)
   inner_without l z s [] a u i = cc
   inner_without l z s (f ∷ fs) a u i = by_order s f.lo
@@ -77,16 +78,16 @@ module _ {V : Type 0} where
               (λ m. rw (below_takes (z +ℤ pos 1) f xs u, below_takes (z +ℤ pos 1) f [] u, from_takes (l +ℤ pos 1) f (below (z +ℤ pos 1) xs) m, from_takes (l +ℤ pos 1) f [] m) (omega arith)))
               (λ u. rw (below_skips (z +ℤ pos 1) f xs u, below_skips (z +ℤ pos 1) f [] u) (omega arith))
 
-  -- an entry is there
+  -- an entry exists
   some_is : {a : Entry V} (o : Option (Entry V)) → o ≡ Some a → IsSome o
   some_is o p = subst (λ x. IsSome x) (sym p) refl
 
-  -- the entry that keeps a rest starts up to z
+  -- the entry that keeps its keys above the range starts up to z
   pub rest_under : (z : ℤ) (es : List (Entry V)) (rest : Option (ℤ × ℤ)) → IsRest z es rest → IfSome rest (λ r. r.0 ≤ℤ z)
   rest_under z es None r = tt
   rest_under z es (Some e) r = r.starts
 
-  -- what lies above z got a start of its own, which moved where it started above l
+  -- the part above z became a separate entry; if its entry started above l, its start moved
   pub rest_inner : (l m z : ℤ) (rest : Option (ℤ × ℤ)) (above : Option V) (old new : List (Entry V)) → m ≤ℤ l → IfSome rest (λ r. r.0 ≤ℤ z) → IsRestPut m z rest above old new
       → length (inner l z new) + moved l rest ≡ length (inner l z old)
   rest_inner l m z None above old new w u q = let same = ap (λ xs. length (inner l z xs)) q in omega (arith, same)
@@ -108,7 +109,7 @@ module _ {V : Type 0} where
   pub rest_gone : (l z : ℤ) (rest : Option (ℤ × ℤ)) (above : Option V) (n : ℕ) (old new : List (Entry V)) → n + moved l rest ≡ length (inner l z old) → IfSome rest (λ r. r.0 ≤ℤ z) → IsRestPut l z rest above old new → length (inner l z new) ≡ n
   rest_gone l z rest above n old new g u q = let moves = rest_inner l l z rest above old new (omega (arith, ints)) u q in omega (arith, g, moves)
 
-  -- an entry put in at p, and then a start for what lies above it
+  -- an entry is inserted at p, and then the part above it becomes a separate entry
   pub new_gone : (p : Entry V) (n : ℕ) (rest : Option (ℤ × ℤ)) (above : Option V) (old c new : List (Entry V)) → n + moved p.lo rest ≡ length (inner p.lo p.hi old) → IfSome rest (λ r. r.0 ≤ℤ p.hi)
       → c ≡ with_entry p old → IsRestPut p.lo p.hi rest above c new → length (inner p.lo p.hi new) ≡ n
   new_gone p n rest above old c new g u e q =
@@ -116,7 +117,7 @@ module _ {V : Type 0} where
       let moves = rest_inner p.lo p.lo p.hi rest above c new (omega (arith, ints)) u q in
       omega (arith, g, put, moves)
 
-  -- a start for what lies above z, and then an entry in place of that at l
+  -- the part above z becomes a separate entry, and then the entry at l is replaced
   pub over_gone : (l z : ℤ) (v : V) (n : ℕ) (rest : Option (ℤ × ℤ)) (above : Option V) (old c new : List (Entry V)) → n + moved l rest ≡ length (inner l z old) → IfSome rest (λ r. r.0 ≤ℤ z)
       → IsRestPut l z rest above old c → new ≡ with_end_value l z v c → length (inner l z new) ≡ n
   over_gone l z v n rest above old c new g u q e =
@@ -124,7 +125,7 @@ module _ {V : Type 0} where
       let moves = rest_inner l l z rest above old c (omega (arith, ints)) u q in
       omega (arith, g, put, moves)
 
-  -- the front of the entry at l replaced
+  -- the front of the entry at l is replaced
   pub front_gone : (l z s t : ℤ) (v : V) (n : ℕ) (old new : List (Entry V)) → s ≤ℤ l → n + moved l (Some (s, t)) ≡ length (inner l z old) → IsFrontReplaced l z v (z +ℤ pos 1) old new → length (inner l z new) ≡ n
   front_gone l z s t v n old new u g i =
       let put = ap length (ap (inner l z) i.replaced ∙ ap (from (l +ℤ pos 1)) (below_with (z +ℤ pos 1) (entry (z +ℤ pos 1) i.of.hi i.of.value) (with_end_value l z v old) (omega (arith, ints)))) in
@@ -132,7 +133,7 @@ module _ {V : Type 0} where
       let stays : moved l (Some (s, t)) ≡ 0 = rw (lt_false l s u) refl in
       omega (arith, g, put, same, stays)
 
-  -- nothing starts where an entry was taken out
+  -- no entry starts at the start of a removed one
   start_gone : (k b high : ℤ) (es : List (Entry V)) → StartsAscend b high es → start_at k (without k es) ≡ None
   start_gone k b high [] s = refl
   start_gone k b high (e ∷ es) s = by_order k e.lo
@@ -140,14 +141,14 @@ module _ {V : Type 0} where
       (λ o q r. rw r (start_none k (e.lo +ℤ pos 1) high es (omega (arith, ints)) s.2))
       (λ o q r. rw (r, r) (start_gone k (e.lo +ℤ pos 1) high es s.2))
 
-  -- what starts at l then
+  -- the entry that then starts at l
   pub rest_start : {X : Type 0} (l m z low high : ℤ) (first : Option X) (rest : Option (ℤ × ℤ)) (above : Option V) (old new : List (Entry V)) → m ≤ℤ l → l ≤ℤ z → StartsAscend low high old
       → is_some first ≡ is_some (start_at l old) → IsRestPut m z rest above old new → goes l first rest ≡ is_some (start_at l new)
   rest_start l m z low high None None above old new w u s f q = f ∙ ap (λ xs. is_some (start_at l xs)) (sym q)
   rest_start l m z low high (Some x) None above old new w u s f q = f ∙ ap (λ xs. is_some (start_at l xs)) (sym q)
   rest_start {X} l m z low high first (Some r) above old new w u s f q = ⊎_elim (λ p. put above p.0 p.1) (λ p. shifted p.1) q
     where
-      -- it is not the entry that keeps the rest
+      -- it is not the entry that keeps its keys above the range
       other : (first : Option X) → (int_lt l r.0 || int_lt r.0 l) ≡ true → goes l first (Some r) ≡ is_some first
       other None t = refl
       other (Some x) t = t
@@ -170,7 +171,7 @@ module _ {V : Type 0} where
           (λ o p t. same_one first (rw (lt_false l r.0 (omega (arith, ints)), lt_false r.0 l (omega (arith, ints))) refl) ∙ sym (ap (λ y. is_some y) (at_l ∙ ap (λ k. start_at l (without k old)) (sym o) ∙ start_gone l low high old s)))
           (λ o p t. other first (rw (lt_false l r.0 (omega (arith, ints)), lt_true r.0 l o) refl) ∙ f ∙ sym (ap (λ y. is_some y) (at_l ∙ start_beside_without l r.0 old (λ t. absurd (omega (arith, ints))))))
 
-  -- what starts up to a key, without the one that starts at it
+  -- the entries that start up to a key, without the one that starts at it
   pub below_gone : (k b high : ℤ) (es : List (Entry V)) → StartsAscend b high es → below (k +ℤ pos 1) (without k es) ≡ below k es
   below_gone k b high [] s = refl
   below_gone k b high (e ∷ es) s = by_order k e.lo
@@ -178,7 +179,7 @@ module _ {V : Type 0} where
       (λ o q r. rw r (below_none (k +ℤ pos 1) (e.lo +ℤ pos 1) high es (omega (arith, ints)) s.2 ∙ sym (below_none k e.lo high (e ∷ es) (omega (arith, ints)) (omega (arith, ints), s.1, s.2))))
       (λ o q r. rw r (below_takes (k +ℤ pos 1) e (without k es) (omega (arith, ints)) ∙ ap (λ t. e ∷ t) (below_gone k (e.lo +ℤ pos 1) high es s.2) ∙ sym (below_takes k e es (omega (arith, ints)))))
 
-  -- the entry below a range shortened
+  -- the entry below a range is shortened
   module _ (l : ℤ) (front old new : List (Entry V)) (under : StartsBelow l front) (q : new ≡ front ++ from l old) where
     pub from_trimmed : from (l +ℤ pos 1) new ≡ from (l +ℤ pos 1) old
     from_trimmed =
@@ -198,7 +199,7 @@ module _ {V : Type 0} where
             (λ m. ap (start_at l) (from_skips l e es m) ∙ start_from es ∙ sym (start_skips l e es (λ t. absurd (omega (arith, ints)))))
             (λ m. ap (start_at l) (from_takes l e es m) ∙ ap (λ o. cond (int_eq l e.lo) (Some e) o) (start_from es))
 
--- where an entry starts at l, the one below it does not go on above z
+-- if an entry starts at l, the one below it does not extend above z
 pub place_over : {T V : Type 0} (eq : V → V → Bool) (rank : T → ℤ) (l low high : ℤ) (es : List (Entry V)) (plan : Plan T) (above : Option V) → StartsAscend low high es → IsCanonical eq es → IsSome (start_at l es)
     → IsPlace rank eq l es plan above → IsPlace rank eq l es plan None
 place_over {T} {V} eq rank l low high es plan above s c here p = record { order = p.order; rest = p.rest; left = p.left; first = p.first; gone = p.gone; above = by_last (last_below l es) refl }

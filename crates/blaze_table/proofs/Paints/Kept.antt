@@ -1,4 +1,4 @@
--- Entries that a paint leaves alone are among those that it makes.
+-- Entries that a paint does not affect are in the painted list.
 use Rattle.blaze_table.proofs.Words.{◌≡◌, ℤ, pos, ◌+ℤ◌, ◌≤ℤ◌, ◌<ℤ◌, Bool, List, [], ◌∷◌, inl, inr, ⊎_elim, sym, subst, ap, arith, IsEquivalence, Contains, ints, by_lt_z, Contains-append_left, Contains-append_right, Contains-append_cases, Contains-push, Contains-push_cases, from, from_takes, from_skips, Entry, IsCanonical, IsApartFrom, IsAlreadyIn, IsInside, LeavesAlone, before, after, glue, IsBelow, IsSameAbove}
 use Rattle.blaze_table.proofs.Canonical.Lookup.{IsAbove, IsAbove-from_apart, above_by}
 use Rattle.blaze_table.proofs.Paints.Splices.{by_before, by_after, by_join, below_left}
@@ -36,7 +36,7 @@ module _ {V : Type 0} (eq : V → V → Bool) where
       (λ q. subst (λ (x : Entry V). (b <ℤ x.lo) × (x.lo ≤ℤ x.hi)) q (a, k.0))
       (λ l. over_in b fs e (above_by f.hi b fs (omega (arith, ints, a, k.0)) (IsAbove-from_apart eq f fs k.1)) k.2 l)
 
-  -- a later one starts above the end of the first
+  -- a later entry starts above the end of the first
   later_over : (f : Entry V) (fs : List (Entry V)) (e : Entry V) → IsCanonical eq (f ∷ fs) → Contains fs e → (f.hi <ℤ e.lo) × (e.lo ≤ℤ e.hi)
   later_over f fs e k l = over_in f.hi fs e (IsAbove-from_apart eq f fs k.1) k.2 l
 
@@ -59,7 +59,8 @@ module _ {V : Type 0} (eq : V → V → Bool) where
           (λ q. let hi = ap (λ (x : Entry V). x.hi) q in omega (arith, ints))
           (λ l. let o = later_over f fs e d l in omega (arith, ints, o.0, o.1))
 
-  -- of two lists that are joined, an entry of the first that does not touch the second, and one of the second above the first
+  -- In two joined lists: an entry of the first that does not touch the second, and an entry of the second above the
+  -- first.
   in_glue_left : (L M : List (Entry V)) (e : Entry V) → Contains L e → IsAbove (e.hi +ℤ pos 1) M → Contains (glue eq L M) e
   in_glue_left [] M e c a = none_in e c
   in_glue_left (f ∷ []) [] e c a = c
@@ -82,7 +83,7 @@ module _ {V : Type 0} (eq : V → V → Bool) where
       (λ n p. rw p (later_in f (g ∷ gs) e c))
   in_glue_right b (f ∷ h ∷ L) M e l c u = later_in f (glue eq (h ∷ L) M) e (in_glue_right b (h ∷ L) M e l.1 c u)
 
-  -- an entry apart from the painted one
+  -- an entry apart from the painted one remains
   pub kept_apart : (laws : IsEquivalence eq) (p : Entry V) (es above : List (Entry V)) → p.lo ≤ℤ p.hi → IsCanonical eq es → IsAbove p.hi above → IsSameAbove eq p.hi es above
       → (e : Entry V) → Contains es e → IsApartFrom p e → Contains (glue eq (glue eq (before p.lo es) (p ∷ [])) above) e
   kept_apart laws p es above w k a s e c (inl u) =
@@ -99,7 +100,7 @@ module _ {V : Type 0} (eq : V → V → Bool) where
         (λ q. inl (subst (IsAlreadyIn eq p) (sym q) i))
         (λ l. inr (inside_of fs e l i))
 
-    -- each entry that is left alone
+    -- each entry that the paint does not affect remains
     pub kept_alone : (old new : List (Entry V)) → p.lo ≤ℤ p.hi → ((e : Entry V) → Contains old e → IsApartFrom p e → Contains new e) → (IsInside eq p.lo p.hi p.value old → new ≡ old)
         → (e : Entry V) → Contains old e → LeavesAlone eq p e → Contains new e
     kept_alone old new w apart inside e c (inl u) = absurd (omega (arith, ints))

@@ -1,4 +1,4 @@
--- A list that is the paint of another, but for values above that are only like the old.
+-- A painted list, where values above the range may be equal to the old ones instead of the same.
 use Rattle.blaze_table.proofs.Words.{option_or, ◌≡◌, ◌+◌, ◌≤◌, ℤ, ◌≤ℤ◌, ◌<ℤ◌, Bool, true, false, cond, List, [], ◌∷◌, ◌++◌, length, Option, Some, refl, ◌∙◌, sym, ap, arith, int_le, ◌&&◌, ints, IsEquivalence, same_along, same_itself, same_trans, same_or_right, same_or_left, Entry, holds, at, SameOption, SameContent, SameEntries, IsApart, IsCanonical, before, after, glue, paint, IsBelow, IsPaintOf, IsListPainted}
 use Rattle.blaze_table.proofs.Canonical.Lookup.{IsAbove, by_place, holds_under, holds_over}
 use Rattle.blaze_table.proofs.Canonical.Unique.{back}
@@ -53,7 +53,7 @@ module _ {V : Type 0} (eq : V → V → Bool) (laws : IsEquivalence eq) where
       same_cond false true p x y h = cc
       same_cond false false p x y h = h
 
-  -- it is at most one entry longer than what lies below and above
+  -- it has at most one entry more than the parts below and above
   pub painted_short : (p : Entry V) (es new : List (Entry V)) → IsPaintOf eq p es new → length new ≤ length (before p.lo es) + length (after p.hi es) + 1
   painted_short p es new r =
       let left = glue eq (before p.lo es) (p ∷ []) in
@@ -108,7 +108,7 @@ module _ {V : Type 0} where
   after_past l h (e ∷ A) X w b = after_skips h e (A ++ X) (omega (arith, ints, b.0)) ∙ after_past l h A X w b.1
 
 module _ {V : Type 0} (eq : V → V → Bool) (laws : IsEquivalence eq) (p : Entry V) where
-  -- on no key at all, nothing is painted
+  -- a range without a key paints nothing
   pub painted_nowhere : (es : List (Entry V)) → p.hi <ℤ p.lo → IsCanonical eq es → IsListPainted eq p es es
   painted_nowhere es h c = record {
     canonical = c;

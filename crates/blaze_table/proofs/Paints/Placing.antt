@@ -1,4 +1,4 @@
--- The starts of an edit put in, over plain lists.
+-- The inserts of an edit, over plain lists.
 use Rattle.blaze_table.proofs.Words.{◌≡◌, ℤ, pos, ◌+ℤ◌, ◌-ℤ◌, ◌≤ℤ◌, ◌<ℤ◌, Bool, true, false, cond, List, [], ◌∷◌, Option, Some, None, refl, ◌∙◌, sym, subst, ap, arith, ⊎_elim, IsSome, IfSome, IsSomeAnd, Contains, last_or, option_map, int_eq, IsEquivalence, ints, by_lt_z, shown_ends, below, from, last_below, start_at, with_entry, without, with_end_value, IsStartMoved, IsFrontReplaced, Plan, RangeEntry, by_order, one_value, below_takes, below_skips, Entry, entry, SameEntries, IsCanonical, HasRoom, IsLikeRest, IsPlace, IsRestPut, IsRest, IsRestOf, IsRestKept, IsStartPut, after, IsSameAbove}
 use Rattle.blaze_table.proofs.Paints.Clearing.{below_below}
 use Rattle.blaze_entries.proofs.EditLists.{below_with, from_with_under, from_with, start_with, start_beside, without_with, start_beside_without, below_without, from_without, below_replaced, from_replaced, start_replaced, start_beside_replaced, start_below}
@@ -17,7 +17,7 @@ module _ {V : Type 0} where
       some_none : (o : Option (Entry V)) → o ≡ Some e → o ≡ None → ⊥
       some_none o a b = cc
 
-  -- what starts up to a key is the same
+  -- the entries that start up to a key are the same
   module _ (k : ℤ) (old new : List (Entry V)) (same : below (k +ℤ pos 1) new ≡ below (k +ℤ pos 1) old) where
     pub same_below : below k new ≡ below k old
     same_below = sym (below_below k (k +ℤ pos 1) new (omega (arith, ints))) ∙ ap (below k) same ∙ below_below k (k +ℤ pos 1) old (omega (arith, ints))
@@ -32,7 +32,7 @@ module _ {V : Type 0} where
   put_back p old c new n q r = r ∙ ap (without p.lo) q ∙ without_with p old n
 
 module _ {V : Type 0} (eq : V → V → Bool) where
-  -- what starts above an entry's end is above the start of each that stands behind it
+  -- an entry that starts above an entry's end is after it
   over_later : (b l : ℤ) (g : Entry V) (es : List (Entry V)) → IsAbove b es → IsCanonical eq es → start_at l es ≡ Some g → b <ℤ l
   over_later b l g [] a c p = absurd (none_some p)
     where
@@ -46,7 +46,7 @@ module _ {V : Type 0} (eq : V → V → Bool) where
       later : int_eq l f.lo ≡ false → start_at l fs ≡ Some g
       later r = sym (ap (λ t. cond t (Some f) (start_at l fs)) r) ∙ p
 
-  -- an entry ends below the start of another that starts above its own
+  -- an entry ends below the start of another that starts above its own start
   pub ends_before : (s l : ℤ) (e g : Entry V) (es : List (Entry V)) → IsCanonical eq es → start_at s es ≡ Some e → start_at l es ≡ Some g → s <ℤ l → e.hi <ℤ l
   ends_before s l e g [] c p q u = absurd (none_some p)
     where
@@ -92,7 +92,8 @@ module _ {V : Type 0} (eq : V → V → Bool) where
       last_behind (x ∷ xs) q = q
 
 module _ {V : Type 0} (eq : V → V → Bool) (laws : IsEquivalence eq) where
-  -- what an entry has from n on starts there; what starts up to k is as before, and so is what starts from n on
+  -- The part of an entry from n on starts at n. The entries that start up to k and those that start from n on are
+  -- unchanged.
   record IsMovedOver (k s n : ℤ) (old new : List (Entry V)) : Type 0 where
     of : Entry V
     found : start_at s old ≡ Some of
@@ -109,7 +110,7 @@ module _ {V : Type 0} (eq : V → V → Bool) (laws : IsEquivalence eq) where
         over = ap (from n) w.moved ∙ from_with p (without s old) (start_beside_without n s old (λ t. absurd (omega (arith, ints))) ∙ none) ∙ ap (λ t. p ∷ t) (from_without n s old u);
       }
 
-  -- what lies above z, once what goes on there starts right above it
+  -- the part above z, after it became a separate entry
   rest_like : (z s t : ℤ) (old above : List (Entry V)) (r : IsRestOf z old s t) (v : V) → eq r.of.value v ≡ true → above ≡ entry (z +ℤ pos 1) t v ∷ from (z +ℤ pos 1) old → IsSameAbove eq z old above
   rest_like z s t old above r v i made = record {
     alike = subst (λ x. SameEntries eq (after z old) x) (sym made) (subst (λ x. SameEntries eq x (entry (z +ℤ pos 1) t v ∷ from (z +ℤ pos 1) old)) (sym r.rest) (refl, r.ends, i, entries_themselves eq laws (from (z +ℤ pos 1) old)));
@@ -122,7 +123,7 @@ module _ {V : Type 0} (eq : V → V → Bool) (laws : IsEquivalence eq) where
     kept = λ e c u. subst (λ es. Contains es e) (sym r) (in_from (z +ℤ pos 1) old e c (omega (arith, ints)));
   }
 
-  -- what starts up to k is as it was, and what lies above z starts above it
+  -- the entries that start up to k are unchanged, and the part above z starts above z
   module _ (l k z : ℤ) (w : k ≤ℤ z) (old c : List (Entry V)) (over : from (z +ℤ pos 1) c ≡ from (z +ℤ pos 1) old) where
     pub rest_put : (rest : Option (ℤ × ℤ)) (above : Option V) (new : List (Entry V)) → IsRest z old rest → HasRoom z c rest → IfSome rest (λ r. (start_at r.0 c ≡ start_at r.0 old) × (l ≤ℤ r.0 → k <ℤ r.0))
         → IsLikeRest eq l old rest above → IsRestPut l z rest above c new → (below (k +ℤ pos 1) new ≡ below (k +ℤ pos 1) c) × IsSameAbove eq z old (from (z +ℤ pos 1) new)
@@ -152,7 +153,7 @@ module _ {V : Type 0} (eq : V → V → Bool) (laws : IsEquivalence eq) where
   has_room z es None r = tt
   has_room z es (Some e) r = (r.over, is_there (start_at e.0 es) r.found, r.none)
 
-  -- the entry at k, and what starts below it, stay where an entry that starts above k is moved
+  -- the entry at k and those below it remain if an entry that starts above k is moved
   pub rest_kept : (l k z : ℤ) → k ≤ℤ z → (old new : List (Entry V)) (rest : Option (ℤ × ℤ)) (above : Option V) → IsRest z old rest → IfSome rest (λ r. l ≤ℤ r.0 → k <ℤ r.0) → IsLikeRest eq l old rest above → IsRestPut l z rest above old new → IsRestKept eq k z old new
   rest_kept l k z w old new rest above r u like q =
       let t = rest_put l k z w old old refl rest above new r (has_room z old rest r) (beside rest u) like q in
@@ -170,7 +171,7 @@ module _ {V : Type 0} (eq : V → V → Bool) (laws : IsEquivalence eq) where
   none_above rank l None above u = tt
   none_above rank l (Some e) above u = λ v. absurd (omega (arith, ints, u, v))
 
-  -- what is known of the place of an edit
+  -- the requirements of an edit
   module _ {T : Type 0} (rank : T → ℤ) (l : ℤ) (es : List (Entry V)) (plan : Plan T) (above : Option V) (c : IsCanonical eq es) (p : IsPlace rank eq l es plan above) where
     abbrev z : ℤ
     z = rank plan.end
@@ -178,7 +179,7 @@ module _ {V : Type 0} (eq : V → V → Bool) (laws : IsEquivalence eq) where
     abbrev rest : Option (ℤ × ℤ)
     rest = option_map (shown_ends rank) plan.rest
 
-    -- the entry whose rest it is, where it starts below l, is the last that starts below it
+    -- the entry that keeps its keys above the range is the last below l, if it starts below l
     pub like_rest : IsLikeRest eq l es rest above
     like_rest = by_rest rest p.rest
       where
@@ -192,7 +193,7 @@ module _ {V : Type 0} (eq : V → V → Bool) (laws : IsEquivalence eq) where
             let reach : z <ℤ e.hi = subst (λ (x : Entry V). z <ℤ x.hi) same (omega (arith, ints)) in
             subst (λ o. IfSome o (λ x. z <ℤ x.hi → IsSomeAnd above (λ v. eq x.value v ≡ true))) (around_last eq t.0 l e es c q u (omega (arith, ints))) p.above reach
 
-    -- so that `above` is there
+    -- so `above` is `Some`
     pub above_there : IfSome plan.rest (λ r. rank r.start <ℤ l → IsSome above)
     above_there = by_rest plan.rest p.rest like_rest
       where
@@ -204,7 +205,7 @@ module _ {V : Type 0} (eq : V → V → Bool) (laws : IsEquivalence eq) where
         by_rest None r i = tt
         by_rest (Some t) r i = λ u. some_and _ above (i u r.of r.found)
 
-    -- what starts below l stays in any case
+    -- the entries that start below l remain in any case
     pub rest_started : (new : List (Entry V)) → IsRestPut l z rest above es new → IsRestKept eq (l -ℤ pos 1) z es new
     rest_started new q = let order = p.order in rest_kept l (l -ℤ pos 1) z (omega (arith, ints)) es new rest above p.rest (under rest) like_rest q
       where
@@ -212,7 +213,7 @@ module _ {V : Type 0} (eq : V → V → Bool) (laws : IsEquivalence eq) where
         under None = tt
         under (Some r) = λ u. omega (arith, ints, u)
 
-  -- an entry put in where none starts
+  -- an entry is inserted where none starts
   module _ (p : Entry V) (order : p.lo ≤ℤ p.hi) (old c : List (Entry V)) (none : start_at p.lo old ≡ None) (put : c ≡ with_entry p old) where
     other : (rest : ℤ × ℤ) → IsRestOf p.hi old rest.0 rest.1 → rest.0 ≡ p.lo → ⊥
     other rest r = starts_differ p.lo rest.0 r.of old r.found none
@@ -237,7 +238,7 @@ module _ {V : Type 0} (eq : V → V → Bool) (laws : IsEquivalence eq) where
         beside None r = tt
         beside (Some e) r = (same_put e r, λ u. by_lt_z p.lo e.0 (λ h. h) (λ h. absurd (other e r (omega (arith, ints)))))
 
-  -- an entry in place of one that starts there
+  -- an entry replaces the one that starts at l
   module _ (l z : ℤ) (v : V) (order : l ≤ℤ z) (old : List (Entry V)) (present : IsSome (start_at l old)) where
     pub over_kept : (c new : List (Entry V)) → IsRestKept eq l z old c → new ≡ with_end_value l z v c → IsStartPut eq (entry l z v) old new
     over_kept c new w q = record {

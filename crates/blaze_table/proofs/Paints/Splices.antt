@@ -1,9 +1,9 @@
--- What a painted list has at each key, that it is canonical, and how long it is.
+-- A painted list: its value at each key, its canonical form and its length.
 use Rattle.blaze_table.proofs.Words.{◌≡◌, ◌+◌, ◌≤◌, ℤ, pos, ◌+ℤ◌, ◌-ℤ◌, ◌≤ℤ◌, ◌<ℤ◌, Bool, true, false, cond, List, [], ◌∷◌, length, Option, Some, None, refl, ◌∙◌, sym, ap, arith, option_or, int_lt, int_le, ints, by_lt_z, IsEquivalence, and_parts, by_bool, lt_true, lt_false, le_true, le_false, eq_holds, eq_true, and_fails, same_along, same_itself, same_trans, Entry, holds, at, SameOption, entry, IsApart, IsCanonical, before, after, is_joinable, join, glue, paint, IsBelow, painted}
 use Rattle.blaze_table.proofs.Canonical.Lookup.{IsAbove, at_in, at_under, at_over, by_place, at_before, holds_in, holds_under, holds_over}
 
 module _ {V : Type 0} where
-  -- `before`, by where its entry stands
+  -- `before`, by the position of its entry
   pub before_keeps : (k : ℤ) (e : Entry V) (es : List (Entry V)) → e.hi <ℤ k → before k (e ∷ es) ≡ e ∷ before k es
   before_keeps k e es h = ap (λ b. cond b (e ∷ before k es) (cond (int_lt e.lo k) (entry e.lo (k -ℤ pos 1) e.value ∷ []) [])) (lt_true e.hi k h)
 
@@ -23,7 +23,7 @@ module _ {V : Type 0} where
       → (k ≤ℤ e.hi → k ≤ℤ e.lo → before k (e ∷ es) ≡ [] → P) → P
   by_before k e es a b c = by_lt_z e.hi k (λ h. a h (before_keeps k e es h)) (λ h. by_lt_z e.lo k (λ l. b h l (before_cuts k e es h l)) (λ l. c h l (before_ends k e es h l)))
 
-  -- `after`, by where its entry stands
+  -- `after`, by the position of its entry
   pub after_skips : (k : ℤ) (e : Entry V) (es : List (Entry V)) → e.hi ≤ℤ k → after k (e ∷ es) ≡ after k es
   after_skips k e es h = ap (λ b. cond b (after k es) (cond (int_le e.lo k) (entry (k +ℤ pos 1) e.hi e.value ∷ es) (e ∷ es))) (le_true e.hi k h)
 
@@ -121,7 +121,7 @@ module _ {V : Type 0} (eq : V → V → Bool) where
       (λ u. at_in (entry (k +ℤ pos 1) e.hi e.value) es q (omega (arith, ints)) u ∙ sym (at_in e es q (omega (arith, ints)) u))))
       (λ h m p. rw p refl)
 
-  -- `join`, by whether the two meet with like values
+  -- `join`, by whether the two touch with equal values
   pub by_join : {P : Type 0} (e f : Entry V) (fs : List (Entry V))
       → (f.lo ≡ e.hi +ℤ pos 1 → eq e.value f.value ≡ true → join eq e (f ∷ fs) ≡ entry e.lo f.hi e.value ∷ fs → P)
       → ((f.lo ≡ e.hi +ℤ pos 1 → eq e.value f.value ≡ false) → join eq e (f ∷ fs) ≡ e ∷ f ∷ fs → P) → P

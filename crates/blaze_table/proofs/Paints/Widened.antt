@@ -1,4 +1,4 @@
--- A painted range, joined with what lies beside it, is what the paint makes of the list.
+-- A painted range, joined with its neighbours, is the result of the paint.
 use Rattle.blaze_table.proofs.Words.{◌≡◌, ℤ, pos, ◌+ℤ◌, ◌-ℤ◌, ◌≤ℤ◌, ◌<ℤ◌, Bool, true, false, cond, ◌&&◌, ◌||◌, List, [], ◌∷◌, ◌++◌, Option, Some, None, refl, ◌∙◌, sym, subst, ap, arith, inl, inr, IsSome, int_le, ◌⊎◌, Contains, int_eq, option_map, IsEquivalence, ints, by_lt_z, and_parts, append_assoc, le_holds, eq_holds, le_true, eq_true, one_value, Entry, entry, SameEntries, IsApart, IsCanonical, before, after, glue, IsPaintOf, IsSameAbove, found_in, StartsAscend, below, last_below, start_at, IsEnd, IsUnjoined, joined_start}
 use Rattle.blaze_table.proofs.Paints.Splices.{by_after, by_join, before_keeps, before_cuts, before_ends, below_more, after_skips, after_keeps, canonical_after}
 use Rattle.blaze_table.proofs.Canonical.Lookup.{IsAbove}
@@ -45,7 +45,7 @@ failed true y q = cc
 failed false y q = refl
 
 module _ {V : Type 0} (test : V → Bool) (l low high : ℤ) (es : List (Entry V)) (s : StartsAscend low high es) where
-  -- what the range is joined with on the left
+  -- the entry below that the range is joined with
   pub record StartedAt (l1 : ℤ) : Type 0 where
     pub of : Entry V
     pub is : last_below l es ≡ Some of
@@ -72,7 +72,7 @@ module _ {V : Type 0} (test : V → Bool) (l low high : ℤ) (es : List (Entry V
             ];
           }
 
--- the range ends at its own end, or above it
+-- the joined range ends at the range's end or above it
 pub end_up : {V : Type 0} (eq : V → V → Bool) (test : V → Bool) (h : ℤ) (es : List (Entry V)) → IsCanonical eq es → (z : ℤ) → IsEnd test h es z → h ≤ℤ z
 end_up eq test h es c z (inl e) = let q = e.0 in omega (arith, ints)
 end_up eq test h es c z (inr e) =
@@ -99,7 +99,7 @@ module _ {V : Type 0} (eq : V → V → Bool) (laws : IsEquivalence eq) (l h : �
     behind : before l i.back ≡ []
     behind = nothing_before i.back i.back_from (canonical_part eq (e ∷ []) i.back (canonical_part eq i.front (e ∷ i.back) cut))
 
-    -- what lies below the range ends with what is left of the entry
+    -- the part below the range ends with the shortened entry
     left_short : e.hi <ℤ l → before l es ≡ i.front ++ e ∷ []
     left_short u = ap (before l) i.parts ∙ before_past l i.front (e ∷ i.back) (below_more e.lo l i.front (omega (arith, ints, i.starts)) (ends_below eq i.front e i.back cut))
         ∙ ap (λ t. i.front ++ t) (before_keeps l e i.back u ∙ ap (λ t. e ∷ t) behind)
@@ -145,9 +145,9 @@ module _ {V : Type 0} (eq : V → V → Bool) (laws : IsEquivalence eq) (l h : �
       by_last (Some e) i q =
           left_alone e (last_at l low high e es s i) (λ k u. against (eq e.value v) (int_le l e.hi) (int_eq l (e.hi +ℤ pos 1)) (failed (eq e.value v && (int_le l e.hi || int_eq l (e.hi +ℤ pos 1))) e.lo q) k (near e u))
 
-  -- what lies behind the painted range, by where the range ends
+  -- the part after the painted range, by where the joined range ends
   module _ (z : ℤ) (end : IsEnd test h es z) (above : List (Entry V)) (like : IsSameAbove eq z es above) where
-    -- the parts of what is joined on the right: behind an entry m that ends at h with a value equal to v
+    -- the join with the entry above: it follows an entry m that ends at h with a value equal to v
     pub record Right (xs : List (Entry V)) (f : ℤ) (u : V) : Type 0 where
       pub rest : List (Entry V)
       pub same : IsSameAbove eq h es rest
@@ -222,7 +222,7 @@ module _ {V : Type 0} (eq : V → V → Bool) (laws : IsEquivalence eq) (l h : �
               ∙ sym g.glued ∙ sym (ap (λ x. glue eq x g.rest) (left_joined e i t.near t.like));
         }
 
-    -- the range stands by itself on the left
+    -- the range is not joined with an entry below it
     pub paint_puts : (new : List (Entry V)) → None ≡ joined_start l (option_map (found_in test) (last_below l es)) → new ≡ before l es ++ entry l z v ∷ above → IsPaintOf eq p es new
     paint_puts new q put =
         let g = right (before l es) l v (laws.refl v) in
