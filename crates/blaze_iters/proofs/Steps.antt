@@ -1,4 +1,4 @@
--- A step over the keys of ranges, from either end.
+-- One call of an iterator over the keys of ranges, at either end.
 use Rattle.blaze_iters.proofs.Words.{Bool, Result, Ok, Err, AllocError, TakesFirstLike, TakesLastLike, GivesFirstOrRefuses, GivesLastOrRefuses, IsLikePair, map, map-append, IfNone, TakesFirst, TakesLast, YieldsOpeningFirst, YieldsOpeningLast, YieldsFirstBy, YieldsLastBy, shown_key_value, keys_left, nat_of, ◌≡◌, ℕ, suc, zero, ◌+◌, ◌≤◌, ℤ, pos, ◌+ℤ◌, ◌-ℤ◌, ◌≤ℤ◌, ◌<ℤ◌, List, [], ◌∷◌, ◌++◌, length, Option, Some, None, refl, sym, ap, ◌∙◌, arith, append_assoc, append-nil, length-append, option_map, option_to_list, MakesProgress, item_count, ints, reverse-append, nat_of-pos, RangeEntry, Entry, entry, shown_range_entry, IsDisjoint, IsClear, pairs_from, pairs_of, pair_list, pairs_first, pairs_last, pairs_one, pair_list-append, RangesLeft, ranges_left, pairs_left, shown_left, OpensFirst, OpensLast, IsRestAfter, IsRestBefore, OwnedLeft, owned_ranges, HasSeveralFirst, HasSeveralLast}
 
 module _ {K V : Type 0} (of_rank : ℤ → K) where
@@ -14,7 +14,7 @@ module _ {K V : Type 0} (of_rank : ℤ → K) where
   only_key : (lo hi : ℤ) (v : V) → lo ≡ hi → pairs_of of_rank (entry lo hi v) ≡ (of_rank hi, v) ∷ []
   only_key lo hi v e = rw e (pairs_one of_rank hi v)
 
-  -- an entry that is not empty has a pair
+  -- a non-empty entry has a pair
   some_pair : (e : Entry V) → e.lo ≤ℤ e.hi → 1 ≤ length (pairs_of of_rank e)
   some_pair e h = many e.lo (nat_of (e.hi -ℤ e.lo +ℤ pos 1)) (let p = nat_of-pos (e.hi -ℤ e.lo +ℤ pos 1) (omega (arith, ints)) in omega (arith, ints))
     where
@@ -22,19 +22,19 @@ module _ {K V : Type 0} (of_rank : ℤ → K) where
       many a zero p = absurd (omega arith)
       many a (suc n) p = omega arith
 
-  -- ranges that are not empty have pairs
+  -- non-empty ranges have pairs
   some_first : (e : Entry V) (es : List (Entry V)) → e.lo ≤ℤ e.hi → 1 ≤ length (pair_list of_rank (e ∷ es))
   some_first e es h = omega (arith, some_pair e h, length-append (pairs_of of_rank e) (pair_list of_rank es))
 
   some_last : (es : List (Entry V)) (e : Entry V) → e.lo ≤ℤ e.hi → 1 ≤ length (pair_list of_rank (es ++ e ∷ []))
   some_last es e h = rw (pair_list-append of_rank es (e ∷ [])) (omega (arith, some_first e [] h, length-append (pair_list of_rank es) (pair_list of_rank (e ∷ []))))
 
-  -- there are no more entries than pairs
+  -- the number of entries is at most the number of pairs
   entries_within : (es : List (Entry V)) → IsDisjoint es → length es ≤ length (pair_list of_rank es)
   entries_within [] d = omega arith
   entries_within (e ∷ es) d = omega (arith, some_pair e d.0, entries_within es d.2, length-append (pairs_of of_rank e) (pair_list of_rank es))
 
-  -- there are no more whole ranges than pairs
+  -- the number of unopened ranges is at most the number of pairs
   pub whole_within : {I : Type 0} (left : I → List (Entry V)) (s : RangesLeft V I) → IsDisjoint (left s.inner) → length (left s.inner) ≤ length (pair_list of_rank (ranges_left left s))
   whole_within left s d =
       let inner = entries_within (left s.inner) d in
@@ -86,7 +86,7 @@ module _ {K V : Type 0} (rank : K → ℤ) (of_rank : ℤ → K) (s : OwnedLeft 
   pub some_of_last : HasSeveralLast s → 1 ≤ length (pairs_left of_rank (λ es. es) s)
   some_of_last h = let full : h.0.lo ≤ℤ h.0.hi = omega (arith, ints, h.3) in rw h.2 (some_last of_rank h.1 h.0 full)
 
--- the range that is opened at the near end is not asked for
+-- the range that is open at the near end is not used
 module _ {V I : Type 0} (left : I → List (Entry V)) (s t : RangesLeft V I) (near : Option (Entry V)) where
   opened_first : OpensFirst left s t → OpensFirst left s (record t { front = near })
   opened_first o = record { between = o.between; far = o.far }
@@ -94,7 +94,7 @@ module _ {V I : Type 0} (left : I → List (Entry V)) (s t : RangesLeft V I) (ne
   opened_last : OpensLast left s t → OpensLast left s (record t { back = near })
   opened_last o = record { between = o.between; far = o.far }
 
--- where none is opened at an end, the next range there is
+-- if no range is open at an end, the next range at that end is opened
 module _ {V I : Type 0} (left : I → List (Entry V)) (s t : RangesLeft V I) where
   pub opens_first : (e : Entry V) → s.front ≡ None → left s.inner ≡ e ∷ left t.inner → t.back ≡ s.back → OpensFirst left s t
   opens_first e none taken far = record { between = rw (none, taken) refl; far = rw (none, taken) far }
@@ -102,10 +102,10 @@ module _ {V I : Type 0} (left : I → List (Entry V)) (s t : RangesLeft V I) whe
   pub opens_last : (e : Entry V) → s.back ≡ None → left s.inner ≡ left t.inner ++ e ∷ [] → t.front ≡ s.front → OpensLast left s t
   opens_last e none taken far = record { between = rw (none, taken, reverse-append) refl; far = rw (none, taken, reverse-append) far }
 
--- ---- the key that a call takes from the range `opened`, which was opened before the call or by it
+-- ---- the key that a call takes from the range `opened`, which was open before the call or is opened by it
 
 module _ {K R V I : Type 0} (rank : K → ℤ) (of_rank : ℤ → K) (shown : R → V) (opened : Option (RangeEntry K R)) (left : I → List (Entry V)) (inner : I) (far : Option (RangeEntry K R)) where
-  -- where it was opened before the call, no range is opened
+  -- if a range was open before the call, no range is opened
   pub keeps_first : (e : RangeEntry K R) → opened ≡ Some e → OpensFirst left (shown_left rank shown opened inner far) (shown_left rank shown None inner far)
   keeps_first e o = rw o (record { between = refl; far = refl })
 
@@ -140,7 +140,7 @@ module _ {K R V I : Type 0} (rank : K → ℤ) (of_rank : ℤ → K) (shown : R 
     next_back_key None rest t = ((ap (λ es. map (λ p. p.0) (pair_list of_rank es)) (no_last_range t.0), rw t.1 (ap (λ es. map (λ p. p.0) (pair_list of_rank es)) (rw t.0 at none))), tt)
     next_back_key (Some k) rest t = (rw (ranges, t.1, ← t.2) (ap (map (λ p. p.0)) (takes_last rank of_rank shown left t.0 rest far inner t.3 t.4) ∙ map-append (λ p. p.0) _ _), opened_last left s (shown_left rank shown far inner None) _ opens)
 
--- the same where the value is cloned
+-- the key that a call takes, with a clone of the value
 module _ {K V : Type 0} (rank : K → ℤ) (of_rank : ℤ → K) (eq : V → V → Bool) (opened : Option (RangeEntry K V)) where
   abbrev stored : V → V
   stored v = v
@@ -167,16 +167,16 @@ module _ {K V : Type 0} (rank : K → ℤ) (of_rank : ℤ → K) (eq : V → V �
     )
     next_back_like ranges none opens (Some (Err x)) rest t = several_last rank of_rank s t.0 far inner (rw t.1 at ranges) t.2.0
 
--- the last of entries that are not empty is not
+-- the last of non-empty entries is not empty
 pub last_full : {V : Type 0} (es : List (Entry V)) (e : Entry V) → IsDisjoint (es ++ e ∷ []) → e.lo ≤ℤ e.hi
 last_full [] e d = d.0
 last_full (f ∷ es) e d = last_full es e d.2
 
--- the first range is moved out of the list in the middle
+-- the first range is taken out of the list between
 pub moved_first : {V : Type 0} (inner all back : List (Entry V)) (e : Entry V) → all ≡ e ∷ inner → all ++ back ≡ (e ∷ inner) ++ back
 moved_first inner all back e p = ap (λ l. l ++ back) p
 
--- the last range is moved out of the list in the middle
+-- the last range is taken out of the list between
 pub moved_last : {V : Type 0} (front inner all : List (Entry V)) (e : Entry V) → all ≡ inner ++ e ∷ [] → (front ++ all) ++ [] ≡ (front ++ inner) ++ e ∷ []
 moved_last front inner all e p = rw p (simp (append_assoc, append-nil))
 
@@ -184,7 +184,7 @@ clear_front : {V : Type 0} (f : Entry V) (es : List (Entry V)) (e : Entry V) →
 clear_front f [] e k = tt
 clear_front f (g ∷ es) e k = (k.0, clear_front f es e k.1)
 
--- what is left in the middle once the last range is taken
+-- the list between, without its last range
 pub rest_disjoint : {V : Type 0} (es : List (Entry V)) (e : Entry V) → IsDisjoint (es ++ e ∷ []) → IsDisjoint es
 rest_disjoint [] e d = tt
 rest_disjoint (f ∷ es) e d = (d.0, clear_front f es e d.1, rest_disjoint es e d.2)
@@ -197,11 +197,11 @@ module _ {S A B : Type 0} (can : S → Type 0) (rest : S → List B) (s : S) (x 
   pub goes_last : (y : B) → can t → rest s ≡ rest t ++ y ∷ [] → MakesProgress can (item_count rest) s (Some x) t
   goes_last y c e = let n : length (rest s) ≡ length (rest t) + 1 = ap length e ∙ length-append (rest t) (y ∷ []) in record { on = λ _. (c, tt, omega arith); keeps = c; rests = λ _. tt }
 
-  -- so does one that leaves nothing of some
+  -- a call after which nothing remains makes progress
   pub goes_refused : can t → 1 ≤ length (rest s) → rest t ≡ [] → MakesProgress can (item_count rest) s (Some x) t
   goes_refused c h e = let n : length (rest t) ≡ 0 = ap length e in record { on = λ _. (c, tt, omega arith); keeps = c; rests = λ _. tt }
 
--- so does one that gives what the iterator says
+-- a call that yields an item of the iterator makes progress
 module _ {S A B : Type 0} (view : A → B) (rest : S → List B) (s t : S) where
   pub goes_on_first : (r : Option A) → YieldsFirstBy view rest s r t → MakesProgress (λ _. Unit {0}) (item_count rest) s r t
   goes_on_first None y = record { on = λ _. tt; keeps = tt; rests = λ _. tt }

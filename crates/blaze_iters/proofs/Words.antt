@@ -1,4 +1,4 @@
--- The words of this crate's proofs that come from elsewhere: a file of proofs takes those that it needs from here.
+-- The names from other crates that this crate's proofs use. The files of proofs import them from here.
 pub use Rattle.std.proofs.Common.{◌≡◌, Bool, ℕ, suc, zero, ◌+◌, ◌≤◌, ℤ, pos, ◌+ℤ◌, ◌-ℤ◌, ◌≤ℤ◌, ◌<ℤ◌, List, [], ◌∷◌, ◌++◌, length, Option, Some, None, refl, sym, ap, ◌∙◌, arith, append_assoc, append-nil, length-append, map}
 pub use Rattle.std.proofs.lemmas.Int.{ints}
 pub use Rattle.std.proofs.lemmas.List.{reverse-append, map-append}

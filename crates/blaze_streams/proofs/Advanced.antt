@@ -1,4 +1,4 @@
--- The lists of a slice advanced one after another.
+-- The lists of a slice, advanced one by one.
 use Rattle.blaze_streams.proofs.Words.{◌≡◌, ℕ, ◌+◌, ◌<◌, ℤ, List, [], ◌∷◌, ◌++◌, length, slice_index_or, slice_set, refl, ◌∙◌, sym, ap, append_assoc, arith, append-nil, length_push, common_steps, set-append_seam, get_or-append_seam, Entry, after, all_after}
 
 module _ {A : Type 0} (t : ℤ) where

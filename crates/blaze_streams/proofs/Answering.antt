@@ -1,16 +1,16 @@
--- What a closure answered so far at the entries of a list, and one answer more.
+-- The results of a closure at the entries of a list so far, and one more result.
 use Rattle.blaze_streams.proofs.Words.{⊤, option_or, ◌≡◌, ℤ, pos, ◌+ℤ◌, ◌-ℤ◌, Bool, List, [], ◌∷◌, ◌++◌, Some, length, map, refl, ◌∙◌, sym, ap, subst, append_assoc, arith, FoldsTo, zip, Mut, IsEquivalence, FoldsTo-push, ints, map-append, append-nil, same_along, same_trans, same_or_left, Entry, entry, at, SameOption, IsCanonical, IsRangeMap, AreKeys, glue, IsBelow, are_keys_glue, canonical, one_per_run, canonical_glue, at_glue, below_glue, below_more, at_append, values, answered, EachValue, AnswersAtValue, SomeCallAtValue, TakesValue, IsCallableAtEachValue, IsTransformed, first_key}
 use Rattle.blaze_streams.proofs.Steady.{same_some}
 
--- the entries of calls, each with its answer
+-- the entries of calls, each with its result
 abbrev pub asked : {V W : Type 0} → List (Entry V × W) → List (Entry V)
 asked calls = map (λ c. c.0) calls
 
--- an entry with the answer in place of its value
+-- an entry with the result instead of its value
 abbrev pub with_answer : {V W : Type 0} → Entry V × W → Entry W
 with_answer c = entry c.0.lo c.0.hi c.1
 
--- what holds of each value
+-- a fact about each value
 pub each_any : {V : Type 0} (es : List (Entry V)) → EachValue (λ _. ⊤) es
 each_any [] = tt
 each_any (e ∷ es) = (tt, each_any es)
@@ -48,7 +48,7 @@ module _ {F A V W : Type 0} (shows : A → V) (g : Mut F A W) where
   values_append xs ys = map-append (λ e. e.value) xs ys
 
   module _ (eqv : V → V → Bool) (eq : W → W → Bool) (low high : ℤ) (f : F) (all : List (Entry V)) where
-    -- the closure was asked at the entries before `left`, and the list has its answers
+    -- the closure was called at the entries before `left`, and the list has its results
     pub record IsAnsweredSoFar (left : List (Entry V)) (f' : F) (out : List (Entry W)) : Type 0 where
       pub calls : List (Entry V × W)
       pub whole : all ≡ asked calls ++ left
@@ -87,7 +87,7 @@ module _ {F A V W : Type 0} (shows : A → V) (g : Mut F A W) where
           let u : d.lo ≡ s = same_some d.lo s p in
           below_glue eq s out (entry e.lo e.hi w ∷ []) (below_more e.lo s out (omega (arith, ints, c.0, c.1.0)) b) (omega (arith, ints, c.1.0), tt)
 
-      -- one answer more
+      -- one more result
       pub answered_more : (left others : List (Entry V)) (e : Entry V) (f' f'' : F) (out new : List (Entry W)) (w : W) (lo hi : ℤ)
           → IsAnsweredSoFar left f' out → left ≡ e ∷ others → AnswersAtValue shows g f' e.value w f'' → lo ≡ e.lo → hi ≡ e.hi → new ≡ glue eq out (entry lo hi w ∷ []) → IsAnsweredSoFar others f'' new
       answered_more left others e f' f'' out new w lo hi h is answer starts ends put =
@@ -111,7 +111,7 @@ module _ {F A V W : Type 0} (shows : A → V) (g : Mut F A W) where
                 (same_or_left eq laws (at out k) (at (map with_answer h.calls) k) (at piece k) (h.content k)));
           }
 
-      -- with no entry left, all are answered
+      -- if no entry remains, the closure was called at all of them
       pub answered_all : (left : List (Entry V)) (f' : F) (out : List (Entry W)) → IsAnsweredSoFar left f' out → left ≡ [] → IsTransformed shows g eq low high f all out
       answered_all left f' out h is =
           let entries : all ≡ asked h.calls = h.whole ∙ ap (λ l. asked h.calls ++ l) is ∙ append-nil (asked h.calls) in

@@ -1,8 +1,8 @@
--- The segments of two lists with values that are carried: those found so far, and what they have of the exact ones.
+-- The segments of two lists with carried values: those so far, and their relation to the exact ones.
 use Rattle.blaze_streams.proofs.Words.{◌≡◌, ℤ, Bool, true, ◌&&◌, cond, List, [], ◌∷◌, ◌++◌, Option, Some, None, refl, ◌∙◌, sym, ap, subst, ⊎_elim, option_eq, is_some, IsEquivalence, append-nil, AllZip-push, AreCloned, Entry, entry, SameEntries, IsCanonical, IsRangeMap, ClonesAreAlike, same_cloned, are_keys_as, canonical, one_per_run, canonical_as, JoinKind, Inner, Left, Full, shown_option, AreOptions, IsItOrCarried, ArePairsCarried, first_key, lesser, is_joined, pair_eq, piece_of, IsJoinOf, IsCarriedJoin, IsSegmentPut}
 use Rattle.blaze_streams.proofs.Paired.{pair_at, pair_laws, IsPairedSoFar, paired_none, paired_more, paired_all}
 
--- ---- what is carried is equal, and where it is the value itself it is the same
+-- ---- a carried value is equal, and a value that is carried as itself is the same
 
 -- a value is equal to itself
 pub itself_alike : {V : Type 0} (eq : V → V → Bool) → IsEquivalence eq → ClonesAreAlike (λ v w. w ≡ v) eq
@@ -31,17 +31,17 @@ same_exact (e ∷ es) (f ∷ fs) c =
     ∙ ap (λ y. entry e.lo e.hi (e.value.0, y) ∷ fs) (itself_only e.value.1 f.value.1 c.0.2.1)
     ∙ ap (λ l. e ∷ l) (same_exact es fs c.1)
 
--- where a value is carried as itself, the segments are the exact ones
+-- if each value is carried as itself, the segments are the exact ones
 pub exact_join : {A B : Type 0} (eqa : A → A → Bool) (eqb : B → B → Bool) (low high : ℤ) (kind : JoinKind) (left : List (Entry A)) (right : List (Entry B)) (segments : List (Entry (Option A × Option B))) → IsCarriedJoin (λ v w. w ≡ v) (λ v w. w ≡ v) eqa eqb low high kind left right segments → IsJoinOf eqa eqb low high kind left right segments
 exact_join eqa eqb low high kind left right segments j = subst (IsJoinOf eqa eqb low high kind left right) (sym (same_exact j.exact segments j.carried)) j.is_join
 
--- ---- what a segment has
+-- ---- the values of a segment
 
 there_as_shown : {C V : Type 0} (f : C → V) (o : Option C) (x : Option V) → shown_option f o ≡ x → is_some o ≡ is_some x
 there_as_shown f None x p = ap is_some p
 there_as_shown f (Some c) x p = ap is_some p
 
--- a join is asked for what carriers stand for, where it is asked for the carriers
+-- a join selects values exactly if it selects their carriers
 pub joined_as_shown : {C D A B : Type 0} (f : C → A) (g : D → B) (kind : JoinKind) (o : Option C) (p : Option D) (x : Option A) (y : Option B) → shown_option f o ≡ x → shown_option g p ≡ y → is_joined kind o p ≡ is_joined kind x y
 joined_as_shown f g Inner o p x y l r = rw (there_as_shown f o x l, there_as_shown g p y r) refl
 joined_as_shown f g Left o p x y l r = there_as_shown f o x l
@@ -54,7 +54,7 @@ module _ {A B : Type 0} (carrieda : A → A → Type 0) (carriedb : B → B → 
 -- ---- the walk
 
 module _ {A B : Type 0} (carrieda : A → A → Type 0) (carriedb : B → B → Type 0) (eqa : A → A → Bool) (eqb : B → B → Bool) (low high : ℤ) (kind : JoinKind) where
-  -- the list has the segments of two lists, of which L and R are left
+  -- the list has the segments of two lists so far, where L and R remain
   pub record IsCarriedSoFar (left : List (Entry A)) (right : List (Entry B)) (L : List (Entry A)) (R : List (Entry B)) (out : List (Entry (Option A × Option B))) : Type 0 where
     pub exact : List (Entry (Option A × Option B))
     pub so_far : IsPairedSoFar eqa eqb low high kind left right L R exact
@@ -69,7 +69,7 @@ module _ {A B : Type 0} (carrieda : A → A → Type 0) (carriedb : B → B → 
   put_piece s t (Some v) None exact out o c = absurd o
   put_piece s t (Some v) (Some w) exact out o c = AllZip-push _ exact out (entry s t v) (entry s t w) c (refl, refl, o)
 
-  -- one segment more
+  -- one more segment
   pub carried_more : (left L L' : List (Entry A)) (right R R' : List (Entry B)) (out new : List (Entry (Option A × Option B))) (s : ℤ) → IsCanonical eqa L → IsCanonical eqb R → lesser (first_key L) (first_key R) ≡ Some s → IsSegmentPut carrieda carriedb low high kind s L L' R R' out new → IsEquivalence eqa → IsEquivalence eqb → IsCarriedSoFar left right L R out → IsCarriedSoFar left right L' R' new
   carried_more left L L' right R R' out new s ca cb starts m lawsa lawsb h = record {
     exact = h.exact ++ piece_of s m.end (pair_at kind L R m.end);
@@ -77,7 +77,7 @@ module _ {A B : Type 0} (carrieda : A → A → Type 0) (carriedb : B → B → 
     carried = subst (AreCloned (ArePairsCarried carrieda carriedb) (h.exact ++ piece_of s m.end (pair_at kind L R m.end))) (sym m.put) (put_piece s m.end (pair_at kind L R m.end) m.given h.exact out m.carried h.carried);
   }
 
-  -- with no key left, all segments are found
+  -- if no key remains, the list has all segments
   pub carried_all : IsEquivalence eqa → IsEquivalence eqb → (left L : List (Entry A)) (right R : List (Entry B)) (out : List (Entry (Option A × Option B))) → IsCarriedSoFar left right L R out → lesser (first_key L) (first_key R) ≡ None → IsCarriedJoin carrieda carriedb eqa eqb low high kind left right out
   carried_all lawsa lawsb left L right R out h f = record {
     exact = h.exact;
@@ -85,7 +85,7 @@ module _ {A B : Type 0} (carrieda : A → A → Type 0) (carriedb : B → B → 
     carried = h.carried;
   }
 
-  -- and they are a range map, where what is carried is equal
+  -- if carried values are equal, the segments are a range map
   pub carried_range_map : IsEquivalence eqa → IsEquivalence eqb → ClonesAreAlike carrieda eqa → ClonesAreAlike carriedb eqb → (left : List (Entry A)) (right : List (Entry B)) (segments : List (Entry (Option A × Option B))) → IsCarriedJoin carrieda carriedb eqa eqb low high kind left right segments → IsRangeMap (pair_eq eqa eqb) low high segments
   carried_range_map lawsa lawsb alikea alikeb left right segments j = record {
     runs = one_per_run (pair_eq eqa eqb) laws segments (canonical_as (pair_eq eqa eqb) laws j.exact segments same (canonical (pair_eq eqa eqb) laws j.exact j.is_join.range_map.runs));

@@ -1,14 +1,14 @@
--- What is chosen so far from two streams, and one step more.
+-- The choice from two streams so far, and one more piece.
 use Rattle.blaze_streams.proofs.Words.{option_or, ◌≡◌, ℤ, pos, ◌+ℤ◌, ◌-ℤ◌, ◌≤ℤ◌, ◌<ℤ◌, Bool, List, [], ◌∷◌, Option, Some, None, refl, ◌∙◌, sym, ap, arith, ⊎_elim, IsEquivalence, ints, by_lt_z, same_along, same_itself, same_trans, same_or_left, same_or_right, same_back, or_assoc, or_none, none_or, Entry, entry, at, SameOption, IsCanonical, AreKeys, IsChosen, glue, after, IsBelow, are_keys_glue, IsAbove, at_in, at_under, at_over, glue-nil, one_per_run, canonical_glue, at_glue, below_glue, below_more, above_after, at-after_over, IsTaken, PutsValue, PutsAlike, first_key, IsFrom, lesser}
 use Rattle.blaze_streams.proofs.Steady.{same_some, from_first, at_below_from, at-after_under}
 use Rattle.blaze_streams.proofs.Lesser.{at_most_both, at_most_itself, lesser_one, some_lesser}
 
--- a list without a first key has nothing
+-- a list without a first key has no values
 pub none_there : {A : Type 0} (es : List (Entry A)) (k : ℤ) → first_key es ≡ None → at es k ≡ None
 none_there [] k p = refl
 none_there (e ∷ es) k p = cc
 
--- where two lists have no first key, neither has one
+-- if two lists together have no first key, neither has one
 pub no_first : (p q : Option ℤ) → lesser p q ≡ None → (p ≡ None) × (q ≡ None)
 no_first None q n = (refl, n)
 no_first (Some a) q n = absurd (some_lesser a q n)
@@ -21,35 +21,35 @@ first_above {A} t s es p = above (after t es) (above_after t es) p
     above (f ∷ fs) a q = let u : f.lo ≡ s = same_some f.lo s q in omega (arith, ints, a)
 
 module _ {A B : Type 0} where
-  -- no range of two starts below their first key
+  -- no range of two lists starts below their first key
   pub both_from : (s : ℤ) (L : List (Entry A)) (R : List (Entry B)) → lesser (first_key L) (first_key R) ≡ Some s → IsFrom s L × IsFrom s R
   both_from s L R starts = let m = at_most_both (first_key L) (first_key R) s (at_most_itself _ s starts) in (from_first s L m.0, from_first s R m.1)
 
 module _ {V : Type 0} (eq : V → V → Bool) (laws : IsEquivalence eq) where
-  -- nothing before what is the same
+  -- no value before equal values
   nothing_before : (a b c : Option V) → a ≡ None → b ≡ c → SameOption eq (option_or a b) c
   nothing_before a b c p q = same_along eq (sym (ap (λ z. option_or z b) p ∙ none_or b ∙ q)) refl (same_itself eq laws c)
 
-  -- nothing after what is the same
+  -- no value after equal values
   nothing_after : (a b c : Option V) → b ≡ None → SameOption eq a c → SameOption eq (option_or a b) c
   nothing_after a b c p s = same_along eq (sym (ap (option_or a) p ∙ or_none a)) refl s
 
--- the lesser of two keys, by what the code has in hand
+-- the lesser of two keys, from equal keys of the code
 pub lesser_is : (p q p' q' : Option ℤ) (s : ℤ) → Some s ≡ lesser p q → p ≡ p' → q ≡ q' → lesser p' q' ≡ Some s
 lesser_is p q p' q' s e f g = cc
 
--- what is chosen at a key from what two lists have there
+-- the choice between the values of two lists at a key
 abbrev pub chosen_at : {A B V : Type 0} → (Option A → Option B → Option V) → List (Entry A) → List (Entry B) → ℤ → Option V
 chosen_at choose L R k = choose (at L k) (at R k)
 
--- the list has what was chosen from two lists, of which L and R are left
+-- the list has the choice from two lists so far, where L and R remain
 pub record IsChosenSoFar {A B V : Type 0} (eq : V → V → Bool) (low high : ℤ) (choose : Option A → Option B → Option V) (left : List (Entry A)) (right : List (Entry B)) (L : List (Entry A)) (R : List (Entry B)) (out : List (Entry V)) : Type 0 where
   pub canonical : IsCanonical eq out
   pub keys : AreKeys low high out
   pub under : (s : ℤ) → lesser (first_key L) (first_key R) ≡ Some s → IsBelow s out
   pub content : (k : ℤ) → SameOption eq (option_or (at out k) (chosen_at choose L R k)) (chosen_at choose left right k)
 
--- what a step puts behind the list, on the keys from s to t
+-- the piece that is appended to the list, for the keys from s to t
 record IsPiece {A B V : Type 0} (eq : V → V → Bool) (low high : ℤ) (choose : Option A → Option B → Option V) (L L' : List (Entry A)) (R R' : List (Entry B)) (s t : ℤ) (piece : List (Entry V)) : Type 0 where
   pub canonical : IsCanonical eq piece
   pub keys : AreKeys low high piece
@@ -66,7 +66,7 @@ module _ {A B V : Type 0} (eq : V → V → Bool) (laws : IsEquivalence eq) (low
     content = λ k. nothing_before eq laws None (chosen_at choose L R k) (chosen_at choose L R k) refl refl;
   }
 
-  -- where nothing is chosen from what is left, all is chosen
+  -- if the choice has no value on the remaining keys, the list is complete
   pub chosen_all : (left L : List (Entry A)) (right R : List (Entry B)) (out : List (Entry V)) → IsChosenSoFar eq low high choose left right L R out → ((k : ℤ) → chosen_at choose L R k ≡ None) → IsChosen eq low high choose left right out
   chosen_all left L right R out c none = record {
     range_map = record { runs = one_per_run eq laws out c.canonical; keys = c.keys };
@@ -89,7 +89,7 @@ module _ {A B V : Type 0} (eq : V → V → Bool) (laws : IsEquivalence eq) (low
         rw (taken.left_is, taken.right_is)
         (ap (λ x. choose x (at (after t R) k)) (at-after_over eqa t k L ca l) ∙ ap (choose (at L k)) (at-after_over eqb t k R cb l))
 
-    -- a piece has on the keys from f to t what is chosen at f, and nothing elsewhere
+    -- a piece has the choice at f on the keys from f to t, and no value elsewhere
     piece_content : (piece : List (Entry V)) → ((k : ℤ) → k <ℤ f → at piece k ≡ None) → ((k : ℤ) → t <ℤ k → at piece k ≡ None) → ((k : ℤ) → f ≤ℤ k → k ≤ℤ t → SameOption eq (at piece k) (chosen_at choose L R f))
         → (k : ℤ) → SameOption eq (option_or (at piece k) (chosen_at choose L' R' k)) (chosen_at choose L R k)
     piece_content piece under over here k = by_lt_z k f
@@ -146,7 +146,7 @@ module _ {A B V : Type 0} (eq : V → V → Bool) (laws : IsEquivalence eq) (low
               (same_or_right eq laws (at out k) (option_or (at piece k) rest) (chosen_at choose L R k) (p.content k)) (c.content k)));
         }
 
-    -- one step more, with a value behind the list that is equal to the one that is taken
+    -- one more piece, whose value is equal to the taken one
     pub chosen_more : low ≤ℤ f → t ≤ℤ high → PutsAlike eq f t value out new → IsChosenSoFar eq low high choose left right L R out → IsChosenSoFar eq low high choose left right L' R' new
     chosen_more low_is high_is puts c =
         let alike = same_trans eq laws (chosen_at choose L R f) value puts.alike taken.alike puts.same in

@@ -1,4 +1,4 @@
--- Fewer keys are left of two streams after a step.
+-- After each piece, fewer keys remain of two streams.
 use Rattle.blaze_streams.proofs.Words.{◌≡◌, ◌+◌, ◌<◌, ◌≤◌, ℤ, ◌≤ℤ◌, Bool, List, [], ◌∷◌, Option, Some, refl, arith, ⊎_elim, ints, by_lt_z, Entry, IsCanonical, after, after_keeps, IsTaken, first_key, lesser}
 use Rattle.blaze_streams.proofs.LengthsLeft.{lengths_left, all_less}
 use Rattle.blaze_streams.proofs.Lesser.{lesser_one}
@@ -14,7 +14,7 @@ module _ {A : Type 0} (eq : A → A → Bool) (t : ℤ) where
       (λ l. rw (after_keeps t e es (omega (arith, ints, c.0)) l) (omega arith))
       (λ l. omega (arith, less e.lo (e ∷ es) c l refl))
 
--- of two lists, of which at least one has the key s, fewer keys are left above a key from s on
+-- if at least one of two lists has the key s, fewer keys remain above a key from s on
 pub both_less : {A B : Type 0} (eqa : A → A → Bool) (eqb : B → B → Bool) (s t : ℤ) (L : List (Entry A)) (R : List (Entry B))
     → IsCanonical eqa L → IsCanonical eqb R → lesser (first_key L) (first_key R) ≡ Some s → s ≤ℤ t → lengths_left (after t L) + lengths_left (after t R) < lengths_left L + lengths_left R
 both_less eqa eqb s t L R ca cb starts order = ⊎_elim

@@ -1,9 +1,9 @@
--- A list's ranges, and between them the value `None`.
+-- The ranges of a list, with the value `None` between them.
 use Rattle.blaze_streams.proofs.Words.{◌≡◌, ℤ, pos, ◌+ℤ◌, ◌-ℤ◌, ◌≤ℤ◌, ◌<ℤ◌, Bool, List, [], ◌∷◌, ◌++◌, map, Option, Some, None, refl, ◌∙◌, sym, ap, subst, append_assoc, arith, option_eq, IsEquivalence, options_equiv, ints, map-append, Entry, entry, at, IsApart, IsCanonical, AreKeys, IsRangeMap, IsAbove, IsAbove-from_apart, at_in, at_under, at_over, at_before, by_place, above_low, above_rest, canonical, one_per_run, with_none, none_before, filled_entries, IsFilledWithNone}
 use Rattle.blaze_streams.proofs.GapLists.{by_gap}
 
 module _ {V : Type 0} (eq : V → V → Bool) (high : ℤ) where
-  -- what a gap and the list after it are, by whether the gap has keys
+  -- a gap and the list after it, by whether the gap has keys
   by_none : (P : List (Entry (Option V)) → Type 0) (n l : ℤ) → (n <ℤ l → P (entry n (l -ℤ pos 1) None ∷ [])) → (l ≤ℤ n → P []) → P (none_before n l)
   by_none P n l there nowhere = by_gap (λ G. P (map with_none G)) n l there nowhere
 
@@ -14,7 +14,7 @@ module _ {V : Type 0} (eq : V → V → Bool) (high : ℤ) where
   rest : (e : Entry V) (es : List (Entry V)) → IsCanonical eq (e ∷ es) → IsAbove (e.hi +ℤ pos 1 -ℤ pos 1) es
   rest e es c = above_rest eq (e.hi +ℤ pos 1 -ℤ pos 1) e es (omega (arith, ints)) c
 
-  -- an entry is apart from what is filled right above it
+  -- an entry is apart from the filled list right above it
   apart_filled : (e : Entry V) (es : List (Entry V)) → IsApart eq e es → IsApart (option_eq eq) (entry e.lo e.hi (Some e.value)) (filled_entries (e.hi +ℤ pos 1) high es)
   apart_filled e [] a = by_none (IsApart (option_eq eq) (entry e.lo e.hi (Some e.value))) (e.hi +ℤ pos 1) (high +ℤ pos 1)
       (λ h. (omega (arith, ints), λ p. refl))
@@ -58,7 +58,7 @@ module _ {V : Type 0} (eq : V → V → Bool) (high : ℤ) where
       let is = at_over f more k i ∙ at_filled (e.hi +ℤ pos 1) es k c.2 (rest e es c) (omega (arith, ints)) u ∙ ap Some (sym (at_over e es k i)) in
       by_none P n e.lo (λ h. at_over (entry n (e.lo -ℤ pos 1) None) (f ∷ more) k (omega (arith, ints, c.0)) ∙ is) (λ h. is))
 
--- ---- one range after another
+-- ---- ranges appended one by one
 
 -- a list of items with one more, seen as entries
 pub seen_more : {X E : Type 0} (seen : X → E) (new old : List X) (x : X) (e : E) → new ≡ old ++ x ∷ [] → seen x ≡ e → map seen new ≡ map seen old ++ e ∷ []
@@ -86,6 +86,6 @@ module _ {V : Type 0} (eq : V → V → Bool) (laws : IsEquivalence eq) (low hig
         content = λ k l u. at_filled eq high low es k c above l u;
       }
 
-  -- what was made, range by range
+  -- the list so far, range by range
   pub fill_made : (n : ℤ) (old new : List (Entry (Option V))) (left : List (Entry V)) → old ++ filled_entries n high left ≡ filled_entries low high es → left ≡ [] → new ≡ old ++ none_before n (high +ℤ pos 1) → IsFilledWithNone eq low high es new
   fill_made n old new left i is pushed = subst (IsFilledWithNone eq low high es) (sym (pushed ∙ ap (λ es. old ++ filled_entries n high es) (sym is) ∙ i)) filled_all

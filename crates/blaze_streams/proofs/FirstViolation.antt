@@ -1,4 +1,4 @@
--- The first violation of a list, looked for from the front.
+-- The first item of a list that violates the law, found from the front.
 use Rattle.blaze_streams.proofs.Words.{◌≡◌, ℕ, zero, suc, ◌+◌, ◌<◌, ℤ, pos, ◌+ℤ◌, ◌≤ℤ◌, ◌<ℤ◌, Bool, true, false, List, [], ◌∷◌, length, Option, Some, None, refl, ◌∙◌, ap, arith, if◌then◌else◌, int_le, int_lt, ◌&&◌, ◌||◌, option_map, int_eq, IsEquivalence, ints, lt_false, le_false, eq_true, eq_holds, and_fails, Entry, IsApart, IsCanonical, IsOnePerRun, AreKeys, IsRangeMap, canonical, one_per_run, violates, ViolatesAfter, IsFirstViolation}
 
 -- ---- tests
@@ -17,7 +17,7 @@ none_of false true c d p q r = cc
 none_of false false true d p q r = r refl
 none_of false false false d p q r = refl
 
--- ---- one step of the search
+-- ---- one item of the search
 
 abbrev step : Bool → Option ℕ → Option ℕ
 step here later = if here then Some 0 else option_map suc later
@@ -105,6 +105,6 @@ module _ {V : Type 0} (eq : V → V → Bool) (laws : IsEquivalence eq) where
   ended low high all [] before place p n k = record { runs = one_per_run eq laws all (sound eq None all p).1; keys = k tt }
   ended low high all (e ∷ es) before place p n k = absurd (omega arith)
 
-  -- a list with a violation does not keep the law
+  -- a list with a violation does not obey the law
   pub broken : (es : List (Entry V)) (place : ℕ) → IsFirstViolation eq es place → IsOnePerRun eq es → ⊥
   broken es place b r = complete eq None es place b.here tt (canonical eq laws es r)

@@ -1,4 +1,4 @@
--- The segments that were found so far, and one more.
+-- The segments so far, and one more.
 use Rattle.blaze_streams.proofs.Words.{◌≡◌, ℕ, ◌<◌, ℤ, pos, ◌+ℤ◌, ◌≤ℤ◌, ◌<ℤ◌, Bool, true, false, cond, nat_eq, List, [], ◌∷◌, ◌++◌, Option, Some, None, refl, ◌∙◌, sym, ap, arith, ⊎_elim, option_eq, is_some, option_or, list_any, IsEquivalence, first_so, second_so, nat_eq_equiv, lists_equiv, options_equiv, false_from_ne_true, ints, same_along, or_none, or_assoc, Entry, at, SameOption, IsCanonical, IsBelow, at_in, at_under, at_over, by_place, at_append, one_per_run, IsBelow-push, below_more, Segment, row, present, row_eq, shown_segment, shown_segments, IsSegmentsOf, AllCanonical, first_keys, all_after, IsNextSegment}
 use Rattle.blaze_streams.proofs.Steady.{changes}
 use Rattle.blaze_streams.proofs.LengthsLeft.{all_lengths_left, all_less}
@@ -17,7 +17,7 @@ option_same eq None (Some y) h = cc
 option_same eq (Some x) None h = cc
 option_same eq (Some x) (Some y) h = h
 
--- right above the last range of the list the content has no value like that range's own
+-- right above the last range of the list, the content has no value equal to the range's
 abbrev pub EndsApart : {V : Type 0} → (V → V → Bool) → List (Entry V) → (ℤ → Option V) → Type 0
 EndsApart eq [] content = Unit {0}
 EndsApart eq (e ∷ []) content = SameOption eq (Some e.value) (content (e.hi +ℤ pos 1)) → ⊥
@@ -42,7 +42,7 @@ module _ {A : Type 0} where
   there r p = ap (λ b. cond b (Some r) None) p
 
   module _ (eq : A → A → Bool) where
-    -- what a segment takes off
+    -- the lists after a segment is taken
     next_present : (Ls : List (List (Entry A))) (p : Entry (List (Option A))) (k : ℤ) → AllCanonical eq Ls → IsFirstSegment Ls p → present (row Ls k) ≡ option_or (at (p ∷ []) k) (present (row (all_after p.hi Ls) k))
     next_present Ls p k c n = by_place p k
         (λ l h. ap present (n.steady k l h) ∙ there p.value n.some ∙ ap (λ z. option_or z (present (row (all_after p.hi Ls) k))) (sym (at_in p [] k l h)))
@@ -65,7 +65,7 @@ module _ {A : Type 0} where
     same_present r s true p h = h
     same_present r s false p h = absurd h
 
-    -- the first segments of lists, and what is left of them
+    -- the first segments of lists, and the remaining lists
     pub record IsFound (lists : List (List (Entry A))) (out : List (Entry (List (Option A)))) (Ls : List (List (Entry A))) : Type 0 where
       pub left : AllCanonical eq Ls
       pub canonical : IsCanonical (row_eq eq) out
@@ -104,7 +104,7 @@ module _ {A : Type 0} where
     pub next_less : (Ls Ls' : List (List (Entry A))) (p : Entry (List (Option A))) → AllCanonical eq Ls → IsNextSegment Ls p Ls' → all_lengths_left Ls' < all_lengths_left Ls
     next_less Ls Ls' p c n = rw n.left (all_less eq p.lo p.hi Ls c (is_first eq Ls Ls' p c n).full n.starts)
 
--- with no key left, all segments are found
+-- if no key remains, the list has all segments
 pub found_all : (lists Ls : List (List (Entry ℕ))) (out : List (Entry (List (Option ℕ)))) → IsFound nat_eq lists out Ls → first_keys Ls ≡ None → IsSegmentsOf nat_eq lists out
 found_all lists Ls out s f = record {
   runs = one_per_run (row_eq nat_eq) (lists_equiv (options_equiv nat_eq_equiv)) out s.canonical;

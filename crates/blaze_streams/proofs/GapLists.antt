@@ -32,7 +32,7 @@ module _ {V : Type 0} (eq : V → V → Bool) (high : ℤ) where
       (λ h. above_less (n -ℤ pos 1) (e.hi +ℤ pos 1 -ℤ pos 1) _ (omega (arith, ints, c.0, a))
       (above_gaps (e.hi +ℤ pos 1) es c.2 (above_rest eq (e.hi +ℤ pos 1 -ℤ pos 1) e es (omega (arith, ints)) c)))
 
-  -- what comes after an entry
+  -- the gaps after an entry
   rest : (e : Entry V) (es : List (Entry V)) → IsCanonical eq (e ∷ es) → IsAbove (e.hi +ℤ pos 1 -ℤ pos 1) es
   rest e es c = above_rest eq (e.hi +ℤ pos 1 -ℤ pos 1) e es (omega (arith, ints)) c
 
@@ -73,7 +73,7 @@ module _ {V : Type 0} (eq : V → V → Bool) (high : ℤ) where
       let is = at_gaps (e.hi +ℤ pos 1) es k c.2 (rest e es c) (omega (arith, ints)) u ∙ ap (absent tt) (sym (at_over e es k i)) in
       by_gap P n e.lo (λ h. at_over (entry n (e.lo -ℤ pos 1) tt) more k (omega (arith, ints, c.0)) ∙ is) (λ h. is))
 
--- ---- one range after another
+-- ---- ranges appended one by one
 
 pub rank_of_next : {T : Type 0} (rank : T → ℤ) (high : ℤ) (key : T) (next : Option T) → IsNextKey rank high key next → rank_or_end rank high next ≡ rank key +ℤ pos 1
 rank_of_next rank high key None p = ap (λ z. z +ℤ pos 1) (sym p)
@@ -100,6 +100,6 @@ module _ {V : Type 0} (eq : V → V → Bool) (laws : IsEquivalence eq) (low hig
         content = λ k l u. subst (SameOption unit_eq (at (gaps low high es) k)) (at_gaps eq high low es k c above l u) (same_itself unit_eq unit_laws (at (gaps low high es) k));
       }
 
-  -- what was made, range by range
+  -- the gaps so far, range by range
   pub complement_made : (n : ℤ) (old new : List (Entry (Unit {0}))) (left : List (Entry V)) → old ++ gaps n high left ≡ gaps low high es → left ≡ [] → new ≡ old ++ gap_before n (high +ℤ pos 1) → IsComplement unit_eq low high tt es new
   complement_made n old new left i is pushed = subst (IsComplement unit_eq low high tt es) (sym (gap_last high n old new (gaps low high es) left i is pushed)) gaps_complement

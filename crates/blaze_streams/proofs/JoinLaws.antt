@@ -1,4 +1,4 @@
--- The laws of joins and of what closures answer.
+-- The laws of joins and of the results of closures.
 use Rattle.blaze_streams.proofs.Words.{same_value, ◌≡◌, ℤ, ◌≤ℤ◌, Bool, true, false, ◌&&◌, cond, List, [], ◌∷◌, length, map, Option, Some, None, refl, ◌∙◌, sym, subst, ap, arith, option_eq, option_map, is_some, IsEquivalence, lists_equiv, options_equiv, same_itself, is_some_alike, Entry, entry, holds, at, SameOption, SameEntries, IsApart, IsCanonical, canonical_is_unique, IsAbove-from_apart, at_in, at_over, at_before, ints, by_lt_z, canonical, one_per_run, Inner, Left, Full, answered, as_row, AnswersKeepKeys, LeftJoinHasLeftKeys, FullJoinIsOfListOfTwo, FullJoinIsInner, paired, pair_eq, present, row_eq}
 use Rattle.blaze_streams.proofs.Paired.{pair_laws}
 
@@ -58,7 +58,7 @@ module _ {A : Type 0} (eq : A → A → Bool) where
     content = λ k. at_rows segments k ∙ ap (option_map as_list) (j.content k) ∙ present_pair (at left k) (at right k);
   }
 
--- ---- canonical lists with the same content are the same
+-- ---- canonical lists with the same content have the same ranges and values
 
 module _ {V : Type 0} (eq : V → V → Bool) where
   at_rest : (e : Entry V) (es : List (Entry V)) (k : ℤ) → IsCanonical eq (e ∷ es) → k ≤ℤ e.hi → at es k ≡ None

@@ -1,4 +1,4 @@
--- Entries joined where they touch have their keys, and are a set's.
+-- Entries that are joined where they touch have the same keys, and are the ranges of a set.
 use Rattle.blaze_streams.proofs.Words.{◌≡◌, ℤ, pos, ◌+ℤ◌, ◌≤ℤ◌, ◌<ℤ◌, Bool, true, false, List, [], ◌∷◌, length, min, ℕ, ◌≤◌, Option, Some, None, refl, sym, ◌∙◌, ap, arith, if◌then◌else◌, int_le, ◌&&◌, ◌||◌, is_some, int_eq, IsEquivalence, ints, Decides-int_eq, Entry, entry, at, IsApart, IsCanonical, AreKeys, IsRangeMap, IsAbove, IsAbove-from_apart, canonical, one_per_run, unit_eq, IsRangeSet, AreKeyRanges, TakesEnds, joined_ranges, joined_left, IsRangeMap-rest, unit_laws}
 
 pick : {A : Type 0} (P : A → Type 0) (b : Bool) (x y : A) → (b ≡ true → P x) → (b ≡ false → P y) → P (if b then x else y)
@@ -73,12 +73,12 @@ module _ {V : Type 0} (eq : V → V → Bool) (laws : IsEquivalence eq) (low hig
   pub no_key_ranges : AreKeyRanges {V = V} low high [] []
   no_key_ranges = record { range_set = record { runs = one_per_run unit_eq unit_laws [] tt; keys = tt }; same_keys = λ k. refl }
 
-  -- what is left once the first entry was taken
+  -- the remaining entries after the first one is taken
   pub left_of : {T : Type 0} (rank : T → ℤ) (first : Option (T × T)) (es rest : List (Entry V)) → IsRangeMap eq low high es → TakesEnds rank first es rest → AreKeyRanges low high es (joined_left rank first rest)
   left_of rank None es rest m t = rw t.0 no_key_ranges
   left_of rank (Some p) es rest m t = rw t.1 (key_ranges (entry (rank p.0) (rank p.1) t.0) rest (rw t.1 at m))
 
--- what is left after a range that the next entry does not go on with
+-- the remaining entries after a range that the next entry does not extend
 pub after_gap : {V : Type 0} (low high lo hi : ℤ) (e : Entry V) (es rest : List (Entry V)) (old : List (Entry (Unit {0}))) → IsRangeSet low high old → joined_ranges lo hi es ≡ old → es ≡ e ∷ rest → int_eq e.lo (hi +ℤ pos 1) ≡ false → IsRangeSet low high (joined_ranges e.lo e.hi rest)
 after_gap low high lo hi e es rest old m j p n =
     let first : joined_ranges lo hi es ≡ entry lo hi tt ∷ joined_ranges e.lo e.hi rest = rw (p, n) refl in
@@ -88,7 +88,7 @@ some_joined : {V : Type 0} (lo hi : ℤ) (es : List (Entry V)) → 1 ≤ length 
 some_joined lo hi [] = omega arith
 some_joined lo hi (e ∷ es) = pick (λ (l : List (Entry (Unit {0}))). 1 ≤ length l) (int_eq e.lo (hi +ℤ pos 1)) _ _ (λ t. some_joined lo e.hi es) (λ f. omega arith)
 
--- a range is left, where the first of them is open
+-- if the first range is open, a range remains
 pub some_left : {T V : Type 0} (rank : T → ℤ) (first : Option (T × T)) (p : T × T) (es : List (Entry V)) → first ≡ Some p → 1 ≤ length (joined_left rank first es)
 some_left rank first p es q = rw q (some_joined (rank p.0) (rank p.1) es)
 

@@ -1,14 +1,14 @@
--- Ranges joined where they touch, taken from the back.
+-- Ranges that are joined where they touch, taken from the back.
 use Rattle.blaze_streams.proofs.Words.{◌≡◌, ℤ, pos, ◌+ℤ◌, true, false, List, [], ◌∷◌, ◌++◌, Option, Some, None, refl, sym, ◌∙◌, ap, append_assoc, int_eq, map-append, by_bool, Entry, entry, TakesLastEnds, joined_ranges, joined_left, bare_entries, ranges_then}
 
--- ---- the ranges alone
+-- ---- the ranges without values
 
 module _ {V : Type 0} where
   joined_bare : (lo hi : ℤ) (es : List (Entry V)) → joined_ranges lo hi (bare_entries es ++ []) ≡ joined_ranges lo hi es
   joined_bare lo hi [] = refl
   joined_bare lo hi (e ∷ es) = rw (joined_bare lo e.hi es, joined_bare e.lo e.hi es) refl
 
-  -- no range is behind the entries
+  -- no range follows the entries
   pub joined_none : {T : Type 0} (rank : T → ℤ) (first : Option (T × T)) (es : List (Entry V)) → joined_left rank first (ranges_then rank es None) ≡ joined_left rank first es
   joined_none rank None es = refl
   joined_none rank (Some p) es = joined_bare (rank p.0) (rank p.1) es
@@ -33,10 +33,10 @@ module _ (p b : Entry (Unit {0})) where
       (λ t. rw t (apart_last lo d.hi ds f))
       (λ t. rw t (ap (λ rs. entry lo hi tt ∷ rs) (apart_last d.lo d.hi ds f)))
 
--- ---- a step from the back: the entries that are left and the range from lo up to hi, which is held
+-- ---- one call from the back: the remaining entries, and the range from lo to hi that was already taken
 
 module _ {V T : Type 0} (rank : T → ℤ) (opened : Option (T × T)) (a : T × T) (lo hi : ℤ) (left rest : List (Entry V)) (all : List (Entry (Unit {0}))) where
-  -- the last entry ends right below it
+  -- the last entry ends right below the range
   pub back_joined : (p : T × T) → TakesLastEnds rank (Some p) left rest → int_eq lo (rank p.1 +ℤ pos 1) ≡ true
       → joined_ranges (rank a.0) (rank a.1) (bare_entries left ++ entry lo hi tt ∷ []) ≡ all
       → joined_ranges (rank a.0) (rank a.1) (bare_entries rest ++ entry (rank p.0) hi tt ∷ []) ≡ all
@@ -47,7 +47,7 @@ module _ {V T : Type 0} (rank : T → ℤ) (opened : Option (T × T)) (a : T × 
       ∙ ap (joined_ranges (rank a.0) (rank a.1)) (sym (ap (λ rs. rs ++ b ∷ []) (bare_last rank p left rest t) ∙ append_assoc (bare_entries rest) (e ∷ []) (b ∷ [])))
       ∙ is
 
-  -- it does not
+  -- the last entry does not end right below the range
   pub back_apart : (p : T × T) → opened ≡ Some a → TakesLastEnds rank (Some p) left rest → int_eq lo (rank p.1 +ℤ pos 1) ≡ false
       → joined_ranges (rank a.0) (rank a.1) (bare_entries left ++ entry lo hi tt ∷ []) ≡ all
       → all ≡ joined_left rank opened (ranges_then rank rest (Some p)) ++ entry lo hi tt ∷ []
@@ -59,7 +59,7 @@ module _ {V T : Type 0} (rank : T → ℤ) (opened : Option (T × T)) (a : T × 
       ∙ apart_last e b (rank a.0) (rank a.1) (bare_entries rest) apart
       ∙ ap (λ q. joined_left rank q (ranges_then rank rest (Some p)) ++ b ∷ []) (sym o)
 
-  -- no entry is left, and the first range ends apart from it
+  -- no entry remains, and the first range ends apart from it
   pub back_alone : (back : Option (T × T)) → opened ≡ Some a → back ≡ None → TakesLastEnds rank None left rest → int_eq lo (rank a.1 +ℤ pos 1) ≡ false
       → joined_ranges (rank a.0) (rank a.1) (bare_entries left ++ entry lo hi tt ∷ []) ≡ all
       → all ≡ joined_left rank opened (ranges_then rank rest back) ++ entry lo hi tt ∷ []

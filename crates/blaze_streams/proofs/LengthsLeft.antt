@@ -1,4 +1,4 @@
--- How many keys are left.
+-- The number of remaining keys.
 use Rattle.blaze_streams.proofs.Words.{nat_of, ◌≡◌, ℕ, ◌+◌, ◌<◌, ◌≤◌, ℤ, pos, ◌+ℤ◌, ◌-ℤ◌, ◌≤ℤ◌, Bool, List, [], ◌∷◌, Some, arith, ⊎_elim, ints, nat_of-pos, Entry, IsCanonical, after, by_after, first_key, AllCanonical, first_keys, all_after}
 use Rattle.blaze_streams.proofs.Steady.{same_some}
 use Rattle.blaze_streams.proofs.Lesser.{lesser_one}

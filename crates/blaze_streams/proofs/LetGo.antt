@@ -1,8 +1,8 @@
--- Keys of one list that are let go, since another list has none of them.
+-- Keys of one list that are skipped, since another list has no value at them.
 use Rattle.blaze_streams.proofs.Words.{is_none, ◌≡◌, ℤ, pos, ◌+ℤ◌, ◌≤ℤ◌, Bool, true, false, ◌||◌, List, [], ◌∷◌, Option, Some, None, refl, ◌∙◌, sym, ap, arith, is_some, ints, by_lt_z, Entry, at, IsCanonical, after, at_in, after_keeps, first_key, IsFrom, Reaches, JoinKind, Inner, Left, Full, is_joined, paired, IsLetGo, IsNotAsked, IsSkipped}
 use Rattle.blaze_streams.proofs.Steady.{at_first, same_some}
 
--- a list that has nothing at a key, and whose first range does not end below it, starts above it
+-- a list without a value at a key, whose first range ends at the key or above, starts above the key
 pub absent_above : {A : Type 0} (t : ℤ) (es : List (Entry A)) → Reaches t es → at es t ≡ None → IsFrom (t +ℤ pos 1) es
 absent_above t [] r n = tt
 absent_above t (e ∷ es) r n = by_lt_z t e.lo
@@ -26,9 +26,10 @@ module _ {A B : Type 0} (eq : B → B → Bool) (s high : ℤ) (L L' : List (Ent
             other_is = sym (after_keeps t f fs (omega (arith, ints, is, lo, c.0)) (omega (arith, ints, is, lo)));
           }
 
--- ---- what a join of a kind is not asked for
+-- ---- the keys that a join does not select
 
--- where no join is asked for at a key that at least one of two has, none is asked for where the same one is absent
+-- If a join does not select a key at which one of two lists has a value, it selects no key at which the left list has
+-- none.
 left_absent : {A B : Type 0} (kind : JoinKind) (x : Option A) (y : Option B) → is_joined kind x y ≡ false → (is_some x || is_some y) ≡ true → (z : Option B) → paired {A = A} kind None z ≡ None
 left_absent Inner x y n one z = refl
 left_absent Left x y n one z = refl
@@ -47,7 +48,7 @@ right_none Left x y n there = let q : false ≡ true = sym n ∙ there in cc
 right_none Full x y n there = let q : false ≡ true = sym n ∙ (ap (λ z. z || is_some y) there) in cc
 
 module _ {A B : Type 0} (kind : JoinKind) (s high : ℤ) (L L' : List (Entry A)) (R R' : List (Entry B)) (n : IsNotAsked kind (at L s) (at R s)) where
-  -- where the left one is absent, the right one's keys go
+  -- if the left list has no value, the right list's keys are skipped
   pub right_let_go : IsLetGo s high R R' L → IsSkipped kind s high L L R R'
   right_let_go m = record {
     end = m.end;
@@ -58,7 +59,7 @@ module _ {A B : Type 0} (kind : JoinKind) (s high : ℤ) (L L' : List (Entry A))
     right_is = m.list_is;
   }
 
-  -- where the left one is there, its keys go
+  -- if the left list has a value, its keys are skipped
   pub left_let_go : is_some (at L s) ≡ true → IsLetGo s high L L' R → IsSkipped kind s high L L' R R
   left_let_go there m = record {
     end = m.end;

@@ -1,7 +1,7 @@
--- Lists of ranges that are in order are canonical with their places as values, also where they touch.
+-- Ordered lists of ranges are canonical with their positions as values, even if ranges touch.
 use Rattle.blaze_streams.proofs.Words.{◌≡◌, ℕ, ◌+◌, ℤ, ◌≤ℤ◌, nat_eq, List, [], ◌∷◌, ◌++◌, drop, ◌∙◌, sym, ap, subst, append_assoc, map-append, RangeInclusive, Vec, next_differs, Entry, entry, IsCanonical, IsDisjoint, IsAscending, AreKeys, in_order, numbered, all_numbered, AreInOrder, AllCanonical, shown_ranges, shown_range}
 
--- a range among the keys behind a list
+-- a range of keys, appended to a list
 pub keys_push : {A : Type 0} (low high : ℤ) (es : List (Entry A)) (e : Entry A) → AreKeys low high es → low ≤ℤ e.lo → e.hi ≤ℤ high → AreKeys low high (es ++ e ∷ [])
 keys_push low high [] e k l h = (l, h, tt)
 keys_push low high (x ∷ xs) e k l h = (k.0, k.1, keys_push low high xs e k.2 l h)
@@ -16,7 +16,7 @@ module _ {T : Type 0} (rank : T → ℤ) where
   all_canonical [] o = tt
   all_canonical (v ∷ vs) o = (numbered_canonical 0 v.items o.0 o.1, all_canonical vs o.2)
 
-  -- one range more with its place
+  -- one more range with its position
   pub placed_more : (all : List (T × T)) (i : ℕ) (r : T × T) (found new : List (RangeInclusive T × ℕ)) (p : RangeInclusive T × ℕ) → new ≡ found ++ p ∷ [] → shown_range rank (λ j. j) p ≡ entry (rank r.0) (rank r.1) i → drop i all ≡ r ∷ drop (i + 1) all → shown_ranges rank (λ j. j) found ++ numbered rank i (drop i all) ≡ numbered rank 0 all → shown_ranges rank (λ j. j) new ++ numbered rank (i + 1) (drop (i + 1) all) ≡ numbered rank 0 all
   placed_more all i r found new p n s d h =
       let rest = numbered rank (i + 1) (drop (i + 1) all) in

@@ -1,4 +1,4 @@
--- The segments of two lists that were found so far, and one more.
+-- The segments of two lists so far, and one more.
 use Rattle.blaze_streams.proofs.Words.{◌≡◌, ◌+◌, ◌<◌, ℤ, pos, ◌+ℤ◌, ◌≤ℤ◌, ◌<ℤ◌, Bool, true, false, ◌&&◌, ◌||◌, cond, List, [], ◌∷◌, ◌++◌, Option, Some, None, refl, ◌∙◌, sym, ap, subst, arith, ⊎_elim, option_eq, option_or, is_some, MatchOption, IsEquivalence, first_so, second_so, options_equiv, and_equiv, on_equiv, ints, by_lt_z, append-nil, or_none, or_assoc, Entry, entry, at, SameOption, IsCanonical, AreKeys, IsBelow, after, IsBelow-push, IsAbove-from_apart, at_in, at_under, at_over, at_before, at_append, canonical, one_per_run, below_more, at-after_over, JoinKind, Inner, Left, Full, AreOptions, ArePairsCarried, first_key, steady_to, lesser, is_joined, paired, pair_eq, IsJoinOf, IsNotAsked, piece_of, IsSegmentPut, IsSkipped, EachValue}
 use Rattle.blaze_streams.proofs.ChosenSoFar.{both_from, none_there, no_first, first_above}
 use Rattle.blaze_streams.proofs.Fewer.{both_less}
@@ -7,11 +7,11 @@ use Rattle.blaze_streams.proofs.LengthsLeft.{lengths_left}
 use Rattle.blaze_streams.proofs.Lesser.{at_most_both, at_most_itself, lesser_one}
 use Rattle.blaze_streams.proofs.Steady.{AtMost, at_below_from, at-after_under, starts_there, steady, steady_far, stops_steady, changes}
 
--- what a join is asked for at a key
+-- the values of two lists at a key that a join selects
 abbrev pub pair_at : {A B : Type 0} → JoinKind → List (Entry A) → List (Entry B) → ℤ → Option (Option A × Option B)
 pair_at kind L R k = paired kind (at L k) (at R k)
 
--- a join is not asked for nothing
+-- a join does not select a key at which neither list has a value
 from_nothing : {A B : Type 0} (kind : JoinKind) → paired {A = A} {B = B} kind None None ≡ None
 from_nothing Inner = refl
 from_nothing Left = refl
@@ -27,7 +27,7 @@ or_right : (b c : Bool) → c ≡ true → (b || c) ≡ true
 or_right true c p = refl
 or_right false c p = p
 
--- two lists that have the same pair have the same
+-- two lists with equal pairs have equal values
 same_pair : {A B : Type 0} (eqa : A → A → Bool) (eqb : B → B → Bool) (b c : Bool) (x x' : Option A) (y y' : Option B) (v : Option A × Option B) → cond b (Some (x, y)) None ≡ Some v → SameOption (pair_eq eqa eqb) (Some v) (cond c (Some (x', y')) None) → (option_eq eqa x x' && option_eq eqb y y') ≡ true
 same_pair eqa eqb true true x x' y y' v p s = let q : v ≡ (x, y) = cc in subst (λ z. pair_eq eqa eqb z (x', y') ≡ true) q s
 same_pair eqa eqb true false x x' y y' v p s = absurd s
@@ -43,7 +43,7 @@ apart_along eq (e ∷ []) c d p a = λ s. a (subst (SameOption eq (Some e.value)
 apart_along eq (e ∷ f ∷ es) c d p a = apart_along eq (f ∷ es) c d p a
 
 module _ {A B : Type 0} (eqa : A → A → Bool) (eqb : B → B → Bool) (low high : ℤ) (kind : JoinKind) where
-  -- the list has the segments of two lists, of which L and R are left
+  -- the list has the segments of two lists so far, where L and R remain
   pub record IsPairedSoFar (left : List (Entry A)) (right : List (Entry B)) (L : List (Entry A)) (R : List (Entry B)) (out : List (Entry (Option A × Option B))) : Type 0 where
     pub canonical : IsCanonical (pair_eq eqa eqb) out
     pub keys : AreKeys low high out
@@ -67,7 +67,7 @@ module _ {A B : Type 0} (eqa : A → A → Bool) (eqb : B → B → Bool) (low h
     first_left : (r : ℤ) → lesser (first_key (after t L)) (first_key (after t R)) ≡ Some r → t <ℤ r
     first_left r f = ⊎_elim (λ e. first_above t r L e) (λ e. first_above t r R e) (lesser_one (first_key (after t L)) (first_key (after t R)) r f)
 
-    -- where none of the keys from s to t is asked for, none of them is missed
+    -- if none of the keys from s to t is selected, no segment is missing
     module _ (order : s ≤ℤ t) (none : (k : ℤ) → s ≤ℤ k → k ≤ℤ t → pair_at kind L R k ≡ None) where
       next_none : (k : ℤ) → pair_at kind L R k ≡ pair_at kind (after t L) (after t R) k
       next_none k = by_lt_z t k
@@ -96,7 +96,7 @@ module _ {A B : Type 0} (eqa : A → A → Bool) (eqb : B → B → Bool) (low h
           let to : AtMost t (steady_to s L) × AtMost t (steady_to s R) = at_most_both (steady_to s L) (steady_to s R) t (at_most_itself _ t ends) in
           ap (λ x. paired kind x (at R k)) (steady eqa s t k L ca from.0 to.0 l h) ∙ ap (paired kind (at L s)) (steady eqb s t k R cb from.1 to.1 l h)
 
-      -- at least one of the two has the last of these keys
+      -- at least one of the two lists has the last of these keys
       pub one_there : (is_some (at L t) || is_some (at R t)) ≡ true
       one_there =
           let from = both_from s L R starts in
@@ -106,7 +106,7 @@ module _ {A B : Type 0} (eqa : A → A → Bool) (eqb : B → B → Bool) (low h
           (λ e. let there = starts_there eqb s R cb e in or_right (is_some (at L t)) (is_some (at R t)) (ap is_some (steady eqb s t t R cb from.1 to.1 in_order (omega (arith, ints)) ∙ there.1)))
           (lesser_one (first_key L) (first_key R) s starts)
 
-      -- where no join is asked for at the last of these keys, they are let go
+      -- if the join does not select the last of these keys, they are skipped
       pub skipped : (carrieda : A → A → Type 0) (carriedb : B → B → Type 0) (out : List (Entry (Option A × Option B))) (L' : List (Entry A)) (R' : List (Entry B)) → low ≤ℤ s → IsSkipped kind t high L L' R R' → IsSegmentPut carrieda carriedb low high kind s L L' R R' out out
       skipped carrieda carriedb out L' R' from m = record {
         end = m.end;
@@ -124,7 +124,7 @@ module _ {A B : Type 0} (eqa : A → A → Bool) (eqb : B → B → Bool) (low h
       pub not_asked : is_joined kind (at L t) (at R t) ≡ false → IsNotAsked kind (at L t) (at R t)
       not_asked n = record { one = one_there; not_asked = n }
 
-      -- right above t one of the two changes
+      -- right above t one of the two lists changes
       next_changes : (lawsa : IsEquivalence eqa) (lawsb : IsEquivalence eqb) (v : Option A × Option B) → pair_at kind L R t ≡ Some v → SameOption (pair_eq eqa eqb) (Some v) (pair_at kind (after t L) (after t R) (t +ℤ pos 1)) → ⊥
       next_changes lawsa lawsb v p h =
           let k = t +ℤ pos 1 in
@@ -134,7 +134,7 @@ module _ {A B : Type 0} (eqa : A → A → Bool) (eqb : B → B → Bool) (low h
           (λ e. changes eqb lawsb R t cb (stops_steady s t R e) (option_same eqb (at R t) (at R k) (second_so (option_eq eqa (at L t) (at L k)) (option_eq eqb (at R t) (at R k)) same)))
           (lesser_one (steady_to s L) (steady_to s R) t ends)
 
-      -- what a segment takes off
+      -- the values after a segment is taken
       next_pair : (v : Option A × Option B) → pair_at kind L R t ≡ Some v → (k : ℤ) → pair_at kind L R k ≡ option_or (at (entry s t v ∷ []) k) (pair_at kind (after t L) (after t R) k)
       next_pair v e k =
           let f = entry s t v in
@@ -162,7 +162,7 @@ module _ {A B : Type 0} (eqa : A → A → Bool) (eqb : B → B → Bool) (low h
           keys_push (x ∷ xs) k = (k.0, k.1, keys_push xs k.2)
 
   module _ (carrieda : A → A → Type 0) (carriedb : B → B → Type 0) (left L L' : List (Entry A)) (right R R' : List (Entry B)) (out new : List (Entry (Option A × Option B))) (s : ℤ) (ca : IsCanonical eqa L) (cb : IsCanonical eqb R) (starts : lesser (first_key L) (first_key R) ≡ Some s) (m : IsSegmentPut carrieda carriedb low high kind s L L' R R' out new) where
-    -- one step more
+    -- one more segment
     pub paired_more : (exact : List (Entry (Option A × Option B))) → IsEquivalence eqa → IsEquivalence eqb → IsPairedSoFar left right L R exact → IsPairedSoFar left right L' R' (exact ++ piece_of s m.end (pair_at kind L R m.end))
     paired_more exact lawsa lawsb h = rw (m.left_is, m.right_is) (more_of (pair_at kind L R m.end) m.given refl m.carried m.ends)
       where
@@ -177,7 +177,7 @@ module _ {A B : Type 0} (eqa : A → A → Bool) (eqb : B → B → Bool) (low h
     pub paired_less : lengths_left L' + lengths_left R' < lengths_left L + lengths_left R
     paired_less = rw (m.left_is, m.right_is) (both_less eqa eqb s m.end L R ca cb starts m.order)
 
-  -- with no key left, all segments are found
+  -- if no key remains, the list has all segments
   pub paired_all : IsEquivalence eqa → IsEquivalence eqb → (left L : List (Entry A)) (right R : List (Entry B)) (out : List (Entry (Option A × Option B))) → IsPairedSoFar left right L R out → lesser (first_key L) (first_key R) ≡ None → IsJoinOf eqa eqb low high kind left right out
   paired_all lawsa lawsb left L right R out h f =
       let n = no_first (first_key L) (first_key R) f in
@@ -186,7 +186,7 @@ module _ {A B : Type 0} (eqa : A → A → Bool) (eqb : B → B → Bool) (low h
         content = λ k. sym (h.content k ∙ ap (option_or (at out k)) (none_if kind (at L k) (at R k) (none_there L k n.0) (none_there R k n.1)) ∙ or_none (at out k));
       }
 
--- ---- each segment is one that the kind asks for
+-- ---- each segment is one that the join selects
 
 module _ {A B : Type 0} (eqa : A → A → Bool) (eqb : B → B → Bool) (kind : JoinKind) where
   is_joined_there : (b : Bool) (p v : Option A × Option B) → b ≡ is_joined kind p.0 p.1 → Some v ≡ cond b (Some p) None → is_joined kind v.0 v.1 ≡ true

@@ -1,4 +1,4 @@
--- How far many lists stay as they are, and their first segment.
+-- The first segment of many lists: each list has the same range at all its keys, or none.
 use Rattle.blaze_streams.proofs.Words.{◌≡◌, ℤ, ◌≤ℤ◌, ◌<ℤ◌, Bool, true, false, List, [], ◌∷◌, Option, Some, None, Bor, refl, ◌∙◌, sym, ap, arith, inl, inr, ⊎_elim, ◌⊎◌, is_some, option_copied, list_any, ints, Entry, at, after, IsAbove, above_after, canonical_after, at-after_over, shown_option, row, first_key, steady_to, AllCanonical, first_keys, AllFrom, all_steady_to, AllReach, all_after, IsNextSegment}
 use Rattle.blaze_streams.proofs.Steady.{AtMost, Stops, same_some, steady, from_first, stops_steady, steady_far, starts_there, at_below_from, at-after_under}
 use Rattle.blaze_streams.proofs.Lesser.{at_most_both, at_most_itself, lesser_one, some_lesser}
@@ -8,7 +8,7 @@ abbrev pub AnyStops : {A : Type 0} → ℤ → List (List (Entry A)) → Type 0
 AnyStops t [] = ⊥
 AnyStops t (L ∷ Ls) = Stops t L ⊎ AnyStops t Ls
 
--- what is copied of a reference
+-- the copy of a borrowed option
 pub shown_copied : {A : Type 0} (o : Option (Bor A)) → shown_option (λ r. r.now) o ≡ option_copied o
 shown_copied None = refl
 shown_copied (Some r) = refl
@@ -45,7 +45,7 @@ module _ {A : Type 0} where
       (λ e. firsts_after t s Ls e)
       (lesser_one (first_key (after t L)) (first_keys (all_after t Ls)) s p)
 
-  -- lists with no first key have nothing left
+  -- lists without a first key have no values
   pub none_left : (Ls : List (List (Entry A))) (k : ℤ) → first_keys Ls ≡ None → list_any is_some (row Ls k) ≡ false
   none_left [] k p = refl
   none_left ([] ∷ Ls) k p = none_left Ls k p
@@ -56,7 +56,7 @@ module _ {A : Type 0} where
   steady_none s ([] ∷ Ls) p = steady_none s Ls p
   steady_none s ((e ∷ L) ∷ Ls) p = absurd (some_lesser _ (all_steady_to s Ls) p)
 
-  -- what the first segment is to the lists
+  -- the relation of the first segment to the lists
   pub record IsFirstSegment (Ls : List (List (Entry A))) (p : Entry (List (Option A))) : Type 0 where
     pub full : p.lo ≤ℤ p.hi
     pub from : AllFrom p.lo Ls

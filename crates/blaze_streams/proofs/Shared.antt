@@ -11,11 +11,11 @@ at_most_max a b = grind (arith, ints)
 min_at_most : (a b : ℤ) → int_min a b ≤ℤ b
 min_at_most a b = grind (arith, ints)
 
--- up to a key up to which nothing is chosen
+-- no choice up to a key
 nothing_to : {A B V : Type 0} (eq : V → V → Bool) (choose : Option A → Option B → Option V) (s t : ℤ) (L L' : List (Entry A)) (R R' : List (Entry B)) → lesser (first_key L) (first_key R) ≡ Some s → s ≤ℤ t → ((k : ℤ) → k ≤ℤ t → chosen_at choose L R k ≡ None) → L' ≡ after t L → R' ≡ after t R → IsTaken eq choose L L' R R' s t None
 nothing_to eq choose s t L L' R R' starts order nothing = taken_to eq choose L L' R R' s t None starts order (λ k a b. nothing k b ∙ sym (nothing s order)) (same_none eq (chosen_at choose L R s) (nothing s order))
 
--- the right list lets the keys below the left one go, where nothing is chosen without the left one
+-- the right list skips the keys below the left one, if nothing is chosen without the left value
 pub right_gone : {A B V : Type 0} (eqa : A → A → Bool) (eqb : B → B → Bool) (eq : V → V → Bool) (choose : Option A → Option B → Option V) → ((o : Option B) → choose None o ≡ None) → (l x r y t : ℤ) (L L' : List (Entry A)) (R R' : List (Entry B))
     → IsCanonical eqa L → IsCanonical eqb R → Some (l, x) ≡ option_map range_in (first_entry L) → Some (r, y) ≡ option_map range_in (first_entry R) → y <ℤ l → t +ℤ pos 1 ≡ l → L' ≡ L → R' ≡ after t R → IsTaken eq choose L L' R R' r t None
 right_gone eqa eqb eq choose nothing l x r y t [] L' R R' ca cb p q u is left_is right_is = cc
@@ -36,19 +36,19 @@ module _ {A B : Type 0} where
 
   module _ (eqa : A → A → Bool) (eqb : B → B → Bool) where
     module _ (e : Entry A) (es : List (Entry A)) (f : Entry B) (fs : List (Entry B)) (ca : IsCanonical eqa (e ∷ es)) (cb : IsCanonical eqb (f ∷ fs)) where
-      -- nothing is chosen before both have started
+      -- nothing is chosen before both ranges have started
       none_before : (k : ℤ) → k <ℤ int_max f.lo e.lo → chosen_at left_with_right (e ∷ es) (f ∷ fs) k ≡ None
       none_before k l = by_lt_z k e.lo
           (λ h. ap (λ x. left_with_right x (at (f ∷ fs) k)) (at_first eqa e es k ca h) ∙ none_with (at (f ∷ fs) k))
           (λ h. ap (left_with_right (at (e ∷ es) k)) (at_first eqb f fs k cb (grind (arith, ints, l, h))))
 
-      -- the left one's value is chosen on the keys that both have
+      -- the left value is chosen on the keys that both ranges contain
       chosen_inside : (k : ℤ) → int_max f.lo e.lo ≤ℤ k → k ≤ℤ int_min f.hi e.hi → chosen_at left_with_right (e ∷ es) (f ∷ fs) k ≡ Some e.value
       chosen_inside k l h =
           ap (λ x. left_with_right x (at (f ∷ fs) k)) (at_in e es k (grind (arith, ints, l)) (grind (arith, ints, h)))
           ∙ ap (left_with_right (Some e.value)) (at_in f fs k (grind (arith, ints, l)) (grind (arith, ints, h)))
 
-    -- the left list lets the keys below the right one go
+    -- the left list skips the keys below the right one
     pub left_gone : (l x r y t : ℤ) (L L' : List (Entry A)) (R : List (Entry B)) → IsCanonical eqa L → IsCanonical eqb R → Some (l, x) ≡ option_map range_in (first_entry L) → Some (r, y) ≡ option_map range_in (first_entry R) → x <ℤ r → t +ℤ pos 1 ≡ r → L' ≡ after t L
         → IsTaken eqa left_with_right L L' R R l t None
     left_gone l x r y t [] L' R ca cb p q u is left_is = cc
@@ -66,7 +66,7 @@ module _ {A B : Type 0} where
       in_order : l ≤ℤ x → r ≤ℤ y → r ≤ℤ x → l ≤ℤ y → first ≤ℤ end
       in_order a b u v = grind (arith, ints, first_is, end_is, a, b, u, v)
 
-      -- where neither ends below the other, the left one has the last key that they share
+      -- if neither range ends below the other, the left one contains the last shared key
       pub left_has : (L : List (Entry A)) (R : List (Entry B)) → IsCanonical eqa L → IsCanonical eqb R → Some (l, x) ≡ option_map range_in (first_entry L) → Some (r, y) ≡ option_map range_in (first_entry R) → r ≤ℤ x → l ≤ℤ y → FirstHas end L
       left_has [] R ca cb p q u v = cc
       left_has (e ∷ es) [] ca cb p q u v = cc
@@ -74,7 +74,7 @@ module _ {A B : Type 0} where
           let left = ends e l x p in
           (grind (arith, ints, end_is, left.0, left.1, ca.0, v), grind (arith, ints, end_is, left.1))
 
-      -- nor does the right one's first range end below it
+      -- the right list's first range does not end below the last shared key
       pub right_reaches : (R : List (Entry B)) → Some (r, y) ≡ option_map range_in (first_entry R) → Reaches end R
       right_reaches [] q = tt
       right_reaches (f ∷ fs) q = let right = ends f r y q in grind (arith, ints, end_is, right.1)
@@ -107,7 +107,7 @@ module _ {A B : Type 0} where
             right_is = right_is;
           }
 
-    -- where one list has no range, nothing is chosen
+    -- if one list is empty, nothing is chosen
     pub nothing_shared : (L : List (Entry A)) (R : List (Entry B)) → (None ≡ option_map range_in (first_entry L)) ⊎ (None ≡ option_map range_in (first_entry R)) → (k : ℤ) → chosen_at left_with_right L R k ≡ None
     nothing_shared [] R n k = none_with (at R k)
     nothing_shared (e ∷ es) [] n k = without_right (at (e ∷ es) k)

@@ -1,7 +1,7 @@
--- How far a list stays as it is.
+-- The last key up to which a list has the same range, or none.
 use Rattle.blaze_streams.proofs.Words.{◌≡◌, ℤ, pos, ◌+ℤ◌, ◌-ℤ◌, ◌≤ℤ◌, ◌<ℤ◌, Bool, cond, List, [], ◌∷◌, Option, Some, None, refl, ◌∙◌, sym, subst, ap, arith, inl, inr, ⊎_elim, ◌⊎◌, IsEquivalence, ints, by_lt_z, le_true, le_false, same_along, Entry, at, SameOption, IsCanonical, after, at_in, at_over, at_before, breaks, above_after, canonical_after, first_key, steady_to, IsFrom, Reaches}
 
--- t is at most the number, where there is one
+-- t is at most the number, if the number exists
 abbrev pub AtMost : ℤ → Option ℤ → Type 0
 AtMost t None = Unit {0}
 AtMost t (Some u) = t ≤ℤ u
@@ -34,7 +34,7 @@ module _ {A : Type 0} where
       (λ b q. let u : t ≡ (e.lo -ℤ pos 1) = same_some t (e.lo -ℤ pos 1) (sym p ∙ q) in inr (omega (arith, ints)))
 
   module _ (eq : A → A → Bool) where
-    -- nothing before the first range
+    -- no value before the first range
     pub at_first : (e : Entry A) (es : List (Entry A)) (k : ℤ) → IsCanonical eq (e ∷ es) → k <ℤ e.lo → at (e ∷ es) k ≡ None
     at_first e es k c l = at_before eq (e ∷ es) k k c l (omega (arith, ints))
 
@@ -57,7 +57,7 @@ module _ {A : Type 0} where
         (λ b p. let u : t ≤ℤ e.hi = subst (AtMost t) p m in u)
         (λ b p. let u : t ≤ℤ (e.lo -ℤ pos 1) = subst (AtMost t) p m in omega (arith, ints, c.0))
 
-    -- it is not steady to a key below the one that it is looked at from
+    -- the result of `steady_to` is not below the key from which it starts
     pub steady_far : (s t : ℤ) (es : List (Entry A)) → IsCanonical eq es → IsFrom s es → steady_to s es ≡ Some t → s ≤ℤ t
     steady_far s t [] c f p = cc
     steady_far s t (e ∷ es) c f p = by_steady s e es
@@ -68,7 +68,7 @@ module _ {A : Type 0} where
     starts_there s [] c p = cc
     starts_there s (e ∷ es) c p = let u : e.lo ≡ s = same_some e.lo s p in (e.value, at_in e es s (omega (arith, ints)) (omega (arith, ints, c.0)))
 
-    -- where it stops, what is there changes
+    -- at the result of `steady_to`, the value changes
     pub changes : (laws : IsEquivalence eq) (es : List (Entry A)) (t : ℤ) → IsCanonical eq es → Stops t es → SameOption eq (at es t) (at es (t +ℤ pos 1)) → ⊥
     changes laws [] t c s h = s
     changes laws (e ∷ es) t c s h = ⊎_elim

@@ -1,10 +1,10 @@
--- What is taken of two lists.
+-- The first piece of two lists.
 use Rattle.blaze_streams.proofs.Words.{◌≡◌, ℤ, pos, ◌+ℤ◌, ◌≤ℤ◌, ◌<ℤ◌, Bool, List, [], ◌∷◌, Option, Some, None, refl, ◌∙◌, sym, subst, ap, arith, int_min, option_map, option_xor, ints, range_in, first_entry, same_along, same_none, Entry, at, SameOption, IsCanonical, left_alone, after, at_in, after_keeps, IsTaken, IsTakenAlone, first_key, FirstHas, Reaches, lesser}
 use Rattle.blaze_streams.proofs.ChosenSoFar.{chosen_at, none_there}
 use Rattle.blaze_streams.proofs.Lesser.{at_most_less, lesser_exchanged, lesser_first, not_less}
 use Rattle.blaze_streams.proofs.Steady.{AtMost, at_below_from, from_first}
 
--- an entry's ends, by what the code has in hand
+-- an entry's ends, from the values of the code
 pub ends : {C : Type 0} (e : Entry C) (l x : ℤ) → Some (l, x) ≡ Some (range_in e) → (e.lo ≡ l) × (e.hi ≡ x)
 ends e l x p =
     let same : range_in e ≡ (l, x) = cc in
@@ -16,11 +16,11 @@ at_most_min a b t p = (grind (arith, ints, p), grind (arith, ints, p))
 over_min : (a b t s : ℤ) → t ≡ int_min b a → s ≤ℤ a → s ≤ℤ b → s ≤ℤ t
 over_min a b t s p l h = grind (arith, ints, p, l, h)
 
--- a key from l up to x, below the first key of the list
+-- a key from l to x, below the first key of the list
 abbrev pub IsEndBefore : {A : Type 0} → ℤ → ℤ → ℤ → List (Entry A) → Type 0
 IsEndBefore l x t R = (l ≤ℤ t) × (t ≤ℤ x) × AtMost (t +ℤ pos 1) (first_key R)
 
--- from the first key of two lists up to a key up to which the same is chosen
+-- from the first key of two lists to a key up to which the choice is the same
 pub taken_to : {A B V : Type 0} (eq : V → V → Bool) (choose : Option A → Option B → Option V) (L L' : List (Entry A)) (R R' : List (Entry B)) (s t : ℤ) (value : Option V)
     → lesser (first_key L) (first_key R) ≡ Some s → s ≤ℤ t → ((k : ℤ) → s ≤ℤ k → k ≤ℤ t → chosen_at choose L R k ≡ chosen_at choose L R s) → SameOption eq (chosen_at choose L R s) value → L' ≡ after t L → R' ≡ after t R → IsTaken eq choose L L' R R' s t value
 taken_to eq choose L L' R R' s t value starts order same alike left_is right_is = record {
@@ -35,7 +35,7 @@ taken_to eq choose L L' R R' s t value starts order same alike left_is right_is 
   right_is = right_is;
 }
 
--- what one of two lists has alone is chosen
+-- the value of the only list that has one is chosen
 module _ {A B : Type 0} (eq : A → A → Bool) (L L' : List (Entry A)) (R : List (Entry B)) (s t : ℤ) (value : Option A) (taken : IsTakenAlone eq L L' R s t value) where
   pub left_taken : (choose : Option A → Option B → Option A) → ((x : Option A) → choose x None ≡ x) → IsTaken eq choose L L' R R s t value
   left_taken choose is =
@@ -44,7 +44,7 @@ module _ {A B : Type 0} (eq : A → A → Bool) (L L' : List (Entry A)) (R : Lis
       (λ k l h. here k h ∙ taken.same k l h ∙ sym (here s taken.order))
       (same_along eq (sym (here s taken.order)) refl taken.alike) taken.list_is taken.other_is
 
-  -- the same, where it is the right list
+  -- the value of the only list that has one is chosen, where that list is the right one
   pub right_taken : (choose : Option B → Option A → Option A) → ((x : Option A) → choose None x ≡ x) → (R' : List (Entry B)) → R ≡ R' → IsTaken eq choose R' R L L' s t value
   right_taken choose is R' p =
       let here : (k : ℤ) → k ≤ℤ t → chosen_at choose R L k ≡ at L k = λ k h. ap (λ o. choose o (at L k)) (taken.alone k h) ∙ is (at L k) in
@@ -59,7 +59,7 @@ reaches_end l x [] t p h = tt
 reaches_end l x (e ∷ es) t p h = omega (arith, ints, (ends e l x p).1, h)
 
 module _ {A B : Type 0} (eqa : A → A → Bool) (eqb : B → B → Bool) (l x : ℤ) where
-  -- what the first range of a list has below the first key of another
+  -- the part of a list's first range below the first key of the other list
   pub taken_alone : (L L' : List (Entry A)) (R : List (Entry B)) (t : ℤ) (value : Option A) → IsCanonical eqa L → IsCanonical eqb R
       → Some (l, x) ≡ option_map range_in (first_entry L) → IsEndBefore l x t R → SameOption eqa (at L t) value → L' ≡ after t L → IsTakenAlone eqa L L' R l t value
   taken_alone [] L' R t value ca cb p end alike list_is = cc
@@ -81,14 +81,14 @@ module _ {A B : Type 0} (eqa : A → A → Bool) (eqb : B → B → Bool) (l x :
       kept [] c a = refl
       kept (f ∷ fs) c a = sym (after_keeps t f fs (omega (arith, ints, c.0)) (omega (arith, ints)))
 
-  -- where the other list has no range, the first range is taken whole
+  -- if the other list is empty, the first range is taken whole
   pub end_whole : (L : List (Entry A)) (R : List (Entry B)) (t : ℤ) → IsCanonical eqa L → Some (l, x) ≡ option_map range_in (first_entry L) → None ≡ first_key R → t ≡ x → IsEndBefore l x t R
   end_whole [] R t c p q is = cc
   end_whole (e ∷ es) R t c p q is =
       let here = ends e l x p in
       (omega (arith, ints, c.0, here.0, here.1, is), omega (arith, ints, is), subst (AtMost (t +ℤ pos 1)) q tt)
 
-  -- else up to the key before the other list's first key, which is b
+  -- otherwise it is taken up to the key before the other list's first key, which is b
   pub end_bounded : (L : List (Entry A)) (R : List (Entry B)) (b p t : ℤ) → IsCanonical eqa L → Some (l, x) ≡ option_map range_in (first_entry L) → Some b ≡ first_key R → l <ℤ b → p +ℤ pos 1 ≡ b → t ≡ int_min p x → IsEndBefore l x t R
   end_bounded [] R b p t c q r above before is = cc
   end_bounded (e ∷ es) R b p t c q r above before is =
@@ -101,7 +101,8 @@ module _ {A B : Type 0} (eqa : A → A → Bool) (eqb : B → B → Bool) (l x :
   has_end [] R t p end = cc
   has_end (e ∷ es) R t p end = let here = ends e l x p in (omega (arith, ints, here.0, end.0), omega (arith, ints, here.1, end.1))
 
--- where the right list starts no later than the left one, its first range is taken whole, if the left one does not matter there
+-- If the right list starts no later than the left one, its first range is taken whole, where the left value does not
+-- affect the choice.
 pub right_first_taken : {A B V : Type 0} (eqb : B → B → Bool) (eq : V → V → Bool) (choose : Option A → Option B → Option V) (L L' : List (Entry A)) (R R' : List (Entry B)) (r y : ℤ) (value : Option V)
     → IsCanonical eqb R → lesser (first_key R) (first_key L) ≡ first_key R → Some (r, y) ≡ option_map range_in (first_entry R)
     → ((o p : Option A) (v : B) → choose o (Some v) ≡ choose p (Some v)) → ((v : B) → at R y ≡ Some v → SameOption eq (choose (at L r) (Some v)) value) → L' ≡ after y L → R' ≡ after y R → IsTaken eq choose L L' R R' r y value
@@ -115,7 +116,7 @@ right_first_taken eqb eq choose L L' (f ∷ fs) R' r y value c first p decided a
     (λ k a b. ap (choose (at L k)) (there k a b) ∙ decided (at L k) (at L r) f.value ∙ sym (ap (choose (at L r)) here))
     (same_along eq (sym (ap (choose (at L r)) here)) refl (alike f.value (there y order (omega (arith, ints))))) left_is right_is
 
--- what both have is not chosen where exactly one is
+-- a value of both lists is not chosen, if the choice requires exactly one
 pub both_skipped : {A : Type 0} (eq : A → A → Bool) (L L' R R' : List (Entry A)) (l x r y t : ℤ) → IsCanonical eq L → IsCanonical eq R → t ≡ int_min y x
     → lesser (first_key R) (first_key L) ≡ first_key R → lesser (first_key L) (first_key R) ≡ first_key L → Some (l, x) ≡ option_map range_in (first_entry L) → Some (r, y) ≡ option_map range_in (first_entry R) → L' ≡ after t L → R' ≡ after t R → IsTaken eq option_xor L L' R R' l t None
 both_skipped eq [] L' R R' l x r y t ca cb end_is n m p q left_is right_is = cc
@@ -132,7 +133,7 @@ both_skipped eq (e ∷ es) L' (f ∷ fs) R' l x r y t ca cb end_is n m p q left_
     let here = none l (omega (arith, ints)) order in
     taken_to eq option_xor (e ∷ es) L' (f ∷ fs) R' l t None (m ∙ ap (λ z. Some z) left.0) order (λ k a b. none k a b ∙ sym here) (same_none eq _ here) left_is right_is
 
--- where the right list starts no later than the left one and has no range, nothing is chosen
+-- if the right list starts no later than the left one and is empty, nothing is chosen
 pub nothing_left : {A B V : Type 0} (choose : Option A → Option B → Option V) → choose None None ≡ None → (L : List (Entry A)) (R : List (Entry B)) → lesser (first_key R) (first_key L) ≡ first_key R → None ≡ option_map range_in (first_entry R) → (k : ℤ) → chosen_at choose L R k ≡ None
 nothing_left choose nothing L [] n p k = ap (λ o. choose o None) (none_there L k n) ∙ nothing
 nothing_left choose nothing L (f ∷ fs) n p k = cc
@@ -141,7 +142,7 @@ pub none_alone : {A B : Type 0} (o : Option B) → left_alone {A = A} None o ≡
 none_alone None = refl
 none_alone (Some v) = refl
 
--- where the left list has no range, it has nothing alone
+-- if the left list is empty, it is the only list with a value at no key
 pub nothing_alone : {A B : Type 0} (L : List (Entry A)) (R : List (Entry B)) → None ≡ option_map range_in (first_entry L) → (k : ℤ) → chosen_at left_alone L R k ≡ None
 nothing_alone [] R p k = none_alone (at R k)
 nothing_alone (e ∷ es) R p k = cc

@@ -1,4 +1,4 @@
--- The words of this crate's proofs that come from elsewhere: a file of proofs takes those that it needs from here.
+-- The names from other crates that this crate's proofs use. The files of proofs import them from here.
 pub use Rattle.std.proofs.Common.{◌≡◌, ℤ, ◌≤ℤ◌, cond, Option, Some, None, refl, ◌∙◌, sym, subst, ap, arith, inl, inr, ℕ, ◌<◌, pos, ◌+ℤ◌, ◌<ℤ◌, Bool, true, false, nat_eq, List, [], ◌∷◌, ◌++◌, ⊎_elim, ◌&&◌, ◌||◌, zero, suc, ◌+◌, length, if◌then◌else◌, ◌≤◌, All, IsPermutation, append_assoc, ◌-ℤ◌, map, min, slice_index_or, slice_set, drop, Bor, rules, ◌-◌}
 pub use Rattle.std.proofs.Math.Seq.{set-append_seam, get_or-append_seam}
 pub use Rattle.std.proofs.lemmas.Bool.{false_from_ne_true, and_left, and_right}

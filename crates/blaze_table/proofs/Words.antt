@@ -1,4 +1,4 @@
--- The words of this crate's proofs that come from elsewhere: a file of proofs takes those that it needs from here.
+-- The names from other crates that this crate's proofs use. The files of proofs import them from here.
 pub use Rattle.std.proofs.Common.{◌≡◌, inl, inr, ℕ, ℤ, pos, ◌+ℤ◌, ◌≤ℤ◌, ◌<ℤ◌, Bool, false, cond, List, [], ◌∷◌, ◌++◌, Option, Some, None, refl, ◌∙◌, sym, ap, subst, arith, ◌-ℤ◌, true, OnErr, ◌-◌, length, length-append, ◌+◌, drop, length-drop, drop-drop, rules, ◌≤◌, ⊎_elim, ◌<◌, slice_set, IsPermutation, All, suc, get_or, zero, codes, negsuc, map, Bor, nat_eq, ◌*◌, take}
 pub use Rattle.std.proofs.Math.Seq.{drop-cons, set-append_seam, take-length}
 pub use Rattle.std.proofs.Output.{has_written_append}

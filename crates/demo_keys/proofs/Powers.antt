@@ -8,7 +8,7 @@ use Rattle.std.proofs.lemmas.Bool.{cases_lt}
 use Rattle.std.proofs.lemmas.Bool.Decides.{Decides-eqb}
 use Rattle.demo_keys.specs.Blocks.{BeginsBlock, IsBlockWithin}
 
--- the mask of the free digits tells whether a block begins
+-- the mask of the free digits decides whether a block begins
 pub masked : (n mask k : ℕ) → mask + 1 ≡ 2 ^ k → IsTrue (bit_and n mask == 0) ↔ BeginsBlock n k
 masked n mask k e =
     let is : mask ≡ 2 ^ k - 1 = omega (arith, e) in
@@ -44,7 +44,7 @@ few_free first last k width within below = elim (cases_lt width k) [
   | inr less ↦ omega arith
 ]
 
--- where a greater block begins and fits, so does a lesser one
+-- if a greater block begins and fits, so does a smaller one
 smaller : (first last j k : ℕ) → IsBlockWithin first last (j + k) → IsBlockWithin first last k
 smaller first last j k whole =
     let size : 2 ^ (j + k) ≡ 2 ^ j * 2 ^ k = pow-add 2 j k in
@@ -62,7 +62,7 @@ greatest first last free none k whole = elim (cases_lt free k) [
 pub one : (first last : ℕ) → first ≤ last → IsBlockWithin first last 0
 one first last h = (omega arith, omega arith)
 
--- no block of more numbers than there are begins and fits
+-- no block of more than 2^128 numbers begins and fits
 pub greatest_of_all : (first last free : ℕ) → last < 2 ^ 128 → 128 ≤ free → free ≤ 128 → (k : ℕ) → IsBlockWithin first last k → k ≤ free
 greatest_of_all first last free below all most = greatest first last free
     (λ wider. let is : free ≡ 128 = omega (arith, all, most) in

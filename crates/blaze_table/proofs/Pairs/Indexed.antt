@@ -1,7 +1,7 @@
--- A list that is gone through by index.
+-- A list that is walked by index.
 use Rattle.blaze_table.proofs.Words.{◌≡◌, ℕ, ◌+◌, suc, ◌<◌, List, ◌∷◌, length, drop, get_or, ◌∙◌, sym, ap, arith, drop-cons}
 
--- from an index on there is first the item at it
+-- the part of a list from an index on begins with the item at the index
 pub from_index : {X : Type 0} (xs : List X) (i : ℕ) (x : X) → i < length xs → x ≡ get_or xs i x → drop i xs ≡ x ∷ drop (i + 1) xs
 from_index xs i x l e =
     let one : suc i ≡ i + 1 = omega arith in

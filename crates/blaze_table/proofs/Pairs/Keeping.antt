@@ -1,4 +1,4 @@
--- Keys put one after another behind a list: what is kept of the pairs asked at.
+-- Keys appended to a list one by one: the pairs that remain of those that a closure was called with.
 use Rattle.blaze_table.proofs.Words.{nat_of, option_or, ◌≡◌, ℕ, ◌+◌, ℤ, pos, ◌+ℤ◌, ◌-ℤ◌, ◌≤ℤ◌, Bool, true, false, cond, List, [], ◌∷◌, ◌++◌, Some, None, refl, ap, sym, ◌∙◌, subst, arith, int_eq, IsEquivalence, items_where_true, ints, by_lt_z, nat_of-pos, returns-push, picked-push_true, picked-push_false, same_along, same_trans, same_or, Entry, entry, at, SameOption, IsCanonical, AreKeys, keys_in, AddsKey, IsKept, KeepsMore, pairs_from, pairs_of, pair_list, value_at, glue, IsBelow, IsTable}
 use Rattle.std.proofs.Common.{append_assoc, append-nil}
 use Rattle.std.proofs.lemmas.List.{length-append}
@@ -8,7 +8,7 @@ use Rattle.blaze_table.proofs.Pairs.PairLists.{pairs_append, pair_list-push}
 use Rattle.blaze_table.proofs.Paints.Splices.{canonical_glue, at_glue, below_glue, below_more}
 use Rattle.blaze_table.proofs.Cuts.Splits.{canonical_part}
 
--- the count of a list with one key more
+-- the number of keys of a list with one more key
 pub keys_added : {V : Type 0} (eq : V → V → Bool) (k : ℤ) (v : V) (old new : List (Entry V)) → AddsKey eq k v old new → keys_in new ≡ keys_in old +ℤ pos 1
 keys_added eq k v old new a = ap keys_in a.glued ∙ omega (arith, ints, keys_glue eq old (entry k k a.value ∷ []))
 
@@ -43,11 +43,11 @@ module _ {F T V : Type 0} (R : F → T × V → Bool → F → Type 0) (f : F) (
     content = h.content;
   }
 
-  -- one part of the pairs, and then another
+  -- one part of the pairs, and then another part
   pub more_both : (xs ys : List (T × V)) (a b c d : ℤ) (old mid new : List (Entry V)) → b ≤ℤ c → KeepsMore R f rank eq low high xs a b old mid → KeepsMore R f rank eq low high ys c d mid new → KeepsMore R f rank eq low high (xs ++ ys) a d old new
   more_both xs ys a b c d old mid new l p q pairs h = subst (λ ps. IsKept R f rank eq low high ps d new) (append_assoc pairs xs ys) (q (pairs ++ xs) (kept_below (pairs ++ xs) b c mid l (p pairs h)))
 
-  -- the closure answers false at one pair more
+  -- the closure returns false at one more pair
   pub more_no : (p : T × V) (b : ℤ) (es : List (Entry V)) → R f p false f → KeepsMore R f rank eq low high (p ∷ []) b (b +ℤ pos 1) es es
   more_no p b es r pairs h = record {
     answers = h.answers ++ false ∷ [];
@@ -73,7 +73,7 @@ module _ {F T V : Type 0} (R : F → T × V → Bool → F → Type 0) (f : F) (
         some_there : j ≡ k → Some v ≡ cond (int_eq j k) (Some v) None
         some_there p = grind (arith, ints)
 
-    -- the closure answers true at one pair more, whose key k is put behind the list
+    -- the closure returns true at one more pair, whose key k is appended to the list
     pub more_yes : (p : T × V) (k : ℤ) (es new : List (Entry V)) → rank p.0 ≡ k → low ≤ℤ k → k ≤ℤ high → R f p true f → AddsKey eq k p.1 es new → KeepsMore R f rank eq low high (p ∷ []) k (k +ℤ pos 1) es new
     more_yes p k es new is from to r a pairs h =
         let one = entry k k a.value ∷ [] in
@@ -92,14 +92,14 @@ module _ {F T V : Type 0} (R : F → T × V → Bool → F → Type 0) (f : F) (
           content = λ j. same_along eq (ap (λ l. at l j) (sym a.glued)) (sym (value j)) (like j);
         }
 
-  -- of no keys
+  -- no keys
   pub more_none : (of_rank : ℤ → T) (lo : ℤ) (v : V) (es : List (Entry V)) → KeepsMore R f rank eq low high (pairs_from of_rank lo (nat_of (lo -ℤ lo)) v) lo lo es es
   more_none of_rank lo v es pairs h =
       let none : lo -ℤ lo ≡ pos 0 = omega (arith, ints) in
       subst (λ n. IsKept R f rank eq low high (pairs ++ pairs_from of_rank lo (nat_of n) v) lo es) (sym none)
       (subst (λ ps. IsKept R f rank eq low high ps lo es) (sym (append-nil pairs)) h)
 
-  -- the keys from lo up to before k, and then k
+  -- the keys from lo to before k, and then k
   pub more_next : (of_rank : ℤ → T) (lo k next : ℤ) (v : V) (old mid new : List (Entry V)) → lo ≤ℤ k → next ≡ k +ℤ pos 1
       → KeepsMore R f rank eq low high (pairs_from of_rank lo (nat_of (k -ℤ lo)) v) lo k old mid → KeepsMore R f rank eq low high (pairs_from of_rank k 1 v) k (k +ℤ pos 1) mid new
       → KeepsMore R f rank eq low high (pairs_from of_rank lo (nat_of (next -ℤ lo)) v) lo next old new
@@ -114,7 +114,7 @@ module _ {F T V : Type 0} (R : F → T × V → Bool → F → Type 0) (f : F) (
       (subst (λ ps. KeepsMore R f rank eq low high ps lo (k +ℤ pos 1) old new) (sym all)
       (more_both (pairs_from of_rank lo m v) (pairs_from of_rank k 1 v) lo k k (k +ℤ pos 1) old mid new (omega (arith, ints)) p q))
 
-  -- the entries before those that are left were gone over, and the list is what is kept of them
+  -- the entries before the remaining ones were visited, and the list has the pairs of theirs that remain
   pub record IsReached (of_rank : ℤ → T) (all left : List (Entry V)) (len : ℤ) (es : List (Entry V)) : Type 0 where
     pub canonical : IsCanonical eq all
     pub done : List (Entry V)
@@ -158,7 +158,7 @@ module _ {F T V : Type 0} (R : F → T × V → Bool → F → Type 0) (f : F) (
       counted = omega (arith, ints, h.counted);
     }
 
-  -- all entries were gone over
+  -- all entries were visited
   module _ (of_rank : ℤ → T) (all : List (Entry V)) (len : ℤ) (es : List (Entry V)) (h : IsReached of_rank all [] len es) where
     pub reached_table : (n : ℕ) → pos n ≡ len → IsTable eq low high n es
     reached_table n p = record {

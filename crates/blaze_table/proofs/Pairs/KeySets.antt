@@ -1,4 +1,4 @@
--- The set of ranges swept, and when two lists of ranges have the same keys.
+-- The set of ranges after a sweep, and lists of ranges with the same keys.
 use Rattle.blaze_table.proofs.Words.{option_or, ◌≡◌, ℤ, Bool, true, false, cond, List, [], ◌∷◌, Option, Some, None, refl, ◌∙◌, sym, ap, subst, Decides, Entry, at, holds, SameOption, SameEntries, IsCanonicalOf, last_at, painted_in_order, IsRangeSet, IsSetOf, same_ranges, unit_eq}
 use Rattle.blaze_table.proofs.Paints.Painted.{entries_themselves}
 use Rattle.blaze_table.proofs.Canonical.SameLists.{same_from_test, test_from_same, content_decides}
@@ -10,7 +10,7 @@ unit_same None (Some y) s = absurd s
 unit_same (Some x) None s = absurd s
 unit_same (Some x) (Some y) s = refl
 
--- of ranges alone the last that has a key and the first that has it say the same
+-- for ranges without values, the last and the first range that contains a key give the same value
 last_is_at : (es : List (Entry (Unit {0}))) (k : ℤ) → painted_in_order es (at []) k ≡ at es k
 last_is_at [] k = refl
 last_is_at (e ∷ es) k = either (last_at es k) (holds e k) ∙ ap (λ o. cond (holds e k) (Some tt) o) (last_is_at es k)
@@ -21,7 +21,7 @@ last_is_at (e ∷ es) k = either (last_at es k) (holds e k) ∙ ap (λ o. cond (
     either (Some u) true = refl
     either (Some u) false = refl
 
--- the canonical list of ranges alone is their set
+-- the canonical list of ranges without values is their set
 pub set_of : (low high : ℤ) (ranges set : List (Entry (Unit {0}))) → IsCanonicalOf unit_eq low high ranges set → IsSetOf low high ranges set
 set_of low high ranges set c = record { range_set = c.range_map; same_keys = λ k. unit_same (at set k) (painted_in_order ranges (at []) k) (c.content k) ∙ last_is_at ranges k }
 

@@ -1,4 +1,4 @@
--- The last pair that has a key.
+-- The last pair that contains a key.
 use Rattle.blaze_table.proofs.Words.{option_or, ◌≡◌, ℕ, zero, suc, ◌<◌, ℤ, pos, ◌+ℤ◌, ◌≤ℤ◌, ◌<ℤ◌, Bool, true, false, cond, List, [], ◌∷◌, Option, Some, None, refl, ◌∙◌, ap, arith, slice_get, ints, or_none, Entry, holds, last_at, AreApart}
 use Rattle.blaze_table.proofs.Canonical.Lookup.{holds_in, holds_under, holds_over}
 
@@ -10,12 +10,12 @@ module _ {V : Type 0} where
   put : (a b : Option V) (x y : Bool) (v : V) → a ≡ b → x ≡ y → option_or a (cond x (Some v) None) ≡ option_or b (cond y (Some v) None)
   put a b x y v p q = ap (λ o. option_or o (cond x (Some v) None)) p ∙ ap (λ z. option_or b (cond z (Some v) None)) q
 
-  -- no pair has the key
+  -- no pair contains the key
   pub last_none : (ps : List (Entry V)) (k : ℤ) → ((j : ℕ) (e : Entry V) → slice_get ps j ≡ Some e → holds e k ≡ false) → last_at ps k ≡ None
   last_none [] k f = refl
   last_none (p ∷ ps) k f = put (last_at ps k) None (holds p k) false p.value (last_none ps k (λ j e q. f (suc j) e q)) (f zero p refl)
 
-  -- the pair has the key, and none after it has
+  -- the pair contains the key, and no later pair does
   pub last_is : (ps : List (Entry V)) (j : ℕ) (e : Entry V) (k : ℤ) → slice_get ps j ≡ Some e → holds e k ≡ true → ((i : ℕ) (f : Entry V) → j < i → slice_get ps i ≡ Some f → holds f k ≡ false) → last_at ps k ≡ Some e.value
   last_is [] j e k q h f = cc
   last_is (p ∷ ps) zero e k q h f =
@@ -28,7 +28,7 @@ module _ {V : Type 0} where
   last_below b k [] a l = refl
   last_below b k (p ∷ ps) a l = put (last_at ps k) None (holds p k) false p.value (last_below (p.hi +ℤ pos 1) k ps a.2 (omega (arith, ints, a.0, a.1))) (holds_under p k (omega (arith, ints, a.0)))
 
-  -- in the first pair, which lies below the others
+  -- in the first pair, which is below the others
   pub last_first : (k : ℤ) (p : Entry V) (ps : List (Entry V)) → AreApart (p.hi +ℤ pos 1) ps → p.lo ≤ℤ k → k ≤ℤ p.hi → last_at (p ∷ ps) k ≡ Some p.value
   last_first k p ps a l u = put (last_at ps k) None (holds p k) true p.value (last_below (p.hi +ℤ pos 1) k ps a (omega (arith, ints))) (holds_in p k l u)
 

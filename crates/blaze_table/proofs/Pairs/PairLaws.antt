@@ -9,7 +9,7 @@ abbrev pub AreRanks : {K : Type 0} → (K → ℤ) → (ℤ → K) → ℤ → �
 AreRanks rank of_rank a n = (z : ℤ) → a ≤ℤ z → z <ℤ (a +ℤ pos n) → rank (of_rank z) ≡ z
 
 module _ {K V : Type 0} (rank : K → ℤ) (of_rank : ℤ → K) where
-  -- the first pair stands above b
+  -- the first pair is above b
   abbrev pub ArePairsAbove : ℤ → List (K × V) → Type 0
   ArePairsAbove b [] = Unit {0}
   ArePairsAbove b (p ∷ ps) = b <ℤ rank p.0
@@ -18,7 +18,7 @@ module _ {K V : Type 0} (rank : K → ℤ) (of_rank : ℤ → K) where
   ascending_cons p [] a h = tt
   ascending_cons p (q ∷ ps) a h = (a, h)
 
-  -- n keys from a on, and then others above them
+  -- n keys from a on, and then other keys above them
   ascending_from : (a : ℤ) (n : ℕ) (v : V) (rest : List (K × V)) → AreRanks rank of_rank a n → ArePairsAbove (a +ℤ pos n -ℤ pos 1) rest → IsAscendingPairs rank rest
       → ArePairsAbove (a -ℤ pos 1) (pairs_from of_rank a n v ++ rest) × IsAscendingPairs rank (pairs_from of_rank a n v ++ rest)
   ascending_from a zero v rest r f h = let e : a +ℤ pos 0 -ℤ pos 1 ≡ a -ℤ pos 1 = omega (arith, ints) in (subst (λ b. ArePairsAbove b rest) e f, h)
@@ -29,7 +29,7 @@ module _ {K V : Type 0} (rank : K → ℤ) (of_rank : ℤ → K) where
       let next : (a +ℤ pos 1) -ℤ pos 1 ≡ rank (of_rank a) = omega (arith, ints, is) in
       (omega (arith, ints, is), ascending_cons (of_rank a, v) _ (subst (λ b. ArePairsAbove b (pairs_from of_rank (a +ℤ pos 1) n v ++ rest)) next i.0) i.1)
 
-  -- what a list of pairs has at a key, by its parts
+  -- the value of a list of pairs at a key, by its parts
   value_at-append : (ps qs : List (K × V)) (k : ℤ) → value_at rank (ps ++ qs) k ≡ option_or (value_at rank ps k) (value_at rank qs k)
   value_at-append [] qs k = refl
   value_at-append (p ∷ ps) qs k = first (int_eq k (rank p.0)) (value_at-append ps qs k)

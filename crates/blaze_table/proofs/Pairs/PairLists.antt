@@ -1,4 +1,4 @@
--- Pair lists, taken apart at either end, and their content.
+-- Pair lists, split at either end, and their content.
 use Rattle.blaze_table.proofs.Words.{nat_of, ◌≡◌, ℕ, zero, suc, ◌+◌, ℤ, pos, ◌+ℤ◌, ◌-ℤ◌, ◌≤ℤ◌, ◌<ℤ◌, List, [], ◌∷◌, ◌++◌, refl, ap, sym, ◌∙◌, arith, ints, nat_of-pos, Entry, pairs_from, pairs_of, pair_list}
 use Rattle.std.proofs.Common.{append_assoc, append-nil}
 

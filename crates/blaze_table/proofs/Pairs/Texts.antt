@@ -1,7 +1,7 @@
 -- Texts of which some parts may be unknown.
 use Rattle.blaze_table.proofs.Words.{◌≡◌, ℕ, List, ◌++◌, ℤ, refl, Option, Some, None, codes, option_append, ◌++?◌, Entry, range_text}
 
--- where two texts together are known, each is
+-- if two texts together are known, each of them is
 pub split_some : (o p : Option (List ℕ)) (c : List ℕ) → option_append o p ≡ Some c → (a b : List ℕ) × (o ≡ Some a) × (p ≡ Some b) × (a ++ b ≡ c)
 split_some None p c h = absurd (cc)
 split_some (Some a) None c h = absurd (cc)

@@ -1,4 +1,4 @@
--- Equality of unit values keeps its laws.
+-- Equality of unit values obeys its laws.
 use Rattle.blaze_table.proofs.Words.{refl, IsEquivalence, unit_eq}
 
 pub unit_laws : IsEquivalence unit_eq

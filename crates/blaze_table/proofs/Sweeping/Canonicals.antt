@@ -1,4 +1,4 @@
--- A list with all that pairs paint is their canonical list; how long it is.
+-- A list with everything that pairs paint is their canonical list, and its length.
 use Rattle.blaze_table.proofs.Words.{option_or, ◌≡◌, ℕ, ◌+◌, ◌-◌, ◌*◌, ◌≤◌, ℤ, ◌≤ℤ◌, Bool, cond, List, [], ◌∷◌, length, Some, None, refl, ◌∙◌, sym, ap, subst, arith, inl, inr, ⊎_elim, int_le, ◌⊎◌, IsEquivalence, by_lt_z, le_true, le_false, same_along, same_itself, same_trans, same_or_right, same_back, or_none, or_assoc, Entry, at, holds, SameOption, IsCanonical, last_at, painted_in_order, IsListPainted, paint, keyed, IsCanonicalOf, IsSwept}
 use Rattle.blaze_table.proofs.Paints.Painted.{is_painted, paint_itself, painted_nowhere, length_as}
 use Rattle.blaze_table.proofs.Canonical.Runs.{one_per_run}
@@ -6,16 +6,16 @@ use Rattle.blaze_table.proofs.Canonical.Unique.{unique}
 use Rattle.blaze_table.proofs.Pairs.Lasts.{painted_one}
 use Rattle.blaze_table.proofs.Sweeping.Sweeps.{at_past}
 
--- whether the pair has a key, as a number
+-- 1 if the pair has a key, else 0
 abbrev is_keyed : {V : Type 0} → Entry V → ℕ
 is_keyed p = cond (int_le p.lo p.hi) 1 0
 
--- a list that painting the pair gives, if it has a key
+-- the list after a paint of the pair, if the pair has a key
 record IsPaintedOne {V : Type 0} (eq : V → V → Bool) (p : Entry V) (old new : List (Entry V)) : Type 0 where
   list : IsListPainted eq p old new
   count : ((new ≡ old) × (is_keyed p ≡ 0)) ⊎ (is_keyed p ≡ 1)
 
--- a list that painting the pairs in order gives, one after another
+-- the list after paints of the pairs, in order
 record IsPaintedEach {V : Type 0} (eq : V → V → Bool) (ps old new : List (Entry V)) : Type 0 where
   canonical : IsCanonical eq new
   content : (k : ℤ) → SameOption eq (at new k) (painted_in_order ps (at old) k)
@@ -52,7 +52,7 @@ module _ {V : Type 0} (eq : V → V → Bool) (laws : IsEquivalence eq) where
         },
       )
 
-  -- a canonical list with what painting the pairs gives where there was nothing has at most 2n - 1 entries where n pairs have a key
+  -- If n pairs have a key, their paints on an empty map give a canonical list with at most 2n - 1 entries.
   pub few_painted : (ps out : List (Entry V)) → IsCanonical eq out → ((k : ℤ) → SameOption eq (at out k) (painted_in_order ps (at []) k)) → length out ≤ 2 * keyed ps - 1
   few_painted ps out c content =
       let each = each_painted ps [] tt in

@@ -1,4 +1,4 @@
--- Pieces filled with the values of their pairs, one after another.
+-- Pieces get the values of their pairs, one by one.
 use Rattle.std.proofs.Common.{◌≡◌, ℕ, zero, suc, ◌-◌, ℤ, pos, ◌+ℤ◌, ◌≤ℤ◌, Bool, false, List, [], ◌∷◌, length, map, Option, Some, None, refl, ◌∙◌, sym, ap, subst, arith, nat_eq, option_map, All}
 use Rattle.std.specs.Prelude.{slice_get, IsSome}
 use Rattle.std.specs.Cmp.{IsEquivalence}
@@ -20,7 +20,8 @@ use Rattle.blaze_table.proofs.Sweeping.Pieces.{same_number}
 use Rattle.blaze_table.proofs.Sweeping.Placed.{one_item, item_of, none_at, value_of}
 use Rattle.blaze_table.proofs.Sweeping.Sweeps.{swept_none, swept_more}
 
--- what the pairs paint below the key `from` is in the list, the pieces from there on are left, and each pair's value is at hand
+-- The list has what the pairs paint below the key `from`. The pieces from there on remain, and each pair's value is
+-- available.
 pub record IsFilledSoFar {T V : Type 0} (eq : V → V → Bool) (rank : T → ℤ) (low high : ℤ) (placed : List (Placed T V)) (b : ℤ) (rest : List (Entry ℕ)) (out : List (Entry V)) (held : List (Held V)) : Type 0 where
   pub from : ℤ
   pub swept : (ps : List (Entry V)) → ArePlaced rank ps placed → IsSwept eq low high (last_at ps) from out
@@ -31,7 +32,7 @@ not_itself : (a b : ℕ) → nat_eq a b ≡ false → a ≡ b → ⊥
 not_itself a b h q = grind arith
 
 module _ {V : Type 0} (eq : V → V → Bool) (laws : IsEquivalence eq) where
-  -- a value that an entry has is still there when one more is put
+  -- an entry keeps its value when one more is appended
   held_keeps : (out : List (Entry V)) (p : Entry V) (o : Option (Held V)) (w : V) → SameOption eq (held_value out o) (Some w) → SameOption eq (held_value (glue eq out (p ∷ [])) o) (Some w)
   held_keeps out p None w s = s
   held_keeps out p (Some (Kept v)) w s = s
@@ -90,7 +91,7 @@ module _ {V : Type 0} (eq : V → V → Bool) (laws : IsEquivalence eq) where
               (subst (λ l. SameOption eq (held_value l (slice_get held j)) (Some pair.value)) (sym puts.glued) (held_keeps out p (slice_get held j) pair.value (c.at_hand j pair q))));
         }
 
-    -- no piece is left
+    -- no piece remains
     pub filled_all : (b : ℤ) (out : List (Entry V)) (held : List (Held V)) → b ≡ high +ℤ pos 1 → IsFilledSoFar eq rank low high placed b [] out held → IsCanonicalOfPlaced eq rank low high placed out
     filled_all b out held e c ps are = canonical_of_swept eq laws low high c.from ps out (c.swept ps are)
         (λ k l. none_at rank ps placed are k (λ i p q h. by_lt_z k b (λ s. c.left.1 i p q k l s h) (λ s. let r = item_of (EndsAreKeys rank low high) placed i p keys q in omega (arith, ints, r.1, e, h.1, s))))

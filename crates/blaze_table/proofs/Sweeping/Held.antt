@@ -1,4 +1,4 @@
--- The values of pairs, by where they are, and what is left of them.
+-- The values of pairs, by their positions, and the remaining values.
 use Rattle.std.proofs.Common.{◌≡◌, ℕ, zero, suc, ◌-◌, ◌<◌, ◌≤◌, ℤ, Bool, List, [], ◌∷◌, length, slice_set, Some, refl, ◌∙◌, sym, ap, subst, arith, get_or, option_map}
 use Rattle.std.specs.Prelude.{slice_get, IsSome}
 use Rattle.std.specs.Cmp.{IsEquivalence}
@@ -25,7 +25,7 @@ get_set_other (z ∷ xs) zero (suc j) x n = refl
 get_set_other (z ∷ xs) (suc i) zero x n = refl
 get_set_other (z ∷ xs) (suc i) (suc j) x n = get_set_other xs i j x (λ q. n (ap suc q))
 
--- ---- the value at a place
+-- ---- the value at a position
 
 module _ {V : Type 0} where
   pub within_held : (es : List (Entry V)) (held : List (Held V)) (place : ℕ) → IsSome (value_in es held place) → place < length held
@@ -38,7 +38,7 @@ module _ {V : Type 0} where
   within_entries (e ∷ es) zero h = omega arith
   within_entries (e ∷ es) (suc at) h = let l = within_entries es at h in omega (arith, l)
 
-  -- that of an entry, as the code reads it
+  -- the value of an entry, as the code reads it
   pub moved_value : {T : Type 0} (rank : T → ℤ) (xs : List (T × T × V)) (held : List (Held V)) (place at : ℕ) (x : T × T × V) → slice_get held place ≡ Some (Moved at) → IsSome (value_in (shown_list rank xs) held place) → x ≡ get_or xs at x → value_in (shown_list rank xs) held place ≡ Some x.2
   moved_value rank xs held place at x m h q =
       let w = within_entries (shown_list rank xs) at (subst (λ o. IsSome (held_value (shown_list rank xs) o)) m h) in
@@ -61,7 +61,7 @@ module _ {V : Type 0} where
   glue_some eq (e ∷ []) p = by_join eq e p [] (λ t a r. rw r (omega arith)) (λ n r. rw r (omega arith))
   glue_some eq (e ∷ f ∷ es) p = omega arith
 
-  -- the last one has a value equal to the one that was put
+  -- the last entry has a value equal to the appended one
   pub glue_last : (eq : V → V → Bool) → IsEquivalence eq → (es : List (Entry V)) (p : Entry V) → SameOption eq (option_map (λ (e : Entry V). e.value) (slice_get (glue eq es (p ∷ [])) (length (glue eq es (p ∷ [])) - 1))) (Some p.value)
   glue_last eq laws [] p = laws.refl p.value
   glue_last eq laws (e ∷ []) p = by_join eq e p []

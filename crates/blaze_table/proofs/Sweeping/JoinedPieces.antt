@@ -1,9 +1,9 @@
--- Pairs that are ascending and disjoint, put behind a list one after another.
+-- Ascending disjoint pairs, appended to a list one by one.
 use Rattle.blaze_table.proofs.Words.{◌≡◌, ℤ, pos, ◌+ℤ◌, ◌≤ℤ◌, Bool, List, [], ◌∷◌, refl, ◌∙◌, sym, subst, arith, Some, IsEquivalence, ints, Entry, SameOption, last_at, glue, AreApart, IsSwept}
 use Rattle.blaze_table.proofs.Pairs.Lasts.{last_below, last_first, last_over}
 use Rattle.blaze_table.proofs.Sweeping.Sweeps.{swept_none, swept_more}
 
--- what all pairs paint below the key `from` is in the list, and what they paint from there on is painted by the rest
+-- the list has what all pairs paint below the key `from`, and the remaining pairs paint the rest
 pub record IsJoined {V : Type 0} (eq : V → V → Bool) (low high : ℤ) (all rest out : List (Entry V)) : Type 0 where
   pub from : ℤ
   pub swept : IsSwept eq low high (last_at all) from out

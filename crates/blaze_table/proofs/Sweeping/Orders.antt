@@ -1,4 +1,4 @@
--- Steps of one, and what a sort leaves.
+-- Successive numbers, and lists after a sort.
 use Rattle.blaze_table.proofs.Words.{◌≡◌, suc, ◌+◌, ℤ, pos, ◌+ℤ◌, ◌≤ℤ◌, ◌<ℤ◌, Bool, false, List, ◌∷◌, subst, arith, slice_index_or, IsSortedBy, is_lt, int_cmp, ints}
 
 pub step_up : (a e n : ℤ) → a ≤ℤ e → n ≡ e +ℤ pos 1 → a ≤ℤ n

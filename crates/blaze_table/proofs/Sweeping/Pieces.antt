@@ -1,4 +1,4 @@
--- Pieces put one after another.
+-- Pieces appended one by one.
 use Rattle.std.proofs.Common.{◌≡◌, ℕ, ◌≤◌, ℤ, pos, ◌+ℤ◌, ◌≤ℤ◌, true, List, [], ◌∷◌, Some, refl, sym, ap, subst, arith, nat_eq, All}
 use Rattle.std.specs.Prelude.{slice_get}
 use Rattle.std.proofs.lemmas.Int.{ints, by_lt_z}
@@ -14,16 +14,16 @@ pub same_number : (a b : ℕ) → nat_eq a b ≡ true → a ≡ b
 same_number a b h = grind arith
 
 module _ {T V : Type 0} (rank : T → ℤ) (placed : List (Placed T V)) where
-  -- no pair has a key from b up to below c
+  -- no pair has a key from b to below c
   pub pieces_gap : (a b c : ℤ) (xs : List (Entry ℕ)) → b ≤ℤ c → IsUncovered rank placed b c → ArePieces rank placed a b xs → ArePieces rank placed a c xs
   pieces_gap a b c [] l bare m = (omega (arith, ints, m.0), λ j p q k f u h. by_lt_z k b (λ s. m.1 j p q k f s h) (λ s. bare j p q k s u h))
   pieces_gap a b c (x ∷ xs) l bare m = (m.0, m.1, m.2, pieces_gap (x.hi +ℤ pos 1) b c xs l bare m.3)
 
-  -- no key at all lies between
+  -- no key is between
   pub ended : (a : ℤ) → ArePieces rank placed a a []
   ended a = (omega (arith, ints), λ j p q k f u h. omega (arith, ints, f, u))
 
-  -- two pieces of one pair that touch are one
+  -- two touching pieces of one pair are joined
   joined : (x p : Entry ℕ) → x.value ≡ p.value → p.lo ≡ x.hi +ℤ pos 1 → IsPiece rank placed x → IsPiece rank placed p → IsPiece rank placed (entry x.lo p.hi x.value)
   joined x p v t i j =
       let same : j.pair ≡ i.pair = one_item placed x.value j.pair i.pair (subst (λ n. slice_get placed n ≡ Some j.pair) (sym v) j.is) i.is in
@@ -47,7 +47,7 @@ module _ {T V : Type 0} (rank : T → ℤ) (placed : List (Placed T V)) where
   pieces_more a b (x ∷ y ∷ xs) p q i m = (m.0, m.1, m.2, pieces_more (x.hi +ℤ pos 1) b (y ∷ xs) p q i m.3)
 
   module _ (low a to : ℤ) (order : a ≤ℤ to) (waits : List (ℕ × ℕ)) (w : IsWaiting rank placed a to waits) (xs : List (Entry ℕ)) (m : ArePieces rank placed low a xs) where
-    -- the top, which waits with the greatest place, has the keys up to t
+    -- the top, the waiting pair with the greatest position, contains the keys up to t
     pub pieces_to : (top : ℕ × ℕ) (e : Placed T V) → slice_get waits 0 ≡ Some top → All (λ x. x.0 ≤ top.0) waits → slice_get placed top.1 ≡ Some e
         → (t : ℤ) → a ≤ℤ t → t ≤ℤ to → t ≤ℤ rank e.end → (new : List (Entry ℕ)) → new ≡ glue nat_eq xs (entry a t top.1 ∷ []) → ArePieces rank placed low (t +ℤ pos 1) new
     pieces_to top e first greatest is t f u h new r =
@@ -63,6 +63,6 @@ module _ {T V : Type 0} (rank : T → ℤ) (placed : List (Placed T V)) where
           last = λ j p q k l v k_in. let n = top_is_last rank placed a to waits w top.0 greatest j p q k l (omega (arith, ints)) k_in in omega (arith, n, begun.place, ap (λ (y : Placed T V). y.place) same);
         }) m)
 
-    -- none waits
+    -- no pair waits
     pub pieces_rest : waits ≡ [] → ArePieces rank placed low (to +ℤ pos 1) xs
     pieces_rest n = pieces_gap low a (to +ℤ pos 1) xs (omega (arith, ints)) (λ j p q k l u. none_is rank placed a to waits w n j p q k l (omega (arith, ints))) m

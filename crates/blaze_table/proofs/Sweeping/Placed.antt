@@ -1,4 +1,4 @@
--- The pairs with their places.
+-- Pairs with their positions.
 use Rattle.std.proofs.Common.{◌≡◌, ℕ, zero, suc, ◌+◌, ◌<◌, ℤ, ◌≤ℤ◌, ◌<ℤ◌, true, List, [], ◌∷◌, ◌++◌, length, All, IsPermutation, Some, None, drop, refl, ◌∙◌, sym, ap, subst, arith, inl, inr, ⊎_elim}
 use Rattle.std.specs.Prelude.{slice_get, slice_index_or, ◌⊎◌}
 use Rattle.std.specs.List.{Contains}
@@ -22,7 +22,7 @@ use Rattle.blaze_table.specs.declared.sweep.placed.Placed.{Placed}
 
 -- ---- items of lists
 
--- at an index stands one item
+-- a list has one item at each index
 pub one_item : {X : Type 0} (xs : List X) (j : ℕ) (x y : X) → slice_get xs j ≡ Some x → slice_get xs j ≡ Some y → x ≡ y
 one_item xs j x y p q = cc
 
@@ -45,7 +45,7 @@ keys_at low high [] j e a q = cc
 keys_at low high (p ∷ ps) zero e a q = let same : p ≡ e = cc in (omega (arith, ints, a.0, ap (λ (x : Entry _). x.lo) same), omega (arith, ints, a.1, ap (λ (x : Entry _). x.hi) same))
 keys_at low high (p ∷ ps) (suc j) e a q = keys_at low high ps j e a.2 q
 
--- what holds below n, and at n, holds below n + 1
+-- a fact that is true below n and at n is true below n + 1
 pub one_more : (P : ℕ → Type 0) (n : ℕ) → ((j : ℕ) → j < n → P j) → P n → (j : ℕ) → j < n + 1 → P j
 one_more P n below here j l = by_case (nat_case j n l)
   where
@@ -59,7 +59,7 @@ one_more P n below here j l = by_case (nat_case j n l)
     by_case (inl q) = subst P q here
     by_case (inr h) = below j h
 
--- ---- pairs placed one after another
+-- ---- pairs appended one by one
 
 module _ {T V : Type 0} (rank : T → ℤ) (ps : List (Entry V)) where
   pub placed_none : ArePlacedBelow rank ps 0 []
@@ -69,7 +69,7 @@ module _ {T V : Type 0} (rank : T → ℤ) (ps : List (Entry V)) where
   }
 
   module _ (n : ℕ) (placed : List (Placed T V)) (c : ArePlacedBelow rank ps n placed) (e : Entry V) (is : slice_get ps n ≡ Some e) where
-    -- a pair that has no key
+    -- a pair without a key
     pub placed_skip : e.hi <ℤ e.lo → ArePlacedBelow rank ps (n + 1) placed
     placed_skip w = record {
       known = c.known;
@@ -77,7 +77,7 @@ module _ {T V : Type 0} (rank : T → ℤ) (ps : List (Entry V)) where
           (λ f q h. let same : e ≡ f = one_item ps n e f is q in absurd (omega (arith, ints, ap (λ (x : Entry V). x.lo) same, ap (λ (x : Entry V). x.hi) same)));
     }
 
-    -- a pair that has one
+    -- a pair with a key
     pub placed_more : (s t : T) (v : V) (new : List (Placed T V)) → new ≡ placed ++ (record { start = s; end = t; place = n; value = v }) ∷ [] → e ≡ entry (rank s) (rank t) v → rank s ≤ℤ rank t → ArePlacedBelow rank ps (n + 1) new
     placed_more s t v new is_new r o =
         let places : places_of new ≡ places_of placed ++ n ∷ [] = ap places_of is_new ∙ map-append (λ (p : Placed T V). p.place) placed ((record { start = s; end = t; place = n; value = v }) ∷ []) in
@@ -98,7 +98,7 @@ module _ {T V : Type 0} (rank : T → ℤ) (ps : List (Entry V)) where
   pub ends_are_keys : (low high : ℤ) (placed : List (Placed T V)) → AreKeys low high ps → All (IsPlaced rank ps) placed → All (EndsAreKeys rank low high) placed
   ends_are_keys low high placed are known = All-weaker (IsPlaced rank ps) (EndsAreKeys rank low high) (λ p h. keys_at low high ps p.place (entry (rank p.start) (rank p.end) p.value) are h.is) placed known
 
--- ---- what a sort by the first keys leaves
+-- ---- the list after a sort by the first keys
 
 module _ {T V : Type 0} (rank : T → ℤ) (low high : ℤ) (cmp : T → T → Ordering)
     (order : (a b : T) → low ≤ℤ rank a → rank a ≤ℤ high → low ≤ℤ rank b → rank b ≤ℤ high → cmp a b ≡ int_cmp (rank a) (rank b)) where
@@ -130,7 +130,7 @@ module _ {T V : Type 0} (rank : T → ℤ) (low high : ℤ) (cmp : T → T → O
 
 -- ---- what the placed pairs paint
 
--- a pair with the place, at its index
+-- a pair with the position, at its index
 record IsFound {T V : Type 0} (placed : List (Placed T V)) (place : ℕ) : Type 0 where
   index : ℕ
   pair : Placed T V
@@ -146,7 +146,7 @@ found {T = T} {V = V} placed place c = at_index placed c.0 c.1 c.2
     at_index (x ∷ xs) (suc k) l q = let f = at_index xs k (omega arith) q in record { index = suc f.index; pair = f.pair; is = f.is; place_is = f.place_is }
 
 module _ {T V : Type 0} (rank : T → ℤ) (ps : List (Entry V)) (placed : List (Placed T V)) (c : ArePlaced rank ps placed) where
-  -- a pair that has a key is placed
+  -- a pair with a key is in the placed list
   by_place : {P : Type 0} (j : ℕ) (e : Entry V) (k : ℤ) → slice_get ps j ≡ Some e → holds e k ≡ true → ((i : ℕ) (p : Placed T V) → slice_get placed i ≡ Some p → p.place ≡ j → HasKey rank p k → P) → P
   by_place j e k q h f =
       let ends = holds_ends e k h in
@@ -155,7 +155,7 @@ module _ {T V : Type 0} (rank : T → ℤ) (ps : List (Entry V)) (placed : List 
       let same : entry (rank it.pair.start) (rank it.pair.end) it.pair.value ≡ e = one_item ps j (entry (rank it.pair.start) (rank it.pair.end) it.pair.value) e (subst (λ m. slice_get ps m ≡ Some (entry (rank it.pair.start) (rank it.pair.end) it.pair.value)) it.place_is known.is) q in
       f it.index it.pair it.is it.place_is (omega (arith, ints, ends.0, ap (λ (x : Entry V). x.lo) same), omega (arith, ints, ends.1, ap (λ (x : Entry V). x.hi) same))
 
-  -- no pair has the key
+  -- no pair contains the key
   pub none_at : (k : ℤ) → ((i : ℕ) (p : Placed T V) → slice_get placed i ≡ Some p → HasKey rank p k → ⊥) → last_at ps k ≡ None
   none_at k none = last_none ps k (λ j e q. by_bool (holds e k) (λ h. by_place j e k q h (λ i p r s w. absurd (none i p r w))) (λ b. b))
 

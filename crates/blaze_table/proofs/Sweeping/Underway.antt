@@ -1,4 +1,4 @@
--- Pairs that wait or are to come.
+-- The waiting pairs and the later ones during a sweep.
 use Rattle.std.proofs.Common.{◌≡◌, ℕ, zero, suc, ◌+◌, ◌<◌, ◌≤◌, ℤ, pos, ◌-ℤ◌, ◌≤ℤ◌, List, [], ◌∷◌, length, All, IsPermutation, Some, refl, subst, arith}
 use Rattle.std.specs.Prelude.{slice_get}
 use Rattle.std.specs.List.{Contains}
@@ -24,7 +24,7 @@ by_le zero (suc n) below above = below (omega arith)
 by_le (suc j) (suc n) below above = by_le j n (λ h. below (omega (arith, h))) (λ h. above (omega (arith, h)))
 
 module _ {T V : Type 0} (rank : T → ℤ) (low : ℤ) (placed : List (Placed T V)) where
-  -- at the least key all pairs are to come
+  -- at the least key no pair waits
   pub underway_none : (high : ℤ) → All (EndsAreKeys rank low high) placed → IsSweptSoFar rank low placed low 0 [] []
   underway_none high keys = record {
     made = ended rank placed low;
@@ -34,21 +34,21 @@ module _ {T V : Type 0} (rank : T → ℤ) (low : ℤ) (placed : List (Placed T 
   }
 
   module _ (up : AreAscending rank placed) (a : ℤ) (n : ℕ) (waits : List (ℕ × ℕ)) (pieces : List (Entry ℕ)) (c : IsSweptSoFar rank low placed a n waits pieces) where
-    -- all that start below the next wait
+    -- all pairs that start below the next one wait
     pub waits_for : (s : Placed T V) → slice_get placed n ≡ Some s → IsWaiting rank placed a (rank s.start -ℤ pos 1) waits
     waits_for s is = record {
       started = c.started;
       complete = λ j p q r l. by_le j n (λ h. c.complete j p q h r) (λ h. let f = up n j s p h is q in absurd (omega (arith, ints, f, l)));
     }
 
-    -- all wait
+    -- all pairs wait
     pub all_wait : (to : ℤ) → length placed ≤ n → IsWaiting rank placed a to waits
     all_wait to l = record {
       started = c.started;
       complete = λ j p q r s. let w = slice_get_within placed j p q in c.complete j p q (omega (arith, w, l)) r;
     }
 
-    -- one more waits
+    -- one more pair waits
     pub underway_more : (s : Placed T V) → slice_get placed n ≡ Some s → (kept new : List (ℕ × ℕ)) (more : List (Entry ℕ))
         → IsWaiting rank placed (rank s.start) (rank s.start -ℤ pos 1) kept → KeepsReaching rank placed (rank s.start) waits kept → ArePieces rank placed low (rank s.start) more → IsPermutation ((s.place, n) ∷ kept) new
         → IsSweptSoFar rank low placed (rank s.start) (n + 1) new more

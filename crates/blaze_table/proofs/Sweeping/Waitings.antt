@@ -1,4 +1,4 @@
--- The pairs that wait: which of them is painted, and what is left of them.
+-- The waiting pairs: which of them paints, and which of them remain.
 use Rattle.std.proofs.Common.{◌≡◌, ℕ, zero, suc, ◌<◌, ◌≤◌, ℤ, pos, ◌+ℤ◌, ◌-ℤ◌, ◌≤ℤ◌, ◌<ℤ◌, List, [], ◌∷◌, length, All, IsPermutation, Some, refl, ap, subst, arith, get_or, inl, inr, ⊎_elim}
 use Rattle.std.specs.Prelude.{slice_get, slice_index_or, ◌⊎◌}
 use Rattle.std.specs.List.{Contains}
@@ -22,30 +22,30 @@ contains_none y c = let h : c.0 < 0 = c.1 in absurd (omega arith)
 
 module _ {T V : Type 0} (rank : T → ℤ) (placed : List (Placed T V)) where
   module _ (a to : ℤ) (waits : List (ℕ × ℕ)) (w : IsWaiting rank placed a to waits) where
-    -- the pair of the top is one that has started
+    -- the pair of the top has started
     pub top_pair : (top : ℕ × ℕ) → slice_get waits 0 ≡ Some top → HasStarted rank placed a top
     top_pair top first = item_of (HasStarted rank placed a) waits 0 top w.started first
 
-    -- as the code reads it
+    -- the pair of the top, as the code reads it
     pub top_read : (top : ℕ × ℕ) (p : Placed T V) → slice_get waits 0 ≡ Some top → p ≡ get_or placed top.1 p → slice_get placed top.1 ≡ Some p
     top_read top p first q = let begun = top_pair top first in slice_get_read placed (length placed) top.1 p refl (slice_get_within placed top.1 begun.pair begun.is) q
 
-    -- no pair that has a key from a up to `to` has a later place than those that wait
+    -- no pair with a key from a to `to` has a later position than the waiting ones
     pub top_is_last : (top : ℕ) → All (λ x. x.0 ≤ top) waits → (j : ℕ) (p : Placed T V) → slice_get placed j ≡ Some p → (k : ℤ) → a ≤ℤ k → k ≤ℤ to → HasKey rank p k → p.place ≤ top
     top_is_last top greatest j p q k l u h = All-contains (λ x. x.0 ≤ top) waits (p.place, j) greatest (w.complete j p q (omega (arith, ints, h.1)) (omega (arith, ints, h.0)))
 
-    -- where none waits, no pair has a key from a up to `to`
+    -- if no pair waits, no pair has a key from a to `to`
     pub none_is : waits ≡ [] → (j : ℕ) (p : Placed T V) → slice_get placed j ≡ Some p → (k : ℤ) → a ≤ℤ k → k ≤ℤ to → HasKey rank p k → ⊥
     none_is n j p q k l u h = contains_none (p.place, j) (subst (λ xs. Contains xs (p.place, j)) n (w.complete j p q (omega (arith, ints, h.1)) (omega (arith, ints, h.0))))
 
-    -- further up
+    -- at a higher key
     pub waiting_from : (b : ℤ) → a ≤ℤ b → IsWaiting rank placed b to waits
     waiting_from b l = record {
       started = All-weaker (HasStarted rank placed a) (HasStarted rank placed b) (λ x h. record { pair = h.pair; is = h.is; place = h.place; start = omega (arith, ints, h.start) }) waits w.started;
       complete = λ j p q r s. w.complete j p q (omega (arith, ints)) s;
     }
 
-    -- the top leaves, whose pair ends below a
+    -- the top is removed, since its pair ends below a
     pub waiting_less : (top : ℕ × ℕ) (e : Placed T V) (rest : List (ℕ × ℕ)) → slice_get placed top.1 ≡ Some e → rank e.end <ℤ a → IsPermutation waits (top ∷ rest) → IsWaiting rank placed a to rest
     waiting_less top e rest q l p = record {
       started = All-tail (HasStarted rank placed a) top rest (All-permutation (HasStarted rank placed a) waits (top ∷ rest) p w.started);
@@ -55,13 +55,13 @@ module _ {T V : Type 0} (rank : T → ℤ) (placed : List (Placed T V)) where
           (contains_cases top (f.place, j) rest (Contains-permutation waits (top ∷ rest) (f.place, j) p (w.complete j f r s t)));
     }
 
-  -- up to the key before s, and so from s
+  -- the waiting pairs after the key t, which is before s, are those at s
   pub waiting_moved : (waits : List (ℕ × ℕ)) (t s : ℤ) → t ≡ s -ℤ pos 1 → IsWaiting rank placed (t +ℤ pos 1) t waits → IsWaiting rank placed s (s -ℤ pos 1) waits
   waiting_moved waits t s q w =
       let back : s -ℤ pos 1 +ℤ pos 1 ≡ s = omega (arith, ints) in
       subst (λ x. IsWaiting rank placed x (s -ℤ pos 1) waits) back (subst (λ x. IsWaiting rank placed (x +ℤ pos 1) x waits) q w)
 
-  -- what waited and has a key from s on still waits
+  -- a waiting pair with a key from s on still waits
   pub waiting_kept : (a to s : ℤ) (old new : List (ℕ × ℕ)) → IsWaiting rank placed a to old → IsWaiting rank placed s (s -ℤ pos 1) new → a <ℤ s → KeepsReaching rank placed s old new
   waiting_kept a to s old new w n l j p q u c =
       let begun = All-contains (HasStarted rank placed a) old (p.place, j) w.started c in

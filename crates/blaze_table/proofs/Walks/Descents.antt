@@ -1,15 +1,15 @@
--- A walk down the entries by single looks, each below the start of the entry before.
+-- A walk down the entries by single lookups, each below the start of the previous entry.
 use Rattle.blaze_table.proofs.Words.{◌≡◌, ℕ, ◌+◌, ◌<◌, ℤ, Bool, List, [], ◌∷◌, ◌++◌, length, Option, Some, None, refl, ◌∙◌, sym, ap, arith, length-append, option_map, found_in, StartsAscend, below, last_below, Entry}
 use Rattle.blaze_table.proofs.Cuts.Splits.{last_at, no_last}
 use Rattle.blaze_table.proofs.Neighbours.Growing.{below_last, front_last}
 
--- how many rounds are left, by the entry that was looked at
+-- the number of remaining lookups, by the last result
 abbrev pub rounds : {V : Type 0} → List (Entry V) → Option (ℤ × ℤ × Bool) → ℕ
 rounds es None = 0
 rounds es (Some t) = length (below t.0 es) + 1
 
 module _ {V : Type 0} (test : V → Bool) (low high : ℤ) (es : List (Entry V)) (s : StartsAscend low high es) where
-  -- the last entry that starts below k was looked at
+  -- the last lookup returned the last entry that starts below k
   pub record Down (k : ℤ) (t : ℤ × ℤ × Bool) : Type 0 where
     pub found : Entry V
     pub is : t ≡ found_in test found
@@ -33,7 +33,7 @@ module _ {V : Type 0} (test : V → Bool) (low high : ℤ) (es : List (Entry V))
             fewer = sym (ap length step ∙ length-append (below t.0 es) (e ∷ []));
           }
 
-  -- no entry is left
+  -- no entry remains
   pub at_bottom : (k : ℤ) → None ≡ option_map (found_in test) (last_below k es) → below k es ≡ []
   at_bottom k q = by_last (last_below k es) refl q
     where
@@ -41,7 +41,7 @@ module _ {V : Type 0} (test : V → Bool) (low high : ℤ) (es : List (Entry V))
       by_last None p q = no_last k low high es s p
       by_last (Some e) p q = cc
 
-  -- the next look is below the entry
+  -- the next lookup is below the entry
   pub rounds_fall : (k : ℤ) (t : ℤ × ℤ × Bool) (r o : Option (ℤ × ℤ × Bool)) → o ≡ Some t → r ≡ option_map (found_in test) (last_below t.0 es) → rounds es r < rounds es o
   rounds_fall k t r o p q = rw p (below_it r q)
     where

@@ -1,4 +1,4 @@
--- A walk down to a range looks at no more entries than a paint of the range takes out, but for a few.
+-- A walk down to a range makes at most a few more lookups than a paint of the range removes entries.
 use Rattle.blaze_table.proofs.Words.{◌≡◌, ℕ, ◌+◌, ◌≤◌, ℤ, pos, ◌+ℤ◌, ◌≤ℤ◌, Bool, List, [], ◌∷◌, length, ◌∙◌, ap, arith, Result, Ok, Err, OnOk, IfOk, ints, by_lt_z, CountedEntries, StartsAscend, below, from, IsLookedAt, below_takes, below_skips, below_none, from_takes, from_skips, from_all, Entry, entry, IsCanonical, IsCountedPaint, PutsAtMost, IsLooked, IsWorked, before, after, IsTablePainted}
 use Rattle.blaze_table.proofs.Canonical.Lookup.{IsAbove-from_apart, above_by}
 use Rattle.blaze_table.proofs.Walks.Plans.{from_above}
@@ -6,7 +6,7 @@ use Rattle.blaze_table.proofs.Walks.Worked.{counted_then, counted_looked}
 use Rattle.blaze_table.proofs.Paints.Splices.{by_before, by_after}
 
 module _ {V : Type 0} where
-  -- one entry at most is both right above the range and from there on
+  -- at most one entry starts at the key right above the range
   few_starts : (l h b high : ℤ) (es : List (Entry V)) → l ≤ℤ h → StartsAscend b high es
       → length (from l (below (h +ℤ pos 2) es)) + length (below l es) + length (from (h +ℤ pos 1) es) ≤ length es + 1
   few_starts l h b high [] w s = omega arith
@@ -35,7 +35,7 @@ module _ {V : Type 0} (eq : V → V → Bool) where
       (λ u m p. rw (p, from_skips (h +ℤ pos 1) e es (omega (arith, ints)), over (omega (arith, ints))) (omega arith))
       (λ u m p. rw (p, from_takes (h +ℤ pos 1) e es (omega (arith, ints)), over (omega (arith, ints))) (omega arith))
 
-  -- the looks of a walk, and one look more at most
+  -- the lookups of a walk, and at most one more
   looked : (l h low high : ℤ) (old new : CountedEntries V) → l ≤ℤ h → StartsAscend low high old.entries → IsCanonical eq old.entries → new ≡ record old { looks = new.looks } → old.looks ≤ new.looks
       → new.looks ≤ old.looks + length (from l (below (h +ℤ pos 2) old.entries)) + 2 → IsLooked l h old new
   looked l h low high old new w s c alone risen few = record {
@@ -52,7 +52,7 @@ module _ {V : Type 0} (eq : V → V → Bool) where
   looked_again l h low high old mid new w s c walked up few again risen once =
       looked l h low high old new w s c (again ∙ ap (λ (x : CountedEntries V). record x { looks = new.looks }) walked) (omega (arith, up, risen)) (omega (arith, few, once))
 
--- few looks, and the work behind them, of which what is left below and above the range is one entry short at most
+-- few lookups, and then the edit; the list has at most one entry more than the parts below and above the range
 module _ {V : Type 0} (l h : ℤ) (old mid new : CountedEntries V) (looked : IsLooked l h old mid) where
   pub counted : (most : ℕ) → IsWorked most 0 mid new → length new.entries ≤ length (before l mid.entries) + length (after h mid.entries) + 1 → PutsAtMost most old new
   counted most work short =

@@ -1,4 +1,4 @@
--- What a walk down to a range, which speaks of the list, tells an edit of the range.
+-- The results of a walk down to a range, as an edit of the range requires them.
 use Rattle.blaze_table.proofs.Words.{◌≡◌, ℤ, pos, ◌+ℤ◌, ◌-ℤ◌, ◌≤ℤ◌, ◌<ℤ◌, Bool, true, false, cond, List, [], ◌∷◌, Option, Some, None, refl, ◌∙◌, sym, subst, ap, arith, ℕ, inl, inr, last_or, option_map, int_eq, int_le, ◌&&◌, ◌||◌, IsSome, IfSome, IsSomeAnd, ints, by_lt_z, lt_true, lt_false, le_true, not_both, CountedEntries, RangeEntry, found_in, shown_found, RangesAscend, end_of, IsSeenIn, IsAboveCloned, GoesOnUnlike, IsClonedIf, IsWalk, StartsAscend, below, last_below, start_at, below_none, below_takes, IsCanonical, AreKeys, Entry, entry, at, entry_at, SameOption, ClonesAreAlike, IsInside, joined_start, IsUnjoined, IsEndAfter, IsEnd, IsLikeAbove, IsUnlikeAbove, GoesOnUnequal, IsLooked, IsWalkOf, after, IsTable}
 use Rattle.blaze_entries.specs.Overlap.{covered}
 use Rattle.blaze_table.specs.Planned.{Seen}
@@ -12,25 +12,25 @@ use Rattle.blaze_table.proofs.Neighbours.Holders.{starts_over}
 use Rattle.blaze_table.proofs.Paints.Inside.{inside_at}
 use Rattle.blaze_table.proofs.Paints.Splices.{by_after}
 
--- a range does not lie inside an entry with an equal value, where one with another value goes on above it
+-- a range is not inside an entry with an equal value if an entry with an unequal value extends above it
 pub not_inside : {V : Type 0} (eq : V → V → Bool) (v : V) (l h : ℤ) → l ≤ℤ h → (es : List (Entry V)) → IsCanonical eq es → GoesOnUnequal (λ x. eq x v) h es → IsInside eq l h v es → ⊥
 not_inside {V} eq v l h w es c g i =
     let here : Some g.over.entry.value ≡ at es h = ap (option_map (λ (e : Entry V). e.value)) (sym g.over.here) ∙ value-entry_at es h in
     not_both (eq g.over.entry.value v) (subst (λ o. SameOption eq o (Some v)) (sym here) (inside_at eq l h v es h c i w (omega (arith, ints)))) g.unequal
 
 module _ {V : Type 0} (eq : V → V → Bool) where
-  -- its ranges are in order
+  -- its ranges ascend
   pub ranges_of : (b high : ℤ) (es : List (Entry V)) → StartsAscend b high es → IsCanonical eq es → (low : ℤ) → AreKeys low high es → RangesAscend b high es
   ranges_of b high [] s c low k = tt
   ranges_of b high (e ∷ es) s c low k = (s.0, c.0, k.1, ranges_of (e.hi +ℤ pos 1) high es (starts_over eq (e.lo +ℤ pos 1) high e es c.1 s.2) c.2 low k.2)
 
   module _ (test : V → Bool) (h high : ℤ) where
-    -- one more entry in front, which goes on above the range, and starts right above it or below
+    -- one more entry in front, which extends above the range and starts right above it or below
     end_long : (e : Entry V) (es : List (Entry V)) (x : Entry V) → after h (e ∷ es) ≡ x ∷ es → x.lo ≡ h +ℤ pos 1 → x.hi ≡ e.hi → x.value ≡ e.value → (b : Bool) → test e.value ≡ b → IsEnd test h (e ∷ es) (cond b e.hi h)
     end_long e es x p start finish same true t = inr (record { next = x; others = es; first = p; touches = start; ends = finish; like = ap test same ∙ t })
     end_long e es x p start finish same false t = inl (refl, subst (IsUnjoined test h) (sym p) (λ _. ap test same ∙ t))
 
-    -- where the range ends, by the last entry that starts up to the key above it
+    -- the end of the joined range, by the last entry that starts up to the key above it
     pub end_is : (b : ℤ) (es : List (Entry V)) → StartsAscend b high es → IsCanonical eq es → IsEnd test h es (end_of h (option_map (found_in test) (last_below (h +ℤ pos 2) es)))
     end_is b [] s c = inl (refl, tt)
     end_is b (e ∷ es) s c = by_after h e es
@@ -48,7 +48,7 @@ module _ {V : Type 0} (eq : V → V → Bool) where
         last u m = ap (last_or None) (below_takes (h +ℤ pos 2) e es m ∙ ap (λ x. e ∷ x) (below_none (h +ℤ pos 2) (e.hi +ℤ pos 1) high es (omega (arith, ints)) (starts_over eq (e.lo +ℤ pos 1) high e es c.1 s.2)))
 
 module _ {V : Type 0} (eq : V → V → Bool) (l h low high : ℤ) (w : l ≤ℤ h) (es : List (Entry V)) (s : StartsAscend low high es) (c : IsCanonical eq es) where
-  -- the last entry that starts up to a key has the keys up to its end
+  -- the last entry that starts up to a key contains the keys up to its end
   pub last_held : (b : ℤ) (e : Entry V) → last_below b es ≡ Some e → (j : ℤ) → (b -ℤ pos 1) ≤ℤ j → j ≤ℤ e.hi → entry_at es j ≡ Some e
   last_held b e q j d u =
       let i = last_at b low high e es s q in
@@ -66,7 +66,7 @@ module _ {V : Type 0} (eq : V → V → Bool) (l h low high : ℤ) (w : l ≤ℤ
       by_last None q = tt
       by_last (Some e) q = λ u. ap (option_map (λ (x : Entry V). x.value)) (start_last e q)
 
-  -- that entry is there
+  -- that entry exists
   pub left_there : {T : Type 0} (test : V → Bool) (rank : T → ℤ) (left : Option (RangeEntry T Bool)) → option_map (shown_found rank) left ≡ option_map (found_in test) (last_below l es) → IfSome left (λ f. IsSome (start_at (rank f.start) es))
   left_there {T} test rank left q = by_both left (last_below l es) refl q
     where
@@ -86,14 +86,14 @@ like_cloned eq is_clone k test h (Some e) None i = i
 like_cloned eq is_clone k test h (Some e) (Some v) i = λ u n. k e.value v (i u n)
 
 module _ {V : Type 0} (eq : V → V → Bool) (l h low high : ℤ) (w : l ≤ℤ h) (len : ℕ) (es : List (Entry V)) (s : StartsAscend low high es) (t : IsTable eq low high len es) where
-  -- what a walk asks for
+  -- the requirements of a walk
   pub has_ranges : RangesAscend low high es
   has_ranges = ranges_of eq low high es s t.canonical low t.are_keys
 
   pub has_keys : covered l h es ≤ℤ pos len
   has_keys = omega (arith, ints, t.counted, covered_fits eq l h es t.canonical)
 
-  -- what it says
+  -- the results of a walk
   module _ (test : V → Bool) where
     pub found_above : GoesOnUnlike test l h es → GoesOnUnequal test h es
     found_above g = by_last (last_below l es) refl g
@@ -112,11 +112,11 @@ module _ {V : Type 0} (eq : V → V → Bool) (l h low high : ℤ) (w : l ≤ℤ
     pub walked : {is_clone : V → V → Type 0} {wanted : Bool} {p : Seen} {n : ℕ} {o v : Option V} → ClonesAreAlike is_clone eq → IsWalk is_clone test wanted l h len es p n o v → IsWalkOf eq test l h es p n o
     walked {is_clone} {p = p} {n} {o} k i = found_by_walk p i.plan n i.outside is_clone k o i.above
 
--- what was found still holds behind the looks
+-- the results are true after the lookups
 pub found_still : {V : Type 0} {eq : V → V → Bool} {test : V → Bool} {l h : ℤ} {old mid : CountedEntries V} {p : Seen} {n : ℕ} {o : Option V} → IsLooked l h old mid → IsWalkOf eq test l h old.entries p n o → IsWalkOf eq test l h mid.entries p n o
 found_still {V} {eq} {test} {l} {h} {old} {mid} {p} {n} {o} looked found = subst (λ (es : List (Entry V)). IsWalkOf eq test l h es p n o) (sym (ap (λ (s : CountedEntries V). s.entries) looked.alone)) found
 
--- where the entry is not joined with the range, its value is another
+-- if the entry is not joined with the range, its value is unequal
 module _ {V : Type 0} (eq : V → V → Bool) (test : V → Bool) (l h z : ℤ) (w : l ≤ℤ h) (up : h ≤ℤ z) (o : Option V) where
   unjoined : (e : Entry V) → l ≤ℤ e.hi → None ≡ joined_start l (Some (found_in test e)) → test e.value ≡ false
   unjoined e u n =

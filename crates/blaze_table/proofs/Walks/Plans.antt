@@ -1,4 +1,4 @@
--- What the plan of a paint says of the list.
+-- The facts about the list that the plan of a paint gives.
 use Rattle.blaze_table.proofs.Words.{◌≡◌, ℤ, pos, ◌+ℤ◌, ◌≤ℤ◌, ◌<ℤ◌, Bool, true, false, cond, List, [], ◌∷◌, Option, Some, None, refl, ◌∙◌, sym, subst, ap, arith, inl, inr, IfSome, IsSomeAnd, int_le, ◌&&◌, ◌||◌, option_map, ints, by_lt_z, by_bool, lt_true, lt_false, not_both, int_eq, found_in, range_in, shown_found, shown_ends, Seen, shown_plan, StartsAscend, from, last_below, start_at, RangeEntry, Plan, one_value, from_takes, from_skips, Entry, entry, IsPlace, IsCanonical, IsLikeAbove, IsUnjoined, IsJoinedTo, IsEnd, rest_of, joined_start, IsPlanOf, IsRestOf, IsRest, after}
 use Rattle.blaze_table.proofs.Canonical.Lookup.{IsAbove, IsAbove-from_apart, above_by}
 use Rattle.blaze_table.proofs.Paints.Splices.{by_after, after_skips}
@@ -8,14 +8,14 @@ use Rattle.blaze_table.proofs.Paints.Placing.{around_last}
 use Rattle.blaze_table.proofs.Paints.Widened.{after_over, started_at, end_up}
 
 module _ {V : Type 0} (eq : V → V → Bool) where
-  -- all that lies above z starts above it
+  -- all entries above z start above it
   pub from_above : (z : ℤ) (es : List (Entry V)) → IsAbove z es → IsCanonical eq es → from (z +ℤ pos 1) es ≡ es
   from_above z [] a c = refl
   from_above z (e ∷ es) a c =
       from_takes (z +ℤ pos 1) e es (omega (arith, ints, a))
       ∙ ap (λ t. e ∷ t) (from_above z es (above_by e.hi z es (omega (arith, ints, a, c.0)) (IsAbove-from_apart eq e es c.1)) c.2)
 
-  -- where an entry ends at z, what lies above it starts above it
+  -- if an entry ends at z, the part above z starts above it
   ended_at : (z : ℤ) (e : Entry V) (es : List (Entry V)) → IsCanonical eq (e ∷ es) → e.hi ≡ z → after z (e ∷ es) ≡ from (z +ℤ pos 1) (e ∷ es)
   ended_at z e es c q =
       let a = above_by e.hi z es (omega (arith, ints)) (IsAbove-from_apart eq e es c.1) in
@@ -32,7 +32,7 @@ module _ {V : Type 0} (eq : V → V → Bool) where
       last_key : (x : Entry V) (xs : List (Entry V)) → x ∷ xs ≡ n ∷ ns → x.hi ≡ z
       last_key x xs w = let same : x ≡ n = cc in ap (λ (y : Entry V). y.hi) same ∙ q
 
--- the ends of an entry that was looked at
+-- the ends of an entry that a lookup returned
 found_ends : {T V : Type 0} (rank : T → ℤ) (test : V → Bool) (a : Option (RangeEntry T Bool)) (o : Option (Entry V)) → option_map (shown_found rank) a ≡ option_map (found_in test) o → option_map (shown_ends rank) a ≡ option_map range_in o
 found_ends rank test None None q = refl
 found_ends rank test None (Some e) q = cc
@@ -40,7 +40,7 @@ found_ends rank test (Some f) None q = cc
 found_ends rank test (Some f) (Some e) q = let found : shown_found rank f ≡ found_in test e = cc in ap (λ (t : ℤ × ℤ × Bool). Some (t.0, t.1)) found
 
 module _ {V : Type 0} (eq : V → V → Bool) (test : V → Bool) (l h : ℤ) (w : l ≤ℤ h) (low high : ℤ) (es : List (Entry V)) (s : StartsAscend low high es) (c : IsCanonical eq es) where
-  -- the rest, by the last entry that starts up to h
+  -- the entry that keeps its keys above the range, by the last entry that starts up to h
   module _ (z : ℤ) (up : h ≤ℤ z) (end : IsEnd test h es z) where
     no_rest : after h es ≡ from (h +ℤ pos 1) es → after z es ≡ from (z +ℤ pos 1) es
     no_rest q = elim end [
@@ -98,7 +98,7 @@ module _ {V : Type 0} (eq : V → V → Bool) (test : V → Bool) (l h : ℤ) (w
   pub rest_is : (p : Seen) → h ≤ℤ p.end → IsPlanOf test l h es p → IsRest p.end es p.rest
   rest_is p up r = subst (IsRest p.end es) (sym r.rest) (rest_from p.end up r.end (last_below (h +ℤ pos 1) es) refl)
 
-  -- the entry that the range is joined with does not go on above the joined range
+  -- the entry that the range is joined with does not extend above the joined range
   pub joined_within : (f : ℤ) (p : Seen) → Some f ≡ joined_start l p.left → IsPlanOf test l h es p → IsLikeAbove eq l p.end es None
   joined_within f p q r = by_last (last_below l es) refl
     where
@@ -115,7 +115,7 @@ module _ {V : Type 0} (eq : V → V → Bool) (test : V → Bool) (l h : ℤ) (w
           let all : p.end ≡ e.hi = equal_end p.end up r.end e last (omega (arith, ints)) like in
           absurd (omega (arith, ints))
 
-  -- what the plan tells an edit
+  -- the plan meets the requirements of an edit
   pub place_is : {T : Type 0} (rank : T → ℤ) (plan : Plan T) (o : Option V) → IsPlanOf test l h es (shown_plan rank plan) → IsLikeAbove eq l (rank plan.end) es o → IsPlace rank eq l es plan o
   place_is rank plan o i like =
       let up = end_up eq test h es c (rank plan.end) i.end in

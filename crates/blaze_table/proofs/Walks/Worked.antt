@@ -1,4 +1,4 @@
--- What steps count, one after another.
+-- The work of edits, one after another.
 use Rattle.blaze_table.proofs.Words.{◌≡◌, ℕ, ◌+◌, ◌≤◌, List, length, ◌∙◌, ap, arith, CountedEntries, Entry, IsWorked, IsCounted}
 
 module _ {V : Type 0} where
@@ -13,7 +13,7 @@ module _ {V : Type 0} where
     balance = omega (arith, a.balance, b.balance);
   }
 
-  -- looks alone
+  -- only lookups
   pub counted_looked : (old new : CountedEntries V) → new ≡ record old { looks = new.looks } → old.looks ≤ new.looks → IsCounted old new
   counted_looked old new e more =
       let long = ap (λ (s : CountedEntries V). length s.entries) e in
@@ -21,7 +21,7 @@ module _ {V : Type 0} where
       let taken = ap (λ (s : CountedEntries V). s.taken_out) e in
       record { looks = more; puts = omega (arith, puts); taken = omega (arith, taken); balance = omega (arith, long, puts, taken) }
 
-  -- entries changed, as many as before
+  -- entries are changed, and their number is the same
   pub counted_edited : (old new : CountedEntries V) (es : List (Entry V)) → new ≡ record old { entries = es } → length es ≡ length old.entries → IsCounted old new
   counted_edited old new es e same =
       let long = ap (λ (s : CountedEntries V). length s.entries) e in
@@ -44,7 +44,7 @@ module _ {V : Type 0} where
         looks = omega (arith, taken, looks, w.looks);
       }
 
-  -- an entry put in
+  -- an entry is inserted
   pub worked_put : (old new : CountedEntries V) (es : List (Entry V)) → new ≡ record old { entries = es; put_in = old.put_in + 1 } → length new.entries ≡ length old.entries + 1 → IsWorked 1 0 old new
   worked_put old new es e longer =
       let puts = ap (λ (s : CountedEntries V). s.put_in) e in
@@ -56,7 +56,7 @@ module _ {V : Type 0} where
         looks = omega (arith, taken, looks);
       }
 
-  -- a look, and an entry taken out by it
+  -- a lookup, and the removal of its entry
   pub worked_out : (p q : ℕ) (old mid seen new : CountedEntries V) (es : List (Entry V)) → IsWorked p q old mid → seen ≡ record mid { looks = mid.looks + 1 } → new ≡ record seen { entries = es; taken_out = seen.taken_out + 1 }
       → length new.entries + 1 ≡ length seen.entries → IsWorked p q old new
   worked_out p q old mid seen new es w l e shorter =

@@ -1,7 +1,7 @@
 use Rattle.blaze_table.proofs.Words.{drop, AreKeys, shown_list}
 use Rattle.blaze_table.proofs.entry_keys.keys_in_hand.Given as goal
 
--- the entries before are keys
+-- the ends of the visited entries are keys
 abbrev pub invariant-loop-start : goal.invariant-loop-start
 invariant-loop-start g l =
     let rank = g.T.Integer.rank in

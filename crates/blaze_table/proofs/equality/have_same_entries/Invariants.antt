@@ -1,7 +1,7 @@
 use Rattle.blaze_table.proofs.Words.{◌≡◌, same_entries}
 use Rattle.blaze_table.proofs.equality.have_same_entries.Given as goal
 
--- the answer is that for what is left
+-- the result is that for the remaining entries
 abbrev pub invariant-loop-entry : goal.invariant-loop-entry
 invariant-loop-entry g l =
     (goal.iterator-loop-entry g).can_next l.entry-iterator

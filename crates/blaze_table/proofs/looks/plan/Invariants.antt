@@ -2,7 +2,7 @@ use Rattle.blaze_table.proofs.Words.{◌≡◌, ◌+◌, ℤ, pos, List, option_
 use Rattle.blaze_table.proofs.Walks.Descents.{rounds}
 use Rattle.blaze_table.proofs.looks.plan.Given as goal
 
--- the entries below a key stand before those that were seen; the look at the last of them is made
+-- the entries below a key precede the visited ones, and the lookup of the last of them is made
 abbrev pub invariant-loop-last : goal.invariant-loop-last
 invariant-loop-last g l = record {
   key : ℤ;

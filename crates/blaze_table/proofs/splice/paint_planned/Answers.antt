@@ -8,7 +8,7 @@ use Rattle.blaze_table.proofs.Walks.Plans.{joined_within, place_is, joined_left}
 use Rattle.blaze_table.proofs.Paints.Widened.{paint_extends, paint_puts, end_up}
 use Rattle.blaze_table.proofs.splice.paint_planned.Goals as goal
 
--- a list painted, with its count of keys
+-- a painted list, with its number of keys
 table_painted : {V : Type 0} (eq : V → V → Bool) (laws : IsEquivalence eq) (low high : ℤ) (n : ℕ) (p : Entry V) (old new : List (Entry V)) → p.lo ≤ℤ p.hi → low ≤ℤ p.lo → p.hi ≤ℤ high → IsCanonical eq old → AreKeys low high old
     → pos n ≡ (keys_in (before p.lo old) +ℤ keys_in (after p.hi old)) +ℤ ((p.hi -ℤ p.lo) +ℤ pos 1) → IsPaintOf eq p old new → IsTablePainted eq low high n p old new
 table_painted eq laws low high n p old new order from to c keys count made =

@@ -2,7 +2,7 @@ use Rattle.std.proofs.Common.{ℕ, suc, ℤ, ◌-ℤ◌, Option, Some, None}
 use Rattle.blaze_int.specs.Unsigned.{nat_of}
 use Rattle.demo_routes.proofs.family.print_prefixes_of.Given as goal
 
--- how many keys are left at most, from a key on up to h
+-- an upper bound of the number of remaining keys, from a key to h
 abbrev left : {K : Type 0} → (K → ℤ) → ℤ → Option K → ℕ
 left rank h None = 0
 left rank h (Some k) = suc (nat_of (h -ℤ rank k))

@@ -1,7 +1,7 @@
 use Rattle.blaze_table.proofs.Words.{length, ◌↔◌, shown_list, AreApart, key_after}
 use Rattle.blaze_table.proofs.sweep.ascending.is_ascending.Given as goal
 
--- what is left is apart from the last pair exactly where all are
+-- the remaining pairs are apart from the last one exactly if all pairs are apart
 abbrev pub invariant-loop-pair : goal.invariant-loop-pair
 invariant-loop-pair g l =
     let rank = g.T.Integer.rank in

@@ -4,7 +4,7 @@ use Rattle.blaze_table.specs.Entries.{shown_list}
 use Rattle.blaze_table.specs.Pieces.{place_cmp, IsWaiting, ArePieces}
 use Rattle.blaze_table.proofs.sweep.pieces.sweep_to.Given as goal
 
--- the pieces below the key `at` are made, and those wait that have a key from there on
+-- the pieces below the key `at` are complete, and the pairs with a key from `at` on wait
 abbrev pub invariant-loop-top : goal.invariant-loop-top
 invariant-loop-top g l =
     let rank = g.T.Integer.rank in

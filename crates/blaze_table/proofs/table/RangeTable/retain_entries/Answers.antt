@@ -24,7 +24,7 @@ invariant_of-self g c =
       counted = c.count-len.ensures;
     }
 
--- as many entries as before are those before
+-- if the number of entries is the same, the entries are the same
 pub invariant_of-self-else-len-before : goal.invariant_of-self-else-len-before
 invariant_of-self-else-len-before g c =
     let eq = g.V.PartialEq.eq in

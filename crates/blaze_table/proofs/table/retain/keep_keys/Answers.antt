@@ -3,9 +3,9 @@ use Rattle.blaze_table.proofs.Pairs.AtPairs.{all_at}
 use Rattle.blaze_table.proofs.Pairs.Keeping.{more_none, more_next}
 use Rattle.blaze_table.proofs.table.retain.keep_keys.Goals as goal
 
--- ---- the numbers of a loop over the keys from lo up to hi: k is the key, r the next
+-- ---- the numbers of a loop over the keys from lo to hi: k is the key, r the next
 
--- a key of the range is among as many as there are from lo on
+-- a key of the range is one of its keys, counted from lo
 within : (lo hi k : ℤ) → lo ≤ℤ hi → k ≤ℤ hi → k <ℤ (lo +ℤ pos (nat_of (hi -ℤ lo +ℤ pos 1)))
 within lo hi k w u = let n = nat_of-pos (hi -ℤ lo +ℤ pos 1) (omega (arith, ints)) in omega (arith, ints)
 
@@ -15,7 +15,7 @@ at_most a b u = omega (arith, ints)
 met : (a b : ℤ) → a ≤ℤ b → b ≤ℤ a → a ≡ b
 met a b p q = omega (arith, ints)
 
--- what follows a key stays above lo, and gets no further than hi
+-- the next key is above lo, and at most hi
 next_from : (lo k r : ℤ) → r ≡ k +ℤ pos 1 → lo ≤ℤ k → lo ≤ℤ r
 next_from lo k r e p = omega (arith, ints)
 
@@ -25,7 +25,7 @@ next_to hi k r e p = omega (arith, ints)
 next_gone : (lo k r : ℤ) → r ≡ k +ℤ pos 1 → r -ℤ lo ≡ (k -ℤ lo) +ℤ pos 1
 next_gone lo k r e = omega (arith, ints)
 
--- how many are left, before and after a key
+-- the number of remaining keys, before and after a key
 some_left : (hi k left : ℤ) → k ≤ℤ hi → (hi -ℤ k +ℤ pos 1) ≤ℤ left → pos 1 ≤ℤ left
 some_left hi k left p q = omega (arith, ints)
 

@@ -1,7 +1,7 @@
 use Rattle.blaze_table.proofs.Words.{nat_of, ◌≡◌, pos, ◌+ℤ◌, ◌-ℤ◌, ◌≤ℤ◌, keys_in, KeepsMore, pairs_from, AnswersAtPair, shown_list}
 use Rattle.blaze_table.proofs.table.retain.keep_keys.Given as goal
 
--- the keys before `key` were asked at
+-- the closure was called with the keys before `key`
 abbrev pub invariant-loop-end : goal.invariant-loop-end
 invariant-loop-end g l =
     let rank = g.T.Integer.rank in

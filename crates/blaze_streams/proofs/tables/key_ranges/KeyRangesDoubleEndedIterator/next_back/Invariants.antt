@@ -1,7 +1,7 @@
 use Rattle.blaze_streams.proofs.Words.{◌≡◌, ◌∷◌, ◌++◌, [], Some, None, length, entry, joined_ranges, bare_entries}
 use Rattle.blaze_streams.proofs.tables.key_ranges.KeyRangesDoubleEndedIterator.next_back.Given as goal
 
--- the entries that are left end with a range from `start` up to `end`
+-- the remaining entries are followed by a range from `start` to `end`
 abbrev pub invariant-loop-previous : goal.invariant-loop-previous
 invariant-loop-previous g l =
     let rank = g.T.Integer.rank in

@@ -1,7 +1,7 @@
 use Rattle.blaze_table.proofs.Words.{◌≡◌, ◌++◌, ℕ, List, Some, HasWritten, IsPlainFormatter, Utf8, shadow, ranges_text, set_text}
 use Rattle.blaze_table.proofs.set.display.RangeSetBlazeDisplay.fmt.Given as goal
 
--- where the whole text is known, what is written and the text of the other ranges are the whole
+-- if the whole text is known, it is the written text followed by the text of the other ranges
 abbrev pub invariant-loop-range : goal.invariant-loop-range
 invariant-loop-range g l =
     (goal.iterator-loop-range g).can_next l.range-iterator

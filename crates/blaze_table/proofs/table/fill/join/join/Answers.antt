@@ -62,7 +62,7 @@ returns-in_default-clause-joined g c =
     not_joined g.V.PartialEq.eq g.met.V.Eq.laws g.T.Integer.low g.T.Integer.high (rank c.args.key) es c.range_at_or_below.new.self.entries (ap (λ (s : CountedEntries g.row.V.Denot). s.entries) c.in_default.ensures.looked) c.requires.ordered c.requires.keys
     (none_last (rank c.args.key) g.T.Integer.low g.T.Integer.high es c.in_hand.ensures c.in_default.ensures.found)
 
--- two looks, an entry taken out, and one that gets another end
+-- two lookups, a removed entry, and an entry with a new end
 counted_joined : {V : Type 0} (old one two out new : CountedEntries V) (es fs : List (Entry V)) → one ≡ record old { looks = old.looks + 1 } → two ≡ record one { looks = one.looks + 1 }
     → out ≡ record two { entries = es; taken_out = two.taken_out + 1 } → length out.entries + 1 ≡ length two.entries → new ≡ record out { entries = fs } → length fs ≡ length out.entries → IsCounted old new
 counted_joined {V} old one two out new es fs a b c shorter d same =

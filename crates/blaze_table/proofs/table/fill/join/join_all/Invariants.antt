@@ -1,7 +1,7 @@
 use Rattle.blaze_table.proofs.Words.{◌≡◌, length, map, AreKeys, keys_in, at, SameContent, AreStartsKept, IsJoinedBut, IsOrdered, IsCounted}
 use Rattle.blaze_table.proofs.table.fill.join.join_all.Given as goal
 
--- what is at the joints left is still to be joined
+-- the entries at the remaining joints are not joined yet
 abbrev pub invariant-loop-key : goal.invariant-loop-key
 invariant-loop-key g l = record {
   ordered : IsOrdered l.entries.entries;

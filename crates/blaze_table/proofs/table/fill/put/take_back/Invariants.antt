@@ -1,7 +1,7 @@
 use Rattle.blaze_table.proofs.Words.{◌≡◌, length, map, AreThere, taken, IsCounted}
 use Rattle.blaze_table.proofs.table.fill.put.take_back.Given as goal
 
--- the entries that start at the keys left are still to be taken
+-- the entries that start at the remaining keys are not removed yet
 abbrev pub invariant-loop-start : goal.invariant-loop-start
 invariant-loop-start g l =
     let rank = g.T.Integer.rank in
