@@ -24,10 +24,10 @@
  * Results. Every pointer through which a function only returns a number or a bool may be NULL. If a function returns false, or a
  * status other than RANGE_MAP_DONE, it writes nothing through these pointers, except the ends of a gap that it was asked for.
  *
- * Memory. A function that may allocate returns a status. If an allocation fails, it returns RANGE_MAP_NO_MEMORY and all maps are
- * unchanged, except by range_map_extend and range_map_paint_many, which may have applied a first part of their input, and by
- * range_map_combine, which may have changed a first part of its range. A call that changes nothing does not allocate. malloc, realloc
- * and free must belong to one allocator.
+ * Memory. A function that may allocate returns a status. If an allocation fails, it returns RANGE_MAP_NO_MEMORY, and all maps are
+ * unchanged. Three functions differ: range_map_extend and range_map_paint_many may have applied a first part of their input, and
+ * range_map_combine may have changed a first part of its range. A call that changes nothing does not allocate. malloc, realloc and
+ * free must belong to one allocator.
  *
  * Threads. A map stays on the thread that made it: only this thread may change the map or free it. The proof does not cover a map that
  * moves to another thread. Several threads may look up in one map through const pointers, or read it as a const operand, at the same

@@ -103,15 +103,15 @@ inline void check(std::int32_t status) {
 
 } // namespace detail
 
-/// Whether a type can be the key of a map: an integer type of at most 64 bits except bool, or an enum with such an underlying
-/// type that is declared, as by `enum class` or `enum name : type`.
+/// Whether a type can be the key of a map: an integer type of at most 64 bits except bool, or an enum over such a type. The
+/// enum must declare that type, as `enum class` and `enum name : type` do.
 template <class Key>
 constexpr bool is_key = std::is_integral_v<detail::number_t<Key>> && !std::is_same_v<detail::number_t<Key>, bool> &&
                         sizeof(Key) <= 8 && std::is_same_v<Key, std::remove_cv_t<Key>> &&
                         (!std::is_enum_v<Key> || detail::is_fixed_enum<Key>::value);
 
-/// Whether a type can be the value of a map: trivially copyable, at most 8 bytes, and equal values have equal bytes (so there is
-/// no padding, and float and double are excluded).
+/// Whether a type can be the value of a map: trivially copyable, at most 8 bytes, and equal values have equal bytes. So there is no
+/// padding, and float and double are excluded.
 template <class Value>
 constexpr bool is_value = std::is_trivially_copyable_v<Value> && std::has_unique_object_representations_v<Value> &&
                           sizeof(Value) <= 8 && std::is_same_v<Value, std::remove_cv_t<Value>>;
@@ -259,7 +259,7 @@ template <class Key, class Value> class map {
         detail::check(range_map_paint_many(&handle, lo.data(), hi.data(), value.data(), count));
     }
 
-    /// Paints the entries of an array, a vector or another contiguous container in order: each sets the value of every key in its
+    /// Paints the entries of an array, a vector or another contiguous container, in order. Each sets the value of every key in its
     /// range, and a later one replaces an earlier one. Throws std::bad_alloc if an allocation fails; a first part of the entries
     /// may be painted then. O(n + k log k) for k entries, O(n + k) if they ascend, or O(k log n) if k is at most n / 16.
     template <class Entries> void paint_many(const Entries &entries) { paint_many(std::data(entries), std::size(entries)); }
@@ -400,16 +400,16 @@ template <class Key, class Value> class map {
     /// first gap.
     bool all(Key first, Key last) const noexcept { return range_map_all(&handle, from(first), from(last)); }
 
-    /// Returns the least key that can be the first of `length` keys in a row, all of them in the range and without a value, or
-    /// nothing if there is no such key. A length of 0 finds nothing. O(log n), and O(1) for each entry up to the result.
+    /// Returns the least key that can be the first of `length` keys in a row, all of them in the range and without a value.
+    /// Returns nothing if there is no such key. A length of 0 finds nothing. O(log n), and O(1) for each entry up to the result.
     std::optional<Key> find_gap(Key first, Key last, std::uint64_t length) const noexcept {
         std::int64_t key = 0;
         if (!range_map_find_gap(&handle, from(first), from(last), length, &key)) return std::nullopt;
         return to(key);
     }
 
-    /// Returns the greatest key that can be the first of `length` keys in a row, all of them in the range and without a value, or
-    /// nothing if there is no such key. A length of 0 finds nothing. O(log n), and O(1) for each entry down to the result.
+    /// Returns the greatest key that can be the first of `length` keys in a row, all of them in the range and without a value.
+    /// Returns nothing if there is no such key. A length of 0 finds nothing. O(log n), and O(1) for each entry down to the result.
     std::optional<Key> find_last_gap(Key first, Key last, std::uint64_t length) const noexcept {
         std::int64_t key = 0;
         if (!range_map_find_last_gap(&handle, from(first), from(last), length, &key)) return std::nullopt;

@@ -98,8 +98,8 @@ cdef class FrozenRangeMap(Lookups):
         """Returns the map with `values[i]` at the keys `starts[i]` to `lasts[i]`, which is the last key of the range.
 
         `starts` and `lasts` are arrays of 64-bit numbers, as `get_many` takes. Raises ValueError if the ranges are empty, share a
-        key, do not ascend or are not as many as the values; TypeError, and what a value's `__hash__` or `__eq__` raises;
-        MemoryError. O(n).
+        key, do not ascend or are not as many as the values. Raises TypeError, MemoryError, and what a value's `__hash__` or
+        `__eq__` raises. O(n).
 
         >>> f = FrozenRangeMap([(1, 6, "a"), (8, 2**63, "b")])
         >>> FrozenRangeMap.from_arrays(*f.to_arrays()) == f

@@ -206,8 +206,8 @@ cdef class Lookups:
         return values
 
     def to_arrays(self):
-        """Returns the columns of the entries: `array("q")` of first keys, `array("q")` of last keys (each one below the stop of
-        its entry, since 2**63 is no 64-bit number), and a list of values. `from_arrays` reads them. O(n).
+        """Returns the columns of the entries: `array("q")` of first keys, `array("q")` of last keys, and a list of values.
+        `from_arrays` reads them. A last key is one below the stop of its entry, since 2**63 is no 64-bit number. O(n).
 
         >>> RangeMap([(1, 6, "a"), (8, 10, "b")]).to_arrays()
         (array('q', [1, 8]), array('q', [5, 9]), ['a', 'b'])

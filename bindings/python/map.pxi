@@ -117,8 +117,8 @@ cdef class RangeMap(Lookups):
         """Returns the map with `values[i]` at the keys `starts[i]` to `lasts[i]`, which is the last key of the range.
 
         `starts` and `lasts` are arrays of 64-bit numbers, as `get_many` takes. Raises ValueError if the ranges are empty, share a
-        key, do not ascend or are not as many as the values; TypeError, and what a value's `__hash__` or `__eq__` raises;
-        MemoryError. O(n).
+        key, do not ascend or are not as many as the values. Raises TypeError, MemoryError, and what a value's `__hash__` or
+        `__eq__` raises. O(n).
 
         >>> m = RangeMap([(1, 6, "a"), (8, 2**63, "b")])
         >>> RangeMap.from_arrays(*m.to_arrays()) == m
@@ -193,9 +193,9 @@ cdef class RangeMap(Lookups):
     def __setitem__(self, keys, value):
         """Sets the value of a key, or of each key of a slice.
 
-        Raises TypeError if an end is not an integer or `value` is not hashable; ValueError if the slice has a step; OverflowError
-        if a key is below -2**63 or above 2**63 - 1; what the value's `__hash__` or `__eq__` raises; MemoryError. Then the map is
-        unchanged. An empty slice does nothing. O(log n) for each entry that the slice touches.
+        Raises TypeError if an end is not an integer or `value` is not hashable, and ValueError if the slice has a step. Raises
+        OverflowError if a key is below -2**63 or above 2**63 - 1. Raises MemoryError, and what the value's `__hash__` or `__eq__`
+        raises. Then the map is unchanged. An empty slice does nothing. O(log n) for each entry that the slice touches.
 
         >>> m = RangeMap()
         >>> m[1:6] = "a"
@@ -417,13 +417,15 @@ cdef class RangeMap(Lookups):
         self.paint_rows(rows, painted)
 
     def update_range(self, start, stop, function, missing=None):
-        """Calls `function` once for each entry and each gap of the range, cut to it, ascending, with its value, or `missing` for a
-        gap; then sets its keys to the result, or removes them if the result is `missing`.
+        """Changes the keys of the range by a function of their values.
+
+        It calls `function` once for each entry and each gap of the range, cut to it, ascending, with its value, or `missing` for a
+        gap. Then it sets their keys to the result, or removes them if the result is `missing`.
 
         All calls come before the first change. If values of the map may be None, pass another object as `missing`. An end may be
         None. Raises what `function` raises, RuntimeError if the map changes during a call, and what `m[start:stop] = value` raises;
-        then the map is unchanged by this method. O(n) and O(log n) for each entry in the range, or O(log n) for each entry in it if
-        all that change are in one run of pieces with the same result.
+        then the map is unchanged by this method. O(n), and O(log n) for each entry in the range. If all pieces that change are in
+        one run with the same result, it is only O(log n) for each entry in the range.
 
         >>> m = RangeMap([(1, 6, "a"), (8, 10, "b")])
         >>> m.update_range(4, 9, lambda old: old and old.upper())
@@ -584,10 +586,9 @@ cdef class RangeMap(Lookups):
         return combined_in_place(self, other, SYMMETRIC_DIFFERENCE)
 
     def find_gap(self, length, start=None, stop=None, *, last=False):
-        """Returns the least key that starts `length` keys in a row, within the range, of which none has a value; the greatest
-        such key if `last` is true; None if there is none, or if `length` is below 1.
+        """Returns the least key that starts `length` keys in a row, within the range, of which none has a value.
 
-        Raises TypeError if an argument is not an integer. O(log n), and O(1) for each entry up to the result.
+        If `last` is true, returns the greatest such key. Returns None if there is none, or if `length` is below 1. Raises TypeError if an argument is not an integer. O(log n), and O(1) for each entry up to the result.
 
         >>> m = RangeMap([(1, 6, "a"), (8, 10, "b")])
         >>> m.find_gap(2, 0, 20), m.find_gap(2, 0, 20, last=True), m.find_gap(3, 0, 10), m.find_gap(0)

@@ -18,8 +18,8 @@ Ranges. A range whose start is at or above its stop has no keys, and no call rai
 from the end. An end that is None, or left out of a slice, is the first or the last end that there is. A lookup outside of the keys
 finds nothing; a call that would set a value there raises OverflowError.
 
-Values are any hashable objects. Two values are the same value if they have the same type and are equal, or are one object: `1`,
-`True` and `1.0` are three values, and a NaN is equal to itself alone. Adjacent ranges with the same value are one entry. A map gives
+Values are any hashable objects. Two values are the same value if they have the same type and are equal, or are one object. So `1`,
+`True` and `1.0` are three values, and a NaN is the same value as itself alone. Adjacent ranges with the same value are one entry. A map gives
 back one of the equal objects that were put into it. It drops values that no entry has by itself: it keeps at most twice as many
 values as it has entries, and 16.
 

@@ -46,7 +46,7 @@ cdef bint cut_keys_of(object start, object stop, bint is_written, int start_side
 
 
 cdef inline bint slice_of(object keys, bint is_written, int64_t *lo, int64_t *hi) except -1:
-    """The same for a slice."""
+    """Finds the ends of a slice of keys, as `keys_of` does, and returns whether it has a key."""
     cdef c_slice *ends = <c_slice *><PyObject *>keys
     if <object>ends.step is not None:
         raise ValueError("a slice of keys has no step")

@@ -145,8 +145,8 @@ cdef class Values:
         return copy
 
     cdef list sweep(self, c_map *map):
-        """Frees the numbers that no entry has, and returns a list that keeps their values alive. Does nothing if memory is
-        refused. O(n + count)."""
+        """Frees the numbers that no entry has, and returns a list that keeps their values alive. If an allocation fails, it
+        does nothing. O(n + count)."""
         cdef int64_t lo[128]
         cdef int64_t hi[128]
         cdef uint64_t numbers[128]

@@ -1,9 +1,11 @@
 //! The functions of the library, as `range_map.h` declares them.
 //!
-//! Every function requires: no pointer is null; all maps of a call are different, and none is a
-//! copy of the handle of another one; the arrays of a call have the lengths that follow them, which
-//! are equal and not 0. A map that a call does not change is not written to, and neither is its
-//! memory.
+//! Every function requires:
+//! - no pointer is null;
+//! - all maps of a call are different, and none is a copy of the handle of another one;
+//! - the arrays of a call have the lengths that follow them, which are equal and not 0.
+//!
+//! A map that a call does not change is not written to, and neither is its memory.
 
 use std::ffi::c_void;
 

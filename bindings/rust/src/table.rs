@@ -1,4 +1,4 @@
-//! Tables: entries in slices, for files, and for look-ups without a map.
+//! Tables: entries in slices, for files, and for lookups without a map.
 
 use crate::bounds::ends;
 use crate::ffi;
@@ -54,8 +54,8 @@ impl Error for InvalidTable {}
 impl<'a> Table<'a> {
     /// Returns the table of three slices, after a check of its rows.
     ///
-    /// Returns [`InvalidTable`] if the slices have different lengths, or the rows are not in order:
-    /// each range must have a key, and start above the end of the range before it. Adjacent rows may
+    /// Returns [`InvalidTable`] if the slices have different lengths, or the rows are not in order.
+    /// Each range must have a key, and start above the end of the range before it. Adjacent rows may
     /// have equal values. Does not allocate. O(n).
     ///
     /// ```
