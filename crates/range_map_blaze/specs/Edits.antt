@@ -1,4 +1,4 @@
--- The edits that bring a function's answers into a map: the words of this crate's own functions. No public clause names them.
+-- The edits that bring the results of a function into a map: the words of this crate's own functions. No public clause names them.
 use Rattle.std.specs.declared.alloc.AllocError.{AllocError}
 use Rattle.std.specs.Fn.{Mut}
 use Rattle.std.specs.List.{Contains}
@@ -11,39 +11,39 @@ use Rattle.blaze_table.specs.Entries.{Entry, entry, at, holds, SameEntries, Same
 use Rattle.blaze_table.specs.Splice.{glue}
 use Rattle.range_map_blaze.specs.Updated.{updated, AreAnswersAtPieces, AreOthersKept, IsAside}
 
--- a piece's answer put behind a list of edits, in one with the last where the two touch and are equal; an answer that equals what
--- the piece has is left out
+-- the result at a piece appended to a list of edits, joined with the last where the two touch and are equal; a result that equals the old
+-- value of the piece is left out
 abbrev pub with_edit : {V : Type 0} → (V → V → Bool) → List (Entry (Option V)) → Entry (Option V) → Option V → List (Entry (Option V))
 with_edit eq edits piece answer = if option_eq eq answer piece.value then edits else glue (option_eq eq) edits (entry piece.lo piece.hi answer ∷ [])
 
--- each edit ends where one of the answers does
+-- each edit ends where one of the results does
 abbrev pub AreEndsOf : {V : Type 0} → List (Entry (Option V)) → List (Entry (Option V)) → Type 0
 AreEndsOf answers [] = Unit {0}
 AreEndsOf answers (e ∷ edits) = HasEnd answers e.hi × AreEndsOf answers edits
 
--- `shows` is what the list has where the arguments of a call stand for it
+-- `shows` gives the list's value that the arguments of a call stand for
 module _ {F A V : Type 0} (shows : A → Option V) (g : Mut F A (Result (Option V) AllocError)) (eq : V → V → Bool) where
-  -- the function was called at a piece, and its answer is put behind a list of edits
+  -- the function was called at a piece, and its result is appended to a list of edits
   pub record IsPieceAsked (piece : Entry (Option V)) (f f' : F) (edits new : List (Entry (Option V))) : Type 0 where
     pub answer : Option V
     pub called : AnswersAtValue shows g f piece.value (Ok answer) f'
     pub put : new ≡ with_edit eq edits piece answer
 
-  -- the same of some pieces, one after another
+  -- the function was called at some pieces, in order, and its results are appended
   abbrev pub ArePiecesAsked : List (Entry (Option V)) → F → F → List (Entry (Option V)) → List (Entry (Option V)) → Type 0
   ArePiecesAsked [] f f' edits new = (f' ≡ f) × (new ≡ edits)
   ArePiecesAsked (piece ∷ pieces) f f' edits new =
       (f'' : F) × (next : List (Entry (Option V))) × IsPieceAsked piece f f'' edits next × ArePiecesAsked pieces f'' f' next new
 
-  -- The function was called at the entries on the keys from l to h and at the gaps between them, in order: what is left of the pieces
-  -- is the gap from the key n on.
+  -- The function was called at the entries on the keys from l to h and at the gaps between them, in order: the last of the pieces
+  -- is the gap from the key n on, which has no call yet.
   pub record AreEntriesAsked (l h : ℤ) (entries : List (Entry V)) (n : ℤ) (f f' : F) (edits new : List (Entry (Option V))) : Type 0 where
     pub pieces : List (Entry (Option V))
     pub are_pieces : IsFilledWithNone eq l h entries (pieces ++ none_before n (h +ℤ pos 1))
     pub asked : ArePiecesAsked pieces f f' edits new
 
-  -- A list of edits that are to bring a function's answers at the pieces of the keys from l to h into a map: it is empty where every
-  -- answer equals what is there, and each edit ends where a piece does.
+  -- A list of edits that bring the results of a function at the pieces of the keys from l to h into a map. It is empty if every
+  -- result equals the old value, and each edit ends where a piece does.
   pub record AreEdits (l h : ℤ) (f : F) (old : List (Entry V)) (edits : List (Entry (Option V))) : Type 0 where
     pub answers : List (Entry (Option V))
     pub asked : AreAnswersAtPieces shows g eq l h f old answers
@@ -57,13 +57,13 @@ abbrev pub AreAside : {V : Type 0} → List (Entry (Option V)) → Entry V → T
 AreAside [] e = Unit {0}
 AreAside (d ∷ edits) e = IsAside d.lo d.hi e × AreAside edits e
 
--- one edit: its keys have what it says, or nothing, and the others what they had
+-- one edit: its keys have its value, or none, and the others their old ones
 pub record IsEdited {V : Type 0} (eq : V → V → Bool) (low high : ℤ) (e : Entry (Option V)) (old new : List (Entry V)) : Type 0 where
   pub range_map : IsRangeMap eq low high new
   pub content : (k : ℤ) → SameOption eq (at new k) (if holds e k then e.value else at old k)
   pub kept : AreOthersKept e.lo e.hi old new
 
--- the edits, one after another
+-- the edits, in order
 pub record AreEdited {V : Type 0} (eq : V → V → Bool) (low high : ℤ) (edits : List (Entry (Option V))) (old new : List (Entry V)) : Type 0 where
   pub range_map : IsRangeMap eq low high new
   pub content : (k : ℤ) → SameOption eq (at new k) (updated edits (at old) k)

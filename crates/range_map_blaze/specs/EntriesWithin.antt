@@ -4,8 +4,8 @@ use Rattle.blaze_table.specs.Canonical.{IsRangeMap}
 use Rattle.blaze_table.specs.Count.{mapped_keys}
 use Rattle.blaze_table.specs.Entries.{Entry, at}
 
--- The new list is the old one cut to the keys from l up to h. It is a range map. At each key from l up to h it has exactly what the
--- old one has there, the very value or none. At each key below l, and at each key above h, it has none.
+-- The new list is the old one cut to the keys from l up to h. It is a range map. At each key from l up to h it has exactly the
+-- value of the old one, or none. At each key below l, and at each key above h, it has none.
 pub record IsWithin {V : Type 0} (eq : V → V → Bool) (low high l h : ℤ) (old new : List (Entry V)) : Type 0 where
   pub range_map : IsRangeMap eq low high new
   pub inside : (k : ℤ) → l ≤ℤ k → k ≤ℤ h → at new k ≡ at old k

@@ -1,4 +1,4 @@
--- What filling a map's gaps with the entries of another gives: each entry, ascending, puts its value on those keys of its range
+-- A map whose gaps are filled with the entries of another: each entry, ascending, sets the value of those keys of its range
 -- that have none.
 use Rattle.std.specs.Option.{option_or}
 use Rattle.std.specs.Prelude.{◌≡◌, ℤ, Bool, List, ◌++◌}
@@ -6,8 +6,8 @@ use Rattle.blaze_table.specs.Entries.{Entry, at, SameOption}
 use Rattle.blaze_table.specs.Canonical.{IsRangeMap}
 use Rattle.blaze_table.specs.Filled.{AreKept}
 
--- a range map that has at each key what the old one has there, and where that has nothing what the first of the entries with
--- the key has; the old values are kept
+-- a range map that has at each key the value of the old one, and where that has none, the value of the first of the entries with
+-- the key; the old values are kept
 pub record IsFilledFrom {V : Type 0} (eq : V → V → Bool) (low high : ℤ) (entries old new : List (Entry V)) : Type 0 where
   pub range_map : IsRangeMap eq low high new
   pub content : (k : ℤ) → SameOption eq (at new k) (option_or (at old k) (at entries k))

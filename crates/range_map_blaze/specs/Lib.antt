@@ -1,4 +1,4 @@
--- What contracts say of lists of entries and of streams is passed on, so that who uses the map can cite it.
+-- The words of contracts about lists of entries and streams are passed on, so that users of the map can cite them.
 pub use Rattle.blaze_table.specs.Entries
 pub use Rattle.blaze_table.specs.Counted
 pub use Rattle.blaze_table.specs.Canonical

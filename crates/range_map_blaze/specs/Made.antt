@@ -3,6 +3,6 @@ use Rattle.std.specs.Prelude.{◌≡◌, List}
 use Rattle.blaze_table.specs.Counted.{CountedEntries, uncounted}
 use Rattle.blaze_table.specs.Entries.{Entry}
 
--- the list of its entries is as is told, and no work on it is counted yet
+-- the list of its entries has the given property, and no work on it is counted yet
 abbrev pub IsMade : {V : Type 0} → (List (Entry V) → Type 0) → CountedEntries V → Type 0
 IsMade told map = told map.entries × (map ≡ uncounted map.entries)

@@ -1,5 +1,5 @@
--- The laws of pairs painted one by one, of filling one map from another, of keys taken out and put back, of joins of maps, and of
--- maps with what a closure answers at their values.
+-- The laws of pairs painted one by one, of filling one map from another, of keys taken and put back, of joins of maps, and of
+-- maps with the results of a closure at their values.
 use Rattle.std.specs.Prelude.{◌≡◌, ℤ, ◌≤ℤ◌, Bool, List, Option, IsSome}
 use Rattle.std.specs.Option.{is_some}
 use Rattle.std.specs.Fn.{Mut}
@@ -22,7 +22,7 @@ PaintingInTurnExtends {V} eq low high = (pairs old new : List (Entry V)) → IsR
 abbrev pub FillingIsUnion : {V : Type 0} → (V → V → Bool) → ℤ → ℤ → Type 0
 FillingIsUnion {V} eq low high = (other old filled union : List (Entry V)) → IsFilledFrom eq low high other old filled → IsUnion eq low high other old union → SameEntries eq filled union
 
--- keys that are taken out of a range map, and painted back entry by entry: the ranges are the same, and values equal
+-- keys that are removed from a range map, and painted back entry by entry: the ranges are the same, and values equal
 abbrev pub TakingIsUndone : {V : Type 0} → (V → V → Bool) → ℤ → ℤ → Type 0
 TakingIsUndone {V} eq low high = (l h : ℤ) (old left taken back : List (Entry V)) → IsRangeMap eq low high old → AreKeysTaken eq low high l h old left taken → ArePaintedInTurn eq low high taken left back → SameEntries eq old back
 
@@ -36,17 +36,17 @@ pub record IsUniversalMap {V : Type 0} (eq : V → V → Bool) (low high : ℤ) 
   pub range_map : IsRangeMap eq low high entries
   pub universal : (k : ℤ) → low ≤ℤ k → k ≤ℤ high → IsSome (at entries k)
 
--- what a closure answers at the values of a list is on the list's keys
+-- the results of a closure at the values of a list are on the list's keys
 abbrev pub AnswersAreOnItsKeys : {F A V W : Type 0} → (A → V) → Mut F A W → (W → W → Bool) → ℤ → ℤ → Type 0
 AnswersAreOnItsKeys {F} {A} {V} {W} shows g eq low high = (f : F) (entries : List (Entry V)) (new : List (Entry W)) → IsTransformed shows g eq low high f entries new → HaveSameKeys low high entries new
 
--- `shows` is what two lists have where the arguments of a call stand for it
+-- `shows` gives the two lists' values that the arguments of a call stand for
 module _ {F X W A B : Type 0} (shows : X → Option A × Option B) (g : Mut F X W) (eqa : A → A → Bool) (eqb : B → B → Bool) (eq : W → W → Bool) (low high : ℤ) where
-  -- what a closure answers in a left join is on the left list's keys
+  -- the results of a closure in a left join are on the left list's keys
   abbrev pub LeftJoinIsOnTheLeftKeys : Type 0
   LeftJoinIsOnTheLeftKeys = (f : F) (left : List (Entry A)) (right : List (Entry B)) (new : List (Entry W)) → IsJoined shows g eqa eqb low high Left eq f left right new → HaveSameKeys low high left new
 
-  -- of two maps of every key, a full join and an inner join whose closures answer the same have the same ranges, with equal
+  -- for two maps of every key, a full join and an inner join whose closures return the same have the same ranges, with equal
   -- values
   abbrev pub FullJoinIsInnerJoin : {G Y : Type 0} → (Y → Option A × Option B) → Mut G Y W → Type 0
   FullJoinIsInnerJoin {G} {Y} shows' g' = (f : F) (f' : G) (left : List (Entry A)) (right : List (Entry B)) (full inner : List (Entry W))

@@ -16,7 +16,7 @@ module _ {V : Type 0} where
     abbrev pub pair_cmp : ℤ × V → ℤ × V → Ordering
     pair_cmp = then_cmp (on (λ p. p.0) int_cmp) (on (λ p. p.1) value)
 
-    -- the lexicographic order of the lists of pairs: the first two pairs that differ decide, and a proper beginning is less
+    -- the lexicographic order of the lists of pairs: the first two pairs that differ decide, and a proper prefix is less
     abbrev pub pairs_cmp : List (Entry V) → List (Entry V) → Ordering
     pairs_cmp = on (pair_list (λ k. k)) (slice_cmp (then_cmp (on (λ p. p.0) int_cmp) (on (λ p. p.1) value)))
 
@@ -24,7 +24,7 @@ module _ {V : Type 0} where
     abbrev pub entry_cmp : Entry V → Entry V → Ordering
     entry_cmp = then_cmp (then_cmp (on (λ e. e.lo) int_cmp) (on (λ e. e.hi) int_cmp)) (on (λ e. e.value) value)
 
-    -- The order of maps as an order of all lists of entries, of which the laws of order speak: that of their pairs. Unequal
+    -- The order of maps as an order of all lists of entries, as the laws of order need it: that of their pairs. Unequal
     -- lists may have the same pairs where they are no maps' lists; these go by their entries.
     abbrev pub map_cmp : List (Entry V) → List (Entry V) → Ordering
     map_cmp = then_cmp (on (pair_list (λ k. k)) (slice_cmp (then_cmp (on (λ p. p.0) int_cmp) (on (λ p. p.1) value))))
@@ -34,7 +34,7 @@ module _ {V : Type 0} where
     abbrev pub first_cmp : Entry V → Entry V → Ordering
     first_cmp e f = ordering_then (int_cmp e.lo f.lo) (value e.value f.value)
 
-    -- what is left of two lists compares as they did, and has fewer entries
+    -- the tails of two lists compare as the lists did, and have fewer entries
     pub record IsComparedOn (left other left_rest other_rest : List (Entry V)) : Type 0 where
       pub order : pairs_cmp left other ≡ pairs_cmp left_rest other_rest
       pub fewer : length left_rest + length other_rest < length left + length other

@@ -13,14 +13,14 @@ pub record IsLastPair {V : Type 0} (content : ℤ → Option V) (k : ℤ) (value
   pub here : content k ≡ Some value
   pub none_above : (j : ℤ) → k <ℤ j → content j ≡ None
 
--- the least key is taken out, which had a value equal to the answered one
+-- the least key is removed, which had a value equal to the returned one
 pub record PopsFirst {V : Type 0} (eq : V → V → Bool) (low high k : ℤ) (value : V) (old new : List (Entry V)) : Type 0 where
   pub stored : V
   pub first : IsFirstPair (at old) k stored
   pub equal : SameOption eq (at old k) (Some value)
   pub cut : IsCut eq low high k old new
 
--- the greatest key is taken out, which had a value equal to the answered one
+-- the greatest key is removed, which had a value equal to the returned one
 pub record PopsLast {V : Type 0} (eq : V → V → Bool) (low high k : ℤ) (value : V) (old new : List (Entry V)) : Type 0 where
   pub stored : V
   pub last : IsLastPair (at old) k stored

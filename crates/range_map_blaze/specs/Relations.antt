@@ -1,4 +1,4 @@
--- How the keys of two lists of entries stand to each other, whatever the values.
+-- Relations between the keys of two lists of entries, whatever the values.
 use Rattle.std.specs.Prelude.{◌≡◌, ◌⊎◌, ℤ, List, None, IsSome}
 use Rattle.blaze_table.specs.Entries.{Entry, at}
 

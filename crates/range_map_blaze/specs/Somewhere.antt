@@ -1,4 +1,4 @@
--- What a call does with a range whose bounds are not known: it takes them to be those of some range of keys, or of none.
+-- The effect of a call whose range has unknown bounds: they are those of some range of keys, or of none.
 use Rattle.std.specs.Prelude.{◌≡◌, ◌⊎◌, ℤ, Bool, List, [], Option, Result}
 use Rattle.std.specs.declared.alloc.AllocError.{AllocError}
 use Rattle.std.specs.Fn.{Mut}
@@ -12,11 +12,11 @@ use Rattle.blaze_table.specs.RangeSets.{unit_eq}
 use Rattle.range_map_blaze.specs.OneRange.{one_range}
 use Rattle.range_map_blaze.specs.Updated.{IsUpdated, IsPartUpdated}
 
--- the value is painted on some range of keys, or nothing is changed
+-- the value of every key of some range is set, or nothing is changed
 abbrev pub IsPaintedSomewhere : {V : Type 0} → (V → V → Bool) → ℤ → ℤ → V → List (Entry V) → List (Entry V) → Type 0
 IsPaintedSomewhere eq low high v old new = (new ≡ old) ⊎ ((l : ℤ) × (h : ℤ) × IsPainted eq low high (entry l h v) old new)
 
--- the value is put on the keys of some range that have none, or nothing is changed
+-- the value of the keys of some range that have none is set, or nothing is changed
 abbrev pub IsFilledSomewhere : {V : Type 0} → (V → V → Bool) → ℤ → ℤ → V → List (Entry V) → List (Entry V) → Type 0
 IsFilledSomewhere eq low high v old new = (new ≡ old) ⊎ ((l : ℤ) × (h : ℤ) × IsFilled eq low high (entry l h v) old new)
 
@@ -24,7 +24,7 @@ IsFilledSomewhere eq low high v old new = (new ≡ old) ⊎ ((l : ℤ) × (h : �
 abbrev pub IsTakenSomewhere : {V : Type 0} → (V → V → Bool) → ℤ → ℤ → List (Entry V) → List (Entry V) → Type 0
 IsTakenSomewhere eq low high old new = (new ≡ []) ⊎ ((l : ℤ) × (h : ℤ) × IsChosen eq low high left_with_right old (one_range l h) new)
 
--- the keys of some range are taken out, or nothing is changed
+-- the keys of some range are removed, or nothing is changed
 abbrev pub IsCutSomewhere : {V : Type 0} → (V → V → Bool) → ℤ → ℤ → List (Entry V) → List (Entry V) → Type 0
 IsCutSomewhere eq low high old new = (new ≡ old) ⊎ ((l : ℤ) × (h : ℤ) × IsRangeCut eq low high l h old new)
 

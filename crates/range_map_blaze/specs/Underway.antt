@@ -14,7 +14,7 @@ are_one_pair eq p n = (int_le n.lo (p.hi +ℤ pos 1) && int_le p.lo (n.hi +ℤ p
 abbrev pub joined_pair : {V : Type 0} → Entry V → Entry V → Entry V
 joined_pair p n = entry (if int_lt n.lo p.lo then n.lo else p.lo) (if int_lt p.hi n.hi then n.hi else p.hi) p.value
 
--- Of the pairs the first are painted, and the pending pair, if there is one, stands for the others.
+-- The first of the pairs are painted, and the pending pair, if there is one, stands for the others.
 pub record IsUnderway {V : Type 0} (eq : V → V → Bool) (low high : ℤ) (pairs old new : List (Entry V)) (pending : Option (Entry V)) : Type 0 where
   pub done : List (Entry V)
   pub others : List (Entry V)

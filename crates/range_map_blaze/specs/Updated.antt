@@ -1,4 +1,4 @@
--- A range changed by a function: the pieces that it is asked at, and what the map has afterwards.
+-- A range changed by a function: the pieces at which it is called, and the map afterwards.
 use Rattle.std.specs.declared.alloc.AllocError.{AllocError}
 use Rattle.std.specs.Fn.{Mut}
 use Rattle.std.specs.List.{Contains}
@@ -9,16 +9,16 @@ use Rattle.blaze_streams.specs.Fills.{IsFilledWithNone}
 use Rattle.blaze_table.specs.Canonical.{IsRangeMap, HasEnd}
 use Rattle.blaze_table.specs.Entries.{Entry, at, SameEntries, SameOption}
 
--- what is there once an answer is given: the answer, and what was there before where none is
+-- the value of a key after a result, if there is one, and otherwise its old value
 abbrev pub answer_or : {V : Type 0} → Option (Option V) → Option V → Option V
 answer_or None old = old
 answer_or (Some answer) old = answer
 
--- the content with the answers: on the keys of their ranges what they say, `None` for no value, and elsewhere as before
+-- the content with the results: on the keys of their ranges their values, `None` for no value, and elsewhere as before
 abbrev pub updated : {V : Type 0} → List (Entry (Option V)) → (ℤ → Option V) → ℤ → Option V
 updated answers content k = answer_or (at answers k) (content k)
 
--- the same up to the key b, and as before above it
+-- the content with the results up to the key b, and as before above it
 abbrev pub updated_up_to : {V : Type 0} → ℤ → List (Entry (Option V)) → (ℤ → Option V) → ℤ → Option V
 updated_up_to b answers content k = if int_le k b then updated answers content k else content k
 
@@ -26,18 +26,18 @@ updated_up_to b answers content k = if int_le k b then updated answers content k
 abbrev pub IsAside : {V : Type 0} → ℤ → ℤ → Entry V → Type 0
 IsAside l h e = ((h +ℤ pos 1) <ℤ e.lo) ⊎ ((e.hi +ℤ pos 1) <ℤ l)
 
--- each entry that the keys from l to h are aside of is still there, with its very value
+-- each entry that the keys from l to h are aside of remains, with its stored value
 abbrev pub AreOthersKept : {V : Type 0} → ℤ → ℤ → List (Entry V) → List (Entry V) → Type 0
 AreOthersKept {V} l h old new = (e : Entry V) → Contains old e → IsAside l h e → Contains new e
 
--- `shows` is what the list has where the arguments of a call stand for it
+-- `shows` gives the list's value that the arguments of a call stand for
 module _ {F A V : Type 0} (shows : A → Option V) (g : Mut F A (Result (Option V) AllocError)) (eq : V → V → Bool) where
   -- The pieces of the keys from l to h are the greatest ranges there on which the list does not change: its entries, cut to these
-  -- keys, and its gaps. The function may be called at each of them in turn, in the state that the calls at those before leave.
+  -- keys, and its gaps. The function may be called at each of them in turn, in the state after the calls at those before.
   pub record IsCallableAtPieces (l h : ℤ) (f : F) (entries : List (Entry V)) : Type 0 where
     pub at : (pieces : List (Entry (Option V))) → IsFilledWithNone eq l h entries pieces → IsCallableAtEachValue shows g f (values pieces)
 
-  -- The function was called once for each piece, ascending, and each call returned a value or none. The answers are these, each on
+  -- The function was called once for each piece, ascending, and each call returned a value or `None`. These are the results, each on
   -- the keys of its piece.
   pub record AreAnswersAtPieces (l h : ℤ) (f : F) (entries : List (Entry V)) (answers : List (Entry (Option V))) : Type 0 where
     pub pieces : List (Entry (Option V))
@@ -47,7 +47,7 @@ module _ {F A V : Type 0} (shows : A → Option V) (g : Mut F A (Result (Option 
     pub answers_are : answers ≡ answered pieces results
 
   module _ (low high l h : ℤ) (f : F) (old new : List (Entry V)) where
-    -- Each piece has what the function answered there, and the other entries are kept; where every answer equals what was there,
+    -- Each piece has the result of the function there, and the other entries are kept. If every result equals the old value,
     -- nothing changes.
     pub record IsUpdated : Type 0 where
       pub answers : List (Entry (Option V))
@@ -57,8 +57,8 @@ module _ {F A V : Type 0} (shows : A → Option V) (g : Mut F A (Result (Option 
       pub kept : AreOthersKept l h old new
       pub same : SameEntries (option_eq eq) answers asked.pieces → new ≡ old
 
-    -- The pieces up to the end of one of them have what the function answered there, perhaps none of them, and the others what
-    -- they had; and the other entries are kept.
+    -- The pieces up to the end of one of them, perhaps none, have the results of the function, and the others
+    -- their old values. The other entries are kept.
     pub record IsPartUpdated : Type 0 where
       pub answers : List (Entry (Option V))
       pub asked : AreAnswersAtPieces l h f old answers

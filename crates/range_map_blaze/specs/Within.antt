@@ -5,7 +5,7 @@ use Rattle.blaze_streams.specs.Gaps.{gap_before}
 use Rattle.blaze_table.specs.Entries.{Entry, entry}
 use Rattle.blaze_table.specs.Splice.{before, after}
 
--- the entries on the keys from l up to h: what lies above the key before l and below the key after h
+-- the entries cut to the keys from l up to h
 abbrev pub within : {V : Type 0} → ℤ → ℤ → List (Entry V) → List (Entry V)
 within l h es = before (h +ℤ pos 1) (after (l -ℤ pos 1) es)
 
@@ -17,7 +17,7 @@ cut_to l h e = entry (int_max l e.lo) (int_min h e.hi) e.value
 abbrev pub cut_each : {V : Type 0} → ℤ → ℤ → List (Entry V) → List (Entry V)
 cut_each l h es = map (cut_to l h) es
 
--- a list that is there, or none
+-- an optional list, which is empty if it is absent
 abbrev pub all_or_none : {X : Type 0} → Option (List X) → List X
 all_or_none None = []
 all_or_none (Some xs) = xs
@@ -27,7 +27,7 @@ abbrev pub gaps_within : {V : Type 0} → ℤ → ℤ → List (Entry V) → Lis
 gaps_within l h [] = gap_before l (h +ℤ pos 1)
 gaps_within l h (e ∷ es) = gap_before l e.lo ++ (if int_lt e.hi h then gaps_within (e.hi +ℤ pos 1) h es else [])
 
--- the same, from the first key that was not gone through up to the last of a range, or of nothing where no key is left
+-- the gaps from the first key that was not passed up to the last of a range, or none if every key was passed
 abbrev pub gaps_left : {T V : Type 0} → (T → ℤ) → Option (T × T) → List (Entry V) → List (Entry (Unit {0}))
 gaps_left rank None es = []
 gaps_left rank (Some p) es = gaps_within (rank p.0) (rank p.1) es
@@ -42,12 +42,12 @@ abbrev pub IsAcross : {V : Type 0} → ℤ → ℤ → List (Entry V) → Type 0
 IsAcross l h [] = Unit {0}
 IsAcross l h (e ∷ es) = (l ≤ℤ e.hi) × (e.lo ≤ℤ e.hi) × (e.lo ≤ℤ h) × IsUpTo e.hi h es
 
--- a walk over the gaps of a range under way: the keys from l up to h are left, and the entries that share a key with them
+-- a walk over the gaps of a range: the keys from l up to h were not passed, and the entries that share a key with them
 pub record IsGapWalk {V : Type 0} (l h : ℤ) (es : List (Entry V)) : Type 0 where
   pub order : l ≤ℤ h
   pub entries : IsAcross l h es
 
--- the keys from a up to b, by the first and the last of them, or none where there are none
+-- the keys from a up to b, by the first and the last of them, or `None` if there are none
 abbrev pub AreKeysFrom : {T : Type 0} → (T → ℤ) → ℤ → ℤ → Option (T × T) → Type 0
 AreKeysFrom rank a b None = b <ℤ a
 AreKeysFrom rank a b (Some p) = (a ≤ℤ b) × (rank p.0 ≡ a) × (rank p.1 ≡ b)

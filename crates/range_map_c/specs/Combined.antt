@@ -5,8 +5,8 @@ use Rattle.blaze_table.specs.Canonical.{IsRangeMap, HasEnd}
 use Rattle.blaze_streams.specs.Fills.{IsFilledWithNone}
 use Rattle.range_map_blaze.specs.UpdateLaws.{changed}
 
--- The old value and the given one by the operation of a number: by 0 their sum modulo 2 ^ 64, by 1 the lesser, by 2 the greater, by 3
--- the bits that both have, by 4 the bits that either has, by 5 the bits that exactly one has, and by another number the old value.
+-- The result of the operation of a number on the old value and the given one: 0 their sum modulo 2^64, 1 the lesser, 2 the greater, 3
+-- the bits that both have, 4 the bits that either has, 5 the bits that exactly one has, and another number the old value.
 abbrev pub operated : ℕ → ℕ → ℕ → ℕ
 operated op old v =
     if op == 0 then (old + v) % 2 ^ 64 else
@@ -17,26 +17,26 @@ operated op old v =
     if op == 5 then bit_xor old v else
     old
 
--- what a key has afterwards: where it had none, the value if the place is 0, all keys, and else none
+-- the value of a key afterwards: if it had none, the given value if the place is 0, for all keys, and otherwise none
 abbrev pub combined : ℕ → ℕ → ℕ → Option ℕ → Option ℕ
 combined op place v None = if place == 0 then Some v else None
 combined op place v (Some old) = Some (operated op old v)
 
--- The keys from l to h fall into pieces, the greatest ranges there on which the list does not change: its entries, cut to these keys, and
+-- The keys from l to h are in pieces, the longest ranges there on which the list does not change: its entries, cut to these keys, and
 -- its gaps. One of them ends at k.
 pub record IsEndOfPiece (l h k : ℤ) (entries : List (Entry ℕ)) : Type 0 where
   pub pieces : List (Entry (Option ℕ))
   pub are_pieces : IsFilledWithNone nat_eq l h entries pieces
   pub is_end : HasEnd pieces k
 
--- `change` gives what a key from l to h has afterwards, by what it had
+-- `change` gives the value of a key from l to h afterwards, by its old one
 module _ (low high l h : ℤ) (change : Option ℕ → Option ℕ) (old new : List (Entry ℕ)) where
-  -- a range map that has at each key from l to h what the change gives there, and elsewhere what was there
+  -- a range map that has at each key from l to h the changed value, and elsewhere the old one
   pub record IsCombined : Type 0 where
     pub range_map : IsRangeMap nat_eq low high new
     pub content : (k : ℤ) → SameOption nat_eq (at new k) (changed l h change (at old) k)
 
-  -- the same of the keys up to the end of a piece, perhaps of none, and above it what was there
+  -- a range map that has at the keys up to the end of a piece, perhaps of none, the changed values, and elsewhere the old ones
   pub record IsPartCombined : Type 0 where
     pub last : ℤ
     pub is_end : (last <ℤ l) ⊎ IsEndOfPiece l h last old

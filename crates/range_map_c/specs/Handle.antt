@@ -1,4 +1,4 @@
--- What a `RangeMap` owns, and the numbers that its contracts speak of.
+-- The memory that a `RangeMap` owns, and the numbers in its contracts.
 use base.Fml.{Fml, feq, fex, fsep}
 use base.Stored.{Coded}
 use denote.RawPtr.{Ptr, null_ptr, block_ptr}
@@ -10,7 +10,7 @@ use Rattle.std_heap.specs.contracts.GlobalAllocator.TheImpl.{ghosts}
 use Rattle.blaze_entries.specs.Entries.{Entry, entry_code}
 use Rattle.range_map_c.specs.contracts.handle.Map.{the_row}
 
--- what contracts see of a map: its entries, ascending
+-- the entries of a map, ascending, which contracts see
 abbrev pub Entries : Type 0
 Entries = List (Entry ℕ)
 
@@ -20,11 +20,11 @@ entries_code = coded_list (entry_code coded_ℕ)
 abbrev pub row_entries : the_row.Denot → Entries
 row_entries x = x.map.entries
 
--- what a box of a map at the pointer owns
+-- the memory that a box of a map at the pointer owns
 abbrev pub box_of_map : Global → Ptr → the_row.Denot → Fml
 box_of_map alloc = box_owns (ghosts.dealloc_token alloc) the_row
 
--- nothing at null, where there are no entries, and else what a box owns of a map with the entries
+-- nothing at null, with no entries, and otherwise the memory of a box of a map with the entries
 abbrev pub handle_owns : Global → Ptr → Entries → Fml
 handle_owns alloc null_ptr es = feq Entries es []
 handle_owns alloc (block_ptr b o) es = fex the_row.Denot (λ x. fsep (feq Entries es (row_entries x)) (box_of_map alloc (block_ptr b o) x))

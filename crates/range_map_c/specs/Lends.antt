@@ -1,4 +1,4 @@
--- What a `RangeMap` is once the loan of its map ends.
+-- A `RangeMap` after the borrow of its map ends.
 use Rattle.range_map_c.specs.Handle.{row_entries}
 use Rattle.range_map_c.specs.declared.handle.RangeMap.{RangeMap}
 use Rattle.range_map_c.specs.contracts.handle.Map.{the_row}

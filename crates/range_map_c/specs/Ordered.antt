@@ -1,4 +1,4 @@
--- Tables whose rows are in order, and where a key is among the first or last keys.
+-- Tables whose rows are in order, and the position of a key among the first or last keys.
 use Rattle.std.specs.Prelude.{◌≡◌, ℕ, ℤ, pos, ◌≤ℤ◌, ◌<ℤ◌, ◌≤◌, ◌<◌, List, [], ◌∷◌, length, slice_index_or}
 use Rattle.blaze_entries.specs.Entries.{Entry}
 

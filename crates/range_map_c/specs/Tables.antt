@@ -12,7 +12,7 @@ rows (lo ∷ los) [] vs = []
 rows (lo ∷ los) (hi ∷ his) [] = []
 rows (lo ∷ los) (hi ∷ his) (v ∷ vs) = entry lo hi v ∷ rows los his vs
 
--- what painting the rows of a table in order does to a range map
+-- a range map on which the rows of a table are painted, in order
 pub record AreRowsPainted (low high : ℤ) (table old new : List (Entry ℕ)) : Type 0 where
   pub range_map : IsRangeMap nat_eq low high new
   pub content : (k : ℤ) → SameOption nat_eq (at new k) (painted_in_order table (at old) k)

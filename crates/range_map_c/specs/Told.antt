@@ -1,15 +1,15 @@
--- What a call tells by what it returns and what it writes.
+-- The result of a call, which is what it returns and what it writes.
 use Rattle.std.specs.declared.cmp.Ordering.{Ordering}
 use Rattle.std.specs.declared.cmp.Ordering.TheVariants.{Less, Equal, Greater}
 use Rattle.std.specs.Prelude.{ℤ, pos, negsuc, Bool, true, false, List, [], ◌∷◌, Option, Some, None}
 use Rattle.blaze_entries.specs.Entries.{Entry, entry}
 
--- a value, where there is one
+-- a value, if there is one
 abbrev pub told : {V : Type 0} → Bool → V → Option V
 told true v = Some v
 told false v = None
 
--- an entry, where there is one
+-- an entry, if there is one
 abbrev pub told_entry : {V : Type 0} → Bool → ℤ → ℤ → V → Option (Entry V)
 told_entry true lo hi v = Some (entry lo hi v)
 told_entry false lo hi v = None
@@ -29,7 +29,7 @@ last_of [] = None
 last_of (x ∷ []) = Some x
 last_of (x ∷ y ∷ ys) = last_of (y ∷ ys)
 
--- how two maps compare, as a number
+-- the order of two maps, as a number
 abbrev pub order_number : Ordering → ℤ
 order_number Less = negsuc 0
 order_number Equal = pos 0

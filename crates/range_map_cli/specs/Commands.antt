@@ -1,4 +1,4 @@
--- What a line asks.
+-- The command of a line.
 use Rattle.std.specs.Prelude.{ℕ, ◌^◌, List, [], ◌∷◌, length, Bool, ◌&&◌, if◌then◌else◌, ◌==◌, nat_le, nat_lt, ℤ, pos, neg_ℤ, codes, Option, Some, None}
 use Rattle.std.specs.List.{slice_split, list_all}
 use Rattle.std.specs.Option.{option_map}
@@ -8,8 +8,8 @@ use Rattle.std.specs.Str.Parse.{digits_value}
 use Rattle.range_map_cli.specs.declared.request.Request.{Request}
 use Rattle.range_map_cli.specs.declared.request.Request.TheVariants as requests
 
--- what a good line asks: nothing, a paint of the keys from one to another, a word put on those of them that have none, a word
--- put on a key, a key taken out, the word at a key, the entry or the gap round a key, the number of keys, or all entries
+-- the command of a valid line: none, a paint of the keys from one to another, a fill of those of them that have no word, a word
+-- set at a key, a key removed, the word at a key, the entry or the gap around a key, the number of keys, or all entries
 pub data Command : Type 0 where
   Blank : Command
   Paint : ℤ → ℤ → List ℕ → Command
@@ -25,7 +25,7 @@ pub data Command : Type 0 where
 abbrev pub is_digits : List ℕ → Bool
 is_digits text = nat_le 1 (length text) && nat_le (length text) 19 && list_all is_ascii_digit text
 
--- the i64 that the text writes: digits, after a minus where it is negative
+-- the i64 of a text: digits, after a minus if it is negative
 abbrev pub written_number : List ℕ → Option ℤ
 written_number [] = None
 written_number (b ∷ bs) = if b == 45
@@ -36,7 +36,7 @@ written_number (b ∷ bs) = if b == 45
 abbrev pub is_word : List ℕ → Bool
 is_word text = nat_le 1 (length text) && nat_le (length text) 32 && list_all is_ascii_alphanumeric text
 
--- the words of a line: what stands between its spaces
+-- the words of a line, which spaces separate
 abbrev pub words_of : List ℕ → List (List ℕ)
 words_of line = slice_split (λ b. b == 32) line
 
@@ -51,7 +51,7 @@ abbrev pub insert_of : Option ℤ → List ℕ → Option Command
 insert_of None word = None
 insert_of (Some key) word = if is_word word then Some (Insert key word) else None
 
--- what the words of a line that is not empty ask, or none where the line is bad
+-- the command of the words of a line that is not empty, or `None` if the line is invalid
 abbrev pub command_of_words : List (List ℕ) → Option Command
 command_of_words [] = None
 command_of_words (name ∷ []) =
@@ -68,12 +68,12 @@ command_of_words (name ∷ lo ∷ hi ∷ word ∷ []) =
     (if bytes_eq name (codes "fill") then range_of Fill (written_number lo) (written_number hi) word else None)
 command_of_words (_ ∷ _ ∷ _ ∷ _ ∷ _ ∷ _) = None
 
--- what a line asks, or none where it is bad
+-- the command of a line, or `None` if it is invalid
 abbrev pub command_of : List ℕ → Option Command
 command_of [] = Some Blank
 command_of (b ∷ bs) = command_of_words (words_of (b ∷ bs))
 
--- a request as a command: without where its word lies
+-- a request as a command: without the address of its word
 abbrev pub asked : Request → Command
 asked requests.Blank = Blank
 asked (requests.Paint lo hi word) = Paint lo hi word.now

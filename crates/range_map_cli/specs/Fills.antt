@@ -1,4 +1,4 @@
--- Paints and fills in any order: what they leave at each key, and how many entries.
+-- Paints and fills in any order: the content after them, and the number of entries.
 use Rattle.std.specs.Prelude.{◌≡◌, ℕ, ◌+◌, ℤ, List, [], ◌∷◌, All, Option}
 use Rattle.std.specs.Option.{option_or}
 use Rattle.blaze_table.specs.CanonicalOf.{keyed}
@@ -9,7 +9,7 @@ use Rattle.range_map_cli.specs.declared.step.Step.{Step}
 use Rattle.range_map_cli.specs.declared.step.Step.TheVariants.{Paint, Fill}
 
 -- The content after some entries are painted and others filled, each in their order, and in any order between the two. The
--- value at a key is that of the last painted entry whose range has it; without one, what was there; without that, the value of
+-- value at a key is that of the last painted entry whose range has it; without one, its old value; without that, the value of
 -- the first filled entry whose range has it; else none.
 abbrev pub painted_and_filled : {V : Type 0} → List (Entry V) → List (Entry V) → (ℤ → Option V) → ℤ → Option V
 painted_and_filled paints fills content k = option_or (last_at paints k) (option_or (content k) (at fills k))
@@ -46,7 +46,7 @@ abbrev pub PaintsAloneAreInOrder : Type 0 → Type 0
 PaintsAloneAreInOrder V = (paints : List (Entry V)) (content : ℤ → Option V) (k : ℤ)
     → painted_and_filled paints [] content k ≡ painted_in_order paints content k
 
--- it is what paints and fills leave that are done one after another
+-- it is the content after paints and fills that are done one after another
 abbrev pub StepsPaintAndFill : {T : Type 0} → (V L : Type 0) → (T → ℤ) → ℤ → ℤ → Type 0
 StepsPaintAndFill {T} V L rank low high = (steps : List (Step T V L)) (content : ℤ → Option V)
     → All IsPaintOrFill steps → (k : ℤ)

@@ -1,4 +1,4 @@
--- The laws of range maps: of `==` and the order, operators, splits, paintings, look-ups and iterators.
+-- The laws of range maps: of `==` and the order, operators, splits, paintings, lookups and iterators.
 use Rattle.std.specs.Option.{option_xor}
 use Rattle.std.specs.Prelude.{◌≡◌, ◌↔◌, ◌+◌, ℤ, pos, ◌+ℤ◌, ◌≤ℤ◌, ◌<ℤ◌, Bool, true, false, IsTrue, List, [], ◌∷◌, ◌++◌, map, Option, Some, None, MatchOption, IsSome, is_some, Result, Ok, Err}
 use Rattle.std.specs.Iterator.{YieldsFirstBy, YieldsLastBy}
@@ -23,7 +23,7 @@ use Rattle.range_map_blaze.specs.Order.{map_cmp, ranked_pairs}
 
 -- ---- `==` and the order
 
--- range maps are equal exactly where `get` answers equal values, or none, at every key
+-- range maps are equal exactly if `get` returns equal values, or none, at every key
 abbrev pub EqualWhereGetsAre : {T V : Type 0} → (T → ℤ) → (V → V → Bool) → ℤ → ℤ → Type 0
 EqualWhereGetsAre {T} {V} rank eq low high = (L M : List (Entry V))
     → IsRangeMap eq low high L → IsRangeMap eq low high M
@@ -48,7 +48,7 @@ CountsAddUp {V} eq low high = (a b either both : List (Entry V))
 
 -- ---- splitting and appending
 
--- what a split takes off, put back over what it left, is the map before
+-- the map that a split returns, painted over the map that it keeps, is the map before
 abbrev pub AppendUndoesSplit : {V : Type 0} → (V → V → Bool) → ℤ → ℤ → Type 0
 AppendUndoesSplit {V} eq low high = (k : ℤ) (old below from new : List (Entry V))
     → IsRangeMap eq low high old → IsSplit eq low high k old below from
@@ -67,7 +67,7 @@ AreAllPainted {V} eq low high (p ∷ ps) old new =
 abbrev pub points_of : {V : Type 0} → List (Entry V) → List (Entry V)
 points_of es = map (λ p. entry p.0 p.0 p.1) (ranked_pairs es)
 
--- `a | b` is what `a` is after the entries of `b` are painted: all in one call, one by one, or key by key
+-- `a | b` is `a` after the entries of `b` are painted: all in one call, one by one, or key by key
 pub record IsUnionOfPaints {V : Type 0} (eq : V → V → Bool) (low high : ℤ) (a b union : List (Entry V))
     : Type 0 where
   pub extended : (new : List (Entry V)) → IsExtended eq low high b a new → SameEntries eq union new
@@ -81,16 +81,16 @@ UnionIsPainting {V} eq low high = (a b union : List (Entry V))
     → IsRangeMap eq low high a → IsRangeMap eq low high b
     → IsChosen eq low high right_first a b union → IsUnionOfPaints eq low high a b union
 
--- ---- look-ups from the least key on
+-- ---- lookups from the least key on
 
 module _ {V : Type 0} (low high : ℤ) (entries : List (Entry V)) where
-  -- what `range_or_gap_at` answers at the key k: the entry there, or the gap round it
+  -- the result of `range_or_gap_at` at the key k: the entry there, or the gap around it
   abbrev pub IsRangeOrGapAt : ℤ → Entry (Option V) → Type 0
   IsRangeOrGapAt k p = MatchOption p.value
       ((at entries k ≡ None) × IsGap low high (at entries) k p.lo p.hi)
       (λ v. entry_at entries k ≡ Some (entry p.lo p.hi v))
 
-  -- what it answers at the key k, and then at the key behind the end of each answer, until no key is left
+  -- its results at the key k, and then at the key above the end of each result, up to the greatest key
   abbrev pub AreRangesOrGapsFrom : ℤ → List (Entry (Option V)) → Type 0
   AreRangesOrGapsFrom k [] = high <ℤ k
   AreRangesOrGapsFrom k (p ∷ ps) =
@@ -104,7 +104,7 @@ module _ {V : Type 0} (low high : ℤ) (entries : List (Entry V)) where
       × ((j : ℤ) → p.lo ≤ℤ j → j ≤ℤ p.hi → at entries j ≡ p.value)
       × CoverFrom (p.hi +ℤ pos 1) ps
 
--- the answers from the least key on cover the keys
+-- the results from the least key on cover the keys
 abbrev pub LookUpsCover : {V : Type 0} → (V → V → Bool) → ℤ → ℤ → Type 0
 LookUpsCover {V} eq low high = (entries : List (Entry V)) (answers : List (Entry (Option V)))
     → IsRangeMap eq low high entries → AreRangesOrGapsFrom low high entries low answers
@@ -133,15 +133,15 @@ module _ {A : Type 0} where
   from_back [] = []
   from_back (c ∷ calls) = given_behind c.0 c.1 (from_back calls)
 
-  -- after the first `None` all answers are `None`
+  -- after the first `None` all results are `None`
   abbrev pub AreNoneFromNone : List (Bool × Option A) → Type 0
   AreNoneFromNone [] = Unit {0}
   AreNoneFromNone (c ∷ calls) = (c.1 ≡ None → All (λ later. later.1 ≡ None) calls) × AreNoneFromNone calls
 
--- `left` is what an iterator has left, and `view` what it has of an item that a call gives
+-- `left` gives the items that an iterator still has, and `view` the item that a call gives
 module _ {S A B : Type 0} (view : A → B) (left : S → List B) where
-  -- a call of `next` (`true`) or of `next_back` (`false`): it takes the first or the last of what is
-  -- left, and gives `None` where nothing is left
+  -- a call of `next` (`true`) or of `next_back` (`false`): it takes the first or the last item that
+  -- the iterator still has, and gives `None` if there is none
   abbrev pub Takes : Bool → S → Option A → S → Type 0
   Takes true s given t = YieldsFirstBy view left s given t
   Takes false s given t = YieldsLastBy view left s given t
@@ -151,8 +151,8 @@ module _ {S A B : Type 0} (view : A → B) (left : S → List B) where
   TakeAll [] s t = s ≡ t
   TakeAll (c ∷ calls) s t = (next : S) × Takes c.0 s c.1 next × TakeAll calls next t
 
-  -- The items that the calls gave and those that are left are the items that there were, each once:
-  -- those from the front, what is left, those from the back. Once a call gave `None`, all later ones do.
+  -- The items that the calls gave and those that the iterator still has are all items, each once:
+  -- those from the front, those that it still has, those from the back. Once a call gave `None`, all later ones do.
   pub record IsEachOnce (calls : List (Bool × Option A)) (s t : S) : Type 0 where
     pub parts : left s ≡ map view (from_front calls) ++ left t ++ map view (from_back calls)
     pub for_good : AreNoneFromNone calls
@@ -161,10 +161,10 @@ module _ {S A B : Type 0} (view : A → B) (left : S → List B) where
   abbrev pub EachOnce : Type 0
   EachOnce = (calls : List (Bool × Option A)) (s t : S) → TakeAll calls s t → IsEachOnce calls s t
 
--- ---- calls of an iterator by value, from both ends
+-- ---- calls of an owned iterator, from both ends
 
 module _ {V A B : Type 0} (left : OwnedLeft V → List B) (IsGiven : A → B → Type 0) where
-  -- a call of `next` (`true`) or of `next_back` (`false`), which may be refused a clone
+  -- a call of `next` (`true`) or of `next_back` (`false`), whose clone may fail
   abbrev pub TakesOwned : Bool → OwnedLeft V → Option (Result A AllocError) → OwnedLeft V → Type 0
   TakesOwned true s given t = GivesFirst left IsGiven s given t
   TakesOwned false s given t = GivesLast left IsGiven s given t
@@ -175,7 +175,7 @@ module _ {V A B : Type 0} (left : OwnedLeft V → List B) (IsGiven : A → B →
   TakeAllOwned (c ∷ calls) s t =
       (next : OwnedLeft V) × TakesOwned c.0 s c.1 next × TakeAllOwned calls next t
 
-  -- what a call gave is the item, and no item where it gave none or was refused
+  -- the item that a call gave, or no item if it gave `None` or its clone failed
   abbrev pub IsItem : Option (Result A AllocError) → Option B → Type 0
   IsItem None None = Unit {0}
   IsItem None (Some b) = ⊥
@@ -197,19 +197,19 @@ module _ {V A B : Type 0} (left : OwnedLeft V → List B) (IsGiven : A → B →
   HasEnded (Some (Ok a)) = ⊥
   HasEnded (Some (Err e)) = Unit {0}
 
-  -- it was refused no clone
+  -- its clone did not fail
   abbrev pub IsNotRefused : Option (Result A AllocError) → Type 0
   IsNotRefused None = Unit {0}
   IsNotRefused (Some (Ok a)) = Unit {0}
   IsNotRefused (Some (Err e)) = ⊥
 
-  -- after the first `None` or refusal all answers are `None`
+  -- after the first `None` or failed clone all results are `None`
   abbrev pub AreNoneFromEnd : List (Bool × Option (Result A AllocError)) → Type 0
   AreNoneFromEnd [] = Unit {0}
   AreNoneFromEnd (c ∷ calls) = (HasEnded c.1 → All (λ later. later.1 ≡ None) calls) × AreNoneFromEnd calls
 
-  -- Where no call was refused a clone, the items that the calls gave and those that are left are the
-  -- items that there were, each once. Once a call gave none or was refused, all later ones give `None`.
+  -- If no clone failed, the items that the calls gave and those that the iterator still has are all
+  -- items, each once. Once a call gave `None` or its clone failed, all later ones give `None`.
   pub record IsEachOnceOwned (calls : List (Bool × Option (Result A AllocError))) (s t : OwnedLeft V) : Type 0 where
     pub items : List (Bool × Option B)
     pub given : AreItems calls items

@@ -1,4 +1,4 @@
--- What is printed for a command, on the content of a range map of words, and the content after it.
+-- The text that is printed for a command, on the content of a range map of words, and the content after it.
 use Rattle.std.specs.Prelude.{◌≡◌, ℕ, ◌^◌, ◌-◌, ℤ, pos, negsuc, List, [], ◌∷◌, ◌++◌, Option, Some, None, if◌then◌else◌, ◌==◌, codes, decimal}
 use Rattle.std.specs.Fmt.{signed_decimal}
 use Rattle.std.specs.Str.{bytes_eq}
@@ -69,11 +69,11 @@ piece_text lo hi word = signed_decimal lo ++ (codes "..=" ++ (signed_decimal hi 
 abbrev pub line : List ℕ → List ℕ
 line text = text ++ 10 ∷ []
 
--- what is printed where words are put on keys: whether that changes the number of keys that have one
+-- the text that is printed if words are set at keys: whether that changes the number of keys that have one
 abbrev pub changed_text : Content → Content → List ℕ
 changed_text new old = line (if mapped_count new == mapped_count old then codes "false" else codes "true")
 
--- the text is what is printed for the command
+-- the text is printed for the command
 abbrev pub Replies : Content → Command → List ℕ → Type 0
 Replies content Blank text = text ≡ []
 Replies content (Paint lo hi word) text = text ≡ changed_text (painted lo hi word content) content

@@ -1,4 +1,4 @@
--- How far a session is in its text.
+-- The position of a session in its text.
 use Rattle.std.specs.Prelude.{◌≡◌, ℕ, ◌+◌, ◌-◌, ◌≤◌, ◌^◌, min, ℤ, List, [], ◌∷◌, ◌++◌, length, take, Option, Some, None}
 use Rattle.std.specs.Io.KnownBytes.{Appends}
 use Rattle.range_map_cli.specs.Lines.{lines_of, ends_in, Lacks}
@@ -14,7 +14,7 @@ abbrev pub content_after_commands : List Command → Content → Content
 content_after_commands [] content = content
 content_after_commands (command ∷ commands) content = content_after_commands commands (content_after_command command content)
 
--- the session that keeps these bytes of a line, as many as there is room for
+-- the session that keeps these bytes of a line, as many as there is space for
 abbrev pub with_line : List ℕ → Session → Session
 with_line bytes session = record session { line = take 81 bytes }
 

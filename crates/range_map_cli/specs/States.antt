@@ -7,10 +7,10 @@ use Rattle.blaze_table.specs.Entries.{Entry, at}
 use Rattle.range_map_cli.specs.Commands.{is_word}
 use Rattle.range_map_cli.specs.Replies.{Content}
 
--- the word at each key, without where it lies
+-- the word at each key, without its address
 abbrev pub content_of : List (Entry (String Global)) → Content
 content_of entries key = option_map string_bytes (at entries key)
 
--- what it has at a key is one to thirty-two letters and digits
+-- each word is one to thirty-two letters and digits
 abbrev pub HasWords : Content → Type 0
 HasWords content = (key : ℤ) → IfSome (content key) (λ word. is_word word ≡ true)

@@ -1,4 +1,4 @@
--- What steps mean: functions from contents to contents. A content gives each key, by its rank, its value or none.
+-- The meaning of steps: functions from contents to contents. A content gives each key, by its rank, its value or none.
 use Rattle.blaze_int.specs.Unsigned.{nat_of}
 use Rattle.std.specs.Option.{option_xor}
 use Rattle.std.specs.Prelude.{◌≡◌, ◌⊎◌, ℕ, zero, suc, ◌*◌, ◌+◌, ◌≤◌, ◌<◌, ℤ, pos, ◌+ℤ◌, ◌-ℤ◌, int_le, Bool, true, ◌&&◌, not, ◌==◌, if◌then◌else◌, is_some, List, [], ◌∷◌, length, take, Option, Some, None}
@@ -83,7 +83,7 @@ module _ {T V L : Type 0} (rank : T → ℤ) (low high : ℤ) where
   content_after (MinusSet keys) content = λ k. left_alone (content k) (at keys k)
   content_after (ComplementWith v) content = complemented low high v content
 
-  -- what a step answers on a content: keys are told by their ranks
+  -- the answer of a step on a content: keys are given by their ranks
   abbrev pub answer : Step T V L → (ℤ → Option V) → Answer ℤ V
   answer (Paint lo hi v) content = Wrote (not (mapped_keys low high (painted (rank lo) (rank hi) v content) == mapped_keys low high content))
   answer (Fill lo hi v) content = Wrote (not (mapped_keys low high (filled (rank lo) (rank hi) v content) == mapped_keys low high content))
@@ -109,7 +109,7 @@ module _ {T V L : Type 0} (rank : T → ℤ) (low high : ℤ) where
   after_all [] content = content
   after_all (step ∷ steps) content = after_all steps (content_after step content)
 
-  -- what the steps answer, each on the content that those before it leave
+  -- the answers of the steps, each on the content after those before it
   abbrev pub answers : List (Step T V L) → (ℤ → Option V) → List (Answer ℤ V)
   answers [] content = []
   answers (step ∷ steps) content = answer step content ∷ answers steps (content_after step content)
@@ -123,7 +123,7 @@ SamePair rank eq None (Some q) = ⊥
 SamePair rank eq (Some p) None = ⊥
 SamePair rank eq (Some p) (Some q) = (rank p.0 ≡ q.0) × (eq p.1 q.1 ≡ true)
 
--- an answer is what is meant: keys by their ranks, values by ==
+-- an answer is the one that is meant: keys by their ranks, values by `==`
 abbrev pub SameAnswer : {T V : Type 0} → (T → ℤ) → (V → V → Bool) → Answer T V → Answer ℤ V → Type 0
 SameAnswer rank eq (Wrote changed) (Wrote meant) = changed ≡ meant
 SameAnswer rank eq (Old value) (Old meant) = SameOption eq value meant
@@ -138,19 +138,19 @@ SameAnswers rank eq [] (b ∷ bs) = ⊥
 SameAnswers rank eq (a ∷ given) [] = ⊥
 SameAnswers rank eq (a ∷ given) (b ∷ bs) = SameAnswer rank eq a b × SameAnswers rank eq given bs
 
--- ---- what a step does to a range map
+-- ---- a step on a range map
 
 -- a range map has the content that the step means on the old one
 pub record IsStepped {T V L : Type 0} (eq : V → V → Bool) (rank : T → ℤ) (low high : ℤ) (step : Step T V L) (old new : List (Entry V)) : Type 0 where
   pub range_map : IsRangeMap eq low high new
   pub content : (k : ℤ) → SameOption eq (at new k) (content_after rank low high step (at old) k)
 
--- the same of all the steps, one after another
+-- a range map has the content that all the steps mean, one after another
 pub record IsSteppedAll {T V L : Type 0} (eq : V → V → Bool) (rank : T → ℤ) (low high : ℤ) (steps : List (Step T V L)) (old new : List (Entry V)) : Type 0 where
   pub range_map : IsRangeMap eq low high new
   pub content : (k : ℤ) → SameOption eq (at new k) (after_all rank low high steps (at old) k)
 
--- memory was refused in the step behind the first so many, which were done
+-- an allocation failed in the step after the first so many, which were done
 pub record IsRefusedAt {T V L : Type 0} (eq : V → V → Bool) (rank : T → ℤ) (low high : ℤ) (steps : List (Step T V L)) (at : ℕ) (old new : List (Entry V)) : Type 0 where
   pub within : (at < length steps) ⊎ (at ≡ 0)
   pub stepped : IsSteppedAll eq rank low high (take at steps) old new
@@ -177,7 +177,7 @@ IsEdit PopFirst = Unit {0}
 IsEdit PopLast = Unit {0}
 IsEdit _ = ⊥
 
--- all is counted; n edits put in at most two entries each, take out at most those and the ones that were there, and look at most
+-- all is counted; n edits insert at most two entries each, remove at most those and the old ones, and look up at most
 -- so often
 pub record IsCountedRun {V : Type 0} (n : ℕ) (old new : CountedEntries V) : Type 0 where
   pub counted : IsCounted old new

@@ -1,4 +1,4 @@
--- What operations between any number of maps give: at each key a choice from the row of what the maps have there, first to
+-- The results of operations between any number of maps: at each key a choice from the row of the maps' values there, first to
 -- last.
 use Rattle.std.specs.Prelude.{ℤ, Bool, false, not, if◌then◌else◌, List, [], ◌∷◌, Option, Some, None}
 use Rattle.std.specs.Option.{is_some}
@@ -27,7 +27,7 @@ has_odd (Some x ∷ xs) = not (has_odd xs)
 abbrev pub last_of_odd : {V : Type 0} → List (Option V) → Option V
 last_of_odd xs = if has_odd xs then last_value xs else None
 
--- a range map that has at each key what is chosen from the row of what the lists have there
+-- a range map that has at each key the choice from the row of the lists' values there
 pub record IsChosenOfMany {V : Type 0} (eq : V → V → Bool) (low high : ℤ) (choose : List (Option V) → Option V) (lists : List (List (Entry V))) (new : List (Entry V)) : Type 0 where
   pub range_map : IsRangeMap eq low high new
   pub content : (k : ℤ) → SameOption eq (at new k) (choose (row lists k))

@@ -1,4 +1,4 @@
--- The operations between many maps are those between two, where there are two.
+-- With two maps, the operations between many are those between two.
 use Rattle.std.specs.Option.{option_xor}
 use Rattle.std.specs.Prelude.{◌≡◌, ℤ, Bool, List, [], ◌∷◌, Option, is_some}
 use Rattle.std.specs.Fn.{Mut}
@@ -26,16 +26,16 @@ module _ {V : Type 0} (eq : V → V → Bool) (low high : ℤ) where
   SymmetricDifferenceOfTwoIsXor = (left right many two : List (Entry V)) → IsChosenOfMany eq low high last_of_odd (left ∷ right ∷ []) many
       → IsChosen eq low high option_xor left right two → SameEntries eq many two
 
--- `shows` is the row of what lists have where the arguments of a call stand for it, `shows'` what two lists have
+-- `shows` gives the row of the lists' values that the arguments of a call stand for, `shows'` those of two lists
 module _ {F G X Y V W : Type 0} (shows : X → List (Option V)) (g : Mut F X W) (shows' : Y → Option V × Option V) (g' : Mut G Y W) (eqv : V → V → Bool) (eq : W → W → Bool) (low high : ℤ) where
   -- the inner join of two maps, as many, has the same ranges as that of one with the other, with equal values, where the
-  -- closures answer the same
+  -- closures return the same
   abbrev pub InnerJoinOfTwoIsInnerJoin : Type 0
   InnerJoinOfTwoIsInnerJoin = (f : F) (f' : G) (left right : List (Entry V)) (many two : List (Entry W))
       → (of_many : IsManyJoined shows g eqv low high (list_all is_some) eq f (left ∷ right ∷ []) many) → (of_two : IsJoined shows' g' eqv eqv low high Inner eq f' left right two)
       → of_many.answered.answers ≡ of_two.answered.answers → SameEntries eq many two
 
-  -- the same of full joins
+  -- the full join of two maps, as many, has the same ranges as that of one with the other, with equal values
   abbrev pub FullJoinOfTwoIsFullJoin : Type 0
   FullJoinOfTwoIsFullJoin = (f : F) (f' : G) (left right : List (Entry V)) (many two : List (Entry W))
       → (of_many : IsManyJoined shows g eqv low high (list_any is_some) eq f (left ∷ right ∷ []) many) → (of_two : IsJoined shows' g' eqv eqv low high Full eq f' left right two)

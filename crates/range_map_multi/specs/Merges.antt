@@ -7,18 +7,18 @@ use Rattle.blaze_table.specs.Entries.{Entry, at, SameOption}
 use Rattle.blaze_streams.specs.Segments.{row}
 
 module _ {V : Type 0} (gives : List (Option V) → Option V → Type 0) where
-  -- the list has at each key what is given for the row of what the lists have there
+  -- the list has at each key the result for the row of the lists' values there
   abbrev pub GivesEach : List (List (Entry V)) → List (Entry V) → Type 0
   GivesEach lists list = (k : ℤ) → gives (row lists k) (at list k)
 
-  -- where each of two lists has what is given for a part of a row, the new list has what is given for the whole of it
+  -- if each of two lists has the result for a part of a row, the new list has the result for the whole row
   abbrev pub GivesBoth : List (Entry V) → List (Entry V) → List (Entry V) → Type 0
   GivesBoth left right new = (k : ℤ) (xs ys : List (Option V)) → 0 < length xs → 0 < length ys → gives xs (at left k) → gives ys (at right k) → gives (xs ++ ys) (at new k)
 
--- a value, where all of a row are there
+-- a value, if each of a row is present
 abbrev pub with_all : {V : Type 0} → Option V → List (Option V) → Option V
 with_all x xs = if list_all is_some xs then x else None
 
--- a list on the keys that all lists have too, with its own values
+-- the keys of a list that all lists have too, with its own values
 abbrev pub IsOnAll : {V : Type 0} → (V → V → Bool) → List (Entry V) → List (List (Entry V)) → List (Entry V) → Type 0
 IsOnAll eq list lists new = (k : ℤ) → SameOption eq (at new k) (with_all (at list k) (row lists k))

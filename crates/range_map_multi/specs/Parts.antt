@@ -1,4 +1,4 @@
--- Lists taken apart, into ranges with places and the values at these places: the words of this crate's own functions. No public
+-- Lists in two parts, the ranges with positions and the values at these positions: the words of this crate's own functions. No public
 -- clause names them.
 use Rattle.std.specs.Prelude.{◌≡◌, ℕ, ◌+◌, ℤ, Bool, List, [], ◌∷◌, map, Option, Some, None}
 use Rattle.std.specs.List.{slice_get}
@@ -6,20 +6,20 @@ use Rattle.std.specs.Option.{option_and_then}
 use Rattle.blaze_table.specs.Entries.{Entry, entry}
 use Rattle.blaze_table.specs.Canonical.{IsRangeMap}
 
--- the entries, each with what a function gives for its value
+-- the entries, each with the result of a function at its value
 abbrev pub with_values : {A B : Type 0} → (A → B) → List (Entry A) → List (Entry B)
 with_values f es = map (λ e. entry e.lo e.hi (f e.value)) es
 
--- the ranges of a list, each with its place; the first has the place i
+-- the ranges of a list, each with its position; the first has the position i
 abbrev pub in_places : {V : Type 0} → ℕ → List (Entry V) → List (Entry ℕ)
 in_places i [] = []
 in_places i (e ∷ es) = entry e.lo e.hi i ∷ in_places (i + 1) es
 
--- the list has the ranges, with the values at their places
+-- the list has the ranges, with the values at their positions
 abbrev pub HasPlacedValues : {V : Type 0} → List V → List (Entry ℕ) → List (Entry V) → Type 0
 HasPlacedValues vs ranges list = with_values (slice_get vs) ranges ≡ with_values Some list
 
--- the same of each list
+-- each list has its ranges, with its values at their positions
 abbrev pub AllPlaced : {V : Type 0} → List (List V) → List (List (Entry ℕ)) → List (List (Entry V)) → Type 0
 AllPlaced [] [] [] = Unit {0}
 AllPlaced [] [] (L ∷ Ls) = ⊥
@@ -33,18 +33,18 @@ abbrev pub with_valued_range : {V : Type 0} → Entry ℕ → Option V → List 
 with_valued_range r None es = es
 with_valued_range r (Some v) es = entry r.lo r.hi v ∷ es
 
--- the ranges with the values at their places
+-- the ranges with the values at their positions
 abbrev pub valued : {V : Type 0} → List V → List (Entry ℕ) → List (Entry V)
 valued vs [] = []
 valued vs (r ∷ rs) = with_valued_range r (slice_get vs r.value) (valued vs rs)
 
--- the same of each list
+-- the ranges of each list, with the values at their positions
 abbrev pub all_valued : {V : Type 0} → List (List V) → List (List (Entry ℕ)) → List (List (Entry V))
 all_valued [] Ns = []
 all_valued (vs ∷ vss) [] = []
 all_valued (vs ∷ vss) (N ∷ Ns) = valued vs N ∷ all_valued vss Ns
 
--- the values at places, one of each list
+-- the values at some positions, one of each list
 abbrev pub picked : {V : Type 0} → List (List V) → List (Option ℕ) → List (Option V)
 picked [] places = []
 picked (vs ∷ vss) [] = []
