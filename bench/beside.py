@@ -1,7 +1,7 @@
 #!/usr/bin/env python3
-"""Times the Python module beside two lists with `bisect`, a map over `sortedcontainers`, and `intervaltree` (Debian:
-python3-sortedcontainers, python3-intervaltree; what is not installed is left out), and prints tables in Markdown: microseconds of
-processor time, the least of five rounds. All sides must leave the same entries. `make -C bindings python` comes before.
+"""Times the Python module beside two lists with `bisect`, a map over `sortedcontainers`, and `intervaltree`. It prints tables in
+Markdown: microseconds of processor time, the least of five rounds. All sides must leave the same entries. A side that is not installed is
+left out (Debian: python3-sortedcontainers, python3-intervaltree). Run `make -C bindings python` first.
 
     bench/beside.py [ENTRIES ..]        without numbers: 1000, 10000 and 100000 entries
 """

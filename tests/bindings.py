@@ -1,7 +1,7 @@
-"""The Python module beside plain dictionaries: rounds of 100 random calls on small keys, at both ends of the keys too, with equal
-values of several types. Then values whose __hash__, __eq__ and __del__ raise or change the map, each request for memory refused in
-turn, memory that stays flat, the garbage collector, threads, pickles, arrays, types and the examples of docstrings. What needs a
-tool that is not here is left out, and named. The last line is 'N passed, M failed'.
+"""Compares the Python module with plain dictionaries: rounds of 100 random calls on small keys, also at both ends of the keys, with
+equal values of several types. Then come values whose __hash__, __eq__ and __del__ raise or change the map, and each allocation failing
+in turn. The last parts are memory that stays flat, the garbage collector, threads, pickles, arrays, types and the examples of
+docstrings. A part whose tool is missing is left out, and named. The last line is 'N passed, M failed'.
 
     tests/bindings.py [ROUNDS [SEED]] [CASE ..]        CASE: a function below, in place of all of them
 """
@@ -839,7 +839,7 @@ def printed():
 
 
 def refused():
-    """Each request for memory of the module and the library refused in turn, alone and with all later ones. Runs under
+    """Each allocation of the module and the library fails in turn, alone and with all later ones. Runs under
     tests/refuse_module.c."""
     shim = ctypes.CDLL(None)
 

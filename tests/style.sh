@@ -1,7 +1,9 @@
 #!/usr/bin/env bash
-# How the pages, doc comments and help texts are written: tests/style.py finds words that plainer ones replace, and sentences of more than
-# 30 words on the pages for users and in doc comments. `tests/style.sh PATH..` reads these files and folders alone. The last line is
-# 'N passed, M failed', counted by files.
+# Tests how the pages, doc comments, help texts and comments of scripts are written. tests/style.py finds words that plainer ones replace,
+# and sentences of more than 30 words on the pages for users and in doc comments. The last line is 'N passed, M failed', counted by files.
+#
+#     tests/style.sh           all files
+#     tests/style.sh PATH..    these files, and those in these folders
 set -euo pipefail
 cd "$(dirname "${BASH_SOURCE[0]}")/.."
 source tests/judge.sh
@@ -24,7 +26,7 @@ if [ "$#" = 0 ]; then
     paths=(README.md CHANGELOG.md docs bindings crates tests bench tools test .ci/run)
 fi
 mapfile -t files < <(find "${paths[@]}" \( -name out -o -name build -o -name target -o -name examples -o -name must-fail \) -prune -o -type f \
-    \( -regex '.*\.\(md\|help\|package\|sh\|h\|hpp\|pyx\|pxi\|pyi\)' -o -path 'crates/*/src/*.rt' -o -path 'bindings/rust/src/*.rs' \
+    \( -regex '.*\.\(md\|help\|package\|sh\|h\|hpp\|py\|pyx\|pxi\|pyi\)' -o -path 'tests/*.txt' -o -path 'crates/*/src/*.rt' -o -path 'bindings/rust/src/*.rs' \
     -o -regex '\(test\|\.ci/run\|tools/[a-z]*\)' \) -print | LC_ALL=C sort)
 tests/style.py "${files[@]}" | tee "$work/found" || true
 found="$(cut -d : -f 1 "$work/found" | sort -u | grep -c . || true)"

@@ -1,6 +1,6 @@
-"""The result of each line of docs/TASKS.md, in order, from a dictionary with the value of each key. Values are written as they print."""
+"""Prints the result of each line of docs/TASKS.md, in order, from dictionaries with the value of each key. Values are in printed form."""
 MIN, MAX = -(2**31), 2**31 - 1
-# All keys between -9 and 99, and the two ends. The keys that are left out have what is on both sides of them.
+# All keys from -9 to 99, and both ends of the key type. Each other key has the value of the keys on both sides of it.
 KEYS = [MIN, *range(-9, 100), MAX]
 
 

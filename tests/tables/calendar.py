@@ -1,4 +1,4 @@
-"""What `calendar` is to print: a dictionary has the name of each day."""
+"""Prints what `calendar` must print: a dictionary has the name of each day."""
 import sys
 from datetime import date, timedelta
 

@@ -1,4 +1,4 @@
-"""What `picture` is to print of lines without `svg`: a dictionary has the word of each key."""
+"""Prints what `picture` must print of lines without `svg`: a dictionary has the word of each key."""
 import sys
 
 WIDTH = 50

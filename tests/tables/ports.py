@@ -1,4 +1,4 @@
-"""What `ports` is to print: each port on its own."""
+"""Prints what `ports` must print: each port on its own."""
 import sys
 
 names, counts = {"tcp": {}, "udp": {}}, []

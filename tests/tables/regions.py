@@ -1,4 +1,4 @@
-"""What `regions` is to print: a dictionary has what is on each page of 4096 bytes."""
+"""Prints what `regions` must print: a dictionary has the region of each page of 4096 bytes."""
 import sys
 from typing import TypeVar
 

@@ -1,4 +1,4 @@
-"""What `routes` is to print: the owner at each address where a block or a range begins or ends, and the fewest prefixes, by ipaddress."""
+"""Prints what `routes` must print: the owner at each address where a block or a range begins or ends, and the fewest prefixes."""
 import sys
 from collections.abc import Iterator
 from ipaddress import IPv4Address, IPv4Network, IPv6Address, IPv6Network, ip_address, ip_network, summarize_address_range

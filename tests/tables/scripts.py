@@ -1,4 +1,4 @@
-"""What `scripts` is to print: a dictionary has the script of each character."""
+"""Prints what `scripts` must print: a dictionary has the script of each character."""
 import sys
 
 script_of, words = {}, []
