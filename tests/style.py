@@ -38,6 +38,15 @@ RULES = [
 ]
 COMPILED = [(re.compile(rf"(?:(?<![\w-])|^)(?:{pattern})(?![\w-])", re.I), instead) for pattern, instead, _ in RULES]
 
+# How a line of text begins in a file, by its suffix: doc comments of Rust and of C++, comments of C and of specs. All else has `#`.
+MARKS = {
+    ".rt": r"\s*//[/!] ?(.*)",
+    ".rs": r"\s*//[/!] ?(.*)",
+    ".antt": r"\s*-- ?(.*)",
+    ".h": r"(?:/\*| \*(?!/)|//) ?(.*?)(?:\*/)?",
+    ".hpp": r"\s*///?<? ?(.*)",
+}
+
 # Pages and comments whose sentences are counted; comments of scripts and the other pages are read for words alone.
 COUNTED = re.compile(r"(README|TASKS|KEYS|CALLS|ERRORS)\.md$|\.(rt|rs|h|hpp|pyx|pxi|pyi?)$")
 
@@ -49,11 +58,10 @@ def comments(path: Path, lines: list[str]) -> Iterator[Lines]:
     if path.suffix in (".md", ".help", ".package"):
         yield list(enumerate(lines, 1))
         return
-    marks = {".rt": r"\s*//[/!] ?(.*)", ".rs": r"\s*//[/!] ?(.*)", ".h": r"(?:/\*| \*(?!/)|//) ?(.*?)(?:\*/)?", ".hpp": r"\s*///?<? ?(.*)"}
     if path.suffix in (".py", ".pyi", ".pyx", ".pxi"):
         yield from docstrings(lines)
         return
-    mark = re.compile(marks.get(path.suffix, r"\s*#(?!!) ?(.*)") + "$")
+    mark = re.compile(MARKS.get(path.suffix, r"\s*#(?!!) ?(.*)") + "$")
     group: Lines = []
     for number, line in enumerate(lines, 1):
         found = mark.match(line)

@@ -1,6 +1,7 @@
 #!/usr/bin/env bash
-# Tests how the pages, doc comments, help texts and comments of scripts are written. tests/style.py finds words that plainer ones replace,
-# and sentences of more than 30 words on the pages for users and in doc comments. The last line is 'N passed, M failed', counted by files.
+# Tests how the pages, doc comments, help texts, and comments of specs and of scripts are written. tests/style.py finds words that plainer
+# ones replace, and sentences of more than 30 words on the pages for users and in doc comments. The last line is 'N passed, M failed',
+# counted by files.
 #
 #     tests/style.sh           all files
 #     tests/style.sh PATH..    these files, and those in these folders
@@ -26,8 +27,8 @@ if [ "$#" = 0 ]; then
     paths=(README.md CHANGELOG.md docs bindings crates tests bench tools test .ci/run)
 fi
 mapfile -t files < <(find "${paths[@]}" \( -name out -o -name build -o -name target -o -name examples -o -name must-fail \) -prune -o -type f \
-    \( -regex '.*\.\(md\|help\|package\|sh\|h\|hpp\|py\|pyx\|pxi\|pyi\)' -o -path 'tests/*.txt' -o -path 'crates/*/src/*.rt' -o -path 'bindings/rust/src/*.rs' \
-    -o -regex '\(test\|\.ci/run\|tools/[a-z]*\)' \) -print | LC_ALL=C sort)
+    \( -regex '.*\.\(md\|help\|package\|sh\|h\|hpp\|py\|pyx\|pxi\|pyi\)' -o -regex '\(test\|\.ci/run\|tools/[a-z]*\)' \
+    -o -path 'crates/*/src/*.rt' -o -path 'crates/*/specs/*.antt' -o -path 'bindings/rust/*.rs' -o -path 'tests/*.txt' \) -print | LC_ALL=C sort)
 tests/style.py "${files[@]}" | tee "$work/found" || true
 found="$(cut -d : -f 1 "$work/found" | sort -u | grep -c . || true)"
 failed=$((failed + found))
