@@ -7,6 +7,7 @@ pub struct Draw {
 }
 
 impl Draw {
+    /// Returns a generator whose sequence depends on `seed` only.
     pub fn new(seed: u64) -> Self {
         Draw { state: seed }
     }

@@ -3,6 +3,7 @@ use crate::draw::Draw;
 use range_map_blaze::RangeMapBlaze;
 use std::alloc::{AllocError, Global};
 
+/// The type of the maps in all works.
 pub type Map = RangeMapBlaze<i64, u64>;
 
 /// The parameters of a work.

@@ -35,6 +35,7 @@ impl<T: Integer, V> Model for IntoIter<T, V> {
 }
 
 impl<T: Integer, V> IntoIter<T, V> {
+    /// Returns an iterator over the entries of full nodes.
     pub(crate) fn new(rest: btree_map::IntoIter<Start<T>, EndValue<T, Option<V>>>) -> Self
         requires { AreFull (shown_nodes T.rank rest) }
         ensures { result ≡ entries_of T.rank rest }

@@ -35,6 +35,7 @@ impl<'a, T: Integer, V> Model for Iter<'a, T, V> {
 }
 
 impl<'a, T: Integer, V> Iter<'a, T, V> {
+    /// Returns an iterator over the entries of full nodes.
     pub(crate) fn new(rest: btree_map::Iter<'a, Start<T>, EndValue<T, Option<V>>>) -> Self
         requires { AreFull (shown_nodes T.rank rest) }
         ensures { result ≡ entries_of T.rank rest.entry }

@@ -34,6 +34,7 @@ impl<'a, T: Integer, V> Model for Range<'a, T, V> {
 }
 
 impl<'a, T: Integer, V> Range<'a, T, V> {
+    /// Returns an iterator over the entries of full nodes.
     pub(crate) fn new(rest: btree_map::Range<'a, Start<T>, EndValue<T, Option<V>>>) -> Self
         requires { AreFull (shown_nodes T.rank rest) }
         ensures { result ≡ entries_of T.rank rest.entry }

@@ -10,7 +10,7 @@ pub by_bool : {P : Type 0} (b : Bool) → (b ≡ true → P) → (b ≡ false �
 by_bool true t f = t refl
 by_bool false t f = f refl
 
--- ---- whole numbers: what the test answers
+-- ---- whole numbers: the result of a comparison
 
 pub lt_true : (a b : ℤ) → a <ℤ b → int_lt a b ≡ true
 lt_true a b h = grind (arith, ints)
@@ -27,7 +27,7 @@ le_false a b h = grind (arith, ints)
 pub eq_true : (a b : ℤ) → a ≡ b → int_eq a b ≡ true
 eq_true a b h = grind (arith, ints)
 
--- ---- whole numbers: what the answer says
+-- ---- whole numbers: what follows from a result
 
 pub lt_holds : (a b : ℤ) → int_lt a b ≡ true → a <ℤ b
 lt_holds a b h = grind (arith, ints)

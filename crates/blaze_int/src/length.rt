@@ -4,7 +4,7 @@ ghost use Rattle.blaze_int.specs.Counted.{IsNumbered};
 
 /// A type of lengths of ranges, counted in keys. Lengths compare as the numbers of keys do.
 pub trait SafeLength: Copy + Ord {
-    // The number of keys that a length stands for. A value is a length if its number is at most `most`.
+    // The number of keys that a length represents. A value is a length if its number is at most `most`.
     ghost number: { Self → ℕ };
 
     // The greatest number that the type can represent.

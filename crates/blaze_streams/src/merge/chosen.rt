@@ -37,7 +37,7 @@ fn put_piece<T: Integer, VC: ValueCarrier, P: PieceList<T, VC>>(
 }
 
 /// Appends the pieces that are chosen from two streams to an empty list. If an allocation fails, both streams are
-/// dropped. O(n + m) with n and m ranges.
+/// dropped. O(n + m) with n and m ranges, where each call of a stream counts as O(1).
 fn put_chosen<
     T: Integer,
     VCL: ValueCarrier,
@@ -61,7 +61,7 @@ fn put_chosen<
 }
 
 /// Returns the choice between two streams, as a stream. If an allocation fails, both streams are dropped. O(n + m) with
-/// n and m ranges.
+/// n and m ranges, where each call of a stream counts as O(1).
 pub fn chosen_of<
     T: Integer,
     VCL: ValueCarrier,
@@ -81,7 +81,7 @@ pub fn chosen_of<
 
 /// Returns the choice between two streams, as a list of (first key, last key, value). The list is allocated with
 /// capacity for `room` entries. If an allocation or a clone fails, both streams are dropped. O(n + m) with n and m
-/// ranges.
+/// ranges, where each call of a stream counts as O(1).
 pub fn entries_chosen_of<
     T: Integer,
     VCL: HasValue,

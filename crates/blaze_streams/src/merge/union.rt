@@ -13,7 +13,7 @@ use std::alloc::{AllocError, Global};
 
 /// Returns the union of two streams. Where both have a value, the right one is chosen. A value is cloned (`carry` at
 /// `Owned`) only for a piece that ends before its range does. If an allocation or a clone fails, both streams are
-/// dropped. O(n + m) with n and m ranges.
+/// dropped. O(n + m) with n and m ranges, where each call of a stream counts as O(1).
 pub fn union_of<
     T: Integer,
     VC: ValueCarrier,
@@ -29,7 +29,7 @@ pub fn union_of<
 
 /// Returns the keys that exactly one of two streams has, with their values. A value is cloned (`carry` at `Owned`) only
 /// for a piece that ends before its range does. If an allocation or a clone fails, both streams are dropped. O(n + m)
-/// with n and m ranges.
+/// with n and m ranges, where each call of a stream counts as O(1).
 pub fn symmetric_difference_of<
     T: Integer,
     VC: ValueCarrier,
@@ -45,7 +45,7 @@ pub fn symmetric_difference_of<
 
 /// Returns the keys that both streams have, with the left stream's values. A value is cloned (`carry` at `Owned`) only
 /// for a piece that ends before its range does. If an allocation or a clone fails, both streams are dropped. O(n + m)
-/// with n and m ranges.
+/// with n and m ranges, where each call of a stream counts as O(1).
 pub fn intersection_of<
     T: Integer,
     VCL: ValueCarrier,

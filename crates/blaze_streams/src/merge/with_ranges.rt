@@ -14,7 +14,7 @@ use std::alloc::{AllocError, Global};
 
 /// Returns the keys of `map` that are in `set`, with their values. A value is cloned (`carry` at `Owned`) only for a
 /// piece that ends before its range does. If an allocation or a clone fails, both streams are dropped. O(n + m) with n
-/// and m ranges.
+/// and m ranges, where each call of a stream counts as O(1).
 pub fn intersect_with_ranges<
     T: Integer,
     VC: ValueCarrier,
@@ -31,7 +31,7 @@ pub fn intersect_with_ranges<
 
 /// Returns the keys of `map` that are not in `set`, with their values. A value is cloned (`carry` at `Owned`) only for
 /// a piece that ends before its range does. If an allocation or a clone fails, both streams are dropped. O(n + m) with
-/// n and m ranges.
+/// n and m ranges, where each call of a stream counts as O(1).
 pub fn subtract_ranges<
     T: Integer,
     VC: ValueCarrier,

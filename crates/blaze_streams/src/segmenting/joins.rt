@@ -176,7 +176,7 @@ fn join_next<
 /// Returns the segments of two streams that a join of the kind selects, each with carriers of both values. A stream
 /// that lags seeks the next key that may be selected. The last segment of a range has the range's own carrier, and each
 /// earlier segment has another one (`carry`). If an allocation or a clone fails, both streams are dropped. O(n + m)
-/// with n and m ranges.
+/// with n and m ranges, where each call of a stream counts as O(1).
 pub fn join_of<
     T: Integer,
     VCL: ValueCarrier,

@@ -35,6 +35,7 @@ impl<T: Integer> Model for IntoRangesIter<T> {
 }
 
 impl<T: Integer> IntoRangesIter<T> {
+    /// Returns an iterator over the owned ranges of a set's table.
     pub(crate) fn new(table: RangeTable<T, ()>) -> Self
         ensures { result ≡ table.entries }
     {

@@ -35,6 +35,7 @@ impl<'a, T: Integer> Model for RangesIter<'a, T> {
 }
 
 impl<'a, T: Integer> RangesIter<'a, T> {
+    /// Returns an iterator over the ranges of a set's borrowed table.
     pub(crate) fn new(table: &'a RangeTable<T, ()>) -> Self
         ensures { result ≡ table.now.entries }
     {

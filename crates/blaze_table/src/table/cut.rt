@@ -36,7 +36,7 @@ impl<T: Integer, V: Eq + Clone> RangeTable<T, V> {
 
     /// Removes the first key and returns it with its value, or `None` if the table is empty. If an allocation or a
     /// clone fails, the table is unchanged. It allocates nothing if the table is empty or the key's entry has only this
-    /// key. O(log n) with n entries: the rest of the entry is inserted as a new entry.
+    /// key. O(log n) with n entries: the other keys of the entry become a new entry.
     pub fn pop_first(&mut self) -> Result<Option<(T, V)>, AllocError>
         requires { ClonesAreAlike V.is_clone V.eq }
         ensures ok { IfOk result (λ popped. MatchOption popped ((self.old.entries ≡ [])
