@@ -52,7 +52,7 @@ fn into_ranges_of_falling(alloc: Global) -> Answer {
 
 fn ranges_len_counts_entries(alloc: Global) -> Answer {
     let map = words(alloc, [(10..=20, "a"), (15..=25, "a"), (30..=40, "b")])?;
-    let is_text = prints(alloc, &map, "(10..=25, \"a\"), (30..=40, \"b\")")?;
+    let is_text = prints(alloc, &map, r#"(10..=25, "a"), (30..=40, "b")"#)?;
     Ok(is_text && map.ranges_len() == 2)
 }
 
@@ -64,7 +64,7 @@ fn range_values_len_counts_entries(alloc: Global) -> Answer {
         (10..=20, "a"),
     ];
     let map = words(alloc, ranges)?;
-    let text = "(10..=20, \"a\"), (21..=25, \"b\"), (28..=40, \"c\")";
+    let text = r#"(10..=20, "a"), (21..=25, "b"), (28..=40, "c")"#;
     Ok(prints(alloc, &map, text)? && map.range_values_len() == 3)
 }
 
