@@ -74,7 +74,8 @@ impl<T: Integer, V> Counted<T, V> {
 }
 
 impl<T: Integer, V: Drop> Counted<T, V> {
-    /// Returns the owned entries, ascending, each as (first key, last key, value). It allocates nothing.
+    /// Returns the owned entries, ascending, each as (first key, last key, value). It allocates nothing. All n entries
+    /// take O(n) time.
     pub(crate) fn into_entries(self) -> IntoIter<T, V>
         ensures { result ≡ self.entries }
     {

@@ -30,7 +30,8 @@ impl<T: Integer, V: Drop> IntoIterator for Entries<T, V> {
 
     ghost into_iter_gives = { λ entries iter. iter ≡ entries.counted.entries };
 
-    /// Returns the owned entries, ascending, each as (first key, last key, value). It allocates nothing.
+    /// Returns the owned entries, ascending, each as (first key, last key, value). It allocates nothing. All n entries
+    /// take O(n) time.
     fn into_iter(self) -> IntoIter<T, V> {
         let Entries { counted, .. } = self;
         counted.into_entries()
@@ -48,7 +49,7 @@ impl<T: Integer, V> Entries<T, V> {
         }
     }
 
-    /// Returns the allocator of the entries' memory.
+    /// Returns the allocator of the entries' memory. O(1).
     pub fn allocator(&self) -> Global {
         self.alloc
     }
@@ -78,7 +79,8 @@ impl<T: Integer, V> Entries<T, V> {
         self.counted.in_hand();
     }
 
-    /// Returns the first entry as (first key, last key, value). It compares no keys.
+    /// Returns the first entry as (first key, last key, value). O(log n) with n entries, without comparing keys in the
+    /// tree.
     pub fn first(&self) -> Option<(T, T, &V)>
         ensures { option_map (shown_entry T.rank (λ v. v.now)) result
             ≡ slice_get self.now.counted.entries 0 }
@@ -86,7 +88,8 @@ impl<T: Integer, V> Entries<T, V> {
         self.counted.tree.first()
     }
 
-    /// Returns the last entry as (first key, last key, value). It compares no keys.
+    /// Returns the last entry as (first key, last key, value). O(log n) with n entries, without comparing keys in the
+    /// tree.
     pub fn last(&self) -> Option<(T, T, &V)>
         ensures { option_map (shown_entry T.rank (λ v. v.now)) result
             ≡ slice_get self.now.counted.entries (length self.now.counted.entries - 1) }
@@ -118,7 +121,8 @@ impl<T: Integer, V> Entries<T, V> {
         self.counted.tree.at_or_above(key)
     }
 
-    /// Iterates over the entries, ascending, each as (first key, last key, value). It allocates nothing.
+    /// Iterates over the entries, ascending, each as (first key, last key, value). It allocates nothing. All n entries
+    /// take O(n) time.
     pub fn iter(&self) -> Iter<'_, T, V>
         ensures { result ≡ self.now.counted.entries }
     {

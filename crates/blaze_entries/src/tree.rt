@@ -66,14 +66,16 @@ impl<T: Integer, V> Tree<T, V> {
         self.nodes.len()
     }
 
-    /// Returns the first entry as (first key, last key, value). It compares no keys.
+    /// Returns the first entry as (first key, last key, value). O(log n) with n entries, without comparing keys in the
+    /// tree.
     pub fn first(&self) -> Option<(T, T, &V)>
         ensures { shown_lent T.rank result ≡ slice_get self.now 0 }
     {
         shown(self.nodes.first_key_value())
     }
 
-    /// Returns the last entry as (first key, last key, value). It compares no keys.
+    /// Returns the last entry as (first key, last key, value). O(log n) with n entries, without comparing keys in the
+    /// tree.
     pub fn last(&self) -> Option<(T, T, &V)>
         ensures { shown_lent T.rank result ≡ slice_get self.now (length self.now - 1) }
     {
@@ -160,7 +162,8 @@ impl<T: Integer, V: Drop> IntoIterator for Tree<T, V> {
 
     ghost into_iter_gives = { λ tree iter. iter ≡ tree };
 
-    /// Returns the owned entries, ascending, each as (first key, last key, value). It allocates nothing.
+    /// Returns the owned entries, ascending, each as (first key, last key, value). It allocates nothing. All n entries
+    /// take O(n) time.
     fn into_iter(self) -> IntoIter<T, V> {
         let Tree { nodes } = self;
         IntoIter::new(nodes.into_iter())

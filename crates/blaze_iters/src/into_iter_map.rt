@@ -20,7 +20,8 @@ use std::marker::Model;
 
 /// An iterator over the keys of an owned table, ascending, each with its value. It is double-ended. The value is cloned
 /// for each key of a range except the one that is yielded last, which gets the stored value. If a clone fails, the
-/// iterator yields the error and then ends.
+/// iterator yields the error and then ends. All keys take O(n + k) time and at most k clones, with n entries and k
+/// keys.
 #[derive(Drop)]
 pub struct IntoIterMap<T: Integer, V> {
     front: Option<RangeEntry<T, V>>,

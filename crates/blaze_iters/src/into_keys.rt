@@ -12,7 +12,8 @@ use blaze_table::RangeTable;
 use std::iter::FusedIterator;
 use std::marker::Model;
 
-/// An iterator over the keys of an owned table, ascending. It is double-ended and clones no value.
+/// An iterator over the keys of an owned table, ascending. It is double-ended and clones no value. All keys take
+/// O(n + k) time, with n entries and k keys.
 #[derive(Drop)]
 pub struct IntoKeys<T: Integer, V> {
     pairs: IntoIterMap<T, V>,

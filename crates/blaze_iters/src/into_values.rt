@@ -16,7 +16,8 @@ use std::marker::Model;
 
 /// An iterator over the values of an owned table, one for each key, in the order of the keys. It is double-ended. The
 /// value is cloned for each key of a range except the one that is yielded last, which gets the stored value. If a clone
-/// fails, the iterator yields the error and then ends.
+/// fails, the iterator yields the error and then ends. All keys take O(n + k) time and at most k clones, with n entries
+/// and k keys.
 #[derive(Drop)]
 pub struct IntoValues<T: Integer, V> {
     pairs: IntoIterMap<T, V>,

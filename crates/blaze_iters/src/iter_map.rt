@@ -14,8 +14,8 @@ use blaze_table::{RangeEntry, RangeTable};
 use std::iter::FusedIterator;
 use std::marker::Model;
 
-/// An iterator over the keys of a stream's ranges, ascending, each with a carrier of its value. It allocates nothing,
-/// and each call takes O(1) calls of the stream.
+/// An iterator over the keys of a stream's ranges, ascending, each with a carrier of its value. It allocates nothing.
+/// Each call takes O(1) time and at most one call of the stream.
 #[derive(Drop)]
 pub struct IterMap<T: Integer, VC: ValueCarrier + Copy, I: SortedDisjointMap<T, VC>> {
     front: Option<RangeEntry<T, VC>>,

@@ -218,7 +218,8 @@ fn cut_back<T: Integer, V: Eq + Clone>(
 }
 
 /// Removes the last key, which must exist. It returns the key, its value and the new number of keys, where `len` is the
-/// old one. If the clone of the value fails, the entries are unchanged. It compares no keys of other entries.
+/// old one. If the clone of the value fails, the entries are unchanged. O(log n) with n entries, without comparing keys
+/// in the tree.
 pub fn cut_last<T: Integer, V: Eq + Clone>(
     entries: &mut Counted<T, V>,
     len: T::SafeLen,

@@ -81,7 +81,7 @@ impl<T: Integer, V: Eq> RangeTable<T, V> {
         self.entries.len()
     }
 
-    /// Returns the allocator of the table's memory.
+    /// Returns the allocator of the table's memory. O(1).
     pub fn allocator(&self) -> Global {
         self.entries.allocator()
     }
@@ -93,7 +93,8 @@ impl<T: Integer, V: Eq> RangeTable<T, V> {
         let _ = &self.entries;
     }
 
-    /// Returns the first entry as (first key, last key, value). It compares no keys.
+    /// Returns the first entry as (first key, last key, value). O(log n) with n entries, without comparing keys in the
+    /// tree.
     pub fn first(&self) -> Option<(T, T, &V)>
         ensures { option_map (shown_entry T.rank (λ v. v.now)) result
             ≡ slice_get self.now.entries 0 }
@@ -101,7 +102,8 @@ impl<T: Integer, V: Eq> RangeTable<T, V> {
         self.entries.first()
     }
 
-    /// Returns the last entry as (first key, last key, value). It compares no keys.
+    /// Returns the last entry as (first key, last key, value). O(log n) with n entries, without comparing keys in the
+    /// tree.
     pub fn last(&self) -> Option<(T, T, &V)>
         ensures { option_map (shown_entry T.rank (λ v. v.now)) result
             ≡ slice_get self.now.entries (length self.now.entries - 1) }
@@ -109,7 +111,8 @@ impl<T: Integer, V: Eq> RangeTable<T, V> {
         self.entries.last()
     }
 
-    /// Iterates over the entries, ascending, each as (first key, last key, value). It allocates nothing.
+    /// Iterates over the entries, ascending, each as (first key, last key, value). It allocates nothing. All n entries
+    /// take O(n) time.
     pub fn iter(&self) -> Iter<'_, T, V>
         ensures { result ≡ self.now.entries }
     {
@@ -169,7 +172,8 @@ impl<T: Integer, V: Eq + Drop> IntoIterator for RangeTable<T, V> {
 
     ghost into_iter_gives = { λ table iter. iter ≡ table.entries };
 
-    /// Returns the owned entries, ascending, each as (first key, last key, value). It allocates nothing.
+    /// Returns the owned entries, ascending, each as (first key, last key, value). It allocates nothing. All n entries
+    /// take O(n) time.
     fn into_iter(self) -> IntoIter<T, V> {
         self.entries.into_iter()
     }

@@ -19,7 +19,8 @@ impl<T: Integer, V> Counted<T, V> {
         self.tree.set_end(start, end);
     }
 
-    /// Sets the end of the last entry. It allocates nothing and compares no keys.
+    /// Sets the end of the last entry. It allocates nothing. O(log n) with n entries, without comparing keys in the
+    /// tree.
     pub fn set_last_end(&mut self, end: T)
         ensures { self.new
             ≡ record self.old { entries = with_last_end (T.rank end) self.old.entries } }
@@ -76,7 +77,8 @@ impl<T: Integer, V: Drop> Counted<T, V> {
         self.tree.remove(start)
     }
 
-    /// Removes the first entry and returns its value. It allocates nothing and compares no keys.
+    /// Removes the first entry and returns its value. It allocates nothing. O(log n) with n entries, without comparing
+    /// keys in the tree.
     pub fn remove_first(&mut self) -> V
         requires present { IsSome (slice_get self.old.entries 0) }
         ensures removed { IsFirstRemoved result self.old.entries self.new.entries }
@@ -90,7 +92,8 @@ impl<T: Integer, V: Drop> Counted<T, V> {
         self.tree.remove_first()
     }
 
-    /// Removes the last entry and returns its value. It allocates nothing and compares no keys.
+    /// Removes the last entry and returns its value. It allocates nothing. O(log n) with n entries, without comparing
+    /// keys in the tree.
     pub fn remove_last(&mut self) -> V
         requires present { IsSome (slice_get self.old.entries (length self.old.entries - 1)) }
         ensures removed { IsLastRemoved result self.old.entries self.new.entries }

@@ -56,7 +56,8 @@ impl<T: Integer, V: Clone> Counted<T, V> {
     }
 
     /// Returns the first and last key of the first entry. If the entry has more than one key, the result includes a
-    /// clone of its value. If the clone fails, the entries are unchanged. It compares no keys of other entries.
+    /// clone of its value. If the clone fails, the entries are unchanged. O(log n) with n entries, without comparing
+    /// keys in the tree.
     pub fn first_held(&mut self) -> Result<Option<RangeEntry<T, Option<V>>>, AllocError>
         ensures held { IfOk result (λ r.
             IsRangeCloned T.rank V.is_clone (slice_get self.old.entries 0) r) }
@@ -70,7 +71,8 @@ impl<T: Integer, V: Clone> Counted<T, V> {
     }
 
     /// Returns the first and last key of the last entry. If the entry has more than one key, the result includes a
-    /// clone of its value. If the clone fails, the entries are unchanged. It compares no keys of other entries.
+    /// clone of its value. If the clone fails, the entries are unchanged. O(log n) with n entries, without comparing
+    /// keys in the tree.
     pub fn last_held(&mut self) -> Result<Option<RangeEntry<T, Option<V>>>, AllocError>
         ensures held { IfOk result (λ r. IsRangeCloned T.rank V.is_clone
             (slice_get self.old.entries (length self.old.entries - 1)) r) }

@@ -76,7 +76,7 @@ impl<T: Integer, V> Tree<T, V> {
         change_end(&mut self.nodes, start, end);
     }
 
-    /// Sets the end of the last entry. It compares no keys.
+    /// Sets the end of the last entry. O(log n) with n entries, without comparing keys in the tree.
     pub fn set_last_end(&mut self, end: T)
         ensures { self.new ≡ with_last_end (T.rank end) self.old }
     {
@@ -130,7 +130,8 @@ impl<T: Integer, V: Drop> Tree<T, V> {
         value_of(self.nodes.remove(&Start(start)))
     }
 
-    /// Removes the first entry and returns its value. It allocates nothing and compares no keys.
+    /// Removes the first entry and returns its value. It allocates nothing. O(log n) with n entries, without comparing
+    /// keys in the tree.
     pub fn remove_first(&mut self) -> V
         requires present { IsSome (slice_get self.old 0) }
         ensures { IsFirstRemoved result self.old self.new }
@@ -141,7 +142,8 @@ impl<T: Integer, V: Drop> Tree<T, V> {
         }
     }
 
-    /// Removes the last entry and returns its value. It allocates nothing and compares no keys.
+    /// Removes the last entry and returns its value. It allocates nothing. O(log n) with n entries, without comparing
+    /// keys in the tree.
     pub fn remove_last(&mut self) -> V
         requires present { IsSome (slice_get self.old (length self.old - 1)) }
         ensures { IsLastRemoved result self.old self.new }

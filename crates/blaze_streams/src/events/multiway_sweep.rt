@@ -35,7 +35,7 @@ impl<T: Integer, VC: ValueCarrier> Model for MultiwaySweep<T, VC> {
 }
 
 impl<T: Integer, VC: ValueCarrier> MultiwaySweep<T, VC> {
-    /// Returns an iterator over events, which must ascend by time. It allocates nothing.
+    /// Returns an iterator over events, which must ascend by time. It allocates nothing. O(1).
     pub fn new(events: Vec<SweepEvent<T, VC>>) -> Self
         requires ascend { AscendInTime (shown_events T.rank VC.shown events.items) }
         ensures { result ≡ shown_events T.rank VC.shown events.items }

@@ -37,7 +37,7 @@ impl<T: Integer> Model for CanonIter<T> {
 
 impl<T: Integer> CanonIter<T> {
     /// Returns a stream of the ranges, in order. It requires that they obey the law of `SortedDisjoint`. It allocates
-    /// nothing.
+    /// nothing. O(1).
     pub fn new(ranges: Vec<RangeInclusive<T>>) -> Self
         requires range_set { IsRangeSet T.low T.high (shown_bare_ranges T.rank ranges.items) }
         ensures { result ≡ shown_bare_ranges T.rank ranges.items }

@@ -41,7 +41,7 @@ impl<T: Integer, VC: ValueCarrier> Model for CanonMapIter<T, VC> {
 
 impl<T: Integer, VC: ValueCarrier> CanonMapIter<T, VC> {
     /// Returns a stream of the items, in order. It requires that they obey the law of `SortedDisjointMap`. It allocates
-    /// nothing.
+    /// nothing. O(1).
     pub fn new(items: Vec<(RangeInclusive<T>, VC)>) -> Self
         requires range_map { IsRangeMap VC.Value.eq T.low T.high (shown_ranges T.rank VC.shown items.items) }
         ensures { result ≡ shown_ranges T.rank VC.shown items.items }

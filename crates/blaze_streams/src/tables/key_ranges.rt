@@ -98,8 +98,8 @@ fn last_ends<T: Integer, I: EntryEnds<T>>(
 }
 
 impl<'a, T: Integer, V: Eq> MapRangesIter<'a, T, V> {
-    /// Returns an iterator over the key ranges of a borrowed table. It allocates nothing. Iterating over all ranges
-    /// takes O(n) time with n entries.
+    /// Returns an iterator over the key ranges of a borrowed table. It allocates nothing. All ranges take O(n) time
+    /// with n entries.
     pub fn new(table: &'a RangeTable<T, V>) -> Self
         ensures { AreKeyRanges T.low T.high table.now.entries result }
     {
@@ -109,8 +109,8 @@ impl<'a, T: Integer, V: Eq> MapRangesIter<'a, T, V> {
 }
 
 impl<T: Integer, V: Eq + Drop> MapIntoRangesIter<T, V> {
-    /// Returns an iterator over the key ranges of an owned table. It allocates nothing. Iterating over all ranges takes
-    /// O(n) time with n entries.
+    /// Returns an iterator over the key ranges of an owned table. It allocates nothing. All ranges take O(n) time with
+    /// n entries.
     pub fn new(table: RangeTable<T, V>) -> Self
         ensures { AreKeyRanges T.low T.high table.entries result }
     {
@@ -119,14 +119,16 @@ impl<T: Integer, V: Eq + Drop> MapIntoRangesIter<T, V> {
     }
 }
 
-/// Returns an iterator over the key ranges of a borrowed table. It allocates nothing.
+/// Returns an iterator over the key ranges of a borrowed table. It allocates nothing. All ranges take O(n) time with n
+/// entries.
 pub fn ranges_of<T: Integer, V: Eq>(table: &RangeTable<T, V>) -> MapRangesIter<'_, T, V>
     ensures { AreKeyRanges T.low T.high table.now.entries result }
 {
     MapRangesIter::new(table)
 }
 
-/// Returns an iterator over the key ranges of an owned table. It allocates nothing.
+/// Returns an iterator over the key ranges of an owned table. It allocates nothing. All ranges take O(n) time with n
+/// entries.
 pub fn into_ranges_of<T: Integer, V: Eq + Drop>(table: RangeTable<T, V>) -> MapIntoRangesIter<T, V>
     ensures { AreKeyRanges T.low T.high table.entries result }
 {

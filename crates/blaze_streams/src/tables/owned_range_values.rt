@@ -36,6 +36,7 @@ impl<T: Integer, V: Eq + Drop> Model for OwnedRangeValuesIter<T, V> {
 
 impl<T: Integer, V: Eq + Drop> OwnedRangeValuesIter<T, V> {
     /// Returns an iterator over the table's entries. Neither this call nor `next` allocates, and no value is cloned.
+    /// All n entries take O(n) time.
     pub fn new(table: RangeTable<T, V>) -> Self
         ensures { result ≡ table.entries }
     {

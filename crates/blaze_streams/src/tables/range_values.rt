@@ -38,7 +38,7 @@ impl<'a, T: Integer, V: Eq> Model for RangeValuesIter<'a, T, V> {
 }
 
 impl<'a, T: Integer, V: Eq> RangeValuesIter<'a, T, V> {
-    /// Returns an iterator over the table's entries. It allocates nothing.
+    /// Returns an iterator over the table's entries. It allocates nothing. All n entries take O(n) time.
     pub fn new(table: &'a RangeTable<T, V>) -> Self
         ensures { result ≡ table.now.entries }
     {

@@ -12,8 +12,8 @@ use std::iter::FusedIterator;
 use std::marker::Model;
 use std::ops::RangeInclusive;
 
-/// An iterator over a borrowed table's entries, ascending: each range with a reference to its value. A seek takes O(log
-/// n) time with n entries.
+/// An iterator over a borrowed table's entries, ascending: each range with a reference to its value. A seek takes
+/// O(log n) time with n entries.
 #[derive(Drop)]
 pub struct SeekingRangeValuesIter<'a, T: Integer, V: Eq> {
     entries: Range<'a, T, V>,
@@ -36,7 +36,8 @@ impl<'a, T: Integer, V: Eq> Model for SeekingRangeValuesIter<'a, T, V> {
 }
 
 impl<'a, T: Integer, V: Eq> SeekingRangeValuesIter<'a, T, V> {
-    /// Returns an iterator over the table's entries. It allocates nothing. O(log n) with n entries.
+    /// Returns an iterator over the table's entries. It allocates nothing. The call takes O(log n) time, and all n
+    /// entries take O(n).
     pub fn new(table: &'a RangeTable<T, V>) -> Self
         ensures { result ≡ table.now.entries }
     {

@@ -114,14 +114,14 @@ impl<T: Integer> RangeSetBlaze<T> {
         &self.table
     }
 
-    /// Iterates over the ranges, ascending. It allocates nothing.
+    /// Iterates over the ranges, ascending. It allocates nothing. All n ranges take O(n) time.
     pub fn ranges(&self) -> RangesIter<'_, T>
         ensures { result ≡ self.now }
     {
         RangesIter::new(&self.table)
     }
 
-    /// Returns an iterator over the owned ranges, ascending. It allocates nothing.
+    /// Returns an iterator over the owned ranges, ascending. It allocates nothing. All n ranges take O(n) time.
     pub fn into_ranges(self) -> IntoRangesIter<T>
         ensures { result ≡ self }
     {

@@ -59,7 +59,7 @@ impl<T: Integer, V: Eq + Clone> RangeTable<T, V> {
 
     /// Removes the last key and returns it with its value, or `None` if the table is empty. It allocates nothing except
     /// the clone of the value, which it makes only if the key's entry has more keys. If the clone fails, the table is
-    /// unchanged. It compares no keys of other entries.
+    /// unchanged. O(log n) with n entries, without comparing keys in the tree.
     pub fn pop_last(&mut self) -> Result<Option<(T, V)>, AllocError>
         requires { ClonesAreAlike V.is_clone V.eq }
         ensures ok { IfOk result (λ popped. MatchOption popped ((self.old.entries ≡ [])
