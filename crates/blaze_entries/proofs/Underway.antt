@@ -55,8 +55,8 @@ module _ {V : Type 0} where
         ((omega (arith, ints, r.1), i.0), omega (arith, ints, i.1, overlap_none x r.1 under), rw (le_true x.lo l (omega (arith, ints, r.1)), le_false l x.hi under) i.2)
 
 module _ {V : Type 0} (test : V → Bool) (l h : ℤ) (len : ℤ) (n : ℕ) where
-  -- The results of a walk over entries: the plan, the number of keys outside the shared ones, and the number of lookups
-  -- after the first n.
+  -- The results of a walk over entries: the plan, the number of keys outside the shared ones, and the lookups after the
+  -- first n.
   pub record IsFound (es : List (Entry V)) (s : Seen) (left : ℤ) (looks : ℕ) : Type 0 where
     pub seen : IsSeenIn test l h es s
     pub kept : left +ℤ covered l h es ≡ len

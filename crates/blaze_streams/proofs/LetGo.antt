@@ -28,8 +28,7 @@ module _ {A B : Type 0} (eq : B → B → Bool) (s high : ℤ) (L L' : List (Ent
 
 -- ---- the keys that a join does not select
 
--- If a join does not select a key at which one of two lists has a value, it selects no key at which the left list has
--- none.
+-- If a join does not select a key at which one of two lists has a value, it selects no key without a left value.
 left_absent : {A B : Type 0} (kind : JoinKind) (x : Option A) (y : Option B) → is_joined kind x y ≡ false → (is_some x || is_some y) ≡ true → (z : Option B) → paired {A = A} kind None z ≡ None
 left_absent Inner x y n one z = refl
 left_absent Left x y n one z = refl

@@ -101,7 +101,7 @@ module _ {A B : Type 0} (eqa : A → A → Bool) (eqb : B → B → Bool) (l x :
   has_end [] R t p end = cc
   has_end (e ∷ es) R t p end = let here = ends e l x p in (omega (arith, ints, here.0, end.0), omega (arith, ints, here.1, end.1))
 
--- If the right list starts no later than the left one, its first range is taken whole, where the left value does not
+-- If the right list starts no later than the left one, its first range is taken whole. There the left value must not
 -- affect the choice.
 pub right_first_taken : {A B V : Type 0} (eqb : B → B → Bool) (eq : V → V → Bool) (choose : Option A → Option B → Option V) (L L' : List (Entry A)) (R R' : List (Entry B)) (r y : ℤ) (value : Option V)
     → IsCanonical eqb R → lesser (first_key R) (first_key L) ≡ first_key R → Some (r, y) ≡ option_map range_in (first_entry R)

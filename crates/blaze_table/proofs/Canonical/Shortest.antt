@@ -6,8 +6,7 @@ use Rattle.blaze_table.proofs.Canonical.Runs.{canonical, in_order}
 use Rattle.blaze_table.proofs.Canonical.Unique.{unique}
 
 module _ {V : Type 0} where
-  -- if a list has no value at a key, its first entry does not contain the key, and the other entries have no value at
-  -- it
+  -- If a list has no value at a key, its first entry does not contain the key. The other entries have no value at it.
   none_first : (f : Entry V) (fs : List (Entry V)) (k : ℤ) → at (f ∷ fs) k ≡ None → holds f k ≡ false
   none_first f fs k p = by_test (holds f k) p
     where

@@ -14,7 +14,7 @@ use blaze_int::compare::length;
 use blaze_int::{Integer, SafeLength};
 use std::alloc::{AllocError, Global};
 
-/// The inserts of a fill: the starts of its entries, and the joints. A joint is the start of an entry that is to be
+/// The inserts of a fill: the starts of its entries, and the joints. A joint is the start of an entry that must be
 /// joined with the previous one.
 #[derive(Drop)]
 pub struct Made<T> {
