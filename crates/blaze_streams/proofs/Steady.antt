@@ -68,7 +68,7 @@ module _ {A : Type 0} where
     starts_there s [] c p = cc
     starts_there s (e ∷ es) c p = let u : e.lo ≡ s = same_some e.lo s p in (e.value, at_in e es s (omega (arith, ints)) (omega (arith, ints, c.0)))
 
-    -- at the result of `steady_to`, the value changes
+    -- if the first range ends at t or starts right above it, the values at t and right above t differ
     pub changes : (laws : IsEquivalence eq) (es : List (Entry A)) (t : ℤ) → IsCanonical eq es → Stops t es → SameOption eq (at es t) (at es (t +ℤ pos 1)) → ⊥
     changes laws [] t c s h = s
     changes laws (e ∷ es) t c s h = ⊎_elim

@@ -11,7 +11,7 @@ use Rattle.blaze_table.proofs.Fills.Puts.{IsPut, put_in}
 use Rattle.blaze_table.proofs.Fills.TakenBack.{goes_back_more}
 
 module _ {V : Type 0} where
-  -- at a key that is already filled, a longer fill gives the same value
+  -- up to the end of a fill, a longer fill gives the same values
   filled_less : (content : ℤ → Option V) (v : V) (l m h : ℤ) → m ≤ℤ h → (k : ℤ) → k ≤ℤ m → filled l m v content k ≡ filled l h v content k
   filled_less content v l m h o k u = by_lt_z k l
       (λ a. filled_under content v l m k a ∙ sym (filled_under content v l h k a))

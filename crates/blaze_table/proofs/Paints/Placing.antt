@@ -32,7 +32,7 @@ module _ {V : Type 0} where
   put_back p old c new n q r = r ∙ ap (without p.lo) q ∙ without_with p old n
 
 module _ {V : Type 0} (eq : V → V → Bool) where
-  -- an entry that starts above an entry's end is after it
+  -- each start is above the bound of the list
   over_later : (b l : ℤ) (g : Entry V) (es : List (Entry V)) → IsAbove b es → IsCanonical eq es → start_at l es ≡ Some g → b <ℤ l
   over_later b l g [] a c p = absurd (none_some p)
     where
