@@ -122,8 +122,7 @@ impl<T: Integer, V: Eq + Clone> RangeMapBlaze<T, V> {
     }
 
     /// Paints the entries of `other`, ascending: where both maps have a value, that of `other` remains. Values are moved. An
-    /// entry of this map keeps its stored value if each range of `other` either does not touch it, or is inside it with an equal
-    /// value.
+    /// entry of this map keeps its stored value if no range of `other` touches it, except ranges inside it with an equal value.
     ///
     /// Does not allocate if `other` is empty. If an allocation fails, a first part of the entries is painted, perhaps none, and
     /// the others are dropped. O(log n) for each of the m entries of `other` and each entry that it touches, for n entries.
@@ -149,7 +148,7 @@ impl<T: Integer, V: Eq + Clone> RangeMapBlaze<T, V> {
     }
 
     /// Paints clones of the entries of `other`, ascending: where both maps have a value, that of `other` remains. An entry of
-    /// this map keeps its stored value if each range of `other` either does not touch it, or is inside it with an equal value.
+    /// this map keeps its stored value if no range of `other` touches it, except ranges inside it with an equal value.
     ///
     /// Does not allocate if `other` is empty. If an allocation fails, a first part of the entries is painted, perhaps none. O(log
     /// n) for each of the m entries of `other` and each entry that it touches, for n entries.

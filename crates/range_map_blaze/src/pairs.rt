@@ -1,4 +1,5 @@
-//! Pairs of a key or a range with an owned or a borrowed value, as first key, last key and value, and maps of lists of them.
+//! Pairs of a key or a range with an owned or a borrowed value, and maps of lists of them. A list has a first key, a last key and
+//! a value for each pair.
 ghost use Rattle.std.specs.Iterator.{IsFiniteIterable};
 ghost use Rattle.std.specs.Prelude.{◌≡◌, [], ◌∷◌, ◌++◌, map, true, IfOk, OnOk};
 ghost use Rattle.blaze_streams.specs.Ranges.{shown_range};

@@ -1,5 +1,5 @@
-//! A range of keys changed by a function. The function is called at every piece of the range first, and then the pieces are
-//! edited, so that an error of the function changes nothing.
+//! A range of keys changed by a function. All calls of the function come first, and then the pieces are edited, so that an error
+//! of the function changes nothing.
 ghost use Rattle.std.specs.Option.{option_eq};
 ghost use Rattle.std.specs.Prelude.{◌≡◌, ◌⊎◌, ◌<ℤ◌, ◌≤ℤ◌, ℤ, pos, ◌+ℤ◌, Some, None, Ok, IfOk, OnOk, OnErr};
 ghost use Rattle.blaze_int.specs.Bounds.{start_rank, end_rank};
@@ -25,10 +25,10 @@ use std::ops::RangeBounds;
 impl<T: Integer, V: Eq + Clone> RangeMapBlaze<T, V> {
     /// Changes the keys in the range by a function of their values.
     ///
-    /// The pieces of the range are the longest ranges within it on which the map does not change: its entries and its gaps, cut
-    /// to the range. It calls `f` once for each piece, ascending, with the stored value, or with `None` for a gap. What `f`
-    /// returns is the value of all keys of the piece afterwards; `None` leaves them without a value. All calls are made before
-    /// the map is edited. Bounds that name no key call and change nothing.
+    /// The pieces of the range are the longest ranges within it on which the map does not change. They are its entries and its
+    /// gaps, cut to the range. It calls `f` once for each piece, ascending, with the stored value, or with `None` for a gap. What
+    /// `f` returns is the value of all keys of the piece afterwards; `None` leaves them without a value. All calls are made
+    /// before the map is edited. Bounds that name no key call and change nothing.
     ///
     /// A piece whose result equals its old value is not edited and does not allocate. If `f` returns `Err`, or the list of
     /// results can't be allocated, the map is unchanged. If a later allocation fails, the pieces up to one of them have their new

@@ -27,8 +27,8 @@ pub extern "C" fn range_map_equal_unchecked(
     is_equal_to(alloc, map_or(a.as_ref(), &empty), b)
 }
 
-/// Returns -1, 0 or 1 if a is less than, equal to or greater than b. The order is that of the lists of (key, value) pairs: by
-/// key, then by value, and a list is greater than each of its prefixes. O(n + m) for n and m entries.
+/// Returns -1, 0 or 1 if a is less than, equal to or greater than b, as lists of (key, value) pairs. Pairs compare by key, then
+/// by value, and a list is greater than each of its prefixes. O(n + m) for n and m entries.
 #[unsafe(no_mangle)]
 pub extern "C" fn range_map_compare_unchecked(
     alloc: Global,

@@ -43,8 +43,8 @@ pub fn each_pair_once<T: Integer, VC: ValueCarrier + Copy, I: BothEnds<T, VC>>()
     ensures { EachOnce (shown_key_value VC.shown) (pairs_left T.of_rank I.left) }
 {}
 
-/// `next` and `next_back` of an owned iterator, in any order, give each pair once, with a value that is `==` to the stored one,
-/// if no clone fails. After the last pair, or a failed clone, they always give `None`.
+/// `next` and `next_back` of an owned iterator, in any order, give each pair once, if no clone fails. Its value is `==` to the
+/// stored one. After the last pair, or a failed clone, they always give `None`.
 pub fn each_owned_pair_once<T: Integer, V: Eq>()
     ensures { EachOnceOwned T.of_rank V.eq }
 {}

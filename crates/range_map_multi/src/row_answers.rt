@@ -1,5 +1,5 @@
 //! The results of a closure at the segments of many lists, whose ranges have the positions of their items. The segments are made
-//! one at a time: O(n + s k) for n ranges in k lists and s segments, with O(k) memory besides the result.
+//! one at a time. This is O(n + s k) for n ranges in k lists and s segments, with O(k) memory besides the result.
 ghost use Rattle.std.specs.Prelude.{[], ◌<◌, length, map, is_some, IfOk};
 ghost use Rattle.std.specs.List.{list_all, list_any};
 ghost use Rattle.range_map_multi.specs.ManyJoins.{shown_row, shown_full_row, IsCallableAtRows};

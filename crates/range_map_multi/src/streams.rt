@@ -121,7 +121,7 @@ pub trait MultiwaySortedDisjointMap<T: Integer, VC: ValueCarrier>: Sized {
         ensures { IfOk result (λ new. IsManyJoined (λ a. shown_row (λ c. VC.shown c.now) a.0.now)
             F.FnMut VC.Value.eq T.low T.high (list_any is_some) W.eq f (lists self) new) };
 
-    /// Returns the events of the streams, ascending by time: each range of a stream gives a start and an end, with the position
+    /// Returns the events of the streams, ascending by time. Each range of a stream gives a start and an end, with the position
     /// of its stream, from 0. A start comes at its first key, and an end after its last key. If r is the rank of the key, a start
     /// has the time 2 r, and an end 2 r + 1.
     ///

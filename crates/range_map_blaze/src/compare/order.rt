@@ -109,9 +109,9 @@ impl<T: Integer, V: Ord> Ord for RangeMapBlaze<T, V> {
 
     ghost matches_eq = { λ m n. equal_maps_tie V.eq V.cmp V.matches_eq m.entries n.entries };
 
-    /// Returns the lexicographic order of the lists of (key, value) pairs: by key, then by the values' own order, and a list is
-    /// greater than each of its prefixes. Returns `Equal` exactly if the maps are equal. Does not allocate. O(n + m) for n and m
-    /// entries.
+    /// Returns the lexicographic order of the lists of (key, value) pairs. Pairs compare by key, then by the values' own order,
+    /// and a list is greater than each of its prefixes. Returns `Equal` exactly if the maps are equal. Does not allocate. O(n +
+    /// m) for n and m entries.
     ///
     /// ```
     /// map.cmp(&other); // Less

@@ -9,7 +9,7 @@ use blaze_int::Integer;
 use blaze_streams::SortedDisjoint;
 use std::alloc::AllocError;
 
-/// Cuts ranges out of a map, one by one, until more than an eighth of its entries were removed: from there on, one merge of both
+/// Cuts ranges out of a map, one by one. It stops when more than an eighth of the map's entries were removed, since a merge then
 /// costs less. Returns the map, and whether every range was cut out.
 ///
 /// For n entries each range is O(log n), and O(log n) for each entry that is removed. A value is cloned only if a range is inside

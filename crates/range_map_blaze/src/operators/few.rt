@@ -9,9 +9,9 @@ pub fn are_few(few: usize, len: usize) -> bool {
     few <= len / 16
 }
 
-/// Whether a table's ranges cost less than a merge, each by a search in another table, and one for each entry of that table that
-/// it covers. If they have fewer keys than an eighth of the other's, they are assumed to cover few of its entries. Otherwise
-/// their entries are counted, by a search for each range.
+/// Whether a table's ranges cost less than a merge, each by a search in another table and one for each entry there that it
+/// covers. If they have fewer keys than an eighth of the other's, they are assumed to cover few of its entries. Otherwise their
+/// entries are counted, by a search for each range.
 pub fn is_narrow<T: Integer, V: Eq + Clone, W: Eq + Clone>(
     table: &RangeTable<T, V>,
     other: &RangeTable<T, W>,

@@ -21,7 +21,7 @@ enum Path {
     Merge,
 }
 
-/// The path for two maps. Few entries are painted or filled in only if they cover few others: a paint removes each of those by a
+/// The path for two maps. Few entries are painted or filled in only if they cover few others. A paint removes each of those by a
 /// search, and a fill searches for each gap between them. A paint can stop early, so an estimate is enough for it. A fill can't,
 /// so the covered entries are counted.
 fn path_for<T: Integer, V: Eq + Clone>(left: &RangeTable<T, V>, right: &RangeTable<T, V>) -> Path {
