@@ -30,9 +30,16 @@ pub trait MultiwayRangeMapBlazeRef<T: Integer, V: Eq + Clone>: Sized {
     // The entries of each map, first to last.
     ghost lists: { Self → List (List (Entry V)) };
 
-    /// Each key that a map has, with the value of the last map that has it; of no maps nothing. Each entry of the answer takes
-    /// one clone of its value. With n entries in k maps it takes O(n log k) steps. A map that has 16 entries for each of all the
-    /// others' is cloned once, values too; where those cover few of its entries each costs a few searches, and a clone for each gap.
+    /// Returns the keys that at least one map has, with the value of the last map that has it; the empty map for no maps. Each
+    /// entry of the result has a clone of its value.
+    ///
+    /// Allocates. If an allocation fails, the maps are unchanged. O(n log k) for n entries in k maps. A map with at least 16
+    /// entries for each entry of all the others is cloned. If the others cover few of its entries, each of theirs is then only
+    /// O(log n), and a clone for each gap that it fills.
+    ///
+    /// ```
+    /// [&map, &other].union(alloc)?; // (10..=11, 'a'), (12..=15, 'b'), (30..=39, 'c')
+    /// ```
     fn union(self, alloc: Global) -> Result<RangeMapBlaze<T, V>, AllocError>
         requires { ClonesAreAlike V.is_clone V.eq }
         ensures { IfOk result (IsMade (IsChosenOfMany V.eq T.low T.high last_value (lists self))) };
@@ -51,8 +58,14 @@ pub trait MultiwayRangeMapBlazeRef<T: Integer, V: Eq + Clone>: Sized {
         requires some { 0 < length (lists self) }
         ensures { IfOk result (IsMade (IsChosenOfMany V.eq T.low T.high last_of_all (lists self))) };
 
-    /// Each key that an odd number of maps have, with the value of the last map that has it; of no maps nothing. Each entry of
-    /// the answer takes one clone of its value. With n entries in k maps it takes O(n log k) steps.
+    /// Returns the keys that an odd number of maps have, with the value of the last map that has it; the empty map for no maps.
+    /// Each entry of the result has a clone of its value.
+    ///
+    /// Allocates. If an allocation fails, the maps are unchanged. O(n log k) for n entries in k maps.
+    ///
+    /// ```
+    /// [&map, &other].symmetric_difference(alloc)?; // (10..=11, 'a'), (30..=39, 'c')
+    /// ```
     fn symmetric_difference(self, alloc: Global) -> Result<RangeMapBlaze<T, V>, AllocError>
         requires { ClonesAreAlike V.is_clone V.eq }
         ensures { IfOk result (IsMade (IsChosenOfMany V.eq T.low T.high last_of_odd (lists self))) };
@@ -180,10 +193,16 @@ pub trait MultiwayRangeMapBlaze<T: Integer, V: Eq + Clone>: Sized {
     // The entries of each map, first to last.
     ghost lists: { Self → List (List (Entry V)) };
 
-    /// Each key that a map has, with the value of the last map that has it; of no maps nothing. Each entry of the answer takes
-    /// one clone of its value. With n entries in k maps it takes O(n log k) steps. A map that has 16 entries for each of all the
-    /// others' is taken as it is, with its own values; where those cover few of its entries each costs a few searches, and a clone
-    /// for each gap.
+    /// Returns the keys that at least one map has, with the value of the last map that has it; the empty map for no maps. Each
+    /// entry of the result has a clone of its value, except in the next case.
+    ///
+    /// Allocates. If an allocation fails, the maps are dropped. O(n log k) for n entries in k maps. A map with at least 16
+    /// entries for each entry of all the others is changed in place, and keeps its own values. If the others cover few of its
+    /// entries, each of theirs is then only O(log n), and a clone for each gap that it fills.
+    ///
+    /// ```
+    /// [map, other].union(alloc)?; // (10..=11, 'a'), (12..=15, 'b'), (30..=39, 'c')
+    /// ```
     fn union(self, alloc: Global) -> Result<RangeMapBlaze<T, V>, AllocError>
         requires { ClonesAreAlike V.is_clone V.eq }
         ensures { IfOk result (IsMade (IsChosenOfMany V.eq T.low T.high last_value (lists self))) };
@@ -202,8 +221,14 @@ pub trait MultiwayRangeMapBlaze<T: Integer, V: Eq + Clone>: Sized {
         requires some { 0 < length (lists self) }
         ensures { IfOk result (IsMade (IsChosenOfMany V.eq T.low T.high last_of_all (lists self))) };
 
-    /// Each key that an odd number of maps have, with the value of the last map that has it; of no maps nothing. Each entry of
-    /// the answer takes one clone of its value. With n entries in k maps it takes O(n log k) steps.
+    /// Returns the keys that an odd number of maps have, with the value of the last map that has it; the empty map for no maps.
+    /// Each entry of the result has a clone of its value.
+    ///
+    /// Allocates. If an allocation fails, the maps are dropped. O(n log k) for n entries in k maps.
+    ///
+    /// ```
+    /// [map, other].symmetric_difference(alloc)?; // (10..=11, 'a'), (30..=39, 'c')
+    /// ```
     fn symmetric_difference(self, alloc: Global) -> Result<RangeMapBlaze<T, V>, AllocError>
         requires { ClonesAreAlike V.is_clone V.eq }
         ensures { IfOk result (IsMade (IsChosenOfMany V.eq T.low T.high last_of_odd (lists self))) };
