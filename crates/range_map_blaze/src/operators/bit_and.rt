@@ -35,6 +35,12 @@ impl<T: Integer, V: Eq + Clone> BitAnd for RangeMapBlaze<T, V> {
     }
 }
 
+/// `left & &right` is the intersection: the keys that have a value in both maps, with the value of `right`. Allocates. If an
+/// allocation fails, `right` is unchanged and `left` is dropped. O(n + m) for n and m entries, or less, as for two owned maps.
+///
+/// ```
+/// (map & &other)?; // (12..=15, 'b')
+/// ```
 impl<'b, T: Integer, V: Eq + Clone> BitAnd<&'b RangeMapBlaze<T, V>> for RangeMapBlaze<T, V> {
     type Output = Result<RangeMapBlaze<T, V>, AllocError>;
 
@@ -48,6 +54,12 @@ impl<'b, T: Integer, V: Eq + Clone> BitAnd<&'b RangeMapBlaze<T, V>> for RangeMap
     }
 }
 
+/// `&left & right` is the intersection: the keys that have a value in both maps, with the value of `right`. Allocates. If an
+/// allocation fails, `left` is unchanged and `right` is dropped. O(n + m) for n and m entries, or less, as for two owned maps.
+///
+/// ```
+/// (&map & other)?; // (12..=15, 'b')
+/// ```
 impl<'a, T: Integer, V: Eq + Clone> BitAnd<RangeMapBlaze<T, V>> for &'a RangeMapBlaze<T, V> {
     type Output = Result<RangeMapBlaze<T, V>, AllocError>;
 
@@ -61,6 +73,12 @@ impl<'a, T: Integer, V: Eq + Clone> BitAnd<RangeMapBlaze<T, V>> for &'a RangeMap
     }
 }
 
+/// `&left & &right` is the intersection: the keys that have a value in both maps, with the value of `right`. Allocates. If an
+/// allocation fails, both are unchanged. O(n + m) for n and m entries, or less, as for two owned maps.
+///
+/// ```
+/// (&map & &other)?; // (12..=15, 'b')
+/// ```
 impl<'a, 'b, T: Integer, V: Eq + Clone> BitAnd<&'b RangeMapBlaze<T, V>>
     for &'a RangeMapBlaze<T, V> {
     type Output = Result<RangeMapBlaze<T, V>, AllocError>;
@@ -98,6 +116,13 @@ impl<T: Integer, V: Eq + Clone> BitAnd<RangeSetBlaze<T>> for RangeMapBlaze<T, V>
     }
 }
 
+/// `map & &keys` has the keys of the map that are in the set, with their values. Allocates. If an allocation fails, the set is
+/// unchanged and the map is dropped. O(n + m) for n entries and m ranges, or less, as for an owned map and set.
+///
+/// ```
+/// let keys = RangeSetBlaze::from_ranges(alloc, [0..=11, 20..=31])?;
+/// (map & &keys)?; // (10..=11, 'a'), (30..=31, 'c')
+/// ```
 impl<'b, T: Integer, V: Eq + Clone> BitAnd<&'b RangeSetBlaze<T>> for RangeMapBlaze<T, V> {
     type Output = Result<RangeMapBlaze<T, V>, AllocError>;
 
@@ -111,6 +136,13 @@ impl<'b, T: Integer, V: Eq + Clone> BitAnd<&'b RangeSetBlaze<T>> for RangeMapBla
     }
 }
 
+/// `&map & keys` has the keys of the map that are in the set, with their values. Allocates. If an allocation fails, the map is
+/// unchanged and the set is dropped. O(n + m) for n entries and m ranges, or less, as for an owned map and set.
+///
+/// ```
+/// let keys = RangeSetBlaze::from_ranges(alloc, [0..=11, 20..=31])?;
+/// (&map & keys)?; // (10..=11, 'a'), (30..=31, 'c')
+/// ```
 impl<'a, T: Integer, V: Eq + Clone> BitAnd<RangeSetBlaze<T>> for &'a RangeMapBlaze<T, V> {
     type Output = Result<RangeMapBlaze<T, V>, AllocError>;
 
@@ -124,6 +156,13 @@ impl<'a, T: Integer, V: Eq + Clone> BitAnd<RangeSetBlaze<T>> for &'a RangeMapBla
     }
 }
 
+/// `&map & &keys` has the keys of the map that are in the set, with their values. Allocates. If an allocation fails, both are
+/// unchanged. O(n + m) for n entries and m ranges, or less, as for an owned map and set.
+///
+/// ```
+/// let keys = RangeSetBlaze::from_ranges(alloc, [0..=11, 20..=31])?;
+/// (&map & &keys)?; // (10..=11, 'a'), (30..=31, 'c')
+/// ```
 impl<'a, 'b, T: Integer, V: Eq + Clone> BitAnd<&'b RangeSetBlaze<T>> for &'a RangeMapBlaze<T, V> {
     type Output = Result<RangeMapBlaze<T, V>, AllocError>;
 

@@ -35,6 +35,12 @@ impl<T: Integer, V: Eq + Clone> BitOr for RangeMapBlaze<T, V> {
     }
 }
 
+/// `left | &right` is the union: the keys of both maps, with the value of `right` where both have one. Allocates. If an
+/// allocation fails, `right` is unchanged and `left` is dropped. O(n + m) for n and m entries, or less, as for two owned maps.
+///
+/// ```
+/// (map | &other)?; // (10..=11, 'a'), (12..=15, 'b'), (30..=39, 'c')
+/// ```
 impl<'b, T: Integer, V: Eq + Clone> BitOr<&'b RangeMapBlaze<T, V>> for RangeMapBlaze<T, V> {
     type Output = Result<RangeMapBlaze<T, V>, AllocError>;
 
@@ -48,6 +54,12 @@ impl<'b, T: Integer, V: Eq + Clone> BitOr<&'b RangeMapBlaze<T, V>> for RangeMapB
     }
 }
 
+/// `&left | right` is the union: the keys of both maps, with the value of `right` where both have one. Allocates. If an
+/// allocation fails, `left` is unchanged and `right` is dropped. O(n + m) for n and m entries, or less, as for two owned maps.
+///
+/// ```
+/// (&map | other)?; // (10..=11, 'a'), (12..=15, 'b'), (30..=39, 'c')
+/// ```
 impl<'a, T: Integer, V: Eq + Clone> BitOr<RangeMapBlaze<T, V>> for &'a RangeMapBlaze<T, V> {
     type Output = Result<RangeMapBlaze<T, V>, AllocError>;
 
@@ -61,6 +73,12 @@ impl<'a, T: Integer, V: Eq + Clone> BitOr<RangeMapBlaze<T, V>> for &'a RangeMapB
     }
 }
 
+/// `&left | &right` is the union: the keys of both maps, with the value of `right` where both have one. Allocates. If an
+/// allocation fails, both are unchanged. O(n + m) for n and m entries, or less, as for two owned maps.
+///
+/// ```
+/// (&map | &other)?; // (10..=11, 'a'), (12..=15, 'b'), (30..=39, 'c')
+/// ```
 impl<'a, 'b, T: Integer, V: Eq + Clone> BitOr<&'b RangeMapBlaze<T, V>> for &'a RangeMapBlaze<T, V> {
     type Output = Result<RangeMapBlaze<T, V>, AllocError>;
 

@@ -40,6 +40,13 @@ impl<T: Integer, V: Eq + Clone> BitXor for RangeMapBlaze<T, V> {
     }
 }
 
+/// `left ^ &right` is the symmetric difference: the keys that have a value in exactly one of the maps, with that value.
+/// Allocates. If an allocation fails, `right` is unchanged and `left` is dropped. O(n + m) for n and m entries, or less, as for
+/// two owned maps.
+///
+/// ```
+/// (map ^ &other)?; // (10..=11, 'a'), (30..=39, 'c')
+/// ```
 impl<'b, T: Integer, V: Eq + Clone> BitXor<&'b RangeMapBlaze<T, V>> for RangeMapBlaze<T, V> {
     type Output = Result<RangeMapBlaze<T, V>, AllocError>;
 
@@ -53,6 +60,13 @@ impl<'b, T: Integer, V: Eq + Clone> BitXor<&'b RangeMapBlaze<T, V>> for RangeMap
     }
 }
 
+/// `&left ^ right` is the symmetric difference: the keys that have a value in exactly one of the maps, with that value.
+/// Allocates. If an allocation fails, `left` is unchanged and `right` is dropped. O(n + m) for n and m entries, or less, as for
+/// two owned maps.
+///
+/// ```
+/// (&map ^ other)?; // (10..=11, 'a'), (30..=39, 'c')
+/// ```
 impl<'a, T: Integer, V: Eq + Clone> BitXor<RangeMapBlaze<T, V>> for &'a RangeMapBlaze<T, V> {
     type Output = Result<RangeMapBlaze<T, V>, AllocError>;
 
@@ -66,6 +80,12 @@ impl<'a, T: Integer, V: Eq + Clone> BitXor<RangeMapBlaze<T, V>> for &'a RangeMap
     }
 }
 
+/// `&left ^ &right` is the symmetric difference: the keys that have a value in exactly one of the maps, with that value.
+/// Allocates. If an allocation fails, both are unchanged. O(n + m) for n and m entries, or less, as for two owned maps.
+///
+/// ```
+/// (&map ^ &other)?; // (10..=11, 'a'), (30..=39, 'c')
+/// ```
 impl<'a, 'b, T: Integer, V: Eq + Clone> BitXor<&'b RangeMapBlaze<T, V>>
     for &'a RangeMapBlaze<T, V> {
     type Output = Result<RangeMapBlaze<T, V>, AllocError>;

@@ -35,6 +35,12 @@ impl<T: Integer, V: Eq + Clone> Sub for RangeMapBlaze<T, V> {
     }
 }
 
+/// `left - &right` is the difference: the keys of `left` that have no value in `right`, with their values. Allocates. If an
+/// allocation fails, `right` is unchanged and `left` is dropped. O(n + m) for n and m entries, or less, as for two owned maps.
+///
+/// ```
+/// (map - &other)?; // (10..=11, 'a'), (30..=39, 'c')
+/// ```
 impl<'b, T: Integer, V: Eq + Clone> Sub<&'b RangeMapBlaze<T, V>> for RangeMapBlaze<T, V> {
     type Output = Result<RangeMapBlaze<T, V>, AllocError>;
 
@@ -48,6 +54,12 @@ impl<'b, T: Integer, V: Eq + Clone> Sub<&'b RangeMapBlaze<T, V>> for RangeMapBla
     }
 }
 
+/// `&left - right` is the difference: the keys of `left` that have no value in `right`, with their values. Allocates. If an
+/// allocation fails, `left` is unchanged and `right` is dropped. O(n + m) for n and m entries, or less, as for two owned maps.
+///
+/// ```
+/// (&map - other)?; // (10..=11, 'a'), (30..=39, 'c')
+/// ```
 impl<'a, T: Integer, V: Eq + Clone> Sub<RangeMapBlaze<T, V>> for &'a RangeMapBlaze<T, V> {
     type Output = Result<RangeMapBlaze<T, V>, AllocError>;
 
@@ -61,6 +73,12 @@ impl<'a, T: Integer, V: Eq + Clone> Sub<RangeMapBlaze<T, V>> for &'a RangeMapBla
     }
 }
 
+/// `&left - &right` is the difference: the keys of `left` that have no value in `right`, with their values. Allocates. If an
+/// allocation fails, both are unchanged. O(n + m) for n and m entries, or less, as for two owned maps.
+///
+/// ```
+/// (&map - &other)?; // (10..=11, 'a'), (30..=39, 'c')
+/// ```
 impl<'a, 'b, T: Integer, V: Eq + Clone> Sub<&'b RangeMapBlaze<T, V>> for &'a RangeMapBlaze<T, V> {
     type Output = Result<RangeMapBlaze<T, V>, AllocError>;
 
@@ -98,6 +116,13 @@ impl<T: Integer, V: Eq + Clone> Sub<RangeSetBlaze<T>> for RangeMapBlaze<T, V> {
     }
 }
 
+/// `map - &keys` has the keys of the map that are not in the set, with their values. Allocates. If an allocation fails, the set
+/// is unchanged and the map is dropped. O(n + m) for n entries and m ranges, or less, as for an owned map and set.
+///
+/// ```
+/// let keys = RangeSetBlaze::from_ranges(alloc, [0..=11, 20..=31])?;
+/// (map - &keys)?; // (12..=14, 'a'), (15..=15, 'b'), (32..=39, 'c')
+/// ```
 impl<'b, T: Integer, V: Eq + Clone> Sub<&'b RangeSetBlaze<T>> for RangeMapBlaze<T, V> {
     type Output = Result<RangeMapBlaze<T, V>, AllocError>;
 
@@ -111,6 +136,13 @@ impl<'b, T: Integer, V: Eq + Clone> Sub<&'b RangeSetBlaze<T>> for RangeMapBlaze<
     }
 }
 
+/// `&map - keys` has the keys of the map that are not in the set, with their values. Allocates. If an allocation fails, the map
+/// is unchanged and the set is dropped. O(n + m) for n entries and m ranges, or less, as for an owned map and set.
+///
+/// ```
+/// let keys = RangeSetBlaze::from_ranges(alloc, [0..=11, 20..=31])?;
+/// (&map - keys)?; // (12..=14, 'a'), (15..=15, 'b'), (32..=39, 'c')
+/// ```
 impl<'a, T: Integer, V: Eq + Clone> Sub<RangeSetBlaze<T>> for &'a RangeMapBlaze<T, V> {
     type Output = Result<RangeMapBlaze<T, V>, AllocError>;
 
@@ -124,6 +156,13 @@ impl<'a, T: Integer, V: Eq + Clone> Sub<RangeSetBlaze<T>> for &'a RangeMapBlaze<
     }
 }
 
+/// `&map - &keys` has the keys of the map that are not in the set, with their values. Allocates. If an allocation fails, both are
+/// unchanged. O(n + m) for n entries and m ranges, or less, as for an owned map and set.
+///
+/// ```
+/// let keys = RangeSetBlaze::from_ranges(alloc, [0..=11, 20..=31])?;
+/// (&map - &keys)?; // (12..=14, 'a'), (15..=15, 'b'), (32..=39, 'c')
+/// ```
 impl<'a, 'b, T: Integer, V: Eq + Clone> Sub<&'b RangeSetBlaze<T>> for &'a RangeMapBlaze<T, V> {
     type Output = Result<RangeMapBlaze<T, V>, AllocError>;
 
