@@ -29,7 +29,7 @@ use std::ops::{RangeBounds, RangeInclusive};
 /// `RangeMapBlaze::gaps` returns it.
 #[derive(Drop)]
 pub struct Gaps<'a, T: Integer, V: Eq> {
-    // The first and the last key that neither end has gone through. None where none is left.
+    // The first and the last key that neither end of the iterator has passed. `None` if every key was passed.
     left: Option<(T, T)>,
     entries: Overlapping<'a, T, V>,
 }

@@ -212,7 +212,7 @@ impl<T: Integer, V: Eq + Drop> RangeMapBlaze<T, V> {
 /// No call of the iterator allocates. `RangeMapBlaze::overlapping` returns it.
 #[derive(Drop)]
 pub struct Overlapping<'a, T: Integer, V: Eq> {
-    // None where the range has no key.
+    // `None` if the range has no key.
     entries: Option<Range<'a, T, V>>,
 }
 

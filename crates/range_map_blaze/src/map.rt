@@ -290,8 +290,8 @@ impl<T: Integer, V: Eq> RangeMapBlaze<T, V> {
         range_of(self.entry_at_or_above(key))
     }
 
-    // The first entry that ends at `key` or above it: first key, last key and value. The table finds the entry of a key or the
-    // next one above, but not either of them.
+    // The first entry that ends at `key` or above it: first key, last key and value. The table has two lookups for this: the
+    // entry of a key, and the next one above.
     pub(crate) fn entry_at_or_above(&self, key: T) -> Option<(T, T, &V)>
         ensures { option_map (shown_entry T.rank (λ v. v.now)) result
             ≡ find (λ e. int_le (T.rank key) e.hi) self.now.entries }
@@ -318,8 +318,8 @@ impl<T: Integer, V: Eq> RangeMapBlaze<T, V> {
         range_of(self.entry_at_or_below(key))
     }
 
-    // The last entry that starts at `key` or below it: first key, last key and value. The table finds the entry of a key or the
-    // next one below, but not either of them.
+    // The last entry that starts at `key` or below it: first key, last key and value. The table has two lookups for this: the
+    // entry of a key, and the next one below.
     fn entry_at_or_below(&self, key: T) -> Option<(T, T, &V)>
         ensures { option_map (shown_entry T.rank (λ v. v.now)) result
             ≡ last_below (T.rank key +ℤ pos 1) self.now.entries }

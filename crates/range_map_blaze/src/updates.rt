@@ -116,7 +116,7 @@ impl<T: Integer, V: Eq + Clone> RangeMapBlaze<T, V> {
 // The results of a function at the pieces so far.
 #[derive(Drop)]
 struct Asking<T: Integer, V, F> {
-    // Each range with the value that its keys get, or none, ascending. Pieces that keep what they have are left out.
+    // Each range with the value that its keys get, or `None`, ascending. Pieces that keep their value are left out.
     edits: Vec<(T, T, Option<V>)>,
     f: F,
 }
