@@ -1,3 +1,4 @@
 pub mod Addresses
 pub mod Blocks
+pub mod Dates
 pub mod Weekday

@@ -1,6 +1,9 @@
 //! Conversions between days and the dates of `jiff_core`, and the texts of days.
 ghost use Rattle.std.specs.Prelude.{◌≡◌};
+ghost use Rattle.std.specs.Fmt.{WritesOnOk};
 ghost use Rattle.jiff_core.specs.Date.{epoch_day};
+ghost use Rattle.jiff_core.specs.declared.civil.date.Date.{Date};
+ghost use Rattle.demo_keys.specs.Dates.{date_text};
 
 use crate::day::Day;
 use jiff_core::civil::Date;
@@ -26,7 +29,10 @@ impl From<Day> for Date {
 
 /// Prints the day as `YYYY-MM-DD`, with `-` before a year below 0.
 impl Display for Day {
-    fn fmt<W: fmt::Write>(&self, f: &mut Formatter<W>) -> fmt::Result {
+    fn fmt<W: fmt::Write>(&self, f: &mut Formatter<W>) -> fmt::Result
+        ensures text { (date : Date) → epoch_day date ≡ self.now
+            → WritesOnOk W.write_str_gives f.old result (date_text date) f.new }
+    {
         let Date { year, month, day } = Date::from(*self);
         let sign = if year < 0 { "-" } else { "" };
         let year = year.unsigned_abs();
