@@ -83,8 +83,14 @@ fn print_moves(rt: &HostRuntime, gone: &Map, new: &Map) -> Result<(), Fault> {
 fn print_other_values(rt: &HostRuntime, first: &Map, later: &Map) -> Result<(), Fault> {
     let (first, later) = (first.range_values(), later.range_values());
     for (bytes, (old, new)) in join_of(rt.alloc(), first, later, JoinKind::Inner)? {
-        if let (Some(old), Some(new)) = (old, new) && old != new {
-            println!(rt; "changed {:x}..={:x} {old} to {new}", bytes.start(), bytes.end())?;
+        if let (Some(old), Some(new)) = (old, new)
+            && old != new
+        {
+            println!(rt;
+                "changed {:x}..={:x} {old} to {new}",
+                bytes.start(),
+                bytes.end()
+            )?;
         }
     }
     Ok(())

@@ -20,15 +20,17 @@ kept year range = back_small w16 year (omega (arith, signed_arith, one_part year
 
 pub returns : goal.returns
 unfolding date_text
-returns g c = record { text = λ date e plain ok.
-    let same = epoch_day_injective date c.from-year.result (e ∙ sym c.from-year.ensures) in
-    let sign : c.if-year-lt0.sign.now ≡ sign_text (is_negative c.from-year.result.year) =
-        elim c.if-year-lt0.branch [
-          | then-year-lt0 w ↦ search rules
-          | else-year-lt0 w ↦ search rules
-        ] in
-    let year = c.from-year.result.year in
-    let abs : c.unsigned_abs-year.result ≡ unsigned_abs year = rw (kept year c.from-year.result.year_in) at c.unsigned_abs-year.ensures.value in
-    let styled = rw (c.laid_out.ensures, c.laid_out-2.ensures, c.laid_out-3.ensures) at c.write.ensures.writes plain ok in
-    let wrote = rw (zeros 4 c.unsigned_abs-year.result, zeros 2 c.from-year.result.month, zeros 2 c.from-year.result.day, sign, abs) at styled in
-    rw (same.0, same.1, same.2) wrote }
+returns g c = record {
+  text = λ date e plain ok.
+      let same = epoch_day_injective date c.from-year.result (e ∙ sym c.from-year.ensures) in
+      let sign : c.if-year-lt0.sign.now ≡ sign_text (is_negative c.from-year.result.year) =
+      elim c.if-year-lt0.branch [
+        | then-year-lt0 w ↦ search rules
+        | else-year-lt0 w ↦ search rules
+      ] in
+      let year = c.from-year.result.year in
+      let abs : c.unsigned_abs-year.result ≡ unsigned_abs year = rw (kept year c.from-year.result.year_in) at c.unsigned_abs-year.ensures.value in
+      let styled = rw (c.laid_out.ensures, c.laid_out-2.ensures, c.laid_out-3.ensures) at c.write.ensures.writes plain ok in
+      let wrote = rw (zeros 4 c.unsigned_abs-year.result, zeros 2 c.from-year.result.month, zeros 2 c.from-year.result.day, sign, abs) at styled in
+      rw (same.0, same.1, same.2) wrote;
+}
