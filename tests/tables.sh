@@ -118,6 +118,7 @@ for name in "${built[@]}"; do
     "$(program_of "$name")" <"$(from "$name")" >/dev/full || status=$?
     judge 1 "$status" "$name: an output that is full"
     { head -n 4 "$(from "$name")" && grep '^?' "$(from "$name")" || true; } >"$work/short"
+    if [ "$name" = regions ]; then { echo && head -n 3 "$(from regions)" | sed 's/ r--p / rw-p /'; } >>"$work/short"; fi
     judge 0 "$(status_of "$name" "$work/short")" "$name: a short table"
     cp "$work/printed" "$work/wanted"
     requests="$(REFUSE_ALL=1 REFUSE_TELL=1 LD_PRELOAD="$work/refuse.so" "$(program_of "$name")" <"$work/short" 2>&1 >/dev/null | sed -n 's/^requests=//p')"
