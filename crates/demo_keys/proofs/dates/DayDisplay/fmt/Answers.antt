@@ -1,4 +1,4 @@
-use Rattle.std.proofs.Common.{◌≡◌, ℕ, ◌^◌, false, [], refl, sym, ◌∙◌, arith, rules, to_z, of_z, w16, ℤ, unsigned_abs}
+use Rattle.std.proofs.Common.{◌≡◌, ℕ, ◌-◌, ◌^◌, false, [], refl, sym, ◌∙◌, arith, rules, to_z, of_z, w16, ℤ, unsigned_abs}
 use Rattle.std.proofs.Padding.{padded_integral_zeros}
 use Rattle.std.specs.Fmt.{decimal, format_spec, padded_integral, sign_text}
 use Rattle.std.specs.Int.{is_negative}
