@@ -4,6 +4,7 @@ ghost use Rattle.std.proofs.Common.{rules};
 ghost use Rattle.std.specs.Cmp.Rules.{comparing};
 ghost use Rattle.std.specs.Ordering.{on};
 
+use crate::maps::map_of;
 use crate::tables::by_both;
 use blaze_table::RangeTable;
 use range_map_blaze::RangeMapBlaze;
@@ -63,6 +64,31 @@ fn painted(rt: &HostRuntime, map: &mut Map) -> Result<(), AllocError> {
     let changed = map.ranges_insert(3..=4, Labelled(1, 'y'))?;
     let old = map.insert(3, Labelled(1, 'y'))?;
     let _ = println!(rt; "{changed} {old:?} {map}");
+    Ok(())
+}
+
+/// The labels: one call for each entry, with the stored value.
+fn labels(rt: &HostRuntime, map: &Map) {
+    let mut calls = 0u32;
+    let labels = map.transform_values(|value| {
+        calls = calls.wrapping_add(1);
+        value.1
+    });
+    let _ = println!(rt; "labels: {labels:?}; {calls} calls");
+}
+
+/// Tens with a label: touching tens with equal numbers are one entry, though their labels differ.
+fn tens(rt: &HostRuntime) -> Result<(), AllocError> {
+    let numbers = map_of(rt.alloc(), &[(1i64, 3, 10u32), (4, 6, 11), (8, 9, 20)])?;
+    let tens = numbers.transform_values(|number| {
+        Labelled(*number / 10, if *number % 2 == 0 { 'x' } else { 'y' })
+    })?;
+    let is_equal = tens.get(4).is_some_and(|value| *value == Labelled(1, '-'));
+    let _ = println!(rt;
+        "tens: {} entries, {} keys, {is_equal}",
+        tens.ranges_len(),
+        tens.len()
+    );
     Ok(())
 }
 
@@ -145,6 +171,8 @@ pub fn all(rt: &HostRuntime) -> Result<(), AllocError> {
     let mut map = RangeMapBlaze::new(rt.alloc());
     let _ = map.ranges_insert(1..=9, Labelled(1, 'x'))?;
     painted(rt, &mut map)?;
+    labels(rt, &map);
+    tens(rt)?;
     extended_by_pairs(rt, &mut map)?;
     extended_by_value(rt, &mut map)?;
     extended_by_lent(rt, &mut map, &map_of_pairs(rt.alloc())?)?;

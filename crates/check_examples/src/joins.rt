@@ -26,20 +26,32 @@ fn of_values(rt: &HostRuntime) -> Result<(), AllocError> {
     show(rt, "join_of", join_of(rt.alloc(), one, two, JoinKind::Full))
 }
 
-/// Prints segments.
+/// Prints the number of segments, then each of them.
 fn show_segments(rt: &HostRuntime, segments: Vec<Segment<i64>>) {
+    let _ = println!(rt; "{} segments", segments.len());
     for segment in segments {
         let _ = println!(rt; "{}..={} {:?}", segment.lo, segment.hi, segment.at);
     }
 }
 
-/// The segments of two lists.
-fn of_lists(rt: &HostRuntime) -> Result<(), AllocError> {
+/// The segments of three lists.
+fn of_three_lists(rt: &HostRuntime) -> Result<(), AllocError> {
     let alloc = rt.alloc();
     let first = vec![in alloc; (0, 9)]?;
     let second = vec![in alloc; (5, 14)]?;
-    let lists = vec![in alloc; first, second]?;
+    let third = vec![in alloc; (7, 8)]?;
+    let lists = vec![in alloc; first, second, third]?;
     show_segments(rt, segments(alloc, &lists)?);
+    Ok(())
+}
+
+/// The segments of a list with touching ranges and an empty list, and of an empty list alone.
+fn of_few_lists(rt: &HostRuntime) -> Result<(), AllocError> {
+    let alloc = rt.alloc();
+    let touching = vec![in alloc; (0, 3), (4, 6)]?;
+    let lists = vec![in alloc; touching, Vec::new(alloc)]?;
+    show_segments(rt, segments(alloc, &lists)?);
+    show_segments(rt, segments(alloc, &[Vec::new(alloc)])?);
     Ok(())
 }
 
@@ -51,5 +63,6 @@ pub fn all(rt: &HostRuntime) -> Result<(), AllocError> {
     lent(rt, JoinKind::Left, &one, &two)?;
     lent(rt, JoinKind::Inner, &one, &two)?;
     of_values(rt)?;
-    of_lists(rt)
+    of_three_lists(rt)?;
+    of_few_lists(rt)
 }

@@ -83,6 +83,16 @@ fn tens_of(rt: &HostRuntime, map: &Numbers) {
     let _ = println!(rt; "transform_values: {tens:?}; {calls} calls");
 }
 
+/// Half the number of each call, counted from 1: the calls ascend by entry, and touching equal results are one entry.
+fn halves_of_calls(rt: &HostRuntime, map: &Numbers) {
+    let mut calls = 0u32;
+    let halves = map.transform_values(|_| {
+        calls = calls.wrapping_add(1);
+        calls / 2
+    });
+    let _ = println!(rt; "transform_values: {halves:?}");
+}
+
 /// A map of a stream.
 fn of_stream(rt: &HostRuntime, map: &Letters) {
     let made = map.range_values().into_range_map_blaze(rt.alloc());
@@ -113,6 +123,8 @@ fn with_closures(rt: &HostRuntime) -> Result<(), AllocError> {
     let tens = map_of(alloc, &[(4, 8, 10)])?;
     sums(rt, &map_of(alloc, &[(1, 5, 1)])?, &tens);
     tens_of(rt, &map_of(alloc, &[(1, 3, 10), (4, 6, 11), (8, 9, 20)])?);
+    let ranges = [(1, 3, 10), (4, 6, 20), (7, 9, 30), (11, 12, 40)];
+    halves_of_calls(rt, &map_of(alloc, &ranges)?);
     Ok(())
 }
 

@@ -14,9 +14,9 @@ fn one(alloc: Global, start: i64, end: i64, value: Stubborn) -> Result<Map, Allo
     Ok(map)
 }
 
-/// Prints what a call answered, and what it left.
+/// Prints what a call returned, and what it left: the entries and the number of keys.
 fn show<X: Debug + Drop>(rt: &HostRuntime, call: &str, answer: Result<X, AllocError>, map: &Map) {
-    let _ = println!(rt; "{call}: {answer:?} {map}");
+    let _ = println!(rt; "{call}: {answer:?} {map}, {} keys", map.len());
 }
 
 /// Paints a range over the one range of a deaf value: a rest on either side wants a clone, one rest is moved.
@@ -56,18 +56,123 @@ fn updated(rt: &HostRuntime, start: i64, end: i64, number: u32) -> Result<(), Al
     Ok(())
 }
 
-/// A key taken out of an entry whose value is cloned for it, and a split that clones none.
-fn cut(rt: &HostRuntime, mut map: Map) {
-    let answer = map.pop_first();
-    show(rt, "pop_first", answer, &map);
-    let answer = map.split_off(10);
-    show(rt, "split_off", answer, &map);
+/// Removes single keys of the one entry of a deaf value: each call needs a clone and fails.
+fn cut(rt: &HostRuntime, map: &mut Map) {
+    show(rt, "remove", map.remove(5), map);
+    show(rt, "pop_first", map.pop_first(), map);
+    show(rt, "pop_last", map.pop_last(), map);
 }
 
-/// Pairs by value: the last key of an entry gets the value itself.
+/// Removes, takes and splits off parts of that entry, which needs a clone. A split above its last key needs none.
+fn parted(rt: &HostRuntime, map: &mut Map) {
+    show(rt, "ranges_remove", map.ranges_remove(4..=5), map);
+    show(rt, "ranges_take", map.ranges_take(4..=5), map);
+    for key in [4, 10] {
+        show(rt, "split_off", map.split_off(key), map);
+    }
+}
+
+/// Copies that map, and fills its gaps.
+fn copied(rt: &HostRuntime, map: &Map) {
+    show(rt, "clone", map.clone(), map);
+    show(rt, "fill_gaps", map.fill_gaps(), map);
+}
+
+/// Removes entries of one key, and splits off a whole entry: no value is cloned.
+fn moved(rt: &HostRuntime, map: &mut Map) -> Result<(), AllocError> {
+    for (start, end, n) in [(3, 3, 8), (5, 6, 9), (9, 9, 6)] {
+        let _ = map.ranges_insert(start..=end, deaf(n))?;
+    }
+    show(rt, "remove", map.remove(3), map);
+    show(rt, "pop_first", map.pop_first(), map);
+    show(rt, "pop_last", map.pop_last(), map);
+    show(rt, "split_off", map.split_off(5), map);
+    Ok(())
+}
+
+/// Appends a map up to its first deaf value: the other map is unchanged. `extend_from` clones nothing.
+fn extended(rt: &HostRuntime, map: &mut Map, mut other: Map) {
+    show(rt, "append", map.append(&mut other), map);
+    let _ = println!(rt; "{other}");
+    show(rt, "extend_from", map.extend_from(other), map);
+}
+
+/// Fills the gaps of a map with another map's entries, up to the first deaf value.
+fn extended_absent(rt: &HostRuntime, map: &mut Map, other: &Map) {
+    show(rt, "extend_absent", map.extend_absent(other), map);
+}
+
+/// Prints pairs, by value, from both ends. The last key of an entry gets the value itself; a failed clone ends the iterator.
 fn pairs(rt: &HostRuntime, map: Map) {
     let mut pairs = map.into_iter();
-    let _ = println!(rt; "into_iter: {:?} {:?}", pairs.next(), pairs.next_back());
+    let (first, last) = (pairs.next(), pairs.next_back());
+    let _ = println!(rt;
+        "into_iter: {first:?} {last:?} {:?} {:?}",
+        pairs.next(),
+        pairs.next()
+    );
+}
+
+/// Prints values, by value, the last one first.
+fn values(rt: &HostRuntime, map: Map) {
+    let mut values = map.into_values();
+    let (last, first) = (values.next_back(), values.next());
+    let _ = println!(rt; "into_values: {last:?} {first:?} {:?}", values.next_back());
+}
+
+/// Prints keys, by value: no value is cloned.
+fn keys(rt: &HostRuntime, map: Map) {
+    let mut keys = map.into_keys();
+    let _ = println!(rt;
+        "into_keys: {:?} {:?} {:?}",
+        keys.next(),
+        keys.next(),
+        keys.next()
+    );
+}
+
+/// Prints the first pair of a range, whose values are cloned before the first pair is asked for. No other value is cloned.
+fn ranges(rt: &HostRuntime, map: &Map) {
+    let without = map.range(5..=6).map(|mut pairs| pairs.next());
+    show(rt, "range", without, map);
+    let with = map.range(5..=7).map(|mut pairs| pairs.next());
+    show(rt, "range", with, map);
+}
+
+/// Makes the calls on one entry of a deaf value, and on entries that are moved.
+fn removals(rt: &HostRuntime) -> Result<(), AllocError> {
+    let mut map = one(rt.alloc(), 1, 9, deaf(7))?;
+    cut(rt, &mut map);
+    parted(rt, &mut map);
+    copied(rt, &map);
+    moved(rt, &mut one(rt.alloc(), 1, 1, deaf(7))?)
+}
+
+/// A map of two entries, of which the second has a deaf value.
+fn two(alloc: Global) -> Result<Map, AllocError> {
+    let ranges = vec![in alloc; (5..=5, heard(2)), (7..=7, deaf(7))]?;
+    RangeMapBlaze::from_ranges(alloc, ranges)
+}
+
+/// Extends maps by that one.
+fn extensions(rt: &HostRuntime) -> Result<(), AllocError> {
+    let alloc = rt.alloc();
+    extended(rt, &mut one(alloc, 1, 3, heard(1))?, two(alloc)?);
+    extended_absent(rt, &mut one(alloc, 1, 3, heard(1))?, &two(alloc)?);
+    Ok(())
+}
+
+/// Goes through maps by value.
+fn iterators(rt: &HostRuntime) -> Result<(), AllocError> {
+    let alloc = rt.alloc();
+    let mut map = one(alloc, 1, 1, deaf(7))?;
+    let _ = map.ranges_insert(3..=4, heard(8))?;
+    ranges(rt, &two(alloc)?);
+    pairs(rt, map);
+    pairs(rt, one(alloc, 1, 3, deaf(7))?);
+    values(rt, one(alloc, 1, 3, deaf(7))?);
+    keys(rt, one(alloc, 1, 3, deaf(7))?);
+    Ok(())
 }
 
 /// Makes all calls of this file.
@@ -82,7 +187,7 @@ pub fn all(rt: &HostRuntime) -> Result<(), AllocError> {
     for (end, number) in [(5, 8), (9, 8), (5, 7)] {
         updated(rt, 4, end, number)?;
     }
-    cut(rt, one(rt.alloc(), 1, 9, deaf(7))?);
-    pairs(rt, one(rt.alloc(), 1, 1, deaf(7))?);
-    Ok(())
+    removals(rt)?;
+    extensions(rt)?;
+    iterators(rt)
 }
