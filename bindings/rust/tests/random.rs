@@ -1,5 +1,5 @@
-//! Random calls against a `BTreeMap` with a pair for each key, each public call with a result that
-//! was written by hand, and a map in which several threads look up.
+//! Random calls against a `BTreeMap` with a pair for each key, and each public call with a result
+//! that was written by hand. Several threads look up in one map.
 //!
 //! No allocation fails here: the library calls the `malloc` of C, which a `#[global_allocator]`
 //! does not replace. The tests of the C header make each allocation fail in turn.
@@ -92,7 +92,7 @@ fn check_ends<T: PartialEq + std::fmt::Debug>(
     assert!(iter.next().is_none() && iter.next_back().is_none() && iter.next().is_none());
 }
 
-/// Compares all look-ups of keys near `lo` to `hi`.
+/// Compares all lookups of keys near `lo` to `hi`.
 fn check(choice: &mut Choice, map: &RangeMap, plain: &Plain, lo: i64, hi: i64) -> Outcome {
     let entries = entries_of(plain);
     assert!(map.range_values().eq(entries.iter().cloned()));
