@@ -13,7 +13,7 @@ fn lent(rt: &HostRuntime, kind: JoinKind, one: &Letters, two: &Letters) -> Resul
     show(rt, "join_of", made)
 }
 
-/// The same of streams whose carriers are values. The segment that a range ends with has the value itself, one before it a clone.
+/// The values of two owned streams at the segments of a join. The last segment of a range has the value itself, one before it a clone.
 fn of_values(rt: &HostRuntime) -> Result<(), AllocError> {
     let levels = vec![in rt.alloc(); (1..=9, Level(3))]?;
     let letters = vec![in rt.alloc(); (4..=5, Owned('a')), (6..=20, Owned('b'))]?;

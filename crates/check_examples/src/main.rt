@@ -1,6 +1,6 @@
-//! Worked examples of what no line of a script says, nor runs inside a call of its lines: tables, sets and streams, values that
-//! refuse to be cloned or are equal by a part of them, closures with a state. Each line of the output is the answer of a call,
-//! or an entry of what it made.
+//! Worked examples of calls that no line of a script makes: of tables, sets and streams; with values whose clone fails, or that
+//! are equal by a part of them; and with closures that have a state. Each line of the output is the result of a call, or an entry
+//! of a result.
 #![tactic(auto)]
 
 mod coarse;

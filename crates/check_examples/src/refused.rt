@@ -1,4 +1,4 @@
-//! Values that refuse to be cloned: what a refused call leaves, and calls that clone none of them.
+//! Values whose clone fails: the map after a failed call, and calls that clone none of them.
 use crate::stubborn::{Stubborn, deaf, heard};
 use blaze_table::RangeTable;
 use range_map_blaze::RangeMapBlaze;
@@ -19,7 +19,7 @@ fn show<X: Debug + Drop>(rt: &HostRuntime, call: &str, answer: Result<X, AllocEr
     let _ = println!(rt; "{call}: {answer:?} {map}, {} keys", map.len());
 }
 
-/// Paints a range over the one range of a deaf value: a rest on either side wants a clone, one rest is moved.
+/// Paints a range over the one range of a deaf value: rests on both sides need a clone, one rest is moved.
 fn painted(rt: &HostRuntime, start: i64, end: i64) -> Result<(), AllocError> {
     let mut map = one(rt.alloc(), 0, 9, deaf(7))?;
     let answer = map.ranges_insert(start..=end, heard(8));
@@ -27,7 +27,7 @@ fn painted(rt: &HostRuntime, start: i64, end: i64) -> Result<(), AllocError> {
     Ok(())
 }
 
-/// The same by single looks.
+/// Paints by single lookups over the one range of a deaf value.
 fn painted_by_splice(rt: &HostRuntime, start: i64, end: i64) -> Result<(), AllocError> {
     let mut table = RangeTable::new(rt.alloc());
     let _ = table.paint(0, 9, deaf(7))?;
@@ -38,7 +38,7 @@ fn painted_by_splice(rt: &HostRuntime, start: i64, end: i64) -> Result<(), Alloc
     Ok(())
 }
 
-/// Fills from 0 up to a key round two entries: the last gap gets the value itself, each gap before it wants a clone.
+/// Fills from 0 up to a key around two entries: the last gap gets the value itself, each gap before it needs a clone.
 fn filled(rt: &HostRuntime, end: i64) -> Result<(), AllocError> {
     let mut map = one(rt.alloc(), 2, 3, heard(1))?;
     let _ = map.ranges_insert(6..=6, heard(2))?;

@@ -8,7 +8,7 @@ AreOrdered [] = Unit {0}
 AreOrdered (e ∷ []) = e.lo ≤ℤ e.hi
 AreOrdered (e ∷ f ∷ fs) = (e.lo ≤ℤ e.hi) × (e.hi <ℤ f.lo) × AreOrdered (f ∷ fs)
 
--- the same of first keys and last keys: row i is not empty, and ends below the start of a later row j
+-- first keys and last keys whose rows are in order: row i is not empty, and ends below the start of a later row j
 pub record AreApart (los his : List ℤ) : Type 0 where
   pub long : length his ≡ length los
   pub full : (i : ℕ) → i < length los → slice_index_or los i (pos 0) ≤ℤ slice_index_or his i (pos 0)

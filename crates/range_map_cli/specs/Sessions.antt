@@ -26,8 +26,8 @@ Forwards held holds all waits = (out : List ℕ) × Appends held holds out × (a
 abbrev pub Stops : Option (List ℕ) → Option (List ℕ) → List ℕ → Type 0
 Stops held holds all = (lost : List ℕ) × Forwards held holds all lost × (lost ≡ [] → ⊥)
 
--- The first lines of the text are answered, of the next some bytes are taken, and the rest is to come. The answers are
--- written or wait. The ends of lines, those answered and those to come, are as many as given.
+-- The first lines of the text are answered, of the next some bytes are taken, and the rest follows. The answers are
+-- written or wait. The ends of lines, those answered and those of the rest, are as many as given.
 pub record IsAt (held holds : Option (List ℕ)) (text : List ℕ) (session : Session) (rest : List ℕ) (lines : ℕ) : Type 0 where
   pub commands : List Command
   pub partial : List ℕ
