@@ -2,7 +2,6 @@
 use range_map_blaze::RangeMapBlaze;
 use std::alloc::{AllocError, Global};
 use std::fmt::Display;
-use std::ops::RangeInclusive;
 
 /// Whether an example gives what it gives in the Rust crate.
 pub type Answer = Result<bool, AllocError>;
@@ -24,32 +23,8 @@ pub fn judge(rt: &HostRuntime, group: &str, examples: &[(&'static str, Answer)])
 /// A map of words.
 pub type Words = RangeMapBlaze<i32, &'static str>;
 
-/// A map of ranges, painted in order.
-pub fn words<const N: usize>(
-    alloc: Global,
-    ranges: [(RangeInclusive<i32>, &'static str); N],
-) -> Result<Words, AllocError> {
-    RangeMapBlaze::from_ranges(alloc, ranges)
-}
-
-/// A map of keys, painted in order.
-pub fn words_at<const N: usize>(
-    alloc: Global,
-    keys: [(i32, &'static str); N],
-) -> Result<Words, AllocError> {
-    RangeMapBlaze::from_points(alloc, keys)
-}
-
 /// A map of numbers.
 pub type Numbers = RangeMapBlaze<i32, i32>;
-
-/// A map of ranges of numbers, painted in order.
-pub fn numbers<const N: usize>(
-    alloc: Global,
-    ranges: [(RangeInclusive<i32>, i32); N],
-) -> Result<Numbers, AllocError> {
-    RangeMapBlaze::from_ranges(alloc, ranges)
-}
 
 /// Whether the printed text of a value is this text.
 pub fn prints<D: Display>(alloc: Global, value: &D, text: &str) -> Answer {

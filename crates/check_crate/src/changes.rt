@@ -1,5 +1,5 @@
 //! Keys put in and taken out.
-use crate::answers::{Answer, Numbers, Words, judge, prints, words, words_at};
+use crate::answers::{Answer, Numbers, Words, judge, prints};
 use std::alloc::Global;
 use std::ops::Bound::Included;
 
@@ -34,7 +34,7 @@ fn clear_leaves_nothing(alloc: Global) -> Answer {
 }
 
 fn split_off_makes_two_maps(alloc: Global) -> Answer {
-    let mut map = words_at(alloc, [(1, "a"), (2, "b"), (3, "c"), (17, "d"), (41, "e")])?;
+    let mut map = Words::from_points(alloc, [(1, "a"), (2, "b"), (3, "c"), (17, "d"), (41, "e")])?;
     let above = map.split_off(3)?;
     let text = r#"(3..=3, "c"), (17..=17, "d"), (41..=41, "e")"#;
     let is_above = prints(alloc, &above, text)?;
@@ -42,7 +42,7 @@ fn split_off_makes_two_maps(alloc: Global) -> Answer {
 }
 
 fn range_of_bounds(alloc: Global) -> Answer {
-    let map = words_at(alloc, [(3, "a"), (5, "b"), (8, "c")])?;
+    let map = Words::from_points(alloc, [(3, "a"), (5, "b"), (8, "c")])?;
     let mut pairs = map.range((Included(4), Included(8)))?;
     let is_second = pairs.next() == Some(Ok((5, "b")));
     let is_third = pairs.next() == Some(Ok((8, "c")));
@@ -50,19 +50,19 @@ fn range_of_bounds(alloc: Global) -> Answer {
 }
 
 fn range_of_a_start(alloc: Global) -> Answer {
-    let map = words_at(alloc, [(3, "a"), (5, "b"), (8, "c")])?;
+    let map = Words::from_points(alloc, [(3, "a"), (5, "b"), (8, "c")])?;
     Ok(map.range(4..)?.next() == Some(Ok((5, "b"))))
 }
 
 fn pop_first_ascends(alloc: Global) -> Answer {
-    let mut map = words_at(alloc, [(1, "a"), (2, "b")])?;
+    let mut map = Words::from_points(alloc, [(1, "a"), (2, "b")])?;
     let is_first = map.pop_first()? == Some((1, "a"));
     let is_second = map.pop_first()? == Some((2, "b"));
     Ok(is_first && is_second && map.is_empty())
 }
 
 fn pop_last_descends(alloc: Global) -> Answer {
-    let mut map = words_at(alloc, [(1, "a"), (2, "b")])?;
+    let mut map = Words::from_points(alloc, [(1, "a"), (2, "b")])?;
     let is_second = map.pop_last()? == Some((2, "b"));
     let is_first = map.pop_last()? == Some((1, "a"));
     Ok(is_first && is_second && map.is_empty())
@@ -89,7 +89,7 @@ fn retain_keeps_even_keys(alloc: Global) -> Answer {
 }
 
 fn ranges_retain_keeps_a_word(alloc: Global) -> Answer {
-    let mut map = words(alloc, [(0..=3, "low"), (4..=7, "high")])?;
+    let mut map = Words::from_ranges(alloc, [(0..=3, "low"), (4..=7, "high")])?;
     map.ranges_retain(|_, word| *word == "low");
     prints(alloc, &map, r#"(0..=3, "low")"#)
 }

@@ -1,15 +1,15 @@
 //! Entries and ranges of keys, one by one.
-use crate::answers::{Answer, Words, gives, judge, prints, words};
+use crate::answers::{Answer, Words, gives, judge, prints};
 use std::alloc::{AllocError, Global};
 
 /// Ranges that overlap, the least painted last.
 fn falling(alloc: Global) -> Result<Words, AllocError> {
-    words(alloc, [(30..=40, "c"), (15..=25, "b"), (10..=20, "a")])
+    Words::from_ranges(alloc, [(30..=40, "c"), (15..=25, "b"), (10..=20, "a")])
 }
 
 /// The same ranges, the greatest painted last.
 fn rising(alloc: Global) -> Result<Words, AllocError> {
-    words(alloc, [(10..=20, "a"), (15..=25, "b"), (30..=40, "c")])
+    Words::from_ranges(alloc, [(10..=20, "a"), (15..=25, "b"), (30..=40, "c")])
 }
 
 fn range_values_of_falling(alloc: Global) -> Answer {
@@ -51,7 +51,7 @@ fn into_ranges_of_falling(alloc: Global) -> Answer {
 }
 
 fn ranges_len_counts_entries(alloc: Global) -> Answer {
-    let map = words(alloc, [(10..=20, "a"), (15..=25, "a"), (30..=40, "b")])?;
+    let map = Words::from_ranges(alloc, [(10..=20, "a"), (15..=25, "a"), (30..=40, "b")])?;
     let is_text = prints(alloc, &map, r#"(10..=25, "a"), (30..=40, "b")"#)?;
     Ok(is_text && map.ranges_len() == 2)
 }
@@ -63,7 +63,7 @@ fn range_values_len_counts_entries(alloc: Global) -> Answer {
         (15..=25, "b"),
         (10..=20, "a"),
     ];
-    let map = words(alloc, ranges)?;
+    let map = Words::from_ranges(alloc, ranges)?;
     let text = r#"(10..=20, "a"), (21..=25, "b"), (28..=40, "c")"#;
     Ok(prints(alloc, &map, text)? && map.range_values_len() == 3)
 }

@@ -1,43 +1,43 @@
 //! Maps that take in ranges and other maps.
-use crate::answers::{Answer, Words, judge, prints, words, words_at};
+use crate::answers::{Answer, Words, judge, prints};
 use std::alloc::{AllocError, Global};
 
 /// The text of the keys 1 to 4, with what most examples paint over them.
 const PAINTED: &str = r#"(1..=2, "a"), (3..=4, "b"), (5..=5, "c")"#;
 
 fn extend_simple_paints(alloc: Global) -> Answer {
-    let mut map = words(alloc, [(1..=4, "a")])?;
+    let mut map = Words::from_ranges(alloc, [(1..=4, "a")])?;
     map.extend_simple([(3..=5, "b"), (5..=5, "c")])?;
     prints(alloc, &map, PAINTED)
 }
 
 fn extend_ranges_paints(alloc: Global) -> Answer {
-    let mut map = words(alloc, [(1..=4, "a")])?;
+    let mut map = Words::from_ranges(alloc, [(1..=4, "a")])?;
     map.extend_ranges([(3..=5, "b"), (5..=5, "c")])?;
     prints(alloc, &map, PAINTED)
 }
 
 fn extend_from_paints(alloc: Global) -> Answer {
-    let mut map = words(alloc, [(1..=4, "a")])?;
-    map.extend_from(words(alloc, [(3..=4, "b"), (5..=5, "c")])?)?;
+    let mut map = Words::from_ranges(alloc, [(1..=4, "a")])?;
+    map.extend_from(Words::from_ranges(alloc, [(3..=4, "b"), (5..=5, "c")])?)?;
     prints(alloc, &map, PAINTED)
 }
 
 fn bitor_assign_paints(alloc: Global) -> Answer {
-    let mut map = words(alloc, [(1..=4, "a")])?;
-    map.bitor_assign(words(alloc, [(3..=5, "b"), (5..=5, "c")])?)?;
+    let mut map = Words::from_ranges(alloc, [(1..=4, "a")])?;
+    map.bitor_assign(Words::from_ranges(alloc, [(3..=5, "b"), (5..=5, "c")])?)?;
     prints(alloc, &map, PAINTED)
 }
 
 fn bitor_assign_hides(alloc: Global) -> Answer {
-    let mut map = words(alloc, [(3..=5, "b"), (5..=5, "c")])?;
-    map.bitor_assign(words(alloc, [(1..=4, "a")])?)?;
+    let mut map = Words::from_ranges(alloc, [(3..=5, "b"), (5..=5, "c")])?;
+    map.bitor_assign(Words::from_ranges(alloc, [(1..=4, "a")])?)?;
     prints(alloc, &map, r#"(1..=4, "a"), (5..=5, "c")"#)
 }
 
 /// Three keys, the last painted twice.
 fn three(alloc: Global) -> Result<Words, AllocError> {
-    words_at(alloc, [(3, "a"), (4, "e"), (5, "f"), (5, "g")])
+    Words::from_points(alloc, [(3, "a"), (4, "e"), (5, "f"), (5, "g")])
 }
 
 /// The text of these, with `b` painted over the keys 1 to 4.
@@ -51,19 +51,19 @@ fn extend_ranges_covers(alloc: Global) -> Answer {
 
 fn bitor_assign_covers(alloc: Global) -> Answer {
     let mut map = three(alloc)?;
-    map.bitor_assign(words(alloc, [(1..=4, "b")])?)?;
+    map.bitor_assign(Words::from_ranges(alloc, [(1..=4, "b")])?)?;
     prints(alloc, &map, COVERED)
 }
 
 fn bitor_assign_ref_covers(alloc: Global) -> Answer {
     let mut map = three(alloc)?;
-    map.bitor_assign_ref(&words(alloc, [(1..=4, "b")])?)?;
+    map.bitor_assign_ref(&Words::from_ranges(alloc, [(1..=4, "b")])?)?;
     prints(alloc, &map, COVERED)
 }
 
 fn append_empties_the_other_map(alloc: Global) -> Answer {
-    let mut map = words(alloc, [(1..=3, "a")])?;
-    let mut other = words(alloc, [(3..=5, "b")])?;
+    let mut map = Words::from_ranges(alloc, [(1..=3, "a")])?;
+    let mut other = Words::from_ranges(alloc, [(3..=5, "b")])?;
     map.append(&mut other)?;
     let are_counted = map.len() == 5 && other.len() == 0;
     Ok(prints(alloc, &map, r#"(1..=2, "a"), (3..=5, "b")"#)? && are_counted)

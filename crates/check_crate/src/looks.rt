@@ -1,32 +1,32 @@
 //! What is at a key, and how much there is.
-use crate::answers::{Answer, Words, judge, words, words_at};
+use crate::answers::{Answer, Words, judge};
 use range_map_blaze::{RangeMapBlaze, UIntPlusOne};
 use std::alloc::Global;
 
 fn get_of_keys(alloc: Global) -> Answer {
-    let map = words_at(alloc, [(3, "c"), (1, "a"), (2, "b")])?;
+    let map = Words::from_points(alloc, [(3, "c"), (1, "a"), (2, "b")])?;
     Ok(map.get(2) == Some(&"b") && map.get(4).is_none())
 }
 
 fn contains_key_of_keys(alloc: Global) -> Answer {
-    let map = words_at(alloc, [(3, "c"), (1, "a"), (2, "b")])?;
+    let map = Words::from_points(alloc, [(3, "c"), (1, "a"), (2, "b")])?;
     Ok(map.contains_key(1) && !map.contains_key(4))
 }
 
 fn get_key_value_of_keys(alloc: Global) -> Answer {
-    let map = words(alloc, [(3..=5, "c"), (1..=2, "a")])?;
+    let map = Words::from_ranges(alloc, [(3..=5, "c"), (1..=2, "a")])?;
     let are_pairs = map.get_key_value(2) == Some((2, &"a"))
         && map.get_key_value(4) == Some((4, &"c"));
     Ok(are_pairs && map.get_key_value(6).is_none())
 }
 
 fn range_at_of_keys(alloc: Global) -> Answer {
-    let map = words(alloc, [(1..=3, "red"), (7..=10, "blue")])?;
+    let map = Words::from_ranges(alloc, [(1..=3, "red"), (7..=10, "blue")])?;
     Ok(map.range_at(2) == Some((1..=3, &"red")) && map.range_at(5).is_none())
 }
 
 fn range_or_gap_at_of_keys(alloc: Global) -> Answer {
-    let map = words(alloc, [(1..=3, "red"), (7..=10, "blue")])?;
+    let map = Words::from_ranges(alloc, [(1..=3, "red"), (7..=10, "blue")])?;
     let is_gap = map.range_or_gap_at(5) == (4..=6, None);
     let is_red = map.range_or_gap_at(2) == (1..=3, Some(&"red"));
     Ok(is_gap && is_red && map.range_or_gap_at(8) == (7..=10, Some(&"blue")))

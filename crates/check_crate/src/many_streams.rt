@@ -1,6 +1,6 @@
 //! Operations between many streams.
-use crate::answers::{Answer, gives, judge, numbers, words};
-use range_map_blaze::{CheckSortedDisjointMap, Owned, SweepEvent};
+use crate::answers::{Answer, Numbers, Words, gives, judge};
+use range_map_blaze::{CheckSortedDisjointMap, Owned, RangeMapBlaze, SweepEvent};
 use range_map_multi::MultiwaySortedDisjointMap;
 use std::alloc::{AllocError, Global};
 
@@ -63,9 +63,9 @@ fn sum(row: &[&&i32]) -> i32 {
 }
 
 fn inner_join_of_streams(alloc: Global) -> Answer {
-    let a = numbers(alloc, [(0..=9, 1), (10..=19, 2)])?;
-    let b = numbers(alloc, [(5..=14, 10)])?;
-    let c = numbers(alloc, [(0..=99, 100)])?;
+    let a = Numbers::from_ranges(alloc, [(0..=9, 1), (10..=19, 2)])?;
+    let b = Numbers::from_ranges(alloc, [(5..=14, 10)])?;
+    let c = Numbers::from_ranges(alloc, [(0..=99, 100)])?;
     let streams = vec![in alloc; a.range_values(), b.range_values(), c.range_values()]?;
     let sums = streams.inner_join(alloc, |row| sum(row))?;
     Ok(gives(sums, &[(5..=9, Owned(111)), (10..=14, Owned(112))]))
@@ -83,8 +83,8 @@ fn two(row: &[Option<&&&'static str>]) -> [&'static str; 2] {
 }
 
 fn full_join_of_streams(alloc: Global) -> Answer {
-    let a = words(alloc, [(0..=9, "a")])?;
-    let b = words(alloc, [(5..=14, "b")])?;
+    let a = Words::from_ranges(alloc, [(0..=9, "a")])?;
+    let b = Words::from_ranges(alloc, [(5..=14, "b")])?;
     let streams = vec![in alloc; a.range_values(), b.range_values()]?;
     let names = streams.full_join(alloc, |row| two(row))?;
     let expected = [
@@ -95,10 +95,13 @@ fn full_join_of_streams(alloc: Global) -> Answer {
     Ok(gives(names, &expected))
 }
 
+/// A map of letters.
+type Letters = RangeMapBlaze<i32, char>;
+
 fn sweep_of_streams(alloc: Global) -> Answer {
-    let a = words(alloc, [(0..=9, "a")])?;
-    let b = words(alloc, [(5..=14, "b")])?;
-    let c = words(alloc, [(7..=8, "c")])?;
+    let a = Letters::from_ranges(alloc, [(0..=9, 'a')])?;
+    let b = Letters::from_ranges(alloc, [(5..=14, 'b')])?;
+    let c = Letters::from_ranges(alloc, [(7..=8, 'c')])?;
     let streams = vec![in alloc; a.range_values(), b.range_values(), c.range_values()]?;
     let (mut depth, mut greatest) = (0u8, 0);
     for event in streams.sweep(alloc)? {

@@ -1,16 +1,16 @@
 //! Operators between two maps, and between a map and a set.
-use crate::answers::{Answer, Words, judge, prints, words};
+use crate::answers::{Answer, Words, judge, prints};
 use range_map_blaze::{RangeMapBlaze, RangeSetBlaze};
 use std::alloc::{AllocError, Global};
 
 /// The left operand of most examples.
 fn left(alloc: Global) -> Result<Words, AllocError> {
-    words(alloc, [(1..=2, "a"), (5..=100, "a")])
+    Words::from_ranges(alloc, [(1..=2, "a"), (5..=100, "a")])
 }
 
 /// The right operand of most examples.
 fn right(alloc: Global) -> Result<Words, AllocError> {
-    words(alloc, [(2..=6, "b")])
+    Words::from_ranges(alloc, [(2..=6, "b")])
 }
 
 /// The text of their union.
@@ -48,13 +48,13 @@ fn difference_of_lent(alloc: Global) -> Answer {
 }
 
 fn intersection_with_a_set(alloc: Global) -> Answer {
-    let map = words(alloc, [(1..=100, "a")])?;
+    let map = Words::from_ranges(alloc, [(1..=100, "a")])?;
     let set = RangeSetBlaze::from_ranges(alloc, [2..=6])?;
     prints(alloc, &(&map & &set)?, r#"(2..=6, "a")"#)
 }
 
 fn difference_with_a_set(alloc: Global) -> Answer {
-    let map = words(alloc, [(1..=100, "a")])?;
+    let map = Words::from_ranges(alloc, [(1..=100, "a")])?;
     let set = RangeSetBlaze::from_ranges(alloc, [2..=6])?;
     prints(alloc, &(&map - &set)?, r#"(1..=1, "a"), (7..=100, "a")"#)
 }

@@ -1,5 +1,5 @@
 //! The tour of all operations, and comparisons.
-use crate::answers::{Answer, Words, judge, prints, words};
+use crate::answers::{Answer, Words, judge, prints};
 use range_map_blaze::{RangeMapBlaze, subtract_ranges};
 use range_map_multi::MultiwayRangeMapBlazeRef;
 use std::alloc::{AllocError, Global};
@@ -7,17 +7,17 @@ use std::cmp::Ordering;
 
 /// The first of three maps.
 fn first(alloc: Global) -> Result<Words, AllocError> {
-    words(alloc, [(2..=6, "a")])
+    Words::from_ranges(alloc, [(2..=6, "a")])
 }
 
 /// The second.
 fn second(alloc: Global) -> Result<Words, AllocError> {
-    words(alloc, [(1..=2, "b"), (5..=100, "b")])
+    Words::from_ranges(alloc, [(1..=2, "b"), (5..=100, "b")])
 }
 
 /// The third.
 fn third(alloc: Global) -> Result<Words, AllocError> {
-    words(alloc, [(2..=2, "z"), (6..=200, "z")])
+    Words::from_ranges(alloc, [(2..=2, "z"), (6..=200, "z")])
 }
 
 fn union_of_two(alloc: Global) -> Answer {
@@ -58,13 +58,14 @@ fn complement_as_a_map(alloc: Global) -> Answer {
 fn union_of_three(alloc: Global) -> Answer {
     let (z, a, b) = (third(alloc)?, first(alloc)?, second(alloc)?);
     let text = r#"(1..=2, "b"), (3..=4, "a"), (5..=100, "b"), (101..=200, "z")"#;
-    prints(alloc, &[&z, &a, &b].union(alloc)?, text)
+    prints(alloc, &vec![in alloc; &z, &a, &b]?.union(alloc)?, text)
 }
 
 fn intersection_of_three(alloc: Global) -> Answer {
     let (z, a, b) = (third(alloc)?, first(alloc)?, second(alloc)?);
     let text = r#"(2..=2, "b"), (6..=6, "b")"#;
-    prints(alloc, &[&z, &a, &b].intersection(alloc)?, text)
+    let maps = vec![in alloc; &z, &a, &b]?;
+    Ok(!maps.is_empty() && prints(alloc, &maps.intersection(alloc)?, text)?)
 }
 
 fn difference_with_a_union(alloc: Global) -> Answer {
@@ -81,15 +82,15 @@ fn difference_of_streams(alloc: Global) -> Answer {
 }
 
 fn order_of_words(alloc: Global) -> Answer {
-    let a = words(alloc, [(1..=3, "a"), (5..=100, "a")])?;
-    let b = words(alloc, [(2..=2, "b")])?;
+    let a = Words::from_ranges(alloc, [(1..=3, "a"), (5..=100, "a")])?;
+    let b = Words::from_ranges(alloc, [(2..=2, "b")])?;
     let is_less = a < b && a <= b && a.cmp(&b) == Ordering::Less;
     Ok(is_less && b > a && b >= a)
 }
 
 fn equality_of_words(alloc: Global) -> Answer {
-    let a = words(alloc, [(1..=3, "a"), (5..=100, "a")])?;
-    let b = words(alloc, [(2..=2, "b")])?;
+    let a = Words::from_ranges(alloc, [(1..=3, "a"), (5..=100, "a")])?;
+    let b = Words::from_ranges(alloc, [(2..=2, "b")])?;
     Ok(a != b && a == a)
 }
 
