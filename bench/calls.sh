@@ -1,6 +1,6 @@
 #!/usr/bin/env bash
-# Prints the instructions of calls of the library for C, counted by callgrind: the program bench/calls.c with 1,000 calls, less the same
-# program with the random keys alone.
+# Prints the instructions of calls of the library for C, counted by callgrind: those of the program bench/calls.c with 1,000 calls, less
+# those of the same program with the random keys alone.
 #
 #     bench/calls.sh
 #

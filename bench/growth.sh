@@ -1,7 +1,7 @@
 #!/usr/bin/env bash
-# How the instructions of a call grow with the map: on maps of n, 4n and 16n entries, n = 1,000, of the library, of plain Rust and
-# of plain Rust the Rust crate's way, as a table in Markdown. Callgrind counts them with the work done and not done, and the table has the
-# difference for one call. The counts do not depend on what else the machine does.
+# Prints how the instructions of a call grow with the map, as a table in Markdown. The maps have n, 4n and 16n entries, for n = 1,000.
+# The sides are the library, plain Rust, and plain Rust that works like the Rust crate. Callgrind counts with the work done and not done,
+# and the table has the difference for one call. The counts do not depend on what else the machine does.
 #
 #     bench/growth.sh             every work: some minutes, and 20 to 40 more for the proof of the library
 #     bench/growth.sh WORD..      the works whose names have one of the words, such as paint, append or `-`

@@ -1,6 +1,6 @@
 #!/usr/bin/env bash
-# The instructions of one call, or of one entry, key or range of it, of the library, of plain Rust and of plain Rust the Rust crate's
-# way, as a table in Markdown. Callgrind counts them with the work done and not done. The counts do not depend on what else the machine
+# Prints the instructions of one call, or of one entry, key or range of it, as a table in Markdown. The sides are the library, plain
+# Rust, and plain Rust that works like the Rust crate. Callgrind counts with the work done and not done. The counts do not depend on what else the machine
 # does.
 #
 #     bench/instructions.sh             every work: some minutes, and 20 to 40 more for the proof of the library

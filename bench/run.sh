@@ -1,18 +1,18 @@
 #!/usr/bin/env bash
-# Measures the library beside plain Rust (`ranges.rs`, `one_pass.rs`) and Boost's interval_map, and prints tables in Markdown.
-# `as_crate.rs` is the Rust crate's way of a paint in plain Rust, `streamed.rs` a union as a stream; `planned.rs` is the
-# library's way of a paint: places are made first, and an end is moved by a search.
+# Compares the time of the library with that of plain Rust (`ranges.rs`, `one_pass.rs`) and of Boost's interval_map, and prints tables in
+# Markdown. `as_crate.rs` is the Rust crate's way of a paint in plain Rust, and `streamed.rs` a union as a stream. `planned.rs` is the
+# library's way of a paint in plain Rust: nodes are inserted first, and an end is moved by a search.
 #
 #     bench/run.sh                    every work: some minutes on an idle machine, and 20 to 60 more for the proofs
 #     bench/run.sh --quick            few operations and rounds: a first impression, no result
 #     bench/run.sh [--quick] WORD..   the works whose names have one of the words, such as paint, append or program
 #
-# Times are of the processor: the least of nine rounds in which the sides take turns, less the time without an operation. All sides
+# Times are processor times: the least of nine rounds in which the sides take turns, less the time without an operation. All sides
 # have the same pseudo-random input, and must leave the same entries. '(fewer)' marks a slow side that did less than a quarter of the
 # operations. A side that takes over 3 s for a work has one round. The program on lines is timed as a process, user and system.
 #
 # It needs `rt`, rustc and g++, and first proves and builds what it measures if that is not built yet. Without Boost's headers
-# (Debian: libboost-dev) it leaves Boost out. It is no part of the merge gate, and no test depends on a time.
+# (Debian: libboost-dev) it leaves Boost out. The merge gate does not run it, and no test depends on a time.
 set -euo pipefail
 cd "$(dirname "$(readlink -f "${BASH_SOURCE[0]}")")"
 if [ "${1:-}" = --help ]; then
