@@ -1,10 +1,10 @@
 #!/usr/bin/env bash
-# Prints the instructions of calls of the library for C, counted by callgrind: those of the program bench/calls.c with 1,000 calls, less
+# Prints the instructions of calls of the library for C, counted by callgrind: those of the program bench/calls.c with 1,000 calls, minus
 # those of the same program with the random keys alone.
 #
 #     bench/calls.sh
 #
-# It needs cc, valgrind and the library, which bindings/build.sh makes before. Status 70: one of these is missing.
+# It needs cc, valgrind and the library: run bindings/build.sh first. Status 70: one of these is missing.
 set -euo pipefail
 cd "$(dirname "$(readlink -f "${BASH_SOURCE[0]}")")"
 if [ "${1:-}" = --help ]; then

@@ -1,7 +1,7 @@
 #!/usr/bin/env bash
 # Prints the instructions of one call, or of one entry, key or range of it, as a table in Markdown. The sides are the library, plain
-# Rust, and plain Rust that works like the Rust crate. Callgrind counts with the work done and not done. The counts do not depend on what else the machine
-# does.
+# Rust, and plain Rust that works like the Rust crate. Callgrind counts with the work done and not done. The counts do not depend
+# on what else the machine does.
 #
 #     bench/instructions.sh             every work: some minutes, and 20 to 40 more for the proof of the library
 #     bench/instructions.sh WORD..      the works whose names have one of the words, such as paint, append or `-`

@@ -7,7 +7,7 @@
 #     bench/run.sh --quick            few operations and rounds: a first impression, no result
 #     bench/run.sh [--quick] WORD..   the works whose names have one of the words, such as paint, append or program
 #
-# Times are processor times: the least of nine rounds in which the sides take turns, less the time without an operation. All sides
+# Times are processor times: the least of nine rounds in which the sides take turns, minus the time without an operation. All sides
 # have the same pseudo-random input, and must leave the same entries. '(fewer)' marks a slow side that did less than a quarter of the
 # operations. A side that takes over 3 s for a work has one round. The program on lines is timed as a process, user and system.
 #
