@@ -26,7 +26,7 @@ pub fn map_of<V: Eq + Copy>(
 }
 
 /// A loop over a borrowed map.
-fn lent_loop(rt: &HostRuntime, map: &Letters) {
+fn borrowed_loop(rt: &HostRuntime, map: &Letters) {
     for (key, value) in map {
         let _ = println!(rt; "{key} {value}");
     }
@@ -39,6 +39,12 @@ fn owned_loop(rt: &HostRuntime, map: Letters) -> Result<(), AllocError> {
         let _ = println!(rt; "{key} {value}");
     }
     Ok(())
+}
+
+/// The nearest entries of a key: the last that starts there or below, and the first that ends there or above.
+fn nearest(rt: &HostRuntime, map: &Letters, key: i64) {
+    let (below, above) = (map.range_at_or_below(key), map.range_at_or_above(key));
+    let _ = println!(rt; "{key}: {below:?} {above:?}");
 }
 
 /// Entries that a closure with a state keeps: one call an entry.
@@ -109,7 +115,11 @@ fn orders(rt: &HostRuntime, left: &Letters, right: &Letters) {
 fn of_letters(rt: &HostRuntime) -> Result<(), AllocError> {
     let alloc = rt.alloc();
     let map = map_of(alloc, &[(1, 2, 'a'), (5, 5, 'b')])?;
-    lent_loop(rt, &map);
+    borrowed_loop(rt, &map);
+    nearest(rt, &map, 0);
+    nearest(rt, &map, 2);
+    nearest(rt, &map, 3);
+    nearest(rt, &map, 6);
     of_stream(rt, &map);
     orders(rt, &map, &map_of(alloc, &[(1, 2, 'b')])?);
     owned_loop(rt, map)
