@@ -21,11 +21,19 @@ fn pair(alloc: Global) -> Result<[WordMap; 2], AllocError> {
     Ok([a, b])
 }
 
-/// Returns two maps that share keys, of which one has 16 entries for each entry of the other.
-fn large_pair(alloc: Global) -> Result<[WordMap; 2], AllocError> {
+/// Returns three maps that share a key.
+fn three(alloc: Global) -> Result<Vec<WordMap>, AllocError> {
+    let [a, b] = pair(alloc)?;
+    let c = map_of(alloc, &table_of(alloc, &[(5, 6, "c")])?)?;
+    Ok(Vec::from_array(alloc, [a, b, c])?)
+}
+
+/// Returns three maps, of which the second has 16 entries for the one entry of the others.
+fn with_large(alloc: Global) -> Result<Vec<WordMap>, AllocError> {
+    let none = WordMap::new(alloc);
     let a = map_of(alloc, &leaf(alloc, 16)?)?;
     let b = map_of(alloc, &table_of(alloc, &[(4, 8, "b")])?)?;
-    Ok([a, b])
+    Ok(Vec::from_array(alloc, [none, a, b])?)
 }
 
 /// Makes the union of a `Vec`.
@@ -47,8 +55,8 @@ fn intersection(rt: &HostRuntime, maps: Vec<WordMap>) {
 }
 
 /// Makes the symmetric difference of a `Vec`.
-fn symmetric_difference(rt: &HostRuntime, maps: Vec<WordMap>) {
-    begin(rt, "symmetric_difference of a Vec");
+fn symmetric_difference(rt: &HostRuntime, call: &str, maps: Vec<WordMap>) {
+    begin(rt, call);
     let made = maps.symmetric_difference(rt.alloc());
     end(rt);
     show_answer(rt, made);
@@ -81,14 +89,15 @@ fn array_symmetric_difference(rt: &HostRuntime, maps: [WordMap; 2]) {
 /// Makes the calls on a `Vec` of maps.
 fn of_a_vec(rt: &HostRuntime) -> Result<(), AllocError> {
     let alloc = rt.alloc();
-    union(rt, "union of a Vec", Vec::from_array(alloc, pair(alloc)?)?);
-    union(
+    union(rt, "union of a Vec", three(alloc)?);
+    union(rt, "union of a large map", with_large(alloc)?);
+    intersection(rt, three(alloc)?);
+    symmetric_difference(rt, "symmetric_difference of a Vec", three(alloc)?);
+    symmetric_difference(
         rt,
-        "union of a large map",
-        Vec::from_array(alloc, large_pair(alloc)?)?,
+        "symmetric_difference of a large map",
+        with_large(alloc)?,
     );
-    intersection(rt, Vec::from_array(alloc, pair(alloc)?)?);
-    symmetric_difference(rt, Vec::from_array(alloc, pair(alloc)?)?);
     Ok(())
 }
 

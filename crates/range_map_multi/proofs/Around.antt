@@ -53,7 +53,7 @@ module _ {V : Type 0} where
       ∙ ap (λ o. cond (list_all is_some (xs ++ x ∷ ys)) o None) (sym (last_append xs (x ∷ ys)))
 
 module _ {V : Type 0} (eq : V → V → Bool) (laws : IsEquivalence eq) where
-  all_alike : (b : Bool) (x y : Option V) → SameOption eq x y → SameOption eq (cond b x None) (cond b y None)
+  pub all_alike : (b : Bool) (x y : Option V) → SameOption eq x y → SameOption eq (cond b x None) (cond b y None)
   all_alike true x y s = s
   all_alike false x y s = tt
 

@@ -1,5 +1,6 @@
 pub mod AnsweredRows
 pub mod Around
+pub mod Differences
 pub mod JoinsOfTwo
 pub mod Many
 pub mod OfTwo

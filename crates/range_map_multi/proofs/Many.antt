@@ -13,7 +13,7 @@ pub halves : {A B : Type 0} (f : A → B) (xs first second : List A) (n : ℕ) �
 halves f xs first second n a b = sym (map-append f first second) ∙ ap (map f) (ap (λ ys. ys ++ second) a ∙ ap (λ ys. take n xs ++ ys) b ∙ take-append-drop n xs)
 
 -- exactly one of two
-abbrev one_of : Bool → Bool → Bool
+abbrev pub one_of : Bool → Bool → Bool
 one_of a b = cond a (not b) b
 
 one_not : (a b : Bool) → not (one_of a b) ≡ one_of (not a) b
@@ -45,7 +45,7 @@ module _ {V : Type 0} where
   last_append (x ∷ xs) ys = ap (right_first x) (last_append xs ys) ∙ or_assoc (last_value ys) (last_value xs) x
 
   -- where all of a row that is not empty have a value, there is a last
-  first_some : (x y : Option V) → is_some x ≡ true → is_some (right_first x y) ≡ true
+  pub first_some : (x y : Option V) → is_some x ≡ true → is_some (right_first x y) ≡ true
   first_some x None h = h
   first_some x (Some y) h = refl
 
@@ -70,7 +70,7 @@ module _ {V : Type 0} where
 
   -- ---- the keys that an odd number have
 
-  odd_append : (xs ys : List (Option V)) → has_odd (xs ++ ys) ≡ one_of (has_odd xs) (has_odd ys)
+  pub odd_append : (xs ys : List (Option V)) → has_odd (xs ++ ys) ≡ one_of (has_odd xs) (has_odd ys)
   odd_append [] ys = refl
   odd_append (None ∷ xs) ys = odd_append xs ys
   odd_append (Some x ∷ xs) ys = ap not (odd_append xs ys) ∙ one_not (has_odd xs) (has_odd ys)

@@ -2,14 +2,9 @@
 //! which code that is generic over keys has to know where it calls a function of streams.
 ghost use Rattle.std.specs.Prelude.{◌≡◌, List, map, refl, IfOk};
 ghost use Rattle.blaze_table.specs.Entries.{Entry};
-ghost use Rattle.blaze_table.specs.Painted.{ClonesAreAlike};
-ghost use Rattle.range_map_multi.specs.Many.{last_of_odd, IsChosenOfMany};
-ghost use Rattle.range_map_blaze.specs.Made.{IsMade};
 
-use crate::merges::merged;
-use crate::operations::{OddKeys, Union};
 use blaze_int::Integer;
-use blaze_streams::{SeekingRangeValuesIter, SortedDisjointMap, intersection_of};
+use blaze_streams::SeekingRangeValuesIter;
 use range_map_blaze::RangeMapBlaze;
 use std::alloc::{AllocError, Global};
 
@@ -87,18 +82,4 @@ pub fn streams_of<'a, T: Integer, V: Eq + Clone, M: AsMap<T, V>>(
         streams.push(entries_of(map))?;
     }
     Ok(streams)
-}
-
-/// The value of the last map that has one, where an odd number have one.
-pub fn lent_symmetric_difference<'a, T: Integer, V: Eq + Clone, M: AsMap<T, V>>(
-    alloc: Global,
-    maps: &'a [M],
-) -> Result<RangeMapBlaze<T, V>, AllocError>
-    requires { ClonesAreAlike V.is_clone V.eq }
-    ensures { IfOk result (IsMade (IsChosenOfMany V.eq T.low T.high last_of_odd (map M.shown maps.now))) }
-{
-    let union = merged::<_, _, _, Union>(alloc, streams_of(alloc, maps)?)?;
-    let odd = merged::<_, _, _, OddKeys>(alloc, streams_of(alloc, maps)?)?;
-    let list = intersection_of(alloc, union, odd)?;
-    RangeMapBlaze::from_sorted_disjoint_map(alloc, list)
 }

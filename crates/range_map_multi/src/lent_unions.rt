@@ -13,7 +13,7 @@ use blaze_streams::SortedDisjointMap;
 use range_map_blaze::RangeMapBlaze;
 use std::alloc::{AllocError, Global};
 
-/// The value of the last map that has one.
+/// The value of the last map that has one. Of two maps it is `|`.
 pub fn lent_union<'a, T: Integer, V: Eq + Clone, M: AsMap<T, V>>(
     alloc: Global,
     maps: &'a [M],
@@ -21,6 +21,9 @@ pub fn lent_union<'a, T: Integer, V: Eq + Clone, M: AsMap<T, V>>(
     requires { ClonesAreAlike V.is_clone V.eq }
     ensures { IfOk result (IsMade (IsChosenOfMany V.eq T.low T.high last_value (map M.shown maps.now))) }
 {
+    if maps.len() == 2 {
+        return maps[0].lent() | maps[1].lent();
+    }
     match place_of_large(maps) {
         Some(place) => united_around(alloc, maps, place),
         None => united(alloc, maps),

@@ -3,6 +3,7 @@
 
 pub mod laws;
 mod lent;
+mod lent_differences;
 mod lent_intersections;
 mod lent_joins;
 mod lent_unions;
@@ -10,6 +11,7 @@ mod lists;
 mod maps;
 mod merges;
 mod operations;
+mod owned_differences;
 mod owned_unions;
 mod parity;
 mod parts;

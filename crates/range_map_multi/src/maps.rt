@@ -8,10 +8,12 @@ ghost use Rattle.range_map_multi.specs.ManyJoins.{shown_row, shown_full_row, IsC
 ghost use Rattle.range_map_multi.specs.ManyJoins.{IsManyJoined};
 ghost use Rattle.range_map_blaze.specs.Made.{IsMade};
 
-use crate::lent::{MapRef, lent_symmetric_difference};
+use crate::lent::MapRef;
+use crate::lent_differences::lent_symmetric_difference;
 use crate::lent_intersections::lent_intersection;
 use crate::lent_joins::{lent_full_join, lent_inner_join};
 use crate::lent_unions::lent_union;
+use crate::owned_differences::owned_symmetric_difference;
 use crate::owned_unions::owned_union;
 use blaze_int::Integer;
 use range_map_blaze::RangeMapBlaze;
@@ -33,9 +35,9 @@ pub trait MultiwayRangeMapBlazeRef<T: Integer, V: Eq + Clone>: Sized {
     /// Returns the keys that at least one map has, with the value of the last map that has it; the empty map for no maps. Each
     /// entry of the result has a clone of its value.
     ///
-    /// Allocates. If an allocation fails, the maps are unchanged. O(n log k) for n entries in k maps. A map with at least 16
-    /// entries for each entry of all the others is cloned. If the others cover few of its entries, each of theirs is then only
-    /// O(log n), and a clone for each gap that it fills.
+    /// Allocates. If an allocation fails, the maps are unchanged. O(n log k) for n entries in k maps. With two maps it is `|`. A
+    /// map with at least 16 entries for each entry of all the others is cloned. If the others cover few of its entries, each of
+    /// theirs is then only O(log n), and a clone for each gap that it fills.
     ///
     /// ```
     /// [&map, &other].union(alloc)?; // (10..=11, 'a'), (12..=15, 'b'), (30..=39, 'c')
@@ -61,7 +63,9 @@ pub trait MultiwayRangeMapBlazeRef<T: Integer, V: Eq + Clone>: Sized {
     /// Returns the keys that an odd number of maps have, with the value of the last map that has it; the empty map for no maps.
     /// Each entry of the result has a clone of its value.
     ///
-    /// Allocates. If an allocation fails, the maps are unchanged. O(n log k) for n entries in k maps.
+    /// Allocates. If an allocation fails, the maps are unchanged. O(n log k) for n entries in k maps. With two maps it is `^`. A
+    /// map with at least 16 entries for each entry of all the others is cloned. If the others cover few of its entries, each of
+    /// theirs is then only O(log n).
     ///
     /// ```
     /// [&map, &other].symmetric_difference(alloc)?; // (10..=11, 'a'), (30..=39, 'c')
@@ -194,11 +198,12 @@ pub trait MultiwayRangeMapBlaze<T: Integer, V: Eq + Clone>: Sized {
     ghost lists: { Self → List (List (Entry V)) };
 
     /// Returns the keys that at least one map has, with the value of the last map that has it; the empty map for no maps. Each
-    /// entry of the result has a clone of its value, except in the next case.
+    /// entry of the result has a clone of its value, except in the next two cases.
     ///
-    /// Allocates. If an allocation fails, the maps are dropped. O(n log k) for n entries in k maps. A map with at least 16
-    /// entries for each entry of all the others is changed in place, and keeps its own values. If the others cover few of its
-    /// entries, each of theirs is then only O(log n), and a clone for each gap that it fills.
+    /// Allocates. If an allocation fails, the maps are dropped. O(n log k) for n entries in k maps. With two maps it is `|`, with
+    /// their own values. A map with at least 16 entries for each entry of all the others is changed in place, and keeps its own
+    /// values. If the others cover few of its entries, each of theirs is then only O(log n), and a clone for each gap that it
+    /// fills.
     ///
     /// ```
     /// [map, other].union(alloc)?; // (10..=11, 'a'), (12..=15, 'b'), (30..=39, 'c')
@@ -222,9 +227,11 @@ pub trait MultiwayRangeMapBlaze<T: Integer, V: Eq + Clone>: Sized {
         ensures { IfOk result (IsMade (IsChosenOfMany V.eq T.low T.high last_of_all (lists self))) };
 
     /// Returns the keys that an odd number of maps have, with the value of the last map that has it; the empty map for no maps.
-    /// Each entry of the result has a clone of its value.
+    /// Each entry of the result has a clone of its value, except in the next two cases.
     ///
-    /// Allocates. If an allocation fails, the maps are dropped. O(n log k) for n entries in k maps.
+    /// Allocates. If an allocation fails, the maps are dropped. O(n log k) for n entries in k maps. With two maps it is `^`, with
+    /// their own values. A map with at least 16 entries for each entry of all the others is changed in place, and keeps its own
+    /// values. If the others cover few of its entries, each of theirs is then only O(log n).
     ///
     /// ```
     /// [map, other].symmetric_difference(alloc)?; // (10..=11, 'a'), (30..=39, 'c')
@@ -246,7 +253,7 @@ impl<T: Integer, V: Eq + Clone> MultiwayRangeMapBlaze<T, V> for Vec<RangeMapBlaz
     }
 
     fn symmetric_difference(self, alloc: Global) -> Result<RangeMapBlaze<T, V>, AllocError> {
-        lent_symmetric_difference(alloc, &self)
+        owned_symmetric_difference(alloc, self)
     }
 }
 
@@ -266,6 +273,6 @@ impl<T: Integer, V: Eq + Clone, const N: usize> MultiwayRangeMapBlaze<T, V>
 
     fn symmetric_difference(self, alloc: Global) -> Result<RangeMapBlaze<T, V>, AllocError> {
         let maps = Vec::from_array(alloc, self)?;
-        lent_symmetric_difference(alloc, &maps)
+        owned_symmetric_difference(alloc, maps)
     }
 }

@@ -10,14 +10,19 @@ use blaze_int::Integer;
 use range_map_blaze::RangeMapBlaze;
 use std::alloc::{AllocError, Global};
 
-/// The value of the last map that has one.
+/// The value of the last map that has one. Of two maps it is `|`.
 pub fn owned_union<T: Integer, V: Eq + Clone>(
     alloc: Global,
-    maps: Vec<RangeMapBlaze<T, V>>,
+    mut maps: Vec<RangeMapBlaze<T, V>>,
 ) -> Result<RangeMapBlaze<T, V>, AllocError>
     requires { ClonesAreAlike V.is_clone V.eq }
     ensures { IfOk result (IsMade (IsChosenOfMany V.eq T.low T.high last_value (map (λ m. m.entries) maps.items))) }
 {
+    if maps.len() == 2 {
+        let left = maps.remove(0);
+        let right = maps.remove(0);
+        return left | right;
+    }
     match place_of_large(&maps) {
         Some(place) => united_into(alloc, maps, place),
         None => united(alloc, &maps),

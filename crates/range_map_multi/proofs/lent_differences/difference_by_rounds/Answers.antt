@@ -1,6 +1,6 @@
 use Rattle.range_map_multi.proofs.Words.{◌≡◌, ◌∙◌, subst, map-id, IfOk-weaker, is_some, SameOption, last_value, has_odd, last_of_odd, GivesEach}
 use Rattle.range_map_multi.proofs.Many.{difference_of, many_as}
-use Rattle.range_map_multi.proofs.lent.lent_symmetric_difference.Goals as goal
+use Rattle.range_map_multi.proofs.lent_differences.difference_by_rounds.Goals as goal
 
 pub returns : goal.returns
 returns g c =

@@ -1,0 +1,47 @@
+//! The symmetric difference of many maps by value.
+ghost use Rattle.std.specs.Prelude.{◌<◌, length, map, IfOk};
+ghost use Rattle.blaze_table.specs.Painted.{ClonesAreAlike};
+ghost use Rattle.range_map_blaze.specs.Made.{IsMade};
+ghost use Rattle.range_map_multi.specs.Many.{last_of_odd, IsChosenOfMany};
+
+use crate::lent_differences::{difference_by_rounds, difference_with};
+use crate::sizes::place_of_large;
+use blaze_int::Integer;
+use range_map_blaze::RangeMapBlaze;
+use std::alloc::{AllocError, Global};
+
+/// The value of the last map that has one, where an odd number have one. Of two maps it is `^`.
+pub fn owned_symmetric_difference<T: Integer, V: Eq + Clone>(
+    alloc: Global,
+    mut maps: Vec<RangeMapBlaze<T, V>>,
+) -> Result<RangeMapBlaze<T, V>, AllocError>
+    requires { ClonesAreAlike V.is_clone V.eq }
+    ensures { IfOk result (IsMade (IsChosenOfMany V.eq T.low T.high last_of_odd (map (λ m. m.entries) maps.items))) }
+{
+    if maps.len() == 2 {
+        let left = maps.remove(0);
+        let right = maps.remove(0);
+        return left ^ right;
+    }
+    match place_of_large(&maps) {
+        Some(place) => difference_into(alloc, maps, place),
+        None => difference_by_rounds(alloc, &maps),
+    }
+}
+
+/// The same, in the map at a place: by `^` with those before it, and of the result with those behind it.
+fn difference_into<T: Integer, V: Eq + Clone>(
+    alloc: Global,
+    mut maps: Vec<RangeMapBlaze<T, V>>,
+    place: usize,
+) -> Result<RangeMapBlaze<T, V>, AllocError>
+    requires clones { ClonesAreAlike V.is_clone V.eq }
+    requires there { place < length maps.items }
+    ensures { IfOk result (IsMade (IsChosenOfMany V.eq T.low T.high last_of_odd (map (λ m. m.entries) maps.items))) }
+{
+    let mut behind = maps.split_off(place)?;
+    let large = behind.remove(0);
+    let before = difference_by_rounds(alloc, &maps)?;
+    let map = (before ^ large)?;
+    difference_with(alloc, map, &behind)
+}
